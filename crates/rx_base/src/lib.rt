@@ -1,0 +1,27 @@
+//! The words that every other crate speaks: ids of places, tasks and scopes, values and faults, short lists that contracts
+//! see as lists, and the traits of the outside with their implementations. It stands on std alone. The layers above use the
+//! meanings of `Source` and `Sink` (the bytes left and written, and counts of faults that never fall) and see `Faults`,
+//! `Path`, `Batch` and `PlaceSet` as lists and sets.
+#![tactic(auto)]
+
+mod failures;
+mod ids;
+mod lists;
+mod memory;
+mod outside;
+mod place_set;
+mod standard;
+#[cfg(test)]
+mod tests;
+mod values;
+mod word;
+
+pub use failures::{Failed, NoMemory};
+pub use ids::{GlobalRef, Kill, PlaceId, ScopeId, TaskId};
+pub use lists::{Batch, Faults, Path};
+pub use memory::{MemSink, MemSource};
+pub use outside::{Sink, Source};
+pub use place_set::{PlaceSet, members_make_the_set};
+pub use standard::{StdSink, StdSource};
+pub use values::{Fault, Value};
+pub use word::RxWord;

@@ -1,0 +1,115 @@
+// What no clause says: that each call which takes memory can succeed, and how the std adapters meet readers and writers.
+use crate::{
+    Batch, Failed, Fault, Faults, MemSink, MemSource, Path, PlaceId, PlaceSet, RxWord, Sink,
+    Source, StdSink, StdSource,
+};
+use std::io;
+use std::io::{Cursor, Read, Write};
+use std::test::Fail;
+
+#[test]
+fn faults_keep_their_order(rt: HostRuntime) -> Result<(), Fail> {
+    let alloc = rt.alloc();
+    let mut faults = Faults::open(alloc);
+    faults.push(Fault::Dead(PlaceId(1)))?;
+    let mut more = faults.copy(alloc)?;
+    more.push(Fault::Thrown(-1))?;
+    let both = faults.joined(alloc, &more)?;
+    assert!(rt; faults.append(more).is_ok());
+    assert_eq!(rt; faults.len(), 3);
+    assert_eq!(rt; both.len(), 3);
+    assert_eq!(rt; faults.item(1), Fault::Dead(PlaceId(1)));
+    assert_eq!(rt; both.item(2), Fault::Thrown(-1));
+    Ok(())
+}
+
+#[test]
+fn batches_keep_their_paths(rt: HostRuntime) -> Result<(), Fail> {
+    let alloc = rt.alloc();
+    let mut path = Path::open(alloc);
+    path.push(2)?;
+    path.push(0)?;
+    let mut batch = Batch::open(alloc);
+    batch.push(Path::open(alloc))?;
+    batch.push(path.copy(alloc)?)?;
+    let copy = batch.copy(alloc)?;
+    assert_eq!(rt; copy.len(), 2);
+    assert_eq!(rt; copy.item(0).len(), 0);
+    assert_eq!(rt; copy.item(1).len(), 2);
+    assert_eq!(rt; copy.item(1).item(0), 2);
+    Ok(())
+}
+
+#[test]
+fn words_are_their_bytes(rt: HostRuntime) -> Result<(), Fail> {
+    let word = RxWord::from_bytes(rt.alloc(), b"--kill")?;
+    assert_eq!(rt; word.bytes(), b"--kill".as_slice());
+    Ok(())
+}
+
+#[test]
+fn bit_p_stands_for_place_p(rt: HostRuntime) {
+    let set = PlaceSet::empty().with(PlaceId(0)).with(PlaceId(15));
+    assert_eq!(rt; set, PlaceSet(0x8001));
+    assert!(rt; set.contains(PlaceId(15)) && !set.contains(PlaceId(14)));
+}
+
+#[test]
+fn source_fails_at_the_named_call(rt: HostRuntime) -> Result<(), Fail> {
+    let mut source = MemSource::open(rt.alloc(), b"abc", &[0])?;
+    let mut buf = [0; 2];
+    assert_eq!(rt; source.read(&mut buf), Err(Failed));
+    assert_eq!(rt; source.read(&mut buf), Ok(2));
+    assert_eq!(rt; buf, *b"ab");
+    assert_eq!(rt; source.read(&mut buf), Ok(1));
+    assert_eq!(rt; source.read(&mut buf), Ok(0));
+    Ok(())
+}
+
+#[test]
+fn sink_fails_at_the_named_call_and_without_room(rt: HostRuntime) -> Result<(), Fail> {
+    let mut sink = MemSink::open(rt.alloc(), 20, &[0])?;
+    assert_eq!(rt; sink.write(b"rx10 trace 1"), Err(Failed));
+    assert_eq!(rt; sink.written().len(), 0);
+    assert_eq!(rt; sink.write(b"rx10 trace 1\nplaces 2"), Ok(20));
+    assert_eq!(rt; sink.write(b"2"), Err(Failed));
+    assert_eq!(rt; sink.write(b""), Ok(0));
+    assert_eq!(rt; sink.written(), b"rx10 trace 1\nplaces ".as_slice());
+    Ok(())
+}
+
+// Fails at each call.
+#[derive(Drop)]
+struct Broken;
+
+impl Read for Broken {
+    fn read(&mut self, _buf: &mut [u8]) -> io::Result<usize> {
+        Err(io::Error::from(io::ErrorKind::Interrupted))
+    }
+}
+
+impl Write for Broken {
+    fn write(&mut self, _buf: &[u8]) -> io::Result<usize> {
+        Err(io::Error::from(io::ErrorKind::BrokenPipe))
+    }
+
+    fn flush(&mut self) -> io::Result<()> {
+        Ok(())
+    }
+}
+
+#[test]
+fn adapters_pass_on_what_std_answers(rt: HostRuntime) {
+    let mut buf = [0; 4];
+    let mut source = StdSource::over(Cursor::new(b"abc".as_slice()));
+    assert_eq!(rt; source.read(&mut buf), Ok(3));
+    assert_eq!(rt; buf, *b"abc\0");
+    assert_eq!(rt; source.read(&mut buf), Ok(0));
+    assert_eq!(rt; StdSource::over(Broken).read(&mut buf), Err(Failed));
+
+    let mut sink = StdSink::over(Cursor::new([0; 3]));
+    assert_eq!(rt; sink.write(b"abcd"), Ok(3));
+    assert_eq!(rt; sink.write(b"d"), Err(Failed));
+    assert_eq!(rt; sink.write(b""), Ok(0));
+    assert_eq!(rt; StdSink::over(Broken).write(b"d"), Err(Failed));
+}

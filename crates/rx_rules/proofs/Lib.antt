@@ -1,0 +1,4 @@
+pub mod Worked
+pub mod Excluded
+pub mod Numbers
+pub mod Inverting

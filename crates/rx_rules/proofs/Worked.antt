@@ -1,0 +1,122 @@
+-- The worked histories are whole runs.
+use Rattle.std.specs.Prelude.{◌≡◌, ℕ, zero, suc, ◌+◌, ◌<◌, pos, nat_le, true, false, [], ◌∷◌, refl}
+use Rattle.std.proofs.Common.{lit<, lit≤, arith}
+use Rattle.std.proofs.lemmas.Bool.Decides.{nat_tests}
+use Rattle.rx_base.specs.declared.values.Value.TheVariants.{Ref}
+use Rattle.rx_base.specs.declared.values.Fault.TheVariants.{Stale, HeapFull}
+use Rattle.rx_rules.specs.declared.events.Cell.TheVariants.{Make}
+use Rattle.rx_rules.specs.Code.{Num, Nothing, Then, Print as Prints, AtAsync, Finish}
+use Rattle.rx_rules.specs.Terms.{no_vars, Empty, items, Gives, Fine, Fails}
+use Rattle.rx_rules.specs.Plays.{local, stores, asks, ends, stops}
+use Rattle.rx_rules.specs.Store.{State, opening_state, after_cell, IsLeastFree, fits}
+use Rattle.rx_rules.specs.Run.{IsRun}
+use Rattle.rx_rules.specs.Examples.{adoption, adoption_journals, adoption_script, adoption_setup, at_waits, at_waits_journals, full_heap, full_heap_journals, full_script, full_setup, kill_setup, loss_in_transit, loss_in_transit_journals, ordinary_case, ordinary_case_journals, ordinary_script, ordinary_setup, orphan_script, orphan_setup, p, source_dies, source_dies_journals, source_script, source_setup, stale_reference, stale_reference_journals, stale_script, two_kills_setup, two_losses, two_losses_journals}
+
+-- nothing is below the front
+at_front : {w n : ℕ} {S : State} → fits w S n 0 ≡ true → IsLeastFree w S n 0
+at_front e = record { here = e; least = λ b h. absurd (omega arith) }
+
+-- four words do not fit before the end of a block of four
+below_four : (b : ℕ) → b < 4 → fits 8 (after_cell opening_state (Make 4 0 1)) 4 b ≡ false
+below_four zero h = refl
+below_four (suc zero) h = refl
+below_four (suc (suc zero)) h = refl
+below_four (suc (suc (suc zero))) h = refl
+below_four (suc (suc (suc (suc b)))) h = absurd (omega arith)
+
+second_front : IsLeastFree 8 (after_cell opening_state (Make 4 0 1)) 4 4
+second_front = record { here = refl; least = below_four }
+
+-- five words fit nowhere beside the block of words 4 to 7
+abbrev beside : State
+beside = record { blocks = record { start = 4; generation = 2; words = pos 0 ∷ pos 0 ∷ pos 0 ∷ pos 0 ∷ [] } ∷ []; made = 2 }
+
+too_far : (a : ℕ) → nat_le (a + 5) 8 ≡ false → fits 8 beside 5 a ≡ false
+too_far a e = rw e
+
+five_nowhere : (a : ℕ) → fits 8 beside 5 a ≡ false
+five_nowhere zero = refl
+five_nowhere (suc zero) = refl
+five_nowhere (suc (suc zero)) = refl
+five_nowhere (suc (suc (suc zero))) = refl
+five_nowhere (suc (suc (suc (suc a)))) = too_far (suc (suc (suc (suc a)))) (grind (arith, nat_tests))
+
+pub ordinary_case_runs : IsRun ordinary_script ordinary_setup ordinary_case ordinary_case_journals
+ordinary_case_runs =
+    record {
+      folds = record { some = lit≤ tt; few = lit≤ tt; allowed = (record { task = _; place = p 0; live = record { acts = record { stands = refl; unstruck = refl }; is_at = refl; moves = refl }; next = refl; parent = refl }, (record { task = _; live = record { acts = record { stands = refl; unstruck = refl }; is_at = refl; moves = refl }; next_task = refl; under = refl; target = lit< tt }, (record { task = _; place = p 0; scope = _; live = record { acts = record { stands = refl; unstruck = refl }; is_at = refl; moves = refl }; own = refl; is_it = refl; finish = refl }, (record { task = _; from = p 0; acts = record { stands = refl; unstruck = refl }; travels = refl }, (record { task = _; place = p 1; live = record { acts = record { stands = refl; unstruck = refl }; is_at = refl; moves = refl } }, (record { task = _; place = p 1; live = record { acts = record { stands = refl; unstruck = refl }; is_at = refl; moves = refl }; none_open = refl }, ((record { task = _; scope = _; acts = record { stands = refl; unstruck = refl }; waits = refl; own = refl; is_it = refl; is_quiet = refl }, record { places = refl; faults = refl }), (record { task = _; place = p 0; live = record { acts = record { stands = refl; unstruck = refl }; is_at = refl; moves = refl } }, (record { task = _; place = p 0; live = record { acts = record { stands = refl; unstruck = refl }; is_at = refl; moves = refl }; none_open = refl }, ((record { root = _; stands = refl; is_quiet = refl }, record { places = refl; faults = refl }), tt)))))))))); kills = (tt, (tt, (tt, (tt, (tt, (tt, (tt, (tt, (tt, (tt, tt)))))))))) };
+      ends = refl;
+      played = record { starts = (items ordinary_script [] Empty, no_vars) ∷ (items (Then (Prints (Num (pos 7))) Nothing) (0 ∷ 0 ∷ []) Empty, no_vars) ∷ []; main = refl; all = refl; each = (asks (lit≤ tt) refl tt (asks (lit≤ tt) (refl, refl, refl) refl (asks (lit≤ tt) refl tt (asks (lit≤ tt) tt tt (asks (lit≤ tt) (refl, refl) tt (ends (lit≤ tt) refl))))), ((refl, asks (lit≤ tt) (refl, refl) tt (ends (lit≤ tt) refl)), tt)) };
+      one_each = refl;
+      journals = (record { law = tt; homes = tt; rising = tt; closed = refl }, (record { law = tt; homes = tt; rising = tt; closed = refl }, tt));
+    }
+
+pub loss_in_transit_runs : IsRun ordinary_script kill_setup loss_in_transit loss_in_transit_journals
+loss_in_transit_runs =
+    record {
+      folds = record { some = lit≤ tt; few = lit≤ tt; allowed = (record { task = _; place = p 0; live = record { acts = record { stands = refl; unstruck = refl }; is_at = refl; moves = refl }; next = refl; parent = refl }, (record { task = _; live = record { acts = record { stands = refl; unstruck = refl }; is_at = refl; moves = refl }; next_task = refl; under = refl; target = lit< tt }, (record { task = _; place = p 0; scope = _; live = record { acts = record { stands = refl; unstruck = refl }; is_at = refl; moves = refl }; own = refl; is_it = refl; finish = refl }, (record { is_place = lit< tt; not_zero = λ e. cc; lives = refl }, ((record { task = _; scope = _; acts = record { stands = refl; unstruck = refl }; waits = refl; own = refl; is_it = refl; is_quiet = refl }, record { places = refl; faults = refl }), (record { task = _; place = p 0; live = record { acts = record { stands = refl; unstruck = refl }; is_at = refl; moves = refl }; none_open = refl }, ((record { root = _; stands = refl; is_quiet = refl }, record { places = refl; faults = refl }), tt))))))); kills = (lit< tt, (lit< tt, (lit< tt, ((refl, lit≤ tt), (tt, (tt, (tt, tt))))))) };
+      ends = refl;
+      played = record { starts = (items ordinary_script [] Empty, no_vars) ∷ (items (Then (Prints (Num (pos 7))) Nothing) (0 ∷ 0 ∷ []) Empty, no_vars) ∷ []; main = refl; all = refl; each = (asks (lit≤ tt) refl tt (asks (lit≤ tt) (refl, refl, refl) refl (asks (lit≤ tt) refl tt (asks (lit≤ tt) tt tt (ends (lit≤ tt) refl)))), (refl, tt)) };
+      one_each = refl;
+      journals = (record { law = tt; homes = tt; rising = tt; closed = refl }, (record { law = refl; homes = tt; rising = (lit≤ tt, tt); closed = refl }, tt));
+    }
+
+pub adoption_runs : IsRun adoption_script adoption_setup adoption adoption_journals
+adoption_runs =
+    record {
+      folds = record { some = lit≤ tt; few = lit≤ tt; allowed = (record { task = _; place = p 0; live = record { acts = record { stands = refl; unstruck = refl }; is_at = refl; moves = refl }; next = refl; parent = refl }, (record { task = _; live = record { acts = record { stands = refl; unstruck = refl }; is_at = refl; moves = refl }; next_task = refl; under = refl; target = lit< tt }, (record { task = _; place = p 0; scope = _; live = record { acts = record { stands = refl; unstruck = refl }; is_at = refl; moves = refl }; own = refl; is_it = refl; finish = refl }, (record { task = _; from = p 0; acts = record { stands = refl; unstruck = refl }; travels = refl }, (record { task = _; place = p 1; live = record { acts = record { stands = refl; unstruck = refl }; is_at = refl; moves = refl }; next = refl; parent = refl }, (record { task = _; live = record { acts = record { stands = refl; unstruck = refl }; is_at = refl; moves = refl }; next_task = refl; under = refl; target = lit< tt }, (record { task = _; place = p 1; scope = _; live = record { acts = record { stands = refl; unstruck = refl }; is_at = refl; moves = refl }; own = refl; is_it = refl; finish = refl }, (record { task = _; from = p 1; acts = record { stands = refl; unstruck = refl }; travels = refl }, (record { task = _; place = p 2; live = record { acts = record { stands = refl; unstruck = refl }; is_at = refl; moves = refl }; next = refl; parent = refl }, (record { task = _; live = record { acts = record { stands = refl; unstruck = refl }; is_at = refl; moves = refl }; next_task = refl; under = refl; target = lit< tt }, (record { task = _; place = p 2; scope = _; live = record { acts = record { stands = refl; unstruck = refl }; is_at = refl; moves = refl }; own = refl; is_it = refl; finish = refl }, (record { task = _; from = p 2; acts = record { stands = refl; unstruck = refl }; travels = refl }, (record { is_place = lit< tt; not_zero = λ e. cc; lives = refl }, (record { task = _; place = p 3; live = record { acts = record { stands = refl; unstruck = refl }; is_at = refl; moves = refl } }, (record { task = _; place = p 3; live = record { acts = record { stands = refl; unstruck = refl }; is_at = refl; moves = refl }; none_open = refl }, ((record { task = _; scope = _; acts = record { stands = refl; unstruck = refl }; waits = refl; own = refl; is_it = refl; is_quiet = refl }, record { places = refl; faults = refl }), (record { task = _; place = p 1; live = record { acts = record { stands = refl; unstruck = refl }; is_at = refl; moves = refl }; none_open = refl }, ((record { task = _; scope = _; acts = record { stands = refl; unstruck = refl }; waits = refl; own = refl; is_it = refl; is_quiet = refl }, record { places = refl; faults = refl }), (record { task = _; place = p 0; live = record { acts = record { stands = refl; unstruck = refl }; is_at = refl; moves = refl } }, (record { task = _; place = p 0; live = record { acts = record { stands = refl; unstruck = refl }; is_at = refl; moves = refl }; none_open = refl }, ((record { root = _; stands = refl; is_quiet = refl }, record { places = refl; faults = refl }), tt))))))))))))))))))))); kills = (lit< tt, (lit< tt, (lit< tt, (lit< tt, (lit< tt, (lit< tt, (lit< tt, (lit< tt, (lit< tt, (lit< tt, (lit< tt, (lit< tt, ((refl, lit≤ tt), (tt, (tt, (tt, (tt, (tt, (tt, (tt, (tt, tt))))))))))))))))))))) };
+      ends = refl;
+      played = record { starts = (items adoption_script [] Empty, no_vars) ∷ (items (Then (Finish (Then (AtAsync (Num (pos 2)) (Then (Finish (Then (AtAsync (Num (pos 3)) (Then (Prints (Num (pos 1))) Nothing)) Nothing)) Nothing)) Nothing)) Nothing) (0 ∷ 0 ∷ 0 ∷ 0 ∷ []) Empty, no_vars) ∷ (items (Then (Finish (Then (AtAsync (Num (pos 3)) (Then (Prints (Num (pos 1))) Nothing)) Nothing)) Nothing) (0 ∷ 0 ∷ 0 ∷ 0 ∷ 0 ∷ 0 ∷ []) Empty, no_vars) ∷ (items (Then (Prints (Num (pos 1))) Nothing) (0 ∷ 0 ∷ 0 ∷ 0 ∷ 0 ∷ 0 ∷ 0 ∷ 0 ∷ []) Empty, no_vars) ∷ []; main = refl; all = refl; each = (local refl (asks (lit≤ tt) refl tt (asks (lit≤ tt) (refl, refl, refl) refl (asks (lit≤ tt) refl tt (asks (lit≤ tt) tt tt (local refl (asks (lit≤ tt) (refl, refl) tt (ends (lit≤ tt) refl))))))), ((refl, asks (lit≤ tt) refl tt (asks (lit≤ tt) (refl, refl, refl) refl (asks (lit≤ tt) refl tt (asks (lit≤ tt) tt tt (ends (lit≤ tt) refl))))), ((refl, asks (lit≤ tt) refl tt (asks (lit≤ tt) (refl, refl, refl) refl (asks (lit≤ tt) refl tt (stops)))), ((refl, asks (lit≤ tt) (refl, refl) tt (ends (lit≤ tt) refl)), tt)))) };
+      one_each = refl;
+      journals = (record { law = tt; homes = tt; rising = tt; closed = refl }, (record { law = tt; homes = tt; rising = tt; closed = refl }, (record { law = refl; homes = tt; rising = (lit≤ tt, tt); closed = refl }, (record { law = tt; homes = tt; rising = tt; closed = refl }, tt))));
+    }
+
+pub two_losses_runs : IsRun adoption_script two_kills_setup two_losses two_losses_journals
+two_losses_runs =
+    record {
+      folds = record { some = lit≤ tt; few = lit≤ tt; allowed = (record { task = _; place = p 0; live = record { acts = record { stands = refl; unstruck = refl }; is_at = refl; moves = refl }; next = refl; parent = refl }, (record { task = _; live = record { acts = record { stands = refl; unstruck = refl }; is_at = refl; moves = refl }; next_task = refl; under = refl; target = lit< tt }, (record { task = _; place = p 0; scope = _; live = record { acts = record { stands = refl; unstruck = refl }; is_at = refl; moves = refl }; own = refl; is_it = refl; finish = refl }, (record { task = _; from = p 0; acts = record { stands = refl; unstruck = refl }; travels = refl }, (record { task = _; place = p 1; live = record { acts = record { stands = refl; unstruck = refl }; is_at = refl; moves = refl }; next = refl; parent = refl }, (record { task = _; live = record { acts = record { stands = refl; unstruck = refl }; is_at = refl; moves = refl }; next_task = refl; under = refl; target = lit< tt }, (record { task = _; place = p 1; scope = _; live = record { acts = record { stands = refl; unstruck = refl }; is_at = refl; moves = refl }; own = refl; is_it = refl; finish = refl }, (record { task = _; from = p 1; acts = record { stands = refl; unstruck = refl }; travels = refl }, (record { task = _; place = p 2; live = record { acts = record { stands = refl; unstruck = refl }; is_at = refl; moves = refl }; next = refl; parent = refl }, (record { task = _; live = record { acts = record { stands = refl; unstruck = refl }; is_at = refl; moves = refl }; next_task = refl; under = refl; target = lit< tt }, (record { task = _; place = p 2; scope = _; live = record { acts = record { stands = refl; unstruck = refl }; is_at = refl; moves = refl }; own = refl; is_it = refl; finish = refl }, (record { task = _; from = p 2; acts = record { stands = refl; unstruck = refl }; travels = refl }, (record { is_place = lit< tt; not_zero = λ e. cc; lives = refl }, (record { is_place = lit< tt; not_zero = λ e. cc; lives = refl }, ((record { task = _; scope = _; acts = record { stands = refl; unstruck = refl }; waits = refl; own = refl; is_it = refl; is_quiet = refl }, record { places = refl; faults = refl }), (record { task = _; place = p 1; live = record { acts = record { stands = refl; unstruck = refl }; is_at = refl; moves = refl }; none_open = refl }, ((record { task = _; scope = _; acts = record { stands = refl; unstruck = refl }; waits = refl; own = refl; is_it = refl; is_quiet = refl }, record { places = refl; faults = refl }), (record { task = _; place = p 0; live = record { acts = record { stands = refl; unstruck = refl }; is_at = refl; moves = refl } }, (record { task = _; place = p 0; live = record { acts = record { stands = refl; unstruck = refl }; is_at = refl; moves = refl }; none_open = refl }, ((record { root = _; stands = refl; is_quiet = refl }, record { places = refl; faults = refl }), tt)))))))))))))))))))); kills = (lit< tt, (lit< tt, (lit< tt, (lit< tt, (lit< tt, (lit< tt, (lit< tt, (lit< tt, (lit< tt, (lit< tt, (lit< tt, (lit< tt, ((refl, lit≤ tt), ((refl, lit≤ tt), (tt, (tt, (tt, (tt, (tt, (tt, tt)))))))))))))))))))) };
+      ends = refl;
+      played = record { starts = (items adoption_script [] Empty, no_vars) ∷ (items (Then (Finish (Then (AtAsync (Num (pos 2)) (Then (Finish (Then (AtAsync (Num (pos 3)) (Then (Prints (Num (pos 1))) Nothing)) Nothing)) Nothing)) Nothing)) Nothing) (0 ∷ 0 ∷ 0 ∷ 0 ∷ []) Empty, no_vars) ∷ (items (Then (Finish (Then (AtAsync (Num (pos 3)) (Then (Prints (Num (pos 1))) Nothing)) Nothing)) Nothing) (0 ∷ 0 ∷ 0 ∷ 0 ∷ 0 ∷ 0 ∷ []) Empty, no_vars) ∷ (items (Then (Prints (Num (pos 1))) Nothing) (0 ∷ 0 ∷ 0 ∷ 0 ∷ 0 ∷ 0 ∷ 0 ∷ 0 ∷ []) Empty, no_vars) ∷ []; main = refl; all = refl; each = (local refl (asks (lit≤ tt) refl tt (asks (lit≤ tt) (refl, refl, refl) refl (asks (lit≤ tt) refl tt (asks (lit≤ tt) tt tt (local refl (asks (lit≤ tt) (refl, refl) tt (ends (lit≤ tt) refl))))))), ((refl, asks (lit≤ tt) refl tt (asks (lit≤ tt) (refl, refl, refl) refl (asks (lit≤ tt) refl tt (asks (lit≤ tt) tt tt (ends (lit≤ tt) refl))))), ((refl, asks (lit≤ tt) refl tt (asks (lit≤ tt) (refl, refl, refl) refl (asks (lit≤ tt) refl tt (stops)))), ((refl, stops), tt)))) };
+      one_each = refl;
+      journals = (record { law = tt; homes = tt; rising = tt; closed = refl }, (record { law = tt; homes = tt; rising = tt; closed = refl }, (record { law = refl; homes = tt; rising = (lit≤ tt, tt); closed = refl }, (record { law = refl; homes = tt; rising = (lit≤ tt, tt); closed = refl }, tt))));
+    }
+
+pub at_waits_runs : IsRun orphan_script orphan_setup at_waits at_waits_journals
+at_waits_runs =
+    record {
+      folds = record { some = lit≤ tt; few = lit≤ tt; allowed = (record { task = _; live = record { acts = record { stands = refl; unstruck = refl }; is_at = refl; moves = refl }; next = refl; parent = refl; next_task = refl; target = lit< tt }, (record { task = _; from = p 0; acts = record { stands = refl; unstruck = refl }; travels = refl }, (record { task = _; place = p 1; live = record { acts = record { stands = refl; unstruck = refl }; is_at = refl; moves = refl }; next = refl; parent = refl }, (record { task = _; live = record { acts = record { stands = refl; unstruck = refl }; is_at = refl; moves = refl }; next_task = refl; under = refl; target = lit< tt }, (record { task = _; place = p 1; scope = _; live = record { acts = record { stands = refl; unstruck = refl }; is_at = refl; moves = refl }; own = refl; is_it = refl; finish = refl }, (record { task = _; from = p 1; acts = record { stands = refl; unstruck = refl }; travels = refl }, (record { is_place = lit< tt; not_zero = λ e. cc; lives = refl }, (record { task = _; place = p 2; live = record { acts = record { stands = refl; unstruck = refl }; is_at = refl; moves = refl } }, (record { task = _; place = p 2; live = record { acts = record { stands = refl; unstruck = refl }; is_at = refl; moves = refl }; none_open = refl }, ((record { task = _; scope = _; acts = record { stands = refl; unstruck = refl }; waits = refl; own = refl; is_it = refl; is_quiet = refl }, record { places = refl; faults = refl }), (record { task = _; place = p 0; live = record { acts = record { stands = refl; unstruck = refl }; is_at = refl; moves = refl } }, (record { task = _; place = p 0; live = record { acts = record { stands = refl; unstruck = refl }; is_at = refl; moves = refl } }, (record { task = _; place = p 0; live = record { acts = record { stands = refl; unstruck = refl }; is_at = refl; moves = refl }; none_open = refl }, ((record { root = _; stands = refl; is_quiet = refl }, record { places = refl; faults = refl }), tt)))))))))))))); kills = (lit< tt, (lit< tt, (lit< tt, (lit< tt, (lit< tt, (lit< tt, ((refl, lit≤ tt), (tt, (tt, (tt, (tt, (tt, (tt, (tt, tt)))))))))))))) };
+      ends = refl;
+      played = record { starts = (items orphan_script [] Empty, no_vars) ∷ (items (Then (Finish (Then (AtAsync (Num (pos 2)) (Then (Prints (Num (pos 1))) Nothing)) Nothing)) Nothing) (0 ∷ 0 ∷ 0 ∷ []) Empty, no_vars) ∷ (items (Then (Prints (Num (pos 1))) Nothing) (0 ∷ 0 ∷ 0 ∷ 0 ∷ 0 ∷ []) Empty, no_vars) ∷ []; main = refl; all = refl; each = (local refl (asks (lit≤ tt) (refl, refl, refl) refl (asks (lit≤ tt) tt tt (local refl (asks (lit≤ tt) (refl, refl) tt (asks (lit≤ tt) (refl, refl) tt (ends (lit≤ tt) refl)))))), ((refl, asks (lit≤ tt) refl tt (asks (lit≤ tt) (refl, refl, refl) refl (asks (lit≤ tt) refl tt (stops)))), ((refl, asks (lit≤ tt) (refl, refl) tt (ends (lit≤ tt) refl)), tt))) };
+      one_each = refl;
+      journals = (record { law = tt; homes = tt; rising = tt; closed = refl }, (record { law = refl; homes = tt; rising = (lit≤ tt, tt); closed = refl }, (record { law = tt; homes = tt; rising = tt; closed = refl }, tt)));
+    }
+
+pub source_dies_runs : IsRun source_script source_setup source_dies source_dies_journals
+source_dies_runs =
+    record {
+      folds = record { some = lit≤ tt; few = lit≤ tt; allowed = (record { task = _; place = p 0; live = record { acts = record { stands = refl; unstruck = refl }; is_at = refl; moves = refl }; next = refl; parent = refl }, (record { task = _; live = record { acts = record { stands = refl; unstruck = refl }; is_at = refl; moves = refl }; next_task = refl; under = refl; target = lit< tt }, (record { task = _; place = p 0; scope = _; live = record { acts = record { stands = refl; unstruck = refl }; is_at = refl; moves = refl }; own = refl; is_it = refl; finish = refl }, (record { task = _; from = p 0; acts = record { stands = refl; unstruck = refl }; travels = refl }, (record { task = _; live = record { acts = record { stands = refl; unstruck = refl }; is_at = refl; moves = refl }; next_task = refl; under = refl; target = lit< tt }, (record { task = _; place = p 1; live = record { acts = record { stands = refl; unstruck = refl }; is_at = refl; moves = refl }; none_open = refl }, (record { is_place = lit< tt; not_zero = λ e. cc; lives = refl }, ((record { task = _; scope = _; acts = record { stands = refl; unstruck = refl }; waits = refl; own = refl; is_it = refl; is_quiet = refl }, record { places = refl; faults = refl }), (record { task = _; place = p 0; live = record { acts = record { stands = refl; unstruck = refl }; is_at = refl; moves = refl } }, (record { task = _; place = p 0; live = record { acts = record { stands = refl; unstruck = refl }; is_at = refl; moves = refl }; none_open = refl }, ((record { root = _; stands = refl; is_quiet = refl }, record { places = refl; faults = refl }), tt))))))))))); kills = (lit< tt, (lit< tt, (lit< tt, (lit< tt, (lit< tt, (lit< tt, ((refl, lit≤ tt), (tt, (tt, (tt, (tt, tt))))))))))) };
+      ends = refl;
+      played = record { starts = (items source_script [] Empty, no_vars) ∷ (items (Then (AtAsync (Num (pos 2)) (Then (Prints (Num (pos 1))) Nothing)) Nothing) (0 ∷ 0 ∷ 0 ∷ 0 ∷ []) Empty, no_vars) ∷ (items (Then (Prints (Num (pos 1))) Nothing) (0 ∷ 0 ∷ 0 ∷ 0 ∷ 0 ∷ []) Empty, no_vars) ∷ []; main = refl; all = refl; each = (local refl (asks (lit≤ tt) refl tt (asks (lit≤ tt) (refl, refl, refl) refl (asks (lit≤ tt) refl tt (asks (lit≤ tt) tt tt (local refl (asks (lit≤ tt) (refl, refl) tt (ends (lit≤ tt) refl))))))), ((refl, asks (lit≤ tt) (refl, refl, refl) refl (ends (lit≤ tt) refl)), (refl, tt))) };
+      one_each = refl;
+      journals = (record { law = tt; homes = tt; rising = tt; closed = refl }, (record { law = refl; homes = tt; rising = (lit≤ tt, tt); closed = refl }, (record { law = tt; homes = tt; rising = tt; closed = refl }, tt)));
+    }
+
+pub stale_reference_runs : IsRun stale_script ordinary_setup stale_reference stale_reference_journals
+stale_reference_runs =
+    record {
+      folds = record { some = lit≤ tt; few = lit≤ tt; allowed = (record { task = _; place = p 0; live = record { acts = record { stands = refl; unstruck = refl }; is_at = refl; moves = refl }; none_open = refl }, ((record { root = _; stands = refl; is_quiet = refl }, record { places = refl; faults = refl }), tt)); kills = (tt, (tt, tt)) };
+      ends = refl;
+      played = record { starts = (items stale_script [] Empty, no_vars) ∷ []; main = refl; all = refl; each = (stores (Gives 0 (Ref (record { home = p 0; start = 0; generation = 1 }))) (lit≤ tt) (refl, refl) refl (stores (Fine) (lit≤ tt) (refl, refl) refl (stores (Gives 1 (Ref (record { home = p 0; start = 0; generation = 2 }))) (lit≤ tt) (refl, refl) refl (stores (Fails Stale) (lit≤ tt) (refl, refl, refl) refl (ends (lit≤ tt) refl)))), tt) };
+      one_each = refl;
+      journals = (record { law = ((at_front refl, refl), ((_, refl), ((at_front refl, refl), (refl, tt)))); homes = (lit< tt, refl, (lit< tt, refl, (lit< tt, refl, (lit< tt, refl, tt)))); rising = (lit≤ tt, (lit≤ tt, (lit≤ tt, (lit≤ tt, tt)))); closed = refl }, (record { law = tt; homes = tt; rising = tt; closed = refl }, tt));
+    }
+
+pub full_heap_runs : IsRun full_script full_setup full_heap full_heap_journals
+full_heap_runs =
+    record {
+      folds = record { some = lit≤ tt; few = lit≤ tt; allowed = (record { task = _; place = p 0; live = record { acts = record { stands = refl; unstruck = refl }; is_at = refl; moves = refl } }, (record { task = _; place = p 0; live = record { acts = record { stands = refl; unstruck = refl }; is_at = refl; moves = refl }; none_open = refl }, ((record { root = _; stands = refl; is_quiet = refl }, record { places = refl; faults = refl }), tt))); kills = (tt, (tt, (tt, tt))) };
+      ends = refl;
+      played = record { starts = (items full_script [] Empty, no_vars) ∷ []; main = refl; all = refl; each = (stores (Gives 0 (Ref (record { home = p 0; start = 0; generation = 1 }))) (lit≤ tt) (refl, refl) refl (stores (Gives 1 (Ref (record { home = p 0; start = 4; generation = 2 }))) (lit≤ tt) (refl, refl) refl (stores (Fine) (lit≤ tt) (refl, refl) refl (local refl (stores (Fails HeapFull) (lit≤ tt) (refl, refl) refl (local refl (asks (lit≤ tt) (refl, refl) tt (stores (Gives 3 (Ref (record { home = p 0; start = 0; generation = 3 }))) (lit≤ tt) (refl, refl) refl (ends (lit≤ tt) refl)))))))), tt) };
+      one_each = refl;
+      journals = (record { law = ((at_front refl, refl), ((second_front, refl), ((_, refl), (five_nowhere, ((at_front refl, refl), tt))))); homes = (lit< tt, refl, (lit< tt, refl, (lit< tt, refl, (lit< tt, refl, (lit< tt, refl, tt))))); rising = (lit≤ tt, (lit≤ tt, (lit≤ tt, (lit≤ tt, (lit≤ tt, tt))))); closed = refl }, (record { law = tt; homes = tt; rising = tt; closed = refl }, tt));
+    }

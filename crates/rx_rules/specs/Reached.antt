@@ -1,0 +1,20 @@
+-- The trees that can be reached.
+use Rattle.std.specs.Prelude.{ℕ, ◌<◌, ◌≤◌, Option, Some, None, All}
+use Rattle.rx_base.specs.declared.ids.TaskId.{TaskId}
+use Rattle.rx_rules.specs.declared.tasks.Blow.{Blow}
+use Rattle.rx_rules.specs.declared.entries.Act.{Act}
+use Rattle.rx_rules.specs.Tree.{Tree, the_root}
+use Rattle.rx_rules.specs.Entries.{AllowedAct, made_act, MayDie, MayReleaseRoot, strike, without}
+use Rattle.rx_rules.specs.Fold.{opening}
+
+-- an earlier death, if there is one
+abbrev pub IsOlder : ℕ → Option ℕ → Type 0
+IsOlder n None = Unit {0}
+IsOlder n (Some old) = old < n
+
+-- the trees that come from the opening tree by allowed entries, where the numbers of deaths may be any that rise
+pub data Reached : Tree → Type 0 where
+  opens : (places : ℕ) → 1 ≤ places → places ≤ 16 → Reached (opening places)
+  acts : {T : Tree} (t : TaskId) (act : Act) → Reached T → AllowedAct T t act → Reached (made_act T t act)
+  ends : {T : Tree} → Reached T → MayReleaseRoot T → Reached (without T the_root)
+  dies : {T : Tree} (b : Blow) → Reached T → MayDie T b.place → All (IsOlder b.entry) T.dead → Reached (strike b T)

@@ -1,0 +1,15 @@
+pub mod Lookups
+pub mod Changes
+pub mod Chains
+pub mod Stay
+pub mod Blows
+pub mod Reach
+pub mod Opening
+pub mod Releasing
+pub mod Reached
+pub mod Histories
+pub mod Below
+pub mod Owning
+pub mod Waiting
+pub mod Enabling
+pub mod Rooting

@@ -1,0 +1,121 @@
+-- Games that turns have made, whatever the picks.
+use Rattle.std.specs.Prelude.{◌≡◌, ℕ, suc, ◌+◌, ◌*◌, ◌≤◌, not, List, [], ◌∷◌, ◌++◌, filter, length, Some, None, refl}
+use Rattle.std.proofs.Common.{◌∙◌, sym, arith}
+use Rattle.std.proofs.lemmas.List.Sums.{sum_by-cons}
+use Rattle.rx_base.specs.declared.values.Fault.{Fault}
+use Rattle.rx_base.specs.declared.ids.TaskId.{TaskId}
+use Rattle.rx_rules.specs.declared.entries.Act.TheVariants.{Open, At as Calls, Spawn, Arrive, Wait, Release, End, Print}
+use Rattle.rx_rules.specs.declared.entries.Entry.{Entry}
+use Rattle.rx_rules.specs.declared.entries.Entry.TheVariants.{Step, Root, Death}
+use Rattle.rx_rules.specs.Code.{Block, work}
+use Rattle.rx_rules.specs.Terms.{Empty, items}
+use Rattle.rx_rules.specs.Tree.{Tree, is_task, task_of}
+use Rattle.rx_rules.specs.Entries.{made, after_end, change_scope}
+use Rattle.rx_rules.specs.Fold.{births, births_of, fold_from, opening}
+use Rattle.rx_rules.specs.Run.{Given, Proper, NoRoot}
+use Rattle.rx_rules.specs.Picked.{Game, Comes, opens, turns, start_game, tree_in}
+use Rattle.rx_runs.specs.Costs.{cost}
+use Rattle.rx_runs.specs.Games.{GameOk, PlayerSo}
+use Rattle.rx_runs.specs.Coming.{GamesCome, GoesOn}
+use Rattle.rx_runs.specs.Framing.{AllFit}
+use Rattle.rx_runs.proofs.Fitting.{fits_keeps, starts_fit}
+use Rattle.rx_runs.proofs.Going.{next_of}
+use Rattle.rx_runs.proofs.Numbers.{next-tree}
+use Rattle.rx_runs.proofs.Pairs.{pairs-length}
+use Rattle.rx_runs.proofs.Bounding.{total, turn_pays}
+use Rattle.rx_runs.proofs.Costs.{cost_items}
+use Rattle.rx_runs.proofs.Keeping.{turn_keeps}
+use Rattle.rx_runs.proofs.Opening.{starts_ok}
+use Rattle.rx_runs.proofs.Pigeons.{kills_fit}
+
+scope-after_end : (T : Tree) (t : TaskId) (thrown : List Fault) → (after_end T t thrown).next_scope ≡ T.next_scope
+scope-after_end T t thrown =
+    elim (task_of T t) as
+    (λ o. (elim o as (λ _. Tree) [
+      | Some x ↦ change_scope (λ g. record g { ends = g.ends ++ thrown }) x.under (record T { tasks = filter (λ y. not (is_task t y)) T.tasks })
+      | None ↦ T
+    ]).next_scope ≡ T.next_scope) [
+      | Some x ↦ refl
+      | None ↦ refl
+    ]
+
+scope-made : (n : ℕ) (T : Tree) (e : Entry) → (made n T e).next_scope ≤ T.next_scope + 1
+scope-made n T (Step t (Open s r path) batch) = omega arith
+scope-made n T (Step t (Calls s r callee from to path) batch) = omega arith
+scope-made n T (Step t (Spawn child s from to path) batch) = omega arith
+scope-made n T (Step t (Arrive p) batch) = omega arith
+scope-made n T (Step t (Wait s thrown) batch) = omega arith
+scope-made n T (Step t (Release s lost thrown) batch) = omega arith
+scope-made n T (Step t (End thrown) batch) = let e = scope-after_end T t thrown in omega (arith, e)
+scope-made n T (Step t (Print value path) batch) = omega arith
+scope-made n T (Root lost thrown) = omega arith
+scope-made n T (Death d) = omega arith
+
+scope-fold : (n : ℕ) (T : Tree) (es : List Entry) → (fold_from n T es).next_scope ≤ T.next_scope + length es
+scope-fold n T [] = omega arith
+scope-fold n T (e ∷ es) =
+    let one : (made n T e).next_scope ≤ T.next_scope + 1 = scope-made n T e in
+    let rest : (fold_from (suc n) (made n T e) es).next_scope ≤ (made n T e).next_scope + length es = scope-fold (suc n) (made n T e) es in
+    omega (arith, one, rest)
+
+birth-one : (e : Entry) → births_of e ≤ 1
+birth-one (Step t (Open s r path) batch) = omega arith
+birth-one (Step t (Calls s r callee from to path) batch) = omega arith
+birth-one (Step t (Spawn child s from to path) batch) = omega arith
+birth-one (Step t (Arrive p) batch) = omega arith
+birth-one (Step t (Wait s thrown) batch) = omega arith
+birth-one (Step t (Release s lost thrown) batch) = omega arith
+birth-one (Step t (End thrown) batch) = omega arith
+birth-one (Step t (Print value path) batch) = omega arith
+birth-one (Root lost thrown) = omega arith
+birth-one (Death d) = omega arith
+
+births-few : (es : List Entry) → births es ≤ length es
+births-few [] = omega arith
+births-few (e ∷ es) =
+    let here : births (e ∷ es) ≡ births_of e + births es = sum_by-cons births_of e es in
+    let one : births_of e ≤ 1 = birth-one e in
+    let rest : births es ≤ length es = births-few es in omega (arith, here, one, rest)
+
+-- the root stood before a turn after which it stands
+stood : (es : List Entry) (e : Entry) → NoRoot (es ++ e ∷ []) → NoRoot es
+stood [] e h = tt
+stood (Step t act batch ∷ es) e h = stood es e h
+stood (Root lost thrown ∷ es) e h = absurd h
+stood (Death d ∷ es) e h = stood es e h
+
+came : (code : Block) (U : Given) (G : Game) → Proper U → Comes code U G → NoRoot G.entries → GameOk code U G × AllFit (tree_in U G) G.players × (total G ≤ total (start_game code U))
+came code U G proper opens h = (starts_ok code U proper, starts_fit code U, omega arith)
+came code U G' proper (turns {G = G} c free t) h =
+    let before = came code U G proper c free in
+    let ok : GameOk code U G' = turn_keeps code U _ _ G G' before.0 t h in
+    let less : total G' ≤ total G = turn_pays code U _ _ G G' before.0 t h in
+    let most : total G ≤ total (start_game code U) = before.2 in (ok, fits_keeps code U _ _ G G' before.0 before.1 t h, omega (arith, less, most))
+
+pub goes_on : GoesOn
+goes_on code U G proper c h k =
+    let was = came code U G proper c h in
+    let t = next_of code U G was.0 was.1 k in
+    (t.0, t.1, t.2)
+
+pub games_come : GamesCome
+games_come code U G proper c h =
+    let both = came code U G proper c h in
+    let ok = both.0 in
+    let all : total G ≤ total (start_game code U) = both.2 in
+    let first : cost (items code [] Empty) ≡ 4 * work code + 0 = cost_items code [] 0 Empty in
+    let start : total (start_game code U) ≡ 0 + ((1 + cost (items code [] Empty) + 0) + 0) + length U.kills = refl in
+    let few : length U.kills + 1 ≤ U.places = kills_fit U.places U.kills proper.some proper.kills in
+    let scopes : (tree_in U G).next_scope ≤ 1 + length G.entries = scope-fold 0 (opening U.places) G.entries in
+    let tasks : (tree_in U G).next_task ≡ 1 + births G.entries = next-tree U.places G.entries in
+    let born : births G.entries ≤ length G.entries = births-few G.entries in
+    let size : length ok.starts ≡ length G.players = pairs-length (PlayerSo ok.starts U.places G.entries G.journals) 0 ok.starts G.players ok.each in
+    let starts : length ok.starts ≡ 1 + births G.entries = ok.all in
+    record {
+      ok = ok;
+      fits = both.1;
+      entries = omega (arith, all, first, start, few);
+      tasks = omega (arith, tasks, born);
+      scopes = scopes;
+      players = sym size ∙ (starts ∙ sym tasks);
+    }

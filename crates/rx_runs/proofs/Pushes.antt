@@ -1,0 +1,76 @@
+-- One entry more.
+use Rattle.std.specs.Prelude.{◌≡◌, ℕ, suc, ◌+◌, List, [], ◌∷◌, ◌++◌, length, Option, Some, None, ◌==◌, Bool, true, false, refl}
+use Rattle.std.proofs.Common.{ap, ◌∙◌, sym, arith, subst}
+use Rattle.std.specs.List.{cons_option}
+use Rattle.rx_base.specs.declared.ids.PlaceId.{PlaceId}
+use Rattle.rx_base.specs.declared.place_set.PlaceSet.{PlaceSet}
+use Rattle.rx_rules.specs.Plays.{Birth, moves_from, move_of, birth_in, birth_from}
+use Rattle.rx_base.specs.declared.values.Fault.{Fault}
+use Rattle.rx_base.specs.declared.ids.Kill.{Kill}
+use Rattle.rx_rules.specs.declared.entries.Entry.{Entry}
+use Rattle.rx_rules.specs.declared.entries.Entry.TheVariants.{Step, Root, Death}
+use Rattle.rx_rules.specs.Run.{death_number, KillsInOrder, EndsWithRoot, rest_of}
+use Rattle.rx_runs.specs.Segments.{kills_left, InTime}
+use Rattle.rx_rules.specs.Run.{NoRoot}
+
+alone : (n : ℕ) (ks : List Kill) (e : Entry) → InTime n ks e → KillsInOrder n ks (e ∷ [])
+alone n ks (Step t act batch) h = (h, tt)
+alone n ks (Root lost thrown) h = (h, tt)
+alone n ks (Death d) h = (h, tt)
+
+-- the kills
+pub kills-push : (n : ℕ) (ks : List Kill) (es : List Entry) (e : Entry) → KillsInOrder n ks es → InTime (n + length es) (kills_left ks es) e → KillsInOrder n ks (es ++ e ∷ [])
+kills-push n ks [] e h a = alone n ks e (let z : n + 0 ≡ n = omega arith in subst (λ k. InTime k ks e) z a)
+kills-push n ks (Step t act batch ∷ es) e h a =
+    (h.0, kills-push (suc n) ks es e h.1 (let z : n + length (Step t act batch ∷ es) ≡ suc n + length es = omega arith in subst (λ k. InTime k (kills_left ks es) e) z a))
+kills-push n ks (Root lost thrown ∷ es) e h a =
+    (h.0, kills-push (suc n) ks es e h.1 (let z : n + length (Root lost thrown ∷ es) ≡ suc n + length es = omega arith in subst (λ k. InTime k (kills_left ks es) e) z a))
+kills-push n ks (Death d ∷ es) e h a =
+    (h.0, kills-push (suc n) (rest_of ks) es e h.1 (let z : n + length (Death d ∷ es) ≡ suc n + length es = omega arith in subst (λ k. InTime k (kills_left (rest_of ks) es) e) z a))
+
+-- the end
+pub root-push : (es : List Entry) (lost : PlaceSet) (thrown : List Fault) → NoRoot es → EndsWithRoot (es ++ Root lost thrown ∷ [])
+root-push [] lost thrown h = refl
+root-push (Step t act batch ∷ es) lost thrown h = root-push es lost thrown h
+root-push (Root l f ∷ es) lost thrown h = absurd h
+root-push (Death d ∷ es) lost thrown h = root-push es lost thrown h
+
+cons_first : {X : Type 0} (o : Option X) (xs ys : List X) → cons_option o (xs ++ ys) ≡ cons_option o xs ++ ys
+cons_first None xs ys = refl
+cons_first (Some x) xs ys = refl
+
+-- what a task has made
+pub moves-push : (n : ℕ) (es : List Entry) (e : Entry) (t : ℕ) → moves_from n (es ++ e ∷ []) t ≡ moves_from n es t ++ cons_option (move_of (n + length es) t e) []
+moves-push n [] e t = let z : n + 0 ≡ n = omega arith in ap (λ k. cons_option (move_of k t e) []) (sym z)
+moves-push n (x ∷ es) e t =
+    let z : suc n + length es ≡ n + length (x ∷ es) = omega arith in
+    ap (cons_option (move_of n t x)) (moves-push (suc n) es e t ∙ ap (λ k. moves_from (suc n) es t ++ cons_option (move_of k t e) []) z)
+    ∙ cons_first (move_of n t x) (moves_from (suc n) es t) (cons_option (move_of (n + length (x ∷ es)) t e) [])
+
+-- a birth that stands in a history stays
+pub birth-push : (n : ℕ) (es : List Entry) (e : Entry) (t : ℕ) → birth_in (n + length es) t e ≡ None → birth_from n (es ++ e ∷ []) t ≡ birth_from n es t
+birth-push n [] e t h = let z : n + 0 ≡ n = omega arith in let h' : birth_in n t e ≡ None = subst (λ k. birth_in k t e ≡ None) z h in ap (λ (o : Option Birth). elim o [ Some b ↦ b | None ↦ birth_from (suc n) [] t ]) h'
+birth-push n (x ∷ es) e t h =
+    let z : n + length (x ∷ es) ≡ suc n + length es = omega arith in
+    let h' : birth_in (suc n + length es) t e ≡ None = subst (λ k. birth_in k t e ≡ None) z h in
+    ap (λ (v : Birth). elim (birth_in n t x) [ Some b ↦ b | None ↦ v ]) (birth-push (suc n) es e t h')
+
+abbrev pub first_of : Option ℕ → Option ℕ → Option ℕ
+first_of (Some k) o = Some k
+first_of None o = o
+
+shift : (n : ℕ) (p : PlaceId) (x : Entry) (es : List Entry) (e : Entry) → first_of (death_number (suc n) p es) (death_number (suc n + length es) p (e ∷ [])) ≡ first_of (death_number (suc n) p es) (death_number (n + length (x ∷ es)) p (e ∷ []))
+shift n p x es e =
+    let z : suc n + length es ≡ n + length (x ∷ es) = omega arith in
+    ap (λ m. first_of (death_number (suc n) p es) (death_number m p (e ∷ []))) z
+
+death_step : (n : ℕ) (p d : PlaceId) (es : List Entry) (e : Entry) (b : Bool) → (d.0 == p.0) ≡ b → death_number (suc n) p (es ++ e ∷ []) ≡ first_of (death_number (suc n) p es) (death_number (suc n + length es) p (e ∷ [])) → death_number n p (Death d ∷ es ++ e ∷ []) ≡ first_of (death_number n p (Death d ∷ es)) (death_number (n + length (Death d ∷ es)) p (e ∷ []))
+death_step n p d es e true h ih = rw h
+death_step n p d es e false h ih = rw h (ih ∙ shift n p (Death d) es e)
+
+-- a place that lives has no death in a longer history unless the entry is one
+pub death-push : (n : ℕ) (p : PlaceId) (es : List Entry) (e : Entry) → death_number n p (es ++ e ∷ []) ≡ first_of (death_number n p es) (death_number (n + length es) p (e ∷ []))
+death-push n p [] e = let z : n + 0 ≡ n = omega arith in ap (λ k. death_number k p (e ∷ [])) (sym z)
+death-push n p (Step t act batch ∷ es) e = death-push (suc n) p es e ∙ shift n p (Step t act batch) es e
+death-push n p (Root lost thrown ∷ es) e = death-push (suc n) p es e ∙ shift n p (Root lost thrown) es e
+death-push n p (Death d ∷ es) e = death_step n p d es e (d.0 == p.0) refl (death-push (suc n) p es e)

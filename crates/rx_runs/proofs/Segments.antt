@@ -1,0 +1,38 @@
+-- Segments of what a task plays.
+use Rattle.rx_rules.specs.Terms.{Vars}
+use Rattle.std.specs.Prelude.{◌≡◌, ℕ, zero, suc, ◌≤◌, List, [], ◌∷◌, ◌++◌, Some, slice_get}
+use Rattle.rx_base.specs.declared.ids.PlaceId.{PlaceId}
+use Rattle.rx_base.specs.declared.values.Fault.{Fault}
+use Rattle.rx_rules.specs.declared.entries.Act.{Act}
+use Rattle.rx_rules.specs.declared.entries.Act.TheVariants.{End}
+use Rattle.rx_rules.specs.declared.events.Cell.{Cell}
+use Rattle.rx_rules.specs.Terms.{Term, Done, does}
+use Rattle.rx_rules.specs.Plays as rules
+use Rattle.rx_rules.specs.Plays.{Plays, started_by}
+use Rattle.rx_runs.specs.Segments.{Stand, Goes, stays, local, stores, asks}
+
+-- one after another
+pub joined : {starts : List (Term × Vars)} {here : PlaceId} {places : ℕ} {a b z : Stand} {cells more_cells : List (ℕ × Cell × List ℕ)} {moves more : List (ℕ × Act × List (List ℕ))} → Goes starts here places a cells moves b → Goes starts here places b more_cells more z → Goes starts here places a (cells ++ more_cells) (moves ++ more) z
+joined stays q = q
+joined (local e p) q = local e (joined p q)
+joined (stores answer le tells b p) q = stores answer le tells b (joined p q)
+joined (asks le fits so p) q = asks le fits so (joined p q)
+
+-- a task that stops where it stands has played
+pub stopped : {starts : List (Term × Vars)} {here : PlaceId} {places : ℕ} {a z : Stand} {cells : List (ℕ × Cell × List ℕ)} {moves : List (ℕ × Act × List (List ℕ))} → Goes starts here places a cells moves z → Plays starts here places a.low a.vars a.term a.batch cells moves
+stopped stays = rules.stops
+stopped (local e p) = rules.local e (stopped p)
+stopped (stores answer le tells b p) = rules.stores answer le tells b (stopped p)
+stopped (asks le fits so p) = rules.asks le fits so (stopped p)
+
+-- a task that ends where it stands has played
+pub ended : {starts : List (Term × Vars)} {here : PlaceId} {places : ℕ} {a z : Stand} {cells : List (ℕ × Cell × List ℕ)} {moves : List (ℕ × Act × List (List ℕ))} (n : ℕ) (faults : List Fault) → Goes starts here places a cells moves z → z.low ≤ n → does z.vars here.0 places z.term ≡ Done faults → Plays starts here places a.low a.vars a.term a.batch cells (moves ++ (n, End faults, z.batch) ∷ [])
+ended n faults stays le e = rules.ends le e
+ended n faults (local f p) le e = rules.local f (ended n faults p le e)
+ended n faults (stores answer less tells b p) le e = rules.stores answer less tells b (ended n faults p le e)
+ended n faults (asks less fits so p) le e = rules.asks less fits so (ended n faults p le e)
+
+pub got_more : {X : Type 0} (xs ys : List X) (n : ℕ) (x : X) → slice_get xs n ≡ Some x → slice_get (xs ++ ys) n ≡ Some x
+got_more [] ys n x h = cc
+got_more (v ∷ xs) ys zero x h = h
+got_more (v ∷ xs) ys (suc n) x h = got_more xs ys n x h

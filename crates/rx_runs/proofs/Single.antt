@@ -1,0 +1,209 @@
+-- One script, setup and list of picks give one picked run.
+use Rattle.std.specs.Prelude.{◌≡◌, ℕ, suc, ◌+◌, ◌%◌, ◌<◌, ◌≤◌, Bool, true, false, List, [], ◌∷◌, ◌++◌, length, slice_get, slice_set, Some, refl}
+use Rattle.std.proofs.Common.{ap, ◌∙◌, sym, subst, arith}
+use Rattle.rx_base.specs.declared.ids.PlaceId.{PlaceId}
+use Rattle.rx_base.specs.declared.ids.TaskId.{TaskId}
+use Rattle.rx_base.specs.declared.ids.Kill.{Kill}
+use Rattle.rx_base.specs.declared.place_set.PlaceSet.{PlaceSet}
+use Rattle.rx_base.specs.declared.values.Fault.{Fault}
+use Rattle.rx_rules.specs.declared.tasks.Where.TheVariants.{At, Travel}
+use Rattle.rx_rules.specs.declared.tasks.Task.{Task}
+use Rattle.rx_rules.specs.declared.entries.Act.{Act}
+use Rattle.rx_rules.specs.declared.entries.Act.TheVariants.{Arrive, End}
+use Rattle.rx_rules.specs.declared.entries.Entry.{Entry}
+use Rattle.rx_rules.specs.declared.entries.Entry.TheVariants.{Step, Root, Death}
+use Rattle.rx_rules.specs.declared.events.PlaceEvent.{PlaceEvent}
+use Rattle.rx_rules.specs.declared.events.PlaceEvent.TheVariants.{Close}
+use Rattle.rx_rules.specs.Code.{Block}
+use Rattle.rx_rules.specs.Terms.{Done, does, granted}
+use Rattle.rx_rules.specs.Tree.{Tree, the_root}
+use Rattle.rx_rules.specs.Entries.{AllowedAct, MayArrive}
+use Rattle.rx_rules.specs.Plays.{Fits, brought, journal_at}
+use Rattle.rx_rules.specs.Store.{State}
+use Rattle.rx_rules.specs.Run.{Given, NoRoot, EndsWithRoot, NoneDue, IsDue, rest_of}
+use Rattle.rx_rules.specs.Picked as picked
+use Rattle.rx_rules.specs.Picked.{Player, Game, Turn, Turns, IsPicked, none, more, used_after, child_of, enabled, tree_in, start_game}
+use Rattle.rx_runs.specs.Games.{GameOk}
+use Rattle.rx_runs.specs.PickedRuns.{ActFits, SetsFit, OnePickedRun, FewPicks}
+use Rattle.rx_runs.proofs.Asking.{one_task, names_once, fit_once}
+use Rattle.rx_runs.proofs.Picks.{Pick, picked_task, reached_in}
+use Rattle.rx_runs.proofs.Walks.{IsLast, fits_last, SameWalk, same_walk}
+use Rattle.rx_runs.proofs.Keeping.{turn_keeps}
+use Rattle.rx_runs.proofs.Opening.{starts_ok}
+use Rattle.rx_runs.proofs.Theorem.{turn_grows, not_both}
+
+-- Kills.
+
+due_once : (n : ℕ) (d e : PlaceId) (ks : List Kill) → IsDue n d ks → IsDue n e ks → d ≡ e
+due_once n d e [] h k = absurd h
+due_once n d e (a ∷ ks) h k = sym h.0 ∙ k.0
+
+due_not : (n : ℕ) (d : PlaceId) (ks : List Kill) → IsDue n d ks → NoneDue n ks → ⊥
+due_not n d [] h k = h
+due_not n d (a ∷ ks) h k = let low : a.moment ≤ n = h.1 in let high : n < a.moment = k in absurd (omega arith)
+
+-- The games that turns make.
+
+abbrev died : Game → PlaceId → Game
+died G d = record G { entries = G.entries ++ Death d ∷ []; journals = slice_set G.journals d.0 (journal_at G.journals d.0 ++ Close (length G.entries) ∷ []); kills = rest_of G.kills }
+
+abbrev landed : Game → TaskId → PlaceId → Game
+landed G t p = record G { entries = G.entries ++ Step t (Arrive p) [] ∷ [] }
+
+abbrev moved : Game → TaskId → PlaceId → Player → Act → State → List PlaceEvent → Game
+moved G t here q act Z j = record G { players = slice_set G.players t.0 (record { term = granted (brought act) q.term; vars = q.vars; batch = [] }) ++ child_of q act; entries = G.entries ++ Step t act q.batch ∷ []; journals = slice_set G.journals here.0 j; stores = slice_set G.stores here.0 Z }
+
+abbrev ended : Game → TaskId → PlaceId → Player → List Fault → State → List PlaceEvent → Game
+ended G t here q faults Z j = record G { entries = G.entries ++ Step t (End faults) q.batch ∷ []; journals = slice_set G.journals here.0 j; stores = slice_set G.stores here.0 Z }
+
+abbrev rooted : Game → PlaceSet → List Fault → Game
+rooted G lost thrown = record G { entries = G.entries ++ Root lost thrown ∷ [] }
+
+last_fits : (es : List Entry) (e : Entry) → SetsFit (es ++ e ∷ []) → SetsFit (e ∷ [])
+last_fits [] e h = h
+last_fits (Step t act batch ∷ es) e h = last_fits es e h.1
+last_fits (Root lost thrown ∷ es) e h = last_fits es e h.1
+last_fits (Death d ∷ es) e h = last_fits es e h
+
+-- Pairs of turns.
+
+arrive_once : (T : Tree) (t : TaskId) (p q : PlaceId) → MayArrive T t p → MayArrive T t q → p ≡ q
+arrive_once T t p q h k =
+    let task : h.task ≡ k.task = one_task T t h.task k.task h.acts.stands k.acts.stands in
+    let e : Travel h.from p ≡ Travel k.from q = sym h.travels ∙ ap (λ (v : Task). v.place) task ∙ k.travels in
+    cc
+
+-- who arrives is at no place
+not_here : (T : Tree) (x y : Task) (p here : PlaceId) → x ≡ y → Pick T x → MayArrive T x.number p → y.place ≡ At here → ⊥
+not_here T x y p here same pick may at =
+    let task : may.task ≡ x = one_task T x.number may.task x may.acts.stands pick.stands in
+    let e : Travel may.from p ≡ At here = sym may.travels ∙ ap (λ (v : Task). v.place) (task ∙ same) ∙ at in
+    cc
+
+not_empty : {X : Type 0} (xs : List X) (i : ℕ) (x : X) → xs ≡ [] → slice_get xs i ≡ Some x → ⊥
+not_empty xs i x e h = let k : slice_get [] i ≡ Some x = subst (λ v. slice_get v i ≡ Some x) e h in cc
+
+module _ (code : Block) (U : Given) (G : Game) (ok : GameOk code U G) (i : ℕ) where
+  task_picked : (x : Task) → slice_get (enabled (tree_in U G)) i ≡ Some x → Pick (tree_in U G) x
+  task_picked x h = picked_task (tree_in U G) i x (reached_in code U G ok) h
+
+  same_picked : (x y : Task) → slice_get (enabled (tree_in U G)) i ≡ Some x → slice_get (enabled (tree_in U G)) i ≡ Some y → x ≡ y
+  same_picked x y h k = let e : Some x ≡ Some y = sym h ∙ k in cc
+
+  moves_once : (x y : Task) (here there : PlaceId) (q r : Player) (act bct : Act) (Z W : State) (j k : List PlaceEvent) → SameWalk x y here there q r Z W j k → Fits here q.term (does q.vars here.0 U.places q.term) act → Fits there r.term (does r.vars there.0 U.places r.term) bct → AllowedAct (tree_in U G) x.number act → AllowedAct (tree_in U G) y.number bct → ActFits act → ActFits bct → moved G x.number here q act Z j ≡ moved G y.number there r bct W k
+  moves_once x y here there q r act bct Z W j k w fits fits2 may may2 sets sets2 =
+      let fit : Fits here q.term (does q.vars here.0 U.places q.term) bct = subst (λ (v : Player). Fits here v.term (does v.vars here.0 U.places v.term) bct) (sym w.player) (subst (λ (v : PlaceId). Fits v r.term (does r.vars v.0 U.places r.term) bct) (sym w.place) fits2) in
+      let allow : AllowedAct (tree_in U G) x.number bct = subst (λ (v : Task). AllowedAct (tree_in U G) v.number bct) (sym w.task) may2 in
+      let acts : act ≡ bct = fit_once (tree_in U G) x.number here q.term (does q.vars here.0 U.places q.term) act bct fits fit may allow sets sets2 in
+      ap (λ (v : Task). moved G v.number here q act Z j) w.task
+      ∙ ap (λ (v : PlaceId). moved G y.number v q act Z j) w.place
+      ∙ ap (λ (v : Player). moved G y.number there v act Z j) w.player
+      ∙ ap (λ (v : Act). moved G y.number there r v Z j) acts
+      ∙ ap (λ (v : State). moved G y.number there r bct v j) w.store
+      ∙ ap (λ (v : List PlaceEvent). moved G y.number there r bct W v) w.journal
+
+  ends_once : (x y : Task) (here there : PlaceId) (q r : Player) (f g : List Fault) (Z W : State) (j k : List PlaceEvent) → SameWalk x y here there q r Z W j k → does q.vars here.0 U.places q.term ≡ Done f → does r.vars there.0 U.places r.term ≡ Done g → ended G x.number here q f Z j ≡ ended G y.number there r g W k
+  ends_once x y here there q r f g Z W j k w done done2 =
+      let faults : f ≡ g = (let e : Done f ≡ Done g = sym done ∙ ap (λ (v : Player). does v.vars here.0 U.places v.term) w.player ∙ ap (λ (v : PlaceId). does r.vars v.0 U.places r.term) w.place ∙ done2 in cc) in
+      ap (λ (v : Task). ended G v.number here q f Z j) w.task
+      ∙ ap (λ (v : PlaceId). ended G y.number v q f Z j) w.place
+      ∙ ap (λ (v : Player). ended G y.number there v f Z j) w.player
+      ∙ ap (λ (v : List Fault). ended G y.number there r v Z j) faults
+      ∙ ap (λ (v : State). ended G y.number there r g v j) w.store
+      ∙ ap (λ (v : List PlaceEvent). ended G y.number there r g W v) w.journal
+
+  -- who asks does not end
+  not_done : (x y : Task) (here there : PlaceId) (q r : Player) (act : Act) (f : List Fault) (Z W : State) (j k : List PlaceEvent) → SameWalk x y here there q r Z W j k → Fits here q.term (does q.vars here.0 U.places q.term) act → does r.vars there.0 U.places r.term ≡ Done f → ⊥
+  not_done x y here there q r act f Z W j k w fits done =
+      let e : does q.vars here.0 U.places q.term ≡ Done f = ap (λ (v : Player). does v.vars here.0 U.places v.term) w.player ∙ ap (λ (v : PlaceId). does r.vars v.0 U.places r.term) w.place ∙ done in
+      subst (λ d. Fits here q.term d act) e fits
+
+done_last : (U : Given) (here : PlaceId) (q : Player) (f : List Fault) → does q.vars here.0 U.places q.term ≡ Done f → IsLast (does q.vars here.0 U.places q.term)
+done_last U here q f e = subst IsLast (sym e) tt
+
+pub turn_once : (code : Block) (U : Given) (n : ℕ) (G G1 G2 : Game) (u v : Bool) → GameOk code U G → Turn U n G u G1 → Turn U n G v G2 → SetsFit G1.entries → SetsFit G2.entries → (u ≡ v) × (G1 ≡ G2)
+turn_once code U n G G1 G2 u v ok (picked.dies d due) (picked.dies e due2) a b = (refl, ap (died G) (due_once (length G.entries) d e G.kills due due2))
+turn_once code U n G G1 G2 u v ok (picked.dies d due) (picked.arrives x p free pick may) a b = absurd (due_not (length G.entries) d G.kills due free)
+turn_once code U n G G1 G2 u v ok (picked.dies d due) (picked.moves x here p q S Z j act free pick at player store goes fits may) a b = absurd (due_not (length G.entries) d G.kills due free)
+turn_once code U n G G1 G2 u v ok (picked.dies d due) (picked.ends x here p q S Z j f free pick at player store goes done may) a b = absurd (due_not (length G.entries) d G.kills due free)
+turn_once code U n G G1 G2 u v ok (picked.dies d due) (picked.root lost thrown free empty may) a b = absurd (due_not (length G.entries) d G.kills due free)
+turn_once code U n G G1 G2 u v ok (picked.arrives x p free pick may) (picked.dies d due) a b = absurd (due_not (length G.entries) d G.kills due free)
+turn_once code U n G G1 G2 u v ok (picked.arrives x p free pick may) (picked.arrives y p2 free2 pick2 may2) a b =
+    let same : x ≡ y = same_picked code U G ok (n % length (enabled (tree_in U G))) x y pick pick2 in
+    let to : p ≡ p2 = arrive_once (tree_in U G) x.number p p2 may (subst (λ (w : Task). MayArrive (tree_in U G) w.number p2) (sym same) may2) in
+    (refl, ap (λ (w : Task). landed G w.number p) same ∙ ap (landed G y.number) to)
+turn_once code U n G G1 G2 u v ok (picked.arrives x p free pick may) (picked.moves y here p2 q S Z j act free2 pick2 at player store goes fits may2) a b =
+    absurd (not_here (tree_in U G) x y p here (same_picked code U G ok (n % length (enabled (tree_in U G))) x y pick pick2) (task_picked code U G ok (n % length (enabled (tree_in U G))) x pick) may at)
+turn_once code U n G G1 G2 u v ok (picked.arrives x p free pick may) (picked.ends y here p2 q S Z j f free2 pick2 at player store goes done may2) a b =
+    absurd (not_here (tree_in U G) x y p here (same_picked code U G ok (n % length (enabled (tree_in U G))) x y pick pick2) (task_picked code U G ok (n % length (enabled (tree_in U G))) x pick) may at)
+turn_once code U n G G1 G2 u v ok (picked.arrives x p free pick may) (picked.root lost thrown free2 empty may2) a b = absurd (not_empty (enabled (tree_in U G)) (n % length (enabled (tree_in U G))) x empty pick)
+turn_once code U n G G1 G2 u v ok (picked.moves x here p q S Z j act free pick at player store goes fits may) (picked.dies d due) a b = absurd (due_not (length G.entries) d G.kills due free)
+turn_once code U n G G1 G2 u v ok (picked.moves x here p q S Z j act free pick at player store goes fits may) (picked.arrives y p2 free2 pick2 may2) a b =
+    absurd (not_here (tree_in U G) y x p2 here (same_picked code U G ok (n % length (enabled (tree_in U G))) y x pick2 pick) (task_picked code U G ok (n % length (enabled (tree_in U G))) y pick2) may2 at)
+turn_once code U n G G1 G2 u v ok (picked.moves x here p q S Z j act free pick at player store goes fits may) (picked.moves y there p2 r S2 W k bct free2 pick2 at2 player2 store2 goes2 fits2 may2) a b =
+    let w = same_walk U G (n % length (enabled (tree_in U G))) x y here there p p2 q r S S2 Z W j k pick pick2 at at2 player player2 store store2 goes goes2 (fits_last here q.term _ act fits) (fits_last there r.term _ bct fits2) in
+    (refl, moves_once code U G ok (n % length (enabled (tree_in U G))) x y here there q r act bct Z W j k w fits fits2 may may2 (last_fits G.entries (Step x.number act q.batch) a).0 (last_fits G.entries (Step y.number bct r.batch) b).0)
+turn_once code U n G G1 G2 u v ok (picked.moves x here p q S Z j act free pick at player store goes fits may) (picked.ends y there p2 r S2 W k f free2 pick2 at2 player2 store2 goes2 done may2) a b =
+    let w = same_walk U G (n % length (enabled (tree_in U G))) x y here there p p2 q r S S2 Z W j k pick pick2 at at2 player player2 store store2 goes goes2 (fits_last here q.term _ act fits) (done_last U there r f done) in
+    absurd (not_done code U G ok (n % length (enabled (tree_in U G))) x y here there q r act f Z W j k w fits done)
+turn_once code U n G G1 G2 u v ok (picked.moves x here p q S Z j act free pick at player store goes fits may) (picked.root lost thrown free2 empty may2) a b = absurd (not_empty (enabled (tree_in U G)) (n % length (enabled (tree_in U G))) x empty pick)
+turn_once code U n G G1 G2 u v ok (picked.ends x here p q S Z j f free pick at player store goes done may) (picked.dies d due) a b = absurd (due_not (length G.entries) d G.kills due free)
+turn_once code U n G G1 G2 u v ok (picked.ends x here p q S Z j f free pick at player store goes done may) (picked.arrives y p2 free2 pick2 may2) a b =
+    absurd (not_here (tree_in U G) y x p2 here (same_picked code U G ok (n % length (enabled (tree_in U G))) y x pick2 pick) (task_picked code U G ok (n % length (enabled (tree_in U G))) y pick2) may2 at)
+turn_once code U n G G1 G2 u v ok (picked.ends x here p q S Z j f free pick at player store goes done may) (picked.moves y there p2 r S2 W k bct free2 pick2 at2 player2 store2 goes2 fits2 may2) a b =
+    let w = same_walk U G (n % length (enabled (tree_in U G))) y x there here p2 p r q S2 S W Z k j pick2 pick at2 at player2 player store2 store goes2 goes (fits_last there r.term _ bct fits2) (done_last U here q f done) in
+    absurd (not_done code U G ok (n % length (enabled (tree_in U G))) y x there here r q bct f W Z k j w fits2 done)
+turn_once code U n G G1 G2 u v ok (picked.ends x here p q S Z j f free pick at player store goes done may) (picked.ends y there p2 r S2 W k g free2 pick2 at2 player2 store2 goes2 done2 may2) a b =
+    let w = same_walk U G (n % length (enabled (tree_in U G))) x y here there p p2 q r S S2 Z W j k pick pick2 at at2 player player2 store store2 goes goes2 (done_last U here q f done) (done_last U there r g done2) in
+    (refl, ends_once code U G ok (n % length (enabled (tree_in U G))) x y here there q r f g Z W j k w done done2)
+turn_once code U n G G1 G2 u v ok (picked.ends x here p q S Z j f free pick at player store goes done may) (picked.root lost thrown free2 empty may2) a b = absurd (not_empty (enabled (tree_in U G)) (n % length (enabled (tree_in U G))) x empty pick)
+turn_once code U n G G1 G2 u v ok (picked.root lost thrown free empty may) (picked.dies d due) a b = absurd (due_not (length G.entries) d G.kills due free)
+turn_once code U n G G1 G2 u v ok (picked.root lost thrown free empty may) (picked.arrives y p2 free2 pick2 may2) a b = absurd (not_empty (enabled (tree_in U G)) (n % length (enabled (tree_in U G))) y empty pick2)
+turn_once code U n G G1 G2 u v ok (picked.root lost thrown free empty may) (picked.moves y there p2 r S2 W k bct free2 pick2 at2 player2 store2 goes2 fits2 may2) a b = absurd (not_empty (enabled (tree_in U G)) (n % length (enabled (tree_in U G))) y empty pick2)
+turn_once code U n G G1 G2 u v ok (picked.root lost thrown free empty may) (picked.ends y there p2 r S2 W k g free2 pick2 at2 player2 store2 goes2 done2 may2) a b = absurd (not_empty (enabled (tree_in U G)) (n % length (enabled (tree_in U G))) y empty pick2)
+turn_once code U n G G1 G2 u v ok (picked.root lost thrown free empty may) (picked.root lost2 thrown2 free2 empty2 may2) a b =
+    let s = names_once (tree_in U G) the_root lost lost2 thrown thrown2 may.1 may2.1 (last_fits G.entries (Root lost thrown) a).0 (last_fits G.entries (Root lost2 thrown2) b).0 in
+    (refl, ap (λ (w : PlaceSet). rooted G w thrown) s.0 ∙ ap (rooted G lost2) s.1)
+
+-- Runs of turns.
+
+before_fits : (es : List Entry) (e : Entry) → SetsFit (es ++ e ∷ []) → SetsFit es
+before_fits [] e h = tt
+before_fits (Step t act batch ∷ es) e h = (h.0, before_fits es e h.1)
+before_fits (Root lost thrown ∷ es) e h = (h.0, before_fits es e h.1)
+before_fits (Death d ∷ es) e h = before_fits es e h
+
+first_fits : (U : Given) (picks : ℕ → ℕ) (n j : ℕ) (G G' : Game) → Turns U picks n j G G' → SetsFit G'.entries → SetsFit G.entries
+first_fits U picks n j G G' none h = h
+first_fits U picks n j G G'' (more {G' = G'} free t ts) h =
+    let grown = turn_grows U _ _ G G' t in
+    before_fits G.entries grown.0 (subst SetsFit grown.1 (first_fits U picks _ _ G' G'' ts h))
+
+turns_once : (code : Block) (U : Given) (picks : ℕ → ℕ) (n m j : ℕ) (G G1 G2 : Game) → (NoRoot G.entries → GameOk code U G) → Turns U picks n j G G1 → Turns U picks m j G G2 → EndsWithRoot G1.entries → EndsWithRoot G2.entries → SetsFit G1.entries → SetsFit G2.entries → G1 ≡ G2
+turns_once code U picks n m j G G1 G2 ok none none a b c d = refl
+turns_once code U picks n m j G G1 G2 ok none (more free t ts) a b c d = absurd (not_both G.entries free a)
+turns_once code U picks n m j G G1 G2 ok (more free t ts) none a b c d = absurd (not_both G.entries free b)
+turns_once code U picks n m j G G1 G2 ok (more {n = i} {G' = A} {used = u} free t ts) (more {n = k} {G' = B} {used = v} free2 t2 ts2) a b c d =
+    let one = turn_once code U (picks j) G A B u v (ok free) t t2 (first_fits U picks _ _ A G1 ts c) (first_fits U picks _ _ B G2 ts2 d) in
+    let us : Turns U picks k (used_after u j) A G2 = subst (λ (w : Bool). Turns U picks k (used_after w j) A G2) (sym one.0) (subst (λ (w : Game). Turns U picks k (used_after v j) w G2) (sym one.1) ts2) in
+    turns_once code U picks i k (used_after u j) A G1 G2 (λ now. turn_keeps code U (picks j) u G A (ok free) t now) ts us a b c d
+
+pub one_picked_run : OnePickedRun
+one_picked_run code U picks es fs js ks proper p q fit fit2 =
+    let same : p.game ≡ q.game = turns_once code U picks p.turns q.turns 0 (start_game code U) p.game q.game (λ free. starts_ok code U proper) p.made q.made p.ended q.ended (subst SetsFit p.entries fit) (subst SetsFit q.entries fit2) in
+    (p.entries ∙ ap (λ (G : Game). G.entries) same ∙ sym q.entries, p.journals ∙ ap (λ (G : Game). G.journals) same ∙ sym q.journals)
+
+-- Picks that are not used.
+
+used_most : (u : Bool) (j : ℕ) → used_after u j ≤ suc j
+used_most true j = omega arith
+used_most false j = omega arith
+
+few_from : (U : Given) (picks others : ℕ → ℕ) (m n j : ℕ) (G G' : Game) → ((i : ℕ) → i < m → picks i ≡ others i) → j + n ≤ m → Turns U picks n j G G' → Turns U others n j G G'
+few_from U picks others m n j G G' same le none = none
+few_from U picks others m n j G G'' same le (more {n = k} {G' = G'} {used = u} free t ts) =
+    let used : used_after u j ≤ suc j = used_most u j in
+    more free (subst (λ (v : ℕ). Turn U v G u G') (same j (omega arith)) t) (few_from U picks others m k (used_after u j) G' G'' same (omega arith) ts)
+
+pub few_picks : FewPicks
+few_picks U picks others n G G' same ts = few_from U picks others n n 0 G G' same (omega arith) ts

@@ -1,0 +1,61 @@
+-- The local steps and store calls of a turn, as a segment and as a piece of a journal.
+use Rattle.rx_rules.specs.Terms.{Vars}
+use Rattle.std.specs.Prelude.{◌≡◌, ◌≢◌, ℕ, ◌+◌, ◌<◌, ◌≤◌, ◌==◌, Bool, true, false, List, [], ◌∷◌, ◌++◌, refl}
+use Rattle.std.specs.List.{filter_map}
+use Rattle.std.proofs.Common.{◌∙◌, sym, arith, append_assoc}
+use Rattle.std.proofs.lemmas.List.{append-nil}
+use Rattle.std.proofs.lemmas.Bool.{eq-eqb, eqb-true}
+use Rattle.rx_base.specs.declared.ids.PlaceId.{PlaceId}
+use Rattle.rx_base.specs.declared.ids.TaskId.{TaskId}
+use Rattle.rx_rules.specs.declared.entries.Entry.{Entry}
+use Rattle.rx_rules.specs.declared.events.PlaceEvent.{PlaceEvent}
+use Rattle.rx_rules.specs.declared.events.PlaceEvent.TheVariants.{Done as Did}
+use Rattle.rx_rules.specs.Terms.{Term}
+use Rattle.rx_rules.specs.Fold.{births}
+use Rattle.rx_rules.specs.Plays.{birth_of, cell_of}
+use Rattle.rx_rules.specs.Store.{State}
+use Rattle.rx_rules.specs.Picked as picked
+use Rattle.rx_rules.specs.Picked.{Player}
+use Rattle.rx_runs.specs.Segments.{Goes, stays, local, stores}
+use Rattle.rx_runs.specs.Games.{stand, Leads, rests, steps, NotAbove}
+use Rattle.rx_rules.specs.Run.{AtHome, NotFalling, close_in}
+
+-- what a turn adds to a journal, and what it means
+pub record Piece (starts : List (Term × Vars)) (places heap n : ℕ) (t : TaskId) (here : PlaceId) (low : ℕ) (p : Player) (S : State) (j : List PlaceEvent) (q : Player) (Z : State) (k : List PlaceEvent) : Type 0 where
+  pub new : List PlaceEvent
+  pub now : ℕ
+  pub added : k ≡ j ++ new
+  pub leads : Leads heap S new Z
+  pub low_now : now ≤ n
+  pub goes : Goes starts here places (stand low p) (filter_map (cell_of t.0) new) [] (stand now q)
+  pub home : (es : List Entry) (r : ℕ) → t.0 < 1 + births es → (birth_of es t.0).to.0 ≡ r → AtHome es r new
+  pub rising : NotFalling n new
+  pub top : NotAbove n new
+  pub unclosed : filter_map close_in new ≡ []
+  pub mine : (u : ℕ) → t.0 ≢ u → filter_map (cell_of u) new ≡ []
+
+other : (t u : ℕ) (b : Bool) → (t == u) ≡ b → t ≢ u → b ≡ false
+other t u true e h = absurd (h (eqb-true t u e))
+other t u false e h = refl
+
+pub piece : {places heap n : ℕ} {t : TaskId} {here : PlaceId} {p q : Player} {S Z : State} {j k : List PlaceEvent} (starts : List (Term × Vars)) (low : ℕ) → low ≤ n → picked.Goes places heap n t here p S j q Z k → Piece starts places heap n t here low p S j q Z k
+piece starts low le picked.stays = record { new = []; now = low; added = sym (append-nil _); leads = rests; low_now = le; goes = stays; home = λ es r b h. tt; rising = tt; top = tt; unclosed = refl; mine = λ u h. refl }
+piece starts low le (picked.local e g) =
+    let more = piece starts low le g in
+    record { new = more.new; now = more.now; added = more.added; leads = more.leads; low_now = more.low_now; goes = local e more.goes; home = more.home; rising = more.rising; top = more.top; unclosed = more.unclosed; mine = more.mine }
+piece {n = n} {t = t} starts low le (picked.stores cell x a tells at may g) =
+    let same : n ≤ n = omega arith in
+    let more = piece starts n same g in
+    record {
+      new = Did t n cell x ∷ more.new;
+      now = more.now;
+      added = more.added ∙ append_assoc _ (Did t n cell x ∷ []) more.new;
+      leads = steps t n cell x may more.leads;
+      low_now = more.low_now;
+      goes = rw (eq-eqb t.0 t.0 refl) (stores a le tells at more.goes);
+      home = λ es r b h. (b, h, more.home es r b h);
+      rising = (omega arith, more.rising);
+      top = (omega arith, more.top);
+      unclosed = more.unclosed;
+      mine = λ u h. rw (other t.0 u (t.0 == u) refl h) (more.mine u h);
+    }

@@ -1,0 +1,14 @@
+pub mod Segments
+pub mod Ties
+pub mod Games
+pub mod Costs
+pub mod PickedRuns
+pub mod Bounds
+pub mod Framing
+pub mod Steps
+pub mod AnyAnswers
+pub mod Endings
+pub mod Coming
+pub mod Left
+pub mod SomeWords
+pub mod Events

@@ -1,0 +1,48 @@
+-- Picked runs are whole runs.
+use Rattle.std.specs.Prelude.{◌≡◌, ℕ, ◌<◌, ◌^◌, Bool, List, [], ◌∷◌}
+use Rattle.rx_rules.specs.declared.entries.Act.{Act}
+use Rattle.rx_rules.specs.declared.entries.Act.TheVariants.{Open, At as Calls, Spawn, Arrive, Wait, Release, End, Print}
+use Rattle.rx_rules.specs.declared.entries.Entry.{Entry}
+use Rattle.rx_rules.specs.declared.entries.Entry.TheVariants.{Step, Root, Death}
+use Rattle.rx_rules.specs.declared.events.PlaceEvent.{PlaceEvent}
+use Rattle.rx_rules.specs.Code.{Block}
+use Rattle.rx_rules.specs.Run.{Given, Proper, NoRoot, IsRun}
+use Rattle.rx_rules.specs.Picked.{Game, Turn, Turns, IsPicked, start_game}
+
+-- under a proper setup a picked run is a run
+abbrev pub PickedIsRun : Type 0
+PickedIsRun = (code : Block) (U : Given) (picks : ℕ → ℕ) (es : List Entry) (js : List (List PlaceEvent)) → Proper U → IsPicked code U picks es js → IsRun code U es js
+
+-- the set of places of an act has 16 bits, as its type has them
+abbrev pub ActFits : Act → Type 0
+ActFits (Open s r x) = Unit {0}
+ActFits (Calls s r c from to x) = Unit {0}
+ActFits (Spawn c s from to x) = Unit {0}
+ActFits (Arrive p) = Unit {0}
+ActFits (Wait s thrown) = Unit {0}
+ActFits (Release s lost thrown) = lost.0 < 2 ^ 16
+ActFits (End thrown) = Unit {0}
+ActFits (Print value x) = Unit {0}
+
+-- the same of each entry
+abbrev pub SetsFit : List Entry → Type 0
+SetsFit [] = Unit {0}
+SetsFit (Step t act batch ∷ es) = ActFits act × SetsFit es
+SetsFit (Root lost thrown ∷ es) = (lost.0 < 2 ^ 16) × SetsFit es
+SetsFit (Death d ∷ es) = SetsFit es
+
+-- one script, setup and list of picks give at most one history and one list of journals
+abbrev pub OnePickedRun : Type 0
+OnePickedRun = (code : Block) (U : Given) (picks : ℕ → ℕ) (es fs : List Entry) (js ks : List (List PlaceEvent)) → Proper U → IsPicked code U picks es js → IsPicked code U picks fs ks → SetsFit es → SetsFit fs → (es ≡ fs) × (js ≡ ks)
+
+-- a run uses at most as many picks as it has turns: picks after those change nothing
+abbrev pub FewPicks : Type 0
+FewPicks = (U : Given) (picks others : ℕ → ℕ) (n : ℕ) (G G' : Game) → ((i : ℕ) → i < n → picks i ≡ others i) → Turns U picks n 0 G G' → Turns U others n 0 G G'
+
+-- from each game that turns have made and that has not ended a turn can be made, whatever the pick
+abbrev pub NextTurn : Type 0
+NextTurn = (code : Block) (U : Given) (picks : ℕ → ℕ) (n : ℕ) (G : Game) → Proper U → Turns U picks n 0 (start_game code U) G → NoRoot G.entries → (k : ℕ) → (used : Bool) × (G' : Game) × Turn U k G used G'
+
+-- so for each script, proper setup and list of picks there is a picked run, with sets of places of 16 bits
+abbrev pub HasPickedRun : Type 0
+HasPickedRun = (code : Block) (U : Given) (picks : ℕ → ℕ) → Proper U → (es : List Entry) × (js : List (List PlaceEvent)) × IsPicked code U picks es js × SetsFit es

@@ -1,0 +1,73 @@
+-- What ties the tree of a history to what is read from its entries.
+use Rattle.std.specs.Prelude.{◌≡◌, ◌≢◌, ℕ, suc, ◌<◌, ◌≤◌, Bool, true, false, List, [], ◌∷◌, length, Option, Some, None}
+use Rattle.std.specs.List.{list_any}
+use Rattle.rx_base.specs.declared.ids.PlaceId.{PlaceId}
+use Rattle.rx_rules.specs.declared.tasks.Where.{Where}
+use Rattle.rx_rules.specs.declared.tasks.Where.TheVariants.{At, Travel}
+use Rattle.rx_rules.specs.declared.entries.Act.{Act}
+use Rattle.rx_rules.specs.declared.entries.Act.TheVariants.{Open, At as Calls, Spawn, Arrive, Wait, Release, End, Print}
+use Rattle.rx_rules.specs.declared.tasks.Task.{Task}
+use Rattle.rx_base.specs.declared.ids.Kill.{Kill}
+use Rattle.rx_rules.specs.declared.entries.Entry.{Entry}
+use Rattle.rx_rules.specs.Tree.{Tree, death_of}
+use Rattle.rx_rules.specs.Plays.{Birth, birth_in, birth_of, travels, moves_from}
+use Rattle.rx_rules.specs.Run.{Spares, death_number}
+
+-- the entries of a task, each with its number and batch
+abbrev pub Moves : Type 0
+Moves = List (ℕ × Act × List (List ℕ))
+
+-- the entry is an end
+abbrev pub is_end : ℕ × Act × List (List ℕ) → Bool
+is_end (n, Open s r x, batch) = false
+is_end (n, Calls s r c from to x, batch) = false
+is_end (n, Spawn c s from to x, batch) = false
+is_end (n, Arrive p, batch) = false
+is_end (n, Wait s thrown, batch) = false
+is_end (n, Release s lost thrown, batch) = false
+is_end (n, End thrown, batch) = true
+is_end (n, Print value x, batch) = false
+
+-- it has ended
+abbrev pub has_end : Moves → Bool
+has_end moves = list_any is_end moves
+
+-- born where it stays, or arrived
+abbrev pub HasLanded : Birth → Moves → Type 0
+HasLanded b [] = travels b ≡ false
+HasLanded b (m ∷ ms) = Unit {0}
+
+-- what the place of a task says of its birth and of what it has made
+abbrev pub PlaceSo : Birth → Moves → Where → Type 0
+PlaceSo b moves (At p) = (b.to ≡ p) × HasLanded b moves
+PlaceSo b moves (Travel from p) = (b.to ≡ p) × (travels b ≡ true) × (moves ≡ [])
+
+-- of a task that no death has struck
+pub record RowSo (es : List Entry) (n : ℕ) (w : Where) : Type 0 where
+  pub place : PlaceSo (birth_of es n) (moves_from 0 es n) w
+  pub going : has_end (moves_from 0 es n) ≡ false
+  pub lives : death_number 0 (birth_of es n).to es ≡ None
+
+-- the numbers fall, from one below n on
+abbrev pub RowsSo : ℕ → List Entry → List Task → Type 0
+RowsSo n es [] = Unit {0}
+RowsSo n es (x ∷ xs) = (x.number.0 < n) × (x.struck ≡ None → RowSo es x.number.0 x.place) × RowsSo x.number.0 es xs
+
+-- the first birth of a task that stands in the entries
+abbrev pub birth_among : ℕ → List Entry → ℕ → Option Birth
+birth_among n [] t = None
+birth_among n (e ∷ es) t = elim (birth_in n t e) [ Some b ↦ Some b | None ↦ birth_among (suc n) es t ]
+
+-- where so many tasks were born
+pub record Ties (q size : ℕ) (es : List Entry) (T : Tree) : Type 0 where
+  pub rows : RowsSo size es T.tasks
+  pub deaths : (p : PlaceId) → p.0 < 16 → death_of T p ≡ death_number 0 p es
+  pub sixteen : length T.dead ≡ 16
+  pub same : T.places ≡ q
+  pub unborn : (t : ℕ) → size ≤ t → birth_among 0 es t ≡ None
+  pub unmoved : (t : ℕ) → size ≤ t → moves_from 0 es t ≡ []
+
+-- kills that may be done after the entries
+abbrev pub MayCome : ℕ → List Entry → List Kill → Type 0
+MayCome q es [] = Unit {0}
+MayCome q es (k ∷ ks) = (k.place.0 < q) × (k.place.0 ≢ 0) × (death_number 0 k.place es ≡ None) × Spares k.place ks × MayCome q es ks

@@ -1,0 +1,115 @@
+-- The births of a history, by the number of the entry.
+use Rattle.std.specs.Prelude.{◌≡◌, ℕ, suc, ◌+◌, ◌<◌, ◌≤◌, true, ◌==◌, List, [], ◌∷◌, length, Option, Some, None, slice_get, refl, zero}
+use Rattle.std.proofs.Common.{ap, sym, subst, ◌∙◌, arith, inl, inr}
+use Rattle.std.proofs.lemmas.Bool.{eq-eqb, ne_eqb, cases_eq}
+use Rattle.std.proofs.lemmas.List.Sums.{sum_by-cons}
+use Rattle.rx_base.specs.declared.ids.PlaceId.{PlaceId}
+use Rattle.rx_base.specs.declared.ids.TaskId.{TaskId}
+use Rattle.rx_rules.specs.declared.entries.Act.{Act}
+use Rattle.rx_rules.specs.declared.entries.Act.TheVariants.{Open, At as Calling, Spawn, Arrive, Wait, Release, End, Print as Printed}
+use Rattle.rx_rules.specs.declared.entries.Entry.{Entry}
+use Rattle.rx_rules.specs.declared.entries.Entry.TheVariants.{Step, Root, Death}
+use Rattle.rx_rules.specs.Tree.{Tree, death_of}
+use Rattle.rx_rules.specs.Entries.{AllowedAct, made, made_act}
+use Rattle.rx_rules.specs.Fold.{AllAllowed, births, births_of}
+use Rattle.rx_rules.specs.Plays.{Birth, birth_in, birth_from, started_by}
+use Rattle.rx_rules.specs.Laws.{born_so_far}
+use Rattle.rx_laws.proofs.Rows.{to_in}
+use Rattle.rx_laws.proofs.Numbers.{next-made}
+use Rattle.rx_laws.proofs.ToldPairs.{Starting, starts_none, starts_one, starting}
+use Rattle.rx_laws.proofs.Here.{stays_here, here-called, here-spawned}
+
+pub to-same : (past : List Entry) (T : Tree) (t : TaskId) (act : Act) (batch : List (List ℕ)) → AllowedAct T t act → (c : ℕ) → c < T.next_task → to_in (born_so_far (Step t act batch ∷ past)) c ≡ to_in (born_so_far past) c
+to-same past T t (Open s r x) batch a c h = refl
+to-same past T t (Calling s r d from to x) batch a c h = let e : d.0 ≡ T.next_task = a.next_task in rw (ne_eqb d.0 c (λ k. omega arith))
+to-same past T t (Spawn d s from to x) batch a c h = let e : d.0 ≡ T.next_task = a.next_task in rw (ne_eqb d.0 c (λ k. omega arith))
+to-same past T t (Arrive p) batch a c h = refl
+to-same past T t (Wait s thrown) batch a c h = refl
+to-same past T t (Release s lost thrown) batch a c h = refl
+to-same past T t (End thrown) batch a c h = refl
+to-same past T t (Printed value x) batch a c h = refl
+
+-- an entry that starts no task, or another
+abbrev pub StartsOther : Act → ℕ → Type 0
+StartsOther act c = (d : TaskId) → started_by act ≡ Some d → d.0 ≡ c → ⊥
+
+pub birth-other : (n c : ℕ) (t : TaskId) (act : Act) (batch : List (List ℕ)) → StartsOther act c → birth_in n c (Step t act batch) ≡ None
+birth-other n c t (Open s r x) batch o = refl
+birth-other n c t (Calling s r d from to x) batch o = rw (ne_eqb d.0 c (o d refl))
+birth-other n c t (Spawn d s from to x) batch o = rw (ne_eqb d.0 c (o d refl))
+birth-other n c t (Arrive p) batch o = refl
+birth-other n c t (Wait s thrown) batch o = refl
+birth-other n c t (Release s lost thrown) batch o = refl
+birth-other n c t (End thrown) batch o = refl
+birth-other n c t (Printed value x) batch o = refl
+
+pub from-other : (n c : ℕ) (t : TaskId) (act : Act) (batch : List (List ℕ)) (es : List Entry) → StartsOther act c → birth_from n (Step t act batch ∷ es) c ≡ birth_from (suc n) es c
+from-other n c t act batch es o = ap (λ (v : Option Birth). elim v as (λ _. Birth) [ Some b ↦ b | None ↦ birth_from (suc n) es c ]) (birth-other n c t act batch o)
+
+-- the task that an entry starts
+pub record Newborn (n : ℕ) (past : List Entry) (T : Tree) (t : TaskId) (act : Act) (batch : List (List ℕ)) (d : TaskId) : Type 0 where
+  pub from : PlaceId
+  pub to : PlaceId
+  pub birth : birth_in n d.0 (Step t act batch) ≡ Some (record { from = from; to = to; low = suc n })
+  pub dest : to_in (born_so_far (Step t act batch ∷ past)) d.0 ≡ to.0
+  pub target : to.0 < T.places
+  pub here : (from.0 == to.0) ≡ true → death_of T to ≡ None → stays_here (made_act T t act) d.0 to.0 ≡ true
+
+pub newborn : (n : ℕ) (past : List Entry) (T : Tree) (t : TaskId) (act : Act) (batch : List (List ℕ)) → AllowedAct T t act → (d : TaskId) → started_by act ≡ Some d → Newborn n past T t act batch d
+newborn n past T t (Calling s r c from to x) batch a d e =
+    let same : c ≡ d = cc in
+    subst (Newborn n past T t (Calling s r c from to x) batch) same
+    (record { from = from; to = to; birth = rw (eq-eqb c.0 c.0 refl); dest = rw (eq-eqb c.0 c.0 refl); target = a.target; here = here-called T t s r c from to x })
+newborn n past T t (Spawn c s from to x) batch a d e =
+    let same : c ≡ d = cc in
+    subst (Newborn n past T t (Spawn c s from to x) batch) same
+    (record { from = from; to = to; birth = rw (eq-eqb c.0 c.0 refl); dest = rw (eq-eqb c.0 c.0 refl); target = a.target; here = here-spawned T t c s from to x })
+newborn n past T t (Open s r x) batch a d e = cc
+newborn n past T t (Arrive p) batch a d e = cc
+newborn n past T t (Wait s thrown) batch a d e = cc
+newborn n past T t (Release s lost thrown) batch a d e = cc
+newborn n past T t (End thrown) batch a d e = cc
+newborn n past T t (Printed value x) batch a d e = cc
+
+pub from-here : (n : ℕ) (t : TaskId) (act : Act) (batch : List (List ℕ)) (es : List Entry) (c : ℕ) (b : Birth) → birth_in n c (Step t act batch) ≡ Some b → birth_from n (Step t act batch ∷ es) c ≡ b
+from-here n t act batch es c b e = ap (λ (v : Option Birth). elim v as (λ _. Birth) [ Some b ↦ b | None ↦ birth_from (suc n) es c ]) e
+
+-- births add up
+pub births-left : (n : ℕ) (T : Tree) (e : Entry) (es : List Entry) → T.next_task + births (e ∷ es) ≡ (made n T e).next_task + births es
+births-left n T e es =
+    let sum : births (e ∷ es) ≡ births_of e + births es = sum_by-cons births_of e es in
+    let next : (made n T e).next_task ≡ T.next_task + births_of e = next-made n T e in
+    omega (arith, sum, next)
+
+-- a task that is yet to be born begins after entry n
+pub birth-low : (n : ℕ) (T : Tree) (es : List Entry) → AllAllowed n T es → (c : ℕ) → T.next_task ≤ c → c < T.next_task + births es → suc n ≤ (birth_from n es c).low
+birth-low n T [] a c le lt = absurd (let none : births [] ≡ 0 = refl in omega (arith, none))
+birth-low n T (Root lost thrown ∷ es) a c le lt =
+    let rest = birth-low (suc n) (made n T (Root lost thrown)) es a.1 c le (let sum = births-left n T (Root lost thrown) es in omega (arith, sum)) in omega arith
+birth-low n T (Death d ∷ es) a c le lt =
+    let rest = birth-low (suc n) (made n T (Death d)) es a.1 c le (let sum = births-left n T (Death d) es in omega (arith, sum)) in omega arith
+birth-low n T (Step t act batch ∷ es) a c le lt =
+    by_start (starting n T t act batch a.0)
+    (λ h. birth-low (suc n) (made n T (Step t act batch)) es a.1 c h (let sum = births-left n T (Step t act batch) es in omega (arith, sum)))
+  where
+    later : ((made n T (Step t act batch)).next_task ≤ c → suc (suc n) ≤ (birth_from (suc n) es c).low) → (made n T (Step t act batch)).next_task ≤ c → StartsOther act c → suc n ≤ (birth_from n (Step t act batch ∷ es) c).low
+    later on h o =
+        let rest = on h in
+        subst (λ (b : Birth). suc n ≤ b.low) (sym (from-other n c t act batch es o)) (omega arith)
+
+    by_start : Starting n T t act batch → ((made n T (Step t act batch)).next_task ≤ c → suc (suc n) ≤ (birth_from (suc n) es c).low) → suc n ≤ (birth_from n (Step t act batch ∷ es) c).low
+    by_start (starts_none none same) on = later on (omega arith) (λ d e k. let bad : None ≡ Some d = sym none ∙ e in absurd (let f : ⊥ = cc in f))
+    by_start (starts_one d e new more) on =
+        elim (cases_eq d.0 c) [
+          | inl here ↦
+              let b = newborn n [] T t act batch a.0 d e in
+              let it : birth_in n c (Step t act batch) ≡ Some (record { from = b.from; to = b.to; low = suc n }) = subst (λ v. birth_in n v (Step t act batch) ≡ Some (record { from = b.from; to = b.to; low = suc n })) here b.birth in
+              subst (λ (v : Birth). suc n ≤ v.low) (sym (from-here n t act batch es c (record { from = b.from; to = b.to; low = suc n }) it)) (omega arith)
+          | inr other ↦ later on (omega arith)
+              (λ m k i. other (let same : d ≡ m = let j : Some d ≡ Some m = sym e ∙ k in cc in ap (λ (v : TaskId). v.0) same ∙ i))
+        ]
+
+pub start-at : {X : Type 0} (xs : List X) (i : ℕ) → i < length xs → (x : X) × (slice_get xs i ≡ Some x)
+start-at [] i h = absurd (omega arith)
+start-at (x ∷ xs) zero h = (x, refl)
+start-at (x ∷ xs) (suc i) h = start-at xs i (omega arith)

@@ -1,0 +1,118 @@
+-- Arrivals, ends, deaths and releases keep what ties the tree to the entries.
+use Rattle.std.specs.Prelude.{◌≡◌, ℕ, ◌<◌, Bool, true, false, not, ◌&&◌, ◌||◌, ◌==◌, List, [], ◌∷◌, length, map, filter, Option, Some, None, is_some, is_none, refl, slice_index_or, slice_set}
+use Rattle.std.specs.List.{list_any, list_all, find}
+use Rattle.std.proofs.Common.{ap, sym, ◌∙◌, arith, length-set}
+use Rattle.std.proofs.lemmas.Bool.{eqb-true, eq-eqb, ne_eqb, or_left, or_right, or_from, and_from, true≢false, not-true, not_from_false}
+use Rattle.std.proofs.lemmas.List.{get_or-set_same, get_or-set_other}
+use Rattle.rx_base.specs.declared.ids.PlaceId.{PlaceId}
+use Rattle.rx_base.specs.declared.ids.TaskId.{TaskId}
+use Rattle.rx_rules.specs.Tree.{is_task}
+use Rattle.rx_rules.specs.Entries.{change_first}
+use Rattle.rx_rules.specs.Entries.{hit as hit_row}
+use Rattle.rx_rules.specs.Laws.{Birth, has}
+use Rattle.rx_laws.proofs.Lines.{Bone, nums, line, has_finish, has-below, has-filter, line_on, line-filter, falls-filter}
+use Rattle.rx_laws.proofs.Aligned.{Facts, found, landed_too, arrived, TravelsTo, aligned-arrive, ended_too, is_other, Unstruck, aligned-end}
+use Rattle.rx_laws.proofs.Losses.{is_off, left_of, released_too, any-none, aligned-release, struck_too, aligned-struck}
+use Rattle.rx_laws.proofs.Ties.{Ties, births-below}
+use Rattle.rx_rules.specs.declared.tasks.Task.{Task}
+use Rattle.rx_rules.specs.declared.tasks.Blow.{Blow}
+
+all_off : (test : ℕ → Bool) (l : List Bone) → ((k : ℕ) → has k (nums l) ≡ true → test k ≡ true) → list_all (λ b. test b.number) l ≡ true
+all_off test [] h = refl
+all_off test (b ∷ l) h =
+    and_from (test b.number) (list_all (λ b. test b.number) l) (h b.number (or_left (b.number == b.number) (has b.number (nums l)) (eq-eqb b.number b.number refl)))
+    (all_off test l (λ k m. h k (or_right (b.number == k) (has k (nums l)) m)))
+
+module _ (q : ℕ) (F : Facts) (born died : ℕ → Bool) (bs : List Birth) (next_task next_scope places : ℕ) (dead : List (Option ℕ)) (B : List Bone) (xs : List Task) (i : Ties q F born died bs next_task next_scope places dead B xs) where
+  -- a task that is found is not yet to be born
+  pub found_older : (t : TaskId) (x : Task) → find (is_task t) xs ≡ Some x → x.number.0 ≡ t.0 → t.0 < next_task
+  found_older t x h same =
+      let f = found F B (is_task t) i.tasks x h in
+      let low : f.birth.task < next_task = births-below born next_task next_scope bs i.births f.birth.task f.born in
+      let it : x.number.0 ≡ f.birth.task = f.is_row.number in
+      omega arith
+
+  pub ties-arrive : (t : TaskId) (p : PlaceId) (x : Task) → find (is_task t) xs ≡ Some x → x.number.0 ≡ t.0 → TravelsTo t p xs → Ties q (landed_too t.0 F) born died bs next_task next_scope places dead B (change_first (is_task t) (arrived p) xs)
+  ties-arrive t p x h same travel =
+      record {
+        falls = i.falls;
+        scopes = λ n k. let o = i.scopes n k in record { walks = o.walks; free = o.free; finish = o.finish };
+        older = i.older;
+        unreleased = i.unreleased;
+        births = i.births;
+        later = λ u k.
+            let o = i.later u k in
+            let low : t.0 < next_task = found_older t x h same in
+            record { unborn = o.unborn; going = o.going; unlanded = or_from (t.0 == u) (F.landed u) (ne_eqb t.0 u (λ e. omega arith)) o.unlanded };
+        tasks = aligned-arrive F B born t p next_task next_scope i.births i.tasks travel;
+        dead_so = i.dead_so;
+        sixteen = i.sixteen;
+        same_places = i.same_places;
+      }
+
+  pub ties-end : (t : TaskId) (x : Task) → find (is_task t) xs ≡ Some x → x.number.0 ≡ t.0 → Unstruck t xs → Ties q (ended_too t.0 F) born died bs next_task next_scope places dead B (filter (is_other t) xs)
+  ties-end t x h same free =
+      record {
+        falls = i.falls;
+        scopes = λ n k. let o = i.scopes n k in record { walks = o.walks; free = o.free; finish = o.finish };
+        older = i.older;
+        unreleased = i.unreleased;
+        births = i.births;
+        later = λ u k.
+            let o = i.later u k in
+            let low : t.0 < next_task = found_older t x h same in
+            record { unborn = o.unborn; going = or_from (t.0 == u) (F.ended u) (ne_eqb t.0 u (λ e. omega arith)) o.going; unlanded = o.unlanded };
+        tasks = aligned-end F B born t next_task next_scope i.births i.tasks free;
+        dead_so = i.dead_so;
+        sixteen = i.sixteen;
+        same_places = i.same_places;
+      }
+
+  dead_step : (d p : PlaceId) (n : ℕ) (y : Bool) → (d.0 == p.0) ≡ y → d.0 < 16 → p.0 < 16 → is_some (slice_index_or (slice_set dead d.0 (Some n)) p.0 None) ≡ ((d.0 == p.0) || died p.0)
+  dead_step d p n true e low small =
+      let same : d.0 ≡ p.0 = eqb-true d.0 p.0 e in
+      let fits : d.0 < length dead = let k : length dead ≡ 16 = i.sixteen in omega arith in
+      rw e (ap is_some (ap (λ k. slice_index_or (slice_set dead d.0 (Some n)) k None) (sym same) ∙ get_or-set_same dead d.0 (Some n) None fits))
+  dead_step d p n false e low small =
+      rw e (ap is_some (get_or-set_other dead d.0 p.0 (Some n) None (λ k. true≢false (sym (eq-eqb d.0 p.0 (sym k)) ∙ e))) ∙ i.dead_so p small)
+
+  pub ties-death : (w : Blow) (n : ℕ) → w.place.0 < 16 → Ties q (struck_too born w.place.0 F) born (λ p. (w.place.0 == p) || died p) bs next_task next_scope places (slice_set dead w.place.0 (Some n)) B (map (hit_row w) xs)
+  ties-death w n low =
+      record {
+        falls = i.falls;
+        scopes = λ n k. let o = i.scopes n k in record { walks = o.walks; free = o.free; finish = o.finish };
+        older = i.older;
+        unreleased = i.unreleased;
+        births = i.births;
+        later = λ u k. let o = i.later u k in record { unborn = o.unborn; going = o.going; unlanded = o.unlanded };
+        tasks = aligned-struck born F B w next_task next_scope i.births i.tasks;
+        dead_so = λ p small. dead_step w.place p n (w.place.0 == p.0) refl low small;
+        sixteen = length-set dead w.place.0 (Some n) ∙ i.sixteen;
+        same_places = i.same_places;
+      }
+
+  pub ties-release : (s : ℕ) → has s (nums B) ≡ true → (u : Task → Bool) → ((x : Task) → u x ≡ has s (nums (line B (Some x.under.0)))) → list_any (λ x. u x && is_none x.struck) xs ≡ false → Ties q (released_too s F) born died bs next_task next_scope places dead (left_of B s) (filter (λ x. not (u x && is_some x.struck)) xs)
+  ties-release s there u same quiet =
+      record {
+        falls = falls-filter (λ b. is_off B s b.number) next_scope B i.falls;
+        scopes = λ n k.
+            let old = has-filter (is_off B s) B n k in
+            let o = i.scopes n old.0 in
+            let off : has s (nums (line B (Some n))) ≡ false = not-true (has s (nums (line B (Some n)))) old.1 in
+            let stay : line (left_of B s) (Some n) ≡ line B (Some n) = line-filter (λ b. is_off B s b.number) B (Some n) (all_off (is_off B s) (line B (Some n)) (λ m on. not_from_false (has s (nums (line B (Some m)))) (line_on next_scope B i.falls (Some n) m s on off))) in
+            record {
+              walks = ap nums stay ∙ o.walks;
+              free = any-none s F.released (F.walk n) (ap (has s) (sym o.walks) ∙ off) o.free;
+              finish = ap has_finish stay ∙ o.finish;
+            };
+        older = i.older;
+        unreleased = λ g k.
+            let low : s < next_scope = has-below next_scope s B i.falls there in
+            or_from (s == g) (F.released g) (ne_eqb s g (λ e. omega arith)) (i.unreleased g k);
+        births = i.births;
+        later = λ u k. let o = i.later u k in record { unborn = o.unborn; going = o.going; unlanded = o.unlanded };
+        tasks = aligned-release F B next_scope s i.falls (λ n k. (i.scopes n k).walks) u same quiet i.tasks;
+        dead_so = i.dead_so;
+        sixteen = i.sixteen;
+        same_places = i.same_places;
+      }

@@ -1,0 +1,4 @@
+pub mod Releases
+pub mod Once
+pub mod Examples
+pub mod Ordered

@@ -1,0 +1,24 @@
+-- What the releases of a history keep.
+use Rattle.std.specs.Prelude.{ℕ, ◌≤◌, List}
+use Rattle.rx_rules.specs.declared.entries.Entry.{Entry}
+use Rattle.rx_rules.specs.declared.events.PlaceEvent.{PlaceEvent}
+use Rattle.rx_rules.specs.Code.{Block}
+use Rattle.rx_rules.specs.Fold.{opening, AllAllowed}
+use Rattle.rx_rules.specs.Run.{Given, IsRun}
+use Rattle.rx_rules.specs.Laws.{NoEarlyRelease, LossExact}
+
+-- where each entry is allowed, no scope is released before each task under it has ended or is hit
+abbrev pub NothingIsEarly : Type 0
+NothingIsEarly = (places : ℕ) (es : List Entry) → places ≤ 16 → AllAllowed 0 (opening places) es → NoEarlyRelease es
+
+-- where each entry is allowed, each release names the places at which tasks under its scope were lost, and no other
+abbrev pub LossesAreExact : Type 0
+LossesAreExact = (places : ℕ) (es : List Entry) → places ≤ 16 → AllAllowed 0 (opening places) es → LossExact es
+
+-- nothing is early in a whole run
+abbrev pub RunIsNotEarly : Type 0
+RunIsNotEarly = (code : Block) (U : Given) (es : List Entry) (js : List (List PlaceEvent)) → IsRun code U es js → NoEarlyRelease es
+
+-- the losses of a whole run are exact
+abbrev pub RunIsExact : Type 0
+RunIsExact = (code : Block) (U : Given) (es : List Entry) (js : List (List PlaceEvent)) → IsRun code U es js → LossExact es

@@ -1,0 +1,5 @@
+pub mod HoleLists
+pub mod Cutting
+pub mod Joining
+pub mod Placing
+pub mod Laying

@@ -1,0 +1,6 @@
+pub mod Giving
+pub mod Running
+pub mod Holding
+pub mod Steps
+pub mod Changing
+pub mod Lookups

@@ -1,0 +1,48 @@
+// Who asks a store, what it may refuse, and how a call is told.
+ghost use Rattle.std.specs.Prelude.{◌≡◌, ◌-◌, ◌<◌, [], ◌∷◌, ◌++◌, max};
+ghost use Rattle.rx_rules.specs.declared.events.PlaceEvent.TheVariants.{Done};
+
+use rx_base::{Path, TaskId};
+use rx_rules::{Cell, PlaceEvent};
+use rx_trace::Journal;
+
+/// Who asks: the task, the length of the history, and the statement.
+#[derive(Drop)]
+pub struct Mark {
+    pub task: TaskId,
+    pub stamp: u32,
+    pub path: Path,
+}
+
+/// What a store refuses.
+#[derive(Clone, Copy, Debug, PartialEq, Eq)]
+pub enum StoreFault {
+    /// The place has died.
+    Closed,
+    /// No live block has that start and generation.
+    Stale,
+    /// The index is outside the block.
+    Index,
+    /// No hole has so many words.
+    Full,
+}
+
+// Appends the event of a call. Its stamp is the greater of the mark's and the last.
+pub(crate) fn tell(journal: &mut Journal, last: &mut u32, m: Mark, cell: Cell)
+    requires { 0 < journal.old.spare }
+    ensures last { last.new ≡ max m.stamp last.old }
+    ensures journal { journal.new ≡ record {
+      events = journal.old.events ++ Done m.task (max m.stamp last.old) cell m.path ∷ [];
+      spare = journal.old.spare - 1;
+    } }
+{
+    let Mark { task, stamp, path } = m;
+    let stamp = stamp.max(*last);
+    *last = stamp;
+    journal.add(PlaceEvent::Done {
+        task,
+        stamp,
+        cell,
+        path,
+    });
+}

@@ -1,0 +1,66 @@
+-- The members of a set, place by place.
+use Rattle.std.proofs.Common.{◌≡◌, ℕ, ◌+◌, ◌<◌, ◌^◌, Bool, true, false, cond, List, [], ◌∷◌, ◌++◌, drop, Some, zero, suc, refl, ap, sym, ◌∙◌, arith, append_assoc, append-nil}
+use Rattle.std.specs.Prelude.{slice_get, filter, codes}
+use Rattle.std.specs.List.{flat_map}
+use Rattle.rx_base.specs.declared.place_set.PlaceSet.{PlaceSet}
+use Rattle.rx_base.specs.Sets.{all_places, has_bit, members}
+use Rattle.rx_base.proofs.Members.{same-sets}
+use Rattle.rx_text.proofs.Lists.{left-more}
+use Rattle.rx_trace.specs.Fields.{natural_field}
+use Rattle.rx_trace.specs.Parts.{lost_part}
+use Rattle.rx_trace.proofs.Lines.{part-some}
+
+-- each place stands at its own number
+there : (p : ℕ) → p < 16 → slice_get all_places p ≡ Some p
+there zero below = refl
+there (suc zero) below = refl
+there (suc (suc zero)) below = refl
+there (suc (suc (suc zero))) below = refl
+there (suc (suc (suc (suc zero)))) below = refl
+there (suc (suc (suc (suc (suc zero))))) below = refl
+there (suc (suc (suc (suc (suc (suc zero)))))) below = refl
+there (suc (suc (suc (suc (suc (suc (suc zero))))))) below = refl
+there (suc (suc (suc (suc (suc (suc (suc (suc zero)))))))) below = refl
+there (suc (suc (suc (suc (suc (suc (suc (suc (suc zero))))))))) below = refl
+there (suc (suc (suc (suc (suc (suc (suc (suc (suc (suc zero)))))))))) below = refl
+there (suc (suc (suc (suc (suc (suc (suc (suc (suc (suc (suc zero))))))))))) below = refl
+there (suc (suc (suc (suc (suc (suc (suc (suc (suc (suc (suc (suc zero)))))))))))) below = refl
+there (suc (suc (suc (suc (suc (suc (suc (suc (suc (suc (suc (suc (suc zero))))))))))))) below = refl
+there (suc (suc (suc (suc (suc (suc (suc (suc (suc (suc (suc (suc (suc (suc zero)))))))))))))) below = refl
+there (suc (suc (suc (suc (suc (suc (suc (suc (suc (suc (suc (suc (suc (suc (suc zero))))))))))))))) below = refl
+there (suc (suc (suc (suc (suc (suc (suc (suc (suc (suc (suc (suc (suc (suc (suc (suc p)))))))))))))))) below = absurd (omega arith)
+
+-- the fields of one place, if it is in the set, and of the others
+one : (b : Bool) (p : ℕ) (rest : List ℕ) → flat_map natural_field (cond b (p ∷ rest) rest) ≡ flat_map natural_field (cond b (p ∷ []) []) ++ flat_map natural_field rest
+one true p rest = simp append_assoc
+one false p rest = refl
+
+-- one place more is written, if it is in the set
+pub places-more : (set : ℕ) (old out next : List ℕ) (p : ℕ) → p < 16 → out ++ flat_map natural_field (filter (has_bit set) (drop p all_places)) ≡ old → next ≡ out ++ flat_map natural_field (filter (has_bit set) (p ∷ [])) → next ++ flat_map natural_field (filter (has_bit set) (drop (p + 1) all_places)) ≡ old
+places-more set old out next p below whole is =
+    let F : List ℕ → List ℕ = λ ps. flat_map natural_field (filter (has_bit set) ps) in
+    ap (λ o. o ++ F (drop (p + 1) all_places)) is
+    ∙ append_assoc out (F (p ∷ [])) (F (drop (p + 1) all_places))
+    ∙ ap (λ r. out ++ r) (sym (left-more F all_places p p (there p below) ∙ one (has_bit set p) p (filter (has_bit set) (drop (p + 1) all_places)))) ∙ whole
+
+-- a set whose number is not 0 has a member
+pub some-member : (set : PlaceSet) → set.0 < 2 ^ 16 → (set.0 ≡ 0 → ⊥) → members set ≡ [] → ⊥
+some-member set small not_zero none =
+    let empty : PlaceSet = record { 0 = 0 } in
+    let same : set ≡ empty = same-sets set empty small (omega arith) none in
+    not_zero (ap (λ s. s.0) same)
+
+-- the part of a set that has a member
+pub lost-text : (set : PlaceSet) (old out next : List ℕ) → set.0 < 2 ^ 16 → (set.0 ≡ 0 → ⊥) → out ≡ old ++ codes " lost" → next ≡ out ++ flat_map natural_field (members set) → next ≡ old ++ lost_part set
+unfolding lost_part
+lost-text set old out next small not_zero word is =
+    is ∙ ap (λ o. o ++ flat_map natural_field (members set)) word
+    ∙ append_assoc old (codes " lost") (flat_map natural_field (members set))
+    ∙ ap (λ r. old ++ r) (sym (part-some (codes " lost") natural_field (members set) (some-member set small not_zero)))
+
+-- the part of a set that has none
+pub lost-none : (set : PlaceSet) (out : List ℕ) → set.0 ≡ 0 → out ≡ out ++ lost_part set
+unfolding lost_part
+lost-none set out none =
+    let part : ℕ → List ℕ = λ n. lost_part (record { 0 = n }) in
+    sym (ap (λ r. out ++ r) (ap part none) ∙ append-nil out)

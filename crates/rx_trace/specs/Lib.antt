@@ -1,0 +1,10 @@
+pub mod KillOrder
+pub mod Setups
+pub mod Logs
+pub mod Events
+pub mod Fields
+pub mod Parts
+pub mod EntryLines
+pub mod EventLines
+pub mod Text
+pub mod Worked

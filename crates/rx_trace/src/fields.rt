@@ -1,0 +1,104 @@
+// The fields of a line, each after a blank.
+ghost use Rattle.std.specs.Prelude.{◌≡◌, ◌++◌, OnOk};
+ghost use Rattle.rx_text.specs.Numbers.{natural_text};
+ghost use Rattle.rx_trace.specs.Fields.{natural_field, number_field, path_field, place_field, task_field, scope_field, block_field, kill_field, fault_field};
+
+use itoa::Buffer;
+use rx_base::{Fault, GlobalRef, Kill, NoMemory, Path, PlaceId, ScopeId, TaskId};
+use rx_text::{put_natural, put_num, put_path};
+
+// A text as it is.
+pub(crate) fn put_text(out: &mut Vec<u8>, text: &[u8]) -> Result<(), NoMemory>
+    ensures { OnOk result (out.new.items ≡ out.old.items ++ text.now) }
+{
+    out.extend_from_slice(text)?;
+    Ok(())
+}
+
+// The number of a line, with which it begins.
+pub(crate) fn put_line_number(out: &mut Vec<u8>, n: usize) -> Result<(), NoMemory>
+    ensures { OnOk result (out.new.items ≡ out.old.items ++ natural_text n) }
+{
+    let mut buffer = Buffer::new();
+    put_text(out, buffer.format(n).as_bytes())
+}
+
+pub(crate) fn put_natural_field(out: &mut Vec<u8>, n: u32) -> Result<(), NoMemory>
+    ensures { OnOk result (out.new.items ≡ out.old.items ++ natural_field n) }
+{
+    put_text(out, b" ")?;
+    put_natural(out, n)
+}
+
+pub(crate) fn put_number_field(out: &mut Vec<u8>, n: i64) -> Result<(), NoMemory>
+    ensures { OnOk result (out.new.items ≡ out.old.items ++ number_field n) }
+{
+    put_text(out, b" ")?;
+    put_num(out, n)
+}
+
+pub(crate) fn put_path_field(out: &mut Vec<u8>, path: &Path) -> Result<(), NoMemory>
+    ensures { OnOk result (out.new.items ≡ out.old.items ++ path_field path.now) }
+{
+    put_text(out, b" ")?;
+    put_path(out, path)
+}
+
+pub(crate) fn put_place_field(out: &mut Vec<u8>, place: PlaceId) -> Result<(), NoMemory>
+    ensures { OnOk result (out.new.items ≡ out.old.items ++ place_field place) }
+{
+    put_natural_field(out, u32::from(place.0))
+}
+
+pub(crate) fn put_task_field(out: &mut Vec<u8>, task: TaskId) -> Result<(), NoMemory>
+    ensures { OnOk result (out.new.items ≡ out.old.items ++ task_field task) }
+{
+    put_text(out, b" t")?;
+    put_natural(out, task.0)
+}
+
+pub(crate) fn put_scope_field(out: &mut Vec<u8>, scope: ScopeId) -> Result<(), NoMemory>
+    ensures { OnOk result (out.new.items ≡ out.old.items ++ scope_field scope) }
+{
+    put_text(out, b" s")?;
+    put_natural(out, scope.0)
+}
+
+#[tactic(auto, using(std::proofs::Common::append_assoc))]
+pub(crate) fn put_block_field(out: &mut Vec<u8>, block: GlobalRef) -> Result<(), NoMemory>
+    ensures { OnOk result (out.new.items ≡ out.old.items ++ block_field block) }
+{
+    put_natural_field(out, block.start)?;
+    put_natural_field(out, block.generation)
+}
+
+#[tactic(auto, using(std::proofs::Common::append_assoc))]
+pub(crate) fn put_kill_field(out: &mut Vec<u8>, kill: Kill) -> Result<(), NoMemory>
+    ensures { OnOk result (out.new.items ≡ out.old.items ++ kill_field kill) }
+{
+    put_place_field(out, kill.place)?;
+    put_text(out, b"@")?;
+    put_natural(out, kill.moment)
+}
+
+#[tactic(auto, using(std::proofs::Common::append_assoc))]
+pub(crate) fn put_fault_field(out: &mut Vec<u8>, fault: Fault) -> Result<(), NoMemory>
+    ensures { OnOk result (out.new.items ≡ out.old.items ++ fault_field fault) }
+{
+    match fault {
+        Fault::Dead(place) => {
+            put_text(out, b" dead:")?;
+            put_natural(out, u32::from(place.0))
+        }
+        Fault::Thrown(value) => {
+            put_text(out, b" code:")?;
+            put_num(out, value)
+        }
+        Fault::Overflow => put_text(out, b" overflow"),
+        Fault::NoPlace => put_text(out, b" noplace"),
+        Fault::WrongPlace => put_text(out, b" wrongplace"),
+        Fault::Stale => put_text(out, b" stale"),
+        Fault::Index => put_text(out, b" index"),
+        Fault::HeapFull => put_text(out, b" heapfull"),
+    }
+}

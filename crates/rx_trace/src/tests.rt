@@ -1,0 +1,69 @@
+// What no clause says: that the writer can succeed.
+use crate::{
+    Act, Cell, Entry, History, Journal, Journals, KillList, PlaceEvent, Setup, write_trace,
+};
+use rx_base::{Batch, Fault, Faults, GlobalRef, Kill, Path, PlaceId, PlaceSet, TaskId};
+use std::test::Fail;
+
+#[test]
+fn small_trace_is_written(rt: HostRuntime) -> Result<(), Fail> {
+    let alloc = rt.alloc();
+    let mut kills = KillList::open(alloc);
+    kills.push(Kill {
+        place: PlaceId(1),
+        moment: 3,
+    })?;
+    let setup = Setup {
+        places: 2,
+        heap: 256,
+        kills,
+    };
+    let mut path = Path::open(alloc);
+    path.push(0)?;
+    path.push(12)?;
+    let mut batch = Batch::open(alloc);
+    batch.push(path.copy(alloc)?)?;
+    let mut thrown = Faults::open(alloc);
+    thrown.push(Fault::Dead(PlaceId(1)))?;
+    thrown.push(Fault::Thrown(-5))?;
+    let mut h = History::open(alloc, setup.copy(alloc)?);
+    h.reserve(3)?;
+    h.add(Entry::Death { place: PlaceId(1) });
+    h.add(Entry::Step {
+        task: TaskId(0),
+        act: Act::End {
+            thrown: thrown.copy(alloc)?,
+        },
+        batch,
+    });
+    h.add(Entry::Root {
+        lost: PlaceSet::empty().with(PlaceId(1)),
+        thrown,
+    });
+    let mut journal = Journal::open(alloc);
+    journal.reserve(1)?;
+    journal.add(PlaceEvent::Done {
+        task: TaskId(0),
+        stamp: 0,
+        cell: Cell::GetRefused {
+            target: GlobalRef {
+                home: PlaceId(0),
+                start: 3,
+                generation: 1,
+            },
+            index: -1,
+            stale: false,
+        },
+        path,
+    });
+    let mut j = Journals::open(alloc);
+    j.reserve(1)?;
+    j.push(journal)?;
+    let mut out = b"before\n".to_vec(alloc)?;
+    write_trace(&h, &j, &mut out)?;
+    assert_eq!(rt;
+        out.as_slice(),
+        b"before\nrx10 trace 1\nplaces 2 heap 256\nkills 1@3\nhistory\n0 death 1\n1 end t0 thrown dead:1 code:-5 | 0.12\n2 release host s0 lost 1 thrown dead:1 code:-5\njournal 0\n0 t0 0 get 3 1 -1 index 0.12\ndone\n".as_slice()
+    );
+    Ok(())
+}

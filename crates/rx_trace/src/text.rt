@@ -1,0 +1,61 @@
+// The text of a trace.
+ghost use Rattle.std.specs.Prelude.{◌≡◌, ◌++◌, OnOk, OnErr};
+ghost use Rattle.std.specs.List.{flat_map};
+ghost use Rattle.rx_trace.specs.Events.{events_of};
+ghost use Rattle.rx_trace.specs.Fields.{kill_field};
+ghost use Rattle.rx_trace.specs.Setups.{given};
+ghost use Rattle.rx_trace.specs.Text.{setup_lines, trace_text};
+
+use crate::entry_lines::put_entries;
+use crate::event_lines::put_journals;
+use crate::fields::{put_kill_field, put_natural_field, put_text};
+use crate::{History, Journals, KillList, Setup};
+use rx_base::NoMemory;
+
+/// Appends the text of a trace, of which docs/trace.md tells the lines. It asks nothing of the history and the journals. A refusal
+/// leaves `out` as it was. It takes time and memory in proportion to the text.
+pub fn write_trace(h: &History, j: &Journals, out: &mut Vec<u8>) -> Result<(), NoMemory>
+    ensures ok { OnOk result (out.new.items ≡ out.old.items ++ trace_text (given h.now.setup) h.now.entries (events_of j.now)) }
+    ensures err { OnErr result (out.new.items ≡ out.old.items) }
+{
+    let mut text = Vec::new(*out.allocator());
+    put_trace(&mut text, h, j)?;
+    out.extend_from_slice(&text)?;
+    Ok(())
+}
+
+#[tactic(auto, using(std::proofs::Common::append_assoc))]
+fn put_trace(out: &mut Vec<u8>, h: &History, j: &Journals) -> Result<(), NoMemory>
+    ensures { OnOk result (out.new.items ≡ out.old.items ++ trace_text (given h.now.setup) h.now.entries (events_of j.now)) }
+{
+    put_text(out, b"rx10 trace 1\n")?;
+    put_setup(out, &h.setup)?;
+    put_text(out, b"history\n")?;
+    put_entries(out, h)?;
+    put_journals(out, j)?;
+    put_text(out, b"done\n")
+}
+
+// The line of the places and their heaps, and the line of the kills.
+#[tactic(auto, using(std::proofs::Common::append_assoc), unfolding(crate::specs::Text::setup_lines))]
+fn put_setup(out: &mut Vec<u8>, setup: &Setup) -> Result<(), NoMemory>
+    ensures { OnOk result (out.new.items ≡ out.old.items ++ setup_lines (given setup.now)) }
+{
+    put_text(out, b"places")?;
+    put_natural_field(out, u32::from(setup.places))?;
+    put_text(out, b" heap")?;
+    put_natural_field(out, setup.heap)?;
+    put_text(out, b"\nkills")?;
+    put_kills(out, &setup.kills)?;
+    put_text(out, b"\n")
+}
+
+// The kills in their order.
+fn put_kills(out: &mut Vec<u8>, kills: &KillList) -> Result<(), NoMemory>
+    ensures { OnOk result (out.new.items ≡ out.old.items ++ flat_map kill_field kills.now) }
+{
+    for i in 0..kills.len() {
+        put_kill_field(out, kills.item(i))?;
+    }
+    Ok(())
+}

@@ -1,0 +1,8 @@
+pub mod Masks
+pub mod Or
+pub mod Fronts
+pub mod Numbers
+pub mod History
+pub mod Replay
+pub mod Keeps
+pub mod Calls

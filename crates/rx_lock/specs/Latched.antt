@@ -1,0 +1,50 @@
+-- The rule of a lock over one word and one slot.
+-- Word 0: the value is at home. Word 1: it is out with the one who has the lock. Word 2: the lock is closed, and the slot is empty.
+use Rattle.std.specs.Prelude.{◌≡◌, ◌≢◌, ℕ, ◌⊎◌, true, false, Option, Some, None, [], ◌∷◌}
+use mathlib.Core.Option.{some}
+use lib.ListN.{get_elem?}
+use Rattle.atomic_table.specs.Table.{State, Me, Step}
+use Rattle.rx_lock.specs.declared.steps.Hand.{Hand}
+
+module _ {K : Type 0} where
+  -- the hand of one who knows the key alone
+  abbrev pub idle : K → Hand K
+  idle k = record { key = k; has_it = false; closed = false }
+
+  -- the hand of the one who has the value
+  abbrev pub holding : K → Hand K
+  holding k = record { key = k; has_it = true; closed = false }
+
+  -- the hand of the one who has closed the lock
+  abbrev pub closing : K → Hand K
+  closing k = record { key = k; has_it = false; closed = true }
+
+module _ {T K : Type 0} where
+  -- the lock is closed
+  abbrev pub Emptied : State (Option T) (Hand K) → Type 0
+  Emptied s = (s.words ≡ 2 ∷ []) × (get_elem? s.homes 0 ≡ some (some None))
+
+  module _ (holds : K → T → Type 0) where
+    -- the value is at home, and the fact holds of it
+    abbrev pub AtHome : K → State (Option T) (Hand K) → Type 0
+    AtHome k s = (s.words ≡ 0 ∷ []) × ((x : T) × holds k x × (get_elem? s.homes 0 ≡ some (some (Some x))))
+
+    -- one hand at most has the lock, and then the value is out; a hand that has closed the lock knows that it is closed
+    abbrev pub Knows : K → ℕ → State (Option T) (Hand K) → ℕ → Hand K → Type 0
+    Knows k holder s id h = (h.key ≡ k) × (h.has_it ≡ true → (s.words ≡ 1 ∷ []) × (id ≡ holder)) × (h.closed ≡ true → Emptied s)
+
+    -- the rule: the lock is free, taken or closed, and each hand knows what is so
+    abbrev pub Latched : K → State (Option T) (Hand K) → Type 0
+    Latched k s = (holder : ℕ) × (AtHome k s ⊎ ((s.words ≡ 1 ∷ []) ⊎ Emptied s)) × ((id : ℕ) (h : Hand K) → get_elem? s.views id ≡ some h → Knows k holder s id h)
+
+    -- where the word was 0, the value is in the hand
+    abbrev pub Took : Step (Option T) → Me (Option T) (Hand K) → ℕ → Me (Option T) (Hand K) → Type 0
+    Took st me found me' = (found ≡ 0 → (me'.0 ≡ holding me.0.key) × ((x : T) × holds me.0.key x × (me'.1 ≡ (0, Some x) ∷ []))) × (found ≢ 0 → me' ≡ me)
+
+  -- a new hand knows the key
+  abbrev pub Sat : Step (Option T) → Me (Option T) (Hand K) → ℕ → Me (Option T) (Hand K) → Type 0
+  Sat st me found me' = me' ≡ (idle me.0.key, [])
+
+  -- the hand of the one who had the value becomes this
+  abbrev pub Ends : (K → Hand K) → Step (Option T) → Me (Option T) (Hand K) → ℕ → Me (Option T) (Hand K) → Type 0
+  Ends to st me stored me' = me'.0 ≡ to me.0.key

@@ -1,0 +1,9 @@
+pub mod Allowed
+pub mod Firsts
+pub mod Gone
+pub mod Inside
+pub mod Leaves
+pub mod Places
+pub mod Replies
+pub mod Strikes
+pub mod Worked

@@ -1,0 +1,27 @@
+use Rattle.std.specs.Prelude.{◌≡◌, List}
+use Rattle.std.specs.Vec.{with_items}
+use Rattle.std.proofs.lemmas.List.{with_items_is}
+use Rattle.std.proofs.Common.{ap, ◌∙◌, rules}
+use Rattle.rx_rules.specs.declared.tasks.Task.{Task}
+use Rattle.rx_rules.specs.Tree.{Tree, is_task}
+use Rattle.rx_rules.specs.Entries.{change_first}
+use Rattle.rx_tree.specs.Calls.{IsUnstruck}
+use Rattle.rx_tree.specs.Kept.{kept}
+use Rattle.rx_base.specs.declared.ids.PlaceId.{PlaceId}
+use Rattle.rx_rules.specs.declared.tasks.Where.TheVariants.{At}
+use Rattle.rx_tree.specs.Calls.{landing}
+use Rattle.rx_tree.proofs.Allowed.{arrive_allowed}
+use Rattle.rx_tree.proofs.Replies.{at_kept, did, by_tasks}
+use Rattle.rx_tree.proofs.plain.TreeLedgerFinishLedger.arrive.Goals as goal
+
+pub returns : goal.returns
+returns c =
+    let K : Tree = kept c.args.self.now in
+    let u : IsUnstruck K c.args.who = search rules in
+    let lands : (with_items c.args.self.now.tasks c.land.new.tasks).items ≡ change_first (is_task c.args.who.task) (λ x. record x { place = At (landing c.args.who.place) }) K.tasks =
+    with_items_is c.args.self.now.tasks c.land.new.tasks (search rules)
+    ∙ (c.land.ensures
+    ∙ (ap (λ (p : PlaceId). change_first (is_task c.args.who.task) (λ x. record x { place = At p }) c.deref_mut.result.now) c.landing_of.ensures
+    ∙ ap (λ (xs : List Task). change_first (is_task c.args.who.task) (λ x. record x { place = At (landing c.args.who.place) }) xs) c.deref_mut.ensures.value))
+    in
+    at_kept K _ _ (λ r may. did K _ c.args.who _ r (arrive_allowed K c.args.who r may u) (by_tasks K _ _ lands))

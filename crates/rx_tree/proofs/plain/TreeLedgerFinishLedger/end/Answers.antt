@@ -1,0 +1,27 @@
+use Rattle.std.specs.Prelude.{◌≡◌, ◌++◌, List}
+use Rattle.std.specs.Vec.{with_items}
+use Rattle.std.proofs.lemmas.List.{with_items_is}
+use Rattle.std.proofs.Common.{sym, ap, ◌∙◌, rules}
+use Rattle.rx_rules.specs.declared.tasks.Scope.{Scope}
+use Rattle.rx_rules.specs.Tree.{Tree, is_scope}
+use Rattle.rx_rules.specs.Entries.{change_first}
+use Rattle.rx_tree.specs.Calls.{IsUnstruck}
+use Rattle.rx_tree.specs.Kept.{kept}
+use Rattle.rx_tree.specs.Callers.{IsBare}
+use Rattle.rx_tree.proofs.Allowed.{end_allowed}
+use Rattle.rx_tree.proofs.Replies.{at_kept, did, ended_is, by_rows}
+use Rattle.rx_tree.proofs.plain.TreeLedgerFinishLedger.end.Goals as goal
+
+pub returns : goal.returns
+returns c =
+    let K : Tree = kept c.args.self.now in
+    let u : IsUnstruck K c.args.who = search rules in
+    let noted : (with_items c.args.self.now.scopes c.note_ends.new.scopes).items ≡ change_first (is_scope c.args.who.scope) (λ g. record g { ends = g.ends ++ c.args.thrown }) K.scopes =
+    with_items_is c.args.self.now.scopes c.note_ends.new.scopes (search rules)
+    ∙ (c.in_default-note_ends.ensures.noted
+    ∙ ap (λ (gs : List Scope). change_first (is_scope c.args.who.scope) (λ g. record g { ends = g.ends ++ c.args.thrown }) gs) c.deref_mut.ensures.value)
+    in
+    at_kept K _ _
+    (λ r may.
+    did K _ c.args.who _ r (end_allowed K c.args.who c.args.thrown r may u)
+    (by_rows K _ _ _ _ c.remove_task.ensures noted ∙ sym (ended_is K c.args.who (IsBare K c.args.who) c.args.thrown r may u)))

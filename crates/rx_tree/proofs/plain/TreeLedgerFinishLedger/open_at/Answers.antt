@@ -1,0 +1,33 @@
+use Rattle.std.specs.Prelude.{◌≡◌, ◌∷◌, ◌+◌, suc, refl}
+use Rattle.std.specs.Vec.{with_items}
+use Rattle.std.proofs.lemmas.List.{with_items_is}
+use Rattle.std.proofs.Common.{ap, ◌∙◌, rules, arith}
+use Rattle.rx_rules.specs.declared.tasks.Task.{Task}
+use Rattle.rx_rules.specs.Tree.{Tree, is_task}
+use Rattle.rx_rules.specs.Entries.{change_first}
+use Rattle.rx_tree.specs.Calls.{IsUnstruck}
+use Rattle.rx_tree.specs.Kept.{kept}
+use Rattle.rx_rules.specs.declared.tasks.Kind.TheVariants.{Call}
+use Rattle.rx_rules.specs.Entries.{home_for, place_number, born, opened, waiting}
+use Rattle.rx_tree.specs.Callers.{IsMoving}
+use Rattle.rx_tree.proofs.Allowed.{call_allowed}
+use Rattle.rx_tree.proofs.Replies.{at_kept, did, home_is, by_births}
+use Rattle.rx_tree.proofs.plain.TreeLedgerFinishLedger.open_at.Goals as goal
+
+pub returns : goal.returns
+returns c =
+    let K : Tree = kept c.args.self.now in
+    let u : IsUnstruck K c.args.who = search rules in
+    at_kept K _ _
+    (λ r may.
+    let home : home_for K c.args.who.task ≡ place_number c.args.who.place = home_is K c.args.who IsMoving r may.asks u in
+    let callee : Task = born K (record { 0 = K.next_task }) (record { 0 = K.next_scope }) (place_number c.args.who.place) c.args.to in
+    let tasks : c.insert_both.new.tasks.items ≡ callee ∷ K.tasks = search rules in
+    let scopes : c.insert_both.new.scopes.items ≡ (opened K c.args.who.task Call (record { 0 = K.next_scope }) c.args.who.inner).scopes = search (rules, home) in
+    let more_tasks : K.next_task + 1 ≡ suc K.next_task = omega arith in
+    let more_scopes : K.next_scope + 1 ≡ suc K.next_scope = omega arith in
+    let waits : (with_items c.insert_both.new.tasks c.set_waits.new.tasks).items ≡ change_first (is_task c.args.who.task) waiting (callee ∷ K.tasks) =
+    with_items_is c.insert_both.new.tasks c.set_waits.new.tasks (search rules)
+    ∙ (c.set_waits.ensures ∙ ap (change_first (is_task c.args.who.task) waiting) (c.deref_mut.ensures.value ∙ tasks))
+    in
+    (did K _ c.args.who _ r (call_allowed K c.args.who c.args.to _ _ r may u refl refl) (by_births K _ _ _ _ _ _ _ _ waits scopes more_tasks more_scopes), search rules))

@@ -1,0 +1,19 @@
+use Rattle.std.specs.Prelude.{◌≡◌, refl}
+use Rattle.std.proofs.Common.{rules}
+use Rattle.rx_rules.specs.Tree.{Tree}
+use Rattle.rx_rules.specs.Entries.{home_for, place_number}
+use Rattle.rx_tree.specs.Callers.{IsMoving}
+use Rattle.rx_tree.specs.Calls.{IsUnstruck}
+use Rattle.rx_tree.specs.Kept.{kept}
+use Rattle.rx_tree.proofs.Allowed.{open_allowed}
+use Rattle.rx_tree.proofs.Replies.{at_kept, did, home_is}
+use Rattle.rx_tree.proofs.plain.TreeLedgerFinishLedger.open_finish.Goals as goal
+
+pub returns : goal.returns
+returns c =
+    let K : Tree = kept c.args.self.now in
+    let u : IsUnstruck K c.args.who = search rules in
+    at_kept K _ _
+    (λ r may.
+    let home : home_for K c.args.who.task ≡ place_number c.args.who.place = home_is K c.args.who IsMoving r may u in
+    did K _ c.args.who _ r (open_allowed K c.args.who _ r may u refl) (search (rules, home)))

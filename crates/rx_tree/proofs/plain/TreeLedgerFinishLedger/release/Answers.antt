@@ -1,0 +1,25 @@
+use Rattle.std.specs.Prelude.{◌≡◌}
+use Rattle.std.specs.Vec.{with_items}
+use Rattle.std.proofs.lemmas.List.{with_items_is}
+use Rattle.std.proofs.Common.{ap, ◌∙◌, rules}
+use Rattle.rx_rules.specs.Tree.{Tree, is_task}
+use Rattle.rx_rules.specs.Entries.{change_first}
+use Rattle.rx_tree.specs.Calls.{IsUnstruck}
+use Rattle.rx_tree.specs.Kept.{kept}
+use Rattle.std.specs.Prelude.{Ok}
+use Rattle.rx_rules.specs.Entries.{resumed}
+use Rattle.rx_tree.specs.Removal.{LeaveReply}
+use Rattle.rx_tree.proofs.Replies.{at_kept, released, by_tasks}
+use Rattle.rx_tree.proofs.plain.TreeLedgerFinishLedger.release.Goals as goal
+
+pub returns : goal.returns
+returns c =
+    let K : Tree = kept c.args.self.now in
+    let L : Tree = kept c.leave.new.self in
+    let u : IsUnstruck K c.args.who = search rules in
+    let left : LeaveReply K c.args.who.inner (Ok c.in_ok-outcome.outcome) L = c.in_ok-outcome.ensures in
+    let goes_on : (with_items c.leave.new.self.tasks c.set_waits.new.tasks).items ≡ change_first (is_task c.args.who.task) resumed L.tasks =
+    with_items_is c.leave.new.self.tasks c.set_waits.new.tasks (search rules)
+    ∙ (c.set_waits.ensures ∙ ap (change_first (is_task c.args.who.task) resumed) c.deref_mut.ensures.value)
+    in
+    at_kept K _ _ (λ r may. released K L _ c.args.who c.in_ok-outcome.outcome r may u left (by_tasks L _ _ goes_on))

@@ -1,0 +1,16 @@
+use Rattle.std.specs.Prelude.{refl}
+use Rattle.std.proofs.Common.{rules}
+use Rattle.rx_rules.specs.Tree.{Tree}
+use Rattle.rx_tree.specs.Calls.{IsUnstruck}
+use Rattle.rx_tree.specs.Kept.{kept}
+use Rattle.rx_tree.proofs.Allowed.{spawn_allowed}
+use Rattle.rx_tree.proofs.Replies.{at_kept, did}
+use Rattle.rx_tree.proofs.plain.TreeLedgerFinishLedger.spawn.Goals as goal
+
+pub returns : goal.returns
+returns c =
+    let K : Tree = kept c.args.self.now in
+    let u : IsUnstruck K c.args.who = search rules in
+    at_kept K _ _
+    (λ r may.
+    (did K _ c.args.who _ r (spawn_allowed K c.args.who c.args.to _ _ r may u (search rules) refl) (search rules), search rules))

@@ -1,0 +1,28 @@
+use Rattle.std.specs.Prelude.{◌≡◌, List}
+use Rattle.std.specs.Vec.{with_items}
+use Rattle.std.proofs.lemmas.List.{with_items_is}
+use Rattle.std.proofs.Common.{ap, ◌∙◌, rules}
+use Rattle.rx_rules.specs.declared.tasks.Scope.{Scope}
+use Rattle.rx_rules.specs.Tree.{Tree, is_task, is_scope}
+use Rattle.rx_rules.specs.Entries.{change_first}
+use Rattle.rx_tree.specs.Calls.{IsUnstruck}
+use Rattle.rx_tree.specs.Kept.{kept}
+use Rattle.rx_rules.specs.Entries.{waiting}
+use Rattle.rx_tree.proofs.Allowed.{wait_allowed}
+use Rattle.rx_tree.proofs.Replies.{at_kept, did, by_rows}
+use Rattle.rx_tree.proofs.plain.TreeLedgerFinishLedger.wait.Goals as goal
+
+pub returns : goal.returns
+returns c =
+    let K : Tree = kept c.args.self.now in
+    let u : IsUnstruck K c.args.who = search rules in
+    let waits : (with_items c.args.self.now.tasks c.set_waits.new.tasks).items ≡ change_first (is_task c.args.who.task) waiting K.tasks =
+    with_items_is c.args.self.now.tasks c.set_waits.new.tasks (search rules)
+    ∙ (c.set_waits.ensures ∙ ap (change_first (is_task c.args.who.task) waiting) c.deref_mut-2.ensures.value)
+    in
+    let noted : (with_items c.args.self.now.scopes c.note_body.new.scopes).items ≡ change_first (is_scope c.args.who.inner) (λ g. record g { body = c.args.thrown }) K.scopes =
+    with_items_is c.args.self.now.scopes c.note_body.new.scopes (search rules)
+    ∙ (c.note_body.ensures
+    ∙ ap (λ (gs : List Scope). change_first (is_scope c.args.who.inner) (λ g. record g { body = c.args.thrown }) gs) c.deref_mut.ensures.value)
+    in
+    at_kept K _ _ (λ r may. did K _ c.args.who _ r (wait_allowed K c.args.who c.args.thrown r may u) (by_rows K _ _ _ _ waits noted))

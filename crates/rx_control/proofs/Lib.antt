@@ -1,0 +1,14 @@
+pub mod Exprs
+pub mod Plans
+pub mod Wrapping
+pub mod Moves
+pub mod Settling
+pub mod Front
+pub mod Standing
+pub mod NextIs
+pub mod Carried
+pub mod Starting
+pub mod Words
+pub mod Steps
+pub mod Answering
+pub mod Bound

@@ -1,0 +1,69 @@
+use Rattle.std.proofs.Common.{suc, ◌∷◌, ◌++◌}
+use Rattle.std.specs.Prelude.{option_to_list}
+use Rattle.rx_rules.specs.Terms.{Releases, stmt_does, at, does}
+use Rattle.rx_control.specs.Levels.{More, seq}
+use Rattle.rx_control.specs.declared.frame.Frame.TheVariants.{Seq, Body, Held}
+use Rattle.rx_control.specs.Stands.{path_of}
+use Rattle.rx_control.specs.Front.{lifted}
+use Rattle.rx_control.specs.Plans.{Due}
+use Rattle.rx_control.proofs.Standing.{at-top, at-statement, calm-seq, calm-held}
+use Rattle.rx_control.proofs.NextIs.{stmt-does, waiting-does, inside-leaves}
+use Rattle.rx_control.proofs.Steps.{leaves-by}
+use Rattle.rx_control.proofs.control.Control.step.Goals as goal
+
+pub at_hand-stmt-requires : goal.at_hand-stmt-requires
+at_hand-stmt-requires c =
+    let q = c.requires.stands in
+    let e = rw c.in-Some-Seq.field-0-is at c.in-Some-Seq.ensures in
+    let b = at-top c.args.script.now c.args.self.now q.0 e.0 (Seq c.in-Some-Seq.block c.in-Some-Seq.next c.in-Some-Seq.part) e.1 q.1 in
+    let r = calm-seq c.args.script.now c.args.self.now q.0 e.0 c.in-Some-Seq.block c.in-Some-Seq.next c.in-Some-Seq.part b in
+    let a = at-statement c.args.script.now c.args.self.now q.0 e.0 c.in-Some-Seq.block c.in-Some-Seq.next c.in-Some-Seq.part r e.1 q.1 in
+    (a.stmt, a.more, a.awaits)
+
+pub make_plan-plan-requires : goal.make_plan-plan-requires
+make_plan-plan-requires c =
+    let q = c.requires.stands in
+    let e = rw c.in-Some-Seq.field-0-is at c.in-Some-Seq.ensures in
+    let b = at-top c.args.script.now c.args.self.now q.0 e.0 (Seq c.in-Some-Seq.block c.in-Some-Seq.next c.in-Some-Seq.part) e.1 q.1 in
+    let r = calm-seq c.args.script.now c.args.self.now q.0 e.0 c.in-Some-Seq.block c.in-Some-Seq.next c.in-Some-Seq.part b in
+    let a = at-statement c.args.script.now c.args.self.now q.0 e.0 c.in-Some-Seq.block c.in-Some-Seq.next c.in-Some-Seq.part r e.1 q.1 in
+    (a.stmt, c.at_hand-stmt.ensures a.stmt a.more a.awaits)
+
+pub carry_out-requires-clause-due : goal.carry_out-requires-clause-due
+carry_out-requires-clause-due c =
+    let q = c.requires.stands in
+    let e = rw c.in-Some-Seq.field-0-is at c.in-Some-Seq.ensures in
+    let b = at-top c.args.script.now c.args.self.now q.0 e.0 (Seq c.in-Some-Seq.block c.in-Some-Seq.next c.in-Some-Seq.part) e.1 q.1 in
+    let r = calm-seq c.args.script.now c.args.self.now q.0 e.0 c.in-Some-Seq.block c.in-Some-Seq.next c.in-Some-Seq.part b in
+    let a = at-statement c.args.script.now c.args.self.now q.0 e.0 c.in-Some-Seq.block c.in-Some-Seq.next c.in-Some-Seq.part r e.1 q.1 in
+    let y = path_of c.args.self.now.base e.0 ++ option_to_list c.in-Some-Seq.part in
+    let rest = seq (More a.more y (suc c.in-Some-Seq.next) ∷ a.others) in
+    let d = stmt_does c.args.self.now.vars c.args.here.0 c.args.places a.stmt (at y c.in-Some-Seq.next) rest in
+    let u : Due c.args.script.now c.args.self.now q.0 e.0 c.in-Some-Seq.block c.in-Some-Seq.next c.in-Some-Seq.part c.make_plan-plan.result = record { front = a; act = d; is = c.make_plan-plan.ensures a.stmt (c.at_hand-stmt.ensures a.stmt a.more a.awaits) (at y c.in-Some-Seq.next) rest } in
+    (q.0, e.0, u)
+
+pub returns-in_ok-faults-in-Some-Seq-clause-ok : goal.returns-in_ok-faults-in-Some-Seq-clause-ok
+returns-in_ok-faults-in-Some-Seq-clause-ok c t h =
+    let e = rw c.in-Some-Seq.field-0-is at c.in-Some-Seq.ensures in
+    let b = at-top c.args.script.now c.args.self.now t e.0 (Seq c.in-Some-Seq.block c.in-Some-Seq.next c.in-Some-Seq.part) e.1 h in
+    let r = calm-seq c.args.script.now c.args.self.now t e.0 c.in-Some-Seq.block c.in-Some-Seq.next c.in-Some-Seq.part b in
+    let a = at-statement c.args.script.now c.args.self.now t e.0 c.in-Some-Seq.block c.in-Some-Seq.next c.in-Some-Seq.part r e.1 h in
+    let y = path_of c.args.self.now.base e.0 ++ option_to_list c.in-Some-Seq.part in
+    let rest = seq (More a.more y (suc c.in-Some-Seq.next) ∷ a.others) in
+    let d = stmt_does c.args.self.now.vars c.args.here.0 c.args.places a.stmt (at y c.in-Some-Seq.next) rest in
+    let u : Due c.args.script.now c.args.self.now t e.0 c.in-Some-Seq.block c.in-Some-Seq.next c.in-Some-Seq.part c.make_plan-plan.result = record { front = a; act = d; is = c.make_plan-plan.ensures a.stmt (c.at_hand-stmt.ensures a.stmt a.more a.awaits) (at y c.in-Some-Seq.next) rest } in
+    leaves-by c.args.script.now c.carry_out.new.self (does c.args.self.now.vars c.args.here.0 c.args.places t) (lifted a.others d)
+    (stmt-does c.args.script.now c.args.self.now t e.0 c.in-Some-Seq.block c.in-Some-Seq.next c.in-Some-Seq.part a c.args.self.now.vars c.args.here.0 c.args.places) (c.carry_out.ensures t e.0 u)
+
+pub returns-in-Some-Held-clause-ok : goal.returns-in-Some-Held-clause-ok
+returns-in-Some-Held-clause-ok c t h =
+    let e = rw c.in-Some-Held.field-0-is at c.in-Some-Held.ensures in
+    let a = at-top c.args.script.now c.args.self.now t e.0 Held e.1 h in
+    leaves-by c.args.script.now c.args.self.now (does c.args.self.now.vars c.args.here.0 c.args.places t) Releases
+    (waiting-does c.args.script.now c.args.self.now t e.0 (calm-held c.args.script.now c.args.self.now t e.0 a) a c.args.self.now.vars c.args.here.0 c.args.places) tt
+
+pub returns-in-Some-Body-clause-ok : goal.returns-in-Some-Body-clause-ok
+returns-in-Some-Body-clause-ok c t h =
+    let e = rw c.in-Some-Body.field-0-is at c.in-Some-Body.ensures in
+    let a = at-top c.args.script.now c.args.self.now t e.0 Body e.1 h in
+    inside-leaves c.args.script.now c.args.self.now c.args.self.now t e.0 a c.args.self.now.vars c.args.here.0 c.args.places

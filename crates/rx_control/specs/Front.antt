@@ -1,0 +1,75 @@
+-- What stands at the front of a control: cited by its inner functions alone.
+use Rattle.std.specs.Prelude.{◌≡◌, ℕ, List, [], ◌∷◌, ◌++◌, drop, Option, Some, None, option_to_list, slice_get, Bool, true, false}
+use Rattle.rx_base.specs.declared.values.Fault.{Fault}
+use Rattle.rx_rules.specs.Code.{Block, Nothing, Then, Stmt, SetTo, New, Get, Put, Forget, Print, Throw, Async, AtAsync, At, Finish, If, Repeat, Try}
+use Rattle.rx_rules.specs.Terms.{Term, Does, within}
+use Rattle.rx_script.specs.Shape.{Shape, ListStands}
+use Rattle.rx_script.specs.declared.nodes.StmtId.{StmtId}
+use Rattle.rx_script.specs.declared.nodes.BlockId.{BlockId}
+use Rattle.rx_control.specs.declared.frame.Frame.{Frame}
+use Rattle.rx_control.specs.declared.frame.Frame.TheVariants.{Seq}
+use Rattle.rx_control.specs.declared.control.Control.{Control}
+use Rattle.rx_control.specs.Levels.{Level, More, Again, Tried, Inside, Waiting, Settled, term_of, wrap}
+use Rattle.rx_control.specs.Stands.{path_of, FramesStand}
+
+-- a step of an inner term, seen from outside
+abbrev pub lifted : List Level → Does → Does
+lifted s d = within (λ t. wrap t s) d
+
+-- the levels that a granted statement with the path x leaves, over those after it
+abbrev pub opened : Stmt → List ℕ → List Level → List Level
+opened (Finish body) x ls = More body x 0 ∷ Inside ∷ ls
+opened (At place body) x ls = Waiting ∷ ls
+opened (SetTo name value) x ls = ls
+opened (New name words) x ls = ls
+opened (Get name target index) x ls = ls
+opened (Put target index value) x ls = ls
+opened (Forget target) x ls = ls
+opened (Print value) x ls = ls
+opened (Throw value) x ls = ls
+opened (Async body) x ls = ls
+opened (AtAsync place body) x ls = ls
+opened (If test first other) x ls = ls
+opened (Repeat times body) x ls = ls
+opened (Try body dead_only handler) x ls = ls
+
+-- whether a level is a block without statements left
+abbrev pub IsOver : Bool → Level → Type 0
+IsOver over (More Nothing x i) = over ≡ true
+IsOver over (More (Then stmt more) x i) = over ≡ false
+IsOver over (Again body x k times) = over ≡ false
+IsOver over (Tried dead_only handler x) = over ≡ false
+IsOver over Inside = over ≡ false
+IsOver over Waiting = over ≡ false
+
+-- whether a level is that of a try or a finish
+abbrev pub IsCatch : Bool → Level → Type 0
+IsCatch catch (More left x i) = catch ≡ false
+IsCatch catch (Again body x k times) = catch ≡ false
+IsCatch catch (Tried dead_only handler x) = catch ≡ true
+IsCatch catch Inside = catch ≡ true
+IsCatch catch Waiting = catch ≡ false
+
+-- the frames are settled and stand for the term of these levels
+pub record SettlesTo (s : Shape) (base : List ℕ) (frames : List Frame) (raised : Option (List Fault)) (levels : List Level) : Type 0 where
+  pub levels_left : List Level
+  pub stands : FramesStand s base frames levels_left
+  pub settled : Settled raised levels_left
+  pub is : term_of raised levels_left ≡ term_of raised levels
+
+-- a position of a block stands for a statement and those after it
+pub record Awaits (s : Shape) (block : BlockId) (next : ℕ) (stmt : Stmt) (more : Block) : Type 0 where
+  pub ids : List StmtId
+  pub block_is : slice_get s.blocks block.0 ≡ Some ids
+  pub left : ListStands s (drop next ids) (Then stmt more)
+
+-- a control that stands for a statement and what comes after it
+pub record AtStatement (s : Shape) (c : Control) (t : Term) (below : List Frame) (block : BlockId) (next : ℕ) (part : Option ℕ) : Type 0 where
+  pub stmt : Stmt
+  pub more : Block
+  pub others : List Level
+  pub awaits : Awaits s block next stmt more
+  pub frames : c.frames.items ≡ below ++ Seq block next part ∷ []
+  pub rest : FramesStand s c.base below others
+  pub calm : c.raised ≡ None
+  pub is : t ≡ term_of None (More (Then stmt more) (path_of c.base below ++ option_to_list part) next ∷ others)

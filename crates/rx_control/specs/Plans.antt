@@ -1,0 +1,60 @@
+-- What a plan says of a statement: cited by the inner functions of a control alone.
+use Rattle.std.specs.Prelude.{◌≡◌, ◌≢◌, ℕ, suc, ◌++◌, option_to_list, List, [], ◌∷◌, Option, Some, None, Result, Ok, Err}
+use Rattle.rx_base.specs.declared.ids.PlaceId.{PlaceId}
+use Rattle.rx_base.specs.declared.values.Value.TheVariants.{Num as Number}
+use Rattle.rx_base.specs.declared.values.Fault.{Fault}
+use Rattle.rx_rules.specs.Code.{Block, Stmt}
+use Rattle.rx_rules.specs.Terms.{Vars, Term, Empty, Turns, Trying, Does, Local, raise, bound, items, at, stmt_does}
+use Rattle.rx_script.specs.declared.nodes.BlockId.{BlockId}
+use Rattle.rx_script.specs.declared.nodes.NameId.{NameId}
+use Rattle.rx_script.specs.Shape.{Shape, BlockStands}
+use Rattle.rx_control.specs.Levels.{More, seq}
+use Rattle.rx_control.specs.declared.frame.Frame.{Frame}
+use Rattle.rx_control.specs.declared.control.Control.{Control}
+use Rattle.rx_control.specs.Stands.{path_of}
+use Rattle.rx_control.specs.Front.{AtStatement}
+use Rattle.rx_control.specs.Next.{next_of}
+use Rattle.rx_control.specs.declared.step.Next.TheVariants.{Local as LocalStep}
+use Rattle.rx_control.specs.declared.plan.Plan.{Plan}
+use Rattle.rx_control.specs.declared.plan.Plan.TheVariants.{Assign, Raise, Choose, Loop, Attempt, Ask}
+
+-- a plan is what a statement does
+abbrev pub IsPlan : Shape → Plan → Vars → List ℕ → Term → Does → Type 0
+IsPlan s (Assign name value) vars x rest d = d ≡ Local rest (bound name.0 (Number value) vars)
+IsPlan s (Raise fault) vars x rest d = d ≡ Local (raise fault) vars
+IsPlan s (Choose block part) vars x rest d =
+    (b : Block) × BlockStands s block b × (d ≡ Local (items b (at x part) rest) vars)
+IsPlan s (Loop body times) vars x rest d = (b : Block) × BlockStands s body b × (d ≡ Local (Turns b x 0 times rest) vars)
+IsPlan s (Attempt body dead_only handler) vars x rest d =
+    (b : Block) × BlockStands s body b
+    × ((h : Block) × BlockStands s handler h × (d ≡ Local (Trying (items b (at x 0) Empty) dead_only h x rest) vars))
+IsPlan s (Ask next) vars x rest d = (next_of d ≡ next) × (next ≢ LocalStep)
+
+-- a plan is what a statement does, whatever its path and what comes after it
+abbrev pub Plans : Shape → Plan → Vars → ℕ → ℕ → Stmt → Type 0
+Plans s plan vars here places t = (x : List ℕ) (rest : Term) → IsPlan s plan vars x rest (stmt_does vars here places t x rest)
+
+-- the number of a place
+abbrev pub place_in : Result PlaceId Fault → Result ℕ Fault
+place_in (Ok p) = Ok p.0
+place_in (Err fault) = Err fault
+
+-- what the statement at the front of a control does, by a plan
+pub record Due (s : Shape) (c : Control) (t : Term) (below : List Frame) (block : BlockId) (next : ℕ) (part : Option ℕ) (plan : Plan) : Type 0 where
+  pub front : AtStatement s c t below block next part
+  pub act : Does
+  pub is : IsPlan s plan c.vars (at (path_of c.base below ++ option_to_list part) next) (seq (More front.more (path_of c.base below ++ option_to_list part) (suc next) ∷ front.others)) act
+
+-- the faults that a plan raises
+abbrev pub FaultsFit : Plan → List Fault → Type 0
+FaultsFit (Assign name value) faults = Unit {0}
+FaultsFit (Raise fault) faults = faults ≡ fault ∷ []
+FaultsFit (Choose block part) faults = Unit {0}
+FaultsFit (Loop body times) faults = Unit {0}
+FaultsFit (Attempt body dead_only handler) faults = Unit {0}
+FaultsFit (Ask next) faults = Unit {0}
+
+-- the number of a name
+abbrev pub name_in : Option NameId → Option ℕ
+name_in (Some name) = Some name.0
+name_in None = None

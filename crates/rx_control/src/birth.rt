@@ -1,0 +1,87 @@
+// The control of a new task.
+ghost use Rattle.std.specs.Prelude.{◌≡◌, ℕ, List, IfOk, MatchOption};
+ghost use Rattle.rx_rules.specs.Code.{Stmt as Tree, Block};
+ghost use Rattle.rx_rules.specs.Terms.{Empty, items, stmt_child};
+ghost use Rattle.rx_script.specs.Shape.{Shape, StmtIs, BlockStands};
+ghost use Rattle.rx_control.specs.Stands.{StandsFor};
+
+use crate::frame::{Frame, settle};
+use crate::{Control, Variables};
+use rx_base::{NoMemory, Path};
+use rx_script::{BlockId, Script, Stmt};
+use std::alloc::Global;
+
+/// A control at the front of a block.
+pub(crate) fn start(
+    alloc: Global,
+    script: &Script,
+    base: Path,
+    vars: Variables,
+    block: BlockId,
+) -> Result<Control, NoMemory>
+    requires { (b : Block) × BlockStands script.now block b }
+    ensures { IfOk result (λ c. (b : Block) → BlockStands script.now block b → StandsFor script.now c (items b base Empty) × (c.vars ≡ vars)) }
+{
+    let mut frames = Vec::new(alloc);
+    if frames
+        .push(Frame::Seq {
+            block,
+            next: 0,
+            part: None,
+        })
+        .is_err()
+    {
+        return Err(NoMemory);
+    }
+    settle(script, &mut frames);
+    Ok(Control {
+        base,
+        frames,
+        raised: None,
+        vars,
+    })
+}
+
+/// The control of a task that a statement starts.
+pub(crate) fn born(
+    alloc: Global,
+    script: &Script,
+    stmt: Stmt,
+    path: Path,
+    vars: Variables,
+) -> Result<Control, NoMemory>
+    requires { (t : Tree) × StmtIs script.now stmt t }
+    ensures { IfOk result (λ c. (t : Tree) → StmtIs script.now stmt t → StandsFor script.now c (stmt_child t path) × (c.vars ≡ vars)) }
+{
+    match body_of(stmt) {
+        Some(body) => start(alloc, script, path, vars, body),
+        None => Ok(Control {
+            base: path,
+            frames: Vec::new(alloc),
+            raised: None,
+            vars,
+        }),
+    }
+}
+
+// The block that a new task runs.
+fn body_of(stmt: Stmt) -> Option<BlockId>
+    ensures { MatchOption result ((s : Shape) (t : Tree) (x : List ℕ) → StmtIs s stmt t → stmt_child t x ≡ Empty) (λ k. (s : Shape) (t : Tree) (x : List ℕ) → StmtIs s stmt t → (b : Block) × BlockStands s k b × (stmt_child t x ≡ items b x Empty)) }
+{
+    match stmt {
+        Stmt::Async { body } => Some(body),
+        Stmt::AtAsync { body, .. } => Some(body),
+        Stmt::At { body, .. } => Some(body),
+        Stmt::Set { .. } => None,
+        Stmt::New { .. } => None,
+        Stmt::Get { .. } => None,
+        Stmt::Put { .. } => None,
+        Stmt::Forget { .. } => None,
+        Stmt::Print { .. } => None,
+        Stmt::Throw { .. } => None,
+        Stmt::Finish { .. } => None,
+        Stmt::If { .. } => None,
+        Stmt::Repeat { .. } => None,
+        Stmt::Try { .. } => None,
+    }
+}

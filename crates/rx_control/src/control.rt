@@ -1,0 +1,418 @@
+// The control of one activity.
+ghost use Rattle.std.specs.Prelude.{◌≡◌, ℕ, ◌+◌, ◌*◌, ◌<◌, ◌≤◌, List, [], ◌∷◌, ◌++◌, Option, Some, None, IfOk, OnOk, OnErr, IfErr, MatchOption, option_to_list, vec_len, vec_capacity};
+ghost use Rattle.rx_base.specs.declared.ids.PlaceId.{PlaceId};
+ghost use Rattle.rx_base.specs.declared.values.Fault.{Fault};
+ghost use Rattle.rx_rules.specs.Code.{Block, work};
+ghost use Rattle.rx_rules.specs.Terms.{no_vars, Term, at, Empty, Waits, does, begins, child, items, granted, replaced, answered, answer_of, vars_after, receives};
+ghost use Rattle.rx_script.specs.Shape.{Shape, Stands};
+ghost use Rattle.rx_control.specs.declared.frame.Frame.{Frame};
+ghost use Rattle.rx_control.specs.Stands.{StandsFor, path_of, Leaves, IsSame};
+ghost use Rattle.rx_control.specs.Bound.{steps, Falls};
+ghost use Rattle.rx_control.specs.Next.{next_of, carried};
+ghost use Rattle.rx_control.specs.Front.{lifted};
+ghost use Rattle.rx_control.specs.Plans.{Due, FaultsFit};
+
+use crate::birth::{born, start};
+use crate::faults::{faults_of, is_caught, one_fault};
+use crate::frame::{Frame, drop_top, go_on, settle, top, unwind};
+use crate::path::{add_part, path_below};
+use crate::plan::{Plan, make_plan, told};
+use crate::statement::{at_hand, following, open_after, receive, receiver, statement_of};
+use crate::{Next, Variables, Want};
+use rx_base::{Fault, Faults, NoMemory, Path, PlaceId, Value};
+use rx_check::Program;
+use rx_script::{BlockId, Script};
+use std::alloc::Global;
+
+/// What one activity has still to run, with its variables. It stands for terms of the rules, and the program passed to its calls
+/// is the one that it was made with. It may be moved between threads. docs/semantics.md states the steps.
+#[derive(Drop)]
+pub struct Control {
+    pub(crate) base: Path,
+    pub(crate) frames: Vec<Frame>,
+    pub(crate) raised: Option<Faults>,
+    pub(crate) vars: Variables,
+}
+
+impl Control {
+    /// Tells the next step, at a place of so many. A step that raises before the store or the ledger is asked is local. It takes
+    /// no memory.
+    pub fn next(&self, p: &Program, here: PlaceId, places: u8) -> Next
+        requires { (t : Term) × StandsFor p.now.script self.now t }
+        ensures { (t : Term) → StandsFor p.now.script self.now t → result ≡ next_of (does self.now.vars here.0 places t) }
+    {
+        match &self.raised {
+            Some(_) => match top(&self.frames) {
+                Some(Frame::Try { .. }) => Next::Local,
+                Some(Frame::Body) => Next::Book(Want::Wait),
+                _ => Next::Done,
+            },
+            None => match top(&self.frames) {
+                Some(Frame::Seq { block, next, .. }) => {
+                    let script = p.script();
+                    let stmt = at_hand(script, block, next);
+                    told(make_plan(script, stmt, &self.vars, here, places))
+                }
+                Some(Frame::Turns { .. }) => Next::Local,
+                Some(Frame::Try { .. }) => Next::Local,
+                Some(Frame::Body) => Next::Book(Want::Wait),
+                Some(Frame::Held) => Next::Book(Want::Release),
+                None => Next::Done,
+            },
+        }
+    }
+
+    /// The control of the main activity: it stands at the front of the script, and no name has a value.
+    pub fn main(alloc: Global, p: &Program) -> Result<Control, NoMemory>
+        ensures stands { IfOk result (λ c. (b : Block) → Stands p.now.script b → StandsFor p.now.script c (items b [] Empty) × (c.vars ≡ no_vars)) }
+        ensures steps { (b : Block) → steps (items b [] Empty) ≡ 3 * work b }
+    {
+        let script = p.script();
+        rx_script::whole(script);
+        start(
+            alloc,
+            script,
+            Path::open(alloc),
+            Variables::none(),
+            script.top(),
+        )
+    }
+
+    // The block, the position and the part of the statement at the front, where there is one.
+    fn front(&self) -> Option<(BlockId, u32, Option<u32>)>
+        ensures { MatchOption result ((s : Shape) (t : Term) → StandsFor s self.now t → begins t ≡ None) (λ f. (self.now.raised ≡ None) × ((below : List Frame) × (self.now.frames.items ≡ below ++ Frame.Seq f.0 f.1 f.2 ∷ []))) }
+    {
+        match &self.raised {
+            Some(_) => None,
+            None => match top(&self.frames) {
+                Some(frame) => statement_of(frame),
+                None => None,
+            },
+        }
+    }
+
+    // The path of the statement at the front.
+    fn path_here(&self, alloc: Global, next: u32, part: Option<u32>) -> Result<Path, NoMemory>
+        ensures { IfOk result (λ path. (below : List Frame) (f : Frame) → self.now.frames.items ≡ below ++ f ∷ [] → path ≡ at (path_of self.now.base below ++ option_to_list part) next) }
+    {
+        let mut path = path_below(alloc, &self.base, &self.frames)?;
+        add_part(&mut path, part)?;
+        path.push(next)?;
+        Ok(path)
+    }
+
+    /// The path of the statement that the next step begins, and None exactly where it begins none. Ask before the step is made.
+    pub fn path(&self, alloc: Global, p: &Program) -> Result<Option<Path>, NoMemory>
+        ensures { IfOk result (λ o. (t : Term) → StandsFor p.now.script self.now t → o ≡ begins t) }
+    {
+        match self.front() {
+            Some((_, next, part)) => Ok(Some(self.path_here(alloc, next, part)?)),
+            None => Ok(None),
+        }
+    }
+
+    /// The control of the task that the next step starts, with a copy of the variables. The next step begins a statement; where
+    /// that starts no task, the new control has nothing to run.
+    pub fn child(&self, alloc: Global, p: &Program) -> Result<Control, NoMemory>
+        requires { (t : Term) × (x : List ℕ) × StandsFor p.now.script self.now t × (begins t ≡ Some x) }
+        ensures stands { IfOk result (λ c. (t : Term) → StandsFor p.now.script self.now t → (x : List ℕ) → begins t ≡ Some x → StandsFor p.now.script c (child t) × (c.vars ≡ self.now.vars)) }
+        ensures steps { (t : Term) (x : List ℕ) → begins t ≡ Some x → steps (child t) < steps t }
+    {
+        let script = p.script();
+        match self.front() {
+            Some((block, next, part)) => {
+                let path = self.path_here(alloc, next, part)?;
+                born(
+                    alloc,
+                    script,
+                    at_hand(script, block, next),
+                    path,
+                    self.vars.copy(),
+                )
+            }
+            None => unreachable!(),
+        }
+    }
+
+    /// Makes the local step that is next, at a place of so many. Fewer steps are left then. Where another step is next, nothing is
+    /// said of what it leaves. A refusal changes nothing.
+    pub fn local(
+        &mut self,
+        alloc: Global,
+        p: &Program,
+        here: PlaceId,
+        places: u8,
+    ) -> Result<(), NoMemory>
+        requires { (t : Term) × StandsFor p.now.script self.old t }
+        ensures ok { OnOk result ((t : Term) → StandsFor p.now.script self.old t → Leaves p.now.script self.new (does self.old.vars here.0 places t)) }
+        ensures err { OnErr result (IsSame self.new self.old) }
+        ensures steps { (t : Term) → Falls (steps t) (does self.old.vars here.0 places t) }
+    {
+        if self.frames.reserve(2).is_err() {
+            return Err(NoMemory);
+        }
+        self.step(alloc, p.script(), here, places)
+    }
+
+    // Makes the step, with room on the stack.
+    fn step(
+        &mut self,
+        alloc: Global,
+        script: &Script,
+        here: PlaceId,
+        places: u8,
+    ) -> Result<(), NoMemory>
+        requires room { vec_len self.old.frames + 2 ≤ vec_capacity self.old.frames }
+        requires stands { (t : Term) × StandsFor script.now self.old t }
+        ensures ok { OnOk result ((t : Term) → StandsFor script.now self.old t → Leaves script.now self.new (does self.old.vars here.0 places t)) }
+        ensures err { OnErr result (IsSame self.new self.old) }
+    {
+        match top(&self.frames) {
+            Some(Frame::Seq { block, next, part }) => {
+                let stmt = at_hand(script, block, next);
+                let plan = make_plan(script, stmt, &self.vars, here, places);
+                let faults = faults_of(alloc, plan)?;
+                self.carry_out(script, block, next, part, plan, faults);
+                Ok(())
+            }
+            Some(Frame::Turns { body, turn, times }) => {
+                self.take_turn(script, body, turn, times);
+                Ok(())
+            }
+            Some(Frame::Try { dead_only, handler }) => {
+                self.leave_try(script, dead_only, handler);
+                Ok(())
+            }
+            Some(Frame::Body) => Ok(()),
+            Some(Frame::Held) => Ok(()),
+            None => Ok(()),
+        }
+    }
+
+    // Makes the step of a statement by its plan. The faults are those that the plan raises.
+    fn carry_out(
+        &mut self,
+        script: &Script,
+        block: BlockId,
+        next: u32,
+        part: Option<u32>,
+        plan: Plan,
+        faults: Faults,
+    )
+        requires room { vec_len self.old.frames + 2 ≤ vec_capacity self.old.frames }
+        requires due { (t : Term) × (below : List Frame) × Due script.now self.old t below block next part plan }
+        requires faults { FaultsFit plan faults }
+        ensures { (t : Term) (below : List Frame) → (h : Due script.now self.old t below block next part plan) → Leaves script.now self.new (lifted h.front.others h.act) }
+    {
+        let after = following(script, block, next);
+        match plan {
+            Plan::Assign { name, value } => {
+                go_on(&mut self.frames, block, after, part);
+                settle(script, &mut self.frames);
+                self.vars.set(name, Value::Num(value));
+            }
+            Plan::Raise(_) => {
+                unwind(&mut self.frames);
+                self.raised = Some(faults);
+            }
+            Plan::Choose {
+                block: inner,
+                part: number,
+            } => {
+                go_on(&mut self.frames, block, after, part);
+                self.frames.push_reserved(Frame::Seq {
+                    block: inner,
+                    next: 0,
+                    part: Some(number),
+                });
+                settle(script, &mut self.frames);
+            }
+            Plan::Loop { body, times } => {
+                go_on(&mut self.frames, block, after, part);
+                self.frames.push_reserved(Frame::Turns {
+                    body,
+                    turn: 0,
+                    times,
+                });
+            }
+            Plan::Attempt {
+                body,
+                dead_only,
+                handler,
+            } => {
+                go_on(&mut self.frames, block, after, part);
+                self.frames.push_reserved(Frame::Try { dead_only, handler });
+                self.frames.push_reserved(Frame::Seq {
+                    block: body,
+                    next: 0,
+                    part: Some(0),
+                });
+                settle(script, &mut self.frames);
+            }
+            Plan::Ask(_) => {}
+        }
+    }
+
+    // Makes the next turn of a `repeat`, or ends it.
+    fn take_turn(&mut self, script: &Script, body: BlockId, turn: u32, times: u32)
+        requires room { vec_len self.old.frames + 2 ≤ vec_capacity self.old.frames }
+        requires stands { (t : Term) × (below : List Frame) × StandsFor script.now self.old t × (self.old.frames.items ≡ below ++ Frame.Turns body turn times ∷ []) }
+        ensures { (here : PlaceId) (places : ℕ) (t : Term) (below : List Frame) → StandsFor script.now self.old t → self.old.frames.items ≡ below ++ Frame.Turns body turn times ∷ [] → Leaves script.now self.new (does self.old.vars here.0 places t) }
+    {
+        drop_top(&mut self.frames);
+        if times <= turn {
+            settle(script, &mut self.frames);
+        } else {
+            self.frames.push_reserved(Frame::Turns {
+                body,
+                turn: turn + 1,
+                times,
+            });
+            self.frames.push_reserved(Frame::Seq {
+                block: body,
+                next: 0,
+                part: Some(turn),
+            });
+            settle(script, &mut self.frames);
+        }
+    }
+
+    // Leaves a `try` whose body is over, or in which faults were raised.
+    fn leave_try(&mut self, script: &Script, dead_only: bool, handler: BlockId)
+        requires room { vec_len self.old.frames + 2 ≤ vec_capacity self.old.frames }
+        requires stands { (t : Term) × (below : List Frame) × StandsFor script.now self.old t × (self.old.frames.items ≡ below ++ Frame.Try dead_only handler ∷ []) }
+        ensures { (here : PlaceId) (places : ℕ) (t : Term) (below : List Frame) → StandsFor script.now self.old t → self.old.frames.items ≡ below ++ Frame.Try dead_only handler ∷ [] → Leaves script.now self.new (does self.old.vars here.0 places t) }
+    {
+        drop_top(&mut self.frames);
+        match self.raised.take() {
+            None => settle(script, &mut self.frames),
+            Some(faults) => {
+                if is_caught(dead_only, &faults) {
+                    self.frames.push_reserved(Frame::Seq {
+                        block: handler,
+                        next: 0,
+                        part: Some(1),
+                    });
+                    settle(script, &mut self.frames);
+                } else {
+                    unwind(&mut self.frames);
+                    self.raised = Some(faults);
+                }
+            }
+        }
+    }
+
+    /// Takes the store's answer: a value for the name of a `new` or `get`, none for the others, or a fault, which is raised. The
+    /// next step begins a statement. Fewer steps are left then. A refusal changes nothing.
+    pub fn cell_done(
+        &mut self,
+        alloc: Global,
+        p: &Program,
+        answer: Result<Option<Value>, Fault>,
+    ) -> Result<(), NoMemory>
+        requires { (t : Term) × StandsFor p.now.script self.old t }
+        ensures ok { OnOk result ((t : Term) (x : List ℕ) → StandsFor p.now.script self.old t → begins t ≡ Some x → StandsFor p.now.script self.new (answered (answer_of (receives t) answer) t) × (self.new.vars ≡ vars_after (answer_of (receives t) answer) self.old.vars)) }
+        ensures err { OnErr result (IsSame self.new self.old) }
+        ensures steps { (t : Term) (x : List ℕ) → begins t ≡ Some x → steps (answered (answer_of (receives t) answer) t) < steps t }
+    {
+        self.take_answer(alloc, p.script(), answer)
+    }
+
+    // Takes the answer, over the script alone.
+    fn take_answer(
+        &mut self,
+        alloc: Global,
+        script: &Script,
+        answer: Result<Option<Value>, Fault>,
+    ) -> Result<(), NoMemory>
+        requires { (t : Term) × StandsFor script.now self.old t }
+        ensures ok { OnOk result ((t : Term) (x : List ℕ) → StandsFor script.now self.old t → begins t ≡ Some x → StandsFor script.now self.new (answered (answer_of (receives t) answer) t) × (self.new.vars ≡ vars_after (answer_of (receives t) answer) self.old.vars)) }
+        ensures err { OnErr result (IsSame self.new self.old) }
+    {
+        match self.front() {
+            Some((block, next, part)) => match answer {
+                Err(fault) => {
+                    let faults = one_fault(alloc, fault)?;
+                    unwind(&mut self.frames);
+                    self.raised = Some(faults);
+                    Ok(())
+                }
+                Ok(value) => {
+                    let stmt = at_hand(script, block, next);
+                    let after = following(script, block, next);
+                    go_on(&mut self.frames, block, after, part);
+                    settle(script, &mut self.frames);
+                    receive(&mut self.vars, receiver(stmt), value);
+                    Ok(())
+                }
+            },
+            None => Ok(()),
+        }
+    }
+
+    /// Goes on after the ledger granted the request that is next. The faults are those of a release, and are raised where there
+    /// are any; at other requests they are dropped. A refusal changes nothing and hands the faults back.
+    pub fn resume(&mut self, p: &Program, faults: Faults) -> Result<(), (NoMemory, Faults)>
+        requires { (t : Term) × StandsFor p.now.script self.old t }
+        ensures ok { OnOk result ((t : Term) → StandsFor p.now.script self.old t → StandsFor p.now.script self.new (granted faults t)) }
+        ensures vars { OnOk result (self.new.vars ≡ self.old.vars) }
+        ensures err { OnErr result (IsSame self.new self.old) }
+        ensures faults { IfErr result (λ e. e.1 ≡ faults) }
+        ensures steps { (t : Term) → steps (granted faults t) ≤ steps t }
+    {
+        if self.frames.reserve(2).is_err() {
+            return Err((NoMemory, faults));
+        }
+        self.grant(p.script(), faults);
+        Ok(())
+    }
+
+    // Goes on, with room on the stack.
+    fn grant(&mut self, script: &Script, faults: Faults)
+        requires room { vec_len self.old.frames + 2 ≤ vec_capacity self.old.frames }
+        requires stands { (t : Term) × StandsFor script.now self.old t }
+        ensures stands { (t : Term) → StandsFor script.now self.old t → StandsFor script.now self.new (granted faults t) }
+        ensures vars { self.new.vars ≡ self.old.vars }
+    {
+        match top(&self.frames) {
+            Some(Frame::Seq { block, next, part }) => {
+                let stmt = at_hand(script, block, next);
+                let after = following(script, block, next);
+                go_on(&mut self.frames, block, after, part);
+                open_after(script, &mut self.frames, stmt);
+            }
+            Some(Frame::Body) => {
+                drop_top(&mut self.frames);
+                self.frames.push_reserved(Frame::Held);
+                self.raised = None;
+            }
+            Some(Frame::Held) => {
+                drop_top(&mut self.frames);
+                if faults.len() == 0 {
+                    settle(script, &mut self.frames);
+                } else {
+                    unwind(&mut self.frames);
+                    self.raised = Some(faults);
+                }
+            }
+            Some(Frame::Turns { .. }) => {}
+            Some(Frame::Try { .. }) => {}
+            None => {}
+        }
+    }
+
+    /// Hands out the list that a wait or the end carries, which is empty where nothing was raised. The control then stands for
+    /// the same without that list; a wait grants the same.
+    pub fn take_faults(&mut self, alloc: Global) -> Faults
+        ensures list { (s : Shape) (t : Term) (here : PlaceId) (places : ℕ) (faults : List Fault) → StandsFor s self.old t → carried (does self.old.vars here.0 places t) ≡ Some faults → result ≡ faults }
+        ensures after { (s : Shape) (t : Term) (here : PlaceId) (places : ℕ) (faults : List Fault) → StandsFor s self.old t → carried (does self.old.vars here.0 places t) ≡ Some faults → StandsFor s self.new (replaced t Empty) }
+        ensures vars { self.new.vars ≡ self.old.vars }
+        ensures wait { (t : Term) (here : PlaceId) (places : ℕ) (faults list : List Fault) → does self.old.vars here.0 places t ≡ Waits faults → granted list (replaced t Empty) ≡ granted list t }
+        ensures steps { (t : Term) → steps (replaced t Empty) ≤ steps t }
+    {
+        match self.raised.take() {
+            Some(faults) => faults,
+            None => Faults::open(alloc),
+        }
+    }
+}

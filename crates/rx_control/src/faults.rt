@@ -1,0 +1,71 @@
+// Faults that are raised and caught.
+ghost use Rattle.std.specs.Prelude.{◌≡◌, [], ◌∷◌, IfOk};
+ghost use Rattle.std.specs.List.{list_all};
+ghost use Rattle.rx_rules.specs.Terms.{catches, is_dead};
+ghost use Rattle.rx_control.specs.Plans.{FaultsFit};
+
+use crate::plan::Plan;
+use rx_base::{Fault, Faults, NoMemory};
+use std::alloc::Global;
+
+/// Whether a `catch` takes the faults.
+pub(crate) fn is_caught(dead_only: bool, faults: &Faults) -> bool
+    ensures { result ≡ catches dead_only faults.now }
+{
+    if dead_only { all_dead(faults) } else { true }
+}
+
+// Whether each fault tells a death.
+fn all_dead(faults: &Faults) -> bool
+    ensures { result ≡ list_all is_dead faults.now }
+{
+    for i in 0..faults.len() {
+        if !dead(faults.item(i)) {
+            return false;
+        }
+    }
+    true
+}
+
+// Whether a fault tells a death.
+fn dead(fault: Fault) -> bool
+    ensures { result ≡ is_dead fault }
+{
+    match fault {
+        Fault::Dead(_) => true,
+        Fault::Thrown(_) => false,
+        Fault::Overflow => false,
+        Fault::NoPlace => false,
+        Fault::WrongPlace => false,
+        Fault::Stale => false,
+        Fault::Index => false,
+        Fault::HeapFull => false,
+    }
+}
+
+/// The faults that a plan raises.
+pub(crate) fn faults_of(alloc: Global, plan: Plan) -> Result<Faults, NoMemory>
+    ensures { IfOk result (λ faults. FaultsFit plan faults) }
+{
+    let mut faults = Faults::open(alloc);
+    match plan {
+        Plan::Raise(fault) => {
+            faults.push(fault)?;
+            Ok(faults)
+        }
+        Plan::Assign { .. } => Ok(faults),
+        Plan::Choose { .. } => Ok(faults),
+        Plan::Loop { .. } => Ok(faults),
+        Plan::Attempt { .. } => Ok(faults),
+        Plan::Ask(_) => Ok(faults),
+    }
+}
+
+/// The list of one fault.
+pub(crate) fn one_fault(alloc: Global, fault: Fault) -> Result<Faults, NoMemory>
+    ensures { IfOk result (λ faults. faults ≡ fault ∷ []) }
+{
+    let mut faults = Faults::open(alloc);
+    faults.push(fault)?;
+    Ok(faults)
+}

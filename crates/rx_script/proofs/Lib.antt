@@ -1,0 +1,14 @@
+pub mod Lists
+pub mod Depths
+pub mod Lexing
+pub mod Arena
+pub mod Plain
+pub mod HasRead
+pub mod Local
+pub mod LocalExprs
+pub mod LocalItems
+pub mod Spelt
+pub mod Runs
+pub mod Sound
+pub mod Places
+pub mod Works

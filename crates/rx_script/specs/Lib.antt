@@ -1,0 +1,11 @@
+pub mod Shape
+pub mod Lexical
+pub mod Grammar
+pub mod Readers
+pub mod Exprs
+pub mod Items
+pub mod Machine
+pub mod Places
+pub mod Thin
+pub mod Arena
+pub mod Levels

@@ -1,0 +1,175 @@
+-- What an entry that starts a task makes of the game for which a machine stands.
+use Rattle.std.specs.Prelude.{◌≡◌, ◌≢◌, ℕ, suc, ◌+◌, ◌<◌, ◌≤◌, ◌==◌, Bool, true, false, cond, List, [], ◌∷◌, ◌++◌, length, map, filter, reverse, Option, Some, None, is_none, is_some, IfSome, option_map, slice_get, slice_set, refl}
+use Rattle.std.specs.List.{find}
+use Rattle.std.proofs.Common.{ap, ◌∙◌, sym, subst, inl, inr, arith}
+use Rattle.std.proofs.lemmas.List.{length-set, length-append}
+use Rattle.std.proofs.lemmas.Bool.{eqb-true}
+use Rattle.rx_base.specs.declared.ids.PlaceId.{PlaceId}
+use Rattle.rx_base.specs.declared.ids.TaskId.{TaskId}
+use Rattle.rx_base.specs.declared.ids.ScopeId.{ScopeId}
+use Rattle.rx_rules.specs.declared.tasks.Task.{Task}
+use Rattle.rx_rules.specs.declared.tasks.Scope.{Scope}
+use Rattle.rx_rules.specs.declared.tasks.Kind.{Kind}
+use Rattle.rx_rules.specs.declared.tasks.Blow.{Blow}
+use Rattle.rx_rules.specs.declared.entries.Act.{Act}
+use Rattle.rx_rules.specs.declared.entries.Entry.TheVariants.{Step}
+use Rattle.rx_rules.specs.declared.events.PlaceEvent.{PlaceEvent}
+use Rattle.rx_rules.specs.Code.{Block}
+use Rattle.rx_rules.specs.Terms.{does, child}
+use Rattle.rx_rules.specs.Tree.{Tree, is_task, opened_by, death_of}
+use Rattle.rx_rules.specs.Entries.{AllowedAct, made_act, born}
+use Rattle.rx_rules.specs.Store.{State}
+use Rattle.rx_rules.specs.Plays.{Fits, started_by}
+use Rattle.rx_rules.specs.Run.{Given}
+use Rattle.rx_rules.specs.Picked.{Game, Player, Turn, tree_in, child_of}
+use Rattle.rx_sound.specs.Chains.{Opened, HasOpener}
+use Rattle.rx_sound.specs.Sound.{Sound, TasksFall}
+use Rattle.rx_store.specs.Kept.{Kept}
+use Rattle.rx_script.specs.Shape.{Shape}
+use Rattle.rx_control.specs.declared.control.Control.{Control}
+use Rattle.rx_control.specs.Stands.{StandsFor}
+use Rattle.rx_machine.specs.declared.machine.Machine.{Machine}
+use Rattle.rx_machine.specs.declared.seat.Seat.{Seat}
+use Rattle.rx_machine.specs.Held.{is_held, HeldInFront}
+use Rattle.rx_machine.specs.Spine.{Spine}
+use Rattle.rx_machine.specs.Slots.{live_task, if_unstruck, own_scopes, own_kinds, SlotIs, IsSeat, seat_at, seat_in}
+use Rattle.rx_machine.specs.Holds.{StoresAre, Holds, HoldsBut, IsPick, HasGone, Makes}
+use Rattle.rx_machine.proofs.Acted.{Went, granted_player, game_after, tree-after, turned, shared}
+use Rattle.rx_machine.proofs.Finding.{same_or_not, get_same, get_other, get_within, get_pushed, get_before}
+use Rattle.rx_machine.proofs.Granting.{unheld-child}
+use Rattle.rx_machine.proofs.Holding.{unheld-front}
+use Rattle.rx_machine.proofs.Live.{none_above}
+use Rattle.rx_machine.proofs.Own.{SameOwn, slot-on}
+use Rattle.rx_machine.proofs.SpineGrants.{flat-child}
+use Rattle.rx_machine.proofs.Spines.{flat-spine}
+
+-- A task that is not yet born opened no scope.
+
+opener_is_born : (n k : ℕ) (ts : List Task) (g : Scope) (gs : List Scope) (o : Option TaskId) → TasksFall k ts → k ≤ n → HasOpener ts g gs o → (elim o as (λ _. Bool) [ Some x ↦ x.0 == n | None ↦ false ]) ≡ false
+opener_is_born n k ts g gs None falls le h = refl
+opener_is_born n k ts g gs (Some o) falls le h =
+    (elim (o.0 == n) as (λ b. (o.0 == n) ≡ b → b ≡ false) [
+      | true ↦ λ e.
+          let same : o.0 ≡ n = eqb-true o.0 n e in
+          let none : find (is_task o) ts ≡ None = subst (λ (v : ℕ). find (λ (x : Task). x.number.0 == v) ts ≡ None) (sym same) (none_above n k ts falls le) in
+          absurd (let f : None ≡ Some h.task = sym none ∙ h.stands in let g : ⊥ = cc in g)
+      | false ↦ λ e. refl
+    ]) refl
+
+pub none-opened : (n k : ℕ) (ts : List Task) (gs : List Scope) → TasksFall k ts → k ≤ n → Opened ts gs → filter (opened_by (record { 0 = n })) gs ≡ []
+none-opened n k ts [] falls le h = refl
+none-opened n k ts (g ∷ gs) falls le h =
+    let e : opened_by (record { 0 = n }) g ≡ false = opener_is_born n k ts g gs g.opener falls le h.0 in
+    rw e (none-opened n k ts gs falls le h.1)
+
+-- the scopes that the next task opened
+pub none-own : (T : Tree) → Sound T → (own_scopes T T.next_task ≡ []) × (own_kinds T T.next_task ≡ [])
+none-own T sound =
+    let le : T.next_task ≤ T.next_task = omega arith in
+    let e : filter (opened_by (record { 0 = T.next_task })) T.scopes ≡ [] = none-opened T.next_task T.next_task T.tasks T.scopes sound.tasks_fall le sound.opened in
+    (ap (map (λ g. g.number)) e, ap (map (λ g. g.kind)) e)
+
+-- A new task is struck exactly where its place is dead.
+
+born-struck : (T : Tree) (number : TaskId) (under : ScopeId) (from to : PlaceId) (b : Bool) → is_some (death_of T to) ≡ b → if_unstruck (born T number under from to) ≡ cond b None (Some (born T number under from to))
+born-struck T number under from to b e =
+    let blow : ℕ → Blow = λ n. record { place = to; entry = n } in
+    subst (λ (v : Bool). if_unstruck (born T number under from to) ≡ cond v None (Some (born T number under from to))) e
+    (elim (death_of T to) as (λ (o : Option ℕ). cond (is_none (option_map blow o)) (Some (born T number under from to)) None ≡ cond (is_some o) None (Some (born T number under from to))) [
+      | Some n ↦ refl
+      | None ↦ refl
+    ])
+
+lives : (o : Option ℕ) → is_some o ≡ false → o ≡ None
+lives (Some n) e = cc
+lives None e = refl
+
+-- what the task of an act begins with
+abbrev pub child_player : Player → Player
+child_player q = record { term = child q.term; vars = q.vars; batch = [] }
+
+-- a slot says of the next task what it must
+abbrev pub NewSlot : Shape → Tree → ℕ → Player → Option Seat → Type 0
+NewSlot shape T n p None = live_task T n ≡ None
+NewSlot shape T n p (Some seat) = IsSeat shape T n p seat
+
+-- the seat of a new task that no death struck
+abbrev pub NewSeat : Control → Seat → Type 0
+NewSeat control seat = (seat.scopes.items ≡ []) × (seat.control ≡ control) × (seat.batch ≡ [])
+
+pub new-slot : (shape : Shape) (T T' : Tree) (n : ℕ) (q : Player) (slot : Option Seat) (control : Control) (number : TaskId) (under : ScopeId) (from to : PlaceId) → live_task T' n ≡ if_unstruck (born T number under from to) → (own_scopes T' n ≡ []) × (own_kinds T' n ≡ []) → StandsFor shape control (child q.term) → control.vars ≡ q.vars → is_none slot ≡ is_some (death_of T to) → IfSome slot (λ seat. (V : Tree) → death_of V to ≡ None → seat.row ≡ born V number under from to) → IfSome slot (NewSeat control) → NewSlot shape T' n (child_player q) slot
+new-slot shape T T' n q None control number under from to live own stands vars lost row rest = live ∙ born-struck T number under from to true (sym lost)
+new-slot shape T T' n q (Some seat) control number under from to live own stands vars lost row rest =
+    let is : seat.row ≡ born T number under from to = row T (lives (death_of T to) (sym lost)) in
+    let front : HeldInFront (child q.term) × (is_held (child q.term) ≡ false) = unheld-front (child q.term) (unheld-child q.term) in
+    record {
+      row = live ∙ (born-struck T number under from to false (sym lost) ∙ ap (λ r. Some r) (sym is));
+      scopes = own.0 ∙ ap (λ ss. reverse ss) (sym rest.0);
+      term = subst (λ (c : Control). StandsFor shape c (child q.term)) (sym rest.1) stands;
+      vars = ap (λ c. c.vars) rest.1 ∙ vars;
+      batch = rest.2;
+      waits = ap (λ r. r.waits) is ∙ sym front.1;
+      held = front.0;
+      spine = subst (λ (ks : List Kind). Spine (child q.term) (reverse ks)) (sym own.1) (flat-spine (child q.term) (flat-child q.term));
+    }
+
+new-is : (shape : Shape) (T : Tree) (players : List Player) (n : ℕ) (p : Player) (slot : Option Seat) → slice_get players n ≡ Some p → NewSlot shape T n p slot → SlotIs shape T players n slot
+new-is shape T players n p None player h = h
+new-is shape T players n p (Some seat) player h = (p, player, h)
+
+-- An entry that starts a task: the seat goes back changed, the child gets a slot of its own at the end, and all others stay.
+pub started : {L : Type 0} (stands : L → Tree → Type 0) (shape : Shape) (code : Block) (U : Given) (m m' : Machine L) (k i : ℕ) (here : PlaceId) (p q : Player) (S Z : State) (j : List PlaceEvent) (seat seat' : Seat) (slot : Option Seat) (G : Game) (act : Act) (c : TaskId) → HoldsBut stands shape code U m i G → IsPick U k i seat G → HasGone shape U i here p q S Z j seat G → Fits here q.term (does q.vars here.0 U.places q.term) act → AllowedAct (tree_in U G) seat.row.number act → started_by act ≡ Some c → length G.players ≡ (tree_in U G).next_task → ((n : ℕ) → n ≢ i → n ≢ (tree_in U G).next_task → live_task (made_act (tree_in U G) seat.row.number act) n ≡ live_task (tree_in U G) n) → ((n : ℕ) → n ≢ i → n ≢ (tree_in U G).next_task → SameOwn (tree_in U G) (made_act (tree_in U G) seat.row.number act) n) → (made_act (tree_in U G) seat.row.number act).next_task ≡ suc (tree_in U G).next_task → IsSeat shape (made_act (tree_in U G) seat.row.number act) i (granted_player q act) seat' → NewSlot shape (made_act (tree_in U G) seat.row.number act) (tree_in U G).next_task (child_player q) slot → Went stands m m' (made_act (tree_in U G) seat.row.number act) (Step seat.row.number act q.batch) → i < length m.seats.items → m'.seats.items ≡ slice_set m.seats.items i (Some seat') ++ slot ∷ [] → StoresAre U.heap 0 m.stores.items (slice_set G.journals here.0 j) → Makes (Turn U k G true) (Holds stands shape code U m')
+started stands shape code U m m' k i here p q S Z j seat seat' slot G act c but pick gone fits may starts count live own next new born_so went inside back stored =
+    let T : Tree = tree_in U G in
+    let T' : Tree = made_act T seat.row.number act in
+    let G' : Game = game_after G seat.row.number here q Z j act in
+    let same : T' ≡ tree_in U G' = sym (tree-after U G seat.row.number here q Z j act) in
+    let ps : List Player = slice_set G.players i (granted_player q act) in
+    let xs : List (Option Seat) = slice_set m.seats.items i (Some seat') in
+    let players : ps ++ child_player q ∷ [] ≡ G'.players =
+    subst (λ (n : ℕ). slice_set G.players n (granted_player q act) ++ child_player q ∷ [] ≡ G'.players) pick.number
+    (ap (λ d. slice_set G.players seat.row.number.0 (granted_player q act) ++ d) (sym (child_is q act c starts))) in
+    let ps_long : length ps ≡ T.next_task = length-set G.players i (granted_player q act) ∙ count in
+    let xs_long : length xs ≡ T.next_task = length-set m.seats.items i (Some seat') ∙ but.shares.slots in
+    let older : i ≢ T.next_task = λ e. let low : i < T.next_task = subst (λ (v : ℕ). i < v) but.shares.slots inside in absurd (omega (arith, e)) in
+    let within : i < length G.players = get_within G.players i p gone.player in
+    let mine : slice_get G'.players i ≡ Some (granted_player q act) =
+    subst (λ (v : List Player). slice_get v i ≡ Some (granted_player q act)) players
+    (get_before ps (child_player q) i (λ e. older (e ∙ ps_long)) ∙ get_same G.players i (granted_player q act) within) in
+    let its : slice_get G'.players T.next_task ≡ Some (child_player q) =
+    subst (λ (v : List Player). slice_get v T.next_task ≡ Some (child_player q)) players
+    (subst (λ (v : ℕ). slice_get (ps ++ child_player q ∷ []) v ≡ Some (child_player q)) ps_long (get_pushed ps (child_player q))) in
+    let others : (n : ℕ) → n ≢ i → n ≢ T.next_task → slice_get G'.players n ≡ slice_get G.players n = λ n apart fresh.
+    subst (λ (v : List Player). slice_get v n ≡ slice_get G.players n) players
+    (get_before ps (child_player q) n (λ e. fresh (e ∙ ps_long)) ∙ get_other G.players i n (granted_player q act) apart) in
+    let seat_mine : seat_at (xs ++ slot ∷ []) i ≡ Some seat' = ap seat_in (get_before xs slot i (λ e. older (e ∙ xs_long)) ∙ get_same m.seats.items i (Some seat') inside) in
+    let seat_new : seat_at (xs ++ slot ∷ []) T.next_task ≡ slot =
+    ap seat_in (subst (λ (v : ℕ). slice_get (xs ++ slot ∷ []) v ≡ Some slot) xs_long (get_pushed xs slot)) in
+    let seat_others : (n : ℕ) → n ≢ i → n ≢ T.next_task → seat_at (xs ++ slot ∷ []) n ≡ seat_at m.seats.items n = λ n apart fresh.
+    ap seat_in (get_before xs slot n (λ e. fresh (e ∙ xs_long)) ∙ get_other m.seats.items i n (Some seat') apart) in
+    let pushed : length (xs ++ slot ∷ []) ≡ suc T.next_task = let one : length (xs ++ slot ∷ []) ≡ length xs + 1 = length-append xs (slot ∷ []) in omega (arith, one, xs_long) in
+    let length_is : length m'.seats.items ≡ T'.next_task = ap (λ v. length v) back ∙ (pushed ∙ sym next) in (
+      G',
+      turned shape U k i here p q S Z j seat G act pick gone fits may,
+      record {
+        shares = shared stands shape code U m m' k i here p q S Z j seat G act but.shares pick gone fits may went length_is;
+        stores = subst (λ (ss : List Kept). StoresAre U.heap 0 ss (slice_set G.journals here.0 j)) (ap (λ v. v.items) (sym went.stores)) stored;
+        seats = λ n.
+            subst (λ (V : Tree). SlotIs shape V G'.players n (seat_at m'.seats.items n)) same
+            (subst (λ (v : List (Option Seat)). SlotIs shape T' G'.players n (seat_at v n)) (sym back)
+            (elim (same_or_not n i) [
+              | inl e ↦ subst (λ (v : ℕ). SlotIs shape T' G'.players v (seat_at (xs ++ slot ∷ []) v)) (sym e)
+                  (subst (λ (o : Option Seat). SlotIs shape T' G'.players i o) (sym seat_mine) (granted_player q act, mine, new))
+              | inr apart ↦
+                  elim (same_or_not n T.next_task) [
+                    | inl e ↦ subst (λ (v : ℕ). SlotIs shape T' G'.players v (seat_at (xs ++ slot ∷ []) v)) (sym e)
+                        (subst (λ (o : Option Seat). SlotIs shape T' G'.players T.next_task o) (sym seat_new) (new-is shape T' G'.players T.next_task (child_player q) slot its born_so))
+                    | inr fresh ↦ subst (λ (o : Option Seat). SlotIs shape T' G'.players n o) (sym (seat_others n apart fresh))
+                        (slot-on shape T T' G.players G'.players n (seat_at m.seats.items n) (live n apart fresh) (λ x h. own n apart fresh) (others n apart fresh) (but.others n apart))
+                  ]
+            ]));
+      },
+    )
+  where
+    child_is : (q : Player) (act : Act) (c : TaskId) → started_by act ≡ Some c → child_of q act ≡ child_player q ∷ []
+    child_is q act c e = rw (e, child_of) refl

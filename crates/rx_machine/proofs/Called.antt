@@ -1,0 +1,370 @@
+-- The store call of a task.
+use Rattle.std.specs.Prelude.{◌≡◌, ℕ, zero, suc, ℤ, ◌+◌, ◌*◌, ◌^◌, ◌<◌, ◌≤◌, ◌==◌, max, Bool, true, false, cond, List, [], ◌∷◌, ◌++◌, reverse, length, Option, Some, None, Result, Ok, Err, slice_get, slice_set, refl}
+use Rattle.std.proofs.Common.{ap, ◌∙◌, sym, subst, arith}
+use Rattle.std.proofs.lemmas.Bool.{eqb-true}
+use Rattle.rx_base.specs.declared.ids.PlaceId.{PlaceId}
+use Rattle.rx_base.specs.declared.ids.TaskId.{TaskId}
+use Rattle.rx_base.specs.declared.values.Value.{Value}
+use Rattle.rx_base.specs.declared.values.Value.TheVariants.{Num as Number}
+use Rattle.rx_base.specs.declared.values.Fault.{Fault}
+use Rattle.rx_base.specs.declared.values.Fault.TheVariants.{Thrown, WrongPlace}
+use Rattle.rx_rules.specs.declared.tasks.Task.{Task}
+use Rattle.rx_rules.specs.declared.tasks.Where.TheVariants.{At as IsAt}
+use Rattle.rx_rules.specs.declared.tasks.Kind.{Kind}
+use Rattle.rx_rules.specs.declared.events.Cell.{Cell}
+use Rattle.rx_rules.specs.declared.events.PlaceEvent.{PlaceEvent}
+use Rattle.rx_rules.specs.declared.events.PlaceEvent.TheVariants.{Done as Did, Close}
+use Rattle.rx_rules.specs.Code.{Block, work, Stmt, SetTo, New, Get, Put, Forget, Print, Throw, Async, AtAsync, At, Finish, If, Repeat, Try}
+use Rattle.rx_rules.specs.Terms.{Vars, Term, Empty, Run, Raise, Turns, Trying, Body, Held, items, at, Answer, Gives, Fine, Fails, answered, vars_after, answer_of, Does, Local, Makes, Gets, Puts, Forgets, Opens, Calls, Spawns, Waits, Releases, Prints, Done, raise, bound, value_of, ref_in, eval, target_of, is_zero, with_number, with_place, stmt_does, within, does, begins, after_it, receives, stmt_receives}
+use Rattle.rx_rules.specs.Tree.{Tree}
+use Rattle.rx_rules.specs.Store.{State, opening_state, MayCell, after_cell}
+use Rattle.rx_rules.specs.Plays.{Tells, begun, journal_at}
+use Rattle.rx_rules.specs.Run.{Given, Proper, death_number}
+use Rattle.rx_rules.specs.Picked.{Game, Player, Goes, stays, local, stores, tree_in}
+use Rattle.rx_runs.specs.Steps.{steps, Sinks, TermSinks}
+use Rattle.rx_runs.specs.Games.{Leads, rests, steps as more, NotAbove, JournalSo, GameOk}
+use Rattle.rx_runs.specs.Ties.{RowSo}
+use Rattle.rx_runs.specs.Coming.{CameTo, GamesCome}
+use Rattle.rx_runs.specs.Events.{FewEvents, GoingTells}
+use Rattle.rx_runs.specs.SomeWords.{MakesSome, TermMakesSome, AsksSome, ComesSome, GoesSome}
+use Rattle.rx_runs.proofs.Pairs.{pairs-get}
+use Rattle.rx_runs.proofs.Rows.{row-found}
+use Rattle.rx_script.specs.Shape.{Shape}
+use Rattle.rx_store.specs.Kept.{Kept, state_from, state_of, closed_from, ends_closed, stamp_from, last_stamp}
+use Rattle.rx_store.specs.Answers.{event_of}
+use Rattle.rx_store.specs.declared.calls.Mark.{Mark}
+use Rattle.rx_store.proofs.Running.{state_done, closed_done, stamp_done}
+use Rattle.rx_control.specs.declared.step.CellOp.{CellOp}
+use Rattle.rx_control.specs.declared.step.CellOp.TheVariants.{Make, Get as GetWord, Put as PutWord, Forget as ForgetBlock}
+use Rattle.rx_control.specs.declared.step.Next.TheVariants.{Cell as CellStep}
+use Rattle.rx_control.specs.Next.{next_of}
+use Rattle.rx_control.specs.Stands.{StandsFor}
+use Rattle.rx_machine.specs.declared.machine.Machine.{Machine}
+use Rattle.rx_machine.specs.declared.seat.Seat.{Seat}
+use Rattle.rx_machine.specs.Held.{is_held, HeldInFront}
+use Rattle.rx_machine.specs.Spine.{Flat, Spine}
+use Rattle.rx_machine.specs.Slots.{IsSeat, live_task, own_kinds}
+use Rattle.rx_machine.specs.Holds.{StoresAre, Acting}
+use Rattle.rx_machine.specs.Requests.{OnlyStores, AfterStep}
+use Rattle.rx_machine.specs.Asked.{MayAskStore, Receives, Asked}
+use Rattle.rx_machine.proofs.Finding.{get_same}
+use Rattle.rx_machine.proofs.Live.{live_stands}
+use Rattle.rx_machine.proofs.Beginning.{Begins, begins-so}
+use Rattle.rx_machine.proofs.Granting.{after-answer, unheld-after}
+use Rattle.rx_machine.proofs.SpineGrants.{IsBegun, spine-answer}
+use Rattle.rx_machine.proofs.Stepping.{goes-stores, acting-on, not_held}
+
+-- What a term asks of the store.
+
+-- the store is that of this place, and the name that waits is that of the statement
+abbrev pub CallSo : ℕ → Does → Option ℕ → Type 0
+CallSo here (Local left vars) o = Unit {0}
+CallSo here (Makes name words) o = o ≡ Some name
+CallSo here (Gets name target index) o = (target.home.0 ≡ here) × (o ≡ Some name)
+CallSo here (Puts target index value) o = target.home.0 ≡ here
+CallSo here (Forgets target) o = target.home.0 ≡ here
+CallSo here Opens o = Unit {0}
+CallSo here (Calls place) o = Unit {0}
+CallSo here (Spawns place) o = Unit {0}
+CallSo here (Waits faults) o = Unit {0}
+CallSo here Releases o = Unit {0}
+CallSo here (Prints value) o = Unit {0}
+CallSo here (Done faults) o = Unit {0}
+
+on-number : (here : ℕ) (vars : Vars) (v : Option ℤ) (f : ℤ → Does) (o : Option ℕ) → ((z : ℤ) → CallSo here (f z) o) → CallSo here (with_number vars v f) o
+on-number here vars None f o h = tt
+on-number here vars (Some z) f o h = h z
+
+on-place : (here : ℕ) (vars : Vars) (p : Result ℕ Fault) (f : ℕ → Does) (o : Option ℕ) → ((z : ℕ) → CallSo here (f z) o) → CallSo here (with_place vars p f) o
+on-place here vars (Err fault) f o h = tt
+on-place here vars (Ok z) f o h = h z
+
+on-test : (here : ℕ) (b : Bool) (d e : Does) (o : Option ℕ) → (b ≡ true → CallSo here d o) → CallSo here e o → CallSo here (cond b d e) o
+on-test here true d e o h k = h refl
+on-test here false d e o h k = k
+
+of_stmt : (vars : Vars) (here places : ℕ) (stmt : Stmt) (x : List ℕ) (rest : Term) → CallSo here (stmt_does vars here places stmt x rest) (stmt_receives stmt)
+of_stmt vars here places (SetTo name value) x rest = on-number here vars (eval vars here value) (λ z. Local rest (bound name (Number z) vars)) None (λ z. tt)
+of_stmt vars here places (New name words) x rest = refl
+of_stmt vars here places (Get name target index) x rest =
+    let r = ref_in (value_of vars target) in
+    on-number here vars (eval vars here index) (λ k. cond (r.home.0 == here) (Gets name r k) (Local (raise WrongPlace) vars)) (Some name)
+    (λ k. on-test here (r.home.0 == here) (Gets name r k) (Local (raise WrongPlace) vars) (Some name) (λ e. (eqb-true r.home.0 here e, refl)) tt)
+of_stmt vars here places (Put target index value) x rest =
+    let r = ref_in (value_of vars target) in
+    on-number here vars (eval vars here index) (λ k. with_number vars (eval vars here value) (λ z. cond (r.home.0 == here) (Puts r k z) (Local (raise WrongPlace) vars))) None
+    (λ k. on-number here vars (eval vars here value) (λ z. cond (r.home.0 == here) (Puts r k z) (Local (raise WrongPlace) vars)) None
+    (λ z. on-test here (r.home.0 == here) (Puts r k z) (Local (raise WrongPlace) vars) None (λ e. eqb-true r.home.0 here e) tt))
+of_stmt vars here places (Forget target) x rest =
+    let r = ref_in (value_of vars target) in on-test here (r.home.0 == here) (Forgets r) (Local (raise WrongPlace) vars) None (λ e. eqb-true r.home.0 here e) tt
+of_stmt vars here places (Print value) x rest = on-number here vars (eval vars here value) Prints None (λ z. tt)
+of_stmt vars here places (Throw value) x rest = on-number here vars (eval vars here value) (λ z. Local (raise (Thrown z)) vars) None (λ z. tt)
+of_stmt vars here places (Async body) x rest = tt
+of_stmt vars here places (AtAsync place body) x rest = on-place here vars (target_of (eval vars here place) places) Spawns None (λ p. tt)
+of_stmt vars here places (At place body) x rest = on-place here vars (target_of (eval vars here place) places) Calls None (λ p. tt)
+of_stmt vars here places (Finish body) x rest = tt
+of_stmt vars here places (If test first other) x rest =
+    on-number here vars (eval vars here test) (λ z. Local (cond (is_zero z) (items other (at x 1) rest) (items first (at x 0) rest)) vars) None (λ z. tt)
+of_stmt vars here places (Repeat times body) x rest = tt
+of_stmt vars here places (Try body dead_only handler) x rest = tt
+
+inside : (here : ℕ) (f : Term → Term) (d : Does) (o : Option ℕ) → CallSo here d o → CallSo here (within f d) o
+inside here f (Local left vars) o h = tt
+inside here f (Makes name words) o h = h
+inside here f (Gets name target index) o h = h
+inside here f (Puts target index value) o h = h
+inside here f (Forgets target) o h = h
+inside here f Opens o h = tt
+inside here f (Calls place) o h = tt
+inside here f (Spawns place) o h = tt
+inside here f (Waits faults) o h = tt
+inside here f Releases o h = tt
+inside here f (Prints value) o h = tt
+inside here f (Done faults) o h = tt
+
+pub call-so : (vars : Vars) (here places : ℕ) (t : Term) → CallSo here (does vars here places t) (receives t)
+call-so vars here places Empty = tt
+call-so vars here places (Run stmt x rest) = of_stmt vars here places stmt x rest
+call-so vars here places (Raise faults) = tt
+call-so vars here places (Turns body x k times rest) = tt
+call-so vars here places (Trying Empty o b x rest) = tt
+call-so vars here places (Trying (Raise fs) o b x rest) = tt
+call-so vars here places (Trying (Run s y m) o b x rest) = inside here (λ t. Trying t o b x rest) (does vars here places (Run s y m)) (receives (Run s y m)) (call-so vars here places (Run s y m))
+call-so vars here places (Trying (Turns c y k n m) o b x rest) = tt
+call-so vars here places (Trying (Trying u p c y m) o b x rest) = inside here (λ t. Trying t o b x rest) (does vars here places (Trying u p c y m)) (receives (Trying u p c y m)) (call-so vars here places (Trying u p c y m))
+call-so vars here places (Trying (Body u m) o b x rest) = inside here (λ t. Trying t o b x rest) (does vars here places (Body u m)) (receives (Body u m)) (call-so vars here places (Body u m))
+call-so vars here places (Trying (Held m) o b x rest) = tt
+call-so vars here places (Body Empty rest) = tt
+call-so vars here places (Body (Raise fs) rest) = tt
+call-so vars here places (Body (Run s y m) rest) = inside here (λ t. Body t rest) (does vars here places (Run s y m)) (receives (Run s y m)) (call-so vars here places (Run s y m))
+call-so vars here places (Body (Turns c y k n m) rest) = tt
+call-so vars here places (Body (Trying u p c y m) rest) = inside here (λ t. Body t rest) (does vars here places (Trying u p c y m)) (receives (Trying u p c y m)) (call-so vars here places (Trying u p c y m))
+call-so vars here places (Body (Body u m) rest) = inside here (λ t. Body t rest) (does vars here places (Body u m)) (receives (Body u m)) (call-so vars here places (Body u m))
+call-so vars here places (Body (Held m) rest) = tt
+call-so vars here places (Held rest) = tt
+
+-- what is told of a call, for its statement, the name that waits, the store that may be asked, and the steps that are left
+pub record IsCall (t : Term) (here : PlaceId) (op : CellOp) (d : Does) : Type 0 where
+  pub begins : (x : List ℕ) × (begins t ≡ Some x)
+  pub receives : Receives d (receives t)
+  pub may : MayAskStore here op
+  pub sinks : (a : Answer) → steps (answered a t) + 1 ≤ steps t
+  pub free : d ≡ Releases → ⊥
+
+place_is : (p here : PlaceId) → p.0 ≡ here.0 → p ≡ here
+place_is p here e = ap (λ (k : ℕ). let q : PlaceId = record { 0 = k } in q) e
+
+pub is_call : (t : Term) (here : PlaceId) (op : CellOp) (d : Does) → next_of d ≡ CellStep op → Begins d (begins t) → CallSo here.0 d (receives t) → AsksSome d → Sinks t d → IsCall t here op d
+is_call t here op (Local left vars) e b c s k = absurd (let f : ⊥ = cc in f)
+is_call t here (Make n) (Makes name words) e b c s k = record { begins = b; receives = c; may = (let w : words ≡ n = cc in subst (λ (v : ℕ). 0 < v) w s); sinks = k; free = λ f. (let g : ⊥ = cc in g) }
+is_call t here (GetWord r i) (Makes name words) e b c s k = absurd (let f : ⊥ = cc in f)
+is_call t here (PutWord r i v) (Makes name words) e b c s k = absurd (let f : ⊥ = cc in f)
+is_call t here (ForgetBlock r) (Makes name words) e b c s k = absurd (let f : ⊥ = cc in f)
+is_call t here (Make n) (Gets name target index) e b c s k = absurd (let f : ⊥ = cc in f)
+is_call t here (GetWord r i) (Gets name target index) e b c s k = record { begins = b; receives = c.1; may = (let w : target ≡ r = cc in ap (λ v. v.home) (sym w) ∙ place_is target.home here c.0); sinks = k; free = λ f. (let g : ⊥ = cc in g) }
+is_call t here (PutWord r i v) (Gets name target index) e b c s k = absurd (let f : ⊥ = cc in f)
+is_call t here (ForgetBlock r) (Gets name target index) e b c s k = absurd (let f : ⊥ = cc in f)
+is_call t here (Make n) (Puts target index value) e b c s k = absurd (let f : ⊥ = cc in f)
+is_call t here (GetWord r i) (Puts target index value) e b c s k = absurd (let f : ⊥ = cc in f)
+is_call t here (PutWord r i v) (Puts target index value) e b c s k = record { begins = b; receives = tt; may = (let w : target ≡ r = cc in ap (λ v. v.home) (sym w) ∙ place_is target.home here c); sinks = k; free = λ f. (let g : ⊥ = cc in g) }
+is_call t here (ForgetBlock r) (Puts target index value) e b c s k = absurd (let f : ⊥ = cc in f)
+is_call t here (Make n) (Forgets target) e b c s k = absurd (let f : ⊥ = cc in f)
+is_call t here (GetWord r i) (Forgets target) e b c s k = absurd (let f : ⊥ = cc in f)
+is_call t here (PutWord r i v) (Forgets target) e b c s k = absurd (let f : ⊥ = cc in f)
+is_call t here (ForgetBlock r) (Forgets target) e b c s k = record { begins = b; receives = tt; may = (let w : target ≡ r = cc in ap (λ v. v.home) (sym w) ∙ place_is target.home here c); sinks = k; free = λ f. (let g : ⊥ = cc in g) }
+is_call t here op Opens e b c s k = absurd (let f : ⊥ = cc in f)
+is_call t here op (Calls place) e b c s k = absurd (let f : ⊥ = cc in f)
+is_call t here op (Spawns place) e b c s k = absurd (let f : ⊥ = cc in f)
+is_call t here op (Waits faults) e b c s k = absurd (let f : ⊥ = cc in f)
+is_call t here op Releases e b c s k = absurd (let f : ⊥ = cc in f)
+is_call t here op (Prints value) e b c s k = absurd (let f : ⊥ = cc in f)
+is_call t here op (Done faults) e b c s k = absurd (let f : ⊥ = cc in f)
+
+pub begun_is : (t : Term) (x : List ℕ) → begins t ≡ Some x → IsBegun t
+begun_is Empty x e = absurd (let f : ⊥ = cc in f)
+begun_is (Run stmt y rest) x e = tt
+begun_is (Raise faults) x e = absurd (let f : ⊥ = cc in f)
+begun_is (Turns body y k times rest) x e = absurd (let f : ⊥ = cc in f)
+begun_is (Trying inside o b y rest) x e = begun_is inside x e
+begun_is (Body inside rest) x e = begun_is inside x e
+begun_is (Held rest) x e = absurd (let f : ⊥ = cc in f)
+
+flat-after : (t : Term) (ks : List Kind) → Spine t ks → Flat (after_it t)
+flat-after Empty ks h = tt
+flat-after (Run stmt x rest) ks h = h.1
+flat-after (Raise faults) ks h = tt
+flat-after (Turns body x k times rest) ks h = tt
+flat-after (Trying inside o b x rest) ks h = flat-after inside ks h.0
+flat-after (Body inside rest) [] h = absurd h
+flat-after (Body inside rest) (k ∷ ks) h = flat-after inside ks h.1
+flat-after (Held rest) ks h = tt
+
+-- Stores by their places.
+
+stores-at : (heap p : ℕ) (ss : List Kept) (js : List (List PlaceEvent)) (n : ℕ) (j : List PlaceEvent) → StoresAre heap p ss js → slice_get js n ≡ Some j → (s : Kept) × (slice_get ss n ≡ Some s) × (s.place.0 ≡ p + n) × (s.words ≡ heap) × (s.events ≡ j)
+stores-at heap p [] [] n j h e = absurd (let f : ⊥ = cc in f)
+stores-at heap p (s ∷ ss) (l ∷ js) zero j h e = (s, refl, (let w : s.place.0 ≡ p = h.0 in omega (arith, w)), h.1, h.2 ∙ (let w : l ≡ j = cc in w))
+stores-at heap p (s ∷ ss) (l ∷ js) (suc n) j h e =
+    let r = stores-at heap (suc p) ss js n j h.3 e in (r.0, r.1, (let w : r.0.place.0 ≡ suc p + n = r.2 in omega (arith, w)), r.3, r.4)
+stores-at heap p [] (l ∷ js) n j h e = absurd h
+stores-at heap p (s ∷ ss) [] n j h e = absurd h
+
+stores-set : (heap p : ℕ) (ss : List Kept) (js : List (List PlaceEvent)) (n : ℕ) (s : Kept) (j : List PlaceEvent) → StoresAre heap p ss js → s.place.0 ≡ p + n → s.words ≡ heap → s.events ≡ j → StoresAre heap p (slice_set ss n s) (slice_set js n j)
+stores-set heap p [] [] n s j h at words events = tt
+stores-set heap p (t ∷ ss) (l ∷ js) zero s j h at words events = ((let w : s.place.0 ≡ p + 0 = at in omega (arith, w)), words, events, h.3)
+stores-set heap p (t ∷ ss) (l ∷ js) (suc n) s j h at words events = (h.0, h.1, h.2, stores-set heap (suc p) ss js n s j h.3 (let w : s.place.0 ≡ p + suc n = at in omega (arith, w)) words events)
+stores-set heap p [] (l ∷ js) n s j h at words events = absurd h
+stores-set heap p (t ∷ ss) [] n s j h at words events = absurd h
+
+set-twice : {X : Type 0} (xs : List X) (n : ℕ) (a b : X) → slice_set (slice_set xs n a) n b ≡ slice_set xs n b
+set-twice [] n a b = refl
+set-twice (x ∷ xs) zero a b = refl
+set-twice (x ∷ xs) (suc n) a b = ap (λ l. x ∷ l) (set-twice xs n a b)
+
+-- An open journal.
+
+-- the journal leads to this store, no close ends it, and its last stamp is at most n
+pub record JournalIs (n : ℕ) (S : State) (j : List PlaceEvent) : Type 0 where
+  pub state : state_of j ≡ S
+  pub is_open : ends_closed j ≡ false
+  pub last : last_stamp j ≤ n
+
+leads-state : {w : ℕ} {S Z : State} {j : List PlaceEvent} → Leads w S j Z → state_from S j ≡ Z
+leads-state rests = refl
+leads-state (more t n cell x may h) = leads-state h
+
+leads-open : {w : ℕ} {S Z : State} {j : List PlaceEvent} → Leads w S j Z → closed_from false j ≡ false
+leads-open rests = refl
+leads-open (more t n cell x may h) = leads-open h
+
+stamp-most : (n s : ℕ) (j : List PlaceEvent) → s ≤ n → NotAbove n j → stamp_from s j ≤ n
+stamp-most n s [] le h = le
+stamp-most n s (Did task stamp cell path ∷ j) le h = stamp-most n stamp j h.0 h.1
+stamp-most n s (Close stamp ∷ j) le h = stamp-most n stamp j h.0 h.1
+
+goes-is : {places heap n : ℕ} {t : TaskId} {here : PlaceId} {p q : Player} {S Z : State} {j k : List PlaceEvent} → Goes places heap n t here p S j q Z k → JournalIs n S j → JournalIs n Z k
+goes-is stays h = h
+goes-is (local e g) h = goes-is g h
+goes-is {n = n} {t = t} {j = j} (stores cell x a told b may g) h =
+    goes-is g (record {
+      state = state_done opening_state j t n cell x ∙ ap (λ v. after_cell v cell) h.state;
+      is_open = closed_done false j t n cell x;
+      last = (let e : last_stamp (j ++ Did t n cell x ∷ []) ≡ n = stamp_done 0 j t n cell x in omega (arith, e));
+    })
+
+-- the journal of the place of an unstruck task
+journal-is : (code : Block) (U : Given) (G : Game) (i : ℕ) (row : Task) (here : PlaceId) (S : State) → GameOk code U G → live_task (tree_in U G) i ≡ Some row → row.place ≡ IsAt here → here.0 < U.places → slice_get G.stores here.0 ≡ Some S → JournalIs (length G.entries) S (journal_at G.journals here.0)
+journal-is code U G i row here S ok live is_at place store =
+    let both = pairs-get 0 here.0 G.journals G.stores (rw ok.one_each place) ok.journals in
+    let so : JournalSo U G.entries here.0 both.left both.right = (let z : 0 + here.0 ≡ here.0 = omega arith in subst (λ (v : ℕ). JournalSo U G.entries v both.left both.right) z both.holds) in
+    let same : both.right ≡ S = (let e : Some both.right ≡ Some S = sym both.at_right ∙ store in cc) in
+    let found = live_stands (tree_in U G) i row live in
+    let so_row : RowSo G.entries i row.place = (row-found (record { 0 = i }) row (length ok.starts) G.entries (tree_in U G).tasks found.0 found.1 ok.ties.rows).1 in
+    let row_here : RowSo G.entries i (IsAt here) = subst (λ w. RowSo G.entries i w) is_at so_row in
+    let lives : death_number 0 here G.entries ≡ None = subst (λ (p : PlaceId). death_number 0 p G.entries ≡ None) row_here.place.0 row_here.lives in
+    let leads : Leads U.heap opening_state both.left both.right = so.live lives in
+    let is : JournalIs (length G.entries) both.right both.left = record { state = leads-state leads; is_open = leads-open leads; last = stamp-most (length G.entries) 0 both.left (omega arith) so.top } in
+    let journal : both.left ≡ journal_at G.journals here.0 = sym (ap (λ (o : Option (List PlaceEvent)). elim o as (λ _. List PlaceEvent) [ Some j ↦ j | None ↦ [] ]) both.at_left) in
+    subst (λ (v : State). JournalIs (length G.entries) v (journal_at G.journals here.0)) same (subst (λ (l : List PlaceEvent). JournalIs (length G.entries) both.right l) journal is)
+
+module _ {L : Type 0} (stands : L → Tree → Type 0) (shape : Shape) (code : Block) (U : Given) (m : Machine L) (k i : ℕ) (here : PlaceId) (q : Player) (seat : Seat) (G : Game) (a : Acting stands shape code U m k i here q seat G) where
+  -- the call that is next
+  pub call_is : (op : CellOp) → TermSinks → ComesSome → GoesSome → MakesSome code → next_of (does q.vars here.0 U.places q.term) ≡ CellStep op → IsCall q.term here op (does q.vars here.0 U.places q.term)
+  call_is op sink comes goes some e =
+      let began : TermMakesSome a.began.term = comes code U G some a.but.shares.comes i a.began a.gone.player in
+      let both = goes U.places U.heap (length G.entries) seat.row.number here a.began q a.store a.left (journal_at G.journals here.0) a.events a.gone.goes began in
+      is_call q.term here op (does q.vars here.0 U.places q.term) e (begins-so q.vars here.0 U.places q.term) (call-so q.vars here.0 U.places q.term) (both.1 q.vars) (sink q.vars here.0 U.places q.term)
+
+  -- the store of the place
+  pub record StoreIs (old : Kept) : Type 0 where
+    pub found : slice_get m.stores.items here.0 ≡ Some old
+    pub place : old.place ≡ here
+    pub words : old.words ≡ U.heap
+    pub events : old.events ≡ a.events
+    pub journal : JournalIs (length G.entries) a.left a.events
+
+  pub store_is : GamesCome → Proper U → (old : Kept) × StoreIs old
+  store_is come proper =
+      let came : CameTo code U G = come code U G proper a.but.shares.comes a.pick.stands in
+      let ok = came.ok in
+      let low : here.0 < length G.journals = rw ok.one_each a.place in
+      let at : slice_get (slice_set G.journals here.0 a.events) here.0 ≡ Some a.events = get_same G.journals here.0 a.events low in
+      let s = stores-at U.heap 0 m.stores.items (slice_set G.journals here.0 a.events) here.0 a.events a.stores at in
+      let start : JournalIs (length G.entries) a.store (journal_at G.journals here.0) = journal-is code U G i seat.row here a.store ok a.gone.seat_is.row a.gone.is_at a.place a.gone.store in (
+        s.0,
+        record {
+          found = s.1;
+          place = place_is s.0.place here (let w : s.0.place.0 ≡ 0 + here.0 = s.2 in omega (arith, w));
+          words = s.3;
+          events = s.4;
+          journal = goes-is a.gone.goes start;
+        },
+      )
+
+  -- its journal is short
+  pub events_few : GamesCome → FewEvents → GoingTells → Proper U → work code ≤ 100000 → length a.events < 2 ^ 31
+  events_few come most tells proper few =
+      let came : CameTo code U G = come code U G proper a.but.shares.comes a.pick.stands in
+      let found = live_stands (tree_in U G) i seat.row a.gone.seat_is.row in
+      let row : RowSo G.entries i seat.row.place = (row-found (record { 0 = i }) seat.row (length came.ok.starts) G.entries (tree_in U G).tasks found.0 found.1 came.ok.ties.rows).1 in
+      let first : length (journal_at G.journals here.0) + steps a.began.term ≤ 3 * work code + length G.entries = most code U G proper a.but.shares.comes here.0 i a.began a.gone.player row.going in
+      let rest : length a.events + steps q.term ≤ length (journal_at G.journals here.0) + steps a.began.term = tells U.places U.heap (length G.entries) seat.row.number here a.began q a.store a.left (journal_at G.journals here.0) a.events a.gone.goes in
+      let entries : length G.entries ≤ 4 * work code + U.places = came.entries in
+      let places : U.places ≤ 16 = proper.few in omega (arith, first, rest, entries, places, few)
+
+-- the new seat
+answered-seat : (shape : Shape) (T : Tree) (i : ℕ) (here : PlaceId) (places : ℕ) (q : Player) (seat seat' : Seat) (x : List ℕ) (ans : Answer) → IsSeat shape T i q seat → begins q.term ≡ Some x → (does q.vars here.0 places q.term ≡ Releases → ⊥) → StandsFor shape seat'.control (answered ans q.term) → seat'.control.vars ≡ vars_after ans seat.control.vars → seat'.batch ≡ seat.batch ++ x ∷ [] → seat'.row ≡ seat.row → seat'.scopes ≡ seat.scopes → IsSeat shape T i (record { term = answered ans q.term; vars = vars_after ans q.vars; batch = begun q.term q.batch }) seat'
+answered-seat shape T i here places q seat seat' x ans s b free term vars batch row scopes =
+    let away : is_held q.term ≡ false = not_held q.vars here.0 places q.term free in
+    let waits : HeldInFront (answered ans q.term) × (is_held (answered ans q.term) ≡ false) = answer-waits ans q.term s.held in
+    record {
+      row = s.row ∙ ap (λ (y : Task). Some y) (sym row);
+      scopes = s.scopes ∙ ap (λ ss. reverse ss.items) (sym scopes);
+      term = term;
+      vars = vars ∙ ap (vars_after ans) s.vars;
+      batch = batch ∙ (ap (λ (l : List (List ℕ)). l ++ x ∷ []) s.batch ∙ sym (begun-one q.term q.batch x b));
+      waits = ap (λ (y : Task). y.waits) row ∙ (s.waits ∙ (away ∙ sym waits.1));
+      held = waits.0;
+      spine = answer-spine ans q.term (reverse (own_kinds T i)) s.spine (begun_is q.term x b);
+    }
+  where
+    begun-one : (t : Term) (batch : List (List ℕ)) (x : List ℕ) → begins t ≡ Some x → begun t batch ≡ batch ++ x ∷ []
+    begun-one t batch x e = ap (λ (o : Option (List ℕ)). elim o as (λ _. List (List ℕ)) [ Some y ↦ batch ++ y ∷ [] | None ↦ batch ]) e
+
+    answer-waits : (ans : Answer) (t : Term) → HeldInFront t → HeldInFront (answered ans t) × (is_held (answered ans t) ≡ false)
+    answer-waits (Gives name value) t h = after-answer t (after_it t) h (unheld-after t h)
+    answer-waits Fine t h = after-answer t (after_it t) h (unheld-after t h)
+    answer-waits (Fails fault) t h = after-answer t (Raise (fault ∷ [])) h tt
+
+    answer-spine : (ans : Answer) (t : Term) (ks : List Kind) → Spine t ks → IsBegun t → Spine (answered ans t) ks
+    answer-spine (Gives name value) t ks h b = spine-answer ks t (after_it t) h (flat-after t ks h) b
+    answer-spine Fine t ks h b = spine-answer ks t (after_it t) h (flat-after t ks h) b
+    answer-spine (Fails fault) t ks h b = spine-answer ks t (Raise (fault ∷ [])) h tt b
+
+-- the mark's event
+event-is : (n : ℕ) (t : TaskId) (x : List ℕ) (es : List PlaceEvent) (mark : Mark) (cell : Cell) → mark.task ≡ t → mark.stamp ≡ n → mark.path ≡ x → last_stamp es ≤ n → event_of es mark cell ≡ Did t n cell x
+event-is n t x es mark cell task stamp path last =
+    let most : max mark.stamp (last_stamp es) ≡ n = ap (λ v. max v (last_stamp es)) stamp ∙ max-left n (last_stamp es) last in
+    ap (λ v. Did v (max mark.stamp (last_stamp es)) cell mark.path) task ∙ (ap (λ v. Did t v cell mark.path) most ∙ ap (λ v. Did t n cell v) path)
+  where
+    max-left : (n s : ℕ) → s ≤ n → max n s ≡ n
+    max-left n s le = omega arith
+
+pub called : {L : Type 0} (stands : L → Tree → Type 0) (shape : Shape) (code : Block) (U : Given) (m m' : Machine L) (k i : ℕ) (here : PlaceId) (q : Player) (seat seat' : Seat) (G : Game) (op : CellOp) (answer : Result (Option Value) Fault) (x : List ℕ) (old new : Kept) (mark : Mark) → (a : Acting stands shape code U m k i here q seat G) → (c : IsCall q.term here op (does q.vars here.0 U.places q.term)) → begins q.term ≡ Some x → next_of (does q.vars here.0 U.places q.term) ≡ CellStep op → StoreIs stands shape code U m k i here q seat G a old → OnlyStores m m' → m'.stores.items ≡ slice_set m.stores.items here.0 new → mark.task ≡ seat.row.number → mark.stamp ≡ length G.entries → mark.path ≡ x → Asked old new mark op answer → StandsFor shape seat'.control (answered (answer_of (receives q.term) answer) q.term) → seat'.control.vars ≡ vars_after (answer_of (receives q.term) answer) seat.control.vars → seat'.batch ≡ seat.batch ++ x ∷ [] → seat'.row ≡ seat.row → seat'.scopes ≡ seat.scopes → AfterStep stands shape code U m' k i here q seat' G None
+called stands shape code U m m' k i here q seat seat' G op answer x old new mark a c b e is only put task stamp path asked term vars batch row scopes =
+    let ans : Answer = answer_of (receives q.term) answer in
+    let cell : Cell = asked.cell in
+    let told : Tells (does q.vars here.0 U.places q.term) here cell ans = subst (λ (p : PlaceId). Tells (does q.vars here.0 U.places q.term) p cell ans) is.place (asked.told (does q.vars here.0 U.places q.term) (receives q.term) e c.receives) in
+    let state : state_of old.events ≡ a.left = ap state_of is.events ∙ is.journal.state in
+    let may : MayCell U.heap a.left cell = subst (λ (S : State). MayCell U.heap S cell) state (subst (λ (w : ℕ). MayCell w (state_of old.events) cell) is.words asked.law) in
+    let last : last_stamp old.events ≤ length G.entries = (let w : last_stamp old.events ≡ last_stamp a.events = ap last_stamp is.events in let v : last_stamp a.events ≤ length G.entries = is.journal.last in omega (arith, w, v)) in
+    let event : event_of old.events mark cell ≡ Did seat.row.number (length G.entries) cell x = event-is (length G.entries) seat.row.number x old.events mark cell task stamp path last in
+    let longer : List PlaceEvent = a.events ++ Did seat.row.number (length G.entries) cell x ∷ [] in
+    let events : new.events ≡ longer = asked.events ∙ (ap (λ v. old.events ++ v ∷ []) event ∙ ap (λ l. l ++ Did seat.row.number (length G.entries) cell x ∷ []) is.events) in
+    let place : new.place.0 ≡ 0 + here.0 = (let w : new.place.0 ≡ here.0 = ap (λ (p : PlaceId). p.0) (asked.place ∙ is.place) in omega (arith, w)) in
+    let kept : StoresAre U.heap 0 (slice_set m.stores.items here.0 new) (slice_set (slice_set G.journals here.0 a.events) here.0 longer) = stores-set U.heap 0 m.stores.items (slice_set G.journals here.0 a.events) here.0 new longer a.stores place (asked.words ∙ is.words) events in
+    let stored : StoresAre U.heap 0 m'.stores.items (slice_set G.journals here.0 longer) = subst (λ (ss : List Kept). StoresAre U.heap 0 ss (slice_set G.journals here.0 longer)) (sym put) (subst (λ (js : List (List PlaceEvent)). StoresAre U.heap 0 (slice_set m.stores.items here.0 new) js) (set-twice G.journals here.0 a.events longer) kept) in (
+      record { term = answered ans q.term; vars = vars_after ans q.vars; batch = begun q.term q.batch },
+      acting-on stands shape code U m m' k i here q _ seat seat' G (after_cell a.left cell) longer a only row (goes-stores cell x ans a.gone.goes told b may) (answered-seat shape (tree_in U G) i here U.places q seat seat' x ans a.gone.seat_is b c.free term vars batch row scopes) stored,
+      c.sinks ans,
+    )

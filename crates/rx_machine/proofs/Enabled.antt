@@ -1,0 +1,173 @@
+-- The slots that are enabled are the enabled tasks.
+use Rattle.std.specs.Prelude.{◌≡◌, ℕ, zero, suc, ◌+◌, ◌-◌, ◌<◌, ◌≤◌, Bool, true, false, cond, not, ◌&&◌, ◌||◌, ◌==◌, List, [], ◌∷◌, ◌++◌, filter, reverse, length, drop, Option, Some, None, is_none, slice_get, refl}
+use Rattle.std.specs.List.{find}
+use Rattle.std.proofs.Common.{ap, ◌∙◌, sym, subst, arith}
+use Rattle.std.proofs.lemmas.Bool.{eq-eqb, ne_eqb}
+use Rattle.std.proofs.lemmas.List.{reverse-append, append-nil}
+use Rattle.std.proofs.Common.{append_assoc}
+use Rattle.rx_rules.specs.declared.tasks.Task.{Task}
+use Rattle.rx_rules.specs.Tree.{Tree, is_task, task_of, quiet, inner}
+use Rattle.rx_rules.specs.Picked.{is_enabled, enabled, Player}
+use Rattle.rx_sound.specs.Sound.{TasksFall}
+use Rattle.rx_script.specs.Shape.{Shape}
+use Rattle.rx_machine.specs.declared.seat.Seat.{Seat}
+use Rattle.rx_machine.specs.Slots.{live_task, live_in, SlotIs, seat_at}
+use Rattle.rx_machine.specs.Picking.{slot_able, able_from}
+use Rattle.rx_machine.proofs.Live.{live_stands}
+
+-- what a look-up finds, if it passes
+abbrev found : (Task → Bool) → Option Task → List Task
+found q None = []
+found q (Some x) = cond (q x) (x ∷ []) []
+
+-- the same for the numbers n, n + 1, .. k of them
+abbrev gather : (Task → Bool) → List Task → ℕ → ℕ → List Task
+gather q xs n zero = []
+gather q xs n (suc k) = found q (find (is_task (record { 0 = n })) xs) ++ gather q xs (suc n) k
+
+gather_same : (q : Task → Bool) (xs ys : List Task) (n k : ℕ) → ((j : ℕ) → n ≤ j → j < n + k → find (is_task (record { 0 = j })) xs ≡ find (is_task (record { 0 = j })) ys) → gather q xs n k ≡ gather q ys n k
+gather_same q xs ys n zero h = refl
+gather_same q xs ys n (suc k) h =
+    ap (λ o. found q o ++ gather q xs (suc n) k) (h n (omega arith) (omega arith))
+    ∙ ap (λ v. found q (find (is_task (record { 0 = n })) ys) ++ v) (gather_same q xs ys (suc n) k (λ j low high. h j (omega arith) (omega arith)))
+
+gather_none : (q : Task → Bool) (xs : List Task) (n k : ℕ) → ((j : ℕ) → n ≤ j → find (is_task (record { 0 = j })) xs ≡ None) → gather q xs n k ≡ []
+gather_none q xs n zero h = refl
+gather_none q xs n (suc k) h = ap (λ o. found q o ++ gather q xs (suc n) k) (h n (omega arith)) ∙ gather_none q xs (suc n) k (λ j low. h j (omega arith))
+
+gather_split : (q : Task → Bool) (xs : List Task) (n a b : ℕ) → gather q xs n (a + b) ≡ gather q xs n a ++ gather q xs (n + a) b
+gather_split q xs n zero b = let e : 0 + b ≡ b = omega arith in let f : n + 0 ≡ n = omega arith in ap (gather q xs n) e ∙ ap (λ v. gather q xs v b) (sym f)
+gather_split q xs n (suc a) b =
+    let e : suc a + b ≡ suc (a + b) = omega arith in
+    let f : suc n + a ≡ n + suc a = omega arith in
+    ap (gather q xs n) e
+    ∙ (ap (λ v. found q (find (is_task (record { 0 = n })) xs) ++ v) (gather_split q xs (suc n) a b ∙ ap (λ v. gather q xs (suc n) a ++ gather q xs v b) f)
+    ∙ sym (append_assoc (found q (find (is_task (record { 0 = n })) xs)) (gather q xs (suc n) a) (gather q xs (n + suc a) b)))
+
+below : (n k : ℕ) (xs : List Task) → TasksFall k xs → k ≤ n → find (is_task (record { 0 = n })) xs ≡ None
+below n k [] h le = refl
+below n k (x ∷ xs) h le =
+    let low : x.number.0 < k = h.0 in
+    let e : (x.number.0 == n) ≡ false = ne_eqb x.number.0 n (λ s. absurd (omega (arith, s))) in rw e (below n x.number.0 xs h.1 (omega arith))
+
+-- tasks whose numbers fall stand, from the oldest on, as their numbers tell
+gathered : (q : Task → Bool) (xs : List Task) (n : ℕ) → TasksFall n xs → reverse (filter q xs) ≡ gather q xs 0 n
+gathered q [] n h = sym (gather_none q [] 0 n (λ j low. refl))
+gathered q (x ∷ xs) n h =
+    let m : ℕ = x.number.0 in
+    let low : m < n = h.0 in
+    let size : n ≡ m + suc (n - suc m) = omega arith in
+    let here : find (is_task (record { 0 = m })) (x ∷ xs) ≡ Some x = (let e : (m == m) ≡ true = eq-eqb m m refl in rw e refl) in
+    let above : gather q (x ∷ xs) (suc m) (n - suc m) ≡ [] = gather_none q (x ∷ xs) (suc m) (n - suc m) (λ j le. below j (suc m) (x ∷ xs) (let s : m < suc m = omega arith in (s, h.1)) le) in
+    let before : gather q (x ∷ xs) 0 m ≡ gather q xs 0 m = gather_same q (x ∷ xs) xs 0 m (λ j le less. let e : (m == j) ≡ false = ne_eqb m j (λ s. absurd (omega (arith, s))) in rw e refl) in
+    let z : 0 + m ≡ m = omega arith in
+    sym
+    (ap (gather q (x ∷ xs) 0) size
+    ∙ (gather_split q (x ∷ xs) 0 m (suc (n - suc m))
+    ∙ (ap (λ v. gather q (x ∷ xs) 0 m ++ gather q (x ∷ xs) v (suc (n - suc m))) z
+    ∙ (ap (λ o. gather q (x ∷ xs) 0 m ++ (found q o ++ gather q (x ∷ xs) (suc m) (n - suc m))) here
+    ∙ (ap (λ v. gather q (x ∷ xs) 0 m ++ (found q (Some x) ++ v)) above
+    ∙ (ap (λ v. gather q (x ∷ xs) 0 m ++ v) (append-nil (found q (Some x)))
+    ∙ (ap (λ v. v ++ found q (Some x)) (before ∙ sym (gathered q xs m h.1))
+    ∙ last q x (filter q xs))))))))
+  where
+    last : (q : Task → Bool) (x : Task) (ys : List Task) → reverse ys ++ cond (q x) (x ∷ []) [] ≡ reverse (cond (q x) (x ∷ ys) ys)
+    last q x ys = elim (q x) as (λ b. reverse ys ++ cond b (x ∷ []) [] ≡ reverse (cond b (x ∷ ys) ys)) [ true ↦ sym (reverse-append (x ∷ []) ys) | false ↦ append-nil (reverse ys) ]
+
+-- the rows of the slots that are enabled
+abbrev rows_from : Tree → List (Option Seat) → List Task
+rows_from T [] = []
+rows_from T (None ∷ os) = rows_from T os
+rows_from T (Some seat ∷ os) = cond (is_enabled T seat.row) (seat.row ∷ rows_from T os) (rows_from T os)
+
+-- a struck task is not enabled
+struck_off : (T : Tree) (o : Option Task) → live_in o ≡ None → found (is_enabled T) o ≡ []
+struck_off T None h = refl
+struck_off T (Some x) h =
+    elim x.struck as (λ s. cond (is_none s) (Some x) None ≡ None → cond (is_none s && (not x.waits || quiet T (inner T x))) (x ∷ []) [] ≡ []) [
+      | Some b ↦ λ e. refl
+      | None ↦ λ e. absurd (let f : ⊥ = cc in f)
+    ] h
+
+rows_gather : (shape : Shape) (T : Tree) (ps : List Player) (n : ℕ) (os : List (Option Seat)) → ((j : ℕ) → j < length os → SlotIs shape T ps (n + j) (seat_at os j)) → rows_from T os ≡ gather (is_enabled T) T.tasks n (length os)
+rows_gather shape T ps n [] h = refl
+rows_gather shape T ps n (None ∷ os) h =
+    let z : n + 0 ≡ n = omega arith in
+    let none : live_task T n ≡ None = subst (λ (v : ℕ). SlotIs shape T ps v None) z (h 0 (omega arith)) in
+    let rest = rows_gather shape T ps (suc n) os (λ j low. let e : n + suc j ≡ suc n + j = omega arith in subst (λ (v : ℕ). SlotIs shape T ps v (seat_at os j)) e (h (suc j) (omega arith))) in
+    rest ∙ ap (λ v. v ++ gather (is_enabled T) T.tasks (suc n) (length os)) (sym (struck_off T (task_of T (record { 0 = n })) none))
+rows_gather shape T ps n (Some seat ∷ os) h =
+    let z : n + 0 ≡ n = omega arith in
+    let is = subst (λ (v : ℕ). SlotIs shape T ps v (Some seat)) z (h 0 (omega arith)) in
+    let stands : task_of T (record { 0 = n }) ≡ Some seat.row = (live_stands T n seat.row is.2.row).0 in
+    let rest = rows_gather shape T ps (suc n) os (λ j low. let e : n + suc j ≡ suc n + j = omega arith in subst (λ (v : ℕ). SlotIs shape T ps v (seat_at os j)) e (h (suc j) (omega arith))) in
+    front (is_enabled T seat.row) seat.row (rows_from T os) (gather (is_enabled T) T.tasks (suc n) (length os)) rest
+    ∙ ap (λ o. found (is_enabled T) o ++ gather (is_enabled T) T.tasks (suc n) (length os)) (sym stands)
+  where
+    front : (b : Bool) (x : Task) (xs ys : List Task) → xs ≡ ys → cond b (x ∷ xs) xs ≡ cond b (x ∷ []) [] ++ ys
+    front true x xs ys e = ap (λ v. x ∷ v) e
+    front false x xs ys e = e
+
+-- the enabled tasks are those of the slots that are enabled
+pub enabled_rows : (shape : Shape) (T : Tree) (ps : List Player) (os : List (Option Seat)) → TasksFall T.next_task T.tasks → length os ≡ T.next_task → ((n : ℕ) → SlotIs shape T ps n (seat_at os n)) → rows_from T os ≡ enabled T
+enabled_rows shape T ps os falls size slots =
+    rows_gather shape T ps 0 os (λ j low. let z : 0 + j ≡ j = omega arith in subst (λ (v : ℕ). SlotIs shape T ps v (seat_at os j)) (sym z) (slots j))
+    ∙ (ap (gather (is_enabled T) T.tasks 0) size ∙ sym (gathered (is_enabled T) T.tasks T.next_task falls))
+
+pub able_length : (T : Tree) (n : ℕ) (os : List (Option Seat)) → length (able_from T n os) ≡ length (rows_from T os)
+able_length T n [] = refl
+able_length T n (None ∷ os) = able_length T (suc n) os
+able_length T n (Some seat ∷ os) =
+    elim (is_enabled T seat.row) as (λ b. length (cond b (n ∷ able_from T (suc n) os) (able_from T (suc n) os)) ≡ length (cond b (seat.row ∷ rows_from T os) (rows_from T os))) [
+      | true ↦ ap suc (able_length T (suc n) os)
+      | false ↦ able_length T (suc n) os
+    ]
+
+-- what the numbers of the slots from n on say of number i
+abbrev AbleAt : Tree → ℕ → List (Option Seat) → List Task → ℕ → ℕ → Type 0
+AbleAt T n os rows k i = (seat : Seat) × (n ≤ i) × (seat_at os (i - n) ≡ Some seat) × (slice_get rows k ≡ Some seat.row)
+
+able_later : (T : Tree) (n : ℕ) (o : Option Seat) (os : List (Option Seat)) (k i : ℕ) → AbleAt T (suc n) os (rows_from T os) k i → AbleAt T n (o ∷ os) (rows_from T os) k i
+able_later T n o os k i r =
+    let le : suc n ≤ i = r.1 in
+    let e : i - n ≡ suc (i - suc n) = omega arith in
+    (r.0, omega arith, ap (seat_at (o ∷ os)) e ∙ r.2, r.3)
+
+able_here : (T : Tree) (n : ℕ) (seat : Seat) (os : List (Option Seat)) (b : Bool) (k i : ℕ) → ((j : ℕ) → slice_get (able_from T (suc n) os) j ≡ Some i → AbleAt T (suc n) os (rows_from T os) j i) → slice_get (cond b (n ∷ able_from T (suc n) os) (able_from T (suc n) os)) k ≡ Some i → AbleAt T n (Some seat ∷ os) (cond b (seat.row ∷ rows_from T os) (rows_from T os)) k i
+able_here T n seat os false k i more h = able_later T n (Some seat) os k i (more k h)
+able_here T n seat os true zero i more h =
+    let same : n ≡ i = cc in
+    let f : i - n ≡ 0 = omega (arith, same) in
+    (seat, omega (arith, same), ap (seat_at (Some seat ∷ os)) f, refl)
+able_here T n seat os true (suc k) i more h =
+    let r = able_later T n (Some seat) os k i (more k h) in (r.0, r.1, r.2, r.3)
+
+-- the k-th of the numbers is the slot of the k-th enabled task
+pub able_at : (T : Tree) (n : ℕ) (os : List (Option Seat)) (k i : ℕ) → slice_get (able_from T n os) k ≡ Some i → (seat : Seat) × (n ≤ i) × (seat_at os (i - n) ≡ Some seat) × (slice_get (rows_from T os) k ≡ Some seat.row)
+able_at T n [] k i h = absurd (let f : ⊥ = cc in f)
+able_at T n (None ∷ os) k i h =
+    able_later T n None os k i (able_at T (suc n) os k i h)
+able_at T n (Some seat ∷ os) k i h = able_here T n seat os (is_enabled T seat.row) k i (λ j e. able_at T (suc n) os j i e) h
+
+-- one slot on
+able_step : (T : Tree) (j i : ℕ) (os : List (Option Seat)) → i < length os → able_from T j (drop i os) ≡ cond (slot_able T (seat_at os i)) (j ∷ []) [] ++ able_from T (suc j) (drop (suc i) os)
+able_step T j i [] h = absurd (omega arith)
+able_step T j zero (o ∷ os) h =
+    elim (slot_able T o) as (λ b. cond b (j ∷ able_from T (suc j) os) (able_from T (suc j) os) ≡ cond b (j ∷ []) [] ++ able_from T (suc j) os) [ true ↦ refl | false ↦ refl ]
+able_step T j (suc i) (o ∷ os) h = let inside : i < length os = omega arith in able_step T j i os inside
+
+pub able_more : (T : Tree) (i : ℕ) (os : List (Option Seat)) (ns : List ℕ) (all : List ℕ) → i < length os → ns ++ able_from T i (drop i os) ≡ all → (ns ++ cond (slot_able T (seat_at os i)) (i ∷ []) []) ++ able_from T (i + 1) (drop (i + 1) os) ≡ all
+able_more T i os ns all h e =
+    let one : i + 1 ≡ suc i = omega arith in
+    ap (λ v. (ns ++ cond (slot_able T (seat_at os i)) (i ∷ []) []) ++ able_from T v (drop v os)) one
+    ∙ (append_assoc ns (cond (slot_able T (seat_at os i)) (i ∷ []) []) (able_from T (suc i) (drop (suc i) os))
+    ∙ (ap (λ v. ns ++ v) (sym (able_step T i i os h)) ∙ e))
+
+none_left : (i : ℕ) (os : List (Option Seat)) → length os ≤ i → drop i os ≡ []
+none_left zero [] h = refl
+none_left (suc i) [] h = refl
+none_left zero (o ∷ os) h = absurd (omega arith)
+none_left (suc i) (o ∷ os) h = let less : length os ≤ i = omega arith in none_left i os less
+
+pub able_all : (T : Tree) (i : ℕ) (os : List (Option Seat)) (ns all : List ℕ) → length os ≤ i → ns ++ able_from T i (drop i os) ≡ all → ns ≡ all
+able_all T i os ns all h e = sym (ap (λ v. ns ++ able_from T i v) (none_left i os h) ∙ append-nil ns) ∙ e

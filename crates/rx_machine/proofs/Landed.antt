@@ -1,0 +1,108 @@
+-- The turn of an arrival, and the root's release.
+use Rattle.std.specs.Prelude.{◌≡◌, ℕ, true, false, List, [], ◌∷◌, ◌++◌, length, drop, reverse, Option, Some, slice_set, refl}
+use Rattle.std.proofs.Common.{ap, ◌∙◌, sym, subst, inl, inr}
+use Rattle.std.proofs.lemmas.List.{length-set}
+use Rattle.rx_base.specs.declared.ids.PlaceId.{PlaceId}
+use Rattle.rx_base.specs.declared.ids.TaskId.{TaskId}
+use Rattle.rx_base.specs.declared.place_set.PlaceSet.{PlaceSet}
+use Rattle.rx_base.specs.declared.values.Fault.{Fault}
+use Rattle.rx_rules.specs.declared.tasks.Task.{Task}
+use Rattle.rx_rules.specs.declared.tasks.Where.TheVariants.{At}
+use Rattle.rx_rules.specs.declared.entries.Act.TheVariants.{Arrive}
+use Rattle.rx_rules.specs.declared.entries.Entry.{Entry}
+use Rattle.rx_rules.specs.declared.entries.Entry.TheVariants.{Step, Root, Death}
+use Rattle.rx_rules.specs.Code.{Block}
+use Rattle.rx_rules.specs.Tree.{Tree, the_root}
+use Rattle.rx_rules.specs.Entries.{AllowedAct, Allowed, made_act, without}
+use Rattle.rx_rules.specs.Run.{Given, NoRoot, EndsWithRoot}
+use Rattle.rx_rules.specs.Picked.{Game, Turn, arrives, root, turns, tree_in}
+use Rattle.rx_trace.specs.Setups.{given}
+use Rattle.rx_store.specs.Kept.{Kept}
+use Rattle.rx_script.specs.Shape.{Shape}
+use Rattle.rx_control.specs.declared.control.Control.{Control}
+use Rattle.rx_control.specs.Stands.{StandsFor}
+use Rattle.rx_machine.specs.declared.machine.Machine.{Machine}
+use Rattle.rx_machine.specs.declared.seat.Seat.{Seat}
+use Rattle.rx_machine.specs.Slots.{live_task, SlotIs, IsSeat, seat_at}
+use Rattle.rx_machine.specs.Holds.{StoresAre, Holds, Landing, Finished, Releasing, Makes}
+use Rattle.rx_machine.proofs.Finding.{same_or_not}
+use Rattle.rx_machine.proofs.Live.{change-other, change-same, live_stands}
+use Rattle.rx_machine.proofs.Own.{slot-on}
+use Rattle.rx_machine.proofs.Pushed.{tree-push}
+use Rattle.rx_machine.proofs.Acted.{Went, seat_back, seat_other}
+
+-- where the task lands
+abbrev there : PlaceId → Task → Task
+there to x = record x { place = At to }
+
+pub landed : {L : Type 0} (stands : L → Tree → Type 0) (shape : Shape) (code : Block) (U : Given) (m m' : Machine L) (k i : ℕ) (to : PlaceId) (seat seat' : Seat) (G : Game) → Landing stands shape code U m k i to seat G → AllowedAct (tree_in U G) seat.row.number (Arrive to) → seat'.row ≡ there to seat.row → seat'.scopes ≡ seat.scopes → seat'.control ≡ seat.control → seat'.batch ≡ seat.batch → Went stands m m' (made_act (tree_in U G) seat.row.number (Arrive to)) (Step seat.row.number (Arrive to) []) → m'.seats.items ≡ slice_set m.seats.items i (Some seat') → Makes (Turn U k G true) (Holds stands shape code U m')
+landed stands shape code U m m' k i to seat seat' G a may row scopes control batch went back =
+    let T : Tree = tree_in U G in
+    let t : TaskId = seat.row.number in
+    let T' : Tree = made_act T t (Arrive to) in
+    let G' : Game = record G { entries = G.entries ++ Step t (Arrive to) [] ∷ [] } in
+    let same : T' ≡ tree_in U G' = sym (tree-push U.places G.entries (Step t (Arrive to) [])) in
+    let h = a.but.shares in
+    let turn : Turn U k G true G' = arrives seat.row to a.pick.none_due a.pick.picked may in
+    let number : t.0 ≡ i = a.pick.number in
+    let s = a.seat_is in
+    let live_t : live_task T t.0 ≡ Some seat.row = subst (λ (n : ℕ). live_task T n ≡ Some seat.row) (sym number) s.row in
+    let now : live_task T' i ≡ Some (there to seat.row) = subst (λ (n : ℕ). live_task T' n ≡ Some (there to seat.row)) number (change-same T (there to) t seat.row (λ x. refl) live_t (live_stands T t.0 seat.row live_t).1) in
+    let new : IsSeat shape T' i a.player seat' = record {
+      row = now ∙ ap (λ r. Some r) (sym row);
+      scopes = s.scopes ∙ ap (λ ss. reverse ss.items) (sym scopes);
+      term = subst (λ (c : Control). StandsFor shape c a.player.term) (sym control) s.term;
+      vars = ap (λ c. c.vars) control ∙ s.vars;
+      batch = batch ∙ s.batch;
+      waits = ap (λ r. r.waits) row ∙ s.waits;
+      held = s.held;
+      spine = s.spine;
+    } in (
+      G',
+      turn,
+      record {
+        shares = record {
+          comes = turns h.comes a.pick.stands turn;
+          places = h.places ∙ sym went.places;
+          setup = ap given went.setup ∙ h.setup;
+          entries = went.entries ∙ ap (λ es. es ++ Step t (Arrive to) [] ∷ []) h.entries;
+          kills = ap (λ ks. drop m'.killed ks) went.kills ∙ (ap (λ n. drop n m.kills) went.killed ∙ h.kills);
+          ledger = subst (λ (T : Tree). stands m'.ledger T) same went.ledger;
+          slots = ap (λ xs. length xs) back ∙ (length-set m.seats.items i (Some seat') ∙ (h.slots ∙ ap (λ (T : Tree). T.next_task) same));
+          failed = went.failed ∙ h.failed;
+        };
+        stores = subst (λ (ss : List Kept). StoresAre U.heap 0 ss G.journals) (ap (λ v. v.items) (sym went.stores)) a.stores;
+        seats = λ n.
+            subst (λ (T : Tree). SlotIs shape T G.players n (seat_at m'.seats.items n)) same
+            (subst (λ (xs : List (Option Seat)). SlotIs shape T' G.players n (seat_at xs n)) (sym back)
+            (elim (same_or_not n i) [
+              | inl e ↦ subst (λ (v : ℕ). SlotIs shape T' G.players v (seat_at (slice_set m.seats.items i (Some seat')) v)) (sym e)
+                  (subst (λ (o : Option Seat). SlotIs shape T' G.players i o) (sym (seat_back m.seats.items i seat' a.inside)) (a.player, a.is_player, new))
+              | inr apart ↦ subst (λ (o : Option Seat). SlotIs shape T' G.players n o) (sym (seat_other m.seats.items i n (Some seat') apart))
+                  (slot-on shape T T' G.players G.players n (seat_at m.seats.items n) (change-other T (there to) t n (λ x. refl) (λ e. apart (sym e ∙ number))) (λ x live. (refl, refl)) refl (a.but.others n apart))
+            ]));
+      },
+    )
+
+-- a history that ends with the root
+ends-with : (es : List Entry) (lost : PlaceSet) (thrown : List Fault) → NoRoot es → EndsWithRoot (es ++ Root lost thrown ∷ [])
+ends-with [] lost thrown h = refl
+ends-with (Step t act b ∷ es) lost thrown h = ends-with es lost thrown h
+ends-with (Root l f ∷ es) lost thrown h = absurd h
+ends-with (Death d ∷ es) lost thrown h = ends-with es lost thrown h
+
+pub finished : {L : Type 0} (stands : L → Tree → Type 0) (shape : Shape) (code : Block) (U : Given) (m m' : Machine L) (k : ℕ) (G : Game) (lost : PlaceSet) (thrown : List Fault) → Releasing stands shape code U m G → NoRoot G.entries → Allowed (tree_in U G) (Root lost thrown) → m'.history.entries ≡ m.history.entries ++ Root lost thrown ∷ [] → m'.history.setup ≡ m.history.setup → m'.stores ≡ m.stores → stands m'.ledger (without (tree_in U G) the_root) → Makes (Turn U k G false) (Finished stands U m')
+finished stands shape code U m m' k G lost thrown a open_still may entries setup stores ledger =
+    let G' : Game = record G { entries = G.entries ++ Root lost thrown ∷ [] } in
+    let h = a.holds.shares in
+    let same : without (tree_in U G) the_root ≡ tree_in U G' = sym (tree-push U.places G.entries (Root lost thrown)) in (
+      G',
+      root lost thrown a.none_due a.none_enabled may,
+      record {
+        entries = entries ∙ ap (λ es. es ++ Root lost thrown ∷ []) h.entries;
+        setup = ap given setup ∙ h.setup;
+        ledger = subst (λ (T : Tree). stands m'.ledger T) same ledger;
+        stores = subst (λ (ss : List Kept). StoresAre U.heap 0 ss G.journals) (ap (λ v. v.items) (sym stores)) a.holds.stores;
+        ended = ends-with G.entries lost thrown open_still;
+      },
+    )

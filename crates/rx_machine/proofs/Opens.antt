@@ -1,0 +1,74 @@
+-- What a machine holds before the first turn.
+use Rattle.std.specs.Prelude.{◌≡◌, ◌≢◌, ◌==◌, ℕ, zero, suc, ◌+◌, Bool, false, cond, List, [], ◌∷◌, ◌++◌, length, replicate, reverse, drop, Option, Some, None, refl}
+use Rattle.std.proofs.Common.{ap, ◌∙◌, sym, subst, arith}
+use Rattle.std.proofs.lemmas.Bool.{ne_eqb}
+use Rattle.rx_rules.specs.declared.tasks.Where.TheVariants.{At}
+use Rattle.rx_rules.specs.declared.tasks.Task.{Task}
+use Rattle.rx_rules.specs.Code.{Block}
+use Rattle.rx_rules.specs.Terms.{Empty, items, no_vars}
+use Rattle.rx_rules.specs.Tree.{Tree, the_root}
+use Rattle.rx_rules.specs.Fold.{opening}
+use Rattle.rx_rules.specs.Run.{Given}
+use Rattle.rx_rules.specs.Picked.{Comes, start_game}
+use Rattle.rx_trace.specs.Setups.{given}
+use Rattle.rx_store.specs.Kept.{Kept}
+use Rattle.rx_script.specs.Shape.{Shape}
+use Rattle.rx_control.specs.Stands.{StandsFor}
+use Rattle.rx_machine.specs.declared.machine.Machine.{Machine}
+use Rattle.rx_machine.specs.declared.seat.Seat.{Seat}
+use Rattle.rx_machine.specs.Held.{is_held, HeldInFront}
+use Rattle.rx_machine.specs.Slots.{SlotIs, seat_at, live_in}
+use Rattle.rx_machine.specs.Holds.{StoresAre, Holds}
+use Rattle.rx_machine.proofs.Holding.{unheld-front, unheld-items}
+use Rattle.rx_machine.proofs.Spines.{flat-spine, flat-items}
+
+-- one store more, of the next place
+pub opens-more : (heap p n : ℕ) (ss : List Kept) (s : Kept) → StoresAre heap p ss (replicate n []) → s.place.0 ≡ p + n → s.words ≡ heap → s.events ≡ [] → StoresAre heap p (ss ++ s ∷ []) (replicate (suc n) [])
+opens-more heap p zero [] s h place words events = (place ∙ omega arith, words, events, tt)
+opens-more heap p zero (x ∷ ss) s h place words events = absurd h
+opens-more heap p (suc n) [] s h place words events = absurd h
+opens-more heap p (suc n) (x ∷ ss) s h place words events = (h.0, h.1, h.2, opens-more heap (suc p) n ss s h.3 (place ∙ omega arith) words events)
+
+-- the row of the main activity
+abbrev pub root_row : Task
+root_row = record { number = record { 0 = 0 }; under = the_root; place = At (record { 0 = 0 }); waits = false; struck = None }
+
+-- its seat stands in slot 0, and no other slot has one
+pub opens-seats : (shape : Shape) (code : Block) (U : Given) (seat : Seat) (n : ℕ) → seat.row ≡ root_row → seat.scopes.items ≡ [] → seat.batch ≡ [] → StandsFor shape seat.control (items code [] Empty) → seat.control.vars ≡ no_vars → SlotIs shape (opening U.places) (start_game code U).players n (seat_at (Some seat ∷ []) n)
+opens-seats shape code U seat zero row scopes batch term vars =
+    let front : HeldInFront (items code [] Empty) × (is_held (items code [] Empty) ≡ false) = unheld-front (items code [] Empty) (unheld-items code [] 0 Empty tt) in (
+      record { term = items code [] Empty; vars = no_vars; batch = [] },
+      refl,
+      record {
+        row = ap (λ r. Some r) (sym row);
+        scopes = ap (λ ss. reverse ss) (sym scopes);
+        term = term;
+        vars = vars;
+        batch = batch;
+        waits = ap (λ r. r.waits) row ∙ sym front.1;
+        held = front.0;
+        spine = flat-spine (items code [] Empty) (flat-items code [] 0 Empty tt);
+      },
+    )
+opens-seats shape code U seat (suc n) row scopes batch term vars =
+    let apart : 0 ≢ suc n = λ e. absurd (omega (arith, e)) in
+    let other : (0 == suc n) ≡ false = ne_eqb 0 (suc n) apart in
+    ap (λ (b : Bool). live_in (cond b (Some root_row) None)) other
+
+-- the machine stands for the game before the first turn
+pub opens-so : {L : Type 0} (stands : L → Tree → Type 0) (shape : Shape) (code : Block) (U : Given) (m : Machine L) (seat : Seat) → U.places ≡ m.places → given m.history.setup ≡ U → m.history.entries ≡ [] → m.killed ≡ 0 → m.kills ≡ U.kills → m.failed ≡ false → stands m.ledger (opening U.places) → StoresAre U.heap 0 m.stores.items (replicate U.places []) → m.seats.items ≡ Some seat ∷ [] → seat.row ≡ root_row → seat.scopes.items ≡ [] → seat.batch ≡ [] → StandsFor shape seat.control (items code [] Empty) → seat.control.vars ≡ no_vars → Holds stands shape code U m (start_game code U)
+opens-so stands shape code U m seat places setup entries killed kills failed ledger stores seats row scopes batch term vars =
+    record {
+      shares = record {
+        comes = Comes.opens;
+        places = places;
+        setup = setup;
+        entries = entries;
+        kills = ap (λ k. drop k m.kills) killed ∙ kills;
+        ledger = ledger;
+        slots = ap (λ v. length v) seats;
+        failed = failed;
+      };
+      stores = stores;
+      seats = λ n. subst (λ (v : List (Option Seat)). SlotIs shape (opening U.places) (start_game code U).players n (seat_at v n)) (sym seats) (opens-seats shape code U seat n row scopes batch term vars);
+    }

@@ -1,0 +1,172 @@
+-- Which request a told step is.
+use Rattle.std.specs.Prelude.{◌≡◌, ℤ, List, Result, Ok, Err, OnOk, refl}
+use Rattle.std.proofs.Common.{ap, sym, ◌∙◌}
+use Rattle.rx_base.specs.declared.ids.PlaceId.{PlaceId}
+use Rattle.rx_base.specs.declared.values.Fault.{Fault}
+use Rattle.rx_rules.specs.Terms.{Does, Local, Makes, Gets, Puts, Forgets, Opens, Calls, Spawns, Waits, Releases, Prints, Done}
+use Rattle.rx_control.specs.declared.step.CellOp.{CellOp}
+use Rattle.rx_control.specs.declared.step.Want.{Want}
+use Rattle.rx_control.specs.declared.step.Want.TheVariants.{Open, At, Spawn, Wait, Release, Print}
+use Rattle.rx_control.specs.declared.step.Next.{Next}
+use Rattle.rx_control.specs.declared.step.Next.TheVariants.{Local as LocalStep, Cell, Book, Done as Ended}
+use Rattle.rx_control.specs.Next.{next_of}
+use Rattle.rx_machine.specs.Requests.{IsAsked, IsRequest}
+
+pub asks_open : (d : Does) → next_of d ≡ Book Open → d ≡ Opens
+asks_open (Local left vars) h = cc
+asks_open (Makes name words) h = cc
+asks_open (Gets name target index) h = cc
+asks_open (Puts target index value) h = cc
+asks_open (Forgets target) h = cc
+asks_open Opens h = refl
+asks_open (Calls place) h = cc
+asks_open (Spawns place) h = cc
+asks_open (Waits faults) h = cc
+asks_open Releases h = cc
+asks_open (Prints value) h = cc
+asks_open (Done faults) h = cc
+
+pub asks_call : (d : Does) (to : PlaceId) → next_of d ≡ Book (At to) → d ≡ Calls to.0
+asks_call (Local left vars) to h = cc
+asks_call (Makes name words) to h = cc
+asks_call (Gets name target index) to h = cc
+asks_call (Puts target index value) to h = cc
+asks_call (Forgets target) to h = cc
+asks_call Opens to h = cc
+asks_call (Calls place) to h = let e : record { 0 = place } ≡ to = cc in ap (λ (q : PlaceId). Calls q.0) e
+asks_call (Spawns place) to h = cc
+asks_call (Waits faults) to h = cc
+asks_call Releases to h = cc
+asks_call (Prints value) to h = cc
+asks_call (Done faults) to h = cc
+
+pub asks_spawn : (d : Does) (to : PlaceId) → next_of d ≡ Book (Spawn to) → d ≡ Spawns to.0
+asks_spawn (Local left vars) to h = cc
+asks_spawn (Makes name words) to h = cc
+asks_spawn (Gets name target index) to h = cc
+asks_spawn (Puts target index value) to h = cc
+asks_spawn (Forgets target) to h = cc
+asks_spawn Opens to h = cc
+asks_spawn (Calls place) to h = cc
+asks_spawn (Spawns place) to h = let e : record { 0 = place } ≡ to = cc in ap (λ (q : PlaceId). Spawns q.0) e
+asks_spawn (Waits faults) to h = cc
+asks_spawn Releases to h = cc
+asks_spawn (Prints value) to h = cc
+asks_spawn (Done faults) to h = cc
+
+pub asks_wait : (d : Does) → next_of d ≡ Book Wait → (fs : List Fault) × (d ≡ Waits fs)
+asks_wait (Local left vars) h = absurd (let f : ⊥ = cc in f)
+asks_wait (Makes name words) h = absurd (let f : ⊥ = cc in f)
+asks_wait (Gets name target index) h = absurd (let f : ⊥ = cc in f)
+asks_wait (Puts target index value) h = absurd (let f : ⊥ = cc in f)
+asks_wait (Forgets target) h = absurd (let f : ⊥ = cc in f)
+asks_wait Opens h = absurd (let f : ⊥ = cc in f)
+asks_wait (Calls place) h = absurd (let f : ⊥ = cc in f)
+asks_wait (Spawns place) h = absurd (let f : ⊥ = cc in f)
+asks_wait (Waits faults) h = (faults, refl)
+asks_wait Releases h = absurd (let f : ⊥ = cc in f)
+asks_wait (Prints value) h = absurd (let f : ⊥ = cc in f)
+asks_wait (Done faults) h = absurd (let f : ⊥ = cc in f)
+
+pub asks_release : (d : Does) → next_of d ≡ Book Release → d ≡ Releases
+asks_release (Local left vars) h = cc
+asks_release (Makes name words) h = cc
+asks_release (Gets name target index) h = cc
+asks_release (Puts target index value) h = cc
+asks_release (Forgets target) h = cc
+asks_release Opens h = cc
+asks_release (Calls place) h = cc
+asks_release (Spawns place) h = cc
+asks_release (Waits faults) h = cc
+asks_release Releases h = refl
+asks_release (Prints value) h = cc
+asks_release (Done faults) h = cc
+
+pub asks_print : (d : Does) (value : ℤ) → next_of d ≡ Book (Print value) → d ≡ Prints value
+asks_print (Local left vars) z h = cc
+asks_print (Makes name words) z h = cc
+asks_print (Gets name target index) z h = cc
+asks_print (Puts target index value) z h = cc
+asks_print (Forgets target) z h = cc
+asks_print Opens z h = cc
+asks_print (Calls place) z h = cc
+asks_print (Spawns place) z h = cc
+asks_print (Waits faults) z h = cc
+asks_print Releases z h = cc
+asks_print (Prints value) z h = cc
+asks_print (Done faults) z h = cc
+
+pub asks_end : (d : Does) → next_of d ≡ Ended → (fs : List Fault) × (d ≡ Done fs)
+asks_end (Local left vars) h = absurd (let f : ⊥ = cc in f)
+asks_end (Makes name words) h = absurd (let f : ⊥ = cc in f)
+asks_end (Gets name target index) h = absurd (let f : ⊥ = cc in f)
+asks_end (Puts target index value) h = absurd (let f : ⊥ = cc in f)
+asks_end (Forgets target) h = absurd (let f : ⊥ = cc in f)
+asks_end Opens h = absurd (let f : ⊥ = cc in f)
+asks_end (Calls place) h = absurd (let f : ⊥ = cc in f)
+asks_end (Spawns place) h = absurd (let f : ⊥ = cc in f)
+asks_end (Waits faults) h = absurd (let f : ⊥ = cc in f)
+asks_end Releases h = absurd (let f : ⊥ = cc in f)
+asks_end (Prints value) h = absurd (let f : ⊥ = cc in f)
+asks_end (Done faults) h = (faults, refl)
+
+pub asks_no_local : (d : Does) → IsAsked d → next_of d ≡ LocalStep → ⊥
+asks_no_local (Local left vars) a h = a
+asks_no_local (Makes name words) a h = cc
+asks_no_local (Gets name target index) a h = cc
+asks_no_local (Puts target index value) a h = cc
+asks_no_local (Forgets target) a h = cc
+asks_no_local Opens a h = cc
+asks_no_local (Calls place) a h = cc
+asks_no_local (Spawns place) a h = cc
+asks_no_local (Waits faults) a h = cc
+asks_no_local Releases a h = cc
+asks_no_local (Prints value) a h = cc
+asks_no_local (Done faults) a h = cc
+
+pub asks_no_cell : (d : Does) (op : CellOp) → IsAsked d → next_of d ≡ Cell op → ⊥
+asks_no_cell (Local left vars) op a h = cc
+asks_no_cell (Makes name words) op a h = a
+asks_no_cell (Gets name target index) op a h = a
+asks_no_cell (Puts target index value) op a h = a
+asks_no_cell (Forgets target) op a h = a
+asks_no_cell Opens op a h = cc
+asks_no_cell (Calls place) op a h = cc
+asks_no_cell (Spawns place) op a h = cc
+asks_no_cell (Waits faults) op a h = cc
+asks_no_cell Releases op a h = cc
+asks_no_cell (Prints value) op a h = cc
+asks_no_cell (Done faults) op a h = cc
+
+-- the same of what was told
+pub told_open : (n : Next) (d : Does) (w : Want) → IsRequest n d → n ≡ Book w → w ≡ Open → d ≡ Opens
+told_open n d w r is which = asks_open d (sym r.0 ∙ (is ∙ ap (λ v. Book v) which))
+
+pub told_call : (n : Next) (d : Does) (w : Want) (to : PlaceId) → IsRequest n d → n ≡ Book w → w ≡ At to → d ≡ Calls to.0
+told_call n d w to r is which = asks_call d to (sym r.0 ∙ (is ∙ ap (λ v. Book v) which))
+
+pub told_spawn : (n : Next) (d : Does) (w : Want) (to : PlaceId) → IsRequest n d → n ≡ Book w → w ≡ Spawn to → d ≡ Spawns to.0
+told_spawn n d w to r is which = asks_spawn d to (sym r.0 ∙ (is ∙ ap (λ v. Book v) which))
+
+pub told_wait : (n : Next) (d : Does) (w : Want) → IsRequest n d → n ≡ Book w → w ≡ Wait → (fs : List Fault) × (d ≡ Waits fs)
+told_wait n d w r is which = asks_wait d (sym r.0 ∙ (is ∙ ap (λ v. Book v) which))
+
+pub told_release : (n : Next) (d : Does) (w : Want) → IsRequest n d → n ≡ Book w → w ≡ Release → d ≡ Releases
+told_release n d w r is which = asks_release d (sym r.0 ∙ (is ∙ ap (λ v. Book v) which))
+
+pub told_print : (n : Next) (d : Does) (w : Want) (value : ℤ) → IsRequest n d → n ≡ Book w → w ≡ Print value → d ≡ Prints value
+told_print n d w value r is which = asks_print d value (sym r.0 ∙ (is ∙ ap (λ v. Book v) which))
+
+pub told_end : (n : Next) (d : Does) → IsRequest n d → n ≡ Ended → (fs : List Fault) × (d ≡ Done fs)
+told_end n d r is = asks_end d (sym r.0 ∙ is)
+
+pub told_no_local : (n : Next) (d : Does) → IsRequest n d → n ≡ LocalStep → ⊥
+told_no_local n d r is = asks_no_local d r.1 (sym r.0 ∙ is)
+
+pub told_no_cell : (n : Next) (d : Does) (op : CellOp) → IsRequest n d → n ≡ Cell op → ⊥
+told_no_cell n d op r is = asks_no_cell d op r.1 (sym r.0 ∙ is)
+
+-- what follows where a call has answered Ok
+pub on_ok : {A E P Q : Type 0} (r : Result A E) → (P → Q) → OnOk r P → OnOk r Q
+on_ok (Ok x) f h = f h
+on_ok (Err e) f h = h

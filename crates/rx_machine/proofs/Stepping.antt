@@ -1,0 +1,199 @@
+-- One step more of a task that makes its turn.
+use Rattle.std.specs.Prelude.{◌≡◌, ℕ, ◌+◌, ◌*◌, ◌≤◌, true, false, List, [], ◌∷◌, ◌++◌, reverse, length, drop, Some, None, slice_set, refl}
+use Rattle.std.proofs.Common.{ap, ◌∙◌, sym, subst, arith}
+use Rattle.rx_base.specs.declared.ids.PlaceId.{PlaceId}
+use Rattle.rx_base.specs.declared.ids.TaskId.{TaskId}
+use Rattle.rx_rules.specs.declared.tasks.Task.{Task}
+use Rattle.rx_rules.specs.declared.events.Cell.{Cell}
+use Rattle.rx_rules.specs.declared.events.PlaceEvent.{PlaceEvent}
+use Rattle.rx_rules.specs.declared.events.PlaceEvent.TheVariants.{Done as Did}
+use Rattle.rx_rules.specs.Code.{Block, work}
+use Rattle.rx_rules.specs.Terms.{Term, Vars, Answer, answered, vars_after, Does, Local, Makes, Gets, Puts, Forgets, Opens, Calls, Spawns, Waits, Releases, Prints, Done, does, begins}
+use Rattle.rx_rules.specs.Tree.{Tree}
+use Rattle.rx_rules.specs.Store.{State, MayCell, after_cell}
+use Rattle.rx_rules.specs.Plays.{Tells, begun, journal_at}
+use Rattle.rx_rules.specs.Run.{Given}
+use Rattle.rx_rules.specs.Picked.{Game, Player, Goes, stays, local, stores, tree_in}
+use Rattle.rx_runs.specs.Steps.{steps, Sinks, TermSinks}
+use Rattle.rx_runs.specs.Left.{FewLeft, GoingSinks}
+use Rattle.rx_trace.specs.Setups.{given}
+use Rattle.rx_script.specs.Shape.{Shape}
+use Rattle.rx_control.specs.declared.step.Next.TheVariants.{Local as LocalStep, Book, Done as Ended}
+use Rattle.rx_control.specs.declared.step.Want.{Want}
+use Rattle.rx_control.specs.declared.step.Next.{Next}
+use Rattle.rx_control.specs.Next.{next_of}
+use Rattle.rx_control.specs.Stands.{StandsFor, Leaves}
+use Rattle.rx_machine.specs.declared.machine.Machine.{Machine}
+use Rattle.rx_machine.specs.declared.seat.Seat.{Seat}
+use Rattle.rx_machine.specs.Held.{is_held}
+use Rattle.rx_machine.specs.Slots.{IsSeat, own_kinds}
+use Rattle.rx_machine.specs.Holds.{Shares, StoresAre, Acting}
+use Rattle.rx_machine.specs.Requests.{IsAsked, OnlyStores, AfterStep}
+use Rattle.rx_machine.proofs.Holding.{AfterLocal, after-local}
+use Rattle.rx_machine.proofs.Granting.{held-releases}
+use Rattle.rx_machine.proofs.Spines.{LeavesSpine, spine-local}
+
+-- Steps at the end.
+
+pub goes-local : {places heap n : ℕ} {t : TaskId} {here : PlaceId} {p q : Player} {S Z : State} {j k : List PlaceEvent} {after : Term} {left : Vars} → Goes places heap n t here p S j q Z k → does q.vars here.0 places q.term ≡ Local after left → Goes places heap n t here p S j (record { term = after; vars = left; batch = begun q.term q.batch }) Z k
+goes-local stays e = local e stays
+goes-local (local h g) e = local h (goes-local g e)
+goes-local (stores cell x a told b may g) e = stores cell x a told b may (goes-local g e)
+
+pub goes-stores : {places heap n : ℕ} {t : TaskId} {here : PlaceId} {p q : Player} {S Z : State} {j k : List PlaceEvent} (cell : Cell) (x : List ℕ) (a : Answer) → Goes places heap n t here p S j q Z k → Tells (does q.vars here.0 places q.term) here cell a → begins q.term ≡ Some x → MayCell heap Z cell → Goes places heap n t here p S j (record { term = answered a q.term; vars = vars_after a q.vars; batch = begun q.term q.batch }) (after_cell Z cell) (k ++ Did t n cell x ∷ [])
+goes-stores cell x a stays told b may = stores cell x a told b may stays
+goes-stores cell x a (local h g) told b may = local h (goes-stores cell x a g told b may)
+goes-stores cell x a (stores c y d t e m g) told b may = stores c y d t e m (goes-stores cell x a g told b may)
+
+-- The machine goes on with the game.
+
+pub shares-on : {L : Type 0} (stands : L → Tree → Type 0) (code : Block) (U : Given) (m m' : Machine L) (G : Game) → Shares stands code U m G → OnlyStores m m' → Shares stands code U m' G
+shares-on stands code U m m' G h o =
+    record {
+      comes = h.comes;
+      places = h.places ∙ sym o.places;
+      setup = ap (λ l. given l.setup) o.history ∙ h.setup;
+      entries = ap (λ l. l.entries) o.history ∙ h.entries;
+      kills = ap (λ ks. drop m'.killed ks) o.kills ∙ (ap (λ n. drop n m.kills) o.killed ∙ h.kills);
+      ledger = subst (λ l. stands l (tree_in U G)) (sym o.ledger) h.ledger;
+      slots = ap (λ v. length v.items) o.seats ∙ h.slots;
+      failed = o.failed ∙ h.failed;
+    }
+
+pub acting-on : {L : Type 0} (stands : L → Tree → Type 0) (shape : Shape) (code : Block) (U : Given) (m m' : Machine L) (k i : ℕ) (here : PlaceId) (q r : Player) (seat seat' : Seat) (G : Game) (Z : State) (events : List PlaceEvent) → (a : Acting stands shape code U m k i here q seat G) → OnlyStores m m' → seat'.row ≡ seat.row → Goes U.places U.heap (length G.entries) seat.row.number here a.began a.store (journal_at G.journals here.0) r Z events → IsSeat shape (tree_in U G) i r seat' → StoresAre U.heap 0 m'.stores.items (slice_set G.journals here.0 events) → Acting stands shape code U m' k i here r seat' G
+acting-on stands shape code U m m' k i here q r seat seat' G Z events a o row goes is stored =
+    let items : m'.seats.items ≡ m.seats.items = ap (λ v. v.items) o.seats in
+    record {
+      but = record {
+        shares = shares-on stands code U m m' G a.but.shares o;
+        empty = rw items a.but.empty;
+        others = rw items a.but.others;
+      };
+      pick = record {
+        stands = a.pick.stands;
+        none_due = a.pick.none_due;
+        picked = a.pick.picked ∙ ap (λ (x : Task). Some x) (sym row);
+        number = ap (λ (x : Task). x.number.0) row ∙ a.pick.number;
+      };
+      began = a.began;
+      store = a.store;
+      left = Z;
+      events = events;
+      gone = record {
+        player = a.gone.player;
+        store = a.gone.store;
+        is_at = ap (λ (x : Task). x.place) row ∙ a.gone.is_at;
+        goes = subst (λ (x : Task). Goes U.places U.heap (length G.entries) x.number here a.began a.store (journal_at G.journals here.0) r Z events) (sym row) goes;
+        seat_is = is;
+      };
+      numbers = a.numbers;
+      reached = a.reached;
+      inside = rw items a.inside;
+      place = a.place;
+      stores = stored;
+      players = a.players;
+    }
+
+-- What the control tells.
+
+pub is_local : (d : Does) → next_of d ≡ LocalStep → (after : Term) × (left : Vars) × (d ≡ Local after left)
+is_local (Local left vars) e = (left, vars, refl)
+is_local (Makes name words) e = cc
+is_local (Gets name target index) e = cc
+is_local (Puts target index value) e = cc
+is_local (Forgets target) e = cc
+is_local Opens e = cc
+is_local (Calls place) e = cc
+is_local (Spawns place) e = cc
+is_local (Waits faults) e = cc
+is_local Releases e = cc
+is_local (Prints value) e = cc
+is_local (Done faults) e = cc
+
+pub asked_book : (d : Does) (w : Want) → next_of d ≡ Book w → IsAsked d
+asked_book (Local left vars) w e = cc
+asked_book (Makes name words) w e = cc
+asked_book (Gets name target index) w e = cc
+asked_book (Puts target index value) w e = cc
+asked_book (Forgets target) w e = cc
+asked_book Opens w e = tt
+asked_book (Calls place) w e = tt
+asked_book (Spawns place) w e = tt
+asked_book (Waits faults) w e = tt
+asked_book Releases w e = tt
+asked_book (Prints value) w e = tt
+asked_book (Done faults) w e = tt
+
+pub asked_done : (d : Does) → next_of d ≡ Ended → IsAsked d
+asked_done (Local left vars) e = cc
+asked_done (Makes name words) e = cc
+asked_done (Gets name target index) e = cc
+asked_done (Puts target index value) e = cc
+asked_done (Forgets target) e = cc
+asked_done Opens e = tt
+asked_done (Calls place) e = tt
+asked_done (Spawns place) e = tt
+asked_done (Waits faults) e = tt
+asked_done Releases e = tt
+asked_done (Prints value) e = tt
+asked_done (Done faults) e = tt
+
+-- a term that makes a step other than a release does not wait
+pub not_held : (vars : Vars) (here places : ℕ) (t : Term) → (does vars here places t ≡ Releases → ⊥) → is_held t ≡ false
+not_held vars here places t never =
+    (elim (is_held t) as (λ b. is_held t ≡ b → b ≡ false) [
+      | true ↦ λ e. absurd (never (held-releases vars here places t e))
+      | false ↦ λ e. refl
+    ]) refl
+
+-- Local steps.
+
+local-seat : (shape : Shape) (T : Tree) (i : ℕ) (here : PlaceId) (places : ℕ) (q : Player) (seat seat' : Seat) (after : Term) (left : Vars) → IsSeat shape T i q seat → does q.vars here.0 places q.term ≡ Local after left → StandsFor shape seat'.control after → seat'.control.vars ≡ left → seat'.batch ≡ begun q.term seat.batch → seat'.row ≡ seat.row → seat'.scopes ≡ seat.scopes → IsSeat shape T i (record { term = after; vars = left; batch = begun q.term q.batch }) seat'
+local-seat shape T i here places q seat seat' after left s e term vars batch row scopes =
+    let waits : AfterLocal (Local after left) = subst (λ (d : Does). AfterLocal d) e (after-local q.vars here.0 places q.term s.held) in
+    let spine : LeavesSpine (reverse (own_kinds T i)) (Local after left) = subst (λ (d : Does). LeavesSpine (reverse (own_kinds T i)) d) e (spine-local (reverse (own_kinds T i)) q.vars here.0 places q.term s.spine) in
+    let free : is_held q.term ≡ false = not_held q.vars here.0 places q.term (λ f. (let c : Local after left ≡ Releases = sym e ∙ f in cc)) in
+    record {
+      row = s.row ∙ ap (λ (x : Task). Some x) (sym row);
+      scopes = s.scopes ∙ ap (λ ss. reverse ss.items) (sym scopes);
+      term = term;
+      vars = vars;
+      batch = batch ∙ ap (begun q.term) s.batch;
+      waits = ap (λ (x : Task). x.waits) row ∙ (s.waits ∙ (free ∙ sym waits.1));
+      held = waits.0;
+      spine = spine;
+    }
+
+pub same : {L : Type 0} (m : Machine L) → OnlyStores m m
+same m = record { history = refl; ledger = refl; seats = refl; kills = refl; killed = refl; places = refl; failed = refl }
+
+pub stepped-local : {L : Type 0} (stands : L → Tree → Type 0) (shape : Shape) (code : Block) (U : Given) (m : Machine L) (k i : ℕ) (here : PlaceId) (q : Player) (seat seat' : Seat) (G : Game) → TermSinks → Acting stands shape code U m k i here q seat G → next_of (does q.vars here.0 U.places q.term) ≡ LocalStep → Leaves shape seat'.control (does q.vars here.0 U.places q.term) → seat'.batch ≡ begun q.term seat.batch → seat'.row ≡ seat.row → seat'.scopes ≡ seat.scopes → AfterStep stands shape code U m k i here q seat' G None
+stepped-local stands shape code U m k i here q seat seat' G law a e leaves batch row scopes =
+    let l = is_local (does q.vars here.0 U.places q.term) e in
+    let left : StandsFor shape seat'.control l.0 × (seat'.control.vars ≡ l.1) = subst (λ (d : Does). Leaves shape seat'.control d) l.2 leaves in
+    let less : steps l.0 + 1 ≤ steps q.term = subst (λ (d : Does). Sinks q.term d) l.2 (law q.vars here.0 U.places q.term) in
+    (record { term = l.0; vars = l.1; batch = begun q.term q.batch }, acting-on stands shape code U m m k i here q _ seat seat' G a.left a.events a (same m) row (goes-local a.gone.goes l.2) (local-seat shape (tree_in U G) i here U.places q seat seat' l.0 l.1 a.gone.seat_is l.2 left.0 left.1 batch row scopes) a.stores, less)
+
+-- what the control tells, said of the player
+pub told-next : {L : Type 0} (stands : L → Tree → Type 0) (shape : Shape) (code : Block) (U : Given) (m : Machine L) (k i : ℕ) (here : PlaceId) (q : Player) (seat : Seat) (G : Game) (next : Next) → Acting stands shape code U m k i here q seat G → next ≡ next_of (does seat.control.vars here.0 m.places q.term) → next_of (does q.vars here.0 U.places q.term) ≡ next
+told-next stands shape code U m k i here q seat G next a e =
+    sym (e ∙ (ap (λ (v : Vars). next_of (does v here.0 m.places q.term)) a.gone.seat_is.vars ∙ ap (λ (n : ℕ). next_of (does q.vars here.0 n q.term)) (sym a.but.shares.places)))
+
+-- the steps that are left
+pub few-now : {L : Type 0} (stands : L → Tree → Type 0) (shape : Shape) (code : Block) (U : Given) (m : Machine L) (k i : ℕ) (here : PlaceId) (q : Player) (seat : Seat) (G : Game) → FewLeft → GoingSinks → Acting stands shape code U m k i here q seat G → work code ≤ 100000 → steps q.term + 0 ≤ 300000
+few-now stands shape code U m k i here q seat G left sinks a few =
+    let first : steps a.began.term ≤ 3 * work code = left code U G a.but.shares.comes i a.began a.gone.player in
+    let less : steps q.term ≤ steps a.began.term = sinks U.places U.heap (length G.entries) seat.row.number here a.began q a.store a.left (journal_at G.journals here.0) a.events a.gone.goes in
+    omega (arith, first, less, few)
+
+pub same-twice : {L : Type 0} (m m' m'' : Machine L) → OnlyStores m m' → OnlyStores m' m'' → OnlyStores m m''
+same-twice m m' m'' a b =
+    record {
+      history = b.history ∙ a.history;
+      ledger = b.ledger ∙ a.ledger;
+      seats = b.seats ∙ a.seats;
+      kills = b.kills ∙ a.kills;
+      killed = b.killed ∙ a.killed;
+      places = b.places ∙ a.places;
+      failed = b.failed ∙ a.failed;
+    }

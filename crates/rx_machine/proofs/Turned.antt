@@ -1,0 +1,127 @@
+-- A turn: what holds of the game before it, the task that the pick moves, and the root's release where none is enabled.
+use Rattle.std.specs.Prelude.{◌≡◌, ℕ, zero, suc, ◌+◌, ◌-◌, ◌*◌, ◌<◌, ◌≤◌, ◌%◌, List, [], ◌∷◌, length, Option, Some, slice_get, refl}
+use Rattle.std.proofs.Common.{ap, ◌∙◌, sym, subst, arith}
+use Rattle.rx_base.specs.declared.ids.Kill.{Kill}
+use Rattle.rx_rules.specs.declared.tasks.Task.{Task}
+use Rattle.rx_rules.specs.declared.entries.Entry.{Entry}
+use Rattle.rx_rules.specs.declared.entries.Entry.TheVariants.{Step, Root, Death}
+use Rattle.rx_rules.specs.Code.{Block, work}
+use Rattle.rx_rules.specs.Tree.{Tree}
+use Rattle.rx_rules.specs.Run.{Given, NoRoot, NoneDue}
+use Rattle.rx_rules.specs.Picked.{Game, enabled, tree_in}
+use Rattle.rx_sound.specs.Sound.{ReachedSound}
+use Rattle.rx_sound.specs.Histories.{FoldReached, RootStands}
+use Rattle.rx_sound.specs.Enabling.{NoneLeft}
+use Rattle.rx_runs.specs.Segments.{kills_left}
+use Rattle.rx_runs.specs.Coming.{CameTo, GamesCome}
+use Rattle.rx_trace.specs.Logs.{Log}
+use Rattle.rx_trace.specs.Setups.{given}
+use Rattle.rx_script.specs.Shape.{Shape}
+use Rattle.rx_machine.specs.declared.machine.Machine.{Machine}
+use Rattle.rx_machine.specs.declared.seat.Seat.{Seat}
+use Rattle.rx_machine.specs.Slots.{seat_at}
+use Rattle.rx_machine.specs.Holds.{Holds, CanTurn, Releasing}
+use Rattle.rx_machine.specs.Runs.{RunsOn, Taken}
+use Rattle.rx_machine.specs.Picking.{able_from}
+use Rattle.rx_machine.proofs.Enabled.{enabled_rows, able_length, able_at}
+
+-- a machine whose history has more room stands for the same game
+pub roomier : {L : Type 0} (stands : L → Tree → Type 0) (shape : Shape) (code : Block) (U : Given) (m : Machine L) (h : Log) (G : Game) → h.entries ≡ m.history.entries → h.setup ≡ m.history.setup → Holds stands shape code U m G → Holds stands shape code U (record m { history = h }) G
+roomier stands shape code U m h G entries setup a =
+    record {
+      shares = record {
+        comes = a.shares.comes;
+        places = a.shares.places;
+        setup = ap given setup ∙ a.shares.setup;
+        entries = entries ∙ a.shares.entries;
+        kills = a.shares.kills;
+        ledger = a.shares.ledger;
+        slots = a.shares.slots;
+        failed = a.shares.failed;
+      };
+      stores = a.stores;
+      seats = a.seats;
+    }
+
+-- a turn can be made
+pub can-turn : {L : Type 0} (stands : L → Tree → Type 0) (shape : Shape) (code : Block) (U : Given) (m : Machine L) (G : Game) → GamesCome → FoldReached → Holds stands shape code U m G → RunsOn code U → NoRoot G.entries → CanTurn stands shape code U m G
+can-turn stands shape code U m G come fold h on unreleased =
+    let came : CameTo code U G = come code U G on.proper h.shares.comes unreleased in
+    let entries : length G.entries ≤ 4 * work code + U.places = came.entries in
+    let tasks : (tree_in U G).next_task ≤ 1 + length G.entries = came.tasks in
+    let scopes : (tree_in U G).next_scope ≤ 1 + length G.entries = came.scopes in
+    let places : U.places ≤ 16 = on.proper.few in
+    let few : work code ≤ 100000 = on.few in
+    record {
+      holds = h;
+      unreleased = unreleased;
+      numbers = record { tasks = omega (arith, entries, tasks, places, few); scopes = omega (arith, entries, scopes, places, few) };
+      reached = fold U.places G.entries on.proper.some on.proper.few came.ok.folds.allowed;
+    }
+
+-- so it can where the history has more room
+pub roomy-turn : {L : Type 0} (stands : L → Tree → Type 0) (shape : Shape) (code : Block) (U : Given) (m : Machine L) (h : Log) (G : Game) → GamesCome → FoldReached → (h.entries ≡ m.history.entries) × (h.setup ≡ m.history.setup) × (m.history.spare ≤ h.spare) → Holds stands shape code U m G → RunsOn code U → NoRoot G.entries → CanTurn stands shape code U (record m { history = h }) G
+roomy-turn stands shape code U m h G come fold same a on unreleased =
+    can-turn stands shape code U (record m { history = h }) G come fold (roomier stands shape code U m h G same.0 same.1 a) on unreleased
+
+none-left : (es : List Entry) → kills_left [] es ≡ []
+none-left [] = refl
+none-left (Death d ∷ es) = none-left es
+none-left (Step t act batch ∷ es) = none-left es
+none-left (Root lost thrown ∷ es) = none-left es
+
+-- no kill is due
+pub none-due : {L : Type 0} (stands : L → Tree → Type 0) (shape : Shape) (code : Block) (U : Given) (m : Machine L) (G : Game) → GamesCome → Holds stands shape code U m G → RunsOn code U → NoRoot G.entries → NoneDue (length G.entries) G.kills
+none-due stands shape code U m G come h on unreleased =
+    let came : CameTo code U G = come code U G on.proper h.shares.comes unreleased in
+    let none : G.kills ≡ [] = came.ok.left ∙ (ap (λ ks. kills_left ks G.entries) on.spared ∙ none-left G.entries) in
+    subst (λ (ks : List Kill). NoneDue (length G.entries) ks) (sym none) tt
+
+empty : {X : Type 0} (xs : List X) → length xs ≡ 0 → xs ≡ []
+empty [] h = refl
+empty (x ∷ xs) h = absurd (omega (arith, h))
+
+-- where the numbers are none, no task is enabled, and the root may be released
+pub releasing : {L : Type 0} (stands : L → Tree → Type 0) (shape : Shape) (code : Block) (U : Given) (m : Machine L) (G : Game) (ns : List ℕ) → GamesCome → ReachedSound → NoneLeft → RootStands → CanTurn stands shape code U m G → RunsOn code U → ns ≡ able_from (tree_in U G) 0 m.seats.items → length ns ≡ 0 → Releasing stands shape code U m G
+releasing stands shape code U m G ns come sound quiets roots can on able none =
+    let T : Tree = tree_in U G in
+    let came : CameTo code U G = come code U G on.proper can.holds.shares.comes can.unreleased in
+    let rows = enabled_rows shape T G.players m.seats.items (sound T can.reached).tasks_fall can.holds.shares.slots can.holds.seats in
+    let size : length ns ≡ length (enabled T) = ap length able ∙ (able_length T 0 m.seats.items ∙ ap length rows) in
+    let no_task : enabled T ≡ [] = empty (enabled T) (sym size ∙ none) in
+    let root = roots U.places G.entries on.proper.some on.proper.few came.ok.folds.allowed can.unreleased in
+    record {
+      holds = can.holds;
+      unreleased = can.unreleased;
+      none_due = none-due stands shape code U m G come can.holds on can.unreleased;
+      none_enabled = no_task;
+      is_quiet = quiets T can.reached no_task;
+      root = record { root = root.0; stands = root.1 };
+    }
+
+seat-inside : (items : List (Option Seat)) (i : ℕ) (seat : Seat) → seat_at items i ≡ Some seat → i < length items
+seat-inside [] i seat h = absurd (let f : ⊥ = cc in f)
+seat-inside (o ∷ items) zero seat h = omega arith
+seat-inside (o ∷ items) (suc i) seat h = let inside : i < length items = seat-inside items i seat h in omega arith
+
+same-pick : (rows en : List Task) (k n : ℕ) (x : Task) → rows ≡ en → n ≡ length rows → slice_get rows (k % n) ≡ Some x → slice_get en (k % length en) ≡ Some x
+same-pick rows en k n x same size at =
+    sym (ap (λ v. slice_get en (k % v)) (size ∙ ap length same)) ∙ (sym (ap (λ v. slice_get v (k % n)) same) ∙ at)
+
+-- the number at the pick is the slot of the task that the pick moves
+pub taken : {L : Type 0} (stands : L → Tree → Type 0) (shape : Shape) (code : Block) (U : Given) (m : Machine L) (G : Game) (ns : List ℕ) (k i : ℕ) → GamesCome → ReachedSound → CanTurn stands shape code U m G → RunsOn code U → ns ≡ able_from (tree_in U G) 0 m.seats.items → slice_get ns (k % length ns) ≡ Some i → Taken stands shape code U m k i G
+taken stands shape code U m G ns k i come sound can on able at =
+    let T : Tree = tree_in U G in
+    let rows = enabled_rows shape T G.players m.seats.items (sound T can.reached).tasks_fall can.holds.shares.slots can.holds.seats in
+    let here = able_at T 0 m.seats.items (k % length ns) i (sym (ap (λ v. slice_get v (k % length ns)) able) ∙ at) in
+    let none : i - 0 ≡ i = omega arith in
+    let found : seat_at m.seats.items i ≡ Some here.0 = ap (seat_at m.seats.items) (sym none) ∙ here.2 in
+    record {
+      can = can;
+      on = on;
+      none_due = none-due stands shape code U m G come can.holds on can.unreleased;
+      inside = seat-inside m.seats.items i here.0 found;
+      seat = here.0;
+      at = found;
+      picked = same-pick _ (enabled T) k (length ns) here.0.row rows (ap length able ∙ able_length T 0 m.seats.items) here.3;
+    }

@@ -1,0 +1,37 @@
+use Rattle.std.proofs.Common.{◌≡◌, Some, None, ◌∙◌, sym, refl}
+use Rattle.rx_machine.proofs.Requested.{on_ok}
+use Rattle.rx_machine.proofs.Taking.{lands, acts}
+use Rattle.rx_machine.proofs.machine.Machine.move_task.Goals as goal
+
+pub take_seat-requires : goal.take_seat-requires
+take_seat-requires g c = c.requires.game.4.inside
+
+pub arrive-requires-clause-game : goal.arrive-requires-clause-game
+arrive-requires-clause-game g c =
+    let w = c.requires.game in
+    let at = sym c.take_seat.ensures.taken ∙ c.in-Some.is in
+    (w.0, w.1, w.2, w.3, lands g.L.FinishLedger.stands c.args.p.now.script w.0 w.1 c.args.self.now _ w.2 c.args.i c.in-Travel.from c.in-Travel.to c.in-Some.seat w.3 w.4 at (record { same = refl; left = c.take_seat.ensures.left }) c.in-Travel.is)
+
+pub act-requires-clause-game : goal.act-requires-clause-game
+act-requires-clause-game g c =
+    let w = c.requires.game in
+    let at = sym c.take_seat.ensures.taken ∙ c.in-Some.is in
+    let a = acts g.L.FinishLedger.stands c.args.p.now.script w.0 w.1 c.args.self.now (record c.args.self.now { seats = c.take_seat.new.seats }) w.2 c.args.i c.in-At.here c.in-Some.seat w.3 c.games_come.ensures c.reached_is_sound.ensures w.4 at (record { same = refl; left = c.take_seat.ensures.left }) c.in-At.is in
+    (w.0, w.1, w.2, a.0, w.3, a.1, w.4.on.proper, w.4.on.few, w.4.on.makes)
+
+pub unreachable-requires : goal.unreachable-requires
+unreachable-requires g c =
+    let e = sym c.in-None.is ∙ (c.take_seat.ensures.taken ∙ c.requires.game.4.at) in
+    let f : None ≡ Some c.requires.game.4.seat = e in
+    cc
+
+pub returns-in-Travel : goal.returns-in-Travel
+returns-in-Travel g c = λ code U k G t.
+    let at = sym c.take_seat.ensures.taken ∙ c.in-Some.is in
+    c.arrive.ensures code U k G (lands g.L.FinishLedger.stands c.args.p.now.script code U c.args.self.now (record c.args.self.now { seats = c.take_seat.new.seats }) k c.args.i c.in-Travel.from c.in-Travel.to c.in-Some.seat G t at (record { same = refl; left = c.take_seat.ensures.left }) c.in-Travel.is)
+
+pub returns-in-At : goal.returns-in-At
+returns-in-At g c = on_ok c.act.result (λ h code U k G t.
+    let at = sym c.take_seat.ensures.taken ∙ c.in-Some.is in
+    let a = acts g.L.FinishLedger.stands c.args.p.now.script code U c.args.self.now (record c.args.self.now { seats = c.take_seat.new.seats }) k c.args.i c.in-At.here c.in-Some.seat G c.games_come.ensures c.reached_is_sound.ensures t at (record { same = refl; left = c.take_seat.ensures.left }) c.in-At.is in
+    h code U k a.0 G a.1 t.on.proper t.on.few t.on.makes) c.act.ensures

@@ -1,0 +1,27 @@
+use Rattle.std.proofs.Common.{ℕ, sym, subst}
+use Rattle.rx_rules.specs.Terms.{Vars, does}
+use Rattle.rx_control.specs.Stands.{Leaves}
+use Rattle.rx_machine.proofs.Stepping.{told-next, stepped-local}
+use Rattle.rx_machine.proofs.machine.Machine.step.Goals as goal
+
+pub next-requires : goal.next-requires
+next-requires g c = let game = c.requires.game in (game.3.term, game.5.gone.seat_is.term)
+
+pub local_step-requires : goal.local_step-requires
+local_step-requires g c = let game = c.requires.game in (game.3.term, game.5.gone.seat_is.term)
+
+pub cell_step-requires : goal.cell_step-requires
+cell_step-requires g c =
+    let game = c.requires.game in
+    let e = c.in-Cell.ensures game.3.term game.5.gone.seat_is.term in
+    record { game = (game.0, game.1, game.2, game.3, game.4, game.5, game.6, game.7, game.8, told-next g.L.FinishLedger.stands c.args.p.now.script game.0 game.1 c.args.self.now game.2 c.args.i c.args.here game.3 c.args.seat.now game.4 _ game.5 e) }
+
+pub returns-in_ok-local_step-in-Local-clause-next : goal.returns-in_ok-local_step-in-Local-clause-next
+returns-in_ok-local_step-in-Local-clause-next g c = λ code U k q G a proper few some.
+    let s = a.gone.seat_is in
+    let e = told-next g.L.FinishLedger.stands c.args.p.now.script code U c.args.self.now k c.args.i c.args.here q c.args.seat.now G _ a (c.in-Local.ensures q.term s.term) in
+    let left = c.in_ok-local_step-in-Local.ensures q.term s.term in
+    let leaves =
+    subst (λ (n : ℕ). Leaves c.args.p.now.script c.local_step.new.seat.control (does q.vars c.args.here.0 n q.term)) (sym a.but.shares.places)
+    (subst (λ (v : Vars). Leaves c.args.p.now.script c.local_step.new.seat.control (does v c.args.here.0 c.args.self.now.places q.term)) s.vars left.0) in
+    stepped-local g.L.FinishLedger.stands c.args.p.now.script code U c.args.self.now k c.args.i c.args.here q c.args.seat.now _ G c.terms_sink.ensures a e leaves left.1 left.2 left.3

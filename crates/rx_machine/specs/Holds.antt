@@ -1,0 +1,121 @@
+-- A machine stands for a game that turns have made.
+use Rattle.std.specs.Prelude.{◌≡◌, ◌≢◌, ℕ, suc, ◌<◌, ◌%◌, true, false, List, [], ◌∷◌, slice_set, length, drop, Some, None, slice_get}
+use Rattle.rx_base.specs.declared.ids.PlaceId.{PlaceId}
+use Rattle.rx_rules.specs.declared.tasks.Where.TheVariants.{At, Travel}
+use Rattle.rx_rules.specs.declared.events.PlaceEvent.{PlaceEvent}
+use Rattle.rx_rules.specs.Code.{Block}
+use Rattle.rx_rules.specs.Tree.{Tree, quiet, the_root}
+use Rattle.rx_rules.specs.Store.{State}
+use Rattle.rx_rules.specs.Plays.{journal_at}
+use Rattle.rx_rules.specs.Reached.{Reached}
+use Rattle.rx_rules.specs.Run.{Given, NoRoot, NoneDue, EndsWithRoot}
+use Rattle.rx_rules.specs.Picked.{Game, Player, Goes, Comes, tree_in, enabled}
+use Rattle.rx_trace.specs.Setups.{given}
+use Rattle.rx_store.specs.Kept.{Kept}
+use Rattle.rx_script.specs.Shape.{Shape}
+use Rattle.rx_tree.specs.Callers.{HasNumbers, HasRoot}
+use Rattle.rx_machine.specs.declared.machine.Machine.{Machine}
+use Rattle.rx_machine.specs.declared.seat.Seat.{Seat}
+use Rattle.rx_machine.specs.Slots.{SlotIs, IsSeat, seat_at}
+
+-- the stores of places p, p + 1, ..: each with its place, so many words, and its journal
+abbrev pub StoresAre : ℕ → ℕ → List Kept → List (List PlaceEvent) → Type 0
+StoresAre heap p [] [] = Unit {0}
+StoresAre heap p (s ∷ ss) (j ∷ js) = (s.place.0 ≡ p) × (s.words ≡ heap) × (s.events ≡ j) × StoresAre heap (suc p) ss js
+StoresAre heap p [] (j ∷ js) = ⊥
+StoresAre heap p (s ∷ ss) [] = ⊥
+
+-- what a machine and a game share beside the seats: `stands` says for which trees a ledger stands
+pub record Shares {L : Type 0} (stands : L → Tree → Type 0) (code : Block) (U : Given) (m : Machine L) (G : Game) : Type 0 where
+  pub comes : Comes code U G
+  pub places : U.places ≡ m.places
+  pub setup : given m.history.setup ≡ U
+  pub entries : m.history.entries ≡ G.entries
+  pub kills : drop m.killed m.kills ≡ G.kills
+  pub ledger : stands m.ledger (tree_in U G)
+  pub slots : length m.seats.items ≡ (tree_in U G).next_task
+  pub failed : m.failed ≡ false
+
+-- the machine stands for the game
+pub record Holds {L : Type 0} (stands : L → Tree → Type 0) (shape : Shape) (code : Block) (U : Given) (m : Machine L) (G : Game) : Type 0 where
+  pub shares : Shares stands code U m G
+  pub stores : StoresAre U.heap 0 m.stores.items G.journals
+  pub seats : (n : ℕ) → SlotIs shape (tree_in U G) G.players n (seat_at m.seats.items n)
+
+-- the same, but for the seat of task i, which has been taken out to make a turn
+pub record HoldsBut {L : Type 0} (stands : L → Tree → Type 0) (shape : Shape) (code : Block) (U : Given) (m : Machine L) (i : ℕ) (G : Game) : Type 0 where
+  pub shares : Shares stands code U m G
+  pub empty : seat_at m.seats.items i ≡ None
+  pub others : (n : ℕ) → n ≢ i → SlotIs shape (tree_in U G) G.players n (seat_at m.seats.items n)
+
+-- task i is the one that the pick k moves
+pub record IsPick (U : Given) (k i : ℕ) (seat : Seat) (G : Game) : Type 0 where
+  pub stands : NoRoot G.entries
+  pub none_due : NoneDue (length G.entries) G.kills
+  pub picked : slice_get (enabled (tree_in U G)) (k % length (enabled (tree_in U G))) ≡ Some seat.row
+  pub number : seat.row.number.0 ≡ i
+
+-- the task of the seat, at a place, began its turn as the player p and has come to the player q
+pub record HasGone (shape : Shape) (U : Given) (i : ℕ) (here : PlaceId) (p q : Player) (S Z : State) (j : List PlaceEvent) (seat : Seat) (G : Game) : Type 0 where
+  pub player : slice_get G.players i ≡ Some p
+  pub store : slice_get G.stores here.0 ≡ Some S
+  pub is_at : seat.row.place ≡ At here
+  pub goes : Goes U.places U.heap (length G.entries) seat.row.number here p S (journal_at G.journals here.0) q Z j
+  pub seat_is : IsSeat shape (tree_in U G) i q seat
+
+-- a turn that leads to a game with P
+abbrev pub Makes : (Game → Type 0) → (Game → Type 0) → Type 0
+Makes Turned P = (G : Game) × Turned G × P G
+
+-- task i, which the pick k moves and which was taken out of its slot, has come to the player q
+pub record Acting {L : Type 0} (stands : L → Tree → Type 0) (shape : Shape) (code : Block) (U : Given) (m : Machine L) (k i : ℕ) (here : PlaceId) (q : Player) (seat : Seat) (G : Game) : Type 0 where
+  pub but : HoldsBut stands shape code U m i G
+  pub pick : IsPick U k i seat G
+  pub began : Player
+  pub store : State
+  pub left : State
+  pub events : List PlaceEvent
+  pub gone : HasGone shape U i here began q store left events seat G
+  pub numbers : HasNumbers (tree_in U G)
+  pub reached : Reached (tree_in U G)
+  pub inside : i < length m.seats.items
+  pub place : here.0 < U.places
+  pub stores : StoresAre U.heap 0 m.stores.items (slice_set G.journals here.0 events)
+  pub players : length G.players ≡ (tree_in U G).next_task
+
+-- task i, which the pick k moves and which was taken out of its slot, travels to a place
+pub record Landing {L : Type 0} (stands : L → Tree → Type 0) (shape : Shape) (code : Block) (U : Given) (m : Machine L) (k i : ℕ) (to : PlaceId) (seat : Seat) (G : Game) : Type 0 where
+  pub but : HoldsBut stands shape code U m i G
+  pub pick : IsPick U k i seat G
+  pub player : Player
+  pub is_player : slice_get G.players i ≡ Some player
+  pub seat_is : IsSeat shape (tree_in U G) i player seat
+  pub from : PlaceId
+  pub travels : seat.row.place ≡ Travel from to
+  pub numbers : HasNumbers (tree_in U G)
+  pub inside : i < length m.seats.items
+  pub stores : StoresAre U.heap 0 m.stores.items G.journals
+
+-- what is left of a run after the root's release
+pub record Finished {L : Type 0} (stands : L → Tree → Type 0) (U : Given) (m : Machine L) (G : Game) : Type 0 where
+  pub entries : m.history.entries ≡ G.entries
+  pub setup : given m.history.setup ≡ U
+  pub ledger : stands m.ledger (tree_in U G)
+  pub stores : StoresAre U.heap 0 m.stores.items G.journals
+  pub ended : EndsWithRoot G.entries
+
+-- no task is enabled, and the root may be released
+pub record Releasing {L : Type 0} (stands : L → Tree → Type 0) (shape : Shape) (code : Block) (U : Given) (m : Machine L) (G : Game) : Type 0 where
+  pub holds : Holds stands shape code U m G
+  pub unreleased : NoRoot G.entries
+  pub none_due : NoneDue (length G.entries) G.kills
+  pub none_enabled : enabled (tree_in U G) ≡ []
+  pub is_quiet : quiet (tree_in U G) the_root ≡ true
+  pub root : HasRoot (tree_in U G)
+
+-- the machine stands for a game in which the root stands, and what holds of such a game
+pub record CanTurn {L : Type 0} (stands : L → Tree → Type 0) (shape : Shape) (code : Block) (U : Given) (m : Machine L) (G : Game) : Type 0 where
+  pub holds : Holds stands shape code U m G
+  pub unreleased : NoRoot G.entries
+  pub numbers : HasNumbers (tree_in U G)
+  pub reached : Reached (tree_in U G)

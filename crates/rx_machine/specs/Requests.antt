@@ -1,0 +1,51 @@
+-- What a task comes to that runs on to its next entry.
+use Rattle.std.specs.Prelude.{◌≡◌, ℕ, ◌+◌, ◌≤◌, Option, Some, None}
+use Rattle.rx_base.specs.declared.ids.PlaceId.{PlaceId}
+use Rattle.rx_rules.specs.Code.{Block}
+use Rattle.rx_rules.specs.Terms.{Does, Local, Makes, Gets, Puts, Forgets, Opens, Calls, Spawns, Waits, Releases, Prints, Done, does}
+use Rattle.rx_rules.specs.Tree.{Tree}
+use Rattle.rx_rules.specs.Run.{Given}
+use Rattle.rx_rules.specs.Picked.{Game, Player}
+use Rattle.rx_runs.specs.Steps.{steps}
+use Rattle.rx_script.specs.Shape.{Shape}
+use Rattle.rx_control.specs.declared.step.Next.{Next}
+use Rattle.rx_control.specs.Next.{next_of}
+use Rattle.rx_machine.specs.declared.machine.Machine.{Machine}
+use Rattle.rx_machine.specs.declared.seat.Seat.{Seat}
+use Rattle.rx_machine.specs.Holds.{Acting}
+
+-- the next step is a request to the ledger, or the end
+abbrev pub IsAsked : Does → Type 0
+IsAsked (Local left vars) = ⊥
+IsAsked (Makes name words) = ⊥
+IsAsked (Gets name target index) = ⊥
+IsAsked (Puts target index value) = ⊥
+IsAsked (Forgets target) = ⊥
+IsAsked Opens = Unit {0}
+IsAsked (Calls place) = Unit {0}
+IsAsked (Spawns place) = Unit {0}
+IsAsked (Waits faults) = Unit {0}
+IsAsked Releases = Unit {0}
+IsAsked (Prints value) = Unit {0}
+IsAsked (Done faults) = Unit {0}
+
+-- what was told is the next step, which is a request or the end
+abbrev pub IsRequest : Next → Does → Type 0
+IsRequest next d = (next ≡ next_of d) × IsAsked d
+
+-- nothing is changed but the stores
+pub record OnlyStores {L : Type 0} (m m' : Machine L) : Type 0 where
+  pub history : m'.history ≡ m.history
+  pub ledger : m'.ledger ≡ m.ledger
+  pub seats : m'.seats ≡ m.seats
+  pub kills : m'.kills ≡ m.kills
+  pub killed : m'.killed ≡ m.killed
+  pub places : m'.places ≡ m.places
+  pub failed : m'.failed ≡ m.failed
+
+-- what one step leaves: the task has come further and has fewer steps left, or it has come to a request
+abbrev pub AfterStep : {L : Type 0} → (L → Tree → Type 0) → Shape → Block → Given → Machine L → ℕ → ℕ → PlaceId → Player → Seat → Game → Option Next → Type 0
+AfterStep stands shape code U m k i here q seat G None =
+    (r : Player) × Acting stands shape code U m k i here r seat G × (steps r.term + 1 ≤ steps q.term)
+AfterStep stands shape code U m k i here q seat G (Some next) =
+    Acting stands shape code U m k i here q seat G × IsRequest next (does q.vars here.0 U.places q.term)

@@ -1,0 +1,41 @@
+-- What a turn is made of, and what a run leaves.
+use Rattle.std.specs.Prelude.{◌≡◌, ℕ, ◌<◌, ◌≤◌, ◌%◌, true, [], length, Some, slice_get}
+use Rattle.rx_rules.specs.Code.{Block, work}
+use Rattle.rx_rules.specs.Tree.{Tree}
+use Rattle.rx_rules.specs.Run.{Given, Proper, NoneDue}
+use Rattle.rx_rules.specs.Fold.{tree_of}
+use Rattle.rx_rules.specs.Picked.{Game, Turn, IsPicked, enabled, tree_in}
+use Rattle.rx_trace.specs.Logs.{Log}
+use Rattle.rx_trace.specs.Events.{AllEvents, events_of}
+use Rattle.rx_trace.specs.Setups.{given}
+use Rattle.rx_runs.specs.SomeWords.{MakesSome}
+use Rattle.rx_script.specs.Shape.{Shape}
+use Rattle.rx_machine.specs.declared.machine.Machine.{Machine}
+use Rattle.rx_machine.specs.declared.seat.Seat.{Seat}
+use Rattle.rx_machine.specs.Slots.{seat_at}
+use Rattle.rx_machine.specs.Holds.{Holds, CanTurn, Makes}
+
+-- a script and a setup for which a machine runs on: no kills as yet
+pub record RunsOn (code : Block) (U : Given) : Type 0 where
+  pub proper : Proper U
+  pub few : work code ≤ 100000
+  pub makes : MakesSome code
+  pub spared : U.kills ≡ []
+
+-- the pick k moves the task of slot i
+pub record Taken {L : Type 0} (stands : L → Tree → Type 0) (shape : Shape) (code : Block) (U : Given) (m : Machine L) (k i : ℕ) (G : Game) : Type 0 where
+  pub can : CanTurn stands shape code U m G
+  pub on : RunsOn code U
+  pub none_due : NoneDue (length G.entries) G.kills
+  pub inside : i < length m.seats.items
+  pub seat : Seat
+  pub at : seat_at m.seats.items i ≡ Some seat
+  pub picked : slice_get (enabled (tree_in U G)) (k % length (enabled (tree_in U G))) ≡ Some seat.row
+
+-- a turn with the pick k leads to a game for which the machine stands
+abbrev pub AfterTurn : {L : Type 0} → (L → Tree → Type 0) → Shape → Block → Given → Machine L → ℕ → Game → Type 0
+AfterTurn stands shape code U m k G = Makes (Turn U k G true) (Holds stands shape code U m)
+
+-- what a picked run leaves: its history, the journals of its places, and a ledger that stands for its last tree
+abbrev pub HasRun : {L : Type 0} → Block → Given → (ℕ → ℕ) → (L → Tree → Type 0) → (Log × AllEvents × L) → Type 0
+HasRun code U picks stands r = IsPicked code U picks r.0.entries (events_of r.1) × (given r.0.setup ≡ U) × stands r.2 (tree_of U.places r.0.entries)

@@ -1,0 +1,58 @@
+-- What the slots of a machine say of the tasks of a tree.
+use Rattle.std.specs.Prelude.{◌≡◌, ℕ, cond, List, map, filter, reverse, Option, Some, None, is_none, slice_get}
+use Rattle.rx_base.specs.declared.ids.ScopeId.{ScopeId}
+use Rattle.rx_rules.specs.declared.tasks.Task.{Task}
+use Rattle.rx_rules.specs.declared.tasks.Kind.{Kind}
+use Rattle.rx_rules.specs.Tree.{Tree, task_of, opened_by}
+use Rattle.rx_rules.specs.Picked.{Player}
+use Rattle.rx_script.specs.Shape.{Shape}
+use Rattle.rx_control.specs.Stands.{StandsFor}
+use Rattle.rx_machine.specs.declared.seat.Seat.{Seat}
+use Rattle.rx_machine.specs.Held.{is_held, HeldInFront}
+use Rattle.rx_machine.specs.Spine.{Spine}
+
+-- the task, if no death has struck it
+abbrev pub if_unstruck : Task → Option Task
+if_unstruck x = cond (is_none x.struck) (Some x) None
+
+-- the same of what was found
+abbrev pub live_in : Option Task → Option Task
+live_in None = None
+live_in (Some x) = if_unstruck x
+
+-- the unstruck task of a number
+abbrev pub live_task : Tree → ℕ → Option Task
+live_task T n = live_in (task_of T (record { 0 = n }))
+
+-- the scopes that a task opened and that stand, the newest first
+abbrev pub own_scopes : Tree → ℕ → List ScopeId
+own_scopes T n = map (λ g. g.number) (filter (opened_by (record { 0 = n })) T.scopes)
+
+-- their kinds
+abbrev pub own_kinds : Tree → ℕ → List Kind
+own_kinds T n = map (λ g. g.kind) (filter (opened_by (record { 0 = n })) T.scopes)
+
+-- the seat is that of the unstruck task of a number, and its control stands for what the player has still to run
+pub record IsSeat (shape : Shape) (T : Tree) (n : ℕ) (p : Player) (seat : Seat) : Type 0 where
+  pub row : live_task T n ≡ Some seat.row
+  pub scopes : own_scopes T n ≡ reverse seat.scopes.items
+  pub term : StandsFor shape seat.control p.term
+  pub vars : seat.control.vars ≡ p.vars
+  pub batch : seat.batch ≡ p.batch
+  -- it waits exactly where its term does, and its open scopes are those of its term
+  pub waits : seat.row.waits ≡ is_held p.term
+  pub held : HeldInFront p.term
+  pub spine : Spine p.term (reverse (own_kinds T n))
+
+-- what stands in a slot: no seat exactly where no unstruck task has the number
+abbrev pub SlotIs : Shape → Tree → List Player → ℕ → Option Seat → Type 0
+SlotIs shape T players n None = live_task T n ≡ None
+SlotIs shape T players n (Some seat) = (p : Player) × (slice_get players n ≡ Some p) × IsSeat shape T n p seat
+
+-- the seat in a slot of the list
+abbrev pub seat_in : Option (Option Seat) → Option Seat
+seat_in None = None
+seat_in (Some o) = o
+
+abbrev pub seat_at : List (Option Seat) → ℕ → Option Seat
+seat_at seats n = seat_in (slice_get seats n)

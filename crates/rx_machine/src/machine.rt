@@ -1,0 +1,116 @@
+// The machine.
+ghost use Rattle.std.specs.Prelude.{◌≡◌, ◌<◌, ◌≤◌, false, [], ◌∷◌, Some, None, length, replicate, slice_set, IfOk};
+ghost use Rattle.rx_rules.specs.declared.tasks.Where.TheVariants.{At as Stays};
+ghost use Rattle.rx_rules.specs.Code.{Block};
+ghost use Rattle.rx_rules.specs.Terms.{Empty, no_vars, items};
+ghost use Rattle.rx_rules.specs.Tree.{the_root};
+ghost use Rattle.rx_rules.specs.Fold.{opening};
+ghost use Rattle.rx_rules.specs.Run.{Proper};
+ghost use Rattle.rx_rules.specs.Picked.{start_game};
+ghost use Rattle.rx_trace.specs.Setups.{given};
+ghost use Rattle.rx_script.specs.Shape.{Stands};
+ghost use Rattle.rx_control.specs.Stands.{StandsFor};
+ghost use Rattle.rx_machine.specs.Holds.{StoresAre, Holds};
+
+use crate::seat::Seat;
+use rx_base::{Batch, NoMemory, PlaceId, ScopeId, TaskId};
+use rx_check::Program;
+use rx_control::Control;
+use rx_rules::{Task, Where};
+use rx_store::Store;
+use rx_trace::{History, KillList, Setup};
+use rx_tree::FinishLedger;
+use std::alloc::Global;
+
+/// A run with its ledger.
+#[derive(Drop)]
+pub struct Machine<L: FinishLedger> {
+    pub(crate) ledger: L,
+    pub(crate) history: History,
+    /// The seat of each task that no death has struck, by the task's number; none for a task that was struck or has ended.
+    pub(crate) seats: Vec<Option<Seat>>,
+    /// The store of each place.
+    pub(crate) stores: Vec<Store>,
+    pub(crate) kills: KillList,
+    /// How many of the kills are done.
+    pub(crate) killed: usize,
+    pub(crate) places: u8,
+    /// Whether memory was refused, after which nothing goes on.
+    pub(crate) failed: bool,
+    pub(crate) alloc: Global,
+}
+
+impl<L: FinishLedger> Machine<L> {
+    /// Before the first turn of a program under a setup, over a ledger that stands for the opening tree.
+    pub fn open(alloc: Global, p: &Program, setup: Setup, ledger: L) -> Result<Machine<L>, NoMemory>
+        requires { (code : Block) × Stands p.now.script code × Proper (given setup) × L.stands ledger (opening (given setup).places) }
+        ensures { IfOk result (λ m. (code : Block) → Stands p.now.script code → Holds L.stands p.now.script code (given setup) m (start_game code (given setup))) }
+    {
+        let kills = setup.kills.copy(alloc)?;
+        let places = setup.places;
+        let stores = open_stores(alloc, places, setup.heap)?;
+        let seats = root_alone(alloc, root_seat(alloc, p)?)?;
+        Ok(Machine {
+            ledger,
+            history: History::open(alloc, setup),
+            seats,
+            stores,
+            kills,
+            killed: 0,
+            places,
+            failed: false,
+            alloc,
+        })
+    }
+}
+
+/// An open store for each place, in the order of the places.
+fn open_stores(alloc: Global, places: u8, words: u32) -> Result<Vec<Store>, NoMemory>
+    requires some { 0 < words }
+    requires most { words ≤ 4096 }
+    ensures { IfOk result (λ stores. StoresAre words 0 stores.items (replicate places [])) }
+{
+    let mut stores = Vec::new(alloc);
+    for place in 0..places {
+        stores.push(Store::open(alloc, PlaceId(place), words)?)?;
+    }
+    Ok(stores)
+}
+
+/// The seat of the main activity, which is at place 0 under the root.
+fn root_seat(alloc: Global, p: &Program) -> Result<Seat, NoMemory>
+    ensures row { IfOk result (λ seat. seat.row ≡ record { number = record { 0 = 0 }; under = the_root; place = Stays (record { 0 = 0 }); waits = false; struck = None }) }
+    ensures bare { IfOk result (λ seat. (seat.scopes.items ≡ []) × (seat.batch ≡ [])) }
+    ensures control { IfOk result (λ seat. (b : Block) → Stands p.now.script b → StandsFor p.now.script seat.control (items b [] Empty) × (seat.control.vars ≡ no_vars)) }
+{
+    let control = Control::main(alloc, p)?;
+    Ok(Seat {
+        row: Task {
+            number: TaskId(0),
+            under: ScopeId(0),
+            place: Where::At(PlaceId(0)),
+            waits: false,
+            struck: None,
+        },
+        scopes: Vec::new(alloc),
+        control,
+        batch: Batch::open(alloc),
+    })
+}
+
+/// The slots of one task.
+fn root_alone(alloc: Global, seat: Seat) -> Result<Vec<Option<Seat>>, NoMemory>
+    ensures { IfOk result (λ seats. seats.items ≡ Some seat ∷ []) }
+{
+    let mut seats = Vec::new(alloc);
+    seats.push(Some(seat))?;
+    Ok(seats)
+}
+
+/// Puts a seat into its slot.
+pub(crate) fn put_back(seats: &mut Vec<Option<Seat>>, i: usize, seat: Seat)
+    requires { i < length seats.old.items }
+    ensures { seats.new.items ≡ slice_set seats.old.items i (Some seat) }
+{
+    seats[i] = Some(seat);
+}

@@ -1,0 +1,68 @@
+// Turns: which task moves, and what it does.
+ghost use Rattle.std.specs.Prelude.{◌≡◌, ◌<◌, ℕ, suc, List, [], ◌∷◌, ◌++◌, cond, drop, length, Some, IfOk, OnOk, IfSome, MatchOption, option_map, None, slice_get, slice_set};
+ghost use Rattle.rx_rules.specs.Code.{Block};
+ghost use Rattle.rx_rules.specs.Run.{Given};
+ghost use Rattle.rx_rules.specs.Picked.{Game, tree_in};
+ghost use Rattle.rx_machine.specs.Slots.{seat_at};
+ghost use Rattle.rx_machine.specs.Holds.{Holds, CanTurn};
+ghost use Rattle.rx_machine.specs.Picking.{slot_able, able_from};
+
+use crate::machine::Machine;
+use crate::seat::Seat;
+use rx_base::NoMemory;
+use rx_check::Program;
+use rx_tree::FinishLedger;
+
+impl<L: FinishLedger> Machine<L> {
+    /// Whether the task of a slot is enabled.
+    pub(crate) fn is_able(&self, p: &Program, i: usize) -> bool
+        requires inside { i < length self.now.seats.items }
+        requires game { (code : Block) × (U : Given) × (G : Game) × CanTurn L.stands p.now.script code U self.now G }
+        ensures { (code : Block) (U : Given) (G : Game) → CanTurn L.stands p.now.script code U self.now G → result ≡ slot_able (tree_in U G) (seat_at self.now.seats.items i) }
+    {
+        let _ = p;
+        rx_sound::waiter_has_scope();
+        match &self.seats[i] {
+            None => false,
+            Some(seat) => {
+                if !seat.row.waits {
+                    return true;
+                }
+                self.ledger.ready(seat.caller())
+            }
+        }
+    }
+
+    /// The numbers of the enabled tasks, in ascending order. It asks of every slot: a plain body, until a set with ranks keeps
+    /// them.
+    pub(crate) fn able_numbers(&self, p: &Program) -> Result<Vec<usize>, NoMemory>
+        requires game { (code : Block) × (U : Given) × (G : Game) × CanTurn L.stands p.now.script code U self.now G }
+        ensures { IfOk result (λ v. (code : Block) (U : Given) (G : Game) → CanTurn L.stands p.now.script code U self.now G → v.items ≡ able_from (tree_in U G) 0 self.now.seats.items) }
+    {
+        let mut numbers = Vec::new(self.alloc);
+        for i in 0..self.seats.len() {
+            let able = self.is_able(p, i);
+            note(&mut numbers, able, i)?;
+        }
+        Ok(numbers)
+    }
+}
+
+/// Notes a number where it is wanted.
+fn note(numbers: &mut Vec<usize>, wanted: bool, i: usize) -> Result<(), NoMemory>
+    ensures { OnOk result (numbers.new.items ≡ numbers.old.items ++ cond wanted (i ∷ []) []) }
+{
+    if wanted {
+        numbers.push(i)?;
+    }
+    Ok(())
+}
+
+/// Takes the seat out of its slot.
+pub(crate) fn take_seat(seats: &mut Vec<Option<Seat>>, i: usize) -> Option<Seat>
+    requires { i < length seats.old.items }
+    ensures taken { result ≡ seat_at seats.old.items i }
+    ensures left { seats.new.items ≡ slice_set seats.old.items i None }
+{
+    seats[i].take()
+}

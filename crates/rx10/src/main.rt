@@ -1,0 +1,32 @@
+//! The program: it runs the script that standard input gives and writes the trace to standard output. `rx10_step` is the whole
+//! of it over any source and sink, and its contract is the theorem: a status `Done` says that the bytes were a script and that
+//! what was written is the trace of a run of it. `main` makes the words, the source and the sink of what the system gives, and
+//! says the status. It stands on rx_script, rx_machine, rx_tree and rx_trace, and on the laws of rx_runs.
+#![tactic(auto)]
+
+mod outside;
+mod run;
+mod status;
+#[cfg(test)]
+mod tests;
+mod top;
+mod words;
+
+use rx_base::{StdSink, StdSource};
+pub use status::Status;
+use std::io;
+use std::process::ExitCode;
+pub use top::rx10_step;
+
+fn main(rt: HostRuntime) -> ExitCode {
+    let status = match words::given(&rt) {
+        Ok(words) => {
+            let mut input = StdSource::over(rt.reader());
+            let mut out = StdSink::over(io::writer(&rt));
+            rx10_step(rt.alloc(), &words, &mut input, &mut out)
+        }
+        Err(_) => Status::NoMemory,
+    };
+    status.tell(&rt);
+    ExitCode::from(status.exit())
+}

@@ -1,0 +1,69 @@
+// Reads a source to its end, and writes a whole text.
+ghost use Rattle.std.specs.Prelude.{◌≡◌, ◌<◌, ◌≤◌, ℕ, List, length, take, IfOk, OnOk, OnErr, IsErrOf};
+ghost use Rattle.std.specs.Io.KnownBytes.{Consumes, Appends, IsAtEnd};
+ghost use Rattle.rx_base.specs.Outside.{Rose};
+ghost use Rattle.rx10.specs.declared.outside.ReadStop.TheVariants.{NoMemory, TooLong, Fault};
+
+use rx_base::{Failed, Sink, Source};
+use std::alloc::{AllocError, Global};
+
+// Why reading stopped before the end.
+#[derive(Clone, Copy, Debug, PartialEq, Eq)]
+pub(crate) enum ReadStop {
+    NoMemory,
+    TooLong,
+    Fault,
+}
+
+impl From<AllocError> for ReadStop {
+    ghost from_gives = { λ _ e. e ≡ NoMemory };
+
+    fn from(_: AllocError) -> Self {
+        ReadStop::NoMemory
+    }
+}
+
+// How many bytes a script may have.
+const LIMIT: usize = 65_536;
+
+// All bytes of a source. It takes at most one byte more than a script may have.
+pub(crate) fn read_all<S: Source>(alloc: Global, input: &mut S) -> Result<Vec<u8>, ReadStop>
+    ensures whole { IfOk result (λ v. Consumes (S.left input.old) (S.left input.new) v.items × IsAtEnd (S.left input.new) × (length v.items ≤ 65536)) }
+    ensures too_long { IsErrOf result TooLong → (bytes : List ℕ) × Consumes (S.left input.old) (S.left input.new) bytes × (length bytes ≡ 65537) }
+    ensures fault { IsErrOf result Fault → Rose (S.faults input.old) (S.faults input.new) }
+    ensures taken { (bytes : List ℕ) × Consumes (S.left input.old) (S.left input.new) bytes × (length bytes ≤ 65537) }
+    ensures later { S.faults input.old ≤ S.faults input.new }
+{
+    let mut bytes = Vec::new(alloc);
+    let mut buf = [0u8; 4096];
+    'reads: while bytes.len() <= LIMIT {
+        let want = (LIMIT + 1 - bytes.len()).min(4096);
+        match input.read(&mut buf[..want]) {
+            Ok(count) => {
+                if count == 0 {
+                    return Ok(bytes);
+                }
+                bytes.extend_from_slice(&buf[..count])?;
+            }
+            Err(Failed) => return Err(ReadStop::Fault),
+        }
+    }
+    Err(ReadStop::TooLong)
+}
+
+// Writes all bytes. After a fault a proper front of them is written.
+pub(crate) fn write_all<K: Sink>(out: &mut K, bytes: &[u8]) -> Result<(), Failed>
+    ensures whole { OnOk result (Appends (K.written out.old) (K.written out.new) bytes.now) }
+    ensures front { OnErr result ((n : ℕ) × (n < length bytes.now) × Appends (K.written out.old) (K.written out.new) (take n bytes.now)) }
+    ensures fault { OnErr result (Rose (K.faults out.old) (K.faults out.new)) }
+    ensures later { K.faults out.old ≤ K.faults out.new }
+{
+    let mut done = 0;
+    'writes: while done < bytes.len() {
+        match out.write(&bytes[done..]) {
+            Ok(count) => done += count,
+            Err(Failed) => return Err(Failed),
+        }
+    }
+    Ok(())
+}

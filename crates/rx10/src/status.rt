@@ -1,0 +1,52 @@
+// What became of a command.
+ghost use Rattle.std.specs.Prelude.{◌≡◌};
+ghost use Rattle.rx10.specs.Top.{exit_of};
+
+/// What became of a command.
+#[derive(Clone, Copy, Debug, PartialEq, Eq)]
+pub enum Status {
+    /// The run ended, and its whole trace was written.
+    Done,
+    /// The words are no command. `word` is the number of the first bad one, from 0; where they are too few, how many there are.
+    Usage { word: u32 },
+    /// The source's bytes are no script. `at` is 0 as yet.
+    Syntax { at: u32 },
+    /// The source gave more than 65,536 bytes.
+    TooLong,
+    /// The source failed.
+    ReadFault,
+    /// The sink failed. It has taken a proper front of the trace.
+    WriteFault,
+    /// There is no memory left.
+    NoMemory,
+}
+
+impl Status {
+    /// The status that the program ends with.
+    pub fn exit(self) -> u8
+        ensures { result ≡ exit_of self }
+    {
+        match self {
+            Status::Done => 0,
+            Status::Usage { .. } => 2,
+            Status::Syntax { .. } => 3,
+            Status::TooLong => 5,
+            Status::ReadFault => 6,
+            Status::WriteFault => 7,
+            Status::NoMemory => 8,
+        }
+    }
+
+    /// Writes its line to standard error; `Done` has none. Where that fails, nothing more can be said.
+    pub fn tell<R: Eprint>(self, rt: &R) {
+        let _ = match self {
+            Status::Done => Ok(()),
+            Status::Usage { word } => eprintln!(rt; "usage {word}"),
+            Status::Syntax { at } => eprintln!(rt; "syntax {at}"),
+            Status::TooLong => eprintln!(rt; "too long"),
+            Status::ReadFault => eprintln!(rt; "read fault"),
+            Status::WriteFault => eprintln!(rt; "write fault"),
+            Status::NoMemory => eprintln!(rt; "no memory"),
+        };
+    }
+}

@@ -1,6 +1,16 @@
 // What no clause says: that scripts run to their end, with their whole text, and what faults and bad words give.
+ghost use Rattle.std.specs.Prelude.{◌≤◌};
+ghost use Rattle.rx_rules.specs.Code.{Block, work};
+ghost use Rattle.rx_script.specs.Shape.{Stands};
+ghost use Rattle.rx_script.specs.Thin.{IsThin};
+
 use crate::{Status, rx10_step};
 use rx_base::{MemSink, MemSource, NoMemory, RxWord};
+use rx_check::Program;
+use rx_machine::{ListPicks, Machine, Turn};
+use rx_script::{Script, read_script};
+use rx_trace::{KillList, Setup};
+use rx_tree::TreeLedger;
 use std::alloc::Global;
 
 // What a command answers and writes, where the calls of these numbers fail and the sink has so much room.
@@ -104,6 +114,35 @@ fn empty_script(rt: HostRuntime) -> Result<(), NoMemory> {
 fn the_oldest_task_moves_first(rt: HostRuntime) -> Result<(), NoMemory> {
     let script = plain(b"async { print 1; } print 2;");
     assert!(rt; gives(rt.alloc(), &script, Status::Done, BESIDE_TEXT)?);
+    Ok(())
+}
+
+// How many tasks are enabled before the first turn, and what that turn does.
+fn first_turn(alloc: Global, script: Script) -> Result<(u32, Turn), NoMemory>
+    requires { (code : Block) × Stands script code × IsThin code × (work code ≤ 65536) }
+{
+    let program = Program::of(script);
+    let setup = Setup {
+        places: 2,
+        heap: 256,
+        kills: KillList::open(alloc),
+    };
+    let ledger = TreeLedger::open(alloc, setup.places)?;
+    let mut picks = ListPicks::open(alloc, &[])?;
+    let mut machine = Machine::open(alloc, &program, setup, ledger)?;
+    let enabled = machine.enabled();
+    let turn = machine.turn(&program, &mut picks)?;
+    Ok((enabled, turn))
+}
+
+#[test]
+fn the_first_turn_moves(rt: HostRuntime) -> Result<(), NoMemory> {
+    let Ok(script) = read_script(rt.alloc(), ORDINARY) else {
+        return Err(NoMemory);
+    };
+    let (enabled, turn) = first_turn(rt.alloc(), script)?;
+    assert_eq!(rt; enabled, 1);
+    assert_eq!(rt; turn, Turn::Moved);
     Ok(())
 }
 

@@ -125,3 +125,11 @@ taken stands shape code U m G ns k i come sound can on able at =
       at = found;
       picked = same-pick _ (enabled T) k (length ns) here.0.row rows (ap length able ∙ able_length T 0 m.seats.items) here.3;
     }
+
+-- how many numbers are counted is how many tasks are enabled
+pub all-counted : {L : Type 0} (stands : L → Tree → Type 0) (shape : Shape) (code : Block) (U : Given) (m : Machine L) (G : Game) (ns : List ℕ) → GamesCome → FoldReached → ReachedSound → Holds stands shape code U m G → RunsOn code U → NoRoot G.entries → ns ≡ able_from (tree_in U G) 0 m.seats.items → length ns ≡ length (enabled (tree_in U G))
+all-counted stands shape code U m G ns come fold sound h on unreleased able =
+    let T : Tree = tree_in U G in
+    let can = can-turn stands shape code U m G come fold h on unreleased in
+    let rows = enabled_rows shape T G.players m.seats.items (sound T can.reached).tasks_fall h.shares.slots h.seats in
+    ap length able ∙ (able_length T 0 m.seats.items ∙ ap length rows)

@@ -23,3 +23,4 @@ mod waiting;
 
 pub use machine::Machine;
 pub use picks::{ListPicks, Picks};
+pub use turn::Turn;

@@ -31,7 +31,7 @@ impl<L: FinishLedger> Machine<L> {
     {
         rx_runs::turns_are_bounded();
         for _made in 0..LIMIT {
-            if !self.turn(p, picks)? {
+            if !self.make_turn(p, picks)? {
                 return self.finish();
             }
         }

@@ -1,8 +1,8 @@
 // A turn: the pick's task moves, or the root is released.
-ghost use Rattle.std.specs.Prelude.{◌≡◌, ◌<◌, ◌%◌, ℕ, suc, length, slice_get, Some, Ok, true, false};
+ghost use Rattle.std.specs.Prelude.{◌≡◌, ◌<◌, ◌%◌, ℕ, suc, length, slice_get, Some, Ok, OnOk, OnErr, true, false};
 ghost use Rattle.rx_rules.specs.Code.{Block};
 ghost use Rattle.rx_rules.specs.Run.{Given, NoRoot};
-ghost use Rattle.rx_rules.specs.Picked.{Game, Turn};
+ghost use Rattle.rx_rules.specs.Picked.{Game, Turn as MadeTurn};
 ghost use Rattle.rx_machine.specs.Holds.{Holds, Finished, Makes};
 ghost use Rattle.rx_machine.specs.Runs.{RunsOn, AfterTurn};
 
@@ -12,12 +12,47 @@ use rx_base::NoMemory;
 use rx_check::Program;
 use rx_tree::FinishLedger;
 
+/// Whether a turn moved a task or ended the run.
+#[derive(Clone, Copy, Debug, PartialEq, Eq)]
+pub enum Turn {
+    /// An enabled task has moved.
+    Moved,
+    /// No task is enabled, and the root was released.
+    Ended,
+}
+
 impl<L: FinishLedger> Machine<L> {
+    /// Makes the next turn of the picked run, with the program that the machine was opened with; the run has not ended. `Ended`
+    /// comes exactly with the release of the root. After `NoMemory` the machine has failed, and every later turn answers `NoMemory`.
+    pub fn turn<P: Picks>(&mut self, p: &Program, picks: &mut P) -> Result<Turn, NoMemory>
+        requires game { self.old.failed ≡ false → (code : Block) × (U : Given) × (G : Game) × Holds L.stands p.now.script code U self.old G × RunsOn code U × NoRoot G.entries }
+        ensures moved { result ≡ Ok Turn.Moved → ((code : Block) (U : Given) (G : Game) → Holds L.stands p.now.script code U self.old G → RunsOn code U → NoRoot G.entries → AfterTurn L.stands p.now.script code U self.new (P.number picks.old 0) G) × ((j : ℕ) → P.number picks.new j ≡ P.number picks.old (suc j)) }
+        ensures ended { result ≡ Ok Turn.Ended → (code : Block) (U : Given) (G : Game) → Holds L.stands p.now.script code U self.old G → RunsOn code U → NoRoot G.entries → Makes (MadeTurn U (P.number picks.old 0) G false) (Finished L.stands U self.new) }
+        ensures failed { OnOk result (self.old.failed ≡ false) }
+        ensures fails { OnErr result (self.new.failed ≡ true) }
+    {
+        if self.failed {
+            return Err(NoMemory);
+        }
+        match self.make_turn(p, picks) {
+            Ok(true) => Ok(Turn::Moved),
+            Ok(false) => Ok(Turn::Ended),
+            Err(_) => {
+                self.failed = true;
+                Err(NoMemory)
+            }
+        }
+    }
+
     /// Makes one turn: true where an enabled task has moved, false where none is enabled and the root is released.
-    pub(crate) fn turn<P: Picks>(&mut self, p: &Program, picks: &mut P) -> Result<bool, NoMemory>
+    pub(crate) fn make_turn<P: Picks>(
+        &mut self,
+        p: &Program,
+        picks: &mut P,
+    ) -> Result<bool, NoMemory>
         requires game { (code : Block) × (U : Given) × (G : Game) × Holds L.stands p.now.script code U self.old G × RunsOn code U × NoRoot G.entries }
         ensures moved { result ≡ Ok true → ((code : Block) (U : Given) (G : Game) → Holds L.stands p.now.script code U self.old G → RunsOn code U → NoRoot G.entries → AfterTurn L.stands p.now.script code U self.new (P.number picks.old 0) G) × ((j : ℕ) → P.number picks.new j ≡ P.number picks.old (suc j)) }
-        ensures ended { result ≡ Ok false → (code : Block) (U : Given) (G : Game) → Holds L.stands p.now.script code U self.old G → RunsOn code U → NoRoot G.entries → Makes (Turn U (P.number picks.old 0) G false) (Finished L.stands U self.new) }
+        ensures ended { result ≡ Ok false → (code : Block) (U : Given) (G : Game) → Holds L.stands p.now.script code U self.old G → RunsOn code U → NoRoot G.entries → Makes (MadeTurn U (P.number picks.old 0) G false) (Finished L.stands U self.new) }
     {
         rx_runs::games_come();
         rx_sound::fold_is_reached();

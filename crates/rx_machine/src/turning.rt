@@ -1,10 +1,12 @@
 // Turns: which task moves, and what it does.
-ghost use Rattle.std.specs.Prelude.{◌≡◌, ◌<◌, ℕ, suc, List, [], ◌∷◌, ◌++◌, cond, drop, length, Some, IfOk, OnOk, IfSome, MatchOption, option_map, None, slice_get, slice_set};
+ghost use Rattle.std.specs.Prelude.{◌≡◌, ◌<◌, ◌+◌, ◌^◌, ℕ, suc, List, [], ◌∷◌, ◌++◌, cond, drop, length, Some, IfOk, OnOk, IfSome, MatchOption, option_map, None, slice_get, slice_set};
 ghost use Rattle.rx_rules.specs.Code.{Block};
-ghost use Rattle.rx_rules.specs.Run.{Given};
-ghost use Rattle.rx_rules.specs.Picked.{Game, tree_in};
+ghost use Rattle.rx_rules.specs.Run.{Given, NoRoot};
+ghost use Rattle.rx_rules.specs.Picked.{Game, enabled, tree_in};
 ghost use Rattle.rx_machine.specs.Slots.{seat_at};
+ghost use Rattle.rx_script.specs.Shape.{Shape};
 ghost use Rattle.rx_machine.specs.Holds.{Holds, CanTurn};
+ghost use Rattle.rx_machine.specs.Runs.{RunsOn};
 ghost use Rattle.rx_machine.specs.Picking.{slot_able, able_from};
 
 use crate::machine::Machine;
@@ -15,12 +17,11 @@ use rx_tree::FinishLedger;
 
 impl<L: FinishLedger> Machine<L> {
     /// Whether the task of a slot is enabled.
-    pub(crate) fn is_able(&self, p: &Program, i: usize) -> bool
+    pub(crate) fn is_able(&self, i: usize) -> bool
         requires inside { i < length self.now.seats.items }
-        requires game { (code : Block) × (U : Given) × (G : Game) × CanTurn L.stands p.now.script code U self.now G }
-        ensures { (code : Block) (U : Given) (G : Game) → CanTurn L.stands p.now.script code U self.now G → result ≡ slot_able (tree_in U G) (seat_at self.now.seats.items i) }
+        requires game { (shape : Shape) × (code : Block) × (U : Given) × (G : Game) × CanTurn L.stands shape code U self.now G }
+        ensures { (shape : Shape) (code : Block) (U : Given) (G : Game) → CanTurn L.stands shape code U self.now G → result ≡ slot_able (tree_in U G) (seat_at self.now.seats.items i) }
     {
-        let _ = p;
         rx_sound::waiter_has_scope();
         match &self.seats[i] {
             None => false,
@@ -33,19 +34,43 @@ impl<L: FinishLedger> Machine<L> {
         }
     }
 
+    /// How many tasks are enabled. It takes no memory. It asks of every slot: a plain body, until a set with ranks keeps them.
+    pub fn enabled(&self) -> u32
+        requires game { (shape : Shape) × (code : Block) × (U : Given) × (G : Game) × Holds L.stands shape code U self.now G × RunsOn code U × NoRoot G.entries }
+        ensures { (shape : Shape) (code : Block) (U : Given) (G : Game) → Holds L.stands shape code U self.now G → RunsOn code U → NoRoot G.entries → result ≡ length (enabled (tree_in U G)) }
+    {
+        rx_runs::games_come();
+        rx_sound::fold_is_reached();
+        rx_sound::reached_is_sound();
+        let mut count = 0u32;
+        for i in 0..self.seats.len() {
+            count = counted(count, self.is_able(i));
+        }
+        count
+    }
+
     /// The numbers of the enabled tasks, in ascending order. It asks of every slot: a plain body, until a set with ranks keeps
     /// them.
     pub(crate) fn able_numbers(&self, p: &Program) -> Result<Vec<usize>, NoMemory>
         requires game { (code : Block) × (U : Given) × (G : Game) × CanTurn L.stands p.now.script code U self.now G }
         ensures { IfOk result (λ v. (code : Block) (U : Given) (G : Game) → CanTurn L.stands p.now.script code U self.now G → v.items ≡ able_from (tree_in U G) 0 self.now.seats.items) }
     {
+        let _ = p;
         let mut numbers = Vec::new(self.alloc);
         for i in 0..self.seats.len() {
-            let able = self.is_able(p, i);
+            let able = self.is_able(i);
             note(&mut numbers, able, i)?;
         }
         Ok(numbers)
     }
+}
+
+/// One more where it is wanted.
+fn counted(count: u32, wanted: bool) -> u32
+    requires { count < 2 ^ 31 }
+    ensures { (i : ℕ) → result ≡ count + length (cond wanted (i ∷ []) []) }
+{
+    if wanted { count + 1 } else { count }
 }
 
 /// Notes a number where it is wanted.

@@ -12,7 +12,7 @@ loop-i-preserved g c = λ code U G h.
     let T = tree_in U G in
     let inside : c.loop-i.i < length c.args.self.now.seats.items = search rules in
     ap (λ v. v ++ able_from T (c.loop-i.i + 1) (drop (c.loop-i.i + 1) c.args.self.now.seats.items))
-    (c.in_ok-note.ensures ∙ ap (λ (b : Bool). c.loop-i.numbers.items ++ cond b (c.loop-i.i ∷ []) []) (c.is_able-able.ensures code U G h))
+    (c.in_ok-note.ensures ∙ ap (λ (b : Bool). c.loop-i.numbers.items ++ cond b (c.loop-i.i ∷ []) []) (c.is_able-able.ensures c.args.p.now.script code U G h))
     ∙ able_more T c.loop-i.i c.args.self.now.seats.items c.loop-i.numbers.items (able_from T 0 c.args.self.now.seats.items) inside (c.loop-i.invariant code U G h)
 
 pub returns : goal.returns

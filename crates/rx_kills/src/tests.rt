@@ -1,0 +1,63 @@
+// The worked spellings, and two kills at one moment.
+ghost use Rattle.std.specs.Prelude.{◌≡◌};
+
+use crate::{Kills, read_kill};
+use rx_base::{Kill, PlaceId};
+use rx_trace::KillList;
+use std::test::Fail;
+
+fn planned(place: u8, moment: u32) -> Kill
+    ensures { result ≡ record { place = record { 0 = place }; moment = moment } }
+{
+    Kill {
+        place: PlaceId(place),
+        moment,
+    }
+}
+
+#[test]
+fn only_the_one_spelling_is_read(rt: HostRuntime) {
+    for (word, want) in [
+        (b"0@0".as_slice(), Some((0, 0))),
+        (b"1@3", Some((1, 3))),
+        (b"15@1000000", Some((15, 1_000_000))),
+        (b"01@3", None),
+        (b"1@03", None),
+        (b"16@0", None),
+        (b"1@1000001", None),
+        (b"-1@3", None),
+        (b"1@-3", None),
+        (b"1@3 ", None),
+        (b"1@", None),
+        (b"@3", None),
+        (b"1", None),
+        (b"", None),
+    ] {
+        assert_eq!(rt;
+            read_kill(word),
+            want.map(|w| Kill {
+                place: PlaceId(w.0),
+                moment: w.1
+            })
+        );
+    }
+}
+
+#[test]
+fn two_kills_at_one_moment(rt: HostRuntime) -> Result<(), Fail> {
+    let mut list = KillList::open(rt.alloc());
+    list.push(planned(1, 4))?;
+    list.push(planned(2, 4))?;
+    list.push(planned(3, 9))?;
+    let mut kills = Kills::open(rt.alloc(), &list)?;
+    assert_eq!(rt; kills.due(3), None);
+    assert_eq!(rt; kills.due(4), Some(PlaceId(1)));
+    kills.done();
+    assert_eq!(rt; kills.due(5), Some(PlaceId(2)));
+    kills.done();
+    assert_eq!(rt; kills.due(8), None);
+    assert_eq!(rt; kills.due(9), Some(PlaceId(3)));
+    kills.done();
+    assert_eq!(rt; kills.due(u32::MAX), None);
+    Ok(())
+}

@@ -1,131 +1,175 @@
 -- What a reader has read of the tokens.
-use Rattle.std.proofs.Common.{◌≡◌, ℕ, ◌+◌, ◌<◌, ◌≤◌, List, [], ◌∷◌, ◌++◌, length, ap, sym, ◌∙◌, subst, arith, append_assoc, append-nil, true, false, ◌==◌}
-use Rattle.std.proofs.lemmas.Bool.Decides.{nat_tests}
-use Rattle.std.proofs.lemmas.List.{nil_from_length}
-use Rattle.std.specs.Prelude.{Some, None, option_and_then, slice_get}
-use Rattle.rx_rules.specs.Code.{Block}
+use Rattle.std.proofs.Common.{◌≡◌, ◌+◌, ◌<◌, ◌≤◌, ◌^◌, List, [], ◌∷◌, ◌++◌, length, vec_len, refl, ap, sym, ◌∙◌, subst, arith, append-nil, length-append, Vec, Global, true, false}
+use Rattle.std.specs.Prelude.{Some, Result, Ok, Err, IfOk, option_and_then, slice_get}
+use Rattle.rx_rules.specs.Code.{Stmt, SetTo, New, Get, Put, Forget, Print, Throw, Async, AtAsync, At, Finish, If, Repeat, Try, Block}
 use Rattle.rx_script.specs.Shape.{Shape, IsSmall, ListStands, BlockStands}
-use Rattle.rx_script.specs.Grammar.{spellings, AllFit}
-use Rattle.rx_script.specs.Items.{Item, item_words}
-use Rattle.rx_script.specs.Machine.{Frame, State, free, step, run}
-use Rattle.rx_script.specs.Thin.{IsPlain, item_of, piece_at}
-use Rattle.rx_script.specs.Arena.{Holds, Steps, Counts, blocks_of, shape_of}
+use Rattle.rx_script.specs.Grammar.{spelling}
+use Rattle.rx_script.specs.Items.{Opener, ByAsync, ByAtAsync, ByAt, ByFinish, ByIf, ByRepeat, ByTry, Item, Whole, Open, Close, Else, Catch, item_words, opener_words, item_at, Mode, Outermost, Inside, AfterFirst, AfterBody}
+use Rattle.rx_script.specs.Machine.{Frame, Waits, Free, ForElse, ForCatch, State, free, step, run, mode_in, mode}
+use Rattle.rx_script.specs.Pieces.{mode_of, Grows, ItemStands, IsItemAnswer}
+use Rattle.rx_script.specs.Places.{IsPlace}
+use Rattle.rx_script.specs.Arena.{Holds, MayTake, Takes, Counts, IsRead, blocks_of}
 use Rattle.rx_script.specs.declared.token.Token.{Token}
 use Rattle.rx_script.specs.declared.items.Item.{Item as Piece}
+use Rattle.rx_script.specs.declared.items.Mode.{Mode as Stand}
+use Rattle.rx_script.specs.declared.items.Mode.TheVariants as stands
+use Rattle.rx_script.specs.declared.nodes.Expr.{Expr as Part}
 use Rattle.rx_script.specs.declared.nodes.StmtId.{StmtId}
 use Rattle.rx_script.specs.declared.reader.Reader.{Reader}
-use Rattle.rx_script.proofs.Runs.{words, words-append, words-all, all_items, some-is, some-none, start, run-on}
-use Rattle.rx_script.proofs.Sound.{AllItems, sound, all-append, items-fit}
-use Rattle.rx_script.proofs.Places.{HasRun, Rest, goes-on}
-use Rattle.rx_script.proofs.Plain.{AllPlain, plain-append, plain-rest, plain-items, items-plain, plain-piece, piece-plain, piece-item, piece-again, piece-takes, piece-shorter}
-use Rattle.rx_script.proofs.Arena.{Extends, extends-by, list-grows, get-last, all-pending}
+use Rattle.rx_script.proofs.Runs.{words, some-and, start, run-append}
+use Rattle.rx_script.proofs.Spelt.{takes}
+use Rattle.rx_script.proofs.Places.{HasRun, place, run-more, script-read}
+use Rattle.rx_script.proofs.Arena.{Extends, extends-by, list-grows, get-last, holds-exprs}
 
 pub record HasRead (r : Reader) (tokens rest : List Token) : Type 0 where
   pub items : List Item
-  pub outer : List (Block × Frame)
-  pub so_far : Block
-  pub holds : Holds r outer so_far
+  pub state : State
+  pub holds : Holds r state
   pub whole : tokens ≡ words items ++ rest
-  pub runs : HasRun items (free outer so_far)
-  pub plain : AllPlain items
+  pub runs : HasRun items state
   pub stmts : length r.stmts.items + length rest ≤ length tokens
   pub exprs : length r.exprs.items + length rest ≤ length tokens
   pub blocks : length (blocks_of r) + length rest ≤ length tokens
   pub pending : length r.pending.items + length rest ≤ length tokens
   pub small : IsSmall (blocks_of r)
 
+-- an item has a token
+spelling-some : (s : Stmt) → 0 < length (spelling s)
+spelling-some (SetTo n e) = omega arith
+spelling-some (New n k) = omega arith
+spelling-some (Get n t e) = omega arith
+spelling-some (Put t i e) = omega arith
+spelling-some (Forget t) = omega arith
+spelling-some (Print e) = omega arith
+spelling-some (Throw e) = omega arith
+spelling-some (Async b) = omega arith
+spelling-some (AtAsync e b) = omega arith
+spelling-some (At e b) = omega arith
+spelling-some (Finish b) = omega arith
+spelling-some (If e a b) = omega arith
+spelling-some (Repeat n b) = omega arith
+spelling-some (Try a d b) = omega arith
+
+opener-some : (o : Opener) → 0 < length (opener_words o)
+opener-some ByAsync = omega arith
+opener-some (ByAtAsync e) = omega arith
+opener-some (ByAt e) = omega arith
+opener-some ByFinish = omega arith
+opener-some (ByIf e) = omega arith
+opener-some (ByRepeat n) = omega arith
+opener-some ByTry = omega arith
+
+item-some : (x : Item) → 0 < length (item_words x)
+item-some (Whole s) = spelling-some s
+item-some (Open o) = opener-some o
+item-some Close = omega arith
+item-some Else = omega arith
+item-some (Catch false) = omega arith
+item-some (Catch true) = omega arith
+
+pub shorter : (m : Mode) (rest after : List Token) (x : Item) → item_at m rest ≡ Ok (x, after) → length after < length rest
+shorter m rest after x e =
+    let k = takes m rest (x, after) e in
+    omega (arith, ap length k.1, length-append (item_words x) after, item-some x)
+
+-- the step of the last item
+last-step : (xs : List Item) (s t : State) (x : Item) → run start xs ≡ Some s → run start (xs ++ x ∷ []) ≡ Some t → step s x ≡ Some t
+last-step xs s t x e f =
+    let one : run s (x ∷ []) ≡ Some t = ap (option_and_then (λ v. run v (x ∷ []))) (sym e) ∙ sym (run-append start xs (x ∷ [])) ∙ f in
+    let m = some-and (step s x) (λ v. run v []) t one in
+    m.1 ∙ m.2
+
+-- an item was read, with these expressions
+pub record Reads (r : Reader) (es : Vec Part Global) (m : Mode) (rest after : List Token) (piece : Piece) : Type 0 where
+  pub grows : Grows r.exprs.items es.items
+  pub item : Item
+  pub stands : ItemStands es.items piece item
+  pub reads : item_at m rest ≡ Ok (item, after)
+
+pub reads-of : {S : Type 0} (r : Reader) (es : Vec Part Global) (m n : Mode) (rest : List Token) (piece : Piece) (after : S) (left : S → List Token) (a : Result (Piece × S) S) → Grows r.exprs.items es.items → m ≡ n → a ≡ Ok (piece, after) → IsItemAnswer es.items a left (item_at m rest) → Reads r es n rest (left after) piece
+reads-of {S} r es m n rest piece after left a g e f h =
+    let k : IsItemAnswer es.items (Ok (piece, after)) left (item_at m rest) = subst (λ (b : Result (Piece × S) S). IsItemAnswer es.items b left (item_at m rest)) f h in
+    record { grows = g; item = k.0; stands = k.1; reads = ap (λ o. item_at o rest) (sym e) ∙ k.2 }
+
+pub refused-of : {S : Type 0} (es : List Part) (m n : Mode) (rest : List Token) (bad : S) (left : S → List Token) (a : Result (Piece × S) S) → m ≡ n → a ≡ Err bad → IsItemAnswer es a left (item_at m rest) → item_at n rest ≡ Err (left bad)
+refused-of {S} es m n rest bad left a e f h =
+    let k : IsItemAnswer es (Err bad) left (item_at m rest) = subst (λ (b : Result (Piece × S) S). IsItemAnswer es b left (item_at m rest)) f h in
+    ap (λ o. item_at o rest) (sym e) ∙ k
+
+pub ok-at : {A E : Type 0} (P : A → Type 0) (r : Result A E) (a : A) → r ≡ Ok a → IfOk r P → P a
+ok-at {A} {E} P r a e h = subst (λ (o : Result A E). IfOk o P) e h
+
+-- it may stand there
+pub may-take : (r : Reader) (es : Vec Part Global) (tokens rest after : List Token) (piece : Piece) (i : HasRead r tokens rest) → Reads r es (mode i.state) rest after piece → MayTake (record r { exprs = es }) piece
+may-take r es tokens rest after piece i a =
+    let t = run-more i.items i.state rest a.item after i.runs a.reads in
+    record {
+      state = i.state;
+      next = t.0;
+      item = a.item;
+      holds = holds-exprs r es i.state a.grows i.holds;
+      stands = a.stands;
+      steps = last-step i.items i.state t.0 a.item i.runs.runs t.1.runs;
+    }
+
 -- one item more
-whole-more : (xs : List Item) (x : Item) (tokens rest after : List Token) → tokens ≡ words xs ++ rest → rest ≡ item_words x ++ after → tokens ≡ words (xs ++ x ∷ []) ++ after
-whole-more xs x tokens rest after h e =
-    h ∙ ap (λ ts. words xs ++ ts) e ∙ sym (append_assoc (words xs) (item_words x) after)
-    ∙ ap (λ ts. ts ++ after) (ap (λ us. words xs ++ us) (sym (append-nil (item_words x))) ∙ sym (words-append xs (x ∷ [])))
-
-pub reads-more : (old new : Reader) (tokens rest after : List Token) (c : Piece) → (i : HasRead old tokens rest) → piece_at rest ≡ Some (c, after) → Steps true i.outer i.so_far (item_of c) new → Counts old new → IsSmall (blocks_of new) → HasRead new tokens after
-reads-more old new tokens rest after c i e s n small =
-    let t = piece-takes rest (c, after) e in
-    let shorter = piece-shorter rest (c, after) e in
+pub reads-more : (r : Reader) (es : Vec Part Global) (new : Reader) (tokens rest after : List Token) (piece : Piece) (i : HasRead r tokens rest) → Reads r es (mode i.state) rest after piece → vec_len es + length after ≤ vec_len r.exprs + length rest → Takes (record r { exprs = es }) piece new → Counts (record r { exprs = es }) new → length tokens < 2 ^ 31 → HasRead new tokens after
+reads-more r es new tokens rest after piece i a few k n short =
+    let t = run-more i.items i.state rest a.item after i.runs a.reads in
+    let l = shorter (mode i.state) rest after a.item a.reads in
     record {
-      items = i.items ++ item_of c ∷ [];
-      outer = s.0;
-      so_far = s.1;
-      holds = s.3;
-      whole = whole-more i.items (item_of c) tokens rest after i.whole t.0;
-      runs = record {
-        items = all-append i.items (item_of c ∷ []) i.runs.items (piece-item c, tt);
-        runs = run-on start (free i.outer i.so_far) i.items (item_of c ∷ []) (Some (free s.0 s.1)) i.runs.runs (ap (option_and_then (λ v. Some v)) s.2);
-      };
-      plain = plain-append i.items (item_of c ∷ []) i.plain (piece-plain c t.1, tt);
-      stmts = omega (arith, n.stmts, i.stmts, shorter);
-      exprs = omega (arith, n.exprs, i.exprs, shorter);
-      blocks = omega (arith, n.blocks, i.blocks, shorter);
-      pending = omega (arith, n.pending, i.pending, shorter);
-      small = small;
+      items = i.items ++ a.item ∷ [];
+      state = t.0;
+      holds = k i.state t.0 a.item (holds-exprs r es i.state a.grows i.holds) a.stands (last-step i.items i.state t.0 a.item i.runs.runs t.1.runs);
+      whole = i.whole ∙ t.2;
+      runs = t.1;
+      stmts = omega (arith, n.stmts, i.stmts, l);
+      exprs = omega (arith, ap (λ (v : Vec Part Global). length v.items) n.exprs, i.exprs, few, es.ok.0, r.exprs.ok.0);
+      blocks = omega (arith, n.blocks, i.blocks, l);
+      pending = omega (arith, n.pending, i.pending, l);
+      small = n.small i.small (omega (arith, i.pending, short));
     }
 
--- a script of today that begins so goes on with items of today
-goes-plain : (r : Reader) (tokens rest : List Token) (i : HasRead r tokens rest) (t : Block) → IsPlain t → AllFit t → tokens ≡ spellings t → (g : Rest (free i.outer i.so_far) (free [] t) i.items (all_items t) rest) × AllPlain g.left
-goes-plain r tokens rest i t p f e =
-    let g = goes-on i.items (free i.outer i.so_far) rest t i.runs f (sym i.whole ∙ e) in
-    (g, plain-rest i.items g.left (subst AllPlain g.whole (plain-items t p)))
+-- where no item can be read is the place
+pub stops-at : (r : Reader) (tokens rest bad : List Token) (i : HasRead r tokens rest) → item_at (mode i.state) rest ≡ Err bad → (mode i.state ≡ Outermost → rest ≡ [] → ⊥) → IsPlace tokens bad
+stops-at r tokens rest bad i e n =
+    subst (λ (ts : List Token). IsPlace ts bad) (sym i.whole) (place i.items i.state rest bad i.runs (λ us z f. n (ap mode f) z) e)
 
--- Where no item stands next, or it may not stand there, the tokens are no script.
-pub none-stands : (r : Reader) (tokens rest : List Token) (i : HasRead r tokens rest) (t : Block) → (rest ≡ [] → ⊥) → piece_at rest ≡ None → IsPlain t → AllFit t → tokens ≡ spellings t → ⊥
-none-stands r tokens rest i t n e p f w = let g = goes-plain r tokens rest i t p f w in at g.0.left g.0.tokens g.1
-  where
-    at : (zs : List Item) → rest ≡ words zs → AllPlain zs → ⊥
-    at [] w p = n w
-    at (z ∷ zs) w p =
-        let c = plain-piece z p.0 in
-        some-none _ (sym (piece-again c.0 (words zs) c.2) ∙ ap (λ x. piece_at (item_words x ++ words zs)) c.1 ∙ ap piece_at (sym w) ∙ e)
+-- a state that nothing waits for
+outermost-in : (w : Waits) (outer : List (Block × Frame)) → mode_in w outer ≡ Outermost → (w ≡ Free) × (outer ≡ [])
+outermost-in Free [] e = (refl, refl)
+outermost-in Free (f ∷ outer) e = cc
+outermost-in (ForElse c a) outer e = cc
+outermost-in (ForCatch a) outer e = cc
 
-pub may-not : (r : Reader) (tokens rest : List Token) (i : HasRead r tokens rest) (t : Block) (x : Piece × List Token) → piece_at rest ≡ Some x → step (free i.outer i.so_far) (item_of x.0) ≡ None → IsPlain t → AllFit t → tokens ≡ spellings t → ⊥
-may-not r tokens rest i t x e n p f w = let g = goes-plain r tokens rest i t p f w in at g.0.left g.0.tokens g.0.runs g.1
-  where
-    at : (zs : List Item) → rest ≡ words zs → run (free i.outer i.so_far) zs ≡ Some (free [] t) → AllPlain zs → ⊥
-    at [] w r p = some-none x (sym e ∙ ap piece_at w)
-    at (z ∷ zs) w r p =
-        let c = plain-piece z p.0 in
-        let one : x ≡ (c.0, words zs) = some-is _ _ (sym e ∙ ap piece_at w ∙ ap (λ y. piece_at (item_words y ++ words zs)) (sym c.1) ∙ piece-again c.0 (words zs) c.2) in
-        let same : step (free i.outer i.so_far) z ≡ None = ap (step (free i.outer i.so_far)) (sym c.1) ∙ ap (λ (y : Piece × List Token). step (free i.outer i.so_far) (item_of y.0)) (sym one) ∙ n in
-        some-none _ (sym r ∙ ap (option_and_then (λ v. run v zs)) same)
+state-is : (s : State) → mode s ≡ Outermost → s ≡ free [] s.so_far
+state-is s e =
+    let p = outermost-in s.waits s.outer e in
+    let one : s ≡ record { outer = []; so_far = s.so_far; waits = s.waits } = ap (λ (o : List (Block × Frame)). record { outer = o; so_far = s.so_far; waits = s.waits }) p.1 in
+    one ∙ ap (λ (w : Waits). record { outer = []; so_far = s.so_far; waits = w }) p.0
 
--- Where the tokens end, no block is open.
-pub at-end : (r : Reader) (tokens rest : List Token) (i : HasRead r tokens rest) (t : Block) → rest ≡ [] → IsPlain t → AllFit t → tokens ≡ spellings t → i.outer ≡ []
-at-end r tokens rest i t n p f w = let g = goes-plain r tokens rest i t p f w in at g.0.left g.0.tokens g.0.runs g.1
-  where
-    at : (zs : List Item) → rest ≡ words zs → run (free i.outer i.so_far) zs ≡ Some (free [] t) → AllPlain zs → i.outer ≡ []
-    at [] w r p = ap (λ (s : State). s.outer) (some-is _ _ r)
-    at (z ∷ zs) w r p =
-        let c = plain-piece z p.0 in
-        absurd (some-none _ (sym (piece-again c.0 (words zs) c.2) ∙ ap (λ x. piece_at (item_words x ++ words zs)) c.1 ∙ ap piece_at (sym w ∙ n)))
-
-pub is-zero : (n : ℕ) → true ≡ (n == 0) → n ≡ 0
-is-zero n e = grind (arith, nat_tests)
-
-pub is-not-zero : (n : ℕ) → false ≡ (n == 0) → 0 < n
-is-not-zero n e = grind (arith, nat_tests)
-
-pub is-empty : {A : Type 0} (xs : List A) → true ≡ (length xs == 0) → xs ≡ []
-is-empty xs e = nil_from_length xs (is-zero (length xs) e)
-
--- the tokens are the script's where none is left and no frame is open
-pub record AllRead (r : Reader) (tokens : List Token) (b : Block) : Type 0 where
-  pub plain : IsPlain b
-  pub fits : AllFit b
-  pub spelled : tokens ≡ spellings b
-  pub stands : ListStands (shape_of r) r.pending.items b
-
-pub all-read : (r : Reader) (tokens rest : List Token) (i : HasRead r tokens rest) → rest ≡ [] → r.frames.items ≡ [] → AllRead r tokens i.so_far
-all-read r tokens rest i n f =
-    let p = all-pending r i.outer i.so_far f i.holds in
-    let ran : run start i.items ≡ Some (free [] i.so_far) = i.runs.runs ∙ ap (λ o. Some (free o i.so_far)) p.0 in
-    let same = sound i.items i.so_far i.runs.items ran in
+-- the tokens are the script's where none is left and no block is open
+pub all-read : (r : Reader) (tokens rest : List Token) → HasRead r tokens rest → (m : (s : State) → Holds r s → mode s ≡ Outermost) → rest ≡ [] → length tokens < 2 ^ 31 → IsRead tokens r
+all-read r tokens rest i m n short =
+    let e = state-is i.state (m i.state i.holds) in
+    let t = i.state.so_far in
+    let h : Holds r (free [] t) = subst (λ (s : State). Holds r s) e i.holds in
+    let k = script-read i.items t (record { items = i.runs.items; runs = i.runs.runs ∙ ap Some e }) in
     record {
-      plain = items-plain i.so_far (subst AllPlain same i.plain);
-      fits = items-fit i.so_far (subst AllItems same i.runs.items);
-      spelled = i.whole ∙ ap (λ r. words i.items ++ r) n ∙ append-nil (words i.items) ∙ ap words same ∙ words-all i.so_far;
-      stands = p.1;
+      script = t;
+      fits = k.0;
+      spelled = i.whole ∙ ap (λ ts. words i.items ++ ts) n ∙ append-nil (words i.items) ∙ k.1;
+      stands = h.0.1;
+      blocks = omega (arith, i.blocks, short);
+      pending = omega (arith, i.pending, short);
+      small = i.small;
     }
+
+pub mode-outermost : (m : Stand) → mode_of m ≡ Outermost → m ≡ stands.Outermost
+mode-outermost stands.Outermost e = refl
+mode-outermost stands.Inside e = cc
+mode-outermost stands.AfterFirst e = cc
+mode-outermost stands.AfterBody e = cc
 
 -- the block of the whole script
 pub stands-top : (s t : Shape) (ids : List StmtId) (b : Block) → t.stmts ≡ s.stmts → t.exprs ≡ s.exprs → t.blocks ≡ s.blocks ++ ids ∷ [] → t.top.0 ≡ length s.blocks → ListStands s ids b → BlockStands t t.top b

@@ -1,9 +1,4 @@
 pub mod Lists
-pub mod Depths
-pub mod Lexing
-pub mod Arena
-pub mod Plain
-pub mod HasRead
 pub mod Local
 pub mod LocalExprs
 pub mod LocalItems
@@ -11,4 +6,16 @@ pub mod Spelt
 pub mod Runs
 pub mod Sound
 pub mod Places
-pub mod Works
+pub mod Naming
+pub mod Scanning
+pub mod OneScan
+pub mod Growing
+pub mod OneToken
+pub mod Reading
+pub mod Mentioned
+pub mod Arena
+pub mod HasRead
+pub mod WholeRead
+pub mod Written
+pub mod ReadBack
+pub mod Spelling

@@ -9,7 +9,8 @@ use Rattle.rx_script.specs.declared.token.Token.{Token}
 use Rattle.rx_script.specs.declared.token.Token.TheVariants.{Key, Called, Number, Oper, Mark, Bad}
 use Rattle.rx_script.specs.declared.token.Lexeme.{Lexeme}
 use Rattle.rx_script.specs.declared.token.Lexeme.TheVariants as lexemes
-use Rattle.rx_script.specs.Lexical.{skipped, token_at, padded}
+use Rattle.std.specs.List.{list_all}
+use Rattle.rx_script.specs.Lexical.{skipped, token_at, padded, is_word_byte, run_token}
 
 -- the sign of an operation
 abbrev pub sign_of : Op → Operation
@@ -111,11 +112,21 @@ InOrder next (Bad ∷ ts) last = InOrder next ts last
 abbrev pub AreDistinct : List (List ℕ) → Type 0
 AreDistinct names = (i j : ℕ) (name : List ℕ) → slice_get names i ≡ Some name → slice_get names j ≡ Some name → i ≡ j
 
+-- a word that is no keyword
+pub record IsName (name : List ℕ) : Type 0 where
+  pub letters : list_all is_word_byte name ≡ true
+  pub token : run_token name ≡ Some (lexemes.Name (padded name))
+
+-- the names of these tokens, by number: none stands twice, and they are numbered in the order of first appearance
+pub record AreNames (names : List (List ℕ)) (ts : List Token) : Type 0 where
+  pub are_names : (i : ℕ) (name : List ℕ) → slice_get names i ≡ Some name → IsName name
+  pub distinct : AreDistinct names
+  pub in_order : InOrder 0 ts (length names)
+
 -- the bytes are these tokens, with blanks and comments, and with these names
 pub record Lexes (names : List (List ℕ)) (bytes : List ℕ) (ts : List Token) : Type 0 where
   pub begins : Begins names bytes ts []
-  pub distinct : AreDistinct names
-  pub in_order : InOrder 0 ts (length names)
+  pub are_names : AreNames names ts
 
 -- the bytes are a script with these names
 pub record IsScriptOf (names : List (List ℕ)) (bytes : List ℕ) (b : Block) : Type 0 where

@@ -6,6 +6,14 @@ pub mod Exprs
 pub mod Items
 pub mod Machine
 pub mod Places
-pub mod Thin
+pub mod Pieces
+pub mod Faults
+pub mod Tables
+pub mod Names
+pub mod Whole
+pub mod Turns
+pub mod Parts
+pub mod Named
 pub mod Arena
-pub mod Levels
+pub mod Writing
+pub mod Unwritten

@@ -1,34 +1,46 @@
 // From bytes to a script, without recursion: blocks may lie as deep as the bytes go.
-ghost use Rattle.std.specs.Prelude.{◌≡◌, ℕ, ◌+◌, ◌^◌, ◌<◌, ◌≤◌, List, [], ◌∷◌, ◌++◌, length, vec_len, IfOk, OnOk, IfErr, IsErrOf};
-ghost use Rattle.rx_script.specs.declared.reader.ScriptFault.TheVariants.{NoMemory, Syntax};
-ghost use Rattle.rx_script.specs.declared.nodes.Stmt.TheVariants.{Print};
-ghost use Rattle.rx_script.specs.declared.nodes.Expr.TheVariants.{Num};
-ghost use Rattle.rx_script.specs.declared.token.Token.{Token as TheToken};
-ghost use Rattle.rx_rules.specs.Code.{Block, work};
-ghost use Rattle.rx_script.specs.Grammar.{Begins, Lexes, IsScript, AllFit, spellings};
+ghost use Rattle.std.specs.Prelude.{◌≡◌, ℕ, ◌^◌, ◌<◌, ◌≤◌, [], length, vec_len, IfOk, OnOk, IsErrOf, IsTrue, ◌↔◌};
+ghost use Rattle.rx_script.specs.declared.reader.ScriptFault.TheVariants.{NoMemory as NoRoom, Syntax};
+ghost use Rattle.rx_script.specs.declared.items.Item.TheVariants.{Close, Else, Catch};
+ghost use Rattle.rx_script.specs.declared.items.Mode.TheVariants.{Outermost};
+ghost use Rattle.rx_script.specs.declared.reader.Owner.TheVariants.{Front};
+ghost use Rattle.rx_rules.specs.Code.{Block};
+ghost use Rattle.rx_script.specs.Grammar.{IsScriptOf, AllFit, AreNames, spellings};
+ghost use Rattle.rx_script.specs.Faults.{IsFaultAt};
+ghost use Rattle.rx_script.specs.Writing.{AreSpelled};
 ghost use Rattle.rx_script.specs.Shape.{Stands, ListStands, IsSmall};
-ghost use Rattle.rx_script.specs.Machine.{Frame};
-ghost use Rattle.rx_script.specs.Thin.{IsThin, IsPlain, HasNoNames, nameless, item_of};
-ghost use Rattle.rx_script.specs.Arena.{Holds, Steps, Closes, Counts, compound_of, operands_of, blocks_of, shape_of};
+ghost use Rattle.rx_script.specs.Tables.{names_of};
+ghost use Rattle.rx_script.specs.Machine.{State, mode};
+ghost use Rattle.rx_script.specs.Pieces.{mode_of};
+ghost use Rattle.rx_script.specs.Arena.{Holds, MayTake, Takes, Adds, Opens, Shuts, Makes, Counts, IsParsed, blocks_of, shape_of};
 
-use crate::items::{Item, Opener, next_item};
-use crate::levels::is_within;
-use crate::lexer::{skip, token};
-use crate::token::{Lexeme, Token};
+use crate::items::{Item, Mode, Opener, next_item};
+use crate::scan::{Scanned, scan};
+use crate::token::Token;
 use crate::{BlockId, Expr, ExprId, Script, Stmt, StmtId};
+use rx_base::NoMemory;
 use std::alloc::{AllocError, AllocFailed, Global};
 
 /// Why bytes were not read as a script.
 #[derive(Clone, Copy, Debug, PartialEq, Eq)]
 pub enum ScriptFault {
-    /// The bytes are no script. `at` is the start of the first token that can't go on; it is 0 as yet.
+    /// The bytes are no script. `at` is the start of the first token that can't go on; the end of input is a token that starts at
+    /// the input's length.
     Syntax { at: u32 },
     /// There is no memory left.
     NoMemory,
 }
 
+impl From<NoMemory> for ScriptFault {
+    ghost from_gives = { λ _ e. e ≡ NoRoom };
+
+    fn from(_: NoMemory) -> Self {
+        ScriptFault::NoMemory
+    }
+}
+
 impl From<AllocError> for ScriptFault {
-    ghost from_gives = { λ _ e. e ≡ NoMemory };
+    ghost from_gives = { λ _ e. e ≡ NoRoom };
 
     fn from(_: AllocError) -> Self {
         ScriptFault::NoMemory
@@ -36,21 +48,38 @@ impl From<AllocError> for ScriptFault {
 }
 
 impl<T: Drop> From<AllocFailed<T>> for ScriptFault {
-    ghost from_gives = { λ _ e. e ≡ NoMemory };
+    ghost from_gives = { λ _ e. e ≡ NoRoom };
 
     fn from(_: AllocFailed<T>) -> Self {
         ScriptFault::NoMemory
     }
 }
 
+// What an open block belongs to: the front of a statement, or that and its first block.
+#[derive(Clone, Copy, Debug, PartialEq, Eq)]
+pub(crate) enum Owner {
+    Front(Opener),
+    Other { test: ExprId, first: BlockId },
+    Handler { body: BlockId, dead_only: bool },
+}
+
 // A block that is open, and where its statements begin among those that are pending.
 #[derive(Clone, Copy, Debug, PartialEq, Eq)]
 pub(crate) struct Opened {
-    opener: Opener,
+    owner: Owner,
     start: usize,
 }
 
-// What has been read: the statements, expressions and blocks that are whole, the statements of the open blocks, and these blocks.
+// A first block that is whole and must be followed by a second.
+#[derive(Clone, Copy, Debug, PartialEq, Eq)]
+pub(crate) enum Waiting {
+    Free,
+    ForElse { test: ExprId, first: BlockId },
+    ForCatch { body: BlockId },
+}
+
+// What has been read: the statements, expressions and blocks that are whole, the statements of the open blocks, these blocks, and
+// what waits.
 #[derive(Drop)]
 pub(crate) struct Reader {
     stmts: Vec<Stmt>,
@@ -58,62 +87,13 @@ pub(crate) struct Reader {
     blocks: Vec<Vec<StmtId>>,
     pending: Vec<StmtId>,
     frames: Vec<Opened>,
-}
-
-// The token of one that is no name.
-fn unnamed(lexeme: Lexeme) -> Option<Token>
-    ensures { result ≡ nameless lexeme }
-{
-    match lexeme {
-        Lexeme::Word(key) => Some(Token::Key(key)),
-        Lexeme::Name(_) => None,
-        Lexeme::Number(value) => Some(Token::Number(value)),
-        Lexeme::Oper(op) => Some(Token::Oper(op)),
-        Lexeme::Mark(sign) => Some(Token::Mark(sign)),
-    }
-}
-
-// The tokens of the bytes. No name is among them.
-fn tokens(alloc: Global, bytes: &[u8]) -> Result<Vec<Token>, ScriptFault>
-    ensures ok { IfOk result (λ v. Begins [] bytes.now v.items [] × HasNoNames v.items) }
-    ensures short { IfOk result (λ v. vec_len v ≤ length bytes.now) }
-    ensures syntax { (at : ℕ) → IsErrOf result (Syntax at) → (names : List (List ℕ)) (ts : List TheToken) → HasNoNames ts → Begins names bytes.now ts [] → ⊥ }
-    ensures place { (at : ℕ) → IsErrOf result (Syntax at) → at ≡ 0 }
-{
-    let mut found = Vec::new(alloc);
-    let mut rest = skip(bytes);
-    'tokens: while !rest.is_empty() {
-        let Some((lexeme, after)) = token(rest) else {
-            return Err(ScriptFault::Syntax { at: 0 });
-        };
-        let Some(next) = unnamed(lexeme) else {
-            return Err(ScriptFault::Syntax { at: 0 });
-        };
-        found.push(next)?;
-        rest = skip(after);
-    }
-    Ok(found)
-}
-
-// Adds a number to the expressions.
-fn literal(exprs: &mut Vec<Expr>, value: i64) -> Result<ExprId, ScriptFault>
-    requires { vec_len exprs.old < 2 ^ 31 }
-    ensures exprs { OnOk result (exprs.new.items ≡ exprs.old.items ++ Num value ∷ []) }
-    ensures id { IfOk result (λ id. id.0 ≡ vec_len exprs.old) }
-    ensures why { IfErr result (λ e. e ≡ NoMemory) }
-{
-    let id = ExprId(exprs.len() as u32);
-    exprs.push(Expr::Num(value))?;
-    Ok(id)
+    waiting: Waiting,
 }
 
 // Adds a statement that is whole.
-fn add(reader: &mut Reader, stmt: Stmt) -> Result<(), ScriptFault>
+fn add(reader: &mut Reader, stmt: Stmt) -> Result<(), NoMemory>
     requires { vec_len reader.old.stmts < 2 ^ 31 }
-    ensures stmts { OnOk result (reader.new.stmts.items ≡ reader.old.stmts.items ++ stmt ∷ []) }
-    ensures pending { OnOk result (reader.new.pending.items ≡ reader.old.pending.items ++ record { 0 = vec_len reader.old.stmts } ∷ []) }
-    ensures rest { OnOk result ((reader.new.exprs ≡ reader.old.exprs) × (reader.new.blocks ≡ reader.old.blocks) × (reader.new.frames ≡ reader.old.frames)) }
-    ensures why { IfErr result (λ e. e ≡ NoMemory) }
+    ensures { OnOk result (Adds reader.old stmt reader.new) }
 {
     let id = StmtId(reader.stmts.len() as u32);
     reader.stmts.push(stmt)?;
@@ -121,94 +101,171 @@ fn add(reader: &mut Reader, stmt: Stmt) -> Result<(), ScriptFault>
     Ok(())
 }
 
-fn add_print(reader: &mut Reader, value: i64) -> Result<(), ScriptFault>
-    requires stmts { vec_len reader.old.stmts < 2 ^ 31 }
-    requires exprs { vec_len reader.old.exprs < 2 ^ 31 }
-    ensures stmts { OnOk result (reader.new.stmts.items ≡ reader.old.stmts.items ++ Print (record { 0 = vec_len reader.old.exprs }) ∷ []) }
-    ensures exprs { OnOk result (reader.new.exprs.items ≡ reader.old.exprs.items ++ Num value ∷ []) }
-    ensures pending { OnOk result (reader.new.pending.items ≡ reader.old.pending.items ++ record { 0 = vec_len reader.old.stmts } ∷ []) }
-    ensures rest { OnOk result ((reader.new.blocks ≡ reader.old.blocks) × (reader.new.frames ≡ reader.old.frames)) }
-    ensures why { IfErr result (λ e. e ≡ NoMemory) }
+// Opens a block.
+fn open(reader: &mut Reader, owner: Owner) -> Result<(), NoMemory>
+    ensures { OnOk result (Opens reader.old owner reader.new) }
 {
-    let value = literal(&mut reader.exprs, value)?;
-    add(reader, Stmt::Print { value })
+    let start = reader.pending.len();
+    reader.frames.push(Opened { owner, start })?;
+    reader.waiting = Waiting::Free;
+    Ok(())
 }
 
-// The statement of a block that ends.
-fn compound(exprs: &mut Vec<Expr>, opener: Opener, body: BlockId) -> Result<Stmt, ScriptFault>
-    requires { vec_len exprs.old < 2 ^ 31 }
-    ensures exprs { OnOk result (exprs.new.items ≡ exprs.old.items ++ operands_of opener) }
-    ensures stmt { IfOk result (λ stmt. stmt ≡ compound_of opener body (record { 0 = vec_len exprs.old })) }
-    ensures why { IfErr result (λ e. e ≡ NoMemory) }
+// Makes a block of the statements that are pending from there on.
+fn shut(alloc: Global, reader: &mut Reader, start: usize) -> Result<BlockId, NoMemory>
+    requires start { start ≤ vec_len reader.old.pending }
+    requires blocks { vec_len reader.old.blocks < 2 ^ 31 }
+    ensures shuts { OnOk result (Shuts reader.old start reader.new) }
+    ensures block { IfOk result (λ k. k.0 ≡ vec_len reader.old.blocks) }
+{
+    let block = BlockId(reader.blocks.len() as u32);
+    let ids = reader.pending[start..].to_vec(alloc)?;
+    reader.pending.truncate(start);
+    reader.blocks.push(ids)?;
+    Ok(block)
+}
+
+// Makes what the front of a statement and its block are.
+fn end_front(reader: &mut Reader, opener: Opener, body: BlockId) -> Result<(), NoMemory>
+    requires { vec_len reader.old.stmts < 2 ^ 31 }
+    ensures { OnOk result (Makes reader.old (Front opener) body reader.new) }
 {
     match opener {
-        Opener::Async => Ok(Stmt::Async { body }),
-        Opener::AtAsync(place) => {
-            let place = literal(exprs, place)?;
-            Ok(Stmt::AtAsync { place, body })
+        Opener::Async => add(reader, Stmt::Async { body }),
+        Opener::AtAsync(place) => add(reader, Stmt::AtAsync { place, body }),
+        Opener::At(place) => add(reader, Stmt::At { place, body }),
+        Opener::Finish => add(reader, Stmt::Finish { body }),
+        Opener::If(test) => {
+            reader.waiting = Waiting::ForElse { test, first: body };
+            Ok(())
         }
-        Opener::Finish => Ok(Stmt::Finish { body }),
+        Opener::Repeat(times) => add(reader, Stmt::Repeat { times, body }),
+        Opener::Try => {
+            reader.waiting = Waiting::ForCatch { body };
+            Ok(())
+        }
     }
 }
 
-// Makes the statement of a block that ends.
-fn close(alloc: Global, reader: &mut Reader, opened: Opened) -> Result<(), ScriptFault>
-    requires stmts { vec_len reader.old.stmts < 2 ^ 31 }
-    requires exprs { vec_len reader.old.exprs < 2 ^ 31 }
-    requires blocks { vec_len reader.old.blocks < 2 ^ 31 }
-    requires start { opened.start ≤ vec_len reader.old.pending }
-    ensures closes { OnOk result (Closes reader.old opened reader.new) }
-    ensures frames { OnOk result (reader.new.frames ≡ reader.old.frames) }
-    ensures why { IfErr result (λ e. e ≡ NoMemory) }
+// Makes what a block belongs to, now that the block is whole.
+fn end_block(reader: &mut Reader, owner: Owner, block: BlockId) -> Result<(), NoMemory>
+    requires { vec_len reader.old.stmts < 2 ^ 31 }
+    ensures { OnOk result (Makes reader.old owner block reader.new) }
 {
-    let body = BlockId(reader.blocks.len() as u32);
-    let ids = reader.pending[opened.start..].to_vec(alloc)?;
-    reader.pending.truncate(opened.start);
-    reader.blocks.push(ids)?;
-    let stmt = compound(&mut reader.exprs, opened.opener, body)?;
-    add(reader, stmt)
+    match owner {
+        Owner::Front(opener) => end_front(reader, opener, block),
+        Owner::Other { test, first } => add(
+            reader,
+            Stmt::If {
+                test,
+                first,
+                other: block,
+            },
+        ),
+        Owner::Handler { body, dead_only } => add(
+            reader,
+            Stmt::Try {
+                body,
+                dead_only,
+                handler: block,
+            },
+        ),
+    }
 }
 
-// Takes one item more. The answer tells whether the item may stand there.
-fn take_item(alloc: Global, reader: &mut Reader, item: &Item) -> Result<bool, ScriptFault>
+// Ends the innermost block.
+fn close(alloc: Global, reader: &mut Reader) -> Result<(), NoMemory>
     requires stmts { vec_len reader.old.stmts < 2 ^ 31 }
-    requires exprs { vec_len reader.old.exprs < 2 ^ 31 }
     requires blocks { vec_len reader.old.blocks < 2 ^ 31 }
-    requires holds { (outer : List (Block × Frame)) × (so_far : Block) × Holds reader.old outer so_far }
-    ensures step { IfOk result (λ went. (outer : List (Block × Frame)) (so_far : Block) → Holds reader.old outer so_far → Steps went outer so_far (item_of item.now) reader.new) }
+    requires may { MayTake reader.old Close }
+    ensures takes { OnOk result (Takes reader.old Close reader.new) }
     ensures counts { OnOk result (Counts reader.old reader.new) }
-    ensures small { OnOk result (IsSmall (blocks_of reader.old) → vec_len reader.old.pending < 2 ^ 32 → IsSmall (blocks_of reader.new)) }
-    ensures why { IfErr result (λ e. e ≡ NoMemory) }
+{
+    match reader.frames.pop() {
+        None => unreachable!(),
+        Some(opened) => {
+            let block = shut(alloc, reader, opened.start)?;
+            end_block(reader, opened.owner, block)
+        }
+    }
+}
+
+// Opens the block after `else`.
+fn open_else(reader: &mut Reader) -> Result<(), NoMemory>
+    requires { MayTake reader.old Else }
+    ensures takes { OnOk result (Takes reader.old Else reader.new) }
+    ensures counts { OnOk result (Counts reader.old reader.new) }
+{
+    match reader.waiting {
+        Waiting::Free => unreachable!(),
+        Waiting::ForElse { test, first } => open(reader, Owner::Other { test, first }),
+        Waiting::ForCatch { body: _ } => unreachable!(),
+    }
+}
+
+// Opens the block after `catch`.
+fn open_handler(reader: &mut Reader, dead_only: bool) -> Result<(), NoMemory>
+    requires { MayTake reader.old (Catch dead_only) }
+    ensures takes { OnOk result (Takes reader.old (Catch dead_only) reader.new) }
+    ensures counts { OnOk result (Counts reader.old reader.new) }
+{
+    match reader.waiting {
+        Waiting::Free => unreachable!(),
+        Waiting::ForElse { test: _, first: _ } => unreachable!(),
+        Waiting::ForCatch { body } => open(reader, Owner::Handler { body, dead_only }),
+    }
+}
+
+// Takes one item more, which may stand there.
+fn take_item(alloc: Global, reader: &mut Reader, item: Item) -> Result<(), NoMemory>
+    requires stmts { vec_len reader.old.stmts < 2 ^ 31 }
+    requires blocks { vec_len reader.old.blocks < 2 ^ 31 }
+    requires may { MayTake reader.old item }
+    ensures takes { OnOk result (Takes reader.old item reader.new) }
+    ensures counts { OnOk result (Counts reader.old reader.new) }
 {
     match item {
-        Item::Print(value) => {
-            add_print(reader, *value)?;
-            Ok(true)
-        }
-        Item::Open(opener) => {
-            let start = reader.pending.len();
-            reader.frames.push(Opened {
-                opener: *opener,
-                start,
-            })?;
-            Ok(true)
-        }
-        Item::Close => match reader.frames.pop() {
-            None => Ok(false),
-            Some(opened) => {
-                close(alloc, reader, opened)?;
-                Ok(true)
-            }
-        },
+        Item::Whole(stmt) => add(reader, stmt),
+        Item::Open(opener) => open(reader, Owner::Front(opener)),
+        Item::Close => close(alloc, reader),
+        Item::Else => open_else(reader),
+        Item::Catch(dead_only) => open_handler(reader, dead_only),
     }
 }
 
-// Reads tokens.
-fn parse(alloc: Global, tokens: &[Token]) -> Result<Script, ScriptFault>
+// Where the next item stands.
+fn next_mode(reader: &Reader) -> Mode
+    ensures { (s : State) → Holds reader.now s → mode_of result ≡ mode s }
+{
+    match reader.waiting {
+        Waiting::Free => {
+            if reader.frames.is_empty() {
+                Mode::Outermost
+            } else {
+                Mode::Inside
+            }
+        }
+        Waiting::ForElse { test: _, first: _ } => Mode::AfterFirst,
+        Waiting::ForCatch { body: _ } => Mode::AfterBody,
+    }
+}
+
+// Whether the tokens end where a script may end.
+fn is_end(mode: Mode, rest: &[Token]) -> bool
+    ensures { IsTrue result ↔ ((mode ≡ Outermost) × (rest.now ≡ [])) }
+{
+    match mode {
+        Mode::Outermost => rest.is_empty(),
+        Mode::Inside => false,
+        Mode::AfterFirst => false,
+        Mode::AfterBody => false,
+    }
+}
+
+// Reads tokens. The answer is what has been read, or how many tokens are left from the one that can't go on.
+fn parse(alloc: Global, tokens: &[Token]) -> Result<Result<Reader, usize>, NoMemory>
     requires { length tokens.now < 2 ^ 31 }
-    ensures ok { IfOk result (λ s. (t : Block) × IsPlain t × AllFit t × (tokens.now ≡ spellings t) × Stands s t) }
-    ensures syntax { (at : ℕ) → IsErrOf result (Syntax at) → (t : Block) → IsPlain t → AllFit t → tokens.now ≡ spellings t → ⊥ }
-    ensures place { (at : ℕ) → IsErrOf result (Syntax at) → at ≡ 0 }
+    ensures { IfOk result (λ r. IsParsed tokens.now r) }
 {
     let mut reader = Reader {
         stmts: Vec::new(alloc),
@@ -216,31 +273,30 @@ fn parse(alloc: Global, tokens: &[Token]) -> Result<Script, ScriptFault>
         blocks: Vec::new(alloc),
         pending: Vec::new(alloc),
         frames: Vec::new(alloc),
+        waiting: Waiting::Free,
     };
     let mut rest = tokens;
-    'items: while !rest.is_empty() {
-        let Some((item, after)) = next_item(rest) else {
-            return Err(ScriptFault::Syntax { at: 0 });
-        };
-        if !take_item(alloc, &mut reader, &item)? {
-            return Err(ScriptFault::Syntax { at: 0 });
+    'items: while !is_end(next_mode(&reader), rest) {
+        let mode = next_mode(&reader);
+        match next_item(&mut reader.exprs, mode, rest)? {
+            Ok((item, after)) => {
+                take_item(alloc, &mut reader, item)?;
+                rest = after;
+            }
+            Err(bad) => return Ok(Err(bad.len())),
         }
-        rest = after;
     }
-    if !reader.frames.is_empty() {
-        return Err(ScriptFault::Syntax { at: 0 });
-    }
-    finish(alloc, reader)
+    Ok(Ok(reader))
 }
 
 // Makes a script of what was read, where no block is open.
-fn finish(alloc: Global, reader: Reader) -> Result<Script, ScriptFault>
+fn finish(reader: Reader, names: Vec<Vec<u8>>) -> Result<Script, NoMemory>
     requires blocks { vec_len reader.blocks < 2 ^ 31 }
     requires pending { vec_len reader.pending < 2 ^ 31 }
     requires small { IsSmall (blocks_of reader) }
-    requires stands { (t : Block) × ListStands (shape_of reader) reader.pending.items t }
+    requires stands { (t : Block) × ListStands (shape_of reader) reader.pending.items t × AllFit t × AreNames (names_of names) (spellings t) × AreSpelled (spellings t) }
     ensures ok { IfOk result (λ s. (t : Block) → ListStands (shape_of reader) reader.pending.items t → Stands s t) }
-    ensures why { IfErr result (λ e. e ≡ NoMemory) }
+    ensures names { IfOk result (λ s. s.names ≡ names_of names) }
 {
     let Reader {
         stmts,
@@ -248,6 +304,7 @@ fn finish(alloc: Global, reader: Reader) -> Result<Script, ScriptFault>
         mut blocks,
         pending,
         frames: _,
+        waiting: _,
     } = reader;
     let top = BlockId(blocks.len() as u32);
     blocks.push(pending)?;
@@ -255,25 +312,27 @@ fn finish(alloc: Global, reader: Reader) -> Result<Script, ScriptFault>
         stmts,
         exprs,
         blocks,
-        names: Vec::new(alloc),
+        names,
         top,
     })
 }
 
-/// Reads a script of the statements `print number ;`, `async block`, `at 0 async block`, `at 1 async block` and `finish block`, none
-/// of them deeper than 32. `Syntax` comes exactly where the bytes are no such script, and `at` is 0 then. The nesting of the bytes
-/// costs no stack, and its work is at most as many as the bytes. docs/language.md states the tokens and the grammar.
+/// Reads a script. `Syntax` comes exactly where the bytes are no script of the grammar, and `at` is the start of the first token that
+/// can't go on. The nesting of the bytes costs no stack. docs/language.md states the tokens and the grammar.
 pub fn read_script(alloc: Global, bytes: &[u8]) -> Result<Script, ScriptFault>
     requires { length bytes.now < 2 ^ 31 }
-    ensures ok { IfOk result (λ s. (t : Block) × IsThin t × IsScript bytes.now t × Stands s t × (work t ≤ length bytes.now)) }
-    ensures syntax { (at : ℕ) → IsErrOf result (Syntax at) → (t : Block) → IsThin t → IsScript bytes.now t → ⊥ }
-    ensures place { (at : ℕ) → IsErrOf result (Syntax at) → at ≡ 0 }
+    ensures ok { IfOk result (λ s. (t : Block) × Stands s t × IsScriptOf s.names bytes.now t) }
+    ensures syntax { (at : ℕ) → IsErrOf result (Syntax at) → IsFaultAt bytes.now at }
 {
-    let found = tokens(alloc, bytes)?;
-    let script = parse(alloc, &found)?;
-    if is_within(&script, script.top(), 33) {
-        Ok(script)
-    } else {
-        Err(ScriptFault::Syntax { at: 0 })
+    let Scanned {
+        tokens,
+        starts,
+        names,
+    } = scan(alloc, bytes)?;
+    match parse(alloc, &tokens)? {
+        Ok(reader) => Ok(finish(reader, names)?),
+        Err(left) => Err(ScriptFault::Syntax {
+            at: starts[tokens.len() - left],
+        }),
     }
 }

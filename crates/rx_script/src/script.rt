@@ -2,12 +2,14 @@
 ghost use Rattle.std.specs.Prelude.{◌≡◌, ◌<◌, Some, IfSome, slice_get, length};
 ghost use Rattle.rx_rules.specs.Code.{Block};
 ghost use Rattle.rx_script.specs.Shape.{Stands};
+ghost use Rattle.rx_script.specs.Grammar.{AllFit, AreNames, spellings};
+ghost use Rattle.rx_script.specs.Writing.{AreSpelled};
 
 use crate::{BlockId, Expr, ExprId, NameId, Stmt, StmtId};
 use std::marker::Model;
 
 /// A script: its statements, expressions, blocks and names by number, and the block of the whole. It always stands for a tree of
-/// statements, which contracts see by `Stands`.
+/// statements of the grammar, which contracts see by `Stands`.
 #[derive(Drop)]
 pub struct Script {
     pub(crate) stmts: Vec<Stmt>,
@@ -19,14 +21,14 @@ pub struct Script {
 
 impl Model for Script {
     ghost use Rattle.std.specs.Prelude.{map};
-    ghost use Rattle.rx_script.specs.Shape.{Shape, Stands, IsSmall};
-    ghost use Rattle.rx_rules.specs.Code.{Block};
+    ghost use Rattle.rx_script.specs.Shape.{Shape};
+    ghost use Rattle.rx_script.specs.Whole.{IsWhole};
 
     ghost Value = { Shape };
 
     ghost view = { λ a. record { stmts = a.stmts.items; exprs = a.exprs.items; blocks = map (λ b. b.items) a.blocks.items; names = map (λ n. n.items) a.names.items; top = a.top } };
 
-    ghost invariant = { λ a. IsSmall (map (λ b. b.items) a.blocks.items) × ((t : Block) × Stands (record { stmts = a.stmts.items; exprs = a.exprs.items; blocks = map (λ b. b.items) a.blocks.items; names = map (λ n. n.items) a.names.items; top = a.top }) t) };
+    ghost invariant = { λ a. IsWhole (record { stmts = a.stmts.items; exprs = a.exprs.items; blocks = map (λ b. b.items) a.blocks.items; names = map (λ n. n.items) a.names.items; top = a.top }) };
 }
 
 impl Script {
@@ -79,9 +81,9 @@ impl Script {
     }
 }
 
-/// A law: each script stands for statements.
+/// A law: each script stands for statements of the grammar, with its names.
 pub fn whole(script: &Script)
-    ensures { (t : Block) × Stands script.now t }
+    ensures { (t : Block) × Stands script.now t × AllFit t × AreNames script.now.names (spellings t) × AreSpelled (spellings t) }
 {
     let _ = &script.top;
 }

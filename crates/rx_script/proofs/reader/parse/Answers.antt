@@ -1,25 +1,18 @@
-use Rattle.std.proofs.Common.{◌≡◌, [], length, refl, sym, ap, subst, arith, Bool}
-use Rattle.std.specs.Prelude.{Result, Ok, Err, IfOk}
-use Rattle.std.proofs.lemmas.List.{nil_from_length}
-use Rattle.rx_rules.specs.Code.{Block, Nothing}
-use Rattle.rx_script.specs.Grammar.{spellings, AllFit}
-use Rattle.rx_script.specs.Shape.{Shape, ListStands, Stands}
-use Rattle.rx_script.specs.Thin.{item_of, IsPlain}
-use Rattle.rx_script.specs.Arena.{Steps, shape_of}
-use Rattle.rx_script.proofs.Arena.{no-frames, small-none}
-use Rattle.rx_script.proofs.Lexing.{nonempty}
-use Rattle.rx_script.proofs.HasRead.{reads-more, none-stands, may-not, at-end, all-read, is-empty, is-zero, is-not-zero}
+use Rattle.std.proofs.Common.{◌≡◌, true, false, [], length, refl, sym, ap, ◌∙◌, arith}
+use Rattle.rx_rules.specs.Code.{Nothing}
+use Rattle.rx_script.specs.Machine.{free, mode}
+use Rattle.rx_script.specs.Pieces.{mode_of}
+use Rattle.rx_script.proofs.Arena.{small-none}
+use Rattle.rx_script.proofs.HasRead.{reads-of, refused-of, ok-at, may-take, reads-more, stops-at, all-read, mode-outermost, shorter}
 use Rattle.rx_script.proofs.reader.parse.Goals as goal
 
 pub items-init : goal.items-init
 items-init c = record {
   items = [];
-  outer = [];
-  so_far = Nothing;
-  holds = (c.new-5.ensures.items, rw c.new-4.ensures.items tt);
+  state = free [] Nothing;
+  holds = ((c.new-5.ensures.items, rw c.new-4.ensures.items tt), tt);
   whole = refl;
   runs = record { items = tt; runs = refl };
-  plain = tt;
   stmts = omega (arith, ap length c.new.ensures.items);
   exprs = omega (arith, ap length c.new-2.ensures.items);
   blocks = rw c.new-3.ensures.items (omega arith);
@@ -27,46 +20,39 @@ items-init c = record {
   small = rw c.new-3.ensures.items small-none;
 }
 
-pub returns-in_default-clause-syntax : goal.returns-in_default-clause-syntax
-returns-in_default-clause-syntax c _ _ t p f e =
-    none-stands c.items.reader c.args.tokens.now c.items.rest.now c.items.invariant t (nonempty _ c.items-test.ensures) (sym c.in_default.ensures) p f e
-
-pub returns-then-not-branch-clause-syntax : goal.returns-then-not-branch-clause-syntax
-returns-then-not-branch-clause-syntax c _ _ t p f e =
+pub take_item-requires-clause-may : goal.take_item-requires-clause-may
+take_item-requires-clause-may c =
     let i = c.items.invariant in
-    let P : Bool → Type 0 = λ b. Steps b i.outer i.so_far (item_of c.in-Some.item) c.take_item.new.reader in
-    let none = subst P c.if-not-branch.true (c.in_ok-take_item.ensures.step i.outer i.so_far i.holds) in
-    may-not c.items.reader c.args.tokens.now c.items.rest.now i t (c.in-Some.item, c.in-Some.after.now) (sym c.in-Some.ensures) none p f e
+    let e = c.in_ok-item.ensures in
+    may-take c.items.reader c.next_item.new.exprs c.args.tokens.now c.items.rest.now c.in-Ok.after.now c.in-Ok.item i
+    (reads-of c.items.reader c.next_item.new.exprs (mode_of c.next_mode-mode.result) (mode i.state) c.items.rest.now c.in-Ok.item c.in-Ok.after (λ s. s.now) _ e.grows (c.next_mode-mode.ensures i.state i.holds) c.in-Ok.is e.answer)
+
+pub items-smaller : goal.items-smaller
+items-smaller c =
+    let i = c.items.invariant in
+    let e = c.in_ok-item.ensures in
+    let a = reads-of c.items.reader c.next_item.new.exprs (mode_of c.next_mode-mode.result) (mode i.state) c.items.rest.now c.in-Ok.item c.in-Ok.after (λ s. s.now) _ e.grows (c.next_mode-mode.ensures i.state i.holds) c.in-Ok.is e.answer in
+    shorter (mode i.state) c.items.rest.now c.in-Ok.after.now a.item a.reads
 
 pub items-preserved : goal.items-preserved
 items-preserved c =
     let i = c.items.invariant in
-    let P : Bool → Type 0 = λ b. Steps b i.outer i.so_far (item_of c.in-Some.item) c.take_item.new.reader in
-    let t = subst P c.if-not-branch.false (c.in_ok-take_item.ensures.step i.outer i.so_far i.holds) in
-    reads-more c.items.reader c.take_item.new.reader c.args.tokens.now c.items.rest.now c.in-Some.after.now c.in-Some.item i (sym c.in-Some.ensures) t c.in_ok-take_item.ensures.counts
-    (c.in_ok-take_item.ensures.small i.small (omega (arith, i.pending, c.requires, c.items.reader.pending.ok.0)))
+    let e = c.in_ok-item.ensures in
+    let a = reads-of c.items.reader c.next_item.new.exprs (mode_of c.next_mode-mode.result) (mode i.state) c.items.rest.now c.in-Ok.item c.in-Ok.after (λ s. s.now) _ e.grows (c.next_mode-mode.ensures i.state i.holds) c.in-Ok.is e.answer in
+    let t = c.in_ok-take_item-in-Ok.ensures in
+    reads-more c.items.reader c.next_item.new.exprs c.take_item.new.reader c.args.tokens.now c.items.rest.now c.in-Ok.after.now c.in-Ok.item i a (ok-at _ _ _ c.in-Ok.is e.few) t.takes t.counts c.requires
 
-pub returns-then-not-is_empty-clause-syntax : goal.returns-then-not-is_empty-clause-syntax
-returns-then-not-is_empty-clause-syntax c _ _ t p f e =
-    let i = c.items.invariant in
-    let outer = at-end c.items.reader c.args.tokens.now c.items.rest.now i t (is-empty _ c.items-test.ensures) p f e in
-    let none = no-frames c.items.reader i.outer i.so_far i.holds outer in
-    absurd (omega (arith, is-not-zero _ c.if-not-is_empty.ensures, ap length none, c.items.reader.frames.ok.0))
+pub returns-in-Err : goal.returns-in-Err
+returns-in-Err c =
+    let i = c.items.invariant in (
+      c.in-Err.bad.now,
+      refl,
+      stops-at c.items.reader c.args.tokens.now c.items.rest.now c.in-Err.bad.now i
+          (refused-of c.next_item.new.exprs.items (mode_of c.next_mode-mode.result) (mode i.state) c.items.rest.now c.in-Err.bad (λ s. s.now) _ (c.next_mode-mode.ensures i.state i.holds) c.in-Err.is c.in_ok-item.ensures.answer)
+          (λ e z. let no : false ≡ true = c.items-test.ensures.1 (mode-outermost c.next_mode.result (c.next_mode.ensures i.state i.holds ∙ e), z) in cc),
+    )
 
-pub finish-requires-clause-stands : goal.finish-requires-clause-stands
-finish-requires-clause-stands c =
-    let i = c.items.invariant in
-    let all = all-read c.items.reader c.args.tokens.now c.items.rest.now i (is-empty _ c.items-test.ensures) (nil_from_length _ (omega (arith, is-zero _ c.if-not-is_empty.ensures, c.items.reader.frames.ok.0))) in
-    (i.so_far, all.stands)
-
-if-ok : {A E : Type 0} (P Q : A → Type 0) (r : Result A E) → IfOk r P → ((a : A) → P a → Q a) → IfOk r Q
-if-ok P Q (Ok a) p f = f a p
-if-ok P Q (Err e) p f = tt
-
-pub returns-clause-ok : goal.returns-clause-ok
-returns-clause-ok c =
-    let i = c.items.invariant in
-    let all = all-read c.items.reader c.args.tokens.now c.items.rest.now i (is-empty _ c.items-test.ensures) (nil_from_length _ (omega (arith, is-zero _ c.if-not-is_empty.ensures, c.items.reader.frames.ok.0))) in
-    let P : Shape → Type 0 = λ s. (t : Block) → ListStands (shape_of c.items.reader) c.items.reader.pending.items t → Stands s t in
-    let Q : Shape → Type 0 = λ s. (t : Block) × IsPlain t × AllFit t × (c.args.tokens.now ≡ spellings t) × Stands s t in
-    if-ok P Q _ c.finish.ensures.ok (λ s h. (i.so_far, all.plain, all.fits, all.spelled, h i.so_far all.stands))
+pub returns : goal.returns
+returns c =
+    let d = c.items-test.ensures.0 refl in
+    all-read c.items.reader c.args.tokens.now c.items.rest.now c.items.invariant (λ s h. sym (c.next_mode.ensures s h) ∙ ap mode_of d.0) d.1 c.requires

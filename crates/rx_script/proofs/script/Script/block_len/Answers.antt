@@ -16,7 +16,7 @@ found c =
     there c.self.inside.blocks.items c.args.block.0 c.index.result.now (omega (arith, h, length-map c.self.inside.blocks.items (λ b. b.items))) c.index.ensures
 
 pub overflow_cast-result : goal.overflow_cast-result
-overflow_cast-result c = let h = c.self.invariant.0 c.args.block.0 _ (found c) in search rules
+overflow_cast-result c = let h = c.self.invariant.small c.args.block.0 _ (found c) in search rules
 
 pub returns : goal.returns
 returns c =

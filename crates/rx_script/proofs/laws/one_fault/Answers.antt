@@ -1,0 +1,5 @@
+use Rattle.rx_script.proofs.OneScan.{one-fault}
+use Rattle.rx_script.proofs.laws.one_fault.Goals as goal
+
+pub returns : goal.returns
+returns c = one-fault

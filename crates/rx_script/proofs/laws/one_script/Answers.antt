@@ -1,0 +1,5 @@
+use Rattle.rx_script.proofs.OneScan.{one-script}
+use Rattle.rx_script.proofs.laws.one_script.Goals as goal
+
+pub returns : goal.returns
+returns c = one-script

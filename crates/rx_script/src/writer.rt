@@ -1,0 +1,385 @@
+// From a script to bytes, without recursion: what is still to be written stands on a list.
+ghost use Rattle.std.specs.Prelude.{◌≡◌, ◌<◌, ◌+◌, ◌++◌, ◌∷◌, ℕ, List, pos, map, slice_get, reverse, OnOk, OnErr};
+ghost use Rattle.std.specs.List.{flat_map};
+ghost use Rattle.rx_rules.specs.Code.{Block};
+ghost use Rattle.rx_script.specs.declared.token.Token.TheVariants.{Key, Number};
+ghost use Rattle.rx_script.specs.declared.writer.Part.TheVariants.{One as OnePart, From as FromPart};
+ghost use Rattle.rx_script.specs.Shape.{Stands};
+ghost use Rattle.rx_script.specs.Grammar.{spellings, IsScriptOf};
+ghost use Rattle.rx_script.specs.declared.token.Token.{Token};
+ghost use Rattle.rx_script.specs.Writing.{keyword_text, op_text, sign_text, name_text, token_text, spaced, script_text};
+ghost use Rattle.rx_script.specs.Unwritten.{PartStands, PartsStand, front_of, rest_of, named as named_part, block_parts, catch_parts, expr_front, expr_rest, Wrote, turns_left};
+
+use crate::token::{Keyword, Sign, Token};
+use crate::{BlockId, Expr, ExprId, NameId, Op, Script, Stmt};
+use rx_base::NoMemory;
+use rx_text::put_num;
+
+// What is still to be written: a token, an expression, or the statements of a block from a position on.
+#[derive(Clone, Copy, Debug, PartialEq, Eq)]
+pub(crate) enum Part {
+    One(Token),
+    Value(ExprId),
+    From(BlockId, u32),
+}
+
+fn keyword(word: Keyword) -> &'static [u8]
+    ensures { result.now ≡ keyword_text word }
+{
+    match word {
+        Keyword::Set => b"set",
+        Keyword::New => b"new",
+        Keyword::Get => b"get",
+        Keyword::Put => b"put",
+        Keyword::Forget => b"forget",
+        Keyword::Print => b"print",
+        Keyword::Throw => b"throw",
+        Keyword::Async => b"async",
+        Keyword::At => b"at",
+        Keyword::Finish => b"finish",
+        Keyword::If => b"if",
+        Keyword::Else => b"else",
+        Keyword::Repeat => b"repeat",
+        Keyword::Try => b"try",
+        Keyword::Catch => b"catch",
+        Keyword::Dead => b"dead",
+        Keyword::Here => b"here",
+        Keyword::Census => b"census",
+    }
+}
+
+fn operator(op: Op) -> &'static [u8]
+    ensures { result.now ≡ op_text op }
+{
+    match op {
+        Op::Add => b"+",
+        Op::Sub => b"-",
+        Op::Mul => b"*",
+        Op::Less => b"<",
+        Op::Equal => b"==",
+    }
+}
+
+fn mark(sign: Sign) -> &'static [u8]
+    ensures { result.now ≡ sign_text sign }
+{
+    match sign {
+        Sign::OpenBrace => b"{",
+        Sign::CloseBrace => b"}",
+        Sign::OpenParen => b"(",
+        Sign::CloseParen => b")",
+        Sign::OpenSquare => b"[",
+        Sign::CloseSquare => b"]",
+        Sign::Equals => b"=",
+        Sign::Semicolon => b";",
+        Sign::Comma => b",",
+    }
+}
+
+fn put(text: &mut Vec<u8>, bytes: &[u8]) -> Result<(), NoMemory>
+    ensures { OnOk result (text.new.items ≡ text.old.items ++ bytes.now) }
+{
+    text.extend_from_slice(bytes)?;
+    Ok(())
+}
+
+fn put_name(text: &mut Vec<u8>, names: &[Vec<u8>], number: u32) -> Result<(), NoMemory>
+    ensures { OnOk result (text.new.items ≡ text.old.items ++ name_text (slice_get (map (λ n. n.items) names.now) number)) }
+{
+    match names.get(number as usize) {
+        Some(name) => put(text, name),
+        None => Ok(()),
+    }
+}
+
+// Appends the bytes of a token.
+fn put_bare(text: &mut Vec<u8>, script: &Script, token: Token) -> Result<(), NoMemory>
+    ensures { OnOk result (text.new.items ≡ text.old.items ++ token_text script.now.names token) }
+{
+    match token {
+        Token::Key(word) => put(text, keyword(word)),
+        Token::Called(number) => put_name(text, &script.names, number),
+        Token::Number(value) => put_num(text, value),
+        Token::Oper(op) => put(text, operator(op)),
+        Token::Mark(sign) => put(text, mark(sign)),
+        Token::Bad => Ok(()),
+    }
+}
+
+// Appends a blank and the bytes of a token.
+fn put_token(text: &mut Vec<u8>, script: &Script, token: Token) -> Result<(), NoMemory>
+    ensures { OnOk result (text.new.items ≡ text.old.items ++ spaced script.now.names token) }
+{
+    text.push(b' ')?;
+    put_bare(text, script, token)
+}
+
+// Puts parts in front of the others; the last of the list is the one in front.
+fn put_parts(parts: &mut Vec<Part>, more: &[Part]) -> Result<(), NoMemory>
+    ensures { OnOk result (parts.new.items ≡ parts.old.items ++ reverse more.now) }
+{
+    let mut left = more;
+    'parts: while let Some((last, before)) = left.split_last() {
+        parts.push(*last)?;
+        left = before;
+    }
+    Ok(())
+}
+
+// The parts of the signs that stand in statements and expressions.
+
+const SEMICOLON: Part = Part::One(Token::Mark(Sign::Semicolon));
+
+const EQUALS: Part = Part::One(Token::Mark(Sign::Equals));
+
+const OPEN: Part = Part::One(Token::Mark(Sign::OpenBrace));
+
+const CLOSE: Part = Part::One(Token::Mark(Sign::CloseBrace));
+
+const OPEN_SQUARE: Part = Part::One(Token::Mark(Sign::OpenSquare));
+
+const CLOSE_SQUARE: Part = Part::One(Token::Mark(Sign::CloseSquare));
+
+const CLOSE_PAREN: Part = Part::One(Token::Mark(Sign::CloseParen));
+
+fn number(n: u32) -> Part
+    ensures { result ≡ OnePart (Number (pos n)) }
+{
+    Part::One(Token::Number(i64::from(n)))
+}
+
+fn named(name: NameId) -> Part
+    ensures { result ≡ named_part name }
+{
+    Part::One(Token::Called(name.0))
+}
+
+fn key(word: Keyword) -> Part
+    ensures { result ≡ OnePart (Key word) }
+{
+    Part::One(Token::Key(word))
+}
+
+// Appends the first token of an expression, and puts the parts after it in front of the others.
+fn put_expr(
+    text: &mut Vec<u8>,
+    parts: &mut Vec<Part>,
+    script: &Script,
+    expr: Expr,
+) -> Result<(), NoMemory>
+    ensures text { OnOk result (text.new.items ≡ text.old.items ++ spaced script.now.names (expr_front expr)) }
+    ensures parts { OnOk result (parts.new.items ≡ parts.old.items ++ reverse (expr_rest expr)) }
+{
+    match expr {
+        Expr::Num(value) => put_token(text, script, Token::Number(value)),
+        Expr::Name(name) => put_token(text, script, Token::Called(name.0)),
+        Expr::Here => put_token(text, script, Token::Key(Keyword::Here)),
+        Expr::Bin { op, left, right } => {
+            put_parts(
+                parts,
+                &[
+                    Part::Value(left),
+                    Part::One(Token::Oper(op)),
+                    Part::Value(right),
+                    CLOSE_PAREN,
+                ],
+            )?;
+            put_token(text, script, Token::Mark(Sign::OpenParen))
+        }
+    }
+}
+
+// The first token of a statement.
+fn word_of(stmt: Stmt) -> Keyword
+    ensures { front_of stmt ≡ Key result }
+{
+    match stmt {
+        Stmt::Set { .. } => Keyword::Set,
+        Stmt::New { .. } => Keyword::New,
+        Stmt::Get { .. } => Keyword::Get,
+        Stmt::Put { .. } => Keyword::Put,
+        Stmt::Forget { .. } => Keyword::Forget,
+        Stmt::Print { .. } => Keyword::Print,
+        Stmt::Throw { .. } => Keyword::Throw,
+        Stmt::Async { .. } => Keyword::Async,
+        Stmt::AtAsync { .. } => Keyword::At,
+        Stmt::At { .. } => Keyword::At,
+        Stmt::Finish { .. } => Keyword::Finish,
+        Stmt::If { .. } => Keyword::If,
+        Stmt::Repeat { .. } => Keyword::Repeat,
+        Stmt::Try { .. } => Keyword::Try,
+    }
+}
+
+// Puts a block with its braces in front of the other parts.
+fn put_block(parts: &mut Vec<Part>, body: BlockId) -> Result<(), NoMemory>
+    ensures { OnOk result (parts.new.items ≡ parts.old.items ++ reverse (block_parts body)) }
+{
+    put_parts(parts, &[OPEN, Part::From(body, 0), CLOSE])
+}
+
+// Puts what stands between a body and the brace of its handler in front of the other parts.
+fn put_catch(parts: &mut Vec<Part>, dead_only: bool) -> Result<(), NoMemory>
+    ensures { OnOk result (parts.new.items ≡ parts.old.items ++ reverse (catch_parts dead_only)) }
+{
+    match dead_only {
+        true => put_parts(parts, &[key(Keyword::Catch), key(Keyword::Dead)]),
+        false => put_parts(parts, &[key(Keyword::Catch)]),
+    }
+}
+
+// Puts the parts of a statement after its first token in front of the others.
+#[tactic(auto, using(std::proofs::Common::append_assoc))]
+fn put_rest(parts: &mut Vec<Part>, stmt: Stmt) -> Result<(), NoMemory>
+    ensures { OnOk result (parts.new.items ≡ parts.old.items ++ reverse (rest_of stmt)) }
+{
+    match stmt {
+        Stmt::Set { name, value } => put_parts(
+            parts,
+            &[named(name), EQUALS, Part::Value(value), SEMICOLON],
+        ),
+        Stmt::New { name, words } => put_parts(
+            parts,
+            &[named(name), EQUALS, number(words), SEMICOLON],
+        ),
+        Stmt::Get {
+            name,
+            target,
+            index,
+        } => {
+            put_parts(parts, &[Part::Value(index), CLOSE_SQUARE, SEMICOLON])?;
+            put_parts(parts, &[named(name), EQUALS, named(target), OPEN_SQUARE])
+        }
+        Stmt::Put {
+            target,
+            index,
+            value,
+        } => {
+            put_parts(
+                parts,
+                &[CLOSE_SQUARE, EQUALS, Part::Value(value), SEMICOLON],
+            )?;
+            put_parts(parts, &[named(target), OPEN_SQUARE, Part::Value(index)])
+        }
+        Stmt::Forget { target } => put_parts(parts, &[named(target), SEMICOLON]),
+        Stmt::Print { value } => put_parts(parts, &[Part::Value(value), SEMICOLON]),
+        Stmt::Throw { value } => put_parts(parts, &[Part::Value(value), SEMICOLON]),
+        Stmt::Async { body } => put_block(parts, body),
+        Stmt::AtAsync { place, body } => {
+            put_block(parts, body)?;
+            put_parts(parts, &[Part::Value(place), key(Keyword::Async)])
+        }
+        Stmt::At { place, body } => {
+            put_block(parts, body)?;
+            put_parts(parts, &[Part::Value(place)])
+        }
+        Stmt::Finish { body } => put_block(parts, body),
+        Stmt::If { test, first, other } => {
+            put_block(parts, other)?;
+            put_parts(parts, &[key(Keyword::Else)])?;
+            put_block(parts, first)?;
+            put_parts(parts, &[Part::Value(test)])
+        }
+        Stmt::Repeat { times, body } => {
+            put_block(parts, body)?;
+            put_parts(parts, &[number(times)])
+        }
+        Stmt::Try {
+            body,
+            dead_only,
+            handler,
+        } => {
+            put_block(parts, handler)?;
+            put_catch(parts, dead_only)?;
+            put_block(parts, body)
+        }
+    }
+}
+
+// Appends the first token of the statement at a position in a block, and puts what follows it in front of the other parts.
+fn put_item(
+    text: &mut Vec<u8>,
+    parts: &mut Vec<Part>,
+    script: &Script,
+    block: BlockId,
+    i: u32,
+) -> Result<(), NoMemory>
+    requires { (ts : List Token) × PartStands script.now (FromPart block i) ts }
+    ensures wrote { OnOk result ((ts : List Token) → PartsStand script.now (FromPart block i ∷ reverse parts.old.items) ts → Wrote script.now text.old.items text.new.items (reverse parts.new.items) ts) }
+    ensures falls { OnOk result (turns_left text.new.items parts.new.items < turns_left text.old.items parts.old.items + 1) }
+{
+    if i < script.block_len(block) {
+        let stmt = script.stmt(script.block_item(block, i));
+        parts.push(Part::From(block, i + 1))?;
+        put_rest(parts, stmt)?;
+        put_token(text, script, Token::Key(word_of(stmt)))
+    } else {
+        Ok(())
+    }
+}
+
+// Appends what a part begins with, and puts what follows it in front of the other parts.
+fn put_part(
+    text: &mut Vec<u8>,
+    parts: &mut Vec<Part>,
+    script: &Script,
+    part: Part,
+) -> Result<(), NoMemory>
+    requires { (ts : List Token) × PartStands script.now part ts }
+    ensures wrote { OnOk result ((ts : List Token) → PartsStand script.now (part ∷ reverse parts.old.items) ts → Wrote script.now text.old.items text.new.items (reverse parts.new.items) ts) }
+    ensures falls { OnOk result (turns_left text.new.items parts.new.items < turns_left text.old.items parts.old.items + 1) }
+{
+    match part {
+        Part::One(token) => put_token(text, script, token),
+        Part::Value(id) => put_expr(text, parts, script, script.expr(id)),
+        Part::From(block, i) => put_item(text, parts, script, block, i),
+    }
+}
+
+// Appends all that is still to be written.
+fn put_all(text: &mut Vec<u8>, mut parts: Vec<Part>, script: &Script) -> Result<(), NoMemory>
+    requires { (ts : List Token) × PartsStand script.now (reverse parts.items) ts }
+    ensures { OnOk result ((ts : List Token) → PartsStand script.now (reverse parts.items) ts → text.new.items ≡ text.old.items ++ flat_map (spaced script.now.names) ts) }
+{
+    'parts: while let Some(part) = parts.pop() {
+        put_part(text, &mut parts, script, part)?;
+    }
+    Ok(())
+}
+
+// Appends the tokens of a script, each with a blank in front.
+fn put_script(text: &mut Vec<u8>, script: &Script) -> Result<(), NoMemory>
+    ensures { OnOk result ((t : Block) → Stands script.now t → text.new.items ≡ text.old.items ++ flat_map (spaced script.now.names) (spellings t)) }
+{
+    let mut parts = Vec::new(*text.allocator());
+    parts.push(Part::From(script.top, 0))?;
+    put_all(text, parts, script)
+}
+
+// Appends the text of a script.
+fn put_text(script: &Script, out: &mut Vec<u8>) -> Result<(), NoMemory>
+    ensures ok { OnOk result ((t : Block) → Stands script.now t → out.new.items ≡ out.old.items ++ script_text script.now.names t) }
+    ensures err { OnErr result (out.new.items ≡ out.old.items) }
+{
+    // The text is made apart, so that a refusal in the middle leaves `out` as it was.
+    let mut text = Vec::new(*out.allocator());
+    put_script(&mut text, script)?;
+    text.push(b'\n')?;
+    match text.as_slice() {
+        [b' ', line @ ..] => out.extend_from_slice(line)?,
+        line => out.extend_from_slice(line)?,
+    }
+    Ok(())
+}
+
+/// Appends the tokens of a script with one blank between two, and a newline. What is appended reads back to the same script. A
+/// refusal leaves `out` as it was. The nesting of the script costs no stack; time and memory are in proportion to the text.
+pub fn write_script(script: &Script, out: &mut Vec<u8>) -> Result<(), NoMemory>
+    ensures ok { OnOk result ((t : Block) → Stands script.now t → out.new.items ≡ out.old.items ++ script_text script.now.names t) }
+    ensures err { OnErr result (out.new.items ≡ out.old.items) }
+    // What is appended is a script with the same names and a tree that this one stands for.
+    ensures reads_back { OnOk result ((bytes : List ℕ) × (t : Block) × (out.new.items ≡ out.old.items ++ bytes) × Stands script.now t × IsScriptOf script.now.names bytes t) }
+{
+    let _ = &script.top;
+    put_text(script, out)
+}

@@ -1,28 +1,18 @@
-//! Checked scripts. It stands on rx_script.
+//! Checked scripts: the five rules that a script must meet before it is run, and its work. It stands on rx_script. docs/language.md
+//! states the rules.
 #![tactic(auto)]
 
-ghost use Rattle.std.specs.Prelude.{◌≡◌};
+mod checker;
+mod laws;
+mod names;
+mod parts;
+mod program;
+mod uses;
+mod walk;
 
-use rx_script::Script;
+pub use checker::{CheckCause, CheckFault, check};
+pub use laws::{names_are_few, steps_are_defined};
+pub use program::{Program, checked};
 
-/// A checked script.
-#[derive(Drop)]
-pub struct Program {
-    pub(crate) script: Script,
-}
-
-impl Program {
-    /// The program of a script. Nothing is checked here as yet: the checker will take the place of this call.
-    pub fn of(script: Script) -> Program
-        ensures { result.script ≡ script }
-    {
-        Program { script }
-    }
-
-    /// The script.
-    pub fn script(&self) -> &Script
-        ensures { result.now ≡ self.now.script }
-    {
-        &self.script
-    }
-}
+#[cfg(test)]
+mod tests;

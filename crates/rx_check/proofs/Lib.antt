@@ -1,0 +1,14 @@
+pub mod Lawful
+pub mod Few
+pub mod Safe
+pub mod Stepping
+pub mod Coming
+mod Blocks
+mod Capping
+mod Exprs
+mod Going
+mod Judging
+pub mod OneTree
+mod Statements
+mod Waiting
+pub mod Worked

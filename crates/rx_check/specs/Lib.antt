@@ -1,0 +1,4 @@
+pub mod Rules
+pub mod Checked
+pub mod Defined
+pub mod Walk

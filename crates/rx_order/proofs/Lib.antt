@@ -1,0 +1,4 @@
+pub mod Positions
+pub mod Turns
+pub mod Keeping
+pub mod Ordering

@@ -1,0 +1,103 @@
+-- Where loops end.
+use Rattle.std.proofs.Common.{◌≡◌, ℕ, ◌+◌, ◌≤◌, Bool, true, false, ◌&&◌, not, ◌==◌, List, [], ◌∷◌, ◌++◌, length, drop, suc, refl, ap, sym, ◌∙◌, subst, arith, length-append}
+use Rattle.std.specs.Prelude.{Option, Some, None, option_map, slice_get, ℤ, FitsSigned}
+use Rattle.std.specs.Int.{w64}
+use Rattle.std.proofs.lemmas.Bool.{eqb-true}
+use Rattle.rx_base.specs.declared.ids.Kill.{Kill}
+use Rattle.rx_text.proofs.Lists.{left-more}
+use Rattle.rx_trace.specs.Events.{AllEvents, events_of}
+use Rattle.rx_trace.specs.KillOrder.{ComesLast}
+use Rattle.rx_trace.specs.Logs.{Log}
+use Rattle.rx_trace.specs.Setups.{given}
+use Rattle.rx_trace.specs.Text.{trace_text}
+use Rattle.rx_reading.specs.FieldWords.{number_of, number_at}
+use Rattle.rx_reading.specs.Machine.{State, is_after, may_follow, read_line}
+use Rattle.rx_reading.specs.Reading.{IsBadLine}
+use Rattle.rx_reading.specs.Stages.{state_of}
+use Rattle.rx_reading.specs.Words.{Lacks}
+use Rattle.rx_reading.specs.declared.stage.Stage.{Stage}
+use Rattle.rx_reading.specs.declared.stage.Stage.TheVariants as stages
+use Rattle.rx_reading.proofs.Figures.{number-takes}
+use Rattle.rx_reading.proofs.Places.{HasRead, IsOpen, ended-more, read-more, read-all, bad-here, bad-end}
+use Rattle.rx_reading.proofs.Plans.{after-is, and-parts}
+use Rattle.rx_reading.proofs.Spelt.{some-is, not-none}
+use Rattle.rx_reading.proofs.States.{ended}
+
+abbrev with : List (List ℕ) → ℤ → ℤ × List (List ℕ)
+with ws z = (z, ws)
+
+-- a number that was read is one of 64 bits
+pub number-fits : (words new : List (List ℕ)) (z : ℤ) → number_at words ≡ Some (z, new) → FitsSigned w64 z
+number-fits [] new z e = absurd (not-none (z, new) e)
+number-fits (w ∷ ws) new z e = by (number_of w) refl e
+  where
+    by : (o : Option ℤ) → number_of w ≡ o → option_map (with ws) o ≡ Some (z, new) → FitsSigned w64 z
+    by None is f = absurd (not-none (z, new) f)
+    by (Some y) is f = (number-takes w z (is ∙ ap (λ p. Some p.0) (some-is (y, ws) (z, new) f))).1
+
+abbrev comes : Kill → Kill → Bool
+comes k kill = is_after k kill && not (k.place.0 == kill.place.0)
+
+follow-here : (ks : List Kill) (i : ℕ) (k kill : Kill) → slice_get ks i ≡ Some k → may_follow (drop i ks) kill ≡ (comes k kill && may_follow (drop (i + 1) ks) kill)
+follow-here ks i k kill here = left-more (λ xs. may_follow xs kill) ks i k here
+
+-- one kill of the list more was passed
+pub follow-more : (ks : List Kill) (i : ℕ) (k kill : Kill) → slice_get ks i ≡ Some k → comes k kill ≡ true → may_follow (drop i ks) kill ≡ may_follow ks kill → may_follow (drop (i + 1) ks) kill ≡ may_follow ks kill
+follow-more ks i k kill here holds left = sym (follow-here ks i k kill here ∙ ap (λ b. b && may_follow (drop (i + 1) ks) kill) holds) ∙ left
+
+pub follow-none : (ks : List Kill) (i : ℕ) (k kill : Kill) → slice_get ks i ≡ Some k → comes k kill ≡ false → may_follow (drop i ks) kill ≡ may_follow ks kill → false ≡ may_follow ks kill
+follow-none ks i k kill here no_one left = sym (follow-here ks i k kill here ∙ ap (λ b. b && may_follow (drop (i + 1) ks) kill) no_one) ∙ left
+
+-- a kill that follows those of a list comes after the last
+pub comes-last : (ks : List Kill) (kill : Kill) → may_follow ks kill ≡ true → ComesLast ks kill
+comes-last [] kill e = tt
+comes-last (k ∷ []) kill e = after-is k kill (and-parts (is_after k kill) (not (k.place.0 == kill.place.0)) (and-parts (comes k kill) true e).0).0
+comes-last (k ∷ j ∷ ks) kill e = comes-last (j ∷ ks) kill (and-parts (comes k kill) (may_follow (j ∷ ks) kill) e).1
+
+-- the lines before the line of this number have been read
+abbrev pub At : List ℕ → ℕ → State → List ℕ → Type 0
+At bytes number s rest = (n : ℕ) × (number ≡ suc n) × HasRead bytes n s rest × (n + length rest ≤ length bytes)
+
+moved : (bytes : List ℕ) (n : ℕ) (s : State) (rest line tail : List ℕ) → rest ≡ line ++ 10 ∷ tail → HasRead bytes n s rest → HasRead bytes n s (ended line ++ tail)
+moved bytes n s rest line tail is h = subst (HasRead bytes n s) (is ∙ sym (ended-more line tail)) h
+
+pub at-more : (bytes : List ℕ) (number : ℕ) (s next : State) (rest line tail : List ℕ) → At bytes number s rest → rest ≡ line ++ 10 ∷ tail → Lacks 10 line → read_line s line ≡ Some next → At bytes (number + 1) next tail
+at-more bytes number s next rest line tail at is lacks e = (
+  suc at.0,
+  (let same : number ≡ suc at.0 = at.1 in omega arith),
+  read-more bytes at.0 s next line tail (moved bytes at.0 s rest line tail is at.2) lacks e,
+  (let low : at.0 + length rest ≤ length bytes = at.3 in omega (arith, ap length is, length-append line (10 ∷ tail))),
+)
+
+pub at-bad : (bytes : List ℕ) (number : ℕ) (s : State) (rest line tail : List ℕ) → At bytes number s rest → rest ≡ line ++ 10 ∷ tail → Lacks 10 line → read_line s line ≡ None → IsBadLine bytes number
+at-bad bytes number s rest line tail at is lacks e =
+    subst (IsBadLine bytes) (sym at.1) (bad-here bytes at.0 s line tail (moved bytes at.0 s rest line tail is at.2) lacks e)
+
+pub at-end : (bytes : List ℕ) (number : ℕ) (s : State) (rest : List ℕ) → At bytes number s rest → Lacks 10 rest → IsOpen s rest → IsBadLine bytes number
+at-end bytes number s rest at lacks is_open = subst (IsBadLine bytes) (sym at.1) (bad-end bytes at.0 s rest at.2 lacks is_open)
+
+nothing : (xs : List ℕ) → true ≡ (length xs == 0) → xs ≡ []
+nothing [] e = refl
+nothing (x ∷ xs) e = let none : length (x ∷ xs) ≡ 0 = eqb-true (length (x ∷ xs)) 0 (sym e) in absurd (omega arith)
+
+something : (xs : List ℕ) → false ≡ (length xs == 0) → xs ≡ [] → ⊥
+something [] e h = cc
+something (x ∷ xs) e h = cc
+
+-- the whole text
+pub at-all : (bytes : List ℕ) (number : ℕ) (s : Stage) (rest : List ℕ) (h : Log) (j : AllEvents) → At bytes number (state_of s) rest → s ≡ stages.Over h j → true ≡ (length rest == 0) → bytes ≡ trace_text (given h.setup) h.entries (events_of j)
+at-all bytes number s rest h j at is none =
+    let read : HasRead bytes at.0 (state_of (stages.Over h j)) [] = subst (λ x. HasRead bytes at.0 (state_of x) []) is (subst (HasRead bytes at.0 (state_of s)) (nothing rest none) at.2) in
+    (read-all bytes at.0 (given h.setup) h.entries (events_of j) read).0
+
+pub open-some : (s : State) (rest : List ℕ) → false ≡ (length rest == 0) → IsOpen s rest
+open-some s rest some U es js is none = something rest some none
+
+pub open-unless : (s : Stage) (rest : List ℕ) → ((h : Log) (j : AllEvents) → s ≡ stages.Over h j → ⊥) → IsOpen (state_of s) rest
+open-unless stages.Untitled rest never U es js is none = cc
+open-unless stages.Titled rest never U es js is none = cc
+open-unless (stages.Sized places heap) rest never U es js is none = cc
+open-unless (stages.Planned setup) rest never U es js is none = cc
+open-unless (stages.Entering history) rest never U es js is none = cc
+open-unless (stages.Logging history journals journal) rest never U es js is none = cc
+open-unless (stages.Over h j) rest never U es js is none = never h j refl

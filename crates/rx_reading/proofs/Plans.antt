@@ -1,0 +1,289 @@
+-- The lines of the setup.
+use Rattle.std.proofs.Common.{◌≡◌, ◌⊎◌, inl, inr, ℕ, ◌+◌, ◌<◌, ◌≤◌, Bool, true, false, cond, ◌&&◌, ◌||◌, not, ◌==◌, nat_lt, List, [], ◌∷◌, ◌++◌, refl, ap, sym, ◌∙◌, subst, arith, append-nil, append_assoc}
+use Rattle.std.specs.Prelude.{◌≢◌, Option, Some, None, codes}
+use Rattle.std.specs.List.{AllByRecursion, flat_map}
+use Rattle.std.specs.Str.{bytes_eq}
+use Rattle.std.proofs.lemmas.Bool.{eqb-true, eq-eqb}
+use Rattle.rx_base.specs.declared.ids.PlaceId.{PlaceId}
+use Rattle.rx_base.specs.declared.ids.Kill.{Kill}
+use Rattle.rx_rules.specs.Run.{ComesAfter, Spares, Ascends, AreKills}
+use Rattle.rx_text.specs.Numbers.{natural_text}
+use Rattle.rx_trace.specs.Fields.{natural_field, kill_field}
+use Rattle.rx_reading.specs.Words.{Lacks, pieces, fields}
+use Rattle.rx_reading.specs.Readers.{word, all_read}
+use Rattle.rx_reading.specs.FieldWords.{next, number_below, kill_of}
+use Rattle.rx_reading.specs.Machine.{count_of, sizes_at, is_after, may_follow, planned, kills_of, kills_line_of}
+use Rattle.rx_reading.proofs.Cuts.{Plain, other-byte, bytes-same}
+use Rattle.rx_reading.proofs.Faults.{plain-word-is}
+use Rattle.rx_reading.proofs.Fields.{next-is, kill-takes, kill-item, one-word, word-again}
+use Rattle.rx_reading.proofs.Figures.{below-takes, below-again, natural-plain, lt-true, true-lt}
+use Rattle.rx_reading.proofs.Spelt.{some-is, not-none, Takes, takes-done, takes-followed, takes-keyed, Any, again-as, again-done, again-keyed, again-field, Item}
+use Rattle.rx_reading.proofs.Wholes.{cut-line, fields-lack, LineAgain, line-takes, line-again, words-of-line}
+
+abbrev pub IsCount : ℕ → ℕ → Type 0
+IsCount most n = (1 ≤ n) × (n ≤ most)
+
+count-takes : (most : ℕ) (w : List ℕ) (n : ℕ) → count_of most w ≡ Some n → (32 ∷ w ≡ natural_field n) × IsCount most n
+count-takes most w n e =
+    let two = next-is (number_below (most + 1) w) (λ k. cond (k == 0) None (Some k)) n e in
+    by two.first (below-takes (most + 1) w two.first two.was) (two.first == 0) refl two.then_was
+  where
+    by : (k : ℕ) → (w ≡ natural_text k) × (k < most + 1) → (b : Bool) → (k == 0) ≡ b → cond b None (Some k) ≡ Some n → (32 ∷ w ≡ natural_field n) × IsCount most n
+    by k is true h f = absurd (not-none n f)
+    by k is false h f =
+        let low : k < most + 1 = is.1 in
+        let apart : k ≢ 0 = λ z. (let t : (k == 0) ≡ true = eq-eqb k 0 z in cc) in
+        let some : 1 ≤ k = omega (arith, apart) in
+        subst (λ (m : ℕ). (32 ∷ w ≡ natural_field m) × IsCount most m) (some-is k n f) (ap (λ t. 32 ∷ t) is.0, (some, omega arith))
+
+count-item : (most n : ℕ) → most ≤ 4096 → IsCount most n → Item (count_of most) natural_field n
+count-item most n few fits =
+    let some : 1 ≤ n = fits.0 in
+    let low : n ≤ most = fits.1 in
+    let apart : n ≢ 0 = λ z. omega arith in
+    record {
+      text = natural_text n;
+      spelled = refl;
+      plain = natural-plain n (omega arith);
+      reads = ap (λ o. next o (λ k. cond (k == 0) None (Some k))) (below-again (most + 1) n (omega arith) (omega arith)) ∙ ap (λ b. cond b None (Some n)) (other-byte n 0 apart);
+    }
+
+abbrev pub sizes_text : ℕ → ℕ → List ℕ
+sizes_text places heap = codes "places" ++ natural_field places ++ codes " heap" ++ natural_field heap
+
+abbrev AreSizes : ℕ × ℕ → List ℕ → Type 0
+AreSizes x t = (t ≡ 32 ∷ sizes_text x.0 x.1) × IsCount 16 x.0 × IsCount 4096 x.1
+
+flat4 : (a b c d : List ℕ) → a ++ (b ++ (c ++ (d ++ []))) ≡ ((a ++ b) ++ c) ++ d
+flat4 a b c d = simp (append_assoc, append-nil)
+
+count-one : (most : ℕ) → Takes (word (count_of most)) (λ n t. (t ≡ natural_field n) × IsCount most n)
+count-one most = one-word (count_of most) natural_field (IsCount most) (count-takes most)
+
+sizes-read : Takes sizes_at AreSizes
+sizes-read =
+    takes-keyed (codes "places") _ AreSizes (
+    takes-followed (word (count_of 16)) _ natural_field (IsCount 16) _ (count-one 16) (λ places a.
+    takes-keyed (codes "heap") _ _ (
+    takes-followed (word (count_of 4096)) _ natural_field (IsCount 4096) _ (count-one 4096) (λ heap b.
+    takes-done (places, heap) _ (flat4 (codes " places") (natural_field places) (codes " heap") (natural_field heap), a, b)))))
+
+rest-is : (a : ℕ) (x y : List ℕ) → a ∷ x ≡ a ∷ y → x ≡ y
+rest-is a x y e = cc
+
+-- the line of the sizes
+pub sizes-take : (line : List ℕ) (x : ℕ × ℕ) → all_read (sizes_at (pieces 32 line)) ≡ Some x → (line ≡ sizes_text x.0 x.1) × IsCount 16 x.0 × IsCount 4096 x.1
+sizes-take line x e = let got = line-takes sizes_at AreSizes line x sizes-read e in (rest-is 32 line (sizes_text x.0 x.1) got.0, got.1, got.2)
+
+pub sizes-again : (places heap : ℕ) → IsCount 16 places → IsCount 4096 heap → LineAgain (all_read (sizes_at (pieces 32 (sizes_text places heap)))) (places, heap) (sizes_text places heap)
+sizes-again places heap a b =
+    let x : ℕ × ℕ = (places, heap) in
+    line-again sizes_at x (sizes_text places heap) Any tt (
+    again-as sizes_at x _ _ Any Any (flat4 (codes " places") (natural_field places) (codes " heap") (natural_field heap)) (λ rest n. n) (
+    again-keyed (codes "places") _ x _ Any (plain-word-is (codes "places") refl) (
+    again-field (word (count_of 16)) _ places x (natural_field places) _ Any (word-again (count_of 16) natural_field places (count-item 16 places (omega arith) a)) (
+    again-keyed (codes "heap") _ x _ Any (plain-word-is (codes "heap") refl) (
+    again-field (word (count_of 4096)) _ heap x (natural_field heap) _ Any (word-again (count_of 4096) natural_field heap (count-item 4096 heap (omega arith) b)) (
+    again-done x Any))))))
+
+-- kills in order
+abbrev pub Moments : List Kill → Type 0
+Moments kills = AllByRecursion (λ k. k.moment ≤ 1000000) kills
+
+pub and-parts : (a b : Bool) → (a && b) ≡ true → (a ≡ true) × (b ≡ true)
+and-parts true b e = (refl, e)
+and-parts false b e = cc
+
+and-true : (a b : Bool) → a ≡ true → b ≡ true → (a && b) ≡ true
+and-true true b e f = f
+and-true false b e f = cc
+
+or-parts : (a b : Bool) → (a || b) ≡ true → (a ≡ true) ⊎ (b ≡ true)
+or-parts true b e = inl refl
+or-parts false b e = inr e
+
+or-left : (a b : Bool) → a ≡ true → (a || b) ≡ true
+or-left true b e = refl
+or-left false b e = cc
+
+or-right : (a b : Bool) → b ≡ true → (a || b) ≡ true
+or-right true b e = refl
+or-right false b e = e
+
+not-parts : (a : Bool) → not a ≡ true → a ≡ false
+not-parts true e = cc
+not-parts false e = refl
+
+pub after-is : (a b : Kill) → is_after a b ≡ true → ComesAfter a b
+after-is a b e = by (or-parts (nat_lt a.moment b.moment) (a.moment == b.moment && nat_lt a.place.0 b.place.0) e)
+  where
+    by : (nat_lt a.moment b.moment ≡ true) ⊎ ((a.moment == b.moment && nat_lt a.place.0 b.place.0) ≡ true) → ComesAfter a b
+    by (inl h) = inl (lt-true a.moment b.moment h)
+    by (inr h) = let both = and-parts (a.moment == b.moment) (nat_lt a.place.0 b.place.0) h in inr (eqb-true a.moment b.moment both.0, lt-true a.place.0 b.place.0 both.1)
+
+is-after : (a b : Kill) → ComesAfter a b → is_after a b ≡ true
+is-after a b (inl h) = or-left (nat_lt a.moment b.moment) (a.moment == b.moment && nat_lt a.place.0 b.place.0) (true-lt a.moment b.moment h)
+is-after a b (inr h) = or-right (nat_lt a.moment b.moment) (a.moment == b.moment && nat_lt a.place.0 b.place.0) (and-true (a.moment == b.moment) (nat_lt a.place.0 b.place.0) (eq-eqb a.moment b.moment h.0) (true-lt a.place.0 b.place.0 h.1))
+
+-- the kill comes after each of the list, and has a place of its own
+abbrev Follows : List Kill → Kill → Type 0
+Follows [] kill = Unit {0}
+Follows (k ∷ ks) kill = ComesAfter k kill × (k.place.0 ≢ kill.place.0) × Follows ks kill
+
+eq-apart : (a b : ℕ) → (a == b) ≡ false → a ≢ b
+eq-apart a b e h = let t : (a == b) ≡ true = eq-eqb a b h in cc
+
+follows-is : (ks : List Kill) (kill : Kill) → may_follow ks kill ≡ true → Follows ks kill
+follows-is [] kill e = tt
+follows-is (k ∷ ks) kill e =
+    let one = and-parts (is_after k kill && not (k.place.0 == kill.place.0)) (may_follow ks kill) e in
+    let two = and-parts (is_after k kill) (not (k.place.0 == kill.place.0)) one.0 in
+    (after-is k kill two.0, eq-apart k.place.0 kill.place.0 (not-parts (k.place.0 == kill.place.0) two.1), follows-is ks kill one.1)
+
+is-followed : (ks : List Kill) (kill : Kill) → Follows ks kill → may_follow ks kill ≡ true
+is-followed [] kill f = refl
+is-followed (k ∷ ks) kill f =
+    and-true (is_after k kill && not (k.place.0 == kill.place.0)) (may_follow ks kill)
+    (and-true (is_after k kill) (not (k.place.0 == kill.place.0)) (is-after k kill f.0) (ap not (other-byte k.place.0 kill.place.0 f.1)))
+    (is-followed ks kill f.2)
+
+spares-push : (p : PlaceId) (ks : List Kill) (kill : Kill) → Spares p ks → p.0 ≢ kill.place.0 → Spares p (ks ++ kill ∷ [])
+spares-push p [] kill s apart = (apart, tt)
+spares-push p (k ∷ ks) kill s apart = (s.0, spares-push p ks kill s.1 apart)
+
+ascends-push : (a : Kill) (ks : List Kill) (kill : Kill) → Ascends a ks → ComesAfter a kill → Follows ks kill → Ascends a (ks ++ kill ∷ [])
+ascends-push a [] kill s comes f = (comes, tt)
+ascends-push a (k ∷ ks) kill s comes f = (s.0, ascends-push k ks kill s.1 f.0 f.2)
+
+-- a kill that follows joins kills in order
+pub kills-push : (places : ℕ) (ks : List Kill) (kill : Kill) → AreKills places ks → kill.place.0 < places → kill.place.0 ≢ 0 → Follows ks kill → AreKills places (ks ++ kill ∷ [])
+kills-push places [] kill all low some f = (low, some, tt, tt, tt)
+kills-push places (k ∷ ks) kill all low some f =
+    (all.0, all.1, spares-push k.place ks kill all.2 f.1, ascends-push k ks kill all.3 f.0 f.2, kills-push places ks kill all.4 low some f.2)
+
+moments-push : (ks : List Kill) (kill : Kill) → Moments ks → kill.moment ≤ 1000000 → Moments (ks ++ kill ∷ [])
+moments-push [] kill all low = (low, tt)
+moments-push (k ∷ ks) kill all low = (all.0, moments-push ks kill all.1 low)
+
+flat-push : (ks : List Kill) (kill : Kill) → flat_map kill_field (ks ++ kill ∷ []) ≡ flat_map kill_field ks ++ kill_field kill
+flat-push [] kill = append-nil (kill_field kill)
+flat-push (k ∷ ks) kill = ap (λ r. kill_field k ++ r) (flat-push ks kill) ∙ sym (append_assoc (kill_field k) (flat_map kill_field ks) (kill_field kill))
+
+pub record KillsRead (places : ℕ) (front : List ℕ) (kills : List Kill) : Type 0 where
+  pub text : front ≡ flat_map kill_field kills
+  pub all : AreKills places kills
+  pub moments : Moments kills
+
+kill-read : (places : ℕ) (w : List ℕ) (ws : List (List ℕ)) (ks kills : List Kill) (o : Option Kill) → kill_of places w ≡ o → AreKills places ks → Moments ks → planned o ks (λ js. kills_of places js ws) ≡ Some kills
+    → ((js : List Kill) → AreKills places js → Moments js → kills_of places js ws ≡ Some kills → KillsRead places (flat_map kill_field js ++ fields ws) kills) → KillsRead places (flat_map kill_field ks ++ fields (w ∷ ws)) kills
+kill-read places w ws ks kills None is all moments e more = absurd (not-none kills e)
+kill-read places w ws ks kills (Some kill) is all moments e more = by (not (kill.place.0 == 0) && may_follow ks kill) refl e
+  where
+    by : (b : Bool) → (not (kill.place.0 == 0) && may_follow ks kill) ≡ b → cond b (kills_of places (ks ++ kill ∷ []) ws) None ≡ Some kills → KillsRead places (flat_map kill_field ks ++ fields (w ∷ ws)) kills
+    by false h f = absurd (not-none kills f)
+    by true h f =
+        let both = and-parts (not (kill.place.0 == 0)) (may_follow ks kill) h in
+        let known = kill-takes places w kill is in
+        let some = eq-apart kill.place.0 0 (not-parts (kill.place.0 == 0) both.0) in
+        let next = more (ks ++ kill ∷ []) (kills-push places ks kill all known.1.0 some (follows-is ks kill both.1)) (moments-push ks kill moments known.1.1) f in
+        record {
+          text = ap (λ v. flat_map kill_field ks ++ (v ++ fields ws)) known.0 ∙ sym (append_assoc (flat_map kill_field ks) (kill_field kill) (fields ws)) ∙ ap (λ v. v ++ fields ws) (sym (flat-push ks kill)) ∙ next.text;
+          all = next.all;
+          moments = next.moments;
+        }
+
+kills-read : (places : ℕ) (ws : List (List ℕ)) (ks kills : List Kill) → AreKills places ks → Moments ks → kills_of places ks ws ≡ Some kills → KillsRead places (flat_map kill_field ks ++ fields ws) kills
+kills-read places [] ks kills all moments e =
+    let same = some-is ks kills e in
+    record { text = append-nil (flat_map kill_field ks) ∙ ap (flat_map kill_field) same; all = subst (AreKills places) same all; moments = subst Moments same moments }
+kills-read places (w ∷ ws) ks kills all moments e =
+    kill-read places w ws ks kills (kill_of places w) refl all moments e (λ js a m f. kills-read places ws js kills a m f)
+
+pub record KillsLine (places : ℕ) (line : List ℕ) (kills : List Kill) : Type 0 where
+  pub text : line ≡ codes "kills" ++ flat_map kill_field kills
+  pub all : AreKills places kills
+  pub moments : Moments kills
+
+-- the line of the kills
+pub kills-take : (places : ℕ) (line : List ℕ) (kills : List Kill) → kills_line_of places (pieces 32 line) ≡ Some kills → KillsLine places line kills
+kills-take places line kills e = by (pieces 32 line) (words-of-line line) e
+  where
+    keyed-kills : (w : List ℕ) (ws : List (List ℕ)) → fields (w ∷ ws) ≡ 32 ∷ line → (b : Bool) → bytes_eq w (codes "kills") ≡ b → cond b (kills_of places [] ws) None ≡ Some kills → KillsLine places line kills
+    keyed-kills w ws is false h f = absurd (not-none kills f)
+    keyed-kills w ws is true h f =
+        let read = kills-read places ws [] kills tt tt f in
+        record {
+          text = rest-is 32 line _ (sym is ∙ ap (λ v. (32 ∷ v) ++ fields ws) (bytes-same w (codes "kills") h) ∙ ap (λ v. codes " kills" ++ v) read.text);
+          all = read.all;
+          moments = read.moments;
+        }
+
+    by : (ws : List (List ℕ)) → fields ws ≡ 32 ∷ line → kills_line_of places ws ≡ Some kills → KillsLine places line kills
+    by [] is f = absurd (not-none kills f)
+    by (w ∷ ws) is f = keyed-kills w ws is (bytes_eq w (codes "kills")) refl f
+
+further : (a b c : Kill) → ComesAfter a b → ComesAfter b c → ComesAfter a c
+further a b c (inl x) (inl y) = inl (omega arith)
+further a b c (inl x) (inr y) = let e = y.0 in inl (omega arith)
+further a b c (inr x) (inl y) = let e = x.0 in inl (omega arith)
+further a b c (inr x) (inr y) = let e = x.0 in let f = y.0 in let g = x.1 in let h = y.1 in inr (omega arith, omega arith)
+
+ascends-to : (a : Kill) (pre : List Kill) (k : Kill) (ks : List Kill) → Ascends a (pre ++ k ∷ ks) → ComesAfter a k
+ascends-to a [] k ks h = h.0
+ascends-to a (b ∷ pre) k ks h = further a b k h.0 (ascends-to b pre k ks h.1)
+
+spares-to : (p : PlaceId) (pre : List Kill) (k : Kill) (ks : List Kill) → Spares p (pre ++ k ∷ ks) → p.0 ≢ k.place.0
+spares-to p [] k ks h = h.0
+spares-to p (b ∷ pre) k ks h = spares-to p pre k ks h.1
+
+-- a kill of kills in order
+record Stands (places : ℕ) (pre : List Kill) (k : Kill) : Type 0 where
+  pub low : k.place.0 < places
+  pub some : k.place.0 ≢ 0
+  pub follows : Follows pre k
+
+stands : (places : ℕ) (pre : List Kill) (k : Kill) (ks : List Kill) → AreKills places (pre ++ k ∷ ks) → Stands places pre k
+stands places [] k ks all = record { low = all.0; some = all.1; follows = tt }
+stands places (a ∷ pre) k ks all =
+    let more = stands places pre k ks all.4 in
+    record { low = more.low; some = more.some; follows = (ascends-to a pre k ks all.3, spares-to a.place pre k ks all.2, more.follows) }
+
+record KillsAgain (places : ℕ) (pre ks : List Kill) : Type 0 where
+  pub front : List (List ℕ)
+  pub spelled : fields front ≡ flat_map kill_field ks
+  pub plain : AllByRecursion Plain front
+  pub reads : kills_of places pre front ≡ Some (pre ++ ks)
+
+not-false : (b : Bool) → b ≡ false → not b ≡ true
+not-false true e = cc
+not-false false e = refl
+
+kills-again : (places : ℕ) (pre ks : List Kill) → places ≤ 16 → AreKills places (pre ++ ks) → Moments ks → KillsAgain places pre ks
+kills-again places pre [] few all moments = record { front = []; spelled = refl; plain = tt; reads = ap Some (sym (append-nil pre)) }
+kills-again places pre (k ∷ ks) few all moments =
+    let here = stands places pre k ks all in
+    let item = kill-item places k few (here.low, moments.0) in
+    let more = kills-again places (pre ++ k ∷ []) ks few (subst (AreKills places) (sym (append_assoc pre (k ∷ []) ks)) all) moments.1 in
+    let may : (not (k.place.0 == 0) && may_follow pre k) ≡ true =
+    and-true (not (k.place.0 == 0)) (may_follow pre k) (not-false (k.place.0 == 0) (other-byte k.place.0 0 here.some)) (is-followed pre k here.follows) in
+    record {
+      front = item.text ∷ more.front;
+      spelled = ap (λ v. v ++ fields more.front) item.spelled ∙ ap (λ v. kill_field k ++ v) more.spelled;
+      plain = (item.plain, more.plain);
+      reads = ap (λ o. planned o pre (λ js. kills_of places js more.front)) item.reads
+          ∙ ap (λ b. cond b (kills_of places (pre ++ k ∷ []) more.front) None) may
+          ∙ more.reads ∙ ap Some (append_assoc pre (k ∷ []) ks);
+    }
+
+pub kills-line-again : (places : ℕ) (kills : List Kill) → places ≤ 16 → AreKills places kills → Moments kills → LineAgain (kills_line_of places (pieces 32 (codes "kills" ++ flat_map kill_field kills))) kills (codes "kills" ++ flat_map kill_field kills)
+kills-line-again places kills few all moments =
+    let h = kills-again places [] kills few all moments in
+    let line = codes "kills" ++ flat_map kill_field kills in
+    let front : List (List ℕ) = codes "kills" ∷ h.front in
+    let spelled : fields front ≡ 32 ∷ line = ap (λ v. codes " kills" ++ v) h.spelled in
+    let plain : AllByRecursion Plain front = (plain-word-is (codes "kills") refl, h.plain) in
+    let lacks : Lacks 10 (32 ∷ line) = subst (Lacks 10) spelled (fields-lack front plain) in
+    record {
+      reads = ap (kills_line_of places) (cut-line front line spelled plain) ∙ h.reads;
+      lacks = lacks.1;
+    }

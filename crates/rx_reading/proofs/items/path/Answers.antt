@@ -1,0 +1,27 @@
+use Rattle.std.proofs.Common.{sym, ◌∙◌}
+use Rattle.rx_reading.proofs.Joining.{number-more, number-none, last-none, last-long, last-ok}
+use Rattle.rx_reading.proofs.items.path.Goals as goal
+
+pub returns-in_default-natural : goal.returns-in_default-natural
+returns-in_default-natural c =
+    number-none c.numbers.path c.numbers.rest.now c.in-Some.front.now c.in-Some.tail.now c.args.word.now c.numbers.invariant c.in-Some.ensures.some.0 c.in-Some.ensures.some.1
+    (sym c.natural.ensures ∙ c.in_default-natural.is)
+
+pub numbers-preserved : goal.numbers-preserved
+numbers-preserved c =
+    number-more c.numbers.path c.push.new.self c.numbers.rest.now c.in-Some.front.now c.in-Some.tail.now c.args.word.now c.in-Some-natural.n c.numbers.invariant c.in-Some.ensures.some.0 c.in-Some.ensures.some.1
+    (sym c.natural.ensures ∙ c.in-Some-natural.is) c.in_ok-push.ensures.ok
+
+pub returns-in_default-natural-2 : goal.returns-in_default-natural-2
+returns-in_default-natural-2 c =
+    last-none c.numbers.path c.numbers.rest.now c.args.word.now c.numbers.invariant c.in_default.ensures.none (sym c.natural-2.ensures ∙ c.in_default-natural-2.is)
+
+pub returns-then-len-gt65 : goal.returns-then-len-gt65
+returns-then-len-gt65 c =
+    last-long c.numbers.path c.push-2.new.self c.numbers.rest.now c.args.word.now c.in-Some-natural-2.n c.len.result c.numbers.invariant c.in_default.ensures.none
+    (sym c.natural-2.ensures ∙ c.in-Some-natural-2.is) c.in_ok-push-2.ensures.ok c.len.ensures c.if-len-gt65.true
+
+pub returns : goal.returns
+returns c =
+    last-ok c.numbers.path c.push-2.new.self c.numbers.rest.now c.args.word.now c.in-Some-natural-2.n c.len.result c.numbers.invariant c.in_default.ensures.none
+    (sym c.natural-2.ensures ∙ c.in-Some-natural-2.is) c.in_ok-push-2.ensures.ok c.len.ensures c.if-len-gt65.false

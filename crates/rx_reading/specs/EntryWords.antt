@@ -1,0 +1,76 @@
+-- The words of entries.
+use Rattle.std.specs.Prelude.{ℕ, codes}
+use Rattle.rx_rules.specs.declared.entries.Act.{Act}
+use Rattle.rx_rules.specs.declared.entries.Act.TheVariants.{Open, At, Spawn, Arrive, Wait, Release, End, Print}
+use Rattle.rx_rules.specs.declared.entries.Entry.{Entry}
+use Rattle.rx_rules.specs.declared.entries.Entry.TheVariants.{Step, Root, Death}
+use Rattle.rx_reading.specs.declared.acts.Kind.{Kind}
+use Rattle.rx_reading.specs.declared.acts.Kind.TheVariants as kinds
+use Rattle.rx_reading.specs.FieldWords.{number_at, place_at, task_at, scope_at, path_at}
+use Rattle.rx_reading.specs.PartWords.{lost_at, thrown_at, batch_at}
+use Rattle.rx_reading.specs.Readers.{Reader, followed, done, keyed, either}
+
+abbrev pub open_at : Reader Act
+open_at = followed scope_at (λ scope. keyed (codes "in") (followed scope_at (λ parent. followed path_at (λ path. done (Open scope parent path)))))
+
+abbrev pub at_at : ℕ → Reader Act
+at_at places = followed scope_at (λ scope. keyed (codes "in") (followed scope_at (λ parent. followed task_at (λ callee.
+    followed (place_at places) (λ from. followed (place_at places) (λ to. followed path_at (λ path. done (At scope parent callee from to path))))))))
+
+abbrev pub spawn_at : ℕ → Reader Act
+spawn_at places = followed task_at (λ child. keyed (codes "in") (followed scope_at (λ scope.
+    followed (place_at places) (λ from. followed (place_at places) (λ to. followed path_at (λ path. done (Spawn child scope from to path)))))))
+
+abbrev pub arrive_at : ℕ → Reader Act
+arrive_at places = followed (place_at places) (λ place. done (Arrive place))
+
+abbrev pub wait_at : ℕ → Reader Act
+wait_at places = followed scope_at (λ scope. followed (thrown_at places) (λ thrown. done (Wait scope thrown)))
+
+abbrev pub release_at : ℕ → Reader Act
+release_at places = followed scope_at (λ scope. followed (lost_at places) (λ lost. followed (thrown_at places) (λ thrown. done (Release scope lost thrown))))
+
+abbrev pub end_at : ℕ → Reader Act
+end_at places = followed (thrown_at places) (λ thrown. done (End thrown))
+
+abbrev pub print_at : Reader Act
+print_at = followed number_at (λ value. followed path_at (λ path. done (Print value path)))
+
+-- an act of this kind
+abbrev pub act_at : ℕ → Kind → Reader Act
+act_at places kinds.Open = open_at
+act_at places kinds.At = at_at places
+act_at places kinds.Spawn = spawn_at places
+act_at places kinds.Arrive = arrive_at places
+act_at places kinds.Wait = wait_at places
+act_at places kinds.Release = release_at places
+act_at places kinds.End = end_at places
+act_at places kinds.Print = print_at
+
+-- a task, what it did, and its batch
+abbrev pub step_at : Reader Act → Reader Entry
+step_at act_at = followed task_at (λ task. followed act_at (λ act. followed batch_at (λ batch. done (Step task act batch))))
+
+-- the host's release of the root
+abbrev pub root_at : ℕ → Reader Entry
+root_at places = keyed (codes "s0") (followed (lost_at places) (λ lost. followed (thrown_at places) (λ thrown. done (Root lost thrown))))
+
+abbrev pub death_at : ℕ → Reader Entry
+death_at places = followed (place_at places) (λ place. done (Death place))
+
+-- a release by the host or by a task
+abbrev pub release_or_root_at : ℕ → Reader Entry
+release_or_root_at places = either (codes "host") (root_at places) (step_at (release_at places))
+
+-- the words of an entry after its number
+abbrev pub entry_at : ℕ → Reader Entry
+entry_at places =
+    either (codes "open") (step_at open_at) (
+    either (codes "at") (step_at (at_at places)) (
+    either (codes "spawn") (step_at (spawn_at places)) (
+    either (codes "arrive") (step_at (arrive_at places)) (
+    either (codes "wait") (step_at (wait_at places)) (
+    either (codes "release") (release_or_root_at places) (
+    either (codes "end") (step_at (end_at places)) (
+    either (codes "print") (step_at print_at) (
+    keyed (codes "death") (death_at places)))))))))

@@ -1,0 +1,53 @@
+-- The parts that are there only where their list is not empty.
+use Rattle.std.specs.Prelude.{ℕ, ◌+◌, ◌^◌, nat_lt, ◌==◌, Bool, true, false, List, [], ◌∷◌, Option, Some, None, if◌then◌else◌, codes}
+use Rattle.std.specs.Str.{bytes_eq}
+use Rattle.rx_base.specs.declared.ids.PlaceId.{PlaceId}
+use Rattle.rx_base.specs.declared.place_set.PlaceSet.{PlaceSet}
+use Rattle.rx_base.specs.declared.values.Fault.{Fault}
+use Rattle.rx_reading.specs.FieldWords.{place_of, path_of, fault_of}
+use Rattle.rx_reading.specs.Readers.{Reader, part}
+
+-- the set with this number
+abbrev pub set_of : ℕ → PlaceSet
+set_of set = record { 0 = set }
+
+-- a place joins the set where it is above all that are in it
+abbrev pub joined : Option PlaceId → ℕ → List ℕ → List (List ℕ) → (ℕ → Option (PlaceSet × List (List ℕ))) → Option (PlaceSet × List (List ℕ))
+joined None set w ws more = Some (set_of set, w ∷ ws)
+joined (Some p) set w ws more = if nat_lt set (2 ^ p.0) then more (set + 2 ^ p.0) else None
+
+-- places in ascending order, which join the set
+abbrev pub places_at : ℕ → ℕ → Reader PlaceSet
+places_at places set [] = Some (set_of set, [])
+places_at places set (w ∷ ws) = joined (place_of places w) set w ws (λ s. places_at places s ws)
+
+abbrev pub some_place : Option (PlaceSet × List (List ℕ)) → Option (PlaceSet × List (List ℕ))
+some_place None = None
+some_place (Some x) = if x.0.0 == 0 then None else Some x
+
+-- the places that lost tasks
+abbrev pub lost_at : ℕ → Reader PlaceSet
+lost_at places [] = Some (set_of 0, [])
+lost_at places (w ∷ ws) = if bytes_eq w (codes "lost") then some_place (places_at places 0 ws) else Some (set_of 0, w ∷ ws)
+
+-- faults in their order
+abbrev pub thrown_at : ℕ → Reader (List Fault)
+thrown_at places = part (codes "thrown") (fault_of places)
+
+-- the paths of a batch in their order
+abbrev pub batch_at : Reader (List (List ℕ))
+batch_at = part (codes "|") path_of
+
+-- whether the first word is this one, and the words after it
+abbrev pub key_of : List ℕ → List (List ℕ) → Bool × List (List ℕ)
+key_of key [] = (false, [])
+key_of key (w ∷ ws) = if bytes_eq w key then (true, ws) else (false, w ∷ ws)
+
+abbrev pub left_of : {A : Type 0} → Option A → List ℕ → List (List ℕ) → Option A × List (List ℕ)
+left_of None w ws = (None, w ∷ ws)
+left_of (Some a) w ws = (Some a, ws)
+
+-- the item that the first word is, and the words after it
+abbrev pub item_of : {A : Type 0} → (List ℕ → Option A) → List (List ℕ) → Option A × List (List ℕ)
+item_of of [] = (None, [])
+item_of of (w ∷ ws) = left_of (of w) w ws

@@ -1,0 +1,193 @@
+// What an entry of a task tells of it, after the task.
+ghost use Rattle.std.specs.Prelude.{◌≡◌, ◌≤◌, codes, IfOk};
+ghost use Rattle.rx_reading.specs.Words.{answered};
+ghost use Rattle.rx_reading.specs.EntryWords.{open_at, at_at, spawn_at, arrive_at, wait_at, release_at, end_at, print_at, act_at};
+
+use crate::parts::{
+    keyword, lost_part, number_field, path_field, place_field, scope_field, task_field, thrown_part,
+};
+use crate::words::Words;
+use rx_base::NoMemory;
+use rx_trace::Act;
+use std::alloc::Global;
+
+// The kinds of acts.
+#[derive(Clone, Copy)]
+pub(crate) enum Kind {
+    Open,
+    At,
+    Spawn,
+    Arrive,
+    Wait,
+    Release,
+    End,
+    Print,
+}
+
+// An act of this kind.
+pub(crate) fn act(
+    alloc: Global,
+    words: &mut Words<'_>,
+    places: u8,
+    kind: Kind,
+) -> Result<Option<Act>, NoMemory>
+    requires { places ≤ 16 }
+    ensures { IfOk result (λ act. answered act words.new ≡ act_at places kind words.old) }
+{
+    match kind {
+        Kind::Open => open(alloc, words),
+        Kind::At => at(alloc, words, places),
+        Kind::Spawn => spawn(alloc, words, places),
+        Kind::Arrive => Ok(arrive(words, places)),
+        Kind::Wait => wait(alloc, words, places),
+        Kind::Release => release(alloc, words, places),
+        Kind::End => end(alloc, words, places),
+        Kind::Print => print(alloc, words),
+    }
+}
+
+fn open(alloc: Global, words: &mut Words<'_>) -> Result<Option<Act>, NoMemory>
+    ensures { IfOk result (λ act. answered act words.new ≡ open_at words.old) }
+{
+    let Some(scope) = scope_field(words) else {
+        return Ok(None);
+    };
+    if !keyword(words, b"in") {
+        return Ok(None);
+    }
+    let Some(parent) = scope_field(words) else {
+        return Ok(None);
+    };
+    let Some(path) = path_field(alloc, words)? else {
+        return Ok(None);
+    };
+    Ok(Some(Act::Open {
+        scope,
+        parent,
+        path,
+    }))
+}
+
+fn at(alloc: Global, words: &mut Words<'_>, places: u8) -> Result<Option<Act>, NoMemory>
+    ensures { IfOk result (λ act. answered act words.new ≡ at_at places words.old) }
+{
+    let Some(scope) = scope_field(words) else {
+        return Ok(None);
+    };
+    if !keyword(words, b"in") {
+        return Ok(None);
+    }
+    let Some(parent) = scope_field(words) else {
+        return Ok(None);
+    };
+    let Some(callee) = task_field(words) else {
+        return Ok(None);
+    };
+    let Some(from) = place_field(words, places) else {
+        return Ok(None);
+    };
+    let Some(to) = place_field(words, places) else {
+        return Ok(None);
+    };
+    let Some(path) = path_field(alloc, words)? else {
+        return Ok(None);
+    };
+    Ok(Some(Act::At {
+        scope,
+        parent,
+        callee,
+        from,
+        to,
+        path,
+    }))
+}
+
+fn spawn(alloc: Global, words: &mut Words<'_>, places: u8) -> Result<Option<Act>, NoMemory>
+    ensures { IfOk result (λ act. answered act words.new ≡ spawn_at places words.old) }
+{
+    let Some(child) = task_field(words) else {
+        return Ok(None);
+    };
+    if !keyword(words, b"in") {
+        return Ok(None);
+    }
+    let Some(scope) = scope_field(words) else {
+        return Ok(None);
+    };
+    let Some(from) = place_field(words, places) else {
+        return Ok(None);
+    };
+    let Some(to) = place_field(words, places) else {
+        return Ok(None);
+    };
+    let Some(path) = path_field(alloc, words)? else {
+        return Ok(None);
+    };
+    Ok(Some(Act::Spawn {
+        child,
+        scope,
+        from,
+        to,
+        path,
+    }))
+}
+
+fn arrive(words: &mut Words<'_>, places: u8) -> Option<Act>
+    ensures { answered result words.new ≡ arrive_at places words.old }
+{
+    let place = place_field(words, places)?;
+    Some(Act::Arrive { place })
+}
+
+fn wait(alloc: Global, words: &mut Words<'_>, places: u8) -> Result<Option<Act>, NoMemory>
+    ensures { IfOk result (λ act. answered act words.new ≡ wait_at places words.old) }
+{
+    let Some(scope) = scope_field(words) else {
+        return Ok(None);
+    };
+    let Some(thrown) = thrown_part(alloc, words, places)? else {
+        return Ok(None);
+    };
+    Ok(Some(Act::Wait { scope, thrown }))
+}
+
+fn release(alloc: Global, words: &mut Words<'_>, places: u8) -> Result<Option<Act>, NoMemory>
+    requires { places ≤ 16 }
+    ensures { IfOk result (λ act. answered act words.new ≡ release_at places words.old) }
+{
+    let Some(scope) = scope_field(words) else {
+        return Ok(None);
+    };
+    let Some(lost) = lost_part(words, places) else {
+        return Ok(None);
+    };
+    let Some(thrown) = thrown_part(alloc, words, places)? else {
+        return Ok(None);
+    };
+    Ok(Some(Act::Release {
+        scope,
+        lost,
+        thrown,
+    }))
+}
+
+fn end(alloc: Global, words: &mut Words<'_>, places: u8) -> Result<Option<Act>, NoMemory>
+    ensures { IfOk result (λ act. answered act words.new ≡ end_at places words.old) }
+{
+    let Some(thrown) = thrown_part(alloc, words, places)? else {
+        return Ok(None);
+    };
+    Ok(Some(Act::End { thrown }))
+}
+
+fn print(alloc: Global, words: &mut Words<'_>) -> Result<Option<Act>, NoMemory>
+    ensures { IfOk result (λ act. answered act words.new ≡ print_at words.old) }
+{
+    let Some(value) = number_field(words) else {
+        return Ok(None);
+    };
+    let Some(path) = path_field(alloc, words)? else {
+        return Ok(None);
+    };
+    Ok(Some(Act::Print { value, path }))
+}

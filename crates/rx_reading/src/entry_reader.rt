@@ -1,0 +1,104 @@
+// The words of an entry.
+ghost use Rattle.std.specs.Prelude.{◌≡◌, ◌≤◌, codes, IfOk};
+ghost use Rattle.rx_reading.specs.Words.{answered};
+ghost use Rattle.rx_reading.specs.EntryWords.{act_at, step_at, release_or_root_at, root_at, death_at, entry_at};
+
+use crate::acts::{Kind, act};
+use crate::parts::{batch_part, keyword, lost_part, place_field, task_field, thrown_part};
+use crate::words::Words;
+use rx_base::NoMemory;
+use rx_trace::Entry;
+use std::alloc::Global;
+
+// The words after the number.
+pub(crate) fn entry(
+    alloc: Global,
+    words: &mut Words<'_>,
+    places: u8,
+) -> Result<Option<Entry>, NoMemory>
+    requires { places ≤ 16 }
+    ensures { IfOk result (λ entry. answered entry words.new ≡ entry_at places words.old) }
+{
+    let Some(word) = words.next() else {
+        return Ok(None);
+    };
+    if word == b"open".as_slice() {
+        step(alloc, words, places, Kind::Open)
+    } else if word == b"at".as_slice() {
+        step(alloc, words, places, Kind::At)
+    } else if word == b"spawn".as_slice() {
+        step(alloc, words, places, Kind::Spawn)
+    } else if word == b"arrive".as_slice() {
+        step(alloc, words, places, Kind::Arrive)
+    } else if word == b"wait".as_slice() {
+        step(alloc, words, places, Kind::Wait)
+    } else if word == b"release".as_slice() {
+        release(alloc, words, places)
+    } else if word == b"end".as_slice() {
+        step(alloc, words, places, Kind::End)
+    } else if word == b"print".as_slice() {
+        step(alloc, words, places, Kind::Print)
+    } else if word == b"death".as_slice() {
+        Ok(death(words, places))
+    } else {
+        Ok(None)
+    }
+}
+
+// A task, what it did, and its batch.
+fn step(
+    alloc: Global,
+    words: &mut Words<'_>,
+    places: u8,
+    kind: Kind,
+) -> Result<Option<Entry>, NoMemory>
+    requires { places ≤ 16 }
+    ensures { IfOk result (λ entry. answered entry words.new ≡ step_at (act_at places kind) words.old) }
+{
+    let Some(task) = task_field(words) else {
+        return Ok(None);
+    };
+    let Some(act) = act(alloc, words, places, kind)? else {
+        return Ok(None);
+    };
+    let Some(batch) = batch_part(alloc, words)? else {
+        return Ok(None);
+    };
+    Ok(Some(Entry::Step { task, act, batch }))
+}
+
+// A release by the host or by a task.
+fn release(alloc: Global, words: &mut Words<'_>, places: u8) -> Result<Option<Entry>, NoMemory>
+    requires { places ≤ 16 }
+    ensures { IfOk result (λ entry. answered entry words.new ≡ release_or_root_at places words.old) }
+{
+    if keyword(words, b"host") {
+        root(alloc, words, places)
+    } else {
+        step(alloc, words, places, Kind::Release)
+    }
+}
+
+// The host's release of the root.
+fn root(alloc: Global, words: &mut Words<'_>, places: u8) -> Result<Option<Entry>, NoMemory>
+    requires { places ≤ 16 }
+    ensures { IfOk result (λ entry. answered entry words.new ≡ root_at places words.old) }
+{
+    if !keyword(words, b"s0") {
+        return Ok(None);
+    }
+    let Some(lost) = lost_part(words, places) else {
+        return Ok(None);
+    };
+    let Some(thrown) = thrown_part(alloc, words, places)? else {
+        return Ok(None);
+    };
+    Ok(Some(Entry::Root { lost, thrown }))
+}
+
+fn death(words: &mut Words<'_>, places: u8) -> Option<Entry>
+    ensures { answered result words.new ≡ death_at places words.old }
+{
+    let place = place_field(words, places)?;
+    Some(Entry::Death { place })
+}

@@ -1,0 +1,182 @@
+// The fields of a line, and the parts that are there only where their list is not empty.
+ghost use Rattle.std.specs.Prelude.{◌≡◌, ◌≤◌, ◌<◌, ◌^◌, IfOk};
+ghost use Rattle.rx_reading.specs.Words.{answered};
+ghost use Rattle.rx_reading.specs.FieldWords.{natural_at, number_at, place_at, task_at, scope_at, path_at, block_at, fault_of, path_of, place_of};
+ghost use Rattle.rx_reading.specs.PartWords.{set_of, places_at, lost_at, thrown_at, batch_at, item_of, key_of, left_of};
+
+use crate::items::{fault, path, place, scope, task};
+use crate::numbers::{natural, number};
+use crate::words::Words;
+use rx_base::{
+    Batch, Fault, Faults, GlobalRef, NoMemory, Path, PlaceId, PlaceSet, ScopeId, TaskId,
+};
+use std::alloc::Global;
+
+pub(crate) fn natural_field(words: &mut Words<'_>) -> Option<u32>
+    ensures { answered result words.new ≡ natural_at words.old }
+{
+    natural(words.next()?)
+}
+
+pub(crate) fn number_field(words: &mut Words<'_>) -> Option<i64>
+    ensures { answered result words.new ≡ number_at words.old }
+{
+    number(words.next()?)
+}
+
+pub(crate) fn place_field(words: &mut Words<'_>, places: u8) -> Option<PlaceId>
+    ensures { answered result words.new ≡ place_at places words.old }
+{
+    place(words.next()?, places)
+}
+
+pub(crate) fn task_field(words: &mut Words<'_>) -> Option<TaskId>
+    ensures { answered result words.new ≡ task_at words.old }
+{
+    task(words.next()?)
+}
+
+pub(crate) fn scope_field(words: &mut Words<'_>) -> Option<ScopeId>
+    ensures { answered result words.new ≡ scope_at words.old }
+{
+    scope(words.next()?)
+}
+
+pub(crate) fn path_field(alloc: Global, words: &mut Words<'_>) -> Result<Option<Path>, NoMemory>
+    ensures { IfOk result (λ path. answered path words.new ≡ path_at words.old) }
+{
+    match words.next() {
+        Some(word) => path(alloc, word),
+        None => Ok(None),
+    }
+}
+
+// A block of this place.
+pub(crate) fn block_field(words: &mut Words<'_>, home: u8) -> Option<GlobalRef>
+    ensures { answered result words.new ≡ block_at home words.old }
+{
+    let start = natural_field(words)?;
+    let generation = natural_field(words)?;
+    Some(GlobalRef {
+        home: PlaceId(home),
+        start,
+        generation,
+    })
+}
+
+// Takes the next word where it is this one, and answers whether it is.
+pub(crate) fn keyword(words: &mut Words<'_>, key: &[u8]) -> bool
+    ensures { (result, words.new) ≡ key_of key.now words.old }
+{
+    match words.peek() {
+        Some(word) => {
+            if word == key {
+                let _ = words.next();
+                true
+            } else {
+                false
+            }
+        }
+        None => false,
+    }
+}
+
+// Takes the next word where it is a place.
+fn next_place(words: &mut Words<'_>, places: u8) -> Option<PlaceId>
+    ensures { (result, words.new) ≡ item_of (place_of places) words.old }
+{
+    let place = place(words.peek()?, places)?;
+    let _ = words.next();
+    Some(place)
+}
+
+// Takes the next word where it is a fault.
+fn next_fault(words: &mut Words<'_>, places: u8) -> Option<Fault>
+    ensures { (result, words.new) ≡ item_of (fault_of places) words.old }
+{
+    let fault = fault(words.peek()?, places)?;
+    let _ = words.next();
+    Some(fault)
+}
+
+// Takes the next word where it is a path.
+fn next_path(alloc: Global, words: &mut Words<'_>) -> Result<Option<Path>, NoMemory>
+    ensures { IfOk result (λ path. (path, words.new) ≡ item_of path_of words.old) }
+{
+    match words.peek() {
+        Some(word) => match path(alloc, word) {
+            Ok(Some(path)) => {
+                let _ = words.next();
+                Ok(Some(path))
+            }
+            Ok(None) => Ok(None),
+            Err(_) => Err(NoMemory),
+        },
+        None => Ok(None),
+    }
+}
+
+// The places that lost tasks, in ascending order.
+pub(crate) fn lost_part(words: &mut Words<'_>, places: u8) -> Option<PlaceSet>
+    requires { places ≤ 16 }
+    ensures { answered result words.new ≡ lost_at places words.old }
+{
+    if !keyword(words, b"lost") {
+        return Some(PlaceSet::empty());
+    }
+    let set = place_set(words, places)?;
+    if set.0 == 0 { None } else { Some(set) }
+}
+
+// The set of the places that follow, each above those before it.
+fn place_set(words: &mut Words<'_>, places: u8) -> Option<PlaceSet>
+    requires { places ≤ 16 }
+    ensures { answered result words.new ≡ places_at places 0 words.old }
+{
+    let mut set = PlaceSet(0);
+    'places: while let Some(place) = next_place(words, places) {
+        if set.0 >> place.0 != 0 {
+            return None;
+        }
+        set = set.with(place);
+    }
+    Some(set)
+}
+
+// The faults with which a body or a task ended.
+pub(crate) fn thrown_part(
+    alloc: Global,
+    words: &mut Words<'_>,
+    places: u8,
+) -> Result<Option<Faults>, NoMemory>
+    ensures { IfOk result (λ thrown. answered thrown words.new ≡ thrown_at places words.old) }
+{
+    let mut thrown = Faults::open(alloc);
+    if !keyword(words, b"thrown") {
+        return Ok(Some(thrown));
+    }
+    'faults: while let Some(fault) = next_fault(words, places) {
+        thrown.push(fault)?;
+    }
+    if thrown.len() == 0 {
+        return Ok(None);
+    }
+    Ok(Some(thrown))
+}
+
+// The paths of the statements that a task has begun.
+pub(crate) fn batch_part(alloc: Global, words: &mut Words<'_>) -> Result<Option<Batch>, NoMemory>
+    ensures { IfOk result (λ batch. answered batch words.new ≡ batch_at words.old) }
+{
+    let mut batch = Batch::open(alloc);
+    if !keyword(words, b"|") {
+        return Ok(Some(batch));
+    }
+    'paths: while let Some(path) = next_path(alloc, words)? {
+        batch.push(path)?;
+    }
+    if batch.len() == 0 {
+        return Ok(None);
+    }
+    Ok(Some(batch))
+}

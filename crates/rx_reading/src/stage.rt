@@ -1,0 +1,272 @@
+// Reading a text line by line.
+ghost use Rattle.std.specs.Prelude.{◌≡◌, ◌≤◌, ◌<◌, ◌&&◌, ◌==◌, nat_lt, ◌++◌, ◌∷◌, [], Some, codes, option_map, IfOk, length};
+ghost use Rattle.std.specs.Str.{bytes_eq};
+ghost use Rattle.rx_reading.specs.Words.{answered, pieces};
+ghost use Rattle.rx_trace.specs.Events.{events_of};
+ghost use Rattle.rx_trace.specs.Setups.{given};
+ghost use Rattle.rx_reading.specs.Machine.{Untitled, Titled, Sized, Planned, Entering, Logging, Over, begins_journal, entry_of, event_of, read_line};
+ghost use Rattle.rx_reading.specs.Stages.{state_of, IsReady};
+
+use crate::entry_reader::entry;
+use crate::event_reader::event;
+use crate::items::strip;
+use crate::numbers::is_number;
+use crate::plan_lines::{read_kills, sizes};
+use crate::words::split_words;
+use rx_base::NoMemory;
+use rx_trace::{Entry, History, Journal, Journals, PlaceEvent, Setup};
+use std::alloc::Global;
+
+// What has been read.
+#[derive(Drop)]
+pub(crate) enum Stage {
+    Untitled,
+    Titled,
+    Sized {
+        places: u8,
+        heap: u32,
+    },
+    Planned {
+        setup: Setup,
+    },
+    Entering {
+        history: History,
+    },
+    Logging {
+        history: History,
+        journals: Journals,
+        journal: Journal,
+    },
+    Over {
+        history: History,
+        journals: Journals,
+    },
+}
+
+// The line of an entry of this number.
+fn read_entry(alloc: Global, line: &[u8], n: usize, places: u8) -> Result<Option<Entry>, NoMemory>
+    requires { places ≤ 16 }
+    ensures { IfOk result (λ entry. entry ≡ entry_of places n line.now) }
+{
+    if n >= 4_294_967_296 {
+        return Ok(None);
+    }
+    let (number, mut words) = split_words(line);
+    if !is_number(number, n) {
+        return Ok(None);
+    }
+    match entry(alloc, &mut words, places)? {
+        Some(entry) if words.is_empty() => Ok(Some(entry)),
+        _ => Ok(None),
+    }
+}
+
+// The line of an event of this number.
+fn read_event(
+    alloc: Global,
+    line: &[u8],
+    n: usize,
+    home: u8,
+) -> Result<Option<PlaceEvent>, NoMemory>
+    ensures { IfOk result (λ event. event ≡ event_of home n line.now) }
+{
+    let (number, mut words) = split_words(line);
+    if !is_number(number, n) {
+        return Ok(None);
+    }
+    match event(alloc, &mut words, home)? {
+        Some(event) if words.is_empty() => Ok(Some(event)),
+        _ => Ok(None),
+    }
+}
+
+// Whether the line begins the journal of a place.
+fn is_journal(line: &[u8], place: usize) -> bool
+    ensures { result ≡ begins_journal place line.now }
+{
+    match strip(line, b"journal ") {
+        Some(rest) => is_number(rest, place),
+        None => false,
+    }
+}
+
+// One line more.
+pub(crate) fn next_stage(
+    alloc: Global,
+    stage: Stage,
+    line: &[u8],
+) -> Result<Option<Stage>, NoMemory>
+    requires { IsReady stage }
+    ensures { IfOk result (λ next. option_map state_of next ≡ read_line (state_of stage) line.now) }
+{
+    match stage {
+        Stage::Untitled => Ok(titled(line)),
+        Stage::Titled => Ok(sized(line)),
+        Stage::Sized { places, heap } => planned(alloc, places, heap, line),
+        Stage::Planned { setup } => Ok(begun(alloc, setup, line)),
+        Stage::Entering { history } => entering(alloc, history, line),
+        Stage::Logging {
+            history,
+            journals,
+            journal,
+        } => logging(alloc, history, journals, journal, line),
+        Stage::Over { .. } => Ok(None),
+    }
+}
+
+fn titled(line: &[u8]) -> Option<Stage>
+    ensures { option_map state_of result ≡ read_line Untitled line.now }
+{
+    if line == b"rx10 trace 1".as_slice() {
+        Some(Stage::Titled)
+    } else {
+        None
+    }
+}
+
+fn sized(line: &[u8]) -> Option<Stage>
+    ensures { option_map state_of result ≡ read_line Titled line.now }
+{
+    let (places, heap) = sizes(line)?;
+    Some(Stage::Sized { places, heap })
+}
+
+fn planned(alloc: Global, places: u8, heap: u32, line: &[u8]) -> Result<Option<Stage>, NoMemory>
+    ensures { IfOk result (λ next. option_map state_of next ≡ read_line (Sized places heap) line.now) }
+{
+    let Some(kills) = read_kills(alloc, line, places)? else {
+        return Ok(None);
+    };
+    let setup = Setup {
+        places,
+        heap,
+        kills,
+    };
+    Ok(Some(Stage::Planned { setup }))
+}
+
+fn begun(alloc: Global, setup: Setup, line: &[u8]) -> Option<Stage>
+    ensures { option_map state_of result ≡ read_line (Planned (given setup)) line.now }
+{
+    if line == b"history".as_slice() {
+        Some(Stage::Entering {
+            history: History::open(alloc, setup),
+        })
+    } else {
+        None
+    }
+}
+
+// An entry, or the line that begins the first journal.
+fn entering(alloc: Global, history: History, line: &[u8]) -> Result<Option<Stage>, NoMemory>
+    requires { history.setup.places ≤ 16 }
+    ensures { IfOk result (λ next. option_map state_of next ≡ read_line (Entering (given history.setup) history.entries) line.now) }
+{
+    if is_journal(line, 0) {
+        return Ok(Some(Stage::Logging {
+            history,
+            journals: Journals::open(alloc),
+            journal: Journal::open(alloc),
+        }));
+    }
+    match read_entry(alloc, line, history.len(), history.setup.places)? {
+        Some(entry) => entered(history, entry),
+        None => Ok(None),
+    }
+}
+
+// An entry more.
+fn entered(history: History, entry: Entry) -> Result<Option<Stage>, NoMemory>
+    ensures { IfOk result (λ next. option_map state_of next ≡ Some (Entering (given history.setup) (history.entries ++ entry ∷ []))) }
+{
+    let mut history = history;
+    history.reserve(1)?;
+    history.add(entry);
+    Ok(Some(Stage::Entering { history }))
+}
+
+// An event, the line that begins the next journal, or the last line.
+fn logging(
+    alloc: Global,
+    history: History,
+    journals: Journals,
+    journal: Journal,
+    line: &[u8],
+) -> Result<Option<Stage>, NoMemory>
+    requires few { history.setup.places ≤ 16 }
+    requires below { length journals.journals < history.setup.places }
+    ensures { IfOk result (λ next. option_map state_of next ≡ read_line (Logging (given history.setup) history.entries (events_of journals) journal.events) line.now) }
+{
+    let home = journals.len();
+    let places = usize::from(history.setup.places);
+    if is_next_journal(line, home + 1, places) {
+        return next_journal(alloc, history, journals, journal);
+    }
+    if is_end(line, home + 1, places) {
+        return over(history, journals, journal);
+    }
+    match read_event(alloc, line, journal.len(), home as u8)? {
+        Some(event) => logged(history, journals, journal, event),
+        None => Ok(None),
+    }
+}
+
+// Whether the line begins the journal of a place that there is.
+fn is_next_journal(line: &[u8], place: usize, places: usize) -> bool
+    ensures { result ≡ (begins_journal place line.now && nat_lt place places) }
+{
+    is_journal(line, place) && place < places
+}
+
+// Whether the line is the last, after so many journals.
+fn is_end(line: &[u8], journals: usize, places: usize) -> bool
+    ensures { result ≡ (bytes_eq line.now (codes "done") && journals == places) }
+{
+    line == b"done".as_slice() && journals == places
+}
+
+// The journal is whole, and the next one begins.
+fn next_journal(
+    alloc: Global,
+    history: History,
+    journals: Journals,
+    journal: Journal,
+) -> Result<Option<Stage>, NoMemory>
+    ensures { IfOk result (λ next. option_map state_of next ≡ Some (Logging (given history.setup) history.entries (events_of journals ++ journal.events ∷ []) [])) }
+{
+    let mut journals = journals;
+    journals.push(journal)?;
+    Ok(Some(Stage::Logging {
+        history,
+        journals,
+        journal: Journal::open(alloc),
+    }))
+}
+
+// The last journal is whole.
+fn over(history: History, journals: Journals, journal: Journal) -> Result<Option<Stage>, NoMemory>
+    ensures { IfOk result (λ next. option_map state_of next ≡ Some (Over (given history.setup) history.entries (events_of journals ++ journal.events ∷ []))) }
+{
+    let mut journals = journals;
+    journals.push(journal)?;
+    Ok(Some(Stage::Over { history, journals }))
+}
+
+// An event more.
+fn logged(
+    history: History,
+    journals: Journals,
+    journal: Journal,
+    event: PlaceEvent,
+) -> Result<Option<Stage>, NoMemory>
+    ensures { IfOk result (λ next. option_map state_of next ≡ Some (Logging (given history.setup) history.entries (events_of journals) (journal.events ++ event ∷ []))) }
+{
+    let mut journal = journal;
+    journal.reserve(1)?;
+    journal.add(event);
+    Ok(Some(Stage::Logging {
+        history,
+        journals,
+        journal,
+    }))
+}

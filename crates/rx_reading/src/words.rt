@@ -1,0 +1,86 @@
+// How bytes are cut into lines, and a line into words.
+ghost use Rattle.std.specs.Prelude.{◌≡◌, ◌+◌, ◌<◌, ◌≤◌, ◌++◌, ◌∷◌, ◌==◌, not, length, option_map, IfSome, IfNone};
+ghost use Rattle.std.specs.List.{prefix_len};
+ghost use Rattle.rx_reading.specs.Words.{Lacks, pieces, words_left, first_word, next_of};
+
+use std::marker::Model;
+
+// How many bytes stand before the first `stop`.
+fn run_len(bytes: &[u8], stop: u8) -> usize
+    ensures run { result ≡ prefix_len (λ b. not (b == stop)) bytes.now }
+    ensures within { result ≤ length bytes.now }
+{
+    bytes.iter().take_while(|b| **b != stop).count()
+}
+
+// What stands before the first `stop`, and what stands after it.
+pub(crate) fn cut(bytes: &[u8], stop: u8) -> Option<(&[u8], &[u8])>
+    ensures some { IfSome result (λ x. (bytes.now ≡ x.0.now ++ stop ∷ x.1.now) × Lacks stop x.0.now) }
+    ensures none { IfNone result (Lacks stop bytes.now) }
+    ensures shorter { IfSome result (λ x. length x.1.now < length bytes.now) }
+{
+    let len = run_len(bytes, stop);
+    if len == bytes.len() {
+        return None;
+    }
+    Some((&bytes[..len], &bytes[len + 1..]))
+}
+
+// The words of a line that are still to be read.
+#[derive(Drop)]
+pub(crate) struct Words<'a> {
+    rest: &'a [u8],
+}
+
+impl<'a> Model for Words<'a> {
+    ghost use Rattle.std.specs.Prelude.{List, ℕ};
+    ghost use Rattle.rx_reading.specs.Words.{words_left};
+
+    ghost Value = { List (List ℕ) };
+
+    ghost view = { λ a. words_left a.rest.now };
+}
+
+impl<'a> Words<'a> {
+    // The next word.
+    pub(crate) fn next(&mut self) -> Option<&'a [u8]>
+        ensures { option_map (λ w. (w.now, self.new)) result ≡ first_word self.old }
+    {
+        match cut(self.rest, b' ') {
+            None => None,
+            Some((_, tail)) => {
+                let len = run_len(tail, b' ');
+                self.rest = &tail[len..];
+                Some(&tail[..len])
+            }
+        }
+    }
+
+    // The next word, which stays the next.
+    pub(crate) fn peek(&self) -> Option<&'a [u8]>
+        ensures { option_map (λ w. w.now) result ≡ next_of self.now }
+    {
+        match cut(self.rest, b' ') {
+            None => None,
+            Some((_, tail)) => {
+                let len = run_len(tail, b' ');
+                Some(&tail[..len])
+            }
+        }
+    }
+
+    // Whether no word is left.
+    pub(crate) fn is_empty(&self) -> bool
+        ensures { result ≡ (length self.now == 0) }
+    {
+        self.peek().is_none()
+    }
+}
+
+// The first word of a line, and the others.
+pub(crate) fn split_words(line: &[u8]) -> (&[u8], Words<'_>)
+    ensures { result.0.now ∷ result.1 ≡ pieces 32 line.now }
+{
+    let len = run_len(line, b' ');
+    (&line[..len], Words { rest: &line[len..] })
+}

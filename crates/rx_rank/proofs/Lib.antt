@@ -1,0 +1,5 @@
+mod Marking
+mod Halving
+mod Renewing
+mod Doubling
+mod Keeping

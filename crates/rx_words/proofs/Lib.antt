@@ -1,0 +1,4 @@
+pub mod Numbers
+pub mod Kills
+pub mod Sorting
+pub mod Onward

@@ -1,0 +1,28 @@
+use Rattle.std.proofs.Common.{◌≡◌, ◌∙◌, ℕ, ◌+◌, List, [], ◌∷◌, ◌++◌, drop, get_or, subst, sym, ap, append-nil, map}
+use Rattle.std.proofs.lemmas.List.{drop_all, at_drop_more}
+use Rattle.rx_base.specs.declared.ids.Kill.{Kill}
+use Rattle.rx_rules.specs.Run.{AreKills}
+use Rattle.rx_trace.specs.KillOrder.{IsAscending}
+use Rattle.rx_words.specs.Words.{sorted}
+use Rattle.rx_words.specs.Commands.{kill_in}
+use Rattle.rx_words.proofs.Sorting.{sorted-kills, kills-ascend, comes-last}
+use Rattle.rx_words.proofs.planned.planned.Goals as goal
+
+pub push-requires : goal.push-requires
+push-requires c =
+    let items : List Kill = c.deref-planned-items.result.now in
+    let i : ℕ = c.loop-planned.planned-index in
+    let d : Kill = record { place = record { 0 = 0 }; moment = 0 } in
+    let is : items ≡ sorted [] (map kill_in c.args.kills.now) = c.deref-planned-items.ensures.value ∙ c.in_ok-in_order.ensures in
+    let are : AreKills c.args.places items = subst (AreKills c.args.places) (sym is) (sorted-kills c.args.places c.args.kills.now c.requires) in
+    let step : drop i items ≡ get_or items i d ∷ drop (i + 1) items = at_drop_more (λ xs. xs) items i d c.loop-planned-test.true in
+    let parts : items ≡ c.loop-planned.list ++ get_or items i d ∷ drop (i + 1) items = sym c.loop-planned.invariant ∙ ap (λ xs. c.loop-planned.list ++ xs) step in
+    comes-last (get_or items i d) c.loop-planned.list (drop (i + 1) items) (subst IsAscending parts (kills-ascend c.args.places items are))
+
+pub returns-clause-proper : goal.returns-clause-proper
+returns-clause-proper c =
+    let items : List Kill = c.deref-planned-items.result.now in
+    let is : items ≡ sorted [] (map kill_in c.args.kills.now) = c.deref-planned-items.ensures.value ∙ c.in_ok-in_order.ensures in
+    let none : drop c.loop-planned.planned-index items ≡ [] = drop_all c.loop-planned.planned-index items c.loop-planned-test.false in
+    let whole : c.loop-planned.list ≡ items = sym (append-nil c.loop-planned.list) ∙ ap (λ xs. c.loop-planned.list ++ xs) (sym none) ∙ c.loop-planned.invariant in
+    subst (AreKills c.args.places) (sym (whole ∙ is)) (sorted-kills c.args.places c.args.kills.now c.requires)

@@ -1,0 +1,13 @@
+//! The words of a command: what they ask for, or which of them is the first bad one. It stands on rx_text, rx_trace and rx_kills.
+//! docs/commands.md states the words. The layer above uses that `read_words` answers exactly what the words ask for, `asked`, and
+//! that a setup that it answers is proper.
+#![tactic(auto)]
+
+mod command;
+mod number;
+mod options;
+mod planned;
+#[cfg(test)]
+mod tests;
+
+pub use command::{Command, WordFault, read_words};

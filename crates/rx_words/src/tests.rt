@@ -1,0 +1,98 @@
+// The worked words, and the order of kills.
+use crate::{Command, WordFault, read_words};
+use rx_base::{Kill, NoMemory, PlaceId, RxWord};
+use std::alloc::Global;
+use std::test::Fail;
+
+fn made(alloc: Global, words: &[&[u8]]) -> Result<Vec<RxWord>, NoMemory> {
+    let mut list = Vec::new(alloc);
+    for word in words {
+        list.push(RxWord::from_bytes(alloc, word)?)?;
+    }
+    Ok(list)
+}
+
+// The number of the bad word, or none where the words are a command.
+fn bad_word(alloc: Global, words: &[&[u8]]) -> Result<Option<u32>, NoMemory> {
+    let list = made(alloc, words)?;
+    match read_words(alloc, &list) {
+        Ok(_) => Ok(None),
+        Err(WordFault::Bad { word }) => Ok(Some(word)),
+        Err(WordFault::NoMemory) => Err(NoMemory),
+    }
+}
+
+#[test]
+fn the_first_bad_word_is_told(rt: HostRuntime) -> Result<(), Fail> {
+    for (words, want) in [
+        ([].as_slice(), Some(0)),
+        ([b"stop".as_slice()].as_slice(), Some(0)),
+        ([b"step".as_slice(), b"more"].as_slice(), Some(1)),
+        ([b"check".as_slice(), b"more"].as_slice(), Some(1)),
+        ([b"check".as_slice()].as_slice(), None),
+        (
+            [b"step".as_slice(), b"--places", b"2", b"--kill", b"0@3"].as_slice(),
+            Some(4),
+        ),
+        (
+            [b"step".as_slice(), b"--kill", b"1@1", b"--kill", b"1@2"].as_slice(),
+            Some(4),
+        ),
+        ([b"step".as_slice(), b"--kill", b"2@1"].as_slice(), Some(2)),
+        ([b"step".as_slice(), b"--kill"].as_slice(), Some(2)),
+        ([b"step".as_slice(), b"--places", b"17"].as_slice(), Some(2)),
+        (
+            [b"step".as_slice(), b"--heap", b"4096", b"--heap", b"1"].as_slice(),
+            Some(3),
+        ),
+        (
+            [b"step".as_slice(), b"--heap", b"4096", b"--places"].as_slice(),
+            Some(4),
+        ),
+        ([b"step".as_slice(), b"--heap", b"0"].as_slice(), Some(2)),
+        ([b"step".as_slice(), b"--places", b"02"].as_slice(), Some(2)),
+    ] {
+        assert_eq!(rt; bad_word(rt.alloc(), words)?, want);
+    }
+    Ok(())
+}
+
+// The kills of the setup that words give, in their order, or none where they give none.
+fn kills_of(alloc: Global, words: &[&[u8]]) -> Result<Vec<Kill>, NoMemory> {
+    let list = made(alloc, words)?;
+    let mut kills = Vec::new(alloc);
+    if let Ok(Command::Step(setup)) = read_words(alloc, &list) {
+        for i in 0..setup.kills.len() {
+            kills.push(setup.kills.item(i))?;
+        }
+    }
+    Ok(kills)
+}
+
+fn planned(place: u8, moment: u32) -> Kill {
+    Kill {
+        place: PlaceId(place),
+        moment,
+    }
+}
+
+#[test]
+fn kills_stand_in_order(rt: HostRuntime) -> Result<(), Fail> {
+    let kills = kills_of(
+        rt.alloc(),
+        &[
+            b"step",
+            b"--kill",
+            b"2@13",
+            b"--kill",
+            b"3@12",
+            b"--places",
+            b"4",
+            b"--kill",
+            b"1@13",
+        ],
+    )?;
+    let want = [planned(3, 12), planned(1, 13), planned(2, 13)];
+    assert_eq!(rt; kills.as_slice(), want.as_slice());
+    Ok(())
+}

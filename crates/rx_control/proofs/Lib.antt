@@ -6,6 +6,7 @@ pub mod Settling
 pub mod Front
 pub mod Standing
 pub mod NextIs
+pub mod Told
 pub mod Carried
 pub mod Starting
 pub mod Words

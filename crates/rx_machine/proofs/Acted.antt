@@ -1,5 +1,5 @@
 -- What a task's entry makes of the game for which a machine stands.
-use Rattle.std.specs.Prelude.{◌≡◌, ◌≢◌, ℕ, ◌<◌, true, List, [], ◌∷◌, ◌++◌, length, drop, Option, Some, None, slice_get, slice_set, refl}
+use Rattle.std.specs.Prelude.{◌≡◌, ◌≢◌, ℕ, ◌<◌, true, List, [], ◌∷◌, ◌++◌, length, Option, Some, None, slice_get, slice_set, refl}
 use Rattle.std.proofs.Common.{ap, ◌∙◌, sym, subst, inl, inr}
 use Rattle.std.proofs.lemmas.List.{append-nil, length-set}
 use Rattle.rx_base.specs.declared.ids.PlaceId.{PlaceId}
@@ -48,7 +48,6 @@ pub record Went {L : Type 0} (stands : L → Tree → Type 0) (m m' : Machine L)
   pub setup : m'.history.setup ≡ m.history.setup
   pub entries : m'.history.entries ≡ m.history.entries ++ e ∷ []
   pub kills : m'.kills ≡ m.kills
-  pub killed : m'.killed ≡ m.killed
   pub failed : m'.failed ≡ m.failed
   pub stores : m'.stores ≡ m.stores
   pub ledger : stands m'.ledger T'
@@ -71,7 +70,7 @@ shared stands shape code U m m' k i here p q S Z j seat G act h pick gone fits m
       places = h.places ∙ sym went.places;
       setup = ap given went.setup ∙ h.setup;
       entries = went.entries ∙ ap (λ es. es ++ Step seat.row.number act q.batch ∷ []) h.entries;
-      kills = ap (λ ks. drop m'.killed ks) went.kills ∙ (ap (λ n. drop n m.kills) went.killed ∙ h.kills);
+      kills = went.kills ∙ h.kills;
       ledger = subst (λ (T : Tree). stands m'.ledger T) same went.ledger;
       slots = slots ∙ ap (λ (T : Tree). T.next_task) same;
       failed = went.failed ∙ h.failed;

@@ -201,7 +201,7 @@ flat-after (Held rest) ks h = tt
 
 -- Stores by their places.
 
-stores-at : (heap p : ℕ) (ss : List Kept) (js : List (List PlaceEvent)) (n : ℕ) (j : List PlaceEvent) → StoresAre heap p ss js → slice_get js n ≡ Some j → (s : Kept) × (slice_get ss n ≡ Some s) × (s.place.0 ≡ p + n) × (s.words ≡ heap) × (s.events ≡ j)
+pub stores-at : (heap p : ℕ) (ss : List Kept) (js : List (List PlaceEvent)) (n : ℕ) (j : List PlaceEvent) → StoresAre heap p ss js → slice_get js n ≡ Some j → (s : Kept) × (slice_get ss n ≡ Some s) × (s.place.0 ≡ p + n) × (s.words ≡ heap) × (s.events ≡ j)
 stores-at heap p [] [] n j h e = absurd (let f : ⊥ = cc in f)
 stores-at heap p (s ∷ ss) (l ∷ js) zero j h e = (s, refl, (let w : s.place.0 ≡ p = h.0 in omega (arith, w)), h.1, h.2 ∙ (let w : l ≡ j = cc in w))
 stores-at heap p (s ∷ ss) (l ∷ js) (suc n) j h e =
@@ -209,7 +209,7 @@ stores-at heap p (s ∷ ss) (l ∷ js) (suc n) j h e =
 stores-at heap p [] (l ∷ js) n j h e = absurd h
 stores-at heap p (s ∷ ss) [] n j h e = absurd h
 
-stores-set : (heap p : ℕ) (ss : List Kept) (js : List (List PlaceEvent)) (n : ℕ) (s : Kept) (j : List PlaceEvent) → StoresAre heap p ss js → s.place.0 ≡ p + n → s.words ≡ heap → s.events ≡ j → StoresAre heap p (slice_set ss n s) (slice_set js n j)
+pub stores-set : (heap p : ℕ) (ss : List Kept) (js : List (List PlaceEvent)) (n : ℕ) (s : Kept) (j : List PlaceEvent) → StoresAre heap p ss js → s.place.0 ≡ p + n → s.words ≡ heap → s.events ≡ j → StoresAre heap p (slice_set ss n s) (slice_set js n j)
 stores-set heap p [] [] n s j h at words events = tt
 stores-set heap p (t ∷ ss) (l ∷ js) zero s j h at words events = ((let w : s.place.0 ≡ p + 0 = at in omega (arith, w)), words, events, h.3)
 stores-set heap p (t ∷ ss) (l ∷ js) (suc n) s j h at words events = (h.0, h.1, h.2, stores-set heap (suc p) ss js n s j h.3 (let w : s.place.0 ≡ p + suc n = at in omega (arith, w)) words events)
@@ -233,11 +233,11 @@ leads-state : {w : ℕ} {S Z : State} {j : List PlaceEvent} → Leads w S j Z �
 leads-state rests = refl
 leads-state (more t n cell x may h) = leads-state h
 
-leads-open : {w : ℕ} {S Z : State} {j : List PlaceEvent} → Leads w S j Z → closed_from false j ≡ false
+pub leads-open : {w : ℕ} {S Z : State} {j : List PlaceEvent} → Leads w S j Z → closed_from false j ≡ false
 leads-open rests = refl
 leads-open (more t n cell x may h) = leads-open h
 
-stamp-most : (n s : ℕ) (j : List PlaceEvent) → s ≤ n → NotAbove n j → stamp_from s j ≤ n
+pub stamp-most : (n s : ℕ) (j : List PlaceEvent) → s ≤ n → NotAbove n j → stamp_from s j ≤ n
 stamp-most n s [] le h = le
 stamp-most n s (Did task stamp cell path ∷ j) le h = stamp-most n stamp j h.0 h.1
 stamp-most n s (Close stamp ∷ j) le h = stamp-most n stamp j h.0 h.1
@@ -350,8 +350,9 @@ event-is n t x es mark cell task stamp path last =
     max-left : (n s : ℕ) → s ≤ n → max n s ≡ n
     max-left n s le = omega arith
 
-pub called : {L : Type 0} (stands : L → Tree → Type 0) (shape : Shape) (code : Block) (U : Given) (m m' : Machine L) (k i : ℕ) (here : PlaceId) (q : Player) (seat seat' : Seat) (G : Game) (op : CellOp) (answer : Result (Option Value) Fault) (x : List ℕ) (old new : Kept) (mark : Mark) → (a : Acting stands shape code U m k i here q seat G) → (c : IsCall q.term here op (does q.vars here.0 U.places q.term)) → begins q.term ≡ Some x → next_of (does q.vars here.0 U.places q.term) ≡ CellStep op → StoreIs stands shape code U m k i here q seat G a old → OnlyStores m m' → m'.stores.items ≡ slice_set m.stores.items here.0 new → mark.task ≡ seat.row.number → mark.stamp ≡ length G.entries → mark.path ≡ x → Asked old new mark op answer → StandsFor shape seat'.control (answered (answer_of (receives q.term) answer) q.term) → seat'.control.vars ≡ vars_after (answer_of (receives q.term) answer) seat.control.vars → seat'.batch ≡ seat.batch ++ x ∷ [] → seat'.row ≡ seat.row → seat'.scopes ≡ seat.scopes → AfterStep stands shape code U m' k i here q seat' G None
-called stands shape code U m m' k i here q seat seat' G op answer x old new mark a c b e is only put task stamp path asked term vars batch row scopes =
+-- a store call lengthens the walk by its event
+pub call-told : {L : Type 0} (stands : L → Tree → Type 0) (shape : Shape) (code : Block) (U : Given) (m : Machine L) (k i : ℕ) (here : PlaceId) (q : Player) (seat : Seat) (G : Game) (op : CellOp) (answer : Result (Option Value) Fault) (x : List ℕ) (old new : Kept) (mark : Mark) (items : List Kept) → (a : Acting stands shape code U m k i here q seat G) → (c : IsCall q.term here op (does q.vars here.0 U.places q.term)) → begins q.term ≡ Some x → next_of (does q.vars here.0 U.places q.term) ≡ CellStep op → StoreIs stands shape code U m k i here q seat G a old → items ≡ slice_set m.stores.items here.0 new → mark.task ≡ seat.row.number → mark.stamp ≡ length G.entries → mark.path ≡ x → Asked old new mark op answer → (Z : State) × (l : List PlaceEvent) × Goes U.places U.heap (length G.entries) seat.row.number here a.began a.store (journal_at G.journals here.0) (record { term = answered (answer_of (receives q.term) answer) q.term; vars = vars_after (answer_of (receives q.term) answer) q.vars; batch = begun q.term q.batch }) Z l × StoresAre U.heap 0 items (slice_set G.journals here.0 l)
+call-told stands shape code U m k i here q seat G op answer x old new mark items a c b e is put task stamp path asked =
     let ans : Answer = answer_of (receives q.term) answer in
     let cell : Cell = asked.cell in
     let told : Tells (does q.vars here.0 U.places q.term) here cell ans = subst (λ (p : PlaceId). Tells (does q.vars here.0 U.places q.term) p cell ans) is.place (asked.told (does q.vars here.0 U.places q.term) (receives q.term) e c.receives) in
@@ -363,8 +364,14 @@ called stands shape code U m m' k i here q seat seat' G op answer x old new mark
     let events : new.events ≡ longer = asked.events ∙ (ap (λ v. old.events ++ v ∷ []) event ∙ ap (λ l. l ++ Did seat.row.number (length G.entries) cell x ∷ []) is.events) in
     let place : new.place.0 ≡ 0 + here.0 = (let w : new.place.0 ≡ here.0 = ap (λ (p : PlaceId). p.0) (asked.place ∙ is.place) in omega (arith, w)) in
     let kept : StoresAre U.heap 0 (slice_set m.stores.items here.0 new) (slice_set (slice_set G.journals here.0 a.events) here.0 longer) = stores-set U.heap 0 m.stores.items (slice_set G.journals here.0 a.events) here.0 new longer a.stores place (asked.words ∙ is.words) events in
-    let stored : StoresAre U.heap 0 m'.stores.items (slice_set G.journals here.0 longer) = subst (λ (ss : List Kept). StoresAre U.heap 0 ss (slice_set G.journals here.0 longer)) (sym put) (subst (λ (js : List (List PlaceEvent)). StoresAre U.heap 0 (slice_set m.stores.items here.0 new) js) (set-twice G.journals here.0 a.events longer) kept) in (
+    let stored : StoresAre U.heap 0 items (slice_set G.journals here.0 longer) = subst (λ (ss : List Kept). StoresAre U.heap 0 ss (slice_set G.journals here.0 longer)) (sym put) (subst (λ (js : List (List PlaceEvent)). StoresAre U.heap 0 (slice_set m.stores.items here.0 new) js) (set-twice G.journals here.0 a.events longer) kept) in
+    (after_cell a.left cell, longer, goes-stores cell x ans a.gone.goes told b may, stored)
+
+pub called : {L : Type 0} (stands : L → Tree → Type 0) (shape : Shape) (code : Block) (U : Given) (m m' : Machine L) (k i : ℕ) (here : PlaceId) (q : Player) (seat seat' : Seat) (G : Game) (op : CellOp) (answer : Result (Option Value) Fault) (x : List ℕ) (old new : Kept) (mark : Mark) → (a : Acting stands shape code U m k i here q seat G) → (c : IsCall q.term here op (does q.vars here.0 U.places q.term)) → begins q.term ≡ Some x → next_of (does q.vars here.0 U.places q.term) ≡ CellStep op → StoreIs stands shape code U m k i here q seat G a old → OnlyStores m m' → m'.stores.items ≡ slice_set m.stores.items here.0 new → mark.task ≡ seat.row.number → mark.stamp ≡ length G.entries → mark.path ≡ x → Asked old new mark op answer → StandsFor shape seat'.control (answered (answer_of (receives q.term) answer) q.term) → seat'.control.vars ≡ vars_after (answer_of (receives q.term) answer) seat.control.vars → seat'.batch ≡ seat.batch ++ x ∷ [] → seat'.row ≡ seat.row → seat'.scopes ≡ seat.scopes → AfterStep stands shape code U m' k i here q seat' G None
+called stands shape code U m m' k i here q seat seat' G op answer x old new mark a c b e is only put task stamp path asked term vars batch row scopes =
+    let ans : Answer = answer_of (receives q.term) answer in
+    let w = call-told stands shape code U m k i here q seat G op answer x old new mark m'.stores.items a c b e is put task stamp path asked in (
       record { term = answered ans q.term; vars = vars_after ans q.vars; batch = begun q.term q.batch },
-      acting-on stands shape code U m m' k i here q _ seat seat' G (after_cell a.left cell) longer a only row (goes-stores cell x ans a.gone.goes told b may) (answered-seat shape (tree_in U G) i here U.places q seat seat' x ans a.gone.seat_is b c.free term vars batch row scopes) stored,
+      acting-on stands shape code U m m' k i here q _ seat seat' G w.0 w.1 a only row w.2 (answered-seat shape (tree_in U G) i here U.places q seat seat' x ans a.gone.seat_is b c.free term vars batch row scopes) w.3,
       c.sinks ans,
     )

@@ -1,5 +1,5 @@
 -- The turn that ends a task.
-use Rattle.std.specs.Prelude.{◌≡◌, ℕ, Bool, true, false, cond, map, filter, reverse, List, [], ◌∷◌, ◌++◌, length, drop, Option, Some, None, Err, slice_get, slice_set, refl}
+use Rattle.std.specs.Prelude.{◌≡◌, ℕ, Bool, true, false, cond, map, filter, reverse, List, [], ◌∷◌, ◌++◌, length, Option, Some, None, Err, slice_get, slice_set, refl}
 use Rattle.std.specs.List.{find}
 use Rattle.std.proofs.Common.{ap, ◌∙◌, sym, subst, inl, inr}
 use Rattle.std.proofs.lemmas.List.{reverse-reverse}
@@ -103,7 +103,7 @@ ended stands shape code U m m' k i here q seat G fs a asks may went back =
           places = h.places ∙ sym went.places;
           setup = ap given went.setup ∙ h.setup;
           entries = went.entries ∙ (ap (λ es. es ++ Step t (End fs) seat.batch ∷ []) h.entries ∙ ap (λ b. G.entries ++ Step t (End fs) b ∷ []) s.batch);
-          kills = ap (λ ks. drop m'.killed ks) went.kills ∙ (ap (λ n. drop n m.kills) went.killed ∙ h.kills);
+          kills = went.kills ∙ h.kills;
           ledger = subst (λ (T : Tree). stands m'.ledger T) same went.ledger;
           slots = ap (λ xs. length xs) back ∙ (h.slots ∙ (sym (end-next T t fs seat.row found) ∙ ap (λ (T : Tree). T.next_task) same));
           failed = went.failed ∙ h.failed;

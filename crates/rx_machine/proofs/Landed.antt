@@ -1,5 +1,5 @@
 -- The turn of an arrival, and the root's release.
-use Rattle.std.specs.Prelude.{◌≡◌, ℕ, true, false, List, [], ◌∷◌, ◌++◌, length, drop, reverse, Option, Some, slice_set, refl}
+use Rattle.std.specs.Prelude.{◌≡◌, ℕ, true, false, List, [], ◌∷◌, ◌++◌, length, reverse, Option, Some, slice_set, refl}
 use Rattle.std.proofs.Common.{ap, ◌∙◌, sym, subst, inl, inr}
 use Rattle.std.proofs.lemmas.List.{length-set}
 use Rattle.rx_base.specs.declared.ids.PlaceId.{PlaceId}
@@ -66,7 +66,7 @@ landed stands shape code U m m' k i to seat seat' G a may row scopes control bat
           places = h.places ∙ sym went.places;
           setup = ap given went.setup ∙ h.setup;
           entries = went.entries ∙ ap (λ es. es ++ Step t (Arrive to) [] ∷ []) h.entries;
-          kills = ap (λ ks. drop m'.killed ks) went.kills ∙ (ap (λ n. drop n m.kills) went.killed ∙ h.kills);
+          kills = went.kills ∙ h.kills;
           ledger = subst (λ (T : Tree). stands m'.ledger T) same went.ledger;
           slots = ap (λ xs. length xs) back ∙ (length-set m.seats.items i (Some seat') ∙ (h.slots ∙ ap (λ (T : Tree). T.next_task) same));
           failed = went.failed ∙ h.failed;

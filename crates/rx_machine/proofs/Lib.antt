@@ -28,3 +28,5 @@ pub mod Called
 pub mod Requested
 pub mod Taking
 pub mod Turned
+pub mod Deaths
+pub mod Halting

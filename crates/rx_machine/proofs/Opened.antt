@@ -69,7 +69,7 @@ finish-opened stands shape code U m m' k i here q seat seat' G s r x a asks path
       held = grant.0;
       spine = subst (λ (ks : List Kind). Spine (granted [] q.term) ks) (sym (ap (λ ks. reverse ks) kinds_now ∙ reverse-cons Finish (own_kinds T i))) spine;
     })
-    (record { places = went.places; setup = went.setup; entries = went.entries ∙ ap (λ b. m.history.entries ++ Step t (Open s r x) b ∷ []) h.batch; kills = went.kills; killed = went.killed; failed = went.failed; stores = went.stores; ledger = went.ledger })
+    (record { places = went.places; setup = went.setup; entries = went.entries ∙ ap (λ b. m.history.entries ++ Step t (Open s r x) b ∷ []) h.batch; kills = went.kills; failed = went.failed; stores = went.stores; ledger = went.ledger })
     a.inside back a.stores
   where
     reverse-cons : {X : Type 0} (y : X) (ys : List X) → reverse (y ∷ ys) ≡ reverse ys ++ y ∷ []

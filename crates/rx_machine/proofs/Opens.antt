@@ -1,9 +1,10 @@
 -- What a machine holds before the first turn.
-use Rattle.std.specs.Prelude.{◌≡◌, ◌≢◌, ◌==◌, ℕ, zero, suc, ◌+◌, Bool, false, cond, List, [], ◌∷◌, ◌++◌, length, replicate, reverse, drop, Option, Some, None, refl}
+use Rattle.std.specs.Prelude.{◌≡◌, ◌≢◌, ◌==◌, ℕ, zero, suc, ◌+◌, Bool, false, cond, List, [], ◌∷◌, ◌++◌, length, replicate, reverse, Option, Some, None, refl}
 use Rattle.std.proofs.Common.{ap, ◌∙◌, sym, subst, arith}
 use Rattle.std.proofs.lemmas.Bool.{ne_eqb}
 use Rattle.rx_rules.specs.declared.tasks.Where.TheVariants.{At}
 use Rattle.rx_rules.specs.declared.tasks.Task.{Task}
+use Rattle.rx_rules.specs.declared.events.PlaceEvent.{PlaceEvent}
 use Rattle.rx_rules.specs.Code.{Block}
 use Rattle.rx_rules.specs.Terms.{Empty, items, no_vars}
 use Rattle.rx_rules.specs.Tree.{Tree, the_root}
@@ -28,6 +29,13 @@ opens-more heap p zero [] s h place words events = (place ∙ omega arith, words
 opens-more heap p zero (x ∷ ss) s h place words events = absurd h
 opens-more heap p (suc n) [] s h place words events = absurd h
 opens-more heap p (suc n) (x ∷ ss) s h place words events = (h.0, h.1, h.2, opens-more heap (suc p) n ss s h.3 (place ∙ omega arith) words events)
+
+-- there are as many stores as journals
+pub as_many : (heap p : ℕ) (ss : List Kept) (js : List (List PlaceEvent)) → StoresAre heap p ss js → length ss ≡ length js
+as_many heap p [] [] h = refl
+as_many heap p (s ∷ ss) (j ∷ js) h = ap suc (as_many heap (suc p) ss js h.3)
+as_many heap p [] (j ∷ js) h = absurd h
+as_many heap p (s ∷ ss) [] h = absurd h
 
 -- the row of the main activity
 abbrev pub root_row : Task
@@ -56,15 +64,15 @@ opens-seats shape code U seat (suc n) row scopes batch term vars =
     ap (λ (b : Bool). live_in (cond b (Some root_row) None)) other
 
 -- the machine stands for the game before the first turn
-pub opens-so : {L : Type 0} (stands : L → Tree → Type 0) (shape : Shape) (code : Block) (U : Given) (m : Machine L) (seat : Seat) → U.places ≡ m.places → given m.history.setup ≡ U → m.history.entries ≡ [] → m.killed ≡ 0 → m.kills ≡ U.kills → m.failed ≡ false → stands m.ledger (opening U.places) → StoresAre U.heap 0 m.stores.items (replicate U.places []) → m.seats.items ≡ Some seat ∷ [] → seat.row ≡ root_row → seat.scopes.items ≡ [] → seat.batch ≡ [] → StandsFor shape seat.control (items code [] Empty) → seat.control.vars ≡ no_vars → Holds stands shape code U m (start_game code U)
-opens-so stands shape code U m seat places setup entries killed kills failed ledger stores seats row scopes batch term vars =
+pub opens-so : {L : Type 0} (stands : L → Tree → Type 0) (shape : Shape) (code : Block) (U : Given) (m : Machine L) (seat : Seat) → U.places ≡ m.places → given m.history.setup ≡ U → m.history.entries ≡ [] → m.kills ≡ U.kills → m.failed ≡ false → stands m.ledger (opening U.places) → StoresAre U.heap 0 m.stores.items (replicate U.places []) → m.seats.items ≡ Some seat ∷ [] → seat.row ≡ root_row → seat.scopes.items ≡ [] → seat.batch ≡ [] → StandsFor shape seat.control (items code [] Empty) → seat.control.vars ≡ no_vars → Holds stands shape code U m (start_game code U)
+opens-so stands shape code U m seat places setup entries kills failed ledger stores seats row scopes batch term vars =
     record {
       shares = record {
         comes = Comes.opens;
         places = places;
         setup = setup;
         entries = entries;
-        kills = ap (λ k. drop k m.kills) killed ∙ kills;
+        kills = kills;
         ledger = ledger;
         slots = ap (λ v. length v) seats;
         failed = failed;

@@ -64,5 +64,5 @@ printed stands shape code U m m' k i here q seat seat' G z x a asks path may ter
       held = grant.0;
       spine = spine;
     })
-    (record { places = went.places; setup = went.setup; entries = went.entries ∙ ap (λ b. m.history.entries ++ Step seat.row.number (Print z x) b ∷ []) s.batch; kills = went.kills; killed = went.killed; failed = went.failed; stores = went.stores; ledger = went.ledger })
+    (record { places = went.places; setup = went.setup; entries = went.entries ∙ ap (λ b. m.history.entries ++ Step seat.row.number (Print z x) b ∷ []) s.batch; kills = went.kills; failed = went.failed; stores = went.stores; ledger = went.ledger })
     a.inside back a.stores

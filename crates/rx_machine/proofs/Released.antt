@@ -168,5 +168,5 @@ released stands sound keeps pops shape code U m m' k i here q seat seat' G s los
       held = grant.0;
       spine = subst (λ (ks : List Kind). Spine (granted faults q.term) ks) (kinds-left (own_kinds T i) (own_kinds T' i) spine.0 pop.0.kind spine.1 kinds_were spine.2) spine.3;
     })
-    (record { places = went.places; setup = went.setup; entries = went.entries ∙ ap (λ b. m.history.entries ++ Step t (Release s lost thrown) b ∷ []) at.batch; kills = went.kills; killed = went.killed; failed = went.failed; stores = went.stores; ledger = went.ledger })
+    (record { places = went.places; setup = went.setup; entries = went.entries ∙ ap (λ b. m.history.entries ++ Step t (Release s lost thrown) b ∷ []) at.batch; kills = went.kills; failed = went.failed; stores = went.stores; ledger = went.ledger })
     a.inside back a.stores

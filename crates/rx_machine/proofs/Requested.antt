@@ -1,5 +1,5 @@
 -- Which request a told step is.
-use Rattle.std.specs.Prelude.{◌≡◌, ℤ, List, Result, Ok, Err, OnOk, refl}
+use Rattle.std.specs.Prelude.{◌≡◌, ℤ, List, Result, Ok, Err, OnOk, OnErr, refl}
 use Rattle.std.proofs.Common.{ap, sym, ◌∙◌}
 use Rattle.rx_base.specs.declared.ids.PlaceId.{PlaceId}
 use Rattle.rx_base.specs.declared.values.Fault.{Fault}
@@ -170,3 +170,12 @@ told_no_cell n d op r is = asks_no_cell d op r.1 (sym r.0 ∙ is)
 pub on_ok : {A E P Q : Type 0} (r : Result A E) → (P → Q) → OnOk r P → OnOk r Q
 on_ok (Ok x) f h = f h
 on_ok (Err e) f h = h
+
+-- and where it has answered Err
+pub on_err : {A E P Q : Type 0} (r : Result A E) → (P → Q) → OnErr r P → OnErr r Q
+on_err (Ok x) f h = h
+on_err (Err e) f h = f h
+
+pub any_err : {A E P : Type 0} (r : Result A E) → P → OnErr r P
+any_err (Ok x) h = tt
+any_err (Err e) h = h

@@ -109,7 +109,7 @@ spawned stands shape code U m m' k i here to q seat seat' slot control G number 
       spine = spine;
     })
     (new-slot shape T (add_task b T) T.next_task q slot control number under here to (subst (λ (v : ℕ). live_task (add_task b T) v ≡ if_unstruck b) may.next_task (add-same T b)) (none-own T sound) child_term (child_vars ∙ s.vars) is.lost is.row is.rest)
-    (record { places = went.places; setup = went.setup; entries = went.entries ∙ ap (λ v. m.history.entries ++ Step seat.row.number (Spawn number under here to x) v ∷ []) s.batch; kills = went.kills; killed = went.killed; failed = went.failed; stores = went.stores; ledger = went.ledger })
+    (record { places = went.places; setup = went.setup; entries = went.entries ∙ ap (λ v. m.history.entries ++ Step seat.row.number (Spawn number under here to x) v ∷ []) s.batch; kills = went.kills; failed = went.failed; stores = went.stores; ledger = went.ledger })
     a.inside back a.stores
 
 -- the turn of a call
@@ -148,5 +148,5 @@ called stands shape code U m m' k i here to q seat seat' slot control G scope pa
       spine = subst (λ (ks : List Kind). Spine (granted [] q.term) ks) (sym (reverse-append (Call ∷ []) (own_kinds T i)) ∙ ap (λ ks. reverse ks) (sym own.1)) spine;
     })
     (new-slot shape T T3 T.next_task q slot control number scope here to (live T.next_task (λ e. older (sym e)) ∙ subst (λ (v : ℕ). live_task T2 v ≡ if_unstruck b) may.next_task (add-same T1 b)) (kept.0 ∙ none.0, kept.1 ∙ none.1) child_term (child_vars ∙ s.vars) is.lost is.row is.rest)
-    (record { places = went.places; setup = went.setup; entries = went.entries ∙ ap (λ v. m.history.entries ++ Step seat.row.number (CallsAt scope parent number here to x) v ∷ []) s.batch; kills = went.kills; killed = went.killed; failed = went.failed; stores = went.stores; ledger = went.ledger })
+    (record { places = went.places; setup = went.setup; entries = went.entries ∙ ap (λ v. m.history.entries ++ Step seat.row.number (CallsAt scope parent number here to x) v ∷ []) s.batch; kills = went.kills; failed = went.failed; stores = went.stores; ledger = went.ledger })
     a.inside back a.stores

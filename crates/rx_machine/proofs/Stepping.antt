@@ -1,5 +1,5 @@
 -- One step more of a task that makes its turn.
-use Rattle.std.specs.Prelude.{◌≡◌, ℕ, ◌+◌, ◌*◌, ◌≤◌, true, false, List, [], ◌∷◌, ◌++◌, reverse, length, drop, Some, None, slice_set, refl}
+use Rattle.std.specs.Prelude.{◌≡◌, ℕ, ◌+◌, ◌*◌, ◌≤◌, true, false, List, [], ◌∷◌, ◌++◌, reverse, length, Some, None, slice_set, refl}
 use Rattle.std.proofs.Common.{ap, ◌∙◌, sym, subst, arith}
 use Rattle.rx_base.specs.declared.ids.PlaceId.{PlaceId}
 use Rattle.rx_base.specs.declared.ids.TaskId.{TaskId}
@@ -54,7 +54,7 @@ shares-on stands code U m m' G h o =
       places = h.places ∙ sym o.places;
       setup = ap (λ l. given l.setup) o.history ∙ h.setup;
       entries = ap (λ l. l.entries) o.history ∙ h.entries;
-      kills = ap (λ ks. drop m'.killed ks) o.kills ∙ (ap (λ n. drop n m.kills) o.killed ∙ h.kills);
+      kills = o.kills ∙ h.kills;
       ledger = subst (λ l. stands l (tree_in U G)) (sym o.ledger) h.ledger;
       slots = ap (λ v. length v.items) o.seats ∙ h.slots;
       failed = o.failed ∙ h.failed;
@@ -165,7 +165,7 @@ local-seat shape T i here places q seat seat' after left s e term vars batch row
     }
 
 pub same : {L : Type 0} (m : Machine L) → OnlyStores m m
-same m = record { history = refl; ledger = refl; seats = refl; kills = refl; killed = refl; places = refl; failed = refl }
+same m = record { history = refl; ledger = refl; seats = refl; kills = refl; places = refl; failed = refl }
 
 pub stepped-local : {L : Type 0} (stands : L → Tree → Type 0) (shape : Shape) (code : Block) (U : Given) (m : Machine L) (k i : ℕ) (here : PlaceId) (q : Player) (seat seat' : Seat) (G : Game) → TermSinks → Acting stands shape code U m k i here q seat G → next_of (does q.vars here.0 U.places q.term) ≡ LocalStep → Leaves shape seat'.control (does q.vars here.0 U.places q.term) → seat'.batch ≡ begun q.term seat.batch → seat'.row ≡ seat.row → seat'.scopes ≡ seat.scopes → AfterStep stands shape code U m k i here q seat' G None
 stepped-local stands shape code U m k i here q seat seat' G law a e leaves batch row scopes =
@@ -193,7 +193,6 @@ same-twice m m' m'' a b =
       ledger = b.ledger ∙ a.ledger;
       seats = b.seats ∙ a.seats;
       kills = b.kills ∙ a.kills;
-      killed = b.killed ∙ a.killed;
       places = b.places ∙ a.places;
       failed = b.failed ∙ a.failed;
     }

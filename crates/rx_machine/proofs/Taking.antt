@@ -1,5 +1,5 @@
 -- The start of a turn: the seat of the task that moves is taken out of its slot.
-use Rattle.std.specs.Prelude.{◌≡◌, ℕ, ◌<◌, List, length, drop, Option, Some, None, slice_get, slice_set}
+use Rattle.std.specs.Prelude.{◌≡◌, ℕ, ◌<◌, List, length, Option, Some, None, slice_get, slice_set}
 use Rattle.std.proofs.Common.{ap, ◌∙◌, sym, subst}
 use Rattle.std.proofs.lemmas.List.{length-set}
 use Rattle.rx_base.specs.declared.ids.PlaceId.{PlaceId}
@@ -60,7 +60,7 @@ holds-but {L = L} stands shape code U m m' i G h inside e =
         places = s.places ∙ sym (ap (λ (x : Machine L). x.places) e.same);
         setup = ap (λ (x : Machine L). given x.history.setup) e.same ∙ s.setup;
         entries = ap (λ (x : Machine L). x.history.entries) e.same ∙ s.entries;
-        kills = ap (λ (x : Machine L). drop x.killed x.kills) e.same ∙ s.kills;
+        kills = ap (λ (x : Machine L). x.kills) e.same ∙ s.kills;
         ledger = subst (λ (x : Machine L). stands x.ledger (tree_in U G)) (sym e.same) s.ledger;
         slots = ap (λ xs. length xs) e.left ∙ (length-set m.seats.items i None ∙ s.slots);
         failed = ap (λ (x : Machine L). x.failed) e.same ∙ s.failed;

@@ -1,18 +1,16 @@
 -- A turn: what holds of the game before it, the task that the pick moves, and the root's release where none is enabled.
 use Rattle.std.specs.Prelude.{◌≡◌, ℕ, zero, suc, ◌+◌, ◌-◌, ◌*◌, ◌<◌, ◌≤◌, ◌%◌, List, [], ◌∷◌, length, Option, Some, slice_get, refl}
 use Rattle.std.proofs.Common.{ap, ◌∙◌, sym, subst, arith}
+use Rattle.rx_base.specs.declared.ids.PlaceId.{PlaceId}
 use Rattle.rx_base.specs.declared.ids.Kill.{Kill}
 use Rattle.rx_rules.specs.declared.tasks.Task.{Task}
-use Rattle.rx_rules.specs.declared.entries.Entry.{Entry}
-use Rattle.rx_rules.specs.declared.entries.Entry.TheVariants.{Step, Root, Death}
 use Rattle.rx_rules.specs.Code.{Block, work}
 use Rattle.rx_rules.specs.Tree.{Tree}
-use Rattle.rx_rules.specs.Run.{Given, NoRoot, NoneDue}
+use Rattle.rx_rules.specs.Run.{Given, NoRoot, NoneDue, IsDue}
 use Rattle.rx_rules.specs.Picked.{Game, enabled, tree_in}
 use Rattle.rx_sound.specs.Sound.{ReachedSound}
 use Rattle.rx_sound.specs.Histories.{FoldReached, RootStands}
 use Rattle.rx_sound.specs.Enabling.{NoneLeft}
-use Rattle.rx_runs.specs.Segments.{kills_left}
 use Rattle.rx_runs.specs.Coming.{CameTo, GamesCome}
 use Rattle.rx_trace.specs.Logs.{Log}
 use Rattle.rx_trace.specs.Setups.{given}
@@ -21,7 +19,7 @@ use Rattle.rx_machine.specs.declared.machine.Machine.{Machine}
 use Rattle.rx_machine.specs.declared.seat.Seat.{Seat}
 use Rattle.rx_machine.specs.Slots.{seat_at}
 use Rattle.rx_machine.specs.Holds.{Holds, CanTurn, Releasing}
-use Rattle.rx_machine.specs.Runs.{RunsOn, Taken}
+use Rattle.rx_machine.specs.Runs.{RunsOn, Calm, Dying, Taken}
 use Rattle.rx_machine.specs.Picking.{able_from}
 use Rattle.rx_machine.proofs.Enabled.{enabled_rows, able_length, able_at}
 
@@ -64,26 +62,35 @@ pub roomy-turn : {L : Type 0} (stands : L → Tree → Type 0) (shape : Shape) (
 roomy-turn stands shape code U m h G come fold same a on unreleased =
     can-turn stands shape code U (record m { history = h }) G come fold (roomier stands shape code U m h G same.0 same.1 a) on unreleased
 
-none-left : (es : List Entry) → kills_left [] es ≡ []
-none-left [] = refl
-none-left (Death d ∷ es) = none-left es
-none-left (Step t act batch ∷ es) = none-left es
-none-left (Root lost thrown ∷ es) = none-left es
+-- the kill that is due is that of the game
+pub dying : {L : Type 0} (stands : L → Tree → Type 0) (shape : Shape) (code : Block) (U : Given) (m : Machine L) (d : PlaceId) (G : Game) (n : ℕ) → CanTurn stands shape code U m G → RunsOn code U → n ≡ length m.history.entries → IsDue n d m.kills → Dying stands shape code U m d G
+dying stands shape code U m d G n can on at due =
+    let same : n ≡ length G.entries = at ∙ ap length can.holds.shares.entries in
+    record {
+      can = can;
+      on = on;
+      due = subst (λ (ks : List Kill). IsDue (length G.entries) d ks) can.holds.shares.kills (subst (λ (v : ℕ). IsDue v d m.kills) same due);
+    }
 
--- no kill is due
-pub none-due : {L : Type 0} (stands : L → Tree → Type 0) (shape : Shape) (code : Block) (U : Given) (m : Machine L) (G : Game) → GamesCome → Holds stands shape code U m G → RunsOn code U → NoRoot G.entries → NoneDue (length G.entries) G.kills
-none-due stands shape code U m G come h on unreleased =
-    let came : CameTo code U G = come code U G on.proper h.shares.comes unreleased in
-    let none : G.kills ≡ [] = came.ok.left ∙ (ap (λ ks. kills_left ks G.entries) on.spared ∙ none-left G.entries) in
-    subst (λ (ks : List Kill). NoneDue (length G.entries) ks) (sym none) tt
+-- and where none is, none is due in the game
+pub calm : {L : Type 0} (stands : L → Tree → Type 0) (shape : Shape) (code : Block) (U : Given) (m : Machine L) (G : Game) (n : ℕ) → CanTurn stands shape code U m G → RunsOn code U → n ≡ length m.history.entries → NoneDue n m.kills → Calm stands shape code U m G
+calm stands shape code U m G n can on at none =
+    let same : n ≡ length G.entries = at ∙ ap length can.holds.shares.entries in
+    record {
+      can = can;
+      on = on;
+      none_due = subst (λ (ks : List Kill). NoneDue (length G.entries) ks) can.holds.shares.kills (subst (λ (v : ℕ). NoneDue v m.kills) same none);
+    }
 
 empty : {X : Type 0} (xs : List X) → length xs ≡ 0 → xs ≡ []
 empty [] h = refl
 empty (x ∷ xs) h = absurd (omega (arith, h))
 
 -- where the numbers are none, no task is enabled, and the root may be released
-pub releasing : {L : Type 0} (stands : L → Tree → Type 0) (shape : Shape) (code : Block) (U : Given) (m : Machine L) (G : Game) (ns : List ℕ) → GamesCome → ReachedSound → NoneLeft → RootStands → CanTurn stands shape code U m G → RunsOn code U → ns ≡ able_from (tree_in U G) 0 m.seats.items → length ns ≡ 0 → Releasing stands shape code U m G
-releasing stands shape code U m G ns come sound quiets roots can on able none =
+pub releasing : {L : Type 0} (stands : L → Tree → Type 0) (shape : Shape) (code : Block) (U : Given) (m : Machine L) (G : Game) (ns : List ℕ) → GamesCome → ReachedSound → NoneLeft → RootStands → Calm stands shape code U m G → ns ≡ able_from (tree_in U G) 0 m.seats.items → length ns ≡ 0 → Releasing stands shape code U m G
+releasing stands shape code U m G ns come sound quiets roots quietly able none =
+    let can = quietly.can in
+    let on = quietly.on in
     let T : Tree = tree_in U G in
     let came : CameTo code U G = come code U G on.proper can.holds.shares.comes can.unreleased in
     let rows = enabled_rows shape T G.players m.seats.items (sound T can.reached).tasks_fall can.holds.shares.slots can.holds.seats in
@@ -93,7 +100,7 @@ releasing stands shape code U m G ns come sound quiets roots can on able none =
     record {
       holds = can.holds;
       unreleased = can.unreleased;
-      none_due = none-due stands shape code U m G come can.holds on can.unreleased;
+      none_due = quietly.none_due;
       none_enabled = no_task;
       is_quiet = quiets T can.reached no_task;
       root = record { root = root.0; stands = root.1 };
@@ -109,8 +116,9 @@ same-pick rows en k n x same size at =
     sym (ap (λ v. slice_get en (k % v)) (size ∙ ap length same)) ∙ (sym (ap (λ v. slice_get v (k % n)) same) ∙ at)
 
 -- the number at the pick is the slot of the task that the pick moves
-pub taken : {L : Type 0} (stands : L → Tree → Type 0) (shape : Shape) (code : Block) (U : Given) (m : Machine L) (G : Game) (ns : List ℕ) (k i : ℕ) → GamesCome → ReachedSound → CanTurn stands shape code U m G → RunsOn code U → ns ≡ able_from (tree_in U G) 0 m.seats.items → slice_get ns (k % length ns) ≡ Some i → Taken stands shape code U m k i G
-taken stands shape code U m G ns k i come sound can on able at =
+pub taken : {L : Type 0} (stands : L → Tree → Type 0) (shape : Shape) (code : Block) (U : Given) (m : Machine L) (G : Game) (ns : List ℕ) (k i : ℕ) → ReachedSound → Calm stands shape code U m G → ns ≡ able_from (tree_in U G) 0 m.seats.items → slice_get ns (k % length ns) ≡ Some i → Taken stands shape code U m k i G
+taken stands shape code U m G ns k i sound quietly able at =
+    let can = quietly.can in
     let T : Tree = tree_in U G in
     let rows = enabled_rows shape T G.players m.seats.items (sound T can.reached).tasks_fall can.holds.shares.slots can.holds.seats in
     let here = able_at T 0 m.seats.items (k % length ns) i (sym (ap (λ v. slice_get v (k % length ns)) able) ∙ at) in
@@ -118,8 +126,8 @@ taken stands shape code U m G ns k i come sound can on able at =
     let found : seat_at m.seats.items i ≡ Some here.0 = ap (seat_at m.seats.items) (sym none) ∙ here.2 in
     record {
       can = can;
-      on = on;
-      none_due = none-due stands shape code U m G come can.holds on can.unreleased;
+      on = quietly.on;
+      none_due = quietly.none_due;
       inside = seat-inside m.seats.items i here.0 found;
       seat = here.0;
       at = found;

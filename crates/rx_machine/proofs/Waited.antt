@@ -110,5 +110,5 @@ waited stands shape code U m m' k i here q seat seat' G fs s a asks may term var
       held = grant.0;
       spine = subst (λ (ks : List Kind). Spine (granted [] q.term) (reverse ks)) (sym (own i).1) spine.0;
     })
-    (record { places = went.places; setup = went.setup; entries = went.entries ∙ ap (λ b. m.history.entries ++ Step seat.row.number (Wait s fs) b ∷ []) at.batch; kills = went.kills; killed = went.killed; failed = went.failed; stores = went.stores; ledger = went.ledger })
+    (record { places = went.places; setup = went.setup; entries = went.entries ∙ ap (λ b. m.history.entries ++ Step seat.row.number (Wait s fs) b ∷ []) at.batch; kills = went.kills; failed = went.failed; stores = went.stores; ledger = went.ledger })
     a.inside back a.stores

@@ -1,5 +1,5 @@
 -- A picked run, turn by turn, and what its stores leave.
-use Rattle.std.specs.Prelude.{length, ◌≡◌, ℕ, suc, ◌+◌, ◌*◌, ◌≤◌, true, false, List, [], ◌∷◌, ◌++◌, map, reverse, refl}
+use Rattle.std.specs.Prelude.{length, ◌≡◌, ℕ, suc, ◌+◌, ◌*◌, ◌≤◌, Bool, true, false, List, [], ◌∷◌, ◌++◌, map, reverse, refl}
 use Rattle.std.proofs.Common.{ap, ◌∙◌, sym, subst, arith}
 use Rattle.std.proofs.lemmas.List.{reverse-append, map-append, append_assoc, append-nil}
 use Rattle.rx_rules.specs.declared.entries.Act.TheVariants.{Arrive, End}
@@ -10,7 +10,7 @@ use Rattle.rx_rules.specs.Code.{Block, work}
 use Rattle.rx_rules.specs.Tree.{Tree}
 use Rattle.rx_rules.specs.Fold.{tree_of}
 use Rattle.rx_rules.specs.Run.{Given, NoRoot}
-use Rattle.rx_rules.specs.Picked.{Game, Turn, arrives, moves, ends, Turns, none, more, start_game}
+use Rattle.rx_rules.specs.Picked.{Game, Turn, arrives, moves, ends, Turns, none, more, start_game, tree_in, used_after}
 use Rattle.rx_runs.specs.Bounds.{TurnsBounded}
 use Rattle.rx_trace.specs.Logs.{Log}
 use Rattle.rx_trace.specs.Events.{Events, AllEvents, events_of}
@@ -19,7 +19,7 @@ use Rattle.rx_store.specs.Kept.{Kept}
 use Rattle.rx_script.specs.Shape.{Shape}
 use Rattle.rx_machine.specs.declared.machine.Machine.{Machine}
 use Rattle.rx_machine.specs.Holds.{Holds, StoresAre, Finished, Makes}
-use Rattle.rx_machine.specs.Runs.{RunsOn, AfterTurn, HasRun}
+use Rattle.rx_machine.specs.Runs.{RunsOn, AfterTurn, WentOn, HasRun, Gives}
 
 -- Turns that move tasks.
 
@@ -34,14 +34,18 @@ stays_open U k G G' (arrives x p none_due pick may) h = step_push G.entries (Ste
 stays_open U k G G' (moves x here p q S Z j act none_due pick at player store goes fits may) h = step_push G.entries (Step x.number act q.batch) h tt
 stays_open U k G G' (ends x here p q S Z j f none_due pick at player store goes done may) h = step_push G.entries (Step x.number (End f) q.batch) h tt
 
--- after i turns, each of which moved a task, the machine stands for a game
-pub record RunTo {L : Type 0} (stands : L → Tree → Type 0) (shape : Shape) (code : Block) (U : Given) (picks : ℕ → ℕ) (m : Machine L) (i : ℕ) : Type 0 where
+-- where a task has moved, the root stands
+pub goes-on : {L : Type 0} (stands : L → Tree → Type 0) (shape : Shape) (code : Block) (U : Given) (m : Machine L) (k : ℕ) (G : Game) → NoRoot G.entries → AfterTurn stands shape code U m k G → WentOn stands shape code U m k true G
+goes-on stands shape code U m k G unreleased a = (a.0, a.1, (a.2, stays_open U k G a.0 a.1 unreleased))
+
+-- after i turns, of which j used a pick, the machine stands for a game in which the root stands
+pub record RunTo {L : Type 0} (stands : L → Tree → Type 0) (shape : Shape) (code : Block) (U : Given) (picks : ℕ → ℕ) (m : Machine L) (i j : ℕ) : Type 0 where
   pub game : Game
   pub holds : Holds stands shape code U m game
   pub unreleased : NoRoot game.entries
-  pub made : (n : ℕ) (G : Game) → Turns U picks n i game G → Turns U picks (i + n) 0 (start_game code U) G
+  pub made : (n : ℕ) (G : Game) → Turns U picks n j game G → Turns U picks (i + n) 0 (start_game code U) G
 
-pub run-begins : {L : Type 0} (stands : L → Tree → Type 0) (shape : Shape) (code : Block) (U : Given) (picks : ℕ → ℕ) (m : Machine L) → Holds stands shape code U m (start_game code U) → RunTo stands shape code U picks m 0
+pub run-begins : {L : Type 0} (stands : L → Tree → Type 0) (shape : Shape) (code : Block) (U : Given) (picks : ℕ → ℕ) (m : Machine L) → Holds stands shape code U m (start_game code U) → RunTo stands shape code U picks m 0 0
 run-begins stands shape code U picks m h =
     record {
       game = start_game code U;
@@ -50,21 +54,25 @@ run-begins stands shape code U picks m h =
       made = λ n G ts. (let e : n ≡ 0 + n = omega arith in subst (λ x. Turns U picks x 0 (start_game code U) G) e ts);
     }
 
-pub run-goes : {L : Type 0} (stands : L → Tree → Type 0) (shape : Shape) (code : Block) (U : Given) (picks : ℕ → ℕ) (m m' : Machine L) (i k : ℕ) → (r : RunTo stands shape code U picks m i) → k ≡ picks i → AfterTurn stands shape code U m' k r.game → RunTo stands shape code U picks m' (i + 1)
-run-goes stands shape code U picks m m' i k r e a =
+pub run-goes : {L : Type 0} (stands : L → Tree → Type 0) (shape : Shape) (code : Block) (U : Given) (picks : ℕ → ℕ) (m m' : Machine L) (i j k : ℕ) (used : Bool) → (r : RunTo stands shape code U picks m i j) → k ≡ picks j → WentOn stands shape code U m' k used r.game → RunTo stands shape code U picks m' (i + 1) (used_after used j)
+run-goes stands shape code U picks m m' i j k used r e a =
     record {
       game = a.0;
-      holds = a.2;
-      unreleased = stays_open U k r.game a.0 a.1 r.unreleased;
+      holds = a.2.0;
+      unreleased = a.2.1;
       made = λ n G ts. (let z : i + suc n ≡ i + 1 + n = omega arith in
-          let j : i + 1 ≡ suc i = omega arith in
-          let t : Turn U (picks i) r.game true a.0 = subst (λ x. Turn U x r.game true a.0) e a.1 in
-          subst (λ x. Turns U picks x 0 (start_game code U) G) z (r.made (suc n) G (more r.unreleased t (subst (λ x. Turns U picks n x a.0 G) j ts))));
+          let t : Turn U (picks j) r.game used a.0 = subst (λ x. Turn U x r.game used a.0) e a.1 in
+          subst (λ x. Turns U picks x 0 (start_game code U) G) z (r.made (suc n) G (more r.unreleased t ts)));
     }
 
+-- the picks that are left after a turn
+pub picks-left : (picks old new : ℕ → ℕ) (j : ℕ) (used : Bool) → ((n : ℕ) → old n ≡ picks (j + n)) → ((n : ℕ) → new n ≡ old (used_after used n)) → (n : ℕ) → new n ≡ picks (used_after used j + n)
+picks-left picks old new j true were are n = let e : j + suc n ≡ suc j + n = omega arith in are n ∙ (were (suc n) ∙ ap picks e)
+picks-left picks old new j false were are n = are n ∙ were n
+
 -- no run makes so many turns
-pub run-stops : {L : Type 0} (stands : L → Tree → Type 0) (shape : Shape) (code : Block) (U : Given) (picks : ℕ → ℕ) (m : Machine L) (i : ℕ) → TurnsBounded → RunsOn code U → RunTo stands shape code U picks m i → i ≤ 400040
-run-stops stands shape code U picks m i law on r =
+pub run-stops : {L : Type 0} (stands : L → Tree → Type 0) (shape : Shape) (code : Block) (U : Given) (picks : ℕ → ℕ) (m : Machine L) (i j : ℕ) → TurnsBounded → RunsOn code U → RunTo stands shape code U picks m i j → i ≤ 400040
+run-stops stands shape code U picks m i j law on r =
     let most : i + 0 ≤ 4 * work code + 2 * U.places + 8 = law code U picks (i + 0) r.game on.proper (r.made 0 r.game none) in
     let few : work code ≤ 100000 = on.few in
     let places : U.places ≤ 16 = on.proper.few in
@@ -72,26 +80,44 @@ run-stops stands shape code U picks m i law on r =
 
 -- The end.
 
-journals_are : (heap p : ℕ) (ss : List Kept) (js : List (List PlaceEvent)) → StoresAre heap p ss js → map (λ s. s.events) ss ≡ js
+pub journals_are : (heap p : ℕ) (ss : List Kept) (js : List (List PlaceEvent)) → StoresAre heap p ss js → map (λ s. s.events) ss ≡ js
 journals_are heap p [] [] h = refl
 journals_are heap p (s ∷ ss) (j ∷ js) h = ap (λ e. e ∷ map (λ (k : Kept). k.events) ss) h.2 ∙ ap (λ es. j ∷ es) (journals_are heap (suc p) ss js h.3)
 journals_are heap p [] (j ∷ js) h = absurd h
 journals_are heap p (s ∷ ss) [] h = absurd h
 
-pub run-ends : {L : Type 0} (stands : L → Tree → Type 0) (shape : Shape) (code : Block) (U : Given) (picks : ℕ → ℕ) (m m' : Machine L) (i k : ℕ) → (r : RunTo stands shape code U picks m i) → k ≡ picks i → Makes (Turn U k r.game false) (Finished stands U m') → (log : Log) (js : AllEvents) (l : L) → log ≡ m'.history → events_of js ≡ map (λ s. s.events) m'.stores.items → l ≡ m'.ledger → HasRun code U picks stands (log, js, l)
-run-ends stands shape code U picks m m' i k r e a log js l history events ledger =
-    let t : Turn U (picks i) r.game false a.0 = subst (λ x. Turn U x r.game false a.0) e a.1 in
-    let entries : log.entries ≡ a.0.entries = ap (λ h. h.entries) history ∙ a.2.entries in (
+-- what the machine gives out is that of the game
+pub gives-holds : {L : Type 0} (stands : L → Tree → Type 0) (shape : Shape) (code : Block) (U : Given) (m : Machine L) (G : Game) (r : Log × AllEvents × L) → r.0 ≡ m.history → events_of r.1 ≡ map (λ s. s.events) m.stores.items → r.2 ≡ m.ledger → Holds stands shape code U m G → Gives stands U G r
+gives-holds stands shape code U m G r history events ledger h =
+    record {
+      entries = ap (λ l. l.entries) history ∙ h.shares.entries;
+      setup = ap (λ l. given l.setup) history ∙ h.shares.setup;
+      journals = events ∙ journals_are U.heap 0 m.stores.items G.journals h.stores;
+      ledger = subst (λ x. stands x (tree_in U G)) (sym ledger) h.shares.ledger;
+    }
+
+pub gives-finished : {L : Type 0} (stands : L → Tree → Type 0) (U : Given) (m : Machine L) (G : Game) (r : Log × AllEvents × L) → r.0 ≡ m.history → events_of r.1 ≡ map (λ s. s.events) m.stores.items → r.2 ≡ m.ledger → Finished stands U m G → Gives stands U G r
+gives-finished stands U m G r history events ledger f =
+    record {
+      entries = ap (λ l. l.entries) history ∙ f.entries;
+      setup = ap (λ l. given l.setup) history ∙ f.setup;
+      journals = events ∙ journals_are U.heap 0 m.stores.items G.journals f.stores;
+      ledger = subst (λ x. stands x (tree_in U G)) (sym ledger) f.ledger;
+    }
+
+pub run-ends : {L : Type 0} (stands : L → Tree → Type 0) (shape : Shape) (code : Block) (U : Given) (picks : ℕ → ℕ) (m m' : Machine L) (i j k : ℕ) → (r : RunTo stands shape code U picks m i j) → k ≡ picks j → (a : Makes (Turn U k r.game false) (Finished stands U m')) → (parts : Log × AllEvents × L) → Gives stands U a.0 parts → HasRun code U picks stands parts
+run-ends stands shape code U picks m m' i j k r e a parts gives =
+    let t : Turn U (picks j) r.game false a.0 = subst (λ x. Turn U x r.game false a.0) e a.1 in (
       record {
         turns = i + 1;
         game = a.0;
         made = r.made 1 a.0 (more r.unreleased t none);
         ended = a.2.ended;
-        entries = entries;
-        journals = events ∙ journals_are U.heap 0 m'.stores.items a.0.journals a.2.stores;
+        entries = gives.entries;
+        journals = gives.journals;
       },
-      ap (λ h. given h.setup) history ∙ a.2.setup,
-      subst (λ es. stands l (tree_of U.places es)) (sym entries) (subst (λ x. stands x (tree_of U.places a.0.entries)) (sym ledger) a.2.ledger),
+      gives.setup,
+      subst (λ es. stands parts.2 (tree_of U.places es)) (sym gives.entries) gives.ledger,
     )
 
 -- One journal more.

@@ -1,5 +1,5 @@
 -- A machine stands for a game that turns have made.
-use Rattle.std.specs.Prelude.{◌≡◌, ◌≢◌, ℕ, suc, ◌<◌, ◌%◌, true, false, List, [], ◌∷◌, slice_set, length, drop, Some, None, slice_get}
+use Rattle.std.specs.Prelude.{◌≡◌, ◌≢◌, ℕ, suc, ◌<◌, ◌%◌, true, false, List, [], ◌∷◌, slice_set, length, Some, None, slice_get}
 use Rattle.rx_base.specs.declared.ids.PlaceId.{PlaceId}
 use Rattle.rx_rules.specs.declared.tasks.Where.TheVariants.{At, Travel}
 use Rattle.rx_rules.specs.declared.events.PlaceEvent.{PlaceEvent}
@@ -31,7 +31,7 @@ pub record Shares {L : Type 0} (stands : L → Tree → Type 0) (code : Block) (
   pub places : U.places ≡ m.places
   pub setup : given m.history.setup ≡ U
   pub entries : m.history.entries ≡ G.entries
-  pub kills : drop m.killed m.kills ≡ G.kills
+  pub kills : m.kills ≡ G.kills
   pub ledger : stands m.ledger (tree_in U G)
   pub slots : length m.seats.items ≡ (tree_in U G).next_task
   pub failed : m.failed ≡ false

@@ -1,3 +1,4 @@
+pub mod Kepts
 pub mod Callers
 pub mod Held
 pub mod Spine
@@ -7,3 +8,4 @@ pub mod Picking
 pub mod Requests
 pub mod Asked
 pub mod Runs
+pub mod Refusals

@@ -39,7 +39,6 @@ pub record OnlyStores {L : Type 0} (m m' : Machine L) : Type 0 where
   pub ledger : m'.ledger ≡ m.ledger
   pub seats : m'.seats ≡ m.seats
   pub kills : m'.kills ≡ m.kills
-  pub killed : m'.killed ≡ m.killed
   pub places : m'.places ≡ m.places
   pub failed : m'.failed ≡ m.failed
 

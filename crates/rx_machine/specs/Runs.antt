@@ -1,8 +1,9 @@
 -- What a turn is made of, and what a run leaves.
-use Rattle.std.specs.Prelude.{◌≡◌, ℕ, ◌<◌, ◌≤◌, ◌%◌, true, [], length, Some, slice_get}
+use Rattle.std.specs.Prelude.{◌≡◌, ℕ, ◌<◌, ◌≤◌, ◌%◌, Bool, true, length, Some, slice_get}
+use Rattle.rx_base.specs.declared.ids.PlaceId.{PlaceId}
 use Rattle.rx_rules.specs.Code.{Block, work}
 use Rattle.rx_rules.specs.Tree.{Tree}
-use Rattle.rx_rules.specs.Run.{Given, Proper, NoneDue}
+use Rattle.rx_rules.specs.Run.{Given, Proper, NoneDue, IsDue, NoRoot}
 use Rattle.rx_rules.specs.Fold.{tree_of}
 use Rattle.rx_rules.specs.Picked.{Game, Turn, IsPicked, enabled, tree_in}
 use Rattle.rx_trace.specs.Logs.{Log}
@@ -15,12 +16,23 @@ use Rattle.rx_machine.specs.declared.seat.Seat.{Seat}
 use Rattle.rx_machine.specs.Slots.{seat_at}
 use Rattle.rx_machine.specs.Holds.{Holds, CanTurn, Makes}
 
--- a script and a setup for which a machine runs on: no kills as yet
+-- a script and a setup for which a machine runs on
 pub record RunsOn (code : Block) (U : Given) : Type 0 where
   pub proper : Proper U
   pub few : work code ≤ 100000
   pub makes : MakesSome code
-  pub spared : U.kills ≡ []
+
+-- a turn can be made, and no kill is due
+pub record Calm {L : Type 0} (stands : L → Tree → Type 0) (shape : Shape) (code : Block) (U : Given) (m : Machine L) (G : Game) : Type 0 where
+  pub can : CanTurn stands shape code U m G
+  pub on : RunsOn code U
+  pub none_due : NoneDue (length G.entries) G.kills
+
+-- the death of the place is due
+pub record Dying {L : Type 0} (stands : L → Tree → Type 0) (shape : Shape) (code : Block) (U : Given) (m : Machine L) (d : PlaceId) (G : Game) : Type 0 where
+  pub can : CanTurn stands shape code U m G
+  pub on : RunsOn code U
+  pub due : IsDue (length G.entries) d G.kills
 
 -- the pick k moves the task of slot i
 pub record Taken {L : Type 0} (stands : L → Tree → Type 0) (shape : Shape) (code : Block) (U : Given) (m : Machine L) (k i : ℕ) (G : Game) : Type 0 where
@@ -36,6 +48,17 @@ pub record Taken {L : Type 0} (stands : L → Tree → Type 0) (shape : Shape) (
 abbrev pub AfterTurn : {L : Type 0} → (L → Tree → Type 0) → Shape → Block → Given → Machine L → ℕ → Game → Type 0
 AfterTurn stands shape code U m k G = Makes (Turn U k G true) (Holds stands shape code U m)
 
+-- the same of a turn, with the pick or as a death, after which the root stands
+abbrev pub WentOn : {L : Type 0} → (L → Tree → Type 0) → Shape → Block → Given → Machine L → ℕ → Bool → Game → Type 0
+WentOn stands shape code U m k used G = Makes (Turn U k G used) (λ G'. Holds stands shape code U m G' × NoRoot G'.entries)
+
 -- what a picked run leaves: its history, the journals of its places, and a ledger that stands for its last tree
 abbrev pub HasRun : {L : Type 0} → Block → Given → (ℕ → ℕ) → (L → Tree → Type 0) → (Log × AllEvents × L) → Type 0
 HasRun code U picks stands r = IsPicked code U picks r.0.entries (events_of r.1) × (given r.0.setup ≡ U) × stands r.2 (tree_of U.places r.0.entries)
+
+-- what is given out of a machine is that of the game: its history, the journals of its places, and a ledger that stands for its tree
+pub record Gives {L : Type 0} (stands : L → Tree → Type 0) (U : Given) (G : Game) (r : Log × AllEvents × L) : Type 0 where
+  pub entries : r.0.entries ≡ G.entries
+  pub setup : given r.0.setup ≡ U
+  pub journals : events_of r.1 ≡ G.journals
+  pub ledger : stands r.2 (tree_in U G)

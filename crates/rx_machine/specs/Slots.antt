@@ -1,9 +1,11 @@
 -- What the slots of a machine say of the tasks of a tree.
-use Rattle.std.specs.Prelude.{◌≡◌, ℕ, cond, List, map, filter, reverse, Option, Some, None, is_none, slice_get}
+use Rattle.std.specs.Prelude.{◌≡◌, ℕ, Bool, false, cond, List, map, filter, reverse, Option, Some, None, is_none, slice_get}
+use Rattle.rx_base.specs.declared.ids.PlaceId.{PlaceId}
 use Rattle.rx_base.specs.declared.ids.ScopeId.{ScopeId}
 use Rattle.rx_rules.specs.declared.tasks.Task.{Task}
 use Rattle.rx_rules.specs.declared.tasks.Kind.{Kind}
 use Rattle.rx_rules.specs.Tree.{Tree, task_of, opened_by}
+use Rattle.rx_rules.specs.Entries.{is_hit}
 use Rattle.rx_rules.specs.Picked.{Player}
 use Rattle.rx_script.specs.Shape.{Shape}
 use Rattle.rx_control.specs.Stands.{StandsFor}
@@ -56,3 +58,12 @@ seat_in (Some o) = o
 
 abbrev pub seat_at : List (Option Seat) → ℕ → Option Seat
 seat_at seats n = seat_in (slice_get seats n)
+
+-- a death at the place strikes the task of a slot
+abbrev pub is_struck : PlaceId → Option Seat → Bool
+is_struck d None = false
+is_struck d (Some seat) = is_hit d seat.row.place
+
+-- what it leaves in the slot
+abbrev pub left_by : PlaceId → Option Seat → Option Seat
+left_by d o = cond (is_struck d o) None o

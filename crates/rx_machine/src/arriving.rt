@@ -1,9 +1,9 @@
 // The turn of an arrival, and the host's release of the root.
-ghost use Rattle.std.specs.Prelude.{◌≡◌, ◌<◌, ℕ, OnOk, [], true, false};
+ghost use Rattle.std.specs.Prelude.{◌<◌, ℕ, OnOk, OnErr, true, false};
 ghost use Rattle.rx_rules.specs.Code.{Block};
-ghost use Rattle.rx_rules.specs.Run.{Given, NoRoot, NoneDue};
-ghost use Rattle.rx_rules.specs.Picked.{Game, Turn, enabled, tree_in};
-ghost use Rattle.rx_tree.specs.Callers.{HasRoot};
+ghost use Rattle.rx_rules.specs.Run.{Given};
+ghost use Rattle.rx_rules.specs.Picked.{Game, Turn};
+ghost use Rattle.rx_machine.specs.Refusals.{NothingTold};
 ghost use Rattle.rx_machine.specs.Holds.{Holds, Landing, Finished, Releasing, Makes};
 
 use crate::machine::{Machine, put_back};
@@ -41,7 +41,8 @@ impl<L: FinishLedger> Machine<L> {
     pub(crate) fn release_root(&mut self, p: &Program) -> Result<(), NoMemory>
         requires room { 0 < self.old.history.spare }
         requires game { (code : Block) × (U : Given) × (G : Game) × Releasing L.stands p.now.script code U self.old G }
-        ensures { OnOk result ((code : Block) (U : Given) (k : ℕ) (G : Game) → Releasing L.stands p.now.script code U self.old G → Makes (Turn U k G false) (Finished L.stands U self.new)) }
+        ensures made { OnOk result ((code : Block) (U : Given) (k : ℕ) (G : Game) → Releasing L.stands p.now.script code U self.old G → Makes (Turn U k G false) (Finished L.stands U self.new)) }
+        ensures refused { OnErr result (NothingTold self.old self.new) }
     {
         let _ = p;
         match self.ledger.release_root() {

@@ -1,17 +1,18 @@
 // The store call of a task.
-ghost use Rattle.std.specs.Prelude.{◌≡◌, ◌<◌, ◌≤◌, ◌^◌, ℕ, List, Option, Some, None, Result, IfOk, OnOk, false, length, slice_get, slice_set, ◌++◌, [], ◌∷◌};
+ghost use Rattle.std.specs.Prelude.{◌≡◌, ◌<◌, ◌≤◌, ◌^◌, ℕ, List, Option, Some, None, Result, IfOk, OnOk, OnErr, false, length, ◌++◌, [], ◌∷◌};
 ghost use Rattle.rx_rules.specs.Code.{Block, work};
 ghost use Rattle.rx_rules.specs.Terms.{Term, does, begins};
 ghost use Rattle.rx_rules.specs.Run.{Given, Proper};
 ghost use Rattle.rx_rules.specs.Picked.{Game, Player};
 ghost use Rattle.rx_runs.specs.SomeWords.{MakesSome};
-ghost use Rattle.rx_store.specs.Kept.{Kept, ends_closed};
+ghost use Rattle.rx_store.specs.Kept.{ends_closed};
 ghost use Rattle.rx_control.specs.declared.step.CellOp.TheVariants.{Make, Get, Put, Forget};
 ghost use Rattle.rx_control.specs.declared.step.Next.TheVariants.{Cell};
 ghost use Rattle.rx_control.specs.Stands.{StandsFor};
 ghost use Rattle.rx_control.specs.Next.{next_of};
 ghost use Rattle.rx_machine.specs.Holds.{Acting};
 ghost use Rattle.rx_machine.specs.Requests.{OnlyStores, AfterStep};
+ghost use Rattle.rx_machine.specs.Refusals.{HasTold};
 ghost use Rattle.rx_machine.specs.Asked.{Asked, MayAskStore};
 
 use crate::machine::Machine;
@@ -37,6 +38,7 @@ impl<L: FinishLedger> Machine<L> {
         requires game { (code : Block) × (U : Given) × (k : ℕ) × (q : Player) × (G : Game) × Acting L.stands p.now.script code U self.old k i here q seat.old G × Proper U × (work code ≤ 100000) × MakesSome code × (next_of (does q.vars here.0 U.places q.term) ≡ Cell op) }
         ensures same { OnlyStores self.old self.new }
         ensures next { OnOk result ((code : Block) (U : Given) (k : ℕ) (q : Player) (G : Game) → Acting L.stands p.now.script code U self.old k i here q seat.old G → Proper U → work code ≤ 100000 → MakesSome code → next_of (does q.vars here.0 U.places q.term) ≡ Cell op → AfterStep L.stands p.now.script code U self.new k i here q seat.new G None) }
+        ensures refused { OnErr result ((code : Block) (U : Given) (k : ℕ) (q : Player) (G : Game) → Acting L.stands p.now.script code U self.old k i here q seat.old G → Proper U → work code ≤ 100000 → MakesSome code → next_of (does q.vars here.0 U.places q.term) ≡ Cell op → HasTold U k G self.new.stores.items) }
     {
         rx_runs::games_come();
         rx_runs::few_events_are_told();
@@ -50,7 +52,7 @@ impl<L: FinishLedger> Machine<L> {
             stamp: self.history.len() as u32,
             path,
         };
-        let answer = call(&mut self.stores, here, m, op)?;
+        let answer = self.stores.call(here, m, op)?;
         seat.control.cell_done(self.alloc, p, answer)?;
         Ok(())
     }
@@ -67,22 +69,8 @@ fn begin_call(alloc: Global, p: &Program, seat: &mut Seat) -> Result<Path, NoMem
     Ok(path)
 }
 
-// Makes a call of the store of a place, which is open.
-fn call(
-    stores: &mut Vec<Store>,
-    here: PlaceId,
-    m: Mark,
-    op: CellOp,
-) -> Result<Result<Option<Value>, Fault>, NoMemory>
-    requires { (s : Kept) × (slice_get stores.old.items here.0 ≡ Some s) × (ends_closed s.events ≡ false) × MayAskStore s.place op × (length s.events < 2 ^ 31) }
-    ensures { IfOk result (λ answer. (s : Kept) → slice_get stores.old.items here.0 ≡ Some s → (new : Kept) × (stores.new.items ≡ slice_set stores.old.items here.0 new) × Asked s new m op answer) }
-{
-    let store = &mut stores[here.0 as usize];
-    call_store(store, m, op)
-}
-
 // Makes room for the call, and makes it.
-fn call_store(
+pub(crate) fn call_store(
     store: &mut Store,
     m: Mark,
     op: CellOp,
@@ -90,7 +78,8 @@ fn call_store(
     requires open { ends_closed store.old.events ≡ false }
     requires fits { MayAskStore store.old.place op }
     requires events { length store.old.events < 2 ^ 31 }
-    ensures { IfOk result (λ answer. Asked store.old store.new m op answer) }
+    ensures answer { IfOk result (λ answer. Asked store.old store.new m op answer) }
+    ensures refused { OnErr result (store.new ≡ store.old) }
 {
     store.reserve(1)?;
     Ok(ask(store, m, op))

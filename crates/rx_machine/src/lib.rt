@@ -1,10 +1,11 @@
-//! Runs on one thread: the machine that makes the turns of a picked run, over any ledger that keeps its promises. It stands on
-//! rx_tree, rx_control, rx_trace and the laws of rx_sound and rx_runs. The layer above uses `run`, which gives the picked run of
-//! a program under a setup.
+//! Runs on one thread: the machine that makes the turns of a picked run, deaths among them, over any ledger that keeps its
+//! promises. It stands on rx_tree, rx_control, rx_trace, rx_kills, rx_store and the laws of rx_sound and rx_runs. The layer above
+//! uses `run`, which gives the picked run of a program under a setup, or `turn` and `into_parts`.
 #![tactic(auto)]
 
 mod arriving;
 mod calling;
+mod dying;
 mod machine;
 mod moving;
 mod opening;
@@ -15,6 +16,7 @@ mod releasing;
 mod running;
 mod seat;
 mod starting;
+mod stores;
 #[cfg(test)]
 mod tests;
 mod turn;

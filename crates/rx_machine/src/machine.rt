@@ -1,5 +1,5 @@
 // The machine.
-ghost use Rattle.std.specs.Prelude.{◌≡◌, ◌<◌, ◌≤◌, false, [], ◌∷◌, Some, None, length, replicate, slice_set, IfOk};
+ghost use Rattle.std.specs.Prelude.{◌≡◌, ◌<◌, false, [], ◌∷◌, Some, None, length, slice_set, IfOk};
 ghost use Rattle.rx_rules.specs.declared.tasks.Where.TheVariants.{At as Stays};
 ghost use Rattle.rx_rules.specs.Code.{Block};
 ghost use Rattle.rx_rules.specs.Terms.{Empty, no_vars, items};
@@ -10,15 +10,16 @@ ghost use Rattle.rx_rules.specs.Picked.{start_game};
 ghost use Rattle.rx_trace.specs.Setups.{given};
 ghost use Rattle.rx_script.specs.Shape.{Stands};
 ghost use Rattle.rx_control.specs.Stands.{StandsFor};
-ghost use Rattle.rx_machine.specs.Holds.{StoresAre, Holds};
+ghost use Rattle.rx_machine.specs.Holds.{Holds};
 
 use crate::seat::Seat;
+use crate::stores::Stores;
 use rx_base::{Batch, NoMemory, PlaceId, ScopeId, TaskId};
 use rx_check::Program;
 use rx_control::Control;
+use rx_kills::Kills;
 use rx_rules::{Task, Where};
-use rx_store::Store;
-use rx_trace::{History, KillList, Setup};
+use rx_trace::{History, Setup};
 use rx_tree::FinishLedger;
 use std::alloc::Global;
 
@@ -29,11 +30,9 @@ pub struct Machine<L: FinishLedger> {
     pub(crate) history: History,
     /// The seat of each task that no death has struck, by the task's number; none for a task that was struck or has ended.
     pub(crate) seats: Vec<Option<Seat>>,
-    /// The store of each place.
-    pub(crate) stores: Vec<Store>,
-    pub(crate) kills: KillList,
-    /// How many of the kills are done.
-    pub(crate) killed: usize,
+    pub(crate) stores: Stores,
+    /// The kills that are not done.
+    pub(crate) kills: Kills,
     pub(crate) places: u8,
     /// Whether memory was refused, after which nothing goes on.
     pub(crate) failed: bool,
@@ -46,9 +45,9 @@ impl<L: FinishLedger> Machine<L> {
         requires { (code : Block) × Stands p.now.script code × Proper (given setup) × L.stands ledger (opening (given setup).places) }
         ensures { IfOk result (λ m. (code : Block) → Stands p.now.script code → Holds L.stands p.now.script code (given setup) m (start_game code (given setup))) }
     {
-        let kills = setup.kills.copy(alloc)?;
+        let kills = Kills::open(alloc, &setup.kills)?;
         let places = setup.places;
-        let stores = open_stores(alloc, places, setup.heap)?;
+        let stores = Stores::open(alloc, places, setup.heap)?;
         let seats = root_alone(alloc, root_seat(alloc, p)?)?;
         Ok(Machine {
             ledger,
@@ -56,25 +55,11 @@ impl<L: FinishLedger> Machine<L> {
             seats,
             stores,
             kills,
-            killed: 0,
             places,
             failed: false,
             alloc,
         })
     }
-}
-
-/// An open store for each place, in the order of the places.
-fn open_stores(alloc: Global, places: u8, words: u32) -> Result<Vec<Store>, NoMemory>
-    requires some { 0 < words }
-    requires most { words ≤ 4096 }
-    ensures { IfOk result (λ stores. StoresAre words 0 stores.items (replicate places [])) }
-{
-    let mut stores = Vec::new(alloc);
-    for place in 0..places {
-        stores.push(Store::open(alloc, PlaceId(place), words)?)?;
-    }
-    Ok(stores)
 }
 
 /// The seat of the main activity, which is at place 0 under the root.

@@ -1,9 +1,10 @@
 // The turn that begins a finish.
-ghost use Rattle.std.specs.Prelude.{◌≡◌, ◌<◌, ℕ, List, Some, OnOk, true};
+ghost use Rattle.std.specs.Prelude.{◌≡◌, ◌<◌, ℕ, OnOk, OnErr, true};
 ghost use Rattle.rx_rules.specs.Code.{Block};
 ghost use Rattle.rx_rules.specs.Terms.{does, Opens};
 ghost use Rattle.rx_rules.specs.Run.{Given};
 ghost use Rattle.rx_rules.specs.Picked.{Game, Player, Turn};
+ghost use Rattle.rx_machine.specs.Refusals.{NothingTold};
 ghost use Rattle.rx_machine.specs.Holds.{Holds, Acting, Makes};
 
 use crate::machine::{Machine, put_back};
@@ -25,7 +26,8 @@ impl<L: FinishLedger> Machine<L> {
     ) -> Result<(), NoMemory>
         requires room { 0 < self.old.history.spare }
         requires game { (code : Block) × (U : Given) × (k : ℕ) × (q : Player) × (G : Game) × Acting L.stands p.now.script code U self.old k i here q seat G × (does q.vars here.0 U.places q.term ≡ Opens) }
-        ensures { OnOk result ((code : Block) (U : Given) (k : ℕ) (q : Player) (G : Game) → Acting L.stands p.now.script code U self.old k i here q seat G → does q.vars here.0 U.places q.term ≡ Opens → Makes (Turn U k G true) (Holds L.stands p.now.script code U self.new)) }
+        ensures made { OnOk result ((code : Block) (U : Given) (k : ℕ) (q : Player) (G : Game) → Acting L.stands p.now.script code U self.old k i here q seat G → does q.vars here.0 U.places q.term ≡ Opens → Makes (Turn U k G true) (Holds L.stands p.now.script code U self.new)) }
+        ensures refused { OnErr result (NothingTold self.old self.new) }
     {
         let _ = here;
         let path = path_of(self.alloc, p, &seat.control)?;

@@ -1,20 +1,20 @@
 // The picked run: every turn, and what is left at the end.
-ghost use Rattle.std.specs.Prelude.{◌≡◌, map, IfOk};
+ghost use Rattle.std.specs.Prelude.{◌≡◌, ℕ, map, IfOk};
 ghost use Rattle.rx_rules.specs.Code.{Block};
 ghost use Rattle.rx_rules.specs.Run.{Given};
-ghost use Rattle.rx_rules.specs.Picked.{start_game};
+ghost use Rattle.rx_rules.specs.Picked.{Game, start_game};
 ghost use Rattle.rx_trace.specs.Events.{events_of};
-ghost use Rattle.rx_machine.specs.Holds.{Holds};
-ghost use Rattle.rx_machine.specs.Runs.{RunsOn, HasRun};
+ghost use Rattle.rx_machine.specs.Holds.{Holds, Finished};
+ghost use Rattle.rx_machine.specs.Refusals.{HasBegun};
+ghost use Rattle.rx_machine.specs.Runs.{RunsOn, HasRun, Gives};
+ghost use Rattle.rx_script.specs.Shape.{Shape};
 
 use crate::machine::Machine;
 use crate::picks::Picks;
 use rx_base::NoMemory;
 use rx_check::Program;
-use rx_store::Store;
 use rx_trace::{History, Journals};
 use rx_tree::FinishLedger;
-use std::alloc::Global;
 
 // More turns than a run can make of a script whose work is at most 100,000.
 const LIMIT: u32 = 400_041;
@@ -32,37 +32,28 @@ impl<L: FinishLedger> Machine<L> {
         rx_runs::turns_are_bounded();
         for _made in 0..LIMIT {
             if !self.make_turn(p, picks)? {
-                return self.finish();
+                return Ok(self.into_parts());
             }
         }
         unreachable!()
     }
 
-    // What is left of the run.
-    fn finish(self) -> Result<(History, Journals, L), NoMemory>
-        ensures { IfOk result (λ r. (r.0 ≡ self.history) × (events_of r.1 ≡ map (λ s. s.events) self.stores.items) × (r.2 ≡ self.ledger)) }
+    /// The history and the journals of the turns so far, and the ledger, which stands for the tree to which the history folds
+    /// where no turn was refused. It may be called between turns, after the end of the run and after a refusal. It takes no memory.
+    pub fn into_parts(self) -> (History, Journals, L)
+        ensures history { result.0 ≡ self.history }
+        ensures journals { events_of result.1 ≡ map (λ s. s.events) self.stores.items }
+        ensures ledger { result.2 ≡ self.ledger }
+        ensures holds { (shape : Shape) (code : Block) (U : Given) (G : Game) → Holds L.stands shape code U self G → Gives L.stands U G result }
+        ensures finished { (U : Given) (G : Game) → Finished L.stands U self G → Gives L.stands U G result }
+        ensures refused { (U : Given) (k : ℕ) (G : Game) → HasBegun U k G self.history.entries (map (λ s. s.events) self.stores.items) → HasBegun U k G result.0.entries (events_of result.1) }
     {
         let Machine {
             ledger,
             history,
             stores,
-            alloc,
             ..
         } = self;
-        let journals = journals_of(alloc, stores)?;
-        Ok((history, journals, ledger))
+        (history, stores.into_journals(), ledger)
     }
-}
-
-// The journals of the stores, in their order.
-fn journals_of(alloc: Global, stores: Vec<Store>) -> Result<Journals, NoMemory>
-    ensures { IfOk result (λ js. events_of js ≡ map (λ s. s.events) stores.items) }
-{
-    let mut journals = Journals::open(alloc);
-    let mut left = stores;
-    left.reverse();
-    while let Some(store) = left.pop() {
-        journals.push(store.into_journal())?;
-    }
-    Ok(journals)
 }

@@ -1,11 +1,12 @@
 // The turn that releases a scope.
-ghost use Rattle.std.specs.Prelude.{◌≡◌, ◌<◌, ℕ, List, [], ◌∷◌, ◌++◌, Some, OnOk, IfOk, true};
+ghost use Rattle.std.specs.Prelude.{◌≡◌, ◌<◌, ℕ, List, [], ◌∷◌, ◌++◌, OnOk, OnErr, IfOk, true};
 ghost use Rattle.rx_base.specs.declared.ids.ScopeId.{ScopeId};
 ghost use Rattle.rx_rules.specs.Code.{Block};
 ghost use Rattle.rx_rules.specs.Terms.{does, Releases};
 ghost use Rattle.rx_rules.specs.Plays.{raised_by};
 ghost use Rattle.rx_rules.specs.Run.{Given};
 ghost use Rattle.rx_rules.specs.Picked.{Game, Player, Turn};
+ghost use Rattle.rx_machine.specs.Refusals.{NothingTold};
 ghost use Rattle.rx_machine.specs.Holds.{Holds, Acting, Makes};
 
 use crate::machine::{Machine, put_back};
@@ -28,7 +29,8 @@ impl<L: FinishLedger> Machine<L> {
     ) -> Result<(), NoMemory>
         requires room { 0 < self.old.history.spare }
         requires game { (code : Block) × (U : Given) × (k : ℕ) × (q : Player) × (G : Game) × Acting L.stands p.now.script code U self.old k i here q seat G × (does q.vars here.0 U.places q.term ≡ Releases) }
-        ensures { OnOk result ((code : Block) (U : Given) (k : ℕ) (q : Player) (G : Game) → Acting L.stands p.now.script code U self.old k i here q seat G → does q.vars here.0 U.places q.term ≡ Releases → Makes (Turn U k G true) (Holds L.stands p.now.script code U self.new)) }
+        ensures made { OnOk result ((code : Block) (U : Given) (k : ℕ) (q : Player) (G : Game) → Acting L.stands p.now.script code U self.old k i here q seat G → does q.vars here.0 U.places q.term ≡ Releases → Makes (Turn U k G true) (Holds L.stands p.now.script code U self.new)) }
+        ensures refused { OnErr result (NothingTold self.old self.new) }
     {
         let _ = here;
         rx_sound::reached_is_sound();

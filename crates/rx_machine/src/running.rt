@@ -1,5 +1,5 @@
 // The local steps and store calls of a task up to its next entry.
-ghost use Rattle.std.specs.Prelude.{◌≡◌, ◌≤◌, ℕ, List, Some, None, IfOk, OnOk};
+ghost use Rattle.std.specs.Prelude.{◌≡◌, ◌≤◌, ℕ, Some, None, IfOk, OnOk, OnErr};
 ghost use Rattle.rx_rules.specs.Code.{Block, work};
 ghost use Rattle.rx_rules.specs.Terms.{Term, does};
 ghost use Rattle.rx_rules.specs.Plays.{begun};
@@ -8,6 +8,7 @@ ghost use Rattle.rx_rules.specs.Picked.{Game, Player};
 ghost use Rattle.rx_runs.specs.SomeWords.{MakesSome};
 ghost use Rattle.rx_control.specs.Stands.{StandsFor, Leaves};
 ghost use Rattle.rx_machine.specs.Holds.{Acting};
+ghost use Rattle.rx_machine.specs.Refusals.{HasTold};
 ghost use Rattle.rx_machine.specs.Requests.{IsRequest, OnlyStores, AfterStep};
 
 use crate::machine::Machine;
@@ -33,6 +34,7 @@ impl<L: FinishLedger> Machine<L> {
         requires game { (code : Block) × (U : Given) × (k : ℕ) × (q : Player) × (G : Game) × Acting L.stands p.now.script code U self.old k i here q seat.old G × Proper U × (work code ≤ 100000) × MakesSome code }
         ensures same { OnlyStores self.old self.new }
         ensures next { IfOk result (λ next. (code : Block) (U : Given) (k : ℕ) (q : Player) (G : Game) → Acting L.stands p.now.script code U self.old k i here q seat.old G → Proper U → work code ≤ 100000 → MakesSome code → (r : Player) × Acting L.stands p.now.script code U self.new k i here r seat.new G × IsRequest next (does r.vars here.0 U.places r.term)) }
+        ensures refused { OnErr result ((code : Block) (U : Given) (k : ℕ) (q : Player) (G : Game) → Acting L.stands p.now.script code U self.old k i here q seat.old G → Proper U → work code ≤ 100000 → MakesSome code → HasTold U k G self.new.stores.items) }
     {
         rx_runs::few_steps_are_left();
         rx_runs::going_sinks();
@@ -56,6 +58,7 @@ impl<L: FinishLedger> Machine<L> {
         requires game { (code : Block) × (U : Given) × (k : ℕ) × (q : Player) × (G : Game) × Acting L.stands p.now.script code U self.old k i here q seat.old G × Proper U × (work code ≤ 100000) × MakesSome code }
         ensures same { OnlyStores self.old self.new }
         ensures next { IfOk result (λ next. (code : Block) (U : Given) (k : ℕ) (q : Player) (G : Game) → Acting L.stands p.now.script code U self.old k i here q seat.old G → Proper U → work code ≤ 100000 → MakesSome code → AfterStep L.stands p.now.script code U self.new k i here q seat.new G next) }
+        ensures refused { OnErr result ((code : Block) (U : Given) (k : ℕ) (q : Player) (G : Game) → Acting L.stands p.now.script code U self.old k i here q seat.old G → Proper U → work code ≤ 100000 → MakesSome code → HasTold U k G self.new.stores.items) }
     {
         rx_runs::terms_sink();
         match seat.control.next(p, here, self.places) {

@@ -1,11 +1,12 @@
 // The turns that start a task.
-ghost use Rattle.std.specs.Prelude.{◌≡◌, ◌<◌, ℕ, List, [], Some, None, is_none, IfSome, OnOk, true};
+ghost use Rattle.std.specs.Prelude.{◌≡◌, ◌<◌, ℕ, [], Some, None, is_none, IfSome, OnOk, OnErr, true};
 ghost use Rattle.rx_rules.specs.Code.{Block};
 ghost use Rattle.rx_rules.specs.Terms.{does, Spawns, Calls};
 ghost use Rattle.rx_rules.specs.Tree.{Tree, death_of};
 ghost use Rattle.rx_rules.specs.Entries.{born};
 ghost use Rattle.rx_rules.specs.Run.{Given};
 ghost use Rattle.rx_rules.specs.Picked.{Game, Player, Turn};
+ghost use Rattle.rx_machine.specs.Refusals.{NothingTold};
 ghost use Rattle.rx_machine.specs.Holds.{Holds, Acting, Makes};
 
 use crate::machine::{Machine, put_back};
@@ -30,7 +31,8 @@ impl<L: FinishLedger> Machine<L> {
     ) -> Result<(), NoMemory>
         requires room { 0 < self.old.history.spare }
         requires game { (code : Block) × (U : Given) × (k : ℕ) × (q : Player) × (G : Game) × Acting L.stands p.now.script code U self.old k i here q seat G × (does q.vars here.0 U.places q.term ≡ Spawns to.0) }
-        ensures { OnOk result ((code : Block) (U : Given) (k : ℕ) (q : Player) (G : Game) → Acting L.stands p.now.script code U self.old k i here q seat G → does q.vars here.0 U.places q.term ≡ Spawns to.0 → Makes (Turn U k G true) (Holds L.stands p.now.script code U self.new)) }
+        ensures made { OnOk result ((code : Block) (U : Given) (k : ℕ) (q : Player) (G : Game) → Acting L.stands p.now.script code U self.old k i here q seat G → does q.vars here.0 U.places q.term ≡ Spawns to.0 → Makes (Turn U k G true) (Holds L.stands p.now.script code U self.new)) }
+        ensures refused { OnErr result (NothingTold self.old self.new) }
     {
         rx_sound::reached_is_sound();
         let path = path_of(self.alloc, p, &seat.control)?;
@@ -80,7 +82,8 @@ impl<L: FinishLedger> Machine<L> {
     ) -> Result<(), NoMemory>
         requires room { 0 < self.old.history.spare }
         requires game { (code : Block) × (U : Given) × (k : ℕ) × (q : Player) × (G : Game) × Acting L.stands p.now.script code U self.old k i here q seat G × (does q.vars here.0 U.places q.term ≡ Calls to.0) }
-        ensures { OnOk result ((code : Block) (U : Given) (k : ℕ) (q : Player) (G : Game) → Acting L.stands p.now.script code U self.old k i here q seat G → does q.vars here.0 U.places q.term ≡ Calls to.0 → Makes (Turn U k G true) (Holds L.stands p.now.script code U self.new)) }
+        ensures made { OnOk result ((code : Block) (U : Given) (k : ℕ) (q : Player) (G : Game) → Acting L.stands p.now.script code U self.old k i here q seat G → does q.vars here.0 U.places q.term ≡ Calls to.0 → Makes (Turn U k G true) (Holds L.stands p.now.script code U self.new)) }
+        ensures refused { OnErr result (NothingTold self.old self.new) }
     {
         rx_sound::reached_is_sound();
         let path = path_of(self.alloc, p, &seat.control)?;

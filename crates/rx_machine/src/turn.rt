@@ -1,10 +1,11 @@
-// A turn: the pick's task moves, or the root is released.
-ghost use Rattle.std.specs.Prelude.{◌≡◌, ◌<◌, ◌%◌, ℕ, suc, length, slice_get, Some, Ok, OnOk, OnErr, true, false};
+// A turn: the place whose kill is due dies, or else the pick's task moves, or the root is released.
+ghost use Rattle.std.specs.Prelude.{◌≡◌, ◌<◌, ◌%◌, ℕ, suc, Bool, length, map, slice_get, Some, Ok, OnOk, OnErr, true, false};
 ghost use Rattle.rx_rules.specs.Code.{Block};
 ghost use Rattle.rx_rules.specs.Run.{Given, NoRoot};
-ghost use Rattle.rx_rules.specs.Picked.{Game, Turn as MadeTurn};
+ghost use Rattle.rx_rules.specs.Picked.{Game, Turn as MadeTurn, used_after};
 ghost use Rattle.rx_machine.specs.Holds.{Holds, Finished, Makes};
-ghost use Rattle.rx_machine.specs.Runs.{RunsOn, AfterTurn};
+ghost use Rattle.rx_machine.specs.Refusals.{HasBegun};
+ghost use Rattle.rx_machine.specs.Runs.{RunsOn, Calm, AfterTurn, WentOn};
 
 use crate::machine::Machine;
 use crate::picks::Picks;
@@ -12,10 +13,10 @@ use rx_base::NoMemory;
 use rx_check::Program;
 use rx_tree::FinishLedger;
 
-/// Whether a turn moved a task or ended the run.
+/// Whether a turn went on with the run or ended it.
 #[derive(Clone, Copy, Debug, PartialEq, Eq)]
 pub enum Turn {
-    /// An enabled task has moved.
+    /// An enabled task has moved, or a place has died.
     Moved,
     /// No task is enabled, and the root was released.
     Ended,
@@ -23,13 +24,18 @@ pub enum Turn {
 
 impl<L: FinishLedger> Machine<L> {
     /// Makes the next turn of the picked run, with the program that the machine was opened with; the run has not ended. `Ended`
-    /// comes exactly with the release of the root. After `NoMemory` the machine has failed, and every later turn answers `NoMemory`.
+    /// comes exactly with the release of the root. After `NoMemory` the machine has failed, and every later turn answers `NoMemory`
+    /// and changes nothing; the history and the journals begin with those of the turns before, and begin those that the refused
+    /// turn leads to.
     pub fn turn<P: Picks>(&mut self, p: &Program, picks: &mut P) -> Result<Turn, NoMemory>
         requires game { self.old.failed ≡ false → (code : Block) × (U : Given) × (G : Game) × Holds L.stands p.now.script code U self.old G × RunsOn code U × NoRoot G.entries }
-        ensures moved { result ≡ Ok Turn.Moved → ((code : Block) (U : Given) (G : Game) → Holds L.stands p.now.script code U self.old G → RunsOn code U → NoRoot G.entries → AfterTurn L.stands p.now.script code U self.new (P.number picks.old 0) G) × ((j : ℕ) → P.number picks.new j ≡ P.number picks.old (suc j)) }
+        ensures moved { result ≡ Ok Turn.Moved → (used : Bool) × ((code : Block) (U : Given) (G : Game) → Holds L.stands p.now.script code U self.old G → RunsOn code U → NoRoot G.entries → WentOn L.stands p.now.script code U self.new (P.number picks.old 0) used G) × ((j : ℕ) → P.number picks.new j ≡ P.number picks.old (used_after used j)) }
         ensures ended { result ≡ Ok Turn.Ended → (code : Block) (U : Given) (G : Game) → Holds L.stands p.now.script code U self.old G → RunsOn code U → NoRoot G.entries → Makes (MadeTurn U (P.number picks.old 0) G false) (Finished L.stands U self.new) }
         ensures failed { OnOk result (self.old.failed ≡ false) }
         ensures fails { OnErr result (self.new.failed ≡ true) }
+        ensures refused { OnErr result ((code : Block) (U : Given) (G : Game) → Holds L.stands p.now.script code U self.old G → RunsOn code U → NoRoot G.entries → HasBegun U (P.number picks.old 0) G self.new.history.entries (map (λ s. s.events) self.new.stores.items)) }
+        ensures setup { OnErr result (self.new.history.setup ≡ self.old.history.setup) }
+        ensures stays { self.old.failed ≡ true → self.new ≡ self.old }
     {
         if self.failed {
             return Err(NoMemory);
@@ -44,22 +50,46 @@ impl<L: FinishLedger> Machine<L> {
         }
     }
 
-    /// Makes one turn: true where an enabled task has moved, false where none is enabled and the root is released.
+    /// Makes one turn: true where an enabled task has moved or a place has died, false where the root is released.
     pub(crate) fn make_turn<P: Picks>(
         &mut self,
         p: &Program,
         picks: &mut P,
     ) -> Result<bool, NoMemory>
         requires game { (code : Block) × (U : Given) × (G : Game) × Holds L.stands p.now.script code U self.old G × RunsOn code U × NoRoot G.entries }
-        ensures moved { result ≡ Ok true → ((code : Block) (U : Given) (G : Game) → Holds L.stands p.now.script code U self.old G → RunsOn code U → NoRoot G.entries → AfterTurn L.stands p.now.script code U self.new (P.number picks.old 0) G) × ((j : ℕ) → P.number picks.new j ≡ P.number picks.old (suc j)) }
+        ensures moved { result ≡ Ok true → (used : Bool) × ((code : Block) (U : Given) (G : Game) → Holds L.stands p.now.script code U self.old G → RunsOn code U → NoRoot G.entries → WentOn L.stands p.now.script code U self.new (P.number picks.old 0) used G) × ((j : ℕ) → P.number picks.new j ≡ P.number picks.old (used_after used j)) }
         ensures ended { result ≡ Ok false → (code : Block) (U : Given) (G : Game) → Holds L.stands p.now.script code U self.old G → RunsOn code U → NoRoot G.entries → Makes (MadeTurn U (P.number picks.old 0) G false) (Finished L.stands U self.new) }
+        ensures refused { OnErr result ((code : Block) (U : Given) (G : Game) → Holds L.stands p.now.script code U self.old G → RunsOn code U → NoRoot G.entries → HasBegun U (P.number picks.old 0) G self.new.history.entries (map (λ s. s.events) self.new.stores.items)) }
+        ensures setup { OnErr result (self.new.history.setup ≡ self.old.history.setup) }
     {
         rx_runs::games_come();
+        rx_runs::games_go_on();
         rx_sound::fold_is_reached();
+        self.history.reserve(1)?;
+        match self.kills.due(self.history.len() as u32) {
+            Some(place) => {
+                self.die(p, place);
+                Ok(true)
+            }
+            None => self.take_pick(p, picks),
+        }
+    }
+
+    // Makes the turn of a pick, no kill being due: true where an enabled task has moved, false where none is enabled and the root is
+    // released.
+    fn take_pick<P: Picks>(&mut self, p: &Program, picks: &mut P) -> Result<bool, NoMemory>
+        requires room { 0 < self.old.history.spare }
+        requires game { (code : Block) × (U : Given) × (G : Game) × Calm L.stands p.now.script code U self.old G }
+        ensures moved { result ≡ Ok true → ((code : Block) (U : Given) (G : Game) → Calm L.stands p.now.script code U self.old G → AfterTurn L.stands p.now.script code U self.new (P.number picks.old 0) G) × ((j : ℕ) → P.number picks.new j ≡ P.number picks.old (suc j)) }
+        ensures ended { result ≡ Ok false → (code : Block) (U : Given) (G : Game) → Calm L.stands p.now.script code U self.old G → Makes (MadeTurn U (P.number picks.old 0) G false) (Finished L.stands U self.new) }
+        ensures refused { OnErr result ((code : Block) (U : Given) (G : Game) → Calm L.stands p.now.script code U self.old G → HasBegun U (P.number picks.old 0) G self.new.history.entries (map (λ s. s.events) self.new.stores.items)) }
+        ensures setup { OnErr result (self.new.history.setup ≡ self.old.history.setup) }
+    {
+        rx_runs::games_come();
+        rx_runs::games_go_on();
         rx_sound::reached_is_sound();
         rx_sound::none_enabled_is_quiet();
         rx_sound::root_stands_until_released();
-        self.history.reserve(1)?;
         let numbers = self.able_numbers(p)?;
         if numbers.is_empty() {
             self.release_root(p)?;

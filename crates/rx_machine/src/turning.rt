@@ -1,5 +1,5 @@
 // Turns: which task moves, and what it does.
-ghost use Rattle.std.specs.Prelude.{◌≡◌, ◌<◌, ◌+◌, ◌^◌, ℕ, suc, List, [], ◌∷◌, ◌++◌, cond, drop, length, Some, IfOk, OnOk, IfSome, MatchOption, option_map, None, slice_get, slice_set};
+ghost use Rattle.std.specs.Prelude.{◌≡◌, ◌<◌, ◌+◌, ◌^◌, ℕ, [], ◌∷◌, ◌++◌, cond, length, Some, IfOk, OnOk, None, slice_set};
 ghost use Rattle.rx_rules.specs.Code.{Block};
 ghost use Rattle.rx_rules.specs.Run.{Given, NoRoot};
 ghost use Rattle.rx_rules.specs.Picked.{Game, enabled, tree_in};

@@ -64,4 +64,4 @@ returns g c = λ code U k G a.
     ∙ (ap (λ (u : TaskId). c.args.self.now.history.entries ++ Step u (Arrive c.args.to) c.open.result ∷ []) t
     ∙ ap (λ (v : List (List ℕ)). c.args.self.now.history.entries ++ Step c.args.seat.row.number (Arrive c.args.to) v ∷ []) c.open.ensures) in
     landed g.L.FinishLedger.stands c.args.p.now.script code U c.args.self.now _ k c.args.i c.args.to c.args.seat _ G a allowed refl refl refl refl
-    (record { places = refl; setup = ap (λ l. l.setup) c.add.ensures; entries = entries; kills = refl; killed = refl; failed = refl; stores = refl; ledger = made }) c.put_back.ensures
+    (record { places = refl; setup = ap (λ l. l.setup) c.add.ensures; entries = entries; kills = refl; failed = refl; stores = refl; ledger = made }) c.put_back.ensures

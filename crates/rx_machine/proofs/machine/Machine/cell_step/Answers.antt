@@ -7,6 +7,8 @@ use Rattle.rx_control.specs.declared.control.Control.{Control}
 use Rattle.rx_control.specs.Stands.{StandsFor}
 use Rattle.rx_machine.specs.Asked.{MayAskStore}
 use Rattle.rx_machine.proofs.Called.{call_is, store_is, events_few, called}
+use Rattle.rx_machine.proofs.Halting.{called-told}
+use Rattle.rx_machine.proofs.Requested.{any_err}
 use Rattle.rx_machine.proofs.machine.Machine.cell_step.Goals as goal
 
 pub begin_call-requires : goal.begin_call-requires
@@ -36,9 +38,18 @@ returns-clause-next g c = λ code U k q G a proper few some e.
     let s = store_is g.L.FinishLedger.stands c.args.p.now.script code U c.args.self.now k c.args.i c.args.here q c.args.seat.now G a c.games_come.ensures proper in
     let b = c.in_ok-path.ensures q.term is.begins.0 a.gone.seat_is.term is.begins.1 in
     let control : c.begin_call.new.seat.control ≡ c.args.seat.now.control = ap (λ s. s.control) b.1 in
-    let asked = c.in_ok-answer.ensures s.0 s.1.found in
+    let asked = c.in_ok-answer.ensures.answer s.0 s.1.found in
     let done = c.in_ok-cell_done.ensures.ok q.term is.begins.0 (subst (λ (v : Control). StandsFor c.args.p.now.script v q.term) (sym control) a.gone.seat_is.term) is.begins.1 in
     called g.L.FinishLedger.stands c.args.p.now.script code U c.args.self.now _ k c.args.i c.args.here q c.args.seat.now _ G c.args.op c.in_ok-answer.answer is.begins.0 s.0 asked.0 _ a is is.begins.1 e s.1
-    (record { history = refl; ledger = refl; seats = refl; kills = refl; killed = refl; places = refl; failed = refl })
+    (record { history = refl; ledger = refl; seats = refl; kills = refl; places = refl; failed = refl })
     asked.1 (ap (λ s. s.row.number) b.1) (c.len.ensures ∙ ap (λ es. length es) a.but.shares.entries) b.0 asked.2 done.0
     (done.1 ∙ ap (λ (v : Control). vars_after (answer_of (receives q.term) c.in_ok-answer.answer) v.vars) control) (ap (λ s. s.batch) b.1) (ap (λ s. s.row) b.1) (ap (λ s. s.scopes) b.1)
+
+pub returns-in_err-cell_done-clause-refused : goal.returns-in_err-cell_done-clause-refused
+returns-in_err-cell_done-clause-refused g c = any_err c.from_residual-in_err-cell_done.result (λ code U k q G a proper few some e.
+    let is = call_is g.L.FinishLedger.stands c.args.p.now.script code U c.args.self.now k c.args.i c.args.here q c.args.seat.now G a c.args.op c.terms_sink.ensures c.terms_make_some.ensures c.going_makes_some.ensures some e in
+    let s = store_is g.L.FinishLedger.stands c.args.p.now.script code U c.args.self.now k c.args.i c.args.here q c.args.seat.now G a c.games_come.ensures proper in
+    let b = c.in_ok-path.ensures q.term is.begins.0 a.gone.seat_is.term is.begins.1 in
+    let asked = c.in_ok-answer.ensures.answer s.0 s.1.found in
+    called-told g.L.FinishLedger.stands c.args.p.now.script code U c.args.self.now k c.args.i c.args.here q c.args.seat.now G c.args.op c.in_ok-answer.answer is.begins.0 s.0 asked.0 _ c.call.new.self.items a is is.begins.1 e s.1
+    asked.1 (ap (λ s. s.row.number) b.1) (c.len.ensures ∙ ap (λ es. length es) a.but.shares.entries) b.0 asked.2)

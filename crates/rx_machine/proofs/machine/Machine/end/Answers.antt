@@ -30,8 +30,8 @@ no_memory-requires g c =
     let free = subst (λ (w : Caller). blow_of T w.task ≡ None) (sym c.caller-who.ensures) (seat_unstruck c.args.p.now.script T c.args.i game.3 c.args.seat a.gone.seat_is) in
     end-refused T c.caller-who.result c.take_faults-faults.result (c.in-Err.fault, c.in-Err.field-0-1) (g.L.FinishLedger.stands c.end.new.self) free (c.in-Err.ensures T a.but.shares.ledger may)
 
-pub returns : goal.returns
-returns g c = λ code U k q G a asks.
+pub returns-clause-made : goal.returns-clause-made
+returns-clause-made g c = λ code U k q G a asks.
     let T = tree_in U G in
     let s = a.gone.seat_is in
     let fs = asks.0 in
@@ -52,4 +52,4 @@ returns g c = λ code U k q G a asks.
     ∙ (ap (λ (t : TaskId). c.args.self.now.history.entries ++ Step t (End fs) c.replace-batch.result ∷ []) who
     ∙ ap (λ (v : List (List ℕ)). c.args.self.now.history.entries ++ Step c.args.seat.row.number (End fs) v ∷ []) c.replace-batch.ensures.value)) in
     ended g.L.FinishLedger.stands shape code U c.args.self.now _ k c.args.i here q c.args.seat G fs a asks.1 allowed
-    (record { places = refl; setup = ap (λ l. l.setup) c.add.ensures; entries = entries; kills = refl; killed = refl; failed = refl; stores = refl; ledger = ledger }) refl
+    (record { places = refl; setup = ap (λ l. l.setup) c.add.ensures; entries = entries; kills = refl; failed = refl; stores = refl; ledger = ledger }) refl

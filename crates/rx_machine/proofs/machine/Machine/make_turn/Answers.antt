@@ -1,42 +1,52 @@
-use Rattle.std.proofs.Common.{arith, ◌≡◌, ◌%◌, ℕ, List, length, slice_get, vec_len, ap, ◌∙◌, sym}
-use Rattle.std.proofs.lemmas.Bool.{eqb-true}
-use Rattle.rx_machine.proofs.Turned.{roomy-turn, releasing, taken}
+use Rattle.std.proofs.Common.{refl, true, false}
+use Rattle.rx_machine.proofs.Turned.{roomy-turn, dying, calm}
+use Rattle.rx_machine.proofs.Whole.{goes-on}
+use Rattle.rx_machine.proofs.Halting.{refused-same}
+use Rattle.rx_machine.proofs.Requested.{on_err, any_err}
 use Rattle.rx_machine.proofs.machine.Machine.make_turn.Goals as goal
 
-pub able_numbers-requires : goal.able_numbers-requires
-able_numbers-requires g c =
-    let game = c.requires.game in
-    record { game = (game.0, game.1, game.2, roomy-turn g.L.FinishLedger.stands c.args.p.now.script game.0 game.1 c.args.self.now c.reserve.new.self game.2 c.games_come.ensures c.fold_is_reached.ensures c.reserve.ensures.same game.3 game.4 game.5) }
+pub die-requires-clause-game : goal.die-requires-clause-game
+die-requires-clause-game g c =
+    let w = c.requires.game in
+    let can = roomy-turn g.L.FinishLedger.stands c.args.p.now.script w.0 w.1 c.args.self.now c.reserve.new.self w.2 c.games_come.ensures c.fold_is_reached.ensures c.reserve.ensures.same w.3 w.4 w.5 in
+    (w.0, w.1, w.2, dying g.L.FinishLedger.stands c.args.p.now.script w.0 w.1 _ c.in-Some.place w.2 c.len.result can w.4 c.len.ensures c.in-Some.ensures.due)
 
-pub release_root-requires-clause-game : goal.release_root-requires-clause-game
-release_root-requires-clause-game g c =
-    let game = c.requires.game in
-    let can = roomy-turn g.L.FinishLedger.stands c.args.p.now.script game.0 game.1 c.args.self.now c.reserve.new.self game.2 c.games_come.ensures c.fold_is_reached.ensures c.reserve.ensures.same game.3 game.4 game.5 in
-    let none : length c.in_ok-numbers.numbers.items ≡ 0 = omega (arith, c.in_ok-numbers.numbers.ok.0, eqb-true (vec_len c.in_ok-numbers.numbers) 0 (sym c.is_empty.ensures ∙ c.if-is_empty.true)) in
-    (game.0, game.1, game.2, releasing g.L.FinishLedger.stands c.args.p.now.script game.0 game.1 _ game.2 c.in_ok-numbers.numbers.items c.games_come.ensures c.reached_is_sound.ensures c.none_enabled_is_quiet.ensures c.root_stands_until_released.ensures can game.4 (c.in_ok-numbers.ensures game.0 game.1 game.2 can) none)
+pub take_pick-requires-clause-game : goal.take_pick-requires-clause-game
+take_pick-requires-clause-game g c =
+    let w = c.requires.game in
+    let can = roomy-turn g.L.FinishLedger.stands c.args.p.now.script w.0 w.1 c.args.self.now c.reserve.new.self w.2 c.games_come.ensures c.fold_is_reached.ensures c.reserve.ensures.same w.3 w.4 w.5 in
+    (w.0, w.1, w.2, calm g.L.FinishLedger.stands c.args.p.now.script w.0 w.1 _ w.2 c.len.result can w.4 c.len.ensures c.in-None.ensures.none)
 
-pub move_task-requires-clause-game : goal.move_task-requires-clause-game
-move_task-requires-clause-game g c =
-    let game = c.requires.game in
-    let can = roomy-turn g.L.FinishLedger.stands c.args.p.now.script game.0 game.1 c.args.self.now c.reserve.new.self game.2 c.games_come.ensures c.fold_is_reached.ensures c.reserve.ensures.same game.3 game.4 game.5 in
-    let k = g.P.Picks.number c.args.picks.now 0 in
-    let at = sym (ap (λ (v : List ℕ). slice_get v (k % length v)) c.deref.ensures.value) ∙ c.chosen-i.ensures.taken in
-    (game.0, game.1, k, game.2, taken g.L.FinishLedger.stands c.args.p.now.script game.0 game.1 _ game.2 c.in_ok-numbers.numbers.items k c.chosen-i.result c.games_come.ensures c.reached_is_sound.ensures can game.4 (c.in_ok-numbers.ensures game.0 game.1 game.2 can) at)
+pub returns-in-Some-clause-moved : goal.returns-in-Some-clause-moved
+returns-in-Some-clause-moved g c = λ e. (
+  false,
+  λ code U G h on unreleased.
+      let can = roomy-turn g.L.FinishLedger.stands c.args.p.now.script code U c.args.self.now c.reserve.new.self G c.games_come.ensures c.fold_is_reached.ensures c.reserve.ensures.same h on unreleased in
+      c.die.ensures code U (g.P.Picks.number c.args.picks.now 0) G (dying g.L.FinishLedger.stands c.args.p.now.script code U _ c.in-Some.place G c.len.result can on c.len.ensures c.in-Some.ensures.due),
+  λ j. refl,
+)
 
-pub returns-then-is_empty-clause-ended : goal.returns-then-is_empty-clause-ended
-returns-then-is_empty-clause-ended g c = λ e code U G h on unreleased.
-    let can = roomy-turn g.L.FinishLedger.stands c.args.p.now.script code U c.args.self.now c.reserve.new.self G c.games_come.ensures c.fold_is_reached.ensures c.reserve.ensures.same h on unreleased in
-    let none : length c.in_ok-numbers.numbers.items ≡ 0 = omega (arith, c.in_ok-numbers.numbers.ok.0, eqb-true (vec_len c.in_ok-numbers.numbers) 0 (sym c.is_empty.ensures ∙ c.if-is_empty.true)) in
-    c.in_ok-release_root.ensures code U (g.P.Picks.number c.args.picks.now 0) G
-    (releasing g.L.FinishLedger.stands c.args.p.now.script code U _ G c.in_ok-numbers.numbers.items c.games_come.ensures c.reached_is_sound.ensures c.none_enabled_is_quiet.ensures c.root_stands_until_released.ensures can on (c.in_ok-numbers.ensures code U G can) none)
-
-pub returns-clause-moved : goal.returns-clause-moved
-returns-clause-moved g c = λ e.
-    let k = g.P.Picks.number c.args.picks.now 0 in
-    let at = sym (ap (λ (v : List ℕ). slice_get v (k % length v)) c.deref.ensures.value) ∙ c.chosen-i.ensures.taken in (
+pub returns-in-None-clause-moved : goal.returns-in-None-clause-moved
+returns-in-None-clause-moved g c = λ e.
+    let moved = c.take_pick.ensures.moved e in (
+      true,
       λ code U G h on unreleased.
           let can = roomy-turn g.L.FinishLedger.stands c.args.p.now.script code U c.args.self.now c.reserve.new.self G c.games_come.ensures c.fold_is_reached.ensures c.reserve.ensures.same h on unreleased in
-          c.in_ok-move_task.ensures code U k G
-          (taken g.L.FinishLedger.stands c.args.p.now.script code U _ G c.in_ok-numbers.numbers.items k c.chosen-i.result c.games_come.ensures c.reached_is_sound.ensures can on (c.in_ok-numbers.ensures code U G can) at),
-      c.chosen-i.ensures.later,
+          goes-on g.L.FinishLedger.stands c.args.p.now.script code U c.take_pick.new.self (g.P.Picks.number c.args.picks.now 0) G unreleased
+          (moved.0 code U G (calm g.L.FinishLedger.stands c.args.p.now.script code U _ G c.len.result can on c.len.ensures c.in-None.ensures.none)),
+      moved.1,
     )
+
+pub returns-in-None-clause-ended : goal.returns-in-None-clause-ended
+returns-in-None-clause-ended g c = λ e code U G h on unreleased.
+    let can = roomy-turn g.L.FinishLedger.stands c.args.p.now.script code U c.args.self.now c.reserve.new.self G c.games_come.ensures c.fold_is_reached.ensures c.reserve.ensures.same h on unreleased in
+    c.take_pick.ensures.ended e code U G (calm g.L.FinishLedger.stands c.args.p.now.script code U _ G c.len.result can on c.len.ensures c.in-None.ensures.none)
+
+pub returns-in_err-reserve-clause-refused : goal.returns-in_err-reserve-clause-refused
+returns-in_err-reserve-clause-refused g c = any_err c.from_residual.result (λ code U G h on unreleased.
+    refused-same g.L.FinishLedger.stands c.args.p.now.script code U c.args.self.now (record c.args.self.now { history = c.reserve.new.self }) (g.P.Picks.number c.args.picks.now 0) G c.games_go_on.ensures h on unreleased c.in_err-reserve.ensures.err refl)
+
+pub returns-in-None-clause-refused : goal.returns-in-None-clause-refused
+returns-in-None-clause-refused g c = on_err c.take_pick.result (λ told code U G h on unreleased.
+    let can = roomy-turn g.L.FinishLedger.stands c.args.p.now.script code U c.args.self.now c.reserve.new.self G c.games_come.ensures c.fold_is_reached.ensures c.reserve.ensures.same h on unreleased in
+    told code U G (calm g.L.FinishLedger.stands c.args.p.now.script code U _ G c.len.result can on c.len.ensures c.in-None.ensures.none)) c.take_pick.ensures.refused

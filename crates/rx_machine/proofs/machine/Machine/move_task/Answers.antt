@@ -1,5 +1,5 @@
 use Rattle.std.proofs.Common.{◌≡◌, Some, None, ◌∙◌, sym, refl}
-use Rattle.rx_machine.proofs.Requested.{on_ok}
+use Rattle.rx_machine.proofs.Requested.{on_ok, on_err}
 use Rattle.rx_machine.proofs.Taking.{lands, acts}
 use Rattle.rx_machine.proofs.machine.Machine.move_task.Goals as goal
 
@@ -25,13 +25,19 @@ unreachable-requires g c =
     let f : None ≡ Some c.requires.game.4.seat = e in
     cc
 
-pub returns-in-Travel : goal.returns-in-Travel
-returns-in-Travel g c = λ code U k G t.
+pub returns-in-Travel-clause-made : goal.returns-in-Travel-clause-made
+returns-in-Travel-clause-made g c = λ code U k G t.
     let at = sym c.take_seat.ensures.taken ∙ c.in-Some.is in
     c.arrive.ensures code U k G (lands g.L.FinishLedger.stands c.args.p.now.script code U c.args.self.now (record c.args.self.now { seats = c.take_seat.new.seats }) k c.args.i c.in-Travel.from c.in-Travel.to c.in-Some.seat G t at (record { same = refl; left = c.take_seat.ensures.left }) c.in-Travel.is)
 
-pub returns-in-At : goal.returns-in-At
-returns-in-At g c = on_ok c.act.result (λ h code U k G t.
+pub returns-in-At-clause-made : goal.returns-in-At-clause-made
+returns-in-At-clause-made g c = on_ok c.act.result (λ h code U k G t.
     let at = sym c.take_seat.ensures.taken ∙ c.in-Some.is in
     let a = acts g.L.FinishLedger.stands c.args.p.now.script code U c.args.self.now (record c.args.self.now { seats = c.take_seat.new.seats }) k c.args.i c.in-At.here c.in-Some.seat G c.games_come.ensures c.reached_is_sound.ensures t at (record { same = refl; left = c.take_seat.ensures.left }) c.in-At.is in
-    h code U k a.0 G a.1 t.on.proper t.on.few t.on.makes) c.act.ensures
+    h code U k a.0 G a.1 t.on.proper t.on.few t.on.makes) c.act.ensures.made
+
+pub returns-in-At-clause-refused : goal.returns-in-At-clause-refused
+returns-in-At-clause-refused g c = on_err c.act.result (λ h code U k G t.
+    let at = sym c.take_seat.ensures.taken ∙ c.in-Some.is in
+    let a = acts g.L.FinishLedger.stands c.args.p.now.script code U c.args.self.now (record c.args.self.now { seats = c.take_seat.new.seats }) k c.args.i c.in-At.here c.in-Some.seat G c.games_come.ensures c.reached_is_sound.ensures t at (record { same = refl; left = c.take_seat.ensures.left }) c.in-At.is in
+    h code U k a.0 G a.1 t.on.proper t.on.few t.on.makes) c.act.ensures.refused

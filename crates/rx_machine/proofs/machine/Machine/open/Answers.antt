@@ -7,5 +7,5 @@ pub returns : goal.returns
 returns g c = λ code written.
     let at = c.in_ok-root_seat.ensures.control code written in
     opens-so g.L.FinishLedger.stands c.args.p.now.script code (given c.args.setup) _ c.in_ok-root_seat.field-0 refl
-    (ap (λ l. given l.setup) c.open.ensures) (ap (λ l. l.entries) c.open.ensures) refl c.in_ok-kills.ensures refl c.requires.3
+    (ap (λ l. given l.setup) c.open-3.ensures) (ap (λ l. l.entries) c.open-3.ensures) c.in_ok-kills.ensures refl c.requires.3
     c.in_ok-stores.ensures c.in_ok-seats.ensures c.in_ok-root_seat.ensures.row c.in_ok-root_seat.ensures.bare.0 c.in_ok-root_seat.ensures.bare.1 at.0 at.1

@@ -54,8 +54,8 @@ unreachable-requires-in-Err-NotYet g c =
     let reply = c.in-Err-NotYet.ensures T a.but.shares.ledger may in
     rw c.in-Err-NotYet.field-0-is at reply
 
-pub returns : goal.returns
-returns g c = λ code U k q G a asks.
+pub returns-clause-made : goal.returns-clause-made
+returns-clause-made g c = λ code U k q G a asks.
     let T = tree_in U G in
     let s = a.gone.seat_is in
     let b = open-begins q c.args.here.0 U.places asks in
@@ -73,4 +73,4 @@ returns g c = λ code U k q G a asks.
     finish-opened g.L.FinishLedger.stands c.args.p.now.script code U c.args.self.now _ k c.args.i c.args.here q c.args.seat _ G c.in-Ok.scope c.caller-who.result.inner c.in_ok-path.path a asks at
     (subst (λ (u : TaskId). AllowedAct T u (Open c.in-Ok.scope c.caller-who.result.inner c.in_ok-path.path)) t did.allowed)
     term c.in-Ok-resume.ensures.vars refl (c.push_reserved.ensures.items ∙ ap (λ (ss : List ScopeId). ss ++ c.in-Ok.scope ∷ []) c.reserve.ensures.items) (c.replace-batch.ensures.after ∙ c.open-2.ensures)
-    (record { places = refl; setup = ap (λ l. l.setup) c.add.ensures; entries = entries; kills = refl; killed = refl; failed = refl; stores = refl; ledger = subst (λ (u : TaskId). g.L.FinishLedger.stands c.open_finish.new.self (made_act T u (Open c.in-Ok.scope c.caller-who.result.inner c.in_ok-path.path))) t did.made }) c.put_back.ensures
+    (record { places = refl; setup = ap (λ l. l.setup) c.add.ensures; entries = entries; kills = refl; failed = refl; stores = refl; ledger = subst (λ (u : TaskId). g.L.FinishLedger.stands c.open_finish.new.self (made_act T u (Open c.in-Ok.scope c.caller-who.result.inner c.in_ok-path.path))) t did.made }) c.put_back.ensures

@@ -38,8 +38,8 @@ unreachable-requires g c =
     let free = subst (λ (w : Caller). blow_of T w.task ≡ None) (sym c.caller-who.ensures) (seat_unstruck c.args.p.now.script T c.args.i game.3 c.args.seat s) in
     print-granted T c.caller-who.result c.in-Err.field-0 free (c.in-Err.ensures T a.but.shares.ledger may)
 
-pub returns : goal.returns
-returns g c = λ code U k q G a asks.
+pub returns-clause-made : goal.returns-clause-made
+returns-clause-made g c = λ code U k q G a asks.
     let T = tree_in U G in
     let s = a.gone.seat_is in
     let b = print-begins q c.args.here.0 U.places c.args.value asks in
@@ -55,4 +55,4 @@ returns g c = λ code U k q G a asks.
     ∙ (ap (λ (t : TaskId). c.args.self.now.history.entries ++ Step t (Print c.args.value c.in_ok-path.path) c.replace-batch.result ∷ []) who
     ∙ ap (λ (v : List (List ℕ)). c.args.self.now.history.entries ++ Step c.args.seat.row.number (Print c.args.value c.in_ok-path.path) v ∷ []) c.replace-batch.ensures.value)) in
     printed g.L.FinishLedger.stands c.args.p.now.script code U c.args.self.now _ k c.args.i c.args.here q c.args.seat _ G c.args.value c.in_ok-path.path a asks at printed_so term c.in-Ok-resume.ensures.vars refl refl (c.replace-batch.ensures.after ∙ c.open-2.ensures)
-    (record { places = refl; setup = ap (λ l. l.setup) c.add.ensures; entries = entries; kills = refl; killed = refl; failed = refl; stores = refl; ledger = a.but.shares.ledger }) c.put_back.ensures
+    (record { places = refl; setup = ap (λ l. l.setup) c.add.ensures; entries = entries; kills = refl; failed = refl; stores = refl; ledger = a.but.shares.ledger }) c.put_back.ensures

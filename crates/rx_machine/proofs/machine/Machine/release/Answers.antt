@@ -35,8 +35,8 @@ no_memory-requires g c =
 pub resume-requires : goal.resume-requires
 resume-requires g c = let game = c.requires.game in (game.3.term, game.5.gone.seat_is.term)
 
-pub returns : goal.returns
-returns g c = λ code U k q G a asks.
+pub returns-clause-made : goal.returns-clause-made
+returns-clause-made g c = λ code U k q G a asks.
     let T = tree_in U G in
     let s = a.gone.seat_is in
     let here = c.args.here in
@@ -54,4 +54,4 @@ returns g c = λ code U k q G a asks.
     ∙ (ap (λ (t : TaskId). c.args.self.now.history.entries ++ Step t (Release inner o.lost o.thrown) c.replace-batch.result ∷ []) who
     ∙ ap (λ (v : List (List ℕ)). c.args.self.now.history.entries ++ Step c.args.seat.row.number (Release inner o.lost o.thrown) v ∷ []) c.replace-batch.ensures.value) in
     released g.L.FinishLedger.stands c.reached_is_sound.ensures c.release_keeps_others.ensures c.release_pops_newest.ensures shape code U c.args.self.now _ k c.args.i here q c.args.seat _ G inner o.lost o.thrown a asks allowed term c.in-Ok-resume.ensures.vars refl c.drop_innermost.ensures (c.replace-batch.ensures.after ∙ c.open.ensures)
-    (record { places = refl; setup = ap (λ l. l.setup) c.add.ensures; entries = entries; kills = refl; killed = refl; failed = refl; stores = refl; ledger = ledger }) c.put_back.ensures
+    (record { places = refl; setup = ap (λ l. l.setup) c.add.ensures; entries = entries; kills = refl; failed = refl; stores = refl; ledger = ledger }) c.put_back.ensures

@@ -3,6 +3,7 @@ use Rattle.rx_runs.specs.Steps.{steps}
 use Rattle.rx_control.specs.declared.step.Next.{Next}
 use Rattle.rx_machine.specs.Requests.{AfterStep}
 use Rattle.rx_machine.proofs.Stepping.{same, same-twice, few-now}
+use Rattle.rx_machine.proofs.Requested.{any_err}
 use Rattle.rx_machine.proofs.machine.Machine.run_on.Goals as goal
 
 pub step-requires : goal.step-requires
@@ -40,3 +41,8 @@ returns-in-Some-clause-next g c = λ code U k q G a proper few some.
 
 pub returns-in-Some-clause-same : goal.returns-in-Some-clause-same
 returns-in-Some-clause-same g c = same-twice c.args.self.now c.loop-made.self c.step.new.self c.loop-made.invariant.0 c.step.ensures.same
+
+pub returns-in_err-next-clause-refused : goal.returns-in_err-next-clause-refused
+returns-in_err-next-clause-refused g c = any_err c.from_residual.result (λ code U k q G a proper few some.
+    let r = c.loop-made.invariant.1 code U k q G a proper few some in
+    c.in_err-next.ensures.refused code U k r.0 G r.1 proper few some)

@@ -67,8 +67,8 @@ put_back-requires g c =
     let more : length c.push_reserved.new.self.items ≡ length c.args.self.now.seats.items + 1 = ap (λ v. length v) (c.push_reserved.ensures.items ∙ ap (λ v. v ++ c.new_seat-child.result ∷ []) c.reserve.ensures.items) ∙ length-append c.args.self.now.seats.items (c.new_seat-child.result ∷ []) in
     omega (arith, inside, more)
 
-pub returns : goal.returns
-returns g c = λ code U k q G a asks.
+pub returns-clause-made : goal.returns-clause-made
+returns-clause-made g c = λ code U k q G a asks.
     let T = tree_in U G in
     let s = a.gone.seat_is in
     let b = spawn-begins q c.args.here.0 U.places c.args.to.0 asks in
@@ -89,4 +89,4 @@ returns g c = λ code U k q G a asks.
     ∙ ap (λ (v : List (List ℕ)). c.args.self.now.history.entries ++ Step c.args.seat.row.number (Spawn c.in-Ok.born.child c.in-Ok.born.scope c.args.here c.args.to c.in_ok-path.path) v ∷ []) c.replace-batch.ensures.value) in
     spawned g.L.FinishLedger.stands c.args.p.now.script code U c.args.self.now _ k c.args.i c.args.here c.args.to q c.args.seat after c.new_seat-child.result c.in_ok-control.control G c.in-Ok.born.child c.in-Ok.born.scope c.in_ok-path.path a (c.reached_is_sound.ensures T a.reached) asks at did.0 term c.in-Ok-resume.ensures.vars refl refl (c.replace-batch.ensures.after ∙ c.open-2.ensures) born.0 born.1
     (record { lost = c.new_seat-child.ensures.lost ∙ did.2; row = c.new_seat-child.ensures.row; rest = c.new_seat-child.ensures.seat })
-    (record { places = refl; setup = ap (λ l. l.setup) c.add.ensures; entries = entries; kills = refl; killed = refl; failed = refl; stores = refl; ledger = did.1 }) back
+    (record { places = refl; setup = ap (λ l. l.setup) c.add.ensures; entries = entries; kills = refl; failed = refl; stores = refl; ledger = did.1 }) back

@@ -1,7 +1,9 @@
-use Rattle.std.proofs.Common.{ℕ, sym, subst}
+use Rattle.std.proofs.Common.{ℕ, refl, sym, subst}
 use Rattle.rx_rules.specs.Terms.{Vars, does}
 use Rattle.rx_control.specs.Stands.{Leaves}
 use Rattle.rx_machine.proofs.Stepping.{told-next, stepped-local}
+use Rattle.rx_machine.proofs.Halting.{acting-told}
+use Rattle.rx_machine.proofs.Requested.{any_err}
 use Rattle.rx_machine.proofs.machine.Machine.step.Goals as goal
 
 pub next-requires : goal.next-requires
@@ -25,3 +27,11 @@ returns-in_ok-local_step-in-Local-clause-next g c = λ code U k q G a proper few
     subst (λ (n : ℕ). Leaves c.args.p.now.script c.local_step.new.seat.control (does q.vars c.args.here.0 n q.term)) (sym a.but.shares.places)
     (subst (λ (v : Vars). Leaves c.args.p.now.script c.local_step.new.seat.control (does v c.args.here.0 c.args.self.now.places q.term)) s.vars left.0) in
     stepped-local g.L.FinishLedger.stands c.args.p.now.script code U c.args.self.now k c.args.i c.args.here q c.args.seat.now _ G c.terms_sink.ensures a e leaves left.1 left.2 left.3
+
+pub returns-in_err-local_step-in-Local-clause-refused : goal.returns-in_err-local_step-in-Local-clause-refused
+returns-in_err-local_step-in-Local-clause-refused g c = any_err c.from_residual.result (λ code U k q G a proper few some. acting-told g.L.FinishLedger.stands c.args.p.now.script code U c.args.self.now k c.args.i c.args.here q c.args.seat.now G c.args.self.now.stores.items refl a)
+
+pub returns-in_err-cell_step-in-Cell-clause-refused : goal.returns-in_err-cell_step-in-Cell-clause-refused
+returns-in_err-cell_step-in-Cell-clause-refused g c = any_err c.from_residual-in_err-cell_step-in-Cell.result (λ code U k q G a proper few some.
+    let e = told-next g.L.FinishLedger.stands c.args.p.now.script code U c.args.self.now k c.args.i c.args.here q c.args.seat.now G _ a (c.in-Cell.ensures q.term a.gone.seat_is.term) in
+    c.in_err-cell_step-in-Cell.ensures.refused code U k q G a proper few some e)

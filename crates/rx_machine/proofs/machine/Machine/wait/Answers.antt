@@ -39,8 +39,8 @@ resume-requires g c =
     let asks = ap (λ v. does v c.args.here.0 game.1.places q.term) s.vars ∙ game.6.1 in
     (replaced q.term Empty, c.take_faults-faults.ensures.after c.args.p.now.script q.term c.args.here game.1.places game.6.0 s.term (ap carried asks))
 
-pub returns : goal.returns
-returns g c = λ code U k q G a asks.
+pub returns-clause-made : goal.returns-clause-made
+returns-clause-made g c = λ code U k q G a asks.
     let T = tree_in U G in
     let s = a.gone.seat_is in
     let fs = asks.0 in
@@ -66,4 +66,4 @@ returns g c = λ code U k q G a asks.
     ∙ (ap (λ (t : TaskId). c.args.self.now.history.entries ++ Step t (Wait inner fs) c.replace-batch.result ∷ []) who
     ∙ ap (λ (v : List (List ℕ)). c.args.self.now.history.entries ++ Step c.args.seat.row.number (Wait inner fs) v ∷ []) c.replace-batch.ensures.value)) in
     waited g.L.FinishLedger.stands shape code U c.args.self.now _ k c.args.i here q c.args.seat _ G fs inner a asks.1 allowed term (c.in-Ok-resume.ensures.vars ∙ c.take_faults-faults.ensures.vars) refl refl (c.replace-batch.ensures.after ∙ c.open-2.ensures)
-    (record { places = refl; setup = ap (λ l. l.setup) c.add.ensures; entries = entries; kills = refl; killed = refl; failed = refl; stores = refl; ledger = ledger }) c.put_back.ensures
+    (record { places = refl; setup = ap (λ l. l.setup) c.add.ensures; entries = entries; kills = refl; failed = refl; stores = refl; ledger = ledger }) c.put_back.ensures

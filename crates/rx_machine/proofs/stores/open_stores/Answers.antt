@@ -2,7 +2,7 @@ use Rattle.std.proofs.Common.{◌≡◌, ◌≤◌, ◌+◌, ℕ, suc, ◌++◌,
 use Rattle.rx_store.specs.Kept.{Kept}
 use Rattle.rx_machine.specs.Holds.{StoresAre}
 use Rattle.rx_machine.proofs.Opens.{opens-more}
-use Rattle.rx_machine.proofs.machine.open_stores.Goals as goal
+use Rattle.rx_machine.proofs.stores.open_stores.Goals as goal
 
 pub loop-place-init : goal.loop-place-init
 loop-place-init c = subst (λ (ss : List Kept). StoresAre c.args.words 0 ss []) (sym c.new-stores.ensures.items) tt

@@ -1,0 +1,248 @@
+-- The turn of a death.
+use Rattle.std.specs.Prelude.{◌≡◌, ◌≢◌, ◌⊎◌, ℕ, zero, suc, ◌+◌, ◌*◌, ◌^◌, ◌<◌, ◌≤◌, Bool, true, false, cond, List, [], ◌∷◌, ◌++◌, length, Option, Some, None, All, slice_get, slice_set, slice_index_or, refl}
+use Rattle.std.proofs.Common.{ap, ◌∙◌, sym, subst, arith, inl, inr}
+use Rattle.std.proofs.lemmas.List.{length-set}
+use Rattle.rx_base.specs.declared.ids.PlaceId.{PlaceId}
+use Rattle.rx_base.specs.declared.ids.Kill.{Kill}
+use Rattle.rx_rules.specs.declared.tasks.Blow.{Blow}
+use Rattle.rx_rules.specs.declared.entries.Entry.{Entry}
+use Rattle.rx_rules.specs.declared.entries.Entry.TheVariants.{Step, Root, Death}
+use Rattle.rx_rules.specs.declared.events.PlaceEvent.{PlaceEvent}
+use Rattle.rx_rules.specs.declared.events.PlaceEvent.TheVariants.{Close}
+use Rattle.rx_rules.specs.Code.{Block, work}
+use Rattle.rx_rules.specs.Tree.{Tree}
+use Rattle.rx_rules.specs.Entries.{made, strike, is_hit}
+use Rattle.rx_rules.specs.Fold.{fold_from, opening}
+use Rattle.rx_rules.specs.Plays.{journal_at}
+use Rattle.rx_rules.specs.Reached.{IsOlder}
+use Rattle.rx_rules.specs.Store.{opening_state}
+use Rattle.rx_rules.specs.Run.{Given, NoRoot, IsDue, rest_of, death_number}
+use Rattle.rx_rules.specs.Picked.{Game, Player, Turn, dies, turns, tree_in}
+use Rattle.rx_sound.proofs.Histories.{dead-now, none_yet}
+use Rattle.rx_runs.specs.Coming.{CameTo, GamesCome}
+use Rattle.rx_runs.specs.Games.{JournalSo, Leads}
+use Rattle.rx_runs.specs.Ties.{MayCome}
+use Rattle.rx_runs.proofs.Pairs.{pairs-get, journal_got}
+use Rattle.rx_tree.specs.Callers.{MayStrike}
+use Rattle.rx_trace.specs.Setups.{given}
+use Rattle.rx_store.specs.Kept.{Kept, ends_closed, last_stamp}
+use Rattle.rx_script.specs.Shape.{Shape}
+use Rattle.rx_machine.specs.declared.machine.Machine.{Machine}
+use Rattle.rx_machine.specs.declared.seat.Seat.{Seat}
+use Rattle.rx_machine.specs.Slots.{live_task, SlotIs, seat_at, seat_in, left_by}
+use Rattle.rx_machine.specs.Holds.{StoresAre}
+use Rattle.rx_machine.specs.Runs.{Dying, WentOn}
+use Rattle.rx_machine.proofs.Finding.{same_or_not, get_same}
+use Rattle.rx_machine.proofs.Acted.{seat_other}
+use Rattle.rx_machine.proofs.Live.{if_missed, strike-live}
+use Rattle.rx_machine.proofs.Called.{stores-at, stores-set, leads-open, stamp-most}
+use Rattle.rx_machine.proofs.Pushed.{tree-push}
+
+-- What the kill that is due says of its place.
+
+pub record DueSo (q : ℕ) (es : List Entry) (d : PlaceId) : Type 0 where
+  pub inside : d.0 < q
+  pub not_zero : d.0 ≢ 0
+  pub lives : death_number 0 d es ≡ None
+
+due-so : (q n : ℕ) (es : List Entry) (d : PlaceId) (ks : List Kill) → IsDue n d ks → MayCome q es ks → DueSo q es d
+due-so q n es d [] due h = absurd due
+due-so q n es d (k ∷ ks) due h =
+    let so : DueSo q es k.place = record { inside = h.0; not_zero = h.1; lives = h.2 } in subst (λ (p : PlaceId). DueSo q es p) due.0 so
+
+-- the deaths of a tree are older than the next entry
+older-from : (n : ℕ) (T : Tree) (es : List Entry) → All (IsOlder n) T.dead → All (IsOlder (n + length es)) (fold_from n T es).dead
+older-from n T [] o = let e : n ≡ n + 0 = omega arith in subst (λ (m : ℕ). All (IsOlder m) T.dead) e o
+older-from n T (x ∷ es) o =
+    let e : suc n + length es ≡ n + length (x ∷ es) = omega arith in
+    subst (λ (m : ℕ). All (IsOlder m) (fold_from (suc n) (made n T x) es).dead) e (older-from (suc n) (made n T x) es (dead-now n T x o))
+
+still_open : (es : List Entry) (d : PlaceId) → NoRoot es → NoRoot (es ++ Death d ∷ [])
+still_open [] d h = tt
+still_open (Step t act batch ∷ es) d h = still_open es d h
+still_open (Root lost thrown ∷ es) d h = h
+still_open (Death e ∷ es) d h = still_open es d h
+
+-- The slots.
+
+-- a slot after the blow
+pub slot-struck : (shape : Shape) (T : Tree) (b : Blow) (players : List Player) (n : ℕ) (o : Option Seat) → SlotIs shape T players n o → SlotIs shape (strike b T) players n (left_by b.place o)
+slot-struck shape T b players n None h = strike-live b T.tasks n ∙ ap (if_missed b) h
+slot-struck shape T b players n (Some seat) h =
+    (elim (is_hit b.place seat.row.place) as (λ c. is_hit b.place seat.row.place ≡ c → SlotIs shape (strike b T) players n (cond c None (Some seat))) [
+      | true ↦ λ e. row ∙ ap (λ (c : Bool). cond c None (Some seat.row)) e
+      | false ↦ λ e. (
+        h.0,
+        h.1,
+        record {
+          row = row ∙ ap (λ (c : Bool). cond c None (Some seat.row)) e;
+          scopes = h.2.scopes;
+          term = h.2.term;
+          vars = h.2.vars;
+          batch = h.2.batch;
+          waits = h.2.waits;
+          held = h.2.held;
+          spine = h.2.spine;
+        },
+      )
+    ]) refl
+  where
+    row : live_task (strike b T) n ≡ cond (is_hit b.place seat.row.place) None (Some seat.row)
+    row = strike-live b T.tasks n ∙ ap (if_missed b) h.2.row
+
+-- no slot beyond the list has a seat
+pub none-beyond : (seats : List (Option Seat)) (n : ℕ) → length seats ≤ n → seat_at seats n ≡ None
+none-beyond [] n h = refl
+none-beyond (o ∷ seats) zero h = absurd (omega (arith, h))
+none-beyond (o ∷ seats) (suc n) h = none-beyond seats n (omega (arith, h))
+
+-- the store of the place is open
+pub record IsOpen (n : ℕ) (d : PlaceId) (heap : ℕ) (items : List Kept) (j : List PlaceEvent) (s : Kept) : Type 0 where
+  pub found : slice_get items d.0 ≡ Some s
+  pub place : s.place.0 ≡ d.0
+  pub words : s.words ≡ heap
+  pub events : s.events ≡ j
+  pub unclosed : ends_closed s.events ≡ false
+  pub last : last_stamp s.events ≤ n
+
+-- what a death leaves of a machine
+pub record Fell {L : Type 0} (stands : L → Tree → Type 0) (m m' : Machine L) (d : PlaceId) (n : ℕ) (T : Tree) : Type 0 where
+  pub places : m'.places ≡ m.places
+  pub setup : m'.history.setup ≡ m.history.setup
+  pub entries : m'.history.entries ≡ m.history.entries ++ Death d ∷ []
+  pub kills : m'.kills ≡ rest_of m.kills
+  pub failed : m'.failed ≡ m.failed
+  pub ledger : stands m'.ledger (strike (record { place = d; entry = n }) T)
+  pub stores : (s : Kept) → slice_get m.stores.items d.0 ≡ Some s → m'.stores.items ≡ slice_set m.stores.items d.0 (record s { events = s.events ++ Close n ∷ [] })
+  pub many : length m'.seats.items ≡ length m.seats.items
+  pub each : (i : ℕ) → seat_at m'.seats.items i ≡ left_by d (seat_at m.seats.items i)
+
+module _ {L : Type 0} (stands : L → Tree → Type 0) (shape : Shape) (code : Block) (U : Given) (m : Machine L) (d : PlaceId) (G : Game) (come : GamesCome) (t : Dying stands shape code U m d G) where
+  came : CameTo code U G
+  came = come code U G t.on.proper t.can.holds.shares.comes t.can.unreleased
+
+  due : DueSo U.places G.entries d
+  due = due-so U.places (length G.entries) G.entries d G.kills t.due came.ok.kills
+
+  few : U.places ≤ 16
+  few = t.on.proper.few
+
+  pub may-strike : MayStrike (tree_in U G) d (length G.entries)
+  may-strike =
+      let zero_on : 0 + length G.entries ≡ length G.entries = omega arith in
+      let places : (tree_in U G).places ≡ U.places = came.ok.ties.same in
+      let inside : d.0 < U.places = due.inside in
+      let most : U.places ≤ 16 = few in
+      record {
+        dies = record {
+          is_place = omega (arith, places, inside);
+          not_zero = due.not_zero;
+          lives = came.ok.ties.deaths d (omega (arith, inside, most)) ∙ due.lives;
+        };
+        later = subst (λ (n : ℕ). All (IsOlder n) (tree_in U G).dead) zero_on (older-from 0 (opening U.places) G.entries none_yet);
+      }
+
+  pub entries-few : length G.entries < 2 ^ 31
+  entries-few =
+      let entries : length G.entries ≤ 4 * work code + U.places = came.entries in
+      let most : U.places ≤ 16 = few in
+      let small : work code ≤ 100000 = t.on.few in omega (arith, entries, most, small)
+
+  pub store-open : (s : Kept) × IsOpen (length G.entries) d U.heap m.stores.items (journal_at G.journals d.0) s
+  store-open =
+      let low : d.0 < length G.journals = subst (λ (n : ℕ). d.0 < n) (sym came.ok.one_each) due.inside in
+      let both = pairs-get 0 d.0 G.journals G.stores low came.ok.journals in
+      let so : JournalSo U G.entries d.0 both.left both.right = (let z : 0 + d.0 ≡ d.0 = omega arith in subst (λ (v : ℕ). JournalSo U G.entries v both.left both.right) z both.holds) in
+      let leads : Leads U.heap opening_state both.left both.right = so.live due.lives in
+      let same : journal_at G.journals d.0 ≡ both.left = journal_got G.journals d.0 both.left both.at_left in
+      let s = stores-at U.heap 0 m.stores.items G.journals d.0 both.left t.can.holds.stores both.at_left in (
+        s.0,
+        record {
+          found = s.1;
+          place = (let w : s.0.place.0 ≡ 0 + d.0 = s.2 in omega (arith, w));
+          words = s.3;
+          events = s.4 ∙ sym same;
+          unclosed = ap ends_closed s.4 ∙ leads-open leads;
+          last = subst (λ (j : List PlaceEvent). last_stamp j ≤ length G.entries) (sym s.4) (stamp-most (length G.entries) 0 both.left (omega arith) so.top);
+        },
+      )
+
+  pub fallen : (m' : Machine L) (k : ℕ) → Fell stands m m' d (length G.entries) (tree_in U G) → WentOn stands shape code U m' k false G
+  fallen m' k f =
+      let n : ℕ = length G.entries in
+      let b : Blow = record { place = d; entry = length G.entries } in
+      let h = t.can.holds in
+      let j : List PlaceEvent = journal_at G.journals d.0 ++ Close (length G.entries) ∷ [] in
+      let G' : Game = record G { entries = G.entries ++ Death d ∷ []; journals = slice_set G.journals d.0 j; kills = rest_of G.kills } in
+      let turn : Turn U k G false G' = dies d t.due in
+      let same : strike b (tree_in U G) ≡ tree_in U G' = sym (tree-push U.places G.entries (Death d)) in
+      let s = store-open in
+      let s' : Kept = record s.0 { events = s.0.events ++ Close (length G.entries) ∷ [] } in
+      let at : s'.place.0 ≡ 0 + d.0 = (let w : s.0.place.0 ≡ d.0 = s.1.place in omega (arith, w)) in
+      let events : s'.events ≡ j = ap (λ (es : List PlaceEvent). es ++ Close (length G.entries) ∷ []) s.1.events in (
+        G',
+        turn,
+        (
+          record {
+            shares = record {
+              comes = turns h.shares.comes t.can.unreleased turn;
+              places = h.shares.places ∙ sym f.places;
+              setup = ap given f.setup ∙ h.shares.setup;
+              entries = f.entries ∙ ap (λ es. es ++ Death d ∷ []) h.shares.entries;
+              kills = f.kills ∙ ap rest_of h.shares.kills;
+              ledger = subst (λ (T : Tree). stands m'.ledger T) same f.ledger;
+              slots = f.many ∙ (h.shares.slots ∙ ap (λ (T : Tree). T.next_task) same);
+              failed = f.failed ∙ h.shares.failed;
+            };
+            stores = subst (λ (ss : List Kept). StoresAre U.heap 0 ss (slice_set G.journals d.0 j)) (sym (f.stores s.0 s.1.found)) (stores-set U.heap 0 m.stores.items G.journals d.0 s' j h.stores at s.1.words events);
+            seats = λ i.
+                subst (λ (T : Tree). SlotIs shape T G.players i (seat_at m'.seats.items i)) same
+                (subst (λ (o : Option Seat). SlotIs shape (strike b (tree_in U G)) G.players i o) (sym (f.each i)) (slot-struck shape (tree_in U G) b G.players i (seat_at m.seats.items i) (h.seats i)));
+          },
+          still_open G.entries d t.can.unreleased,
+        ),
+      )
+
+-- Giving up the seats, slot by slot.
+
+-- the slots before i are done, and those from i on are as they were
+abbrev pub DoneTo : PlaceId → List (Option Seat) → List (Option Seat) → ℕ → Type 0
+DoneTo d first now i =
+    (length now ≡ length first)
+    × ((n : ℕ) → n < i → seat_at now n ≡ left_by d (seat_at first n))
+    × ((n : ℕ) → i ≤ n → seat_at now n ≡ seat_at first n)
+
+seat_is : (now : List (Option Seat)) (i : ℕ) (o d : Option Seat) → i < length now → o ≡ slice_index_or now i d → seat_at now i ≡ o
+seat_is [] i o d low e = absurd (omega (arith, low))
+seat_is (x ∷ now) zero o d low e = sym e
+seat_is (x ∷ now) (suc i) o d low e = seat_is now i o d (omega (arith, low)) e
+
+pub done-more : (d : PlaceId) (first now : List (Option Seat)) (i : ℕ) (o new : Option Seat) → i < length now → o ≡ slice_index_or now i o → new ≡ left_by d o → DoneTo d first now i → DoneTo d first (slice_set now i new) (i + 1)
+done-more d first now i o new low at is h = (
+  length-set now i new ∙ h.0,
+  λ n under.
+      elim (same_or_not n i) [
+        | inl e ↦
+            subst (λ (v : ℕ). seat_at (slice_set now i new) v ≡ left_by d (seat_at first v)) (sym e)
+            (ap seat_in (get_same now i new low) ∙ (is ∙ ap (left_by d) (sym (seat_is now i o o low at) ∙ h.2 i (let r : i ≤ i = omega arith in r))))
+        | inr apart ↦ seat_other now i n new apart ∙ h.1 n (below n i under apart)
+      ],
+  λ n over. seat_other now i n new (λ e. absurd (omega (arith, over, e))) ∙ h.2 n (omega (arith, over)),
+)
+  where
+    below : (n i : ℕ) → n < i + 1 → n ≢ i → n < i
+    below n i under apart = omega (arith, under, apart)
+
+lt_or_not : (n i : ℕ) → (n < i) ⊎ (i ≤ n)
+lt_or_not n zero = inr (omega arith)
+lt_or_not zero (suc i) = inl (omega arith)
+lt_or_not (suc n) (suc i) = elim (lt_or_not n i) [ inl h ↦ inl (omega (arith, h)) | inr h ↦ inr (omega (arith, h)) ]
+
+pub all-done : (d : PlaceId) (first now : List (Option Seat)) (i : ℕ) → length first ≤ i → DoneTo d first now i → (n : ℕ) → seat_at now n ≡ left_by d (seat_at first n)
+all-done d first now i all h n =
+    (elim (lt_or_not n i) [
+      | inl low ↦ h.1 n low
+      | inr high ↦
+          let none : seat_at first n ≡ None = none-beyond first n (omega (arith, all, high)) in
+          h.2 n high ∙ (none ∙ sym (ap (left_by d) none))
+    ])

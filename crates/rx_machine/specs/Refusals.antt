@@ -1,0 +1,56 @@
+-- What a refused turn leaves: a beginning of what the turn tells.
+use Rattle.std.specs.Prelude.{◌≡◌, ℕ, ◌%◌, Bool, List, [], ◌∷◌, length, Some, slice_get, slice_set}
+use mathlib.Core.List.{IsPrefix}
+use Rattle.rx_base.specs.declared.ids.PlaceId.{PlaceId}
+use Rattle.rx_rules.specs.declared.tasks.Task.{Task}
+use Rattle.rx_rules.specs.declared.tasks.Where.TheVariants.{At}
+use Rattle.rx_rules.specs.declared.entries.Entry.{Entry}
+use Rattle.rx_rules.specs.declared.events.PlaceEvent.{PlaceEvent}
+use Rattle.rx_rules.specs.Tree.{task_of}
+use Rattle.rx_rules.specs.Store.{State}
+use Rattle.rx_rules.specs.Plays.{journal_at}
+use Rattle.rx_rules.specs.Run.{Given, NoneDue}
+use Rattle.rx_rules.specs.Picked.{Game, Player, Turn, Goes, enabled, tree_in}
+use Rattle.rx_store.specs.Kept.{Kept}
+use Rattle.rx_machine.specs.declared.machine.Machine.{Machine}
+use Rattle.rx_machine.specs.Holds.{StoresAre}
+
+-- each list begins the one at its place
+abbrev pub BeginEach : List (List PlaceEvent) → List (List PlaceEvent) → Type 0
+BeginEach [] [] = Unit {0}
+BeginEach (j ∷ js) (k ∷ ks) = IsPrefix j k × BeginEach js ks
+BeginEach [] (k ∷ ks) = ⊥
+BeginEach (j ∷ js) [] = ⊥
+
+-- the entries and journals begin with those of the game, and begin those that a turn with the pick k leads to
+pub record HasBegun (U : Given) (k : ℕ) (G : Game) (es : List Entry) (js : List (List PlaceEvent)) : Type 0 where
+  pub used : Bool
+  pub after : Game
+  pub turn : Turn U k G used after
+  pub entries_before : IsPrefix G.entries es
+  pub entries_after : IsPrefix es after.entries
+  pub journals_before : BeginEach G.journals js
+  pub journals_after : BeginEach js after.journals
+
+-- the stores have the events of a part of the walk of the task that the pick k moves
+pub record HasTold (U : Given) (k : ℕ) (G : Game) (items : List Kept) : Type 0 where
+  pub task : Task
+  pub here : PlaceId
+  pub began : Player
+  pub now : Player
+  pub store : State
+  pub left : State
+  pub events : List PlaceEvent
+  pub none_due : NoneDue (length G.entries) G.kills
+  pub picked : slice_get (enabled (tree_in U G)) (k % length (enabled (tree_in U G))) ≡ Some task
+  pub stands : task_of (tree_in U G) task.number ≡ Some task
+  pub is_at : task.place ≡ At here
+  pub player : slice_get G.players task.number.0 ≡ Some began
+  pub found : slice_get G.stores here.0 ≡ Some store
+  pub goes : Goes U.places U.heap (length G.entries) task.number here began store (journal_at G.journals here.0) now left events
+  pub stores : StoresAre U.heap 0 items (slice_set G.journals here.0 events)
+
+-- nothing is told: history and stores are as they were
+pub record NothingTold {L : Type 0} (m m' : Machine L) : Type 0 where
+  pub history : m'.history ≡ m.history
+  pub stores : m'.stores ≡ m.stores

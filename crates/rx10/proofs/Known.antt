@@ -1,6 +1,6 @@
 -- What is known of bytes over two calls.
-use Rattle.std.proofs.Common.{ℕ, List, [], ◌++◌, Option, Some, None, refl, ap, sym, ◌∙◌, append_assoc, append-nil}
-use Rattle.std.specs.Io.KnownBytes.{Consumes, Appends, Keeps}
+use Rattle.std.proofs.Common.{◌≡◌, ℕ, List, [], ◌++◌, Option, Some, None, refl, ap, sym, ◌∙◌, append_assoc, append-nil}
+use Rattle.std.specs.Io.KnownBytes.{Consumes, Appends, Keeps, IsAtEnd}
 
 pub consumes-none : (a : Option (List ℕ)) → Consumes a a []
 consumes-none None = tt
@@ -33,3 +33,14 @@ appends-kept None b c x h k = tt
 appends-kept (Some xs) None c x h k = absurd h
 appends-kept (Some xs) (Some ys) None x h k = k
 appends-kept (Some xs) (Some ys) (Some zs) x h k = k ∙ h
+
+-- a source that was read to its end gave all its bytes
+pub all-read : (a b : Option (List ℕ)) (bytes given : List ℕ) → a ≡ Some given → Consumes a b bytes → IsAtEnd b → bytes ≡ given
+all-read None b bytes given e h k = cc
+all-read (Some xs) None bytes given e h k = absurd h
+all-read (Some xs) (Some ys) bytes given e h k =
+    let one : xs ≡ given = some-is xs given e in
+    sym (append-nil bytes) ∙ ap (λ r. bytes ++ r) (sym k) ∙ sym h ∙ one
+  where
+    some-is : (x y : List ℕ) → Some x ≡ Some y → x ≡ y
+    some-is x y e = cc

@@ -1,4 +1,4 @@
 pub mod Known
 pub mod Settings
-pub mod Quiet
-pub mod Thin
+pub mod Ends
+pub mod Told

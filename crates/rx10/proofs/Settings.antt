@@ -1,13 +1,10 @@
--- What a run of a script of today's grammar is given.
-use Rattle.std.proofs.Common.{◌≡◌, ℕ, List, [], ◌∷◌, zero, suc, drop, slice_index_or, refl, arith}
+-- What a run of a checked script is given.
+use Rattle.std.proofs.Common.{◌≡◌, ℕ, ◌<◌, true, false, Bool, List, [], ◌∷◌, zero, suc, drop, slice_index_or, refl, arith}
+use Rattle.std.specs.Prelude.{nat_lt, ◌&&◌}
+use Rattle.std.proofs.lemmas.Bool.Decides.{nat_tests}
 use Rattle.rx_rules.specs.Code.{Stmt, SetTo, New, Get, Put, Forget, Print, Throw, Async, AtAsync, At, Finish, If, Repeat, Try, Block, Nothing, Then}
-use Rattle.rx_rules.specs.Run.{Proper}
-use Rattle.rx_script.specs.Thin.{IsPlain, IsPlainStmt}
+use Rattle.rx_script.specs.Grammar.{Fits, AllFit, may_hold}
 use Rattle.rx_runs.specs.SomeWords.{MakesSome, StmtMakesSome}
-use Rattle.rx10.specs.Top.{usual}
-
-pub proper-usual : Proper usual
-proper-usual = record { some = omega arith; few = omega arith; words = omega arith; small = omega arith; kills = tt }
 
 -- where no picks are given each is 0
 pub no-picks : (list : List ℕ) (used i : ℕ) → list ≡ [] → slice_index_or (drop used list) i 0 ≡ 0
@@ -15,24 +12,31 @@ no-picks [] zero i e = refl
 no-picks [] (suc used) i e = refl
 no-picks (x ∷ xs) used i e = cc
 
--- a script of these kinds makes no block
-mutual
-  makes-stmt : (t : Stmt) → IsPlainStmt t → StmtMakesSome t
-  makes-stmt (SetTo n e) p = absurd p
-  makes-stmt (New n k) p = absurd p
-  makes-stmt (Get n t e) p = absurd p
-  makes-stmt (Put t i e) p = absurd p
-  makes-stmt (Forget t) p = absurd p
-  makes-stmt (Print e) p = tt
-  makes-stmt (Throw e) p = absurd p
-  makes-stmt (Async b) p = makes-some b p
-  makes-stmt (AtAsync e b) p = makes-some b p.1
-  makes-stmt (At e b) p = absurd p
-  makes-stmt (Finish b) p = makes-some b p
-  makes-stmt (If e a b) p = absurd p
-  makes-stmt (Repeat n b) p = absurd p
-  makes-stmt (Try a d b) p = absurd p
+some-words : (k : ℕ) → may_hold k ≡ true → 0 < k
+some-words k e = by-test (nat_lt 0 k) refl e
+  where
+    by-test : (b : Bool) → nat_lt 0 k ≡ b → (b && nat_lt k 65537) ≡ true → 0 < k
+    by-test true t f = grind (arith, nat_tests)
+    by-test false t f = cc
 
-  pub makes-some : (b : Block) → IsPlain b → MakesSome b
-  makes-some Nothing p = tt
-  makes-some (Then t ts) p = (makes-stmt t p.0, makes-some ts p.1)
+-- in a script of the grammar each `new` asks for a word
+mutual
+  stmt-makes : (t : Stmt) → Fits t → StmtMakesSome t
+  stmt-makes (SetTo n e) f = tt
+  stmt-makes (New n k) f = some-words k f
+  stmt-makes (Get n t e) f = tt
+  stmt-makes (Put t i e) f = tt
+  stmt-makes (Forget t) f = tt
+  stmt-makes (Print e) f = tt
+  stmt-makes (Throw e) f = tt
+  stmt-makes (Async b) f = makes-some b f
+  stmt-makes (AtAsync e b) f = makes-some b f
+  stmt-makes (At e b) f = makes-some b f
+  stmt-makes (Finish b) f = makes-some b f
+  stmt-makes (If e a b) f = (makes-some a f.0, makes-some b f.1)
+  stmt-makes (Repeat n b) f = makes-some b f.1
+  stmt-makes (Try a d b) f = (makes-some a f.0, makes-some b f.1)
+
+  pub makes-some : (b : Block) → AllFit b → MakesSome b
+  makes-some Nothing f = tt
+  makes-some (Then t ts) f = (stmt-makes t f.0, makes-some ts f.1)

@@ -5,17 +5,22 @@ ghost use Rattle.rx10.specs.Top.{exit_of};
 /// What became of a command.
 #[derive(Clone, Copy, Debug, PartialEq, Eq)]
 pub enum Status {
-    /// The run ended, and its whole trace was written.
+    /// `step`: the run ended, nothing was lost and nothing was thrown at the root, and the whole trace was written. `check`: the
+    /// work was written.
     Done,
+    /// The run ended, something was lost or thrown at the root, and the whole trace was written.
+    Faulted,
     /// The words are no command. `word` is the number of the first bad one, from 0; where they are too few, how many there are.
     Usage { word: u32 },
-    /// The source's bytes are no script. `at` is 0 as yet.
+    /// The source's bytes are no script. `at` is the start of the first token that can't go on.
     Syntax { at: u32 },
+    /// The script fails a rule: `node` is the statement, and `rule` the rule.
+    Bad { rule: u8, node: u32 },
     /// The source gave more than 65,536 bytes.
     TooLong,
     /// The source failed.
     ReadFault,
-    /// The sink failed. It has taken a proper front of the trace.
+    /// The sink failed. It has taken a proper front of the text.
     WriteFault,
     /// There is no memory left.
     NoMemory,
@@ -28,8 +33,10 @@ impl Status {
     {
         match self {
             Status::Done => 0,
+            Status::Faulted => 1,
             Status::Usage { .. } => 2,
             Status::Syntax { .. } => 3,
+            Status::Bad { .. } => 4,
             Status::TooLong => 5,
             Status::ReadFault => 6,
             Status::WriteFault => 7,
@@ -37,12 +44,14 @@ impl Status {
         }
     }
 
-    /// Writes its line to standard error; `Done` has none. Where that fails, nothing more can be said.
+    /// Writes its line to standard error; `Done` and `Faulted` have none. Where that fails, nothing more can be said.
     pub fn tell<R: Eprint>(self, rt: &R) {
         let _ = match self {
             Status::Done => Ok(()),
+            Status::Faulted => Ok(()),
             Status::Usage { word } => eprintln!(rt; "usage {word}"),
             Status::Syntax { at } => eprintln!(rt; "syntax {at}"),
+            Status::Bad { rule, node } => eprintln!(rt; "bad {rule} {node}"),
             Status::TooLong => eprintln!(rt; "too long"),
             Status::ReadFault => eprintln!(rt; "read fault"),
             Status::WriteFault => eprintln!(rt; "write fault"),

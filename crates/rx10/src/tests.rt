@@ -1,16 +1,12 @@
 // What no clause says: that scripts run to their end, with their whole text, and what faults and bad words give.
-ghost use Rattle.std.specs.Prelude.{◌≤◌};
-ghost use Rattle.rx_rules.specs.Code.{Block, work};
-ghost use Rattle.rx_script.specs.Shape.{Stands};
-ghost use Rattle.rx_script.specs.Thin.{IsThin};
-
+use crate::texts::{
+    ADOPTION, AT_AND_ASYNC, AT_WAITS, BORN_STRUCK, EMPTY, ENDED_FIRST, FAULTS_IN_ORDER, FULL_HEAP,
+    LOST_IN_TRANSIT, NO_PLACE, ORDINARY, OVERFLOW, SOURCE_DIES, STALE, TWO_AT_ONCE, TWO_LOSSES,
+    WRONG_PLACE,
+};
 use crate::{Status, rx10_step};
 use rx_base::{MemSink, MemSource, NoMemory, RxWord};
-use rx_check::Program;
-use rx_machine::{ListPicks, Machine, Turn};
-use rx_script::{Script, read_script};
-use rx_trace::{KillList, Setup};
-use rx_tree::TreeLedger;
+use rx_text::put_natural;
 use std::alloc::Global;
 
 // What a command answers and writes, where the calls of these numbers fail and the sink has so much room.
@@ -23,15 +19,27 @@ struct Outside<'a> {
     write_fails: &'a [u32],
 }
 
-// The words `step` and a script, where nothing fails.
-fn plain(script: &[u8]) -> Outside<'_> {
+// These words and a script, where nothing fails.
+fn plain<'a>(words: &'a [&'a [u8]], script: &'a [u8]) -> Outside<'a> {
     Outside {
-        words: &[b"step"],
+        words,
         script,
         read_fails: &[],
         room: 4096,
         write_fails: &[],
     }
+}
+
+// What it answers, and what it writes.
+fn outcome(alloc: Global, outside: &Outside<'_>) -> Result<(Status, Vec<u8>), NoMemory> {
+    let mut words = Vec::new(alloc);
+    for word in outside.words {
+        words.push(RxWord::from_bytes(alloc, word)?)?;
+    }
+    let mut input = MemSource::open(alloc, outside.script, outside.read_fails)?;
+    let mut out = MemSink::open(alloc, outside.room, outside.write_fails)?;
+    let answer = rx10_step(alloc, &words, &mut input, &mut out);
+    Ok((answer, out.written().to_vec(alloc)?))
 }
 
 // Whether it answers and writes this.
@@ -41,115 +49,263 @@ fn gives(
     status: Status,
     text: &[u8],
 ) -> Result<bool, NoMemory> {
+    let (answer, written) = outcome(alloc, outside)?;
+    Ok(answer == status && written.as_slice() == text)
+}
+
+const STEP: &[&[u8]] = &[b"step"];
+
+const CHECK: &[&[u8]] = &[b"check"];
+
+const SCRIPT: &[u8] = b"finish { at 1 async { print 7; } } print 8;";
+
+#[test]
+fn runs_with_deaths(rt: HostRuntime) -> Result<(), NoMemory> {
+    for (words, script, status, text) in [
+        // the ordinary case
+        (
+            [b"step".as_slice()].as_slice(),
+            b"finish { at 1 async { print 7; } } print 8;".as_slice(),
+            Status::Done,
+            ORDINARY,
+        ),
+        // a task lost on its way
+        (
+            [b"step".as_slice(), b"--kill", b"1@3"].as_slice(),
+            b"finish { at 1 async { print 7; } } print 8;".as_slice(),
+            Status::Faulted,
+            LOST_IN_TRANSIT,
+        ),
+        // a task that ended before the death
+        (
+            [b"step".as_slice(), b"--kill", b"1@6"].as_slice(),
+            b"finish { at 1 async { print 7; } } print 8;".as_slice(),
+            Status::Done,
+            ENDED_FIRST,
+        ),
+        // a task born for a dead place
+        (
+            [b"step".as_slice(), b"--kill", b"1@1"].as_slice(),
+            b"finish { at 1 async { print 7; } } print 8;".as_slice(),
+            Status::Faulted,
+            BORN_STRUCK,
+        ),
+        // two deaths at one moment
+        (
+            [
+                b"step".as_slice(),
+                b"--places",
+                b"3",
+                b"--kill",
+                b"2@4",
+                b"--kill",
+                b"1@4",
+            ]
+            .as_slice(),
+            b"finish { at 1 async { print 7; } } print 8;".as_slice(),
+            Status::Faulted,
+            TWO_AT_ONCE,
+        ),
+        // the nearest scope with a living home waits for the orphans
+        (
+            [b"step".as_slice(), b"--places", b"4", b"--kill", b"2@12"].as_slice(),
+            b"try { finish { at 1 async { finish { at 2 async { finish { at 3 async { print 1; } } } } } } } catch dead { } print 2;".as_slice(),
+            Status::Done,
+            ADOPTION,
+        ),
+        // two losses in one release
+        (
+            [
+                b"step".as_slice(),
+                b"--places",
+                b"4",
+                b"--kill",
+                b"2@13",
+                b"--kill",
+                b"3@12",
+            ]
+            .as_slice(),
+            b"try { finish { at 1 async { finish { at 2 async { finish { at 3 async { print 1; } } } } } } } catch dead { } print 2;".as_slice(),
+            Status::Done,
+            TWO_LOSSES,
+        ),
+        // an `at` waits for the orphans
+        (
+            [b"step".as_slice(), b"--places", b"3", b"--kill", b"1@6"].as_slice(),
+            b"try { at 1 { finish { at 2 async { print 1; } } } } catch dead { print 9; } print 2;".as_slice(),
+            Status::Done,
+            AT_WAITS,
+        ),
+        // the source of a travel dies
+        (
+            [b"step".as_slice(), b"--places", b"3", b"--kill", b"1@6"].as_slice(),
+            b"try { finish { at 1 async { at 2 async { print 1; } } } } catch dead { print 9; }".as_slice(),
+            Status::Done,
+            SOURCE_DIES,
+        ),
+    ] {
+        assert!(rt; gives(rt.alloc(), &plain(words, script), status, text)?);
+    }
+    Ok(())
+}
+
+#[test]
+fn runs_of_all_statements(rt: HostRuntime) -> Result<(), NoMemory> {
+    for (words, script, status, text) in [
+        // an `async` in the body of an `at`
+        (
+            [b"step".as_slice()].as_slice(),
+            b"finish { at 1 { async { print 5; } } print 6; }".as_slice(),
+            Status::Done,
+            AT_AND_ASYNC,
+        ),
+        // a stale reference
+        (
+            [b"step".as_slice()].as_slice(),
+            b"new r = 3; forget r; new q = 3; get x = r[0];".as_slice(),
+            Status::Faulted,
+            STALE,
+        ),
+        // a full heap
+        (
+            [b"step".as_slice(), b"--heap", b"8"].as_slice(),
+            b"new a = 4; new b = 4; forget a; try { new c = 5; } catch { print 1; } new d = 4;".as_slice(),
+            Status::Done,
+            FULL_HEAP,
+        ),
+        // a reference at a wrong place
+        (
+            [b"step".as_slice()].as_slice(),
+            b"new r = 1; try { at 1 { get x = r[0]; } } catch { print 5; }".as_slice(),
+            Status::Done,
+            WRONG_PLACE,
+        ),
+        // faults in their order
+        (
+            [b"step".as_slice()].as_slice(),
+            b"try { finish { async { throw 1; } async { throw 2; } throw 3; } } catch { print 4; }".as_slice(),
+            Status::Done,
+            FAULTS_IN_ORDER,
+        ),
+        // a number out of range
+        (
+            [b"step".as_slice()].as_slice(),
+            b"print (9223372036854775807 + 1);".as_slice(),
+            Status::Faulted,
+            OVERFLOW,
+        ),
+        // no such place
+        (
+            [b"step".as_slice()].as_slice(),
+            b"at 5 async { }".as_slice(),
+            Status::Faulted,
+            NO_PLACE,
+        ),
+        // the empty script
+        (
+            [b"step".as_slice()].as_slice(),
+            b"".as_slice(),
+            Status::Done,
+            EMPTY,
+        ),
+    ] {
+        assert!(rt; gives(rt.alloc(), &plain(words, script), status, text)?);
+    }
+    Ok(())
+}
+
+// How long the trace is where place 2 of 4 dies at a moment.
+fn length_at(alloc: Global, script: &[u8], moment: u32) -> Result<usize, NoMemory> {
+    let mut kill = Vec::new(alloc);
+    kill.extend_from_slice(b"2@")?;
+    put_natural(&mut kill, moment)?;
     let mut words = Vec::new(alloc);
-    for word in outside.words {
+    for word in [b"step".as_slice(), b"--places", b"4", b"--kill"] {
         words.push(RxWord::from_bytes(alloc, word)?)?;
     }
-    let mut input = MemSource::open(alloc, outside.script, outside.read_fails)?;
-    let mut out = MemSink::open(alloc, outside.room, outside.write_fails)?;
-    let answer = rx10_step(alloc, &words, &mut input, &mut out);
-    Ok(answer == status && out.written() == text)
-}
-
-const ORDINARY: &[u8] = b"finish { at 1 async { print 7; } } print 8;";
-
-const ORDINARY_TEXT: &[u8] = b"rx10 trace 1
-places 2 heap 256
-kills
-history
-0 open t0 s1 in s0 0
-1 spawn t0 t1 in s1 0 1 0.0
-2 wait t0 s1
-3 arrive t1 1
-4 print t1 7 0.0.0
-5 end t1
-6 release t0 s1
-7 print t0 8 1
-8 end t0
-9 release host s0
-journal 0
-journal 1
-done
-";
-
-const EMPTY_TEXT: &[u8] = b"rx10 trace 1
-places 2 heap 256
-kills
-history
-0 end t0
-1 release host s0
-journal 0
-journal 1
-done
-";
-
-const BESIDE_TEXT: &[u8] = b"rx10 trace 1
-places 2 heap 256
-kills
-history
-0 spawn t0 t1 in s0 0 0 0
-1 print t0 2 1
-2 end t0
-3 print t1 1 0.0
-4 end t1
-5 release host s0
-journal 0
-journal 1
-done
-";
-
-#[test]
-fn ordinary_case(rt: HostRuntime) -> Result<(), NoMemory> {
-    assert!(rt; gives(rt.alloc(), &plain(ORDINARY), Status::Done, ORDINARY_TEXT)?);
-    Ok(())
+    words.push(RxWord::from_bytes(alloc, &kill)?)?;
+    let mut input = MemSource::open(alloc, script, &[])?;
+    let mut out = MemSink::open(alloc, 4096, &[])?;
+    let _ = rx10_step(alloc, &words, &mut input, &mut out);
+    Ok(out.written().len())
 }
 
 #[test]
-fn empty_script(rt: HostRuntime) -> Result<(), NoMemory> {
-    assert!(rt; gives(rt.alloc(), &plain(b""), Status::Done, EMPTY_TEXT)?);
-    Ok(())
-}
-
-#[test]
-fn the_oldest_task_moves_first(rt: HostRuntime) -> Result<(), NoMemory> {
-    let script = plain(b"async { print 1; } print 2;");
-    assert!(rt; gives(rt.alloc(), &script, Status::Done, BESIDE_TEXT)?);
-    Ok(())
-}
-
-// How many tasks are enabled before the first turn, and what that turn does.
-fn first_turn(alloc: Global, script: Script) -> Result<(u32, Turn), NoMemory>
-    requires { (code : Block) × Stands script code × IsThin code × (work code ≤ 65536) }
-{
-    let program = Program::of(script);
-    let setup = Setup {
-        places: 2,
-        heap: 256,
-        kills: KillList::open(alloc),
-    };
-    let ledger = TreeLedger::open(alloc, setup.places)?;
-    let mut picks = ListPicks::open(alloc, &[])?;
-    let mut machine = Machine::open(alloc, &program, setup, ledger)?;
-    let enabled = machine.enabled();
-    let turn = machine.turn(&program, &mut picks)?;
-    Ok((enabled, turn))
-}
-
-#[test]
-fn the_first_turn_moves(rt: HostRuntime) -> Result<(), NoMemory> {
-    let Ok(script) = read_script(rt.alloc(), ORDINARY) else {
-        return Err(NoMemory);
-    };
-    let (enabled, turn) = first_turn(rt.alloc(), script)?;
-    assert_eq!(rt; enabled, 1);
-    assert_eq!(rt; turn, Turn::Moved);
+fn a_death_at_every_moment(rt: HostRuntime) -> Result<(), NoMemory> {
+    let script =
+        b"try { finish { at 1 async { finish { at 2 async { finish { at 3 async { print 1; } } } } } } } catch dead { } print 2;";
+    for (moment, len) in [
+        (0, 402),
+        (1, 402),
+        (2, 402),
+        (3, 402),
+        (4, 402),
+        (5, 402),
+        (6, 402),
+        (7, 402),
+        (8, 417),
+        (9, 451),
+        (10, 494),
+        (11, 508),
+        (12, 565),
+        (13, 565),
+        (14, 565),
+        (15, 582),
+        (16, 557),
+        (17, 557),
+        (18, 557),
+        (19, 557),
+        (20, 557),
+        (21, 557),
+        (22, 535),
+    ] {
+        assert_eq!(rt; length_at(rt.alloc(), script, moment)?, len);
+    }
     Ok(())
 }
 
 #[test]
 fn bytes_that_are_no_script(rt: HostRuntime) -> Result<(), NoMemory> {
-    let script = plain(b"print x;");
-    assert!(rt; gives(rt.alloc(), &script, Status::Syntax { at: 0 }, b"")?);
+    for (script, at) in [
+        (b"print 7".as_slice(), 7),
+        (b"print 7; pri", 9),
+        (b"print 9223372036854775808;", 6),
+        (b"new r = 0;", 8),
+        (b"if 1 { } print 2;", 9),
+    ] {
+        let status = Status::Syntax { at };
+        assert!(rt; gives(rt.alloc(), &plain(STEP, script), status, b"")?);
+        assert!(rt; gives(rt.alloc(), &plain(CHECK, script), status, b"")?);
+    }
+    Ok(())
+}
+
+#[test]
+fn scripts_that_fail_a_rule(rt: HostRuntime) -> Result<(), NoMemory> {
+    for (script, rule, node) in [
+        (b"print x;".as_slice(), 1, 0),
+        (b"set x = 1; forget x;", 2, 1),
+        (b"repeat 9 { repeat 11109 { } } print 1;", 5, 0),
+    ] {
+        let status = Status::Bad { rule, node };
+        assert!(rt; gives(rt.alloc(), &plain(STEP, script), status, b"")?);
+        assert!(rt; gives(rt.alloc(), &plain(CHECK, script), status, b"")?);
+    }
+    Ok(())
+}
+
+#[test]
+fn the_work_of_scripts(rt: HostRuntime) -> Result<(), NoMemory> {
+    for (script, text) in [
+        (
+            b"repeat 9 { repeat 11109 { } }".as_slice(),
+            b"work 100000\n".as_slice(),
+        ),
+        (b"", b"work 0\n"),
+        (b"if 1 { print 1; } else { }", b"work 2\n"),
+    ] {
+        assert!(rt; gives(rt.alloc(), &plain(CHECK, script), Status::Done, text)?);
+    }
     Ok(())
 }
 
@@ -158,13 +314,17 @@ fn faulty_words(rt: HostRuntime) -> Result<(), NoMemory> {
     for (words, word) in [
         ([].as_slice(), 0),
         ([b"stop".as_slice()].as_slice(), 0),
-        ([b"step".as_slice(), b"more"].as_slice(), 1),
+        ([b"check".as_slice(), b"more"].as_slice(), 1),
+        ([b"step".as_slice(), b"--kill", b"2@1"].as_slice(), 2),
     ] {
-        let outside = Outside {
-            words,
-            ..plain(ORDINARY)
-        };
-        assert!(rt; gives(rt.alloc(), &outside, Status::Usage { word }, b"")?);
+        assert!(rt;
+            gives(
+                rt.alloc(),
+                &plain(words, SCRIPT),
+                Status::Usage { word },
+                b""
+            )?
+        );
     }
     Ok(())
 }
@@ -173,17 +333,17 @@ fn faulty_words(rt: HostRuntime) -> Result<(), NoMemory> {
 fn outside_faults(rt: HostRuntime) -> Result<(), NoMemory> {
     let read = Outside {
         read_fails: &[0],
-        ..plain(ORDINARY)
+        ..plain(STEP, SCRIPT)
     };
     assert!(rt; gives(rt.alloc(), &read, Status::ReadFault, b"")?);
     let write = Outside {
         write_fails: &[0],
-        ..plain(ORDINARY)
+        ..plain(STEP, SCRIPT)
     };
     assert!(rt; gives(rt.alloc(), &write, Status::WriteFault, b"")?);
     let short = Outside {
         room: 20,
-        ..plain(ORDINARY)
+        ..plain(STEP, SCRIPT)
     };
     assert!(rt;
         gives(
@@ -200,8 +360,8 @@ fn outside_faults(rt: HostRuntime) -> Result<(), NoMemory> {
 fn too_long_by_one_blank(rt: HostRuntime) -> Result<(), NoMemory> {
     let mut blanks = Vec::new(rt.alloc());
     blanks.resize(65_536, b' ')?;
-    assert!(rt; gives(rt.alloc(), &plain(&blanks), Status::Done, EMPTY_TEXT)?);
+    assert!(rt; gives(rt.alloc(), &plain(STEP, &blanks), Status::Done, EMPTY)?);
     blanks.push(b' ')?;
-    assert!(rt; gives(rt.alloc(), &plain(&blanks), Status::TooLong, b"")?);
+    assert!(rt; gives(rt.alloc(), &plain(STEP, &blanks), Status::TooLong, b"")?);
     Ok(())
 }

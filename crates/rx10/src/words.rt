@@ -1,28 +1,7 @@
-// The words of a command.
-ghost use Rattle.std.specs.Prelude.{◌≡◌};
-ghost use Rattle.rx10.specs.Top.{bad_word};
-
+// The words that the system gives.
 use rx_base::{NoMemory, RxWord};
 use std::env::FillError;
 use std::rt::Env;
-
-// The number of the first bad word, if there is one.
-pub(crate) fn usage(words: &[RxWord]) -> Option<u32>
-    ensures { result ≡ bad_word words.now }
-{
-    match words.split_first() {
-        None => Some(0),
-        Some((first, more)) => {
-            if first.bytes() != b"step".as_slice() {
-                Some(0)
-            } else if more.is_empty() {
-                None
-            } else {
-                Some(1)
-            }
-        }
-    }
-}
 
 // The words that the program was given, its own name left out.
 pub(crate) fn given<R: Env + AllocGlobal>(rt: &R) -> Result<Vec<RxWord>, NoMemory> {

@@ -280,6 +280,29 @@ fn bytes_that_are_no_script(rt: HostRuntime) -> Result<(), NoMemory> {
     Ok(())
 }
 
+// For each length, where that much of the script goes wrong; 99 where it is a script.
+const CUTS: [u32; 44] = [
+    99, 0, 0, 0, 0, 0, 6, 7, 8, 9, 9, 11, 12, 13, 14, 14, 14, 14, 14, 19, 20, 21, 22, 22, 22, 22,
+    22, 27, 28, 29, 30, 31, 32, 33, 99, 99, 35, 35, 35, 35, 40, 41, 42, 99,
+];
+
+#[test]
+fn a_script_cut_at_every_length(rt: HostRuntime) -> Result<(), NoMemory> {
+    for (len, at) in CUTS.iter().enumerate() {
+        let Some(front) = SCRIPT.get(..len) else {
+            return Err(NoMemory);
+        };
+        let (status, _) = outcome(rt.alloc(), &plain(CHECK, front))?;
+        let want = if *at == 99 {
+            Status::Done
+        } else {
+            Status::Syntax { at: *at }
+        };
+        assert!(rt; status == want);
+    }
+    Ok(())
+}
+
 #[test]
 fn scripts_that_fail_a_rule(rt: HostRuntime) -> Result<(), NoMemory> {
     for (script, rule, node) in [

@@ -31,7 +31,7 @@ use Rattle.rx_machine.specs.declared.machine.Machine.{Machine}
 use Rattle.rx_machine.specs.declared.seat.Seat.{Seat}
 use Rattle.rx_machine.specs.Slots.{live_task, SlotIs, seat_at, seat_in, left_by}
 use Rattle.rx_machine.specs.Holds.{StoresAre}
-use Rattle.rx_machine.specs.Runs.{Dying, WentOn}
+use Rattle.rx_machine.specs.Runs.{Dying, HasDied}
 use Rattle.rx_machine.proofs.Finding.{same_or_not, get_same}
 use Rattle.rx_machine.proofs.Acted.{seat_other}
 use Rattle.rx_machine.proofs.Live.{if_missed, strike-live}
@@ -167,7 +167,7 @@ module _ {L : Type 0} (stands : L → Tree → Type 0) (shape : Shape) (code : B
         },
       )
 
-  pub fallen : (m' : Machine L) (k : ℕ) → Fell stands m m' d (length G.entries) (tree_in U G) → WentOn stands shape code U m' k false G
+  pub fallen : (m' : Machine L) (k : ℕ) → Fell stands m m' d (length G.entries) (tree_in U G) → HasDied stands shape code U m' k G
   fallen m' k f =
       let n : ℕ = length G.entries in
       let b : Blow = record { place = d; entry = length G.entries } in

@@ -1,5 +1,5 @@
 -- The slots that are enabled are the enabled tasks.
-use Rattle.std.specs.Prelude.{◌≡◌, ℕ, zero, suc, ◌+◌, ◌-◌, ◌<◌, ◌≤◌, Bool, true, false, cond, not, ◌&&◌, ◌||◌, ◌==◌, List, [], ◌∷◌, ◌++◌, filter, reverse, length, drop, Option, Some, None, is_none, slice_get, refl}
+use Rattle.std.specs.Prelude.{◌≡◌, ℕ, zero, suc, ◌+◌, ◌-◌, ◌<◌, ◌≤◌, Bool, true, false, cond, not, ◌&&◌, ◌||◌, ◌==◌, List, [], ◌∷◌, ◌++◌, filter, reverse, length, Option, Some, None, is_none, slice_get, refl}
 use Rattle.std.specs.List.{find}
 use Rattle.std.proofs.Common.{ap, ◌∙◌, sym, subst, arith}
 use Rattle.std.proofs.lemmas.Bool.{eq-eqb, ne_eqb}
@@ -12,8 +12,13 @@ use Rattle.rx_sound.specs.Sound.{TasksFall}
 use Rattle.rx_script.specs.Shape.{Shape}
 use Rattle.rx_machine.specs.declared.seat.Seat.{Seat}
 use Rattle.rx_machine.specs.Slots.{live_task, live_in, SlotIs, seat_at}
-use Rattle.rx_machine.specs.Picking.{slot_able, able_from}
+use Rattle.rx_machine.specs.Picking.{slot_able}
 use Rattle.rx_machine.proofs.Live.{live_stands}
+
+-- the numbers of the enabled slots, from slot n on
+abbrev pub able_from : Tree → ℕ → List (Option Seat) → List ℕ
+able_from T n [] = []
+able_from T n (o ∷ os) = cond (slot_able T o) (n ∷ able_from T (suc n) os) (able_from T (suc n) os)
 
 -- what a look-up finds, if it passes
 abbrev found : (Task → Bool) → Option Task → List Task
@@ -148,26 +153,3 @@ able_at T n [] k i h = absurd (let f : ⊥ = cc in f)
 able_at T n (None ∷ os) k i h =
     able_later T n None os k i (able_at T (suc n) os k i h)
 able_at T n (Some seat ∷ os) k i h = able_here T n seat os (is_enabled T seat.row) k i (λ j e. able_at T (suc n) os j i e) h
-
--- one slot on
-able_step : (T : Tree) (j i : ℕ) (os : List (Option Seat)) → i < length os → able_from T j (drop i os) ≡ cond (slot_able T (seat_at os i)) (j ∷ []) [] ++ able_from T (suc j) (drop (suc i) os)
-able_step T j i [] h = absurd (omega arith)
-able_step T j zero (o ∷ os) h =
-    elim (slot_able T o) as (λ b. cond b (j ∷ able_from T (suc j) os) (able_from T (suc j) os) ≡ cond b (j ∷ []) [] ++ able_from T (suc j) os) [ true ↦ refl | false ↦ refl ]
-able_step T j (suc i) (o ∷ os) h = let inside : i < length os = omega arith in able_step T j i os inside
-
-pub able_more : (T : Tree) (i : ℕ) (os : List (Option Seat)) (ns : List ℕ) (all : List ℕ) → i < length os → ns ++ able_from T i (drop i os) ≡ all → (ns ++ cond (slot_able T (seat_at os i)) (i ∷ []) []) ++ able_from T (i + 1) (drop (i + 1) os) ≡ all
-able_more T i os ns all h e =
-    let one : i + 1 ≡ suc i = omega arith in
-    ap (λ v. (ns ++ cond (slot_able T (seat_at os i)) (i ∷ []) []) ++ able_from T v (drop v os)) one
-    ∙ (append_assoc ns (cond (slot_able T (seat_at os i)) (i ∷ []) []) (able_from T (suc i) (drop (suc i) os))
-    ∙ (ap (λ v. ns ++ v) (sym (able_step T i i os h)) ∙ e))
-
-none_left : (i : ℕ) (os : List (Option Seat)) → length os ≤ i → drop i os ≡ []
-none_left zero [] h = refl
-none_left (suc i) [] h = refl
-none_left zero (o ∷ os) h = absurd (omega arith)
-none_left (suc i) (o ∷ os) h = let less : length os ≤ i = omega arith in none_left i os less
-
-pub able_all : (T : Tree) (i : ℕ) (os : List (Option Seat)) (ns all : List ℕ) → length os ≤ i → ns ++ able_from T i (drop i os) ≡ all → ns ≡ all
-able_all T i os ns all h e = sym (ap (λ v. ns ++ able_from T i v) (none_left i os h) ∙ append-nil ns) ∙ e

@@ -24,7 +24,7 @@ use Rattle.rx_control.specs.Stands.{StandsFor}
 use Rattle.rx_machine.specs.declared.machine.Machine.{Machine}
 use Rattle.rx_machine.specs.declared.seat.Seat.{Seat}
 use Rattle.rx_machine.specs.Slots.{live_task, SlotIs, IsSeat, seat_at}
-use Rattle.rx_machine.specs.Holds.{StoresAre, Holds, Landing, Finished, Releasing, Makes}
+use Rattle.rx_machine.specs.Holds.{StoresAre, Seated, Landing, Finished, Releasing, Makes}
 use Rattle.rx_machine.proofs.Finding.{same_or_not}
 use Rattle.rx_machine.proofs.Live.{change-other, change-same, live_stands}
 use Rattle.rx_machine.proofs.Own.{slot-on}
@@ -35,7 +35,7 @@ use Rattle.rx_machine.proofs.Acted.{Went, seat_back, seat_other}
 abbrev there : PlaceId → Task → Task
 there to x = record x { place = At to }
 
-pub landed : {L : Type 0} (stands : L → Tree → Type 0) (shape : Shape) (code : Block) (U : Given) (m m' : Machine L) (k i : ℕ) (to : PlaceId) (seat seat' : Seat) (G : Game) → Landing stands shape code U m k i to seat G → AllowedAct (tree_in U G) seat.row.number (Arrive to) → seat'.row ≡ there to seat.row → seat'.scopes ≡ seat.scopes → seat'.control ≡ seat.control → seat'.batch ≡ seat.batch → Went stands m m' (made_act (tree_in U G) seat.row.number (Arrive to)) (Step seat.row.number (Arrive to) []) → m'.seats.items ≡ slice_set m.seats.items i (Some seat') → Makes (Turn U k G true) (Holds stands shape code U m')
+pub landed : {L : Type 0} (stands : L → Tree → Type 0) (shape : Shape) (code : Block) (U : Given) (m m' : Machine L) (k i : ℕ) (to : PlaceId) (seat seat' : Seat) (G : Game) → Landing stands shape code U m k i to seat G → AllowedAct (tree_in U G) seat.row.number (Arrive to) → seat'.row ≡ there to seat.row → seat'.scopes ≡ seat.scopes → seat'.control ≡ seat.control → seat'.batch ≡ seat.batch → Went stands m m' (made_act (tree_in U G) seat.row.number (Arrive to)) (Step seat.row.number (Arrive to) []) → m'.seats.items ≡ slice_set m.seats.items i (Some seat') → Makes (Turn U k G true) (Seated stands shape code U m')
 landed stands shape code U m m' k i to seat seat' G a may row scopes control batch went back =
     let T : Tree = tree_in U G in
     let t : TaskId = seat.row.number in

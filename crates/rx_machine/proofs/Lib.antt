@@ -11,9 +11,11 @@ pub mod Beginning
 pub mod Asking
 pub mod Printed
 pub mod Opened
+pub mod Openers
 pub mod Opens
 pub mod Landed
 pub mod Enabled
+pub mod Readying
 pub mod Able
 pub mod Targets
 pub mod Born
@@ -30,3 +32,4 @@ pub mod Taking
 pub mod Turned
 pub mod Deaths
 pub mod Halting
+pub mod Noting

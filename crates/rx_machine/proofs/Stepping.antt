@@ -165,7 +165,7 @@ local-seat shape T i here places q seat seat' after left s e term vars batch row
     }
 
 pub same : {L : Type 0} (m : Machine L) → OnlyStores m m
-same m = record { history = refl; ledger = refl; seats = refl; kills = refl; places = refl; failed = refl }
+same m = record { history = refl; ledger = refl; seats = refl; ready = refl; kills = refl; places = refl; failed = refl }
 
 pub stepped-local : {L : Type 0} (stands : L → Tree → Type 0) (shape : Shape) (code : Block) (U : Given) (m : Machine L) (k i : ℕ) (here : PlaceId) (q : Player) (seat seat' : Seat) (G : Game) → TermSinks → Acting stands shape code U m k i here q seat G → next_of (does q.vars here.0 U.places q.term) ≡ LocalStep → Leaves shape seat'.control (does q.vars here.0 U.places q.term) → seat'.batch ≡ begun q.term seat.batch → seat'.row ≡ seat.row → seat'.scopes ≡ seat.scopes → AfterStep stands shape code U m k i here q seat' G None
 stepped-local stands shape code U m k i here q seat seat' G law a e leaves batch row scopes =
@@ -192,6 +192,7 @@ same-twice m m' m'' a b =
       history = b.history ∙ a.history;
       ledger = b.ledger ∙ a.ledger;
       seats = b.seats ∙ a.seats;
+      ready = b.ready ∙ a.ready;
       kills = b.kills ∙ a.kills;
       places = b.places ∙ a.places;
       failed = b.failed ∙ a.failed;

@@ -21,7 +21,7 @@ use Rattle.rx_script.specs.Shape.{Shape}
 use Rattle.rx_machine.specs.declared.machine.Machine.{Machine}
 use Rattle.rx_machine.specs.declared.seat.Seat.{Seat}
 use Rattle.rx_machine.specs.Slots.{IsSeat, SlotIs, seat_at, seat_in}
-use Rattle.rx_machine.specs.Holds.{Holds, HoldsBut, IsPick, Acting, Landing, StoresAre}
+use Rattle.rx_machine.specs.Holds.{Seated, HoldsBut, IsPick, Acting, Landing, StoresAre}
 use Rattle.rx_machine.specs.Runs.{Taken}
 use Rattle.rx_machine.proofs.Acted.{seat_other}
 use Rattle.rx_machine.proofs.Finding.{get_same}
@@ -51,7 +51,7 @@ found stands shape code U m k i seat G t at =
       seat_is = slot.2;
     }
 
-pub holds-but : {L : Type 0} (stands : L → Tree → Type 0) (shape : Shape) (code : Block) (U : Given) (m m' : Machine L) (i : ℕ) (G : Game) → Holds stands shape code U m G → i < length m.seats.items → Emptied m m' i → HoldsBut stands shape code U m' i G
+pub holds-but : {L : Type 0} (stands : L → Tree → Type 0) (shape : Shape) (code : Block) (U : Given) (m m' : Machine L) (i : ℕ) (G : Game) → Seated stands shape code U m G → i < length m.seats.items → Emptied m m' i → HoldsBut stands shape code U m' i G
 holds-but {L = L} stands shape code U m m' i G h inside e =
     let s = h.shares in
     record {

@@ -18,13 +18,14 @@ use Rattle.rx_script.specs.Shape.{Shape}
 use Rattle.rx_machine.specs.declared.machine.Machine.{Machine}
 use Rattle.rx_machine.specs.declared.seat.Seat.{Seat}
 use Rattle.rx_machine.specs.Slots.{seat_at}
-use Rattle.rx_machine.specs.Holds.{Holds, CanTurn, Releasing}
+use Rattle.rx_machine.specs.Holds.{Seated, CanTurn, Releasing}
 use Rattle.rx_machine.specs.Runs.{RunsOn, Calm, Dying, Taken}
-use Rattle.rx_machine.specs.Picking.{able_from}
-use Rattle.rx_machine.proofs.Enabled.{enabled_rows, able_length, able_at}
+use Rattle.rx_machine.specs.Picking.{IsReady}
+use Rattle.rx_machine.specs.Origins.{TellsOrigins}
+use Rattle.rx_machine.proofs.Enabled.{able_from, enabled_rows, able_length, able_at}
 
 -- a machine whose history has more room stands for the same game
-pub roomier : {L : Type 0} (stands : L → Tree → Type 0) (shape : Shape) (code : Block) (U : Given) (m : Machine L) (h : Log) (G : Game) → h.entries ≡ m.history.entries → h.setup ≡ m.history.setup → Holds stands shape code U m G → Holds stands shape code U (record m { history = h }) G
+pub roomier : {L : Type 0} (stands : L → Tree → Type 0) (shape : Shape) (code : Block) (U : Given) (m : Machine L) (h : Log) (G : Game) → h.entries ≡ m.history.entries → h.setup ≡ m.history.setup → Seated stands shape code U m G → Seated stands shape code U (record m { history = h }) G
 roomier stands shape code U m h G entries setup a =
     record {
       shares = record {
@@ -42,7 +43,7 @@ roomier stands shape code U m h G entries setup a =
     }
 
 -- a turn can be made
-pub can-turn : {L : Type 0} (stands : L → Tree → Type 0) (shape : Shape) (code : Block) (U : Given) (m : Machine L) (G : Game) → GamesCome → FoldReached → Holds stands shape code U m G → RunsOn code U → NoRoot G.entries → CanTurn stands shape code U m G
+pub can-turn : {L : Type 0} (stands : L → Tree → Type 0) (shape : Shape) (code : Block) (U : Given) (m : Machine L) (G : Game) → GamesCome → FoldReached → Seated stands shape code U m G → RunsOn code U → NoRoot G.entries → CanTurn stands shape code U m G
 can-turn stands shape code U m G come fold h on unreleased =
     let came : CameTo code U G = come code U G on.proper h.shares.comes unreleased in
     let entries : length G.entries ≤ 4 * work code + U.places = came.entries in
@@ -57,11 +58,6 @@ can-turn stands shape code U m G come fold h on unreleased =
       reached = fold U.places G.entries on.proper.some on.proper.few came.ok.folds.allowed;
     }
 
--- so it can where the history has more room
-pub roomy-turn : {L : Type 0} (stands : L → Tree → Type 0) (shape : Shape) (code : Block) (U : Given) (m : Machine L) (h : Log) (G : Game) → GamesCome → FoldReached → (h.entries ≡ m.history.entries) × (h.setup ≡ m.history.setup) × (m.history.spare ≤ h.spare) → Holds stands shape code U m G → RunsOn code U → NoRoot G.entries → CanTurn stands shape code U (record m { history = h }) G
-roomy-turn stands shape code U m h G come fold same a on unreleased =
-    can-turn stands shape code U (record m { history = h }) G come fold (roomier stands shape code U m h G same.0 same.1 a) on unreleased
-
 -- the kill that is due is that of the game
 pub dying : {L : Type 0} (stands : L → Tree → Type 0) (shape : Shape) (code : Block) (U : Given) (m : Machine L) (d : PlaceId) (G : Game) (n : ℕ) → CanTurn stands shape code U m G → RunsOn code U → n ≡ length m.history.entries → IsDue n d m.kills → Dying stands shape code U m d G
 dying stands shape code U m d G n can on at due =
@@ -73,13 +69,15 @@ dying stands shape code U m d G n can on at due =
     }
 
 -- and where none is, none is due in the game
-pub calm : {L : Type 0} (stands : L → Tree → Type 0) (shape : Shape) (code : Block) (U : Given) (m : Machine L) (G : Game) (n : ℕ) → CanTurn stands shape code U m G → RunsOn code U → n ≡ length m.history.entries → NoneDue n m.kills → Calm stands shape code U m G
-calm stands shape code U m G n can on at none =
+pub calm : {L : Type 0} (stands : L → Tree → Type 0) (shape : Shape) (code : Block) (U : Given) (m : Machine L) (G : Game) (n : ℕ) → CanTurn stands shape code U m G → RunsOn code U → n ≡ length m.history.entries → NoneDue n m.kills → IsReady (tree_in U G) m.ready.tasks.members → TellsOrigins (tree_in U G) m.ready.origins.items → Calm stands shape code U m G
+calm stands shape code U m G n can on at none ready told =
     let same : n ≡ length G.entries = at ∙ ap length can.holds.shares.entries in
     record {
       can = can;
       on = on;
       none_due = subst (λ (ks : List Kill). NoneDue (length G.entries) ks) can.holds.shares.kills (subst (λ (v : ℕ). NoneDue v m.kills) same none);
+      ready = ready;
+      origins = told;
     }
 
 empty : {X : Type 0} (xs : List X) → length xs ≡ 0 → xs ≡ []
@@ -135,7 +133,7 @@ taken stands shape code U m G ns k i sound quietly able at =
     }
 
 -- how many numbers are counted is how many tasks are enabled
-pub all-counted : {L : Type 0} (stands : L → Tree → Type 0) (shape : Shape) (code : Block) (U : Given) (m : Machine L) (G : Game) (ns : List ℕ) → GamesCome → FoldReached → ReachedSound → Holds stands shape code U m G → RunsOn code U → NoRoot G.entries → ns ≡ able_from (tree_in U G) 0 m.seats.items → length ns ≡ length (enabled (tree_in U G))
+pub all-counted : {L : Type 0} (stands : L → Tree → Type 0) (shape : Shape) (code : Block) (U : Given) (m : Machine L) (G : Game) (ns : List ℕ) → GamesCome → FoldReached → ReachedSound → Seated stands shape code U m G → RunsOn code U → NoRoot G.entries → ns ≡ able_from (tree_in U G) 0 m.seats.items → length ns ≡ length (enabled (tree_in U G))
 all-counted stands shape code U m G ns come fold sound h on unreleased able =
     let T : Tree = tree_in U G in
     let can = can-turn stands shape code U m G come fold h on unreleased in

@@ -19,7 +19,7 @@ use Rattle.rx_store.specs.Kept.{Kept}
 use Rattle.rx_script.specs.Shape.{Shape}
 use Rattle.rx_machine.specs.declared.machine.Machine.{Machine}
 use Rattle.rx_machine.specs.Holds.{Holds, StoresAre, Finished, Makes}
-use Rattle.rx_machine.specs.Runs.{RunsOn, AfterTurn, WentOn, HasRun, Gives}
+use Rattle.rx_machine.specs.Runs.{RunsOn, WentOn, HasRun, Gives}
 
 -- Turns that move tasks.
 
@@ -29,14 +29,11 @@ step_push (Step t act batch ∷ es) e h k = step_push es e h k
 step_push (Root lost thrown ∷ es) e h k = h
 step_push (Death d ∷ es) e h k = step_push es e h k
 
-stays_open : (U : Given) (k : ℕ) (G G' : Game) → Turn U k G true G' → NoRoot G.entries → NoRoot G'.entries
+-- the root stands after it
+pub stays_open : (U : Given) (k : ℕ) (G G' : Game) → Turn U k G true G' → NoRoot G.entries → NoRoot G'.entries
 stays_open U k G G' (arrives x p none_due pick may) h = step_push G.entries (Step x.number (Arrive p) []) h tt
 stays_open U k G G' (moves x here p q S Z j act none_due pick at player store goes fits may) h = step_push G.entries (Step x.number act q.batch) h tt
 stays_open U k G G' (ends x here p q S Z j f none_due pick at player store goes done may) h = step_push G.entries (Step x.number (End f) q.batch) h tt
-
--- where a task has moved, the root stands
-pub goes-on : {L : Type 0} (stands : L → Tree → Type 0) (shape : Shape) (code : Block) (U : Given) (m : Machine L) (k : ℕ) (G : Game) → NoRoot G.entries → AfterTurn stands shape code U m k G → WentOn stands shape code U m k true G
-goes-on stands shape code U m k G unreleased a = (a.0, a.1, (a.2, stays_open U k G a.0 a.1 unreleased))
 
 -- after i turns, of which j used a pick, the machine stands for a game in which the root stands
 pub record RunTo {L : Type 0} (stands : L → Tree → Type 0) (shape : Shape) (code : Block) (U : Given) (picks : ℕ → ℕ) (m : Machine L) (i j : ℕ) : Type 0 where
@@ -90,10 +87,10 @@ journals_are heap p (s ∷ ss) [] h = absurd h
 pub gives-holds : {L : Type 0} (stands : L → Tree → Type 0) (shape : Shape) (code : Block) (U : Given) (m : Machine L) (G : Game) (r : Log × AllEvents × L) → r.0 ≡ m.history → events_of r.1 ≡ map (λ s. s.events) m.stores.items → r.2 ≡ m.ledger → Holds stands shape code U m G → Gives stands U G r
 gives-holds stands shape code U m G r history events ledger h =
     record {
-      entries = ap (λ l. l.entries) history ∙ h.shares.entries;
-      setup = ap (λ l. given l.setup) history ∙ h.shares.setup;
-      journals = events ∙ journals_are U.heap 0 m.stores.items G.journals h.stores;
-      ledger = subst (λ x. stands x (tree_in U G)) (sym ledger) h.shares.ledger;
+      entries = ap (λ l. l.entries) history ∙ h.seated.shares.entries;
+      setup = ap (λ l. given l.setup) history ∙ h.seated.shares.setup;
+      journals = events ∙ journals_are U.heap 0 m.stores.items G.journals h.seated.stores;
+      ledger = subst (λ x. stands x (tree_in U G)) (sym ledger) h.seated.shares.ledger;
     }
 
 pub gives-finished : {L : Type 0} (stands : L → Tree → Type 0) (U : Given) (m : Machine L) (G : Game) (r : Log × AllEvents × L) → r.0 ≡ m.history → events_of r.1 ≡ map (λ s. s.events) m.stores.items → r.2 ≡ m.ledger → Finished stands U m G → Gives stands U G r
@@ -105,20 +102,16 @@ gives-finished stands U m G r history events ledger f =
       ledger = subst (λ x. stands x (tree_in U G)) (sym ledger) f.ledger;
     }
 
-pub run-ends : {L : Type 0} (stands : L → Tree → Type 0) (shape : Shape) (code : Block) (U : Given) (picks : ℕ → ℕ) (m m' : Machine L) (i j k : ℕ) → (r : RunTo stands shape code U picks m i j) → k ≡ picks j → (a : Makes (Turn U k r.game false) (Finished stands U m')) → (parts : Log × AllEvents × L) → Gives stands U a.0 parts → HasRun code U picks stands parts
-run-ends stands shape code U picks m m' i j k r e a parts gives =
-    let t : Turn U (picks j) r.game false a.0 = subst (λ x. Turn U x r.game false a.0) e a.1 in (
-      record {
-        turns = i + 1;
-        game = a.0;
-        made = r.made 1 a.0 (more r.unreleased t none);
-        ended = a.2.ended;
-        entries = gives.entries;
-        journals = gives.journals;
-      },
-      gives.setup,
-      subst (λ es. stands parts.2 (tree_of U.places es)) (sym gives.entries) gives.ledger,
-    )
+pub run-ends : {L : Type 0} (stands : L → Tree → Type 0) (shape : Shape) (code : Block) (U : Given) (picks : ℕ → ℕ) (m m' : Machine L) (i j k : ℕ) → TurnsBounded → RunsOn code U → (r : RunTo stands shape code U picks m i j) → k ≡ picks j → (a : Makes (Turn U k r.game false) (Finished stands U m')) → (parts : Log × AllEvents × L) → Gives stands U a.0 parts → HasRun code U picks stands parts
+run-ends stands shape code U picks m m' i j k law on r e a parts gives =
+    let t : Turn U (picks j) r.game false a.0 = subst (λ x. Turn U x r.game false a.0) e a.1 in
+    let made = r.made 1 a.0 (more r.unreleased t none) in
+    record {
+      picked = record { turns = i + 1; game = a.0; made = made; ended = a.2.ended; entries = gives.entries; journals = gives.journals };
+      few = law code U picks (i + 1) a.0 on.proper made;
+      setup = gives.setup;
+      ledger = subst (λ es. stands parts.2 (tree_of U.places es)) (sym gives.entries) gives.ledger;
+    }
 
 -- One journal more.
 

@@ -17,6 +17,8 @@ use Rattle.rx_tree.specs.Callers.{HasNumbers, HasRoot}
 use Rattle.rx_machine.specs.declared.machine.Machine.{Machine}
 use Rattle.rx_machine.specs.declared.seat.Seat.{Seat}
 use Rattle.rx_machine.specs.Slots.{SlotIs, IsSeat, seat_at}
+use Rattle.rx_machine.specs.Picking.{IsReady}
+use Rattle.rx_machine.specs.Origins.{TellsOrigins}
 
 -- the stores of places p, p + 1, ..: each with its place, so many words, and its journal
 abbrev pub StoresAre : ℕ → ℕ → List Kept → List (List PlaceEvent) → Type 0
@@ -36,13 +38,19 @@ pub record Shares {L : Type 0} (stands : L → Tree → Type 0) (code : Block) (
   pub slots : length m.seats.items ≡ (tree_in U G).next_task
   pub failed : m.failed ≡ false
 
--- the machine stands for the game
-pub record Holds {L : Type 0} (stands : L → Tree → Type 0) (shape : Shape) (code : Block) (U : Given) (m : Machine L) (G : Game) : Type 0 where
+-- the machine stands for the game, but for what tells which tasks are enabled
+pub record Seated {L : Type 0} (stands : L → Tree → Type 0) (shape : Shape) (code : Block) (U : Given) (m : Machine L) (G : Game) : Type 0 where
   pub shares : Shares stands code U m G
   pub stores : StoresAre U.heap 0 m.stores.items G.journals
   pub seats : (n : ℕ) → SlotIs shape (tree_in U G) G.players n (seat_at m.seats.items n)
 
--- the same, but for the seat of task i, which has been taken out to make a turn
+-- the machine stands for the game
+pub record Holds {L : Type 0} (stands : L → Tree → Type 0) (shape : Shape) (code : Block) (U : Given) (m : Machine L) (G : Game) : Type 0 where
+  pub seated : Seated stands shape code U m G
+  pub ready : IsReady (tree_in U G) m.ready.tasks.members
+  pub origins : TellsOrigins (tree_in U G) m.ready.origins.items
+
+-- it stands for the game, but for that and for the seat of task i, which has been taken out to make a turn
 pub record HoldsBut {L : Type 0} (stands : L → Tree → Type 0) (shape : Shape) (code : Block) (U : Given) (m : Machine L) (i : ℕ) (G : Game) : Type 0 where
   pub shares : Shares stands code U m G
   pub empty : seat_at m.seats.items i ≡ None
@@ -106,7 +114,7 @@ pub record Finished {L : Type 0} (stands : L → Tree → Type 0) (U : Given) (m
 
 -- no task is enabled, and the root may be released
 pub record Releasing {L : Type 0} (stands : L → Tree → Type 0) (shape : Shape) (code : Block) (U : Given) (m : Machine L) (G : Game) : Type 0 where
-  pub holds : Holds stands shape code U m G
+  pub holds : Seated stands shape code U m G
   pub unreleased : NoRoot G.entries
   pub none_due : NoneDue (length G.entries) G.kills
   pub none_enabled : enabled (tree_in U G) ≡ []
@@ -115,7 +123,7 @@ pub record Releasing {L : Type 0} (stands : L → Tree → Type 0) (shape : Shap
 
 -- the machine stands for a game in which the root stands, and what holds of such a game
 pub record CanTurn {L : Type 0} (stands : L → Tree → Type 0) (shape : Shape) (code : Block) (U : Given) (m : Machine L) (G : Game) : Type 0 where
-  pub holds : Holds stands shape code U m G
+  pub holds : Seated stands shape code U m G
   pub unreleased : NoRoot G.entries
   pub numbers : HasNumbers (tree_in U G)
   pub reached : Reached (tree_in U G)

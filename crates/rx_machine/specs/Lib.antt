@@ -3,8 +3,9 @@ pub mod Callers
 pub mod Held
 pub mod Spine
 pub mod Slots
-pub mod Holds
 pub mod Picking
+pub mod Origins
+pub mod Holds
 pub mod Requests
 pub mod Asked
 pub mod Runs

@@ -1,7 +1,10 @@
--- The slots whose tasks are enabled, in the order of their numbers.
-use Rattle.std.specs.Prelude.{ℕ, suc, Bool, false, cond, List, [], ◌∷◌, Option, Some, None}
+-- The tasks that are enabled, by number.
+use Rattle.std.specs.Prelude.{◌≡◌, ℕ, ◌==◌, Bool, false, List, Option, Some, None}
+use Rattle.std.specs.List.{list_any}
 use Rattle.rx_rules.specs.Tree.{Tree}
 use Rattle.rx_rules.specs.Picked.{is_enabled}
+use Rattle.rx_sound.specs.Enabling.{able}
+use Rattle.rx_rank.specs.Numbers.{Ascends}
 use Rattle.rx_machine.specs.declared.seat.Seat.{Seat}
 
 -- the task of a slot is enabled
@@ -9,7 +12,10 @@ abbrev pub slot_able : Tree → Option Seat → Bool
 slot_able T None = false
 slot_able T (Some seat) = is_enabled T seat.row
 
--- the numbers of such slots, from slot n on
-abbrev pub able_from : Tree → ℕ → List (Option Seat) → List ℕ
-able_from T n [] = []
-able_from T n (o ∷ os) = cond (slot_able T o) (n ∷ able_from T (suc n) os) (able_from T (suc n) os)
+-- the number is in the list
+abbrev pub has : ℕ → List ℕ → Bool
+has n ns = list_any (λ m. m == n) ns
+
+-- the numbers are those of the enabled tasks, in ascending order
+abbrev pub IsReady : Tree → List ℕ → Type 0
+IsReady T ns = Ascends 0 ns × ((n : ℕ) → has n ns ≡ able T (record { 0 = n }))

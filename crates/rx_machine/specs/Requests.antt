@@ -38,6 +38,7 @@ pub record OnlyStores {L : Type 0} (m m' : Machine L) : Type 0 where
   pub history : m'.history ≡ m.history
   pub ledger : m'.ledger ≡ m.ledger
   pub seats : m'.seats ≡ m.seats
+  pub ready : m'.ready ≡ m.ready
   pub kills : m'.kills ≡ m.kills
   pub places : m'.places ≡ m.places
   pub failed : m'.failed ≡ m.failed

@@ -1,10 +1,13 @@
 -- What a turn is made of, and what a run leaves.
-use Rattle.std.specs.Prelude.{◌≡◌, ℕ, ◌<◌, ◌≤◌, ◌%◌, Bool, true, length, Some, slice_get}
+use Rattle.std.specs.Prelude.{◌≡◌, ℕ, ◌+◌, ◌*◌, ◌<◌, ◌≤◌, ◌%◌, Bool, true, false, length, Some, slice_get}
 use Rattle.rx_base.specs.declared.ids.PlaceId.{PlaceId}
+use Rattle.rx_base.specs.declared.ids.ScopeId.{ScopeId}
+use Rattle.rx_rules.specs.declared.tasks.Task.{Task}
 use Rattle.rx_rules.specs.Code.{Block, work}
-use Rattle.rx_rules.specs.Tree.{Tree}
+use Rattle.rx_rules.specs.Tree.{Tree, task_of}
 use Rattle.rx_rules.specs.Run.{Given, Proper, NoneDue, IsDue, NoRoot}
 use Rattle.rx_rules.specs.Fold.{tree_of}
+use Rattle.rx_rules.specs.Reached.{Reached}
 use Rattle.rx_rules.specs.Picked.{Game, Turn, IsPicked, enabled, tree_in}
 use Rattle.rx_trace.specs.Logs.{Log}
 use Rattle.rx_trace.specs.Events.{AllEvents, events_of}
@@ -14,7 +17,9 @@ use Rattle.rx_script.specs.Shape.{Shape}
 use Rattle.rx_machine.specs.declared.machine.Machine.{Machine}
 use Rattle.rx_machine.specs.declared.seat.Seat.{Seat}
 use Rattle.rx_machine.specs.Slots.{seat_at}
-use Rattle.rx_machine.specs.Holds.{Holds, CanTurn, Makes}
+use Rattle.rx_machine.specs.Picking.{IsReady}
+use Rattle.rx_machine.specs.Origins.{TellsOrigins}
+use Rattle.rx_machine.specs.Holds.{Seated, Holds, CanTurn, Makes}
 
 -- a script and a setup for which a machine runs on
 pub record RunsOn (code : Block) (U : Given) : Type 0 where
@@ -22,11 +27,13 @@ pub record RunsOn (code : Block) (U : Given) : Type 0 where
   pub few : work code ≤ 100000
   pub makes : MakesSome code
 
--- a turn can be made, and no kill is due
+-- a turn can be made, no kill is due, and it is told which tasks are enabled
 pub record Calm {L : Type 0} (stands : L → Tree → Type 0) (shape : Shape) (code : Block) (U : Given) (m : Machine L) (G : Game) : Type 0 where
   pub can : CanTurn stands shape code U m G
   pub on : RunsOn code U
   pub none_due : NoneDue (length G.entries) G.kills
+  pub ready : IsReady (tree_in U G) m.ready.tasks.members
+  pub origins : TellsOrigins (tree_in U G) m.ready.origins.items
 
 -- the death of the place is due
 pub record Dying {L : Type 0} (stands : L → Tree → Type 0) (shape : Shape) (code : Block) (U : Given) (m : Machine L) (d : PlaceId) (G : Game) : Type 0 where
@@ -44,17 +51,38 @@ pub record Taken {L : Type 0} (stands : L → Tree → Type 0) (shape : Shape) (
   pub at : seat_at m.seats.items i ≡ Some seat
   pub picked : slice_get (enabled (tree_in U G)) (k % length (enabled (tree_in U G))) ≡ Some seat.row
 
--- a turn with the pick k leads to a game for which the machine stands
-abbrev pub AfterTurn : {L : Type 0} → (L → Tree → Type 0) → Shape → Block → Given → Machine L → ℕ → Game → Type 0
-AfterTurn stands shape code U m k G = Makes (Turn U k G true) (Holds stands shape code U m)
+-- the pick k has moved the task of slot i, which hung under that scope, there were so many slots before, and the set still has the
+-- tasks that were enabled then
+pub record HasMoved {L : Type 0} (stands : L → Tree → Type 0) (shape : Shape) (code : Block) (U : Given) (m : Machine L) (k i : ℕ) (under : ScopeId) (before : ℕ) (G H : Game) : Type 0 where
+  pub can : CanTurn stands shape code U m H
+  pub turn : Turn U k G true H
+  pub reached : Reached (tree_in U G)
+  pub mover : Task
+  pub picked : slice_get (enabled (tree_in U G)) (k % length (enabled (tree_in U G))) ≡ Some mover
+  pub number : mover.number.0 ≡ i
+  pub found : task_of (tree_in U G) mover.number ≡ Some mover
+  pub hung : mover.under ≡ under
+  pub slots : before ≡ (tree_in U G).next_task
+  pub ready : IsReady (tree_in U G) m.ready.tasks.members
 
--- the same of a turn, with the pick or as a death, after which the root stands
+-- a turn with the pick k leads to a game for which the machine stands, but for what tells which tasks are enabled
+abbrev pub AfterTurn : {L : Type 0} → (L → Tree → Type 0) → Shape → Block → Given → Machine L → ℕ → Game → Type 0
+AfterTurn stands shape code U m k G = Makes (Turn U k G true) (Seated stands shape code U m)
+
+-- the same of a death, after which the root stands
+abbrev pub HasDied : {L : Type 0} → (L → Tree → Type 0) → Shape → Block → Given → Machine L → ℕ → Game → Type 0
+HasDied stands shape code U m k G = Makes (Turn U k G false) (λ G'. Seated stands shape code U m G' × NoRoot G'.entries)
+
+-- a turn, with the pick or as a death, leads to a game for which the machine stands, and in which the root stands
 abbrev pub WentOn : {L : Type 0} → (L → Tree → Type 0) → Shape → Block → Given → Machine L → ℕ → Bool → Game → Type 0
 WentOn stands shape code U m k used G = Makes (Turn U k G used) (λ G'. Holds stands shape code U m G' × NoRoot G'.entries)
 
--- what a picked run leaves: its history, the journals of its places, and a ledger that stands for its last tree
-abbrev pub HasRun : {L : Type 0} → Block → Given → (ℕ → ℕ) → (L → Tree → Type 0) → (Log × AllEvents × L) → Type 0
-HasRun code U picks stands r = IsPicked code U picks r.0.entries (events_of r.1) × (given r.0.setup ≡ U) × stands r.2 (tree_of U.places r.0.entries)
+-- what a picked run leaves: its history, the journals of its places, and a ledger that stands for its last tree; it has few turns
+pub record HasRun {L : Type 0} (code : Block) (U : Given) (picks : ℕ → ℕ) (stands : L → Tree → Type 0) (r : Log × AllEvents × L) : Type 0 where
+  pub picked : IsPicked code U picks r.0.entries (events_of r.1)
+  pub few : picked.turns ≤ 4 * work code + 2 * U.places + 8
+  pub setup : given r.0.setup ≡ U
+  pub ledger : stands r.2 (tree_of U.places r.0.entries)
 
 -- what is given out of a machine is that of the game: its history, the journals of its places, and a ledger that stands for its tree
 pub record Gives {L : Type 0} (stands : L → Tree → Type 0) (U : Given) (G : Game) (r : Log × AllEvents × L) : Type 0 where

@@ -1,10 +1,10 @@
 // The turn of an arrival, and the host's release of the root.
-ghost use Rattle.std.specs.Prelude.{◌<◌, ℕ, OnOk, OnErr, true, false};
+ghost use Rattle.std.specs.Prelude.{◌≡◌, ◌<◌, ℕ, OnOk, OnErr, true, false};
 ghost use Rattle.rx_rules.specs.Code.{Block};
 ghost use Rattle.rx_rules.specs.Run.{Given};
 ghost use Rattle.rx_rules.specs.Picked.{Game, Turn};
 ghost use Rattle.rx_machine.specs.Refusals.{NothingTold};
-ghost use Rattle.rx_machine.specs.Holds.{Holds, Landing, Finished, Releasing, Makes};
+ghost use Rattle.rx_machine.specs.Holds.{Seated, Landing, Finished, Releasing, Makes};
 
 use crate::machine::{Machine, put_back};
 use crate::seat::Seat;
@@ -18,7 +18,8 @@ impl<L: FinishLedger> Machine<L> {
     pub(crate) fn arrive(&mut self, p: &Program, i: usize, mut seat: Seat, to: PlaceId)
         requires room { 0 < self.old.history.spare }
         requires game { (code : Block) × (U : Given) × (k : ℕ) × (G : Game) × Landing L.stands p.now.script code U self.old k i to seat G }
-        ensures { (code : Block) (U : Given) (k : ℕ) (G : Game) → Landing L.stands p.now.script code U self.old k i to seat G → Makes (Turn U k G true) (Holds L.stands p.now.script code U self.new) }
+        ensures made { (code : Block) (U : Given) (k : ℕ) (G : Game) → Landing L.stands p.now.script code U self.old k i to seat G → Makes (Turn U k G true) (Seated L.stands p.now.script code U self.new) }
+        ensures ready { self.new.ready ≡ self.old.ready }
     {
         let _ = p;
         let who = seat.caller();

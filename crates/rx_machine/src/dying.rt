@@ -4,7 +4,7 @@ ghost use Rattle.rx_rules.specs.Code.{Block};
 ghost use Rattle.rx_rules.specs.Run.{Given};
 ghost use Rattle.rx_rules.specs.Picked.{Game};
 ghost use Rattle.rx_machine.specs.Slots.{seat_at, is_struck as strikes, left_by};
-ghost use Rattle.rx_machine.specs.Runs.{Dying, WentOn};
+ghost use Rattle.rx_machine.specs.Runs.{Dying, HasDied};
 
 use crate::machine::Machine;
 use crate::seat::Seat;
@@ -18,7 +18,9 @@ impl<L: FinishLedger> Machine<L> {
     pub(crate) fn die(&mut self, p: &Program, place: PlaceId)
         requires room { 0 < self.old.history.spare }
         requires game { (code : Block) × (U : Given) × (G : Game) × Dying L.stands p.now.script code U self.old place G }
-        ensures { (code : Block) (U : Given) (k : ℕ) (G : Game) → Dying L.stands p.now.script code U self.old place G → WentOn L.stands p.now.script code U self.new k false G }
+        ensures made { (code : Block) (U : Given) (k : ℕ) (G : Game) → Dying L.stands p.now.script code U self.old place G → HasDied L.stands p.now.script code U self.new k G }
+        ensures ready { self.new.ready ≡ self.old.ready }
+        ensures slots { length self.new.seats.items ≡ length self.old.seats.items }
     {
         let _ = p;
         rx_runs::games_come();

@@ -1,6 +1,6 @@
 //! Runs on one thread: the machine that makes the turns of a picked run, deaths among them, over any ledger that keeps its
-//! promises. It stands on rx_tree, rx_control, rx_trace, rx_kills, rx_store and the laws of rx_sound and rx_runs. The layer above
-//! uses `run`, which gives the picked run of a program under a setup, or `turn` and `into_parts`.
+//! promises. It stands on rx_tree, rx_control, rx_trace, rx_kills, rx_rank, rx_store and the laws of rx_sound and rx_runs. The
+//! layer above uses `run`, which gives the picked run of a program under a setup, or `turn` and `into_parts`.
 #![tactic(auto)]
 
 mod arriving;
@@ -12,6 +12,7 @@ mod opening;
 mod picked;
 mod picks;
 mod printing;
+mod ready;
 mod releasing;
 mod running;
 mod seat;

@@ -12,12 +12,14 @@ ghost use Rattle.rx_script.specs.Shape.{Stands};
 ghost use Rattle.rx_control.specs.Stands.{StandsFor};
 ghost use Rattle.rx_machine.specs.Holds.{Holds};
 
+use crate::ready::{Origin, Ready};
 use crate::seat::Seat;
 use crate::stores::Stores;
 use rx_base::{Batch, NoMemory, PlaceId, ScopeId, TaskId};
 use rx_check::Program;
 use rx_control::Control;
 use rx_kills::Kills;
+use rx_rank::Ranks;
 use rx_rules::{Task, Where};
 use rx_trace::{History, Setup};
 use rx_tree::FinishLedger;
@@ -30,6 +32,8 @@ pub struct Machine<L: FinishLedger> {
     pub(crate) history: History,
     /// The seat of each task that no death has struck, by the task's number; none for a task that was struck or has ended.
     pub(crate) seats: Vec<Option<Seat>>,
+    /// What tells which tasks are enabled.
+    pub(crate) ready: Ready,
     pub(crate) stores: Stores,
     /// The kills that are not done.
     pub(crate) kills: Kills,
@@ -49,10 +53,12 @@ impl<L: FinishLedger> Machine<L> {
         let places = setup.places;
         let stores = Stores::open(alloc, places, setup.heap)?;
         let seats = root_alone(alloc, root_seat(alloc, p)?)?;
+        let ready = root_ready(alloc)?;
         Ok(Machine {
             ledger,
             history: History::open(alloc, setup),
             seats,
+            ready,
             stores,
             kills,
             places,
@@ -90,6 +96,22 @@ fn root_alone(alloc: Global, seat: Seat) -> Result<Vec<Option<Seat>>, NoMemory>
     let mut seats = Vec::new(alloc);
     seats.push(Some(seat))?;
     Ok(seats)
+}
+
+/// The main activity alone is enabled, and no scope has an origin.
+fn root_ready(alloc: Global) -> Result<Ready, NoMemory>
+    ensures tasks { IfOk result (λ ready. ready.tasks.members ≡ 0 ∷ []) }
+    ensures origins { IfOk result (λ ready. length ready.origins.items ≡ 1) }
+{
+    let mut tasks = Ranks::open(alloc);
+    tasks.room(1)?;
+    tasks.insert(0);
+    let mut origins = Vec::new(alloc);
+    origins.push(Origin {
+        opener: TaskId(0),
+        parent: ScopeId(0),
+    })?;
+    Ok(Ready { tasks, origins })
 }
 
 /// Puts a seat into its slot.

@@ -25,6 +25,7 @@ impl<L: FinishLedger> Machine<L> {
         ensures made { OnOk result ((code : Block) (U : Given) (k : ℕ) (G : Game) → Taken L.stands p.now.script code U self.old k i G → AfterTurn L.stands p.now.script code U self.new k G) }
         ensures refused { OnErr result ((code : Block) (U : Given) (k : ℕ) (G : Game) → Taken L.stands p.now.script code U self.old k i G → HasTold U k G self.new.stores.items) }
         ensures history { OnErr result (self.new.history ≡ self.old.history) }
+        ensures ready { self.new.ready ≡ self.old.ready }
     {
         rx_sound::reached_is_sound();
         rx_runs::games_come();
@@ -47,6 +48,7 @@ impl<L: FinishLedger> Machine<L> {
         ensures made { OnOk result ((code : Block) (U : Given) (k : ℕ) (q : Player) (G : Game) → Acting L.stands p.now.script code U self.old k i here q seat G → Proper U → work code ≤ 100000 → MakesSome code → AfterTurn L.stands p.now.script code U self.new k G) }
         ensures refused { OnErr result ((code : Block) (U : Given) (k : ℕ) (q : Player) (G : Game) → Acting L.stands p.now.script code U self.old k i here q seat G → Proper U → work code ≤ 100000 → MakesSome code → HasTold U k G self.new.stores.items) }
         ensures history { OnErr result (self.new.history ≡ self.old.history) }
+        ensures ready { self.new.ready ≡ self.old.ready }
     {
         let mut seat = seat;
         let next = self.run_on(p, i, &mut seat, here)?;

@@ -20,7 +20,7 @@ use rx_tree::FinishLedger;
 const LIMIT: u32 = 400_041;
 
 impl<L: FinishLedger> Machine<L> {
-    /// Makes the turns of the picked run up to the root's release.
+    /// Makes the turns of the picked run up to the root's release: at most `4 * work + 2 * places + 8` of them.
     pub fn run<P: Picks>(
         mut self,
         p: &Program,

@@ -6,7 +6,7 @@ ghost use Rattle.rx_rules.specs.Run.{Given};
 ghost use Rattle.rx_rules.specs.Picked.{Game, Player, Turn};
 ghost use Rattle.rx_control.specs.Stands.{StandsFor};
 ghost use Rattle.rx_machine.specs.Refusals.{NothingTold};
-ghost use Rattle.rx_machine.specs.Holds.{Holds, Acting, Makes};
+ghost use Rattle.rx_machine.specs.Holds.{Seated, Acting, Makes};
 
 use crate::machine::{Machine, put_back};
 use crate::seat::Seat;
@@ -29,8 +29,9 @@ impl<L: FinishLedger> Machine<L> {
     ) -> Result<(), NoMemory>
         requires room { 0 < self.old.history.spare }
         requires game { (code : Block) × (U : Given) × (k : ℕ) × (q : Player) × (G : Game) × Acting L.stands p.now.script code U self.old k i here q seat G × (does q.vars here.0 U.places q.term ≡ Prints value) }
-        ensures made { OnOk result ((code : Block) (U : Given) (k : ℕ) (q : Player) (G : Game) → Acting L.stands p.now.script code U self.old k i here q seat G → does q.vars here.0 U.places q.term ≡ Prints value → Makes (Turn U k G true) (Holds L.stands p.now.script code U self.new)) }
+        ensures made { OnOk result ((code : Block) (U : Given) (k : ℕ) (q : Player) (G : Game) → Acting L.stands p.now.script code U self.old k i here q seat G → does q.vars here.0 U.places q.term ≡ Prints value → Makes (Turn U k G true) (Seated L.stands p.now.script code U self.new)) }
         ensures refused { OnErr result (NothingTold self.old self.new) }
+        ensures ready { self.new.ready ≡ self.old.ready }
     {
         let path = path_of(self.alloc, p, &seat.control)?;
         let who = seat.caller();

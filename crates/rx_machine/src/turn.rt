@@ -1,16 +1,20 @@
 // A turn: the place whose kill is due dies, or else the pick's task moves, or the root is released.
-ghost use Rattle.std.specs.Prelude.{◌≡◌, ◌<◌, ◌%◌, ℕ, suc, Bool, length, map, slice_get, Some, Ok, OnOk, OnErr, true, false};
+ghost use Rattle.std.specs.Prelude.{◌≡◌, ◌<◌, ◌^◌, ◌%◌, ℕ, suc, Bool, length, map, slice_get, Some, Ok, OnOk, OnErr, true, false, vec_len, vec_capacity};
 ghost use Rattle.rx_rules.specs.Code.{Block};
 ghost use Rattle.rx_rules.specs.Run.{Given, NoRoot};
-ghost use Rattle.rx_rules.specs.Picked.{Game, Turn as MadeTurn, used_after};
+ghost use Rattle.rx_rules.specs.Picked.{Game, Turn as MadeTurn, used_after, tree_in};
+ghost use Rattle.rx_machine.specs.Picking.{IsReady};
+ghost use Rattle.rx_machine.specs.Origins.{TellsOrigins};
 ghost use Rattle.rx_machine.specs.Holds.{Holds, Finished, Makes};
 ghost use Rattle.rx_machine.specs.Refusals.{HasBegun};
-ghost use Rattle.rx_machine.specs.Runs.{RunsOn, Calm, AfterTurn, WentOn};
+ghost use Rattle.rx_machine.specs.Runs.{RunsOn, Calm, Dying, WentOn};
 
 use crate::machine::Machine;
 use crate::picks::Picks;
-use rx_base::NoMemory;
+use crate::turning::under_of;
+use rx_base::{NoMemory, PlaceId};
 use rx_check::Program;
+use rx_rank::Ranks;
 use rx_tree::FinishLedger;
 
 /// Whether a turn went on with the run or ended it.
@@ -65,22 +69,55 @@ impl<L: FinishLedger> Machine<L> {
         rx_runs::games_come();
         rx_runs::games_go_on();
         rx_sound::fold_is_reached();
-        self.history.reserve(1)?;
+        self.make_room()?;
         match self.kills.due(self.history.len() as u32) {
             Some(place) => {
-                self.die(p, place);
+                self.make_death(p, place);
                 Ok(true)
             }
             None => self.take_pick(p, picks),
         }
     }
 
+    // Makes room for what a turn adds: one entry, the number of one task, and the origin of one scope.
+    fn make_room(&mut self) -> Result<(), NoMemory>
+        requires { length self.old.seats.items < 2 ^ 31 }
+        ensures same { self.new ≡ record self.old { history = self.new.history; ready = self.new.ready } }
+        ensures told { (self.new.history.entries ≡ self.old.history.entries) × (self.new.history.setup ≡ self.old.history.setup) }
+        ensures members { self.new.ready.tasks.members ≡ self.old.ready.tasks.members }
+        ensures origins { self.new.ready.origins.items ≡ self.old.ready.origins.items }
+        ensures room { OnOk result (0 < self.new.history.spare) }
+        ensures slots { OnOk result (length self.old.seats.items < self.new.ready.tasks.room) }
+        ensures spare { OnOk result (vec_len self.new.ready.origins < vec_capacity self.new.ready.origins) }
+    {
+        self.history.reserve(1)?;
+        self.ready.tasks.room(self.seats.len() as u32 + 1)?;
+        self.ready.origins.reserve(1)?;
+        Ok(())
+    }
+
+    // Makes the death of a place. It may free many tasks that wait, and asks of every slot: a run has at most 15 deaths.
+    fn make_death(&mut self, p: &Program, place: PlaceId)
+        requires room { 0 < self.old.history.spare }
+        requires slots { length self.old.seats.items < self.old.ready.tasks.room }
+        requires game { (code : Block) × (U : Given) × (G : Game) × Dying L.stands p.now.script code U self.old place G × IsReady (tree_in U G) self.old.ready.tasks.members × TellsOrigins (tree_in U G) self.old.ready.origins.items }
+        ensures { (code : Block) (U : Given) (k : ℕ) (G : Game) → Dying L.stands p.now.script code U self.old place G → IsReady (tree_in U G) self.old.ready.tasks.members → TellsOrigins (tree_in U G) self.old.ready.origins.items → WentOn L.stands p.now.script code U self.new k false G }
+    {
+        rx_runs::games_come();
+        rx_sound::fold_is_reached();
+        rx_sound::reached_is_sound();
+        self.die(p, place);
+        self.note_all();
+    }
+
     // Makes the turn of a pick, no kill being due: true where an enabled task has moved, false where none is enabled and the root is
     // released.
     fn take_pick<P: Picks>(&mut self, p: &Program, picks: &mut P) -> Result<bool, NoMemory>
         requires room { 0 < self.old.history.spare }
+        requires slots { length self.old.seats.items < self.old.ready.tasks.room }
+        requires spare { vec_len self.old.ready.origins < vec_capacity self.old.ready.origins }
         requires game { (code : Block) × (U : Given) × (G : Game) × Calm L.stands p.now.script code U self.old G }
-        ensures moved { result ≡ Ok true → ((code : Block) (U : Given) (G : Game) → Calm L.stands p.now.script code U self.old G → AfterTurn L.stands p.now.script code U self.new (P.number picks.old 0) G) × ((j : ℕ) → P.number picks.new j ≡ P.number picks.old (suc j)) }
+        ensures moved { result ≡ Ok true → ((code : Block) (U : Given) (G : Game) → Calm L.stands p.now.script code U self.old G → WentOn L.stands p.now.script code U self.new (P.number picks.old 0) true G) × ((j : ℕ) → P.number picks.new j ≡ P.number picks.old (suc j)) }
         ensures ended { result ≡ Ok false → (code : Block) (U : Given) (G : Game) → Calm L.stands p.now.script code U self.old G → Makes (MadeTurn U (P.number picks.old 0) G false) (Finished L.stands U self.new) }
         ensures refused { OnErr result ((code : Block) (U : Given) (G : Game) → Calm L.stands p.now.script code U self.old G → HasBegun U (P.number picks.old 0) G self.new.history.entries (map (λ s. s.events) self.new.stores.items)) }
         ensures setup { OnErr result (self.new.history.setup ≡ self.old.history.setup) }
@@ -90,23 +127,26 @@ impl<L: FinishLedger> Machine<L> {
         rx_sound::reached_is_sound();
         rx_sound::none_enabled_is_quiet();
         rx_sound::root_stands_until_released();
-        let numbers = self.able_numbers(p)?;
-        if numbers.is_empty() {
+        rx_sound::fold_is_reached();
+        if self.ready.tasks.len() == 0 {
             self.release_root(p)?;
             return Ok(false);
         }
-        let i = chosen(&numbers, picks);
+        let i = chosen(&self.ready.tasks, picks);
+        let under = under_of(&self.seats, i);
+        let before = self.seats.len();
         self.move_task(p, i)?;
+        self.note_turn(i, under, before);
         Ok(true)
     }
 }
 
 /// The number that the next pick takes.
-fn chosen<P: Picks>(numbers: &[usize], picks: &mut P) -> usize
-    requires { 0 < length numbers.now }
-    ensures taken { slice_get numbers.now (P.number picks.old 0 % length numbers.now) ≡ Some result }
+fn chosen<P: Picks>(tasks: &Ranks, picks: &mut P) -> usize
+    requires { 0 < length tasks.now.members }
+    ensures taken { slice_get tasks.now.members (P.number picks.old 0 % length tasks.now.members) ≡ Some result }
     ensures later { (j : ℕ) → P.number picks.new j ≡ P.number picks.old (suc j) }
 {
-    let k = picks.next() as usize;
-    numbers[k % numbers.len()]
+    let k = picks.next() % tasks.len();
+    tasks.nth(k) as usize
 }

@@ -1,18 +1,24 @@
-// Turns: which task moves, and what it does.
-ghost use Rattle.std.specs.Prelude.{◌≡◌, ◌<◌, ◌+◌, ◌^◌, ℕ, [], ◌∷◌, ◌++◌, cond, length, Some, IfOk, OnOk, None, slice_set};
+// Which tasks are enabled, and the seat of the task that moves.
+ghost use Rattle.std.specs.Prelude.{◌≡◌, ◌<◌, ◌≤◌, ℕ, true, false, length, Some, None, IfSome, slice_set, vec_len, vec_capacity};
 ghost use Rattle.rx_rules.specs.Code.{Block};
+ghost use Rattle.rx_rules.specs.Tree.{on_chain, the_root};
 ghost use Rattle.rx_rules.specs.Run.{Given, NoRoot};
-ghost use Rattle.rx_rules.specs.Picked.{Game, enabled, tree_in};
-ghost use Rattle.rx_machine.specs.Slots.{seat_at};
+ghost use Rattle.rx_rules.specs.Picked.{Game, Turn, enabled, tree_in};
+ghost use Rattle.rx_rank.specs.Numbers.{Ascends, marked};
+ghost use Rattle.rx_sound.specs.Enabling.{nearest_opener as nearest};
 ghost use Rattle.rx_script.specs.Shape.{Shape};
+ghost use Rattle.rx_machine.specs.Slots.{seat_at};
 ghost use Rattle.rx_machine.specs.Holds.{Holds, CanTurn};
-ghost use Rattle.rx_machine.specs.Runs.{RunsOn};
-ghost use Rattle.rx_machine.specs.Picking.{slot_able, able_from};
+ghost use Rattle.rx_machine.specs.Runs.{RunsOn, HasMoved};
+ghost use Rattle.rx_machine.specs.Picking.{slot_able, has, IsReady};
+ghost use Rattle.rx_machine.specs.Origins.{TellsOrigins, origin_in as told_in, origin_by as told_by};
 
 use crate::machine::Machine;
+use crate::ready::Origin;
 use crate::seat::Seat;
-use rx_base::NoMemory;
-use rx_check::Program;
+use rx_base::{ScopeId, TaskId};
+use rx_rank::Ranks;
+use rx_rules::{Act, Entry};
 use rx_tree::FinishLedger;
 
 impl<L: FinishLedger> Machine<L> {
@@ -34,7 +40,7 @@ impl<L: FinishLedger> Machine<L> {
         }
     }
 
-    /// How many tasks are enabled. It takes no memory. It asks of every slot: a plain body, until a set with ranks keeps them.
+    /// How many tasks are enabled. It takes no memory.
     pub fn enabled(&self) -> u32
         requires game { (shape : Shape) × (code : Block) × (U : Given) × (G : Game) × Holds L.stands shape code U self.now G × RunsOn code U × NoRoot G.entries }
         ensures { (shape : Shape) (code : Block) (U : Given) (G : Game) → Holds L.stands shape code U self.now G → RunsOn code U → NoRoot G.entries → result ≡ length (enabled (tree_in U G)) }
@@ -42,45 +48,186 @@ impl<L: FinishLedger> Machine<L> {
         rx_runs::games_come();
         rx_sound::fold_is_reached();
         rx_sound::reached_is_sound();
-        let mut count = 0u32;
-        for i in 0..self.seats.len() {
-            count = counted(count, self.is_able(i));
-        }
-        count
+        self.ready.tasks.len()
     }
 
-    /// The numbers of the enabled tasks, in ascending order. It asks of every slot: a plain body, until a set with ranks keeps
-    /// them.
-    pub(crate) fn able_numbers(&self, p: &Program) -> Result<Vec<usize>, NoMemory>
-        requires game { (code : Block) × (U : Given) × (G : Game) × CanTurn L.stands p.now.script code U self.now G }
-        ensures { IfOk result (λ v. (code : Block) (U : Given) (G : Game) → CanTurn L.stands p.now.script code U self.now G → v.items ≡ able_from (tree_in U G) 0 self.now.seats.items) }
+    /// Notes what the turn of a task has changed: who opened a scope, and which tasks are enabled now. The task hung under that
+    /// scope, and before the turn there were so many slots.
+    pub(crate) fn note_turn(&mut self, i: usize, under: ScopeId, before: usize)
+        requires room { length self.old.seats.items ≤ self.old.ready.tasks.room }
+        requires spare { vec_len self.old.ready.origins < vec_capacity self.old.ready.origins }
+        requires inside { i < length self.old.seats.items }
+        requires game { (shape : Shape) × (code : Block) × (U : Given) × (k : ℕ) × (G : Game) × (H : Game) × HasMoved L.stands shape code U self.old k i under before G H × TellsOrigins (tree_in U G) self.old.ready.origins.items }
+        ensures same { self.new ≡ record self.old { ready = self.new.ready } }
+        ensures ready { (shape : Shape) (code : Block) (U : Given) (k : ℕ) (G H : Game) → HasMoved L.stands shape code U self.old k i under before G H → TellsOrigins (tree_in U G) self.old.ready.origins.items → IsReady (tree_in U H) self.new.ready.tasks.members }
+        ensures origins { (shape : Shape) (code : Block) (U : Given) (k : ℕ) (G H : Game) → HasMoved L.stands shape code U self.old k i under before G H → TellsOrigins (tree_in U G) self.old.ready.origins.items → TellsOrigins (tree_in U H) self.new.ready.origins.items }
     {
-        let _ = p;
-        let mut numbers = Vec::new(self.alloc);
-        for i in 0..self.seats.len() {
-            let able = self.is_able(i);
-            note(&mut numbers, able, i)?;
+        self.note_scope();
+        self.note_tasks(i, under, before);
+    }
+
+    /// Notes the origin of the scope that the last entry opens, if it opens one.
+    fn note_scope(&mut self)
+        requires spare { vec_len self.old.ready.origins < vec_capacity self.old.ready.origins }
+        requires game { (U : Given) × (k : ℕ) × (G : Game) × (H : Game) × Turn U k G true H × (self.old.history.entries ≡ H.entries) }
+        ensures same { self.new ≡ record self.old { ready = self.new.ready } }
+        ensures tasks { self.new.ready.tasks ≡ self.old.ready.tasks }
+        ensures origins { (U : Given) (k : ℕ) (G H : Game) → Turn U k G true H → self.old.history.entries ≡ H.entries → TellsOrigins (tree_in U G) self.old.ready.origins.items → TellsOrigins (tree_in U H) self.new.ready.origins.items }
+    {
+        let last = self.history.len() - 1;
+        match origin_by(self.history.item(last)) {
+            Some(origin) => self.ready.origins.push_reserved(origin),
+            None => {}
         }
-        Ok(numbers)
+    }
+
+    /// Notes which tasks are enabled after the turn of a task. It asks of that task, and of one that it started, or where it has
+    /// ended of the one that this may free.
+    fn note_tasks(&mut self, i: usize, under: ScopeId, before: usize)
+        requires room { length self.old.seats.items ≤ self.old.ready.tasks.room }
+        requires inside { i < length self.old.seats.items }
+        requires game { (shape : Shape) × (code : Block) × (U : Given) × (k : ℕ) × (G : Game) × (H : Game) × HasMoved L.stands shape code U self.old k i under before G H × TellsOrigins (tree_in U H) self.old.ready.origins.items }
+        ensures same { self.new ≡ record self.old { ready = self.new.ready } }
+        ensures origins { self.new.ready.origins ≡ self.old.ready.origins }
+        ensures ready { (shape : Shape) (code : Block) (U : Given) (k : ℕ) (G H : Game) → HasMoved L.stands shape code U self.old k i under before G H → TellsOrigins (tree_in U H) self.old.ready.origins.items → IsReady (tree_in U H) self.new.ready.tasks.members }
+    {
+        rx_sound::reached_is_sound();
+        rx_sound::others_stay_enabled();
+        if self.seats[i].is_none() {
+            self.note_end(i, under);
+            return;
+        }
+        self.note(i);
+        if before < self.seats.len() {
+            self.note(before);
+        }
+    }
+
+    /// Notes which tasks are enabled after the end of a task: not that one, and of the others at most the nearest opener above it
+    /// is another.
+    fn note_end(&mut self, i: usize, under: ScopeId)
+        requires room { length self.old.seats.items ≤ self.old.ready.tasks.room }
+        requires inside { i < length self.old.seats.items }
+        requires ended { seat_at self.old.seats.items i ≡ None }
+        requires game { (shape : Shape) × (code : Block) × (U : Given) × (k : ℕ) × (before : ℕ) × (G : Game) × (H : Game) × HasMoved L.stands shape code U self.old k i under before G H × TellsOrigins (tree_in U H) self.old.ready.origins.items }
+        ensures same { self.new ≡ record self.old { ready = self.new.ready } }
+        ensures origins { self.new.ready.origins ≡ self.old.ready.origins }
+        ensures ready { (shape : Shape) (code : Block) (U : Given) (k before : ℕ) (G H : Game) → HasMoved L.stands shape code U self.old k i under before G H → TellsOrigins (tree_in U H) self.old.ready.origins.items → IsReady (tree_in U H) self.new.ready.tasks.members }
+    {
+        rx_sound::reached_is_sound();
+        rx_sound::end_frees_one();
+        rx_sound::way_up_stays();
+        self.note(i);
+        match self.nearest_opener(under) {
+            Some(opener) => self.note(opener.0 as usize),
+            None => {}
+        }
+    }
+
+    /// Of the scopes from this one along parents, the first whose opener's seat is there tells it.
+    fn nearest_opener(&self, under: ScopeId) -> Option<TaskId>
+        requires game { (shape : Shape) × (code : Block) × (U : Given) × (G : Game) × CanTurn L.stands shape code U self.now G × TellsOrigins (tree_in U G) self.now.ready.origins.items × (on_chain (tree_in U G) the_root under ≡ true) }
+        ensures inside { IfSome result (λ o. o.0 < length self.now.seats.items) }
+        ensures nearest { (shape : Shape) (code : Block) (U : Given) (G : Game) → CanTurn L.stands shape code U self.now G → TellsOrigins (tree_in U G) self.now.ready.origins.items → on_chain (tree_in U G) the_root under ≡ true → result ≡ nearest (tree_in U G) (Some under) }
+    {
+        rx_sound::walk_goes_up();
+        rx_sound::walk_ends_at_root();
+        let mut scope = under;
+        'scopes: while scope.0 != 0 {
+            let origin = self.ready.origins[scope.0 as usize];
+            if self.seats[origin.opener.0 as usize].is_some() {
+                return Some(origin.opener);
+            }
+            scope = origin.parent;
+        }
+        None
+    }
+
+    /// Notes of each task whether it is enabled. It asks of every slot.
+    pub(crate) fn note_all(&mut self)
+        requires room { length self.old.seats.items ≤ self.old.ready.tasks.room }
+        requires game { (shape : Shape) × (code : Block) × (U : Given) × (G : Game) × CanTurn L.stands shape code U self.old G }
+        ensures same { self.new ≡ record self.old { ready = self.new.ready } }
+        ensures origins { self.new.ready.origins ≡ self.old.ready.origins }
+        ensures ascends { Ascends 0 self.old.ready.tasks.members → Ascends 0 self.new.ready.tasks.members }
+        ensures noted { (shape : Shape) (code : Block) (U : Given) (G : Game) → CanTurn L.stands shape code U self.old G → (n : ℕ) → n < length self.old.seats.items → has n self.new.ready.tasks.members ≡ slot_able (tree_in U G) (seat_at self.old.seats.items n) }
+        ensures others { (n : ℕ) → length self.old.seats.items ≤ n → has n self.new.ready.tasks.members ≡ has n self.old.ready.tasks.members }
+    {
+        for i in 0..self.seats.len() {
+            self.note(i);
+        }
+    }
+
+    /// Notes whether the task of a slot is enabled.
+    fn note(&mut self, i: usize)
+        requires room { i < self.old.ready.tasks.room }
+        requires inside { i < length self.old.seats.items }
+        requires game { (shape : Shape) × (code : Block) × (U : Given) × (G : Game) × CanTurn L.stands shape code U self.old G }
+        ensures same { self.new ≡ record self.old { ready = self.new.ready } }
+        ensures origins { self.new.ready.origins ≡ self.old.ready.origins }
+        ensures room { self.new.ready.tasks.room ≡ self.old.ready.tasks.room }
+        ensures members { (shape : Shape) (code : Block) (U : Given) (G : Game) → CanTurn L.stands shape code U self.old G → self.new.ready.tasks.members ≡ marked (slot_able (tree_in U G) (seat_at self.old.seats.items i)) i self.old.ready.tasks.members }
+    {
+        let able = self.is_able(i);
+        set_mark(&mut self.ready.tasks, i as u32, able);
     }
 }
 
-/// One more where it is wanted.
-fn counted(count: u32, wanted: bool) -> u32
-    requires { count < 2 ^ 31 }
-    ensures { (i : ℕ) → result ≡ count + length (cond wanted (i ∷ []) []) }
+/// The origin of the scope that an entry opens.
+fn origin_by(entry: &Entry) -> Option<Origin>
+    ensures { result ≡ told_by entry.now }
 {
-    if wanted { count + 1 } else { count }
+    match entry {
+        Entry::Step { task, act, .. } => origin_in(*task, act),
+        Entry::Root { .. } => None,
+        Entry::Death { .. } => None,
+    }
 }
 
-/// Notes a number where it is wanted.
-fn note(numbers: &mut Vec<usize>, wanted: bool, i: usize) -> Result<(), NoMemory>
-    ensures { OnOk result (numbers.new.items ≡ numbers.old.items ++ cond wanted (i ∷ []) []) }
+/// The origin of the scope that an act of a task opens.
+fn origin_in(opener: TaskId, act: &Act) -> Option<Origin>
+    ensures { result ≡ told_in opener act.now }
 {
-    if wanted {
-        numbers.push(i)?;
+    match act {
+        Act::Open { parent, .. } => Some(Origin {
+            opener,
+            parent: *parent,
+        }),
+        Act::At { parent, .. } => Some(Origin {
+            opener,
+            parent: *parent,
+        }),
+        Act::Spawn { .. } => None,
+        Act::Arrive { .. } => None,
+        Act::Wait { .. } => None,
+        Act::Release { .. } => None,
+        Act::End { .. } => None,
+        Act::Print { .. } => None,
     }
-    Ok(())
+}
+
+/// Puts a number into a set, or takes it out.
+fn set_mark(tasks: &mut Ranks, n: u32, stands: bool)
+    requires { n < tasks.old.room }
+    ensures room { tasks.new.room ≡ tasks.old.room }
+    ensures members { tasks.new.members ≡ marked stands n tasks.old.members }
+{
+    if stands {
+        tasks.insert(n);
+    } else {
+        tasks.remove(n);
+    }
+}
+
+/// The scope that the task of a slot hangs under.
+pub(crate) fn under_of(seats: &[Option<Seat>], i: usize) -> ScopeId
+    requires { (seat : Seat) × (seat_at seats.now i ≡ Some seat) }
+    ensures { (seat : Seat) → seat_at seats.now i ≡ Some seat → result ≡ seat.row.under }
+{
+    match &seats[i] {
+        Some(seat) => seat.row.under,
+        None => unreachable!(),
+    }
 }
 
 /// Takes the seat out of its slot.

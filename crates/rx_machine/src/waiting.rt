@@ -5,7 +5,7 @@ ghost use Rattle.rx_rules.specs.Terms.{does, Waits, Done};
 ghost use Rattle.rx_rules.specs.Run.{Given};
 ghost use Rattle.rx_rules.specs.Picked.{Game, Player, Turn};
 ghost use Rattle.rx_machine.specs.Refusals.{NothingTold};
-ghost use Rattle.rx_machine.specs.Holds.{Holds, Acting, Makes};
+ghost use Rattle.rx_machine.specs.Holds.{Seated, Acting, Makes};
 ghost use Rattle.rx_base.specs.declared.values.Fault.{Fault};
 ghost use Rattle.rx_tree.specs.declared.ledger.LedgerFault.{LedgerFault};
 
@@ -27,8 +27,9 @@ impl<L: FinishLedger> Machine<L> {
     ) -> Result<(), NoMemory>
         requires room { 0 < self.old.history.spare }
         requires game { (code : Block) × (U : Given) × (k : ℕ) × (q : Player) × (G : Game) × Acting L.stands p.now.script code U self.old k i here q seat G × ((faults : List Fault) × (does q.vars here.0 U.places q.term ≡ Waits faults)) }
-        ensures made { OnOk result ((code : Block) (U : Given) (k : ℕ) (q : Player) (G : Game) → Acting L.stands p.now.script code U self.old k i here q seat G → (faults : List Fault) × (does q.vars here.0 U.places q.term ≡ Waits faults) → Makes (Turn U k G true) (Holds L.stands p.now.script code U self.new)) }
+        ensures made { OnOk result ((code : Block) (U : Given) (k : ℕ) (q : Player) (G : Game) → Acting L.stands p.now.script code U self.old k i here q seat G → (faults : List Fault) × (does q.vars here.0 U.places q.term ≡ Waits faults) → Makes (Turn U k G true) (Seated L.stands p.now.script code U self.new)) }
         ensures refused { OnErr result (NothingTold self.old self.new) }
+        ensures ready { self.new.ready ≡ self.old.ready }
     {
         let _ = here;
         let faults = seat.control.take_faults(self.alloc);
@@ -66,8 +67,9 @@ impl<L: FinishLedger> Machine<L> {
     ) -> Result<(), NoMemory>
         requires room { 0 < self.old.history.spare }
         requires game { (code : Block) × (U : Given) × (k : ℕ) × (q : Player) × (G : Game) × Acting L.stands p.now.script code U self.old k i here q seat G × ((faults : List Fault) × (does q.vars here.0 U.places q.term ≡ Done faults)) }
-        ensures made { OnOk result ((code : Block) (U : Given) (k : ℕ) (q : Player) (G : Game) → Acting L.stands p.now.script code U self.old k i here q seat G → (faults : List Fault) × (does q.vars here.0 U.places q.term ≡ Done faults) → Makes (Turn U k G true) (Holds L.stands p.now.script code U self.new)) }
+        ensures made { OnOk result ((code : Block) (U : Given) (k : ℕ) (q : Player) (G : Game) → Acting L.stands p.now.script code U self.old k i here q seat G → (faults : List Fault) × (does q.vars here.0 U.places q.term ≡ Done faults) → Makes (Turn U k G true) (Seated L.stands p.now.script code U self.new)) }
         ensures refused { OnErr result (NothingTold self.old self.new) }
+        ensures ready { self.new.ready ≡ self.old.ready }
     {
         let _ = p;
         let _ = i;

@@ -50,8 +50,8 @@ unreachable-requires-in-Err-NotYet g c =
     let reply = c.in-Err-NotYet.ensures T a.but.shares.ledger may in
     rw c.in-Err-NotYet.field-0-is at reply
 
-pub returns : goal.returns
-returns g c = λ code U k G a.
+pub returns-clause-made : goal.returns-clause-made
+returns-clause-made g c = λ code U k G a.
     let T = tree_in U G in
     let may = subst (λ (w : Caller). MayAsk T w Travels) (sym c.caller-who.ensures) (seat_asks c.args.p.now.script T c.args.i a.player c.args.seat Travels a.seat_is a.numbers (record { travels = ap (λ (w : Where). does_travel w) a.travels })) in
     let did = c.in-Ok.ensures T a.but.shares.ledger may in

@@ -21,8 +21,8 @@ close-requires g c =
     let s = store-open g.L.FinishLedger.stands c.args.p.now.script w.0 w.1 c.args.self.now c.args.place w.2 c.games_come.ensures w.3 in
     (s.0, s.1.found, s.1.unclosed, subst (λ (n : ℕ). last_stamp s.0.events ≤ n) (sym at) s.1.last)
 
-pub returns : goal.returns
-returns g c = λ code U k G t.
+pub returns-clause-made : goal.returns-clause-made
+returns-clause-made g c = λ code U k G t.
     let at : c.len-at.result ≡ length G.entries = c.len-at.ensures ∙ ap length t.can.holds.shares.entries in
     let may = may-strike g.L.FinishLedger.stands c.args.p.now.script code U c.args.self.now c.args.place G c.games_come.ensures t in
     let ledger =

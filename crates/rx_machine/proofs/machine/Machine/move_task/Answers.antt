@@ -28,7 +28,7 @@ unreachable-requires g c =
 pub returns-in-Travel-clause-made : goal.returns-in-Travel-clause-made
 returns-in-Travel-clause-made g c = λ code U k G t.
     let at = sym c.take_seat.ensures.taken ∙ c.in-Some.is in
-    c.arrive.ensures code U k G (lands g.L.FinishLedger.stands c.args.p.now.script code U c.args.self.now (record c.args.self.now { seats = c.take_seat.new.seats }) k c.args.i c.in-Travel.from c.in-Travel.to c.in-Some.seat G t at (record { same = refl; left = c.take_seat.ensures.left }) c.in-Travel.is)
+    c.arrive.ensures.made code U k G (lands g.L.FinishLedger.stands c.args.p.now.script code U c.args.self.now (record c.args.self.now { seats = c.take_seat.new.seats }) k c.args.i c.in-Travel.from c.in-Travel.to c.in-Some.seat G t at (record { same = refl; left = c.take_seat.ensures.left }) c.in-Travel.is)
 
 pub returns-in-At-clause-made : goal.returns-in-At-clause-made
 returns-in-At-clause-made g c = on_ok c.act.result (λ h code U k G t.

@@ -1,0 +1,20 @@
+use Rattle.std.proofs.Common.{◌≡◌, ◌<◌, ◌≤◌, ℕ}
+use Rattle.rx_rules.specs.Code.{Block}
+use Rattle.rx_rules.specs.Run.{Given}
+use Rattle.rx_rules.specs.Picked.{Game, tree_in}
+use Rattle.rx_rank.specs.Numbers.{Ascends}
+use Rattle.rx_script.specs.Shape.{Shape}
+use Rattle.rx_machine.specs.Slots.{seat_at}
+use Rattle.rx_machine.specs.Holds.{CanTurn}
+use Rattle.rx_machine.specs.Picking.{slot_able, has}
+use Rattle.rx_machine.proofs.machine.Machine.note_all.Given as goal
+
+-- of the slots before i it is noted whether they are enabled
+abbrev pub invariant-loop-i : goal.invariant-loop-i
+invariant-loop-i g l =
+    (l.self ≡ record l.initial.self { ready = l.self.ready })
+    × (l.self.ready.origins ≡ l.initial.self.ready.origins)
+    × (l.self.ready.tasks.room ≡ l.initial.self.ready.tasks.room)
+    × (Ascends 0 l.initial.self.ready.tasks.members → Ascends 0 l.self.ready.tasks.members)
+    × ((shape : Shape) (code : Block) (U : Given) (G : Game) → CanTurn g.L.FinishLedger.stands shape code U l.initial.self G → (n : ℕ) → n < l.i → has n l.self.ready.tasks.members ≡ slot_able (tree_in U G) (seat_at l.initial.self.seats.items n))
+    × ((n : ℕ) → l.i ≤ n → has n l.self.ready.tasks.members ≡ has n l.initial.self.ready.tasks.members)

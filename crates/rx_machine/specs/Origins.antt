@@ -1,0 +1,38 @@
+-- Who opened the scopes of a tree, by their numbers.
+use Rattle.std.specs.Prelude.{◌≡◌, List, Option, Some, None, slice_get, length}
+use Rattle.rx_base.specs.declared.ids.TaskId.{TaskId}
+use Rattle.rx_base.specs.declared.ids.ScopeId.{ScopeId}
+use Rattle.rx_rules.specs.declared.tasks.Scope.{Scope}
+use Rattle.rx_rules.specs.declared.entries.Act.{Act}
+use Rattle.rx_rules.specs.declared.entries.Act.TheVariants.{Open, At as Calls, Spawn, Arrive, Wait, Release, End, Print}
+use Rattle.rx_rules.specs.declared.entries.Entry.{Entry}
+use Rattle.rx_rules.specs.declared.entries.Entry.TheVariants.{Step, Root, Death}
+use Rattle.rx_rules.specs.Tree.{Tree}
+use Rattle.rx_sound.specs.Sound.{Each}
+use Rattle.rx_machine.specs.declared.ready.Origin.{Origin}
+
+-- the table tells of a scope who opened it, and inside which scope
+abbrev pub IsTold : List Origin → Scope → Type 0
+IsTold origins g = (o : TaskId) (p : ScopeId) → g.opener ≡ Some o → g.parent ≡ Some p → slice_get origins g.number.0 ≡ Some (record { opener = o; parent = p })
+
+-- it has as many rows as there were scopes, and tells of each that stands
+pub record TellsOrigins (T : Tree) (origins : List Origin) : Type 0 where
+  pub size : length origins ≡ T.next_scope
+  pub tells : Each (IsTold origins) T.scopes
+
+-- the origin of the scope that an act of task t opens
+abbrev pub origin_in : TaskId → Act → Option Origin
+origin_in t (Open s r path) = Some (record { opener = t; parent = r })
+origin_in t (Calls s r callee from to path) = Some (record { opener = t; parent = r })
+origin_in t (Spawn child s from to path) = None
+origin_in t (Arrive p) = None
+origin_in t (Wait s thrown) = None
+origin_in t (Release s lost thrown) = None
+origin_in t (End thrown) = None
+origin_in t (Print value path) = None
+
+-- the same of an entry
+abbrev pub origin_by : Entry → Option Origin
+origin_by (Step t act batch) = origin_in t act
+origin_by (Root lost thrown) = None
+origin_by (Death d) = None

@@ -2,3 +2,4 @@ pub mod Numbers
 pub mod Kills
 pub mod Sorting
 pub mod Onward
+pub mod Parts

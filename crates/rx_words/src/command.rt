@@ -4,16 +4,36 @@ ghost use Rattle.rx_words.specs.Words.{asked, BadWord, told};
 ghost use Rattle.rx_words.specs.Commands.{IsAsked, IsProper};
 ghost use Rattle.rx_words.specs.declared.command.WordFault.TheVariants.{Bad, NoMemory as NoRoom};
 
-use crate::options::read_options;
+use crate::options::{Verb, read_options};
 use rx_base::{NoMemory, RxWord};
 use rx_trace::Setup;
 use std::alloc::{AllocError, AllocFailed, Global};
+
+/// Where the picks of a run come from.
+#[derive(Drop)]
+pub enum PickWords {
+    /// Each is 0.
+    Zeros,
+    /// A list of 1 to 100,000 numbers, each from 0 to 1,000,000, and then 0.
+    List(Vec<u32>),
+    /// The words of a generator that starts from a seed.
+    Seed(u64),
+}
 
 /// What is asked for.
 #[derive(Drop)]
 pub enum Command {
     /// `step`: a run under a setup.
-    Step(Setup),
+    Step {
+        setup: Setup,
+        picks: PickWords,
+    },
+    /// `gen`: the run of a script of so many lines, from 1 to 10,000. Without a seed each pick is 0.
+    Gen {
+        size: u32,
+        setup: Setup,
+        seed: Option<u64>,
+    },
     /// `check`.
     Check,
 }
@@ -61,7 +81,10 @@ pub fn read_words(alloc: Global, words: &[RxWord]) -> Result<Command, WordFault>
         return Err(WordFault::Bad { word: 0 });
     };
     if first.bytes() == b"step".as_slice() {
-        return read_options(alloc, more);
+        return read_options(alloc, Verb::Step, more);
+    }
+    if first.bytes() == b"gen".as_slice() {
+        return read_options(alloc, Verb::Gen, more);
     }
     if first.bytes() != b"check".as_slice() {
         return Err(WordFault::Bad { word: 0 });

@@ -4,10 +4,13 @@
 #![tactic(auto)]
 
 mod command;
+mod listing;
 mod number;
 mod options;
 mod planned;
+mod settled;
+mod taking;
 #[cfg(test)]
 mod tests;
 
-pub use command::{Command, WordFault, read_words};
+pub use command::{Command, PickWords, WordFault, read_words};

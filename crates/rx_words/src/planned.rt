@@ -1,11 +1,12 @@
-// What is asked for where all options were read: the kills are of places that can die, and stand in their order.
-ghost use Rattle.std.specs.Prelude.{◌≡◌, ℕ, [], None, IfOk, OnOk, IsErrOf, map};
-ghost use Rattle.rx_rules.specs.Run.{AreKills};
-ghost use Rattle.rx_words.specs.Words.{settled, bad_kill, has, is_sooner, inserted, sorted, BadWord, told};
+// The setup where all options were read: the kills are of places that can die, and stand in their order.
+ghost use Rattle.std.specs.Prelude.{◌≡◌, ℕ, [], Some, None, IfOk, OnOk, IsErrOf, map};
+ghost use Rattle.rx_rules.specs.Run.{AreKills, Proper};
+ghost use Rattle.rx_trace.specs.Setups.{given};
+ghost use Rattle.rx_words.specs.Words.{setup_of, or_else, bad_kill, has, is_sooner, inserted, sorted, told};
 ghost use Rattle.rx_words.specs.declared.command.WordFault.TheVariants.{Bad};
-ghost use Rattle.rx_words.specs.Commands.{IsAsked, IsProper, IsInRange, wants_of, place_of, kill_in};
+ghost use Rattle.rx_words.specs.Commands.{IsInRange, wants_of, place_of, kill_in};
 
-use crate::command::{Command, WordFault};
+use crate::command::WordFault;
 use crate::options::{Said, bad};
 use rx_base::{Kill, NoMemory};
 use rx_trace::{KillList, Setup};
@@ -83,11 +84,12 @@ fn planned(alloc: Global, kills: &[(usize, Kill)], places: u32) -> Result<KillLi
     Ok(list)
 }
 
-// The command of what the options have said.
-pub(crate) fn settle(alloc: Global, said: &Said) -> Result<Command, WordFault>
+// The setup that options have said.
+pub(crate) fn setup(alloc: Global, said: &Said) -> Result<Setup, WordFault>
     requires { IsInRange said.now }
-    ensures ok { IfOk result (λ c. IsAsked c (settled (wants_of said.now)) × IsProper c) }
-    ensures bad { (word : ℕ) → IsErrOf result (Bad word) → (k : ℕ) × (settled (wants_of said.now) ≡ BadWord k) × (word ≡ told k) }
+    ensures ok { IfOk result (λ s. (given s ≡ setup_of (wants_of said.now)) × Proper (given s)) }
+    ensures none { IfOk result (λ _. bad_kill (or_else said.now.places 2) [] said.now.kills.items ≡ None) }
+    ensures bad { (word : ℕ) → IsErrOf result (Bad word) → (k : ℕ) × (bad_kill (or_else said.now.places 2) [] said.now.kills.items ≡ Some k) × (word ≡ told k) }
 {
     let places = said.places.unwrap_or(2);
     let heap = said.heap.unwrap_or(256);
@@ -95,9 +97,9 @@ pub(crate) fn settle(alloc: Global, said: &Said) -> Result<Command, WordFault>
         return Err(bad(k));
     }
     let kills = planned(alloc, &said.kills, places)?;
-    Ok(Command::Step(Setup {
+    Ok(Setup {
         places: places as u8,
         heap,
         kills,
-    }))
+    })
 }

@@ -1,5 +1,5 @@
 // The worked words, and the order of kills.
-use crate::{Command, WordFault, read_words};
+use crate::{Command, PickWords, WordFault, read_words};
 use rx_base::{Kill, NoMemory, PlaceId, RxWord};
 use std::alloc::Global;
 use std::test::Fail;
@@ -57,11 +57,51 @@ fn the_first_bad_word_is_told(rt: HostRuntime) -> Result<(), Fail> {
     Ok(())
 }
 
+#[test]
+fn the_first_bad_word_of_a_schedule_is_told(rt: HostRuntime) -> Result<(), Fail> {
+    for (words, want) in [
+        ([b"step".as_slice(), b"--pick"].as_slice(), Some(2)),
+        ([b"step".as_slice(), b"--pick", b""].as_slice(), Some(2)),
+        ([b"step".as_slice(), b"--pick", b"1,"].as_slice(), Some(2)),
+        (
+            [b"step".as_slice(), b"--pick", b"1000001"].as_slice(),
+            Some(2),
+        ),
+        (
+            [b"step".as_slice(), b"--pick", b"0", b"--seed", b"5"].as_slice(),
+            Some(3),
+        ),
+        (
+            [b"gen".as_slice(), b"--seed", b"5", b"--seed", b"5"].as_slice(),
+            Some(3),
+        ),
+        (
+            [b"step".as_slice(), b"--seed", b"18446744073709551616"].as_slice(),
+            Some(2),
+        ),
+        ([b"gen".as_slice(), b"--pick", b"0"].as_slice(), Some(1)),
+        ([b"step".as_slice(), b"--size", b"1"].as_slice(), Some(1)),
+        ([b"gen".as_slice()].as_slice(), Some(1)),
+        ([b"gen".as_slice(), b"--size"].as_slice(), Some(2)),
+        ([b"gen".as_slice(), b"--size", b"0"].as_slice(), Some(2)),
+        ([b"gen".as_slice(), b"--size", b"10001"].as_slice(), Some(2)),
+        // a kill is looked at only where no word is missing
+        ([b"gen".as_slice(), b"--kill", b"0@1"].as_slice(), Some(3)),
+        (
+            [b"gen".as_slice(), b"--kill", b"0@1", b"--size", b"1"].as_slice(),
+            Some(2),
+        ),
+    ] {
+        assert_eq!(rt; bad_word(rt.alloc(), words)?, want);
+    }
+    Ok(())
+}
+
 // The kills of the setup that words give, in their order, or none where they give none.
 fn kills_of(alloc: Global, words: &[&[u8]]) -> Result<Vec<Kill>, NoMemory> {
     let list = made(alloc, words)?;
     let mut kills = Vec::new(alloc);
-    if let Ok(Command::Step(setup)) = read_words(alloc, &list) {
+    if let Ok(Command::Step { setup, .. }) = read_words(alloc, &list) {
         for i in 0..setup.kills.len() {
             kills.push(setup.kills.item(i))?;
         }
@@ -94,5 +134,50 @@ fn kills_stand_in_order(rt: HostRuntime) -> Result<(), Fail> {
     )?;
     let want = [planned(3, 12), planned(1, 13), planned(2, 13)];
     assert_eq!(rt; kills.as_slice(), want.as_slice());
+    Ok(())
+}
+
+// The pick list that words give, or none where they give none.
+fn picks_of(alloc: Global, words: &[&[u8]]) -> Result<Vec<u32>, NoMemory> {
+    let list = made(alloc, words)?;
+    let mut picks = Vec::new(alloc);
+    if let Ok(Command::Step { picks: given, .. }) = read_words(alloc, &list) {
+        if let PickWords::List(numbers) = given {
+            picks = numbers;
+        }
+    }
+    Ok(picks)
+}
+
+#[test]
+fn picks_stand_as_they_were_given(rt: HostRuntime) -> Result<(), Fail> {
+    let list = picks_of(rt.alloc(), &[b"step", b"--pick", b"7,0,1000000"])?;
+    assert_eq!(rt; list.as_slice(), [7, 0, 1_000_000].as_slice());
+    Ok(())
+}
+
+// The size and the seed that words give, or none where they give none.
+fn size_and_seed(alloc: Global, words: &[&[u8]]) -> Result<(u32, Option<u64>), NoMemory> {
+    let list = made(alloc, words)?;
+    match read_words(alloc, &list) {
+        Ok(Command::Gen { size, seed, .. }) => Ok((size, seed)),
+        _ => Ok((0, None)),
+    }
+}
+
+#[test]
+fn greatest_size_and_seed_are_given(rt: HostRuntime) -> Result<(), Fail> {
+    let (size, seed) = size_and_seed(
+        rt.alloc(),
+        &[
+            b"gen",
+            b"--seed",
+            b"18446744073709551615",
+            b"--size",
+            b"10000",
+        ],
+    )?;
+    assert_eq!(rt; size, 10_000);
+    assert_eq!(rt; seed, Some(18_446_744_073_709_551_615));
     Ok(())
 }

@@ -1,0 +1,13 @@
+//! The generated script of so many lines, and the numbers of a history. It stands on rx_check and rx_trace. The layer above uses
+//! that `generate` gives the program of exactly the tree `lines`, and that `counts` and `put_counts` give `numbers` and their text.
+#![tactic(auto)]
+
+mod counting;
+mod generator;
+mod numbers;
+#[cfg(test)]
+mod tests;
+
+pub use counting::{counts, put_counts};
+pub use generator::generate;
+pub use numbers::Counts;

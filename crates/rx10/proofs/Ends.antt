@@ -1,5 +1,5 @@
 -- The last entry of a run.
-use Rattle.std.proofs.Common.{◌≡◌, ℕ, zero, suc, ◌+◌, ◌-◌, ◌<◌, Bool, true, false, cond, List, [], ◌∷◌, length, Some, refl, ap, sym, ◌∙◌, subst, arith}
+use Rattle.std.proofs.Common.{◌≡◌, ℕ, zero, suc, ◌+◌, ◌-◌, ◌<◌, Bool, true, false, List, [], ◌∷◌, length, Some, refl, ap, sym, ◌∙◌, arith}
 use Rattle.std.specs.Prelude.{slice_get, ◌==◌, ◌&&◌}
 use Rattle.std.proofs.lemmas.Bool.Decides.{nat_tests}
 use Rattle.rx_base.specs.declared.place_set.PlaceSet.{PlaceSet}
@@ -8,8 +8,6 @@ use Rattle.rx_rules.specs.declared.entries.Entry.{Entry}
 use Rattle.rx_rules.specs.declared.entries.Entry.TheVariants.{Step, Root, Death}
 use Rattle.rx_rules.specs.Run.{EndsWithRoot}
 use Rattle.rx10.specs.Top.{is_clean, status_by, status_of}
-use Rattle.rx10.specs.declared.status.Status.{Status}
-use Rattle.rx10.specs.declared.status.Status.TheVariants.{Done, Faulted}
 
 -- it is the root's release, whose losses and faults give the status
 pub record IsLast (es : List Entry) (e : Entry) : Type 0 where

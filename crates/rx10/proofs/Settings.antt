@@ -12,6 +12,10 @@ no-picks [] zero i e = refl
 no-picks [] (suc used) i e = refl
 no-picks (x ∷ xs) used i e = cc
 
+-- a list from its first pick on
+pub list-picks : (list given : List ℕ) (used i : ℕ) → list ≡ given → used ≡ 0 → slice_index_or (drop used list) i 0 ≡ slice_index_or given i 0
+list-picks list given used i e u = rw (u, e) refl
+
 some-words : (k : ℕ) → may_hold k ≡ true → 0 < k
 some-words k e = by-test (nat_lt 0 k) refl e
   where

@@ -1,5 +1,5 @@
 -- What the statuses of the program mean.
-use Rattle.std.specs.Prelude.{◌≡◌, ◌⊎◌, ℕ, ◌≤◌, ◌==◌, Bool, false, cond, List, [], ◌∷◌, ◌++◌, length, Option, codes}
+use Rattle.std.specs.Prelude.{◌≡◌, ◌⊎◌, ℕ, ◌≤◌, ◌==◌, Bool, false, cond, List, [], ◌∷◌, ◌++◌, length, slice_index_or, Option, Some, None, codes}
 use Rattle.std.specs.Io.KnownBytes.{Consumes, IsAtEnd}
 use Rattle.rx_base.specs.declared.place_set.PlaceSet.{PlaceSet}
 use Rattle.rx_base.specs.declared.values.Fault.{Fault}
@@ -15,13 +15,18 @@ use Rattle.rx_rules.specs.Order.{OrderKept}
 use Rattle.rx_script.specs.Grammar.{IsScript}
 use Rattle.rx_check.specs.Checked.{Meets}
 use Rattle.rx_trace.specs.Text.{trace_text}
-use Rattle.rx_words.specs.Words.{Asked, Step, Check, BadWord}
+use Rattle.rx_words.specs.Words.{Asked, Step, Gen, Check, BadWord, Source, Zeros, Listed, Seeded, source}
+use Rattle.rx10.specs.Seeds.{seed_word}
+use Rattle.rx_gen.specs.Lines.{lines}
+use Rattle.rx_gen.specs.Numbers.{numbers, counts_text}
 use Rattle.rx10.specs.declared.status.Status.{Status}
 use Rattle.rx10.specs.declared.status.Status.TheVariants.{Done, Faulted, Usage, Syntax, Bad, TooLong, ReadFault, WriteFault, NoMemory}
 
--- each pick is 0
-abbrev pub zeros : ℕ → ℕ
-zeros turn = 0
+-- the picks of a source: each 0, a list and then 0, or the words of a seed
+abbrev pub picks_of : Source → ℕ → ℕ
+picks_of Zeros j = 0
+picks_of (Listed ns) j = slice_index_or ns j 0
+picks_of (Seeded n) j = seed_word n j
 
 -- nothing was lost and nothing thrown
 abbrev pub is_clean : PlaceSet → List Fault → Bool
@@ -39,34 +44,29 @@ status_of (Root lost thrown ∷ es) = status_by (is_clean lost thrown)
 status_of (StepEntry t act batch ∷ es) = status_of es
 status_of (Death d ∷ es) = status_of es
 
--- The bytes are the trace of a run of the script under a setup: its picked run, where each pick is 0. Nothing is released early in
--- it, its losses are exact, and the order of statements is kept.
-pub record IsTrace (code : Block) (U : Given) (text : List ℕ) (status : Status) : Type 0 where
-  pub entries : List Entry
-  pub journals : List (List PlaceEvent)
-  pub picked : IsPicked code U zeros entries journals
+-- The entries and journals are a run of the script under a setup: its picked run. Nothing is released early in it, its losses are
+-- exact, and the order of statements is kept; the status is that of its end.
+pub record HasRun (code : Block) (U : Given) (source : Source) (entries : List Entry) (journals : List (List PlaceEvent)) (status : Status) : Type 0 where
+  pub picked : IsPicked code U (picks_of source) entries journals
   pub run : IsRun code U entries journals
   pub early : NoEarlyRelease entries
   pub exact : LossExact entries
   pub ordered : OrderKept code entries journals
-  pub whole : text ≡ trace_text U entries journals
   pub tells : status ≡ status_of entries
+
+-- the bytes are the trace of such a run
+abbrev pub IsTrace : Block → Given → Source → List ℕ → Status → Type 0
+IsTrace code U source text status =
+    (entries : List Entry) × (journals : List (List PlaceEvent)) × HasRun code U source entries journals status × (text ≡ trace_text U entries journals)
+
+-- the bytes are the numbers of such a run of the generated script
+abbrev pub IsCount : ℕ → Given → Source → List ℕ → Status → Type 0
+IsCount size U source text status =
+    (entries : List Entry) × (journals : List (List PlaceEvent)) × HasRun (lines U.places size) U source entries journals status × (text ≡ counts_text (numbers entries))
 
 -- the line that tells the work of a script
 abbrev pub work_line : Block → List ℕ
 work_line code = codes "work " ++ natural_text (work code) ++ codes "\n"
-
--- what is written for a script, and the status
-abbrev pub IsAnswer : Asked → Block → List ℕ → Status → Type 0
-IsAnswer (Step U) code text status = IsTrace code U text status
-IsAnswer Check code text status = (text ≡ work_line code) × (status ≡ Done)
-IsAnswer (BadWord k) code text status = ⊥
-
--- the words are a command
-abbrev pub IsCommand : Asked → Type 0
-IsCommand (Step U) = Unit {0}
-IsCommand Check = Unit {0}
-IsCommand (BadWord k) = ⊥
 
 -- all was done
 abbrev pub IsOver : Status → Type 0
@@ -85,6 +85,36 @@ pub record WasScript (old new : Option (List ℕ)) (code : Block) : Type 0 where
   pub script : IsScript bytes code
   pub meets : Meets code
 
+-- What was asked for was done: these are the bytes of the source before and after, the text, and the status. `gen` reads nothing.
+abbrev pub IsOutcome : Asked → Option (List ℕ) → Option (List ℕ) → List ℕ → Status → Type 0
+IsOutcome (Step U source) old new text status = (code : Block) × WasScript old new code × IsTrace code U source text status
+IsOutcome (Gen size U seed) old new text status = (new ≡ old) × IsCount size U (source None seed) text status
+IsOutcome Check old new text status = (code : Block) × WasScript old new code × (text ≡ work_line code) × (status ≡ Done)
+IsOutcome (BadWord k) old new text status = ⊥
+
+-- These bytes are a script that meets the rules.
+pub record IsGood (bytes : List ℕ) : Type 0 where
+  pub short : length bytes ≤ 65536
+  pub code : Block
+  pub script : IsScript bytes code
+  pub meets : Meets code
+
+-- what is asked for can be done with a source that has these bytes: `gen` needs none, and the others a script that meets the rules
+abbrev pub CanDo : Asked → Option (List ℕ) → Type 0
+CanDo (Step U source) left = (bytes : List ℕ) × (left ≡ Some bytes) × IsGood bytes
+CanDo (Gen size U seed) left = Unit {0}
+CanDo Check left = (bytes : List ℕ) × (left ≡ Some bytes) × IsGood bytes
+CanDo (BadWord k) left = ⊥
+
+-- a status of a source from which no text was made
+abbrev pub IsUnmade : Status → Type 0
+IsUnmade (Syntax at) = Unit {0}
+IsUnmade (Bad rule node) = Unit {0}
+IsUnmade TooLong = Unit {0}
+IsUnmade ReadFault = Unit {0}
+IsUnmade NoMemory = Unit {0}
+IsUnmade _ = ⊥
+
 -- the status that the program ends with
 abbrev pub exit_of : Status → ℕ
 exit_of Done = 0
@@ -96,3 +126,15 @@ exit_of TooLong = 5
 exit_of ReadFault = 6
 exit_of WriteFault = 7
 exit_of NoMemory = 8
+
+-- the line that the program says on standard error, without its end
+abbrev pub line_of : Status → List ℕ
+line_of Done = []
+line_of Faulted = []
+line_of (Usage word) = codes "usage " ++ natural_text word
+line_of (Syntax at) = codes "syntax " ++ natural_text at
+line_of (Bad rule node) = codes "bad " ++ natural_text rule ++ codes " " ++ natural_text node
+line_of TooLong = codes "too long"
+line_of ReadFault = codes "read fault"
+line_of WriteFault = codes "write fault"
+line_of NoMemory = codes "no memory"

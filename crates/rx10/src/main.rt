@@ -8,6 +8,7 @@
 
 mod outside;
 mod run;
+mod seeds;
 mod status;
 #[cfg(test)]
 mod tests;

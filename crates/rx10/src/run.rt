@@ -1,44 +1,31 @@
 // From a program to what is written.
-ghost use Rattle.std.specs.Prelude.{◌≡◌, IfOk};
+ghost use Rattle.std.specs.Prelude.{◌≡◌, ◌≤◌, ◌<◌, ◌^◌, ℕ, length, IfOk};
 ghost use Rattle.rx_rules.specs.Code.{Block};
-ghost use Rattle.rx_rules.specs.Run.{Proper, EndsWithRoot};
+ghost use Rattle.rx_rules.specs.Run.{Given, Proper, EndsWithRoot};
 ghost use Rattle.rx_rules.specs.Picked.{IsPicked};
 ghost use Rattle.rx_script.specs.Shape.{Stands};
 ghost use Rattle.rx_trace.specs.Events.{events_of};
 ghost use Rattle.rx_trace.specs.Setups.{given};
-ghost use Rattle.rx_words.specs.Words.{Asked, Check};
-ghost use Rattle.rx_words.specs.Commands.{IsAsked, IsProper};
-ghost use Rattle.rx10.specs.Top.{zeros, is_clean as clean, status_by, status_of, IsTrace, IsAnswer};
+ghost use Rattle.rx_words.specs.Commands.{source_of};
+ghost use Rattle.rx10.specs.declared.status.Status.TheVariants.{Done};
+ghost use Rattle.rx10.specs.Top.{is_clean as clean, status_by, status_of, work_line, picks_of, IsTrace, IsCount};
 
+use crate::seeds::SeedPicks;
 use rx_base::{Faults, NoMemory, PlaceSet};
 use rx_check::{Program, checked};
+use rx_gen::{counts, generate, put_counts};
 use rx_laws::{run_is_exact, run_is_not_early, run_is_ordered};
-use rx_machine::{ListPicks, Machine};
-use rx_runs::{few_picks_are_used, picked_run_is_run};
+use rx_machine::{ListPicks, Machine, Picks};
+use rx_runs::{entries_are_bounded, few_picks_are_used, picked_run_is_run};
 use rx_text::put_natural;
 use rx_trace::{Entry, History, Journals, Setup, write_trace};
 use rx_tree::TreeLedger;
-use rx_words::Command;
+use rx_words::PickWords;
 use std::alloc::Global;
 
-// What a command writes for a program, and whether nothing was lost and nothing thrown.
-pub(crate) fn answer(
-    alloc: Global,
-    program: &Program,
-    command: Command,
-) -> Result<(Vec<u8>, bool), NoMemory>
-    requires { IsProper command }
-    ensures { IfOk result (λ r. (asked : Asked) (code : Block) → IsAsked command asked → Stands program.now.script code → IsAnswer asked code r.0.items (status_by r.1)) }
-{
-    match command {
-        Command::Step(setup) => make_trace(alloc, program, setup),
-        Command::Check => tell_work(alloc, program),
-    }
-}
-
 // The line that tells a program's work.
-fn tell_work(alloc: Global, program: &Program) -> Result<(Vec<u8>, bool), NoMemory>
-    ensures { IfOk result (λ r. (code : Block) → Stands program.now.script code → IsAnswer Check code r.0.items (status_by r.1)) }
+pub(crate) fn tell_work(alloc: Global, program: &Program) -> Result<(Vec<u8>, bool), NoMemory>
+    ensures { IfOk result (λ r. (code : Block) → Stands program.now.script code → (r.0.items ≡ work_line code) × (status_by r.1 ≡ Done)) }
 {
     checked(program);
     let mut text = Vec::new(alloc);
@@ -49,11 +36,16 @@ fn tell_work(alloc: Global, program: &Program) -> Result<(Vec<u8>, bool), NoMemo
 }
 
 // The text of the trace of a program's run, and whether nothing was lost and nothing thrown at the root.
-fn make_trace(alloc: Global, program: &Program, setup: Setup) -> Result<(Vec<u8>, bool), NoMemory>
+pub(crate) fn make_trace(
+    alloc: Global,
+    program: &Program,
+    setup: Setup,
+    picks: PickWords,
+) -> Result<(Vec<u8>, bool), NoMemory>
     requires { Proper (given setup) }
-    ensures { IfOk result (λ r. (code : Block) → Stands program.now.script code → IsTrace code (given setup) r.0.items (status_by r.1)) }
+    ensures { IfOk result (λ r. (code : Block) → Stands program.now.script code → IsTrace code (given setup) (source_of picks) r.0.items (status_by r.1)) }
 {
-    let (history, journals) = run_program(alloc, program, setup)?;
+    let (history, journals) = run_by(alloc, program, setup, picks)?;
     picked_run_is_run();
     run_is_not_early();
     run_is_exact();
@@ -64,22 +56,69 @@ fn make_trace(alloc: Global, program: &Program, setup: Setup) -> Result<(Vec<u8>
     Ok((text, clean))
 }
 
-// Runs a program under a setup, where each pick is 0.
-fn run_program(
+// The numbers of the run of the generated script, and whether nothing was lost and nothing thrown at the root.
+pub(crate) fn make_counts(
+    alloc: Global,
+    size: u32,
+    setup: Setup,
+    picks: PickWords,
+) -> Result<(Vec<u8>, bool), NoMemory>
+    requires proper { Proper (given setup) }
+    requires some { 1 ≤ size }
+    requires most { size ≤ 10000 }
+    ensures { IfOk result (λ r. IsCount size (given setup) (source_of picks) r.0.items (status_by r.1)) }
+{
+    let program = generate(alloc, size, setup.places)?;
+    let (history, _) = run_by(alloc, &program, setup, picks)?;
+    picked_run_is_run();
+    run_is_not_early();
+    run_is_exact();
+    run_is_ordered();
+    let mut text = Vec::new(alloc);
+    put_counts(&counts(&history), &mut text)?;
+    let clean = ends_clean(&history);
+    Ok((text, clean))
+}
+
+// Runs a program under a setup, with the picks that words ask for.
+fn run_by(
     alloc: Global,
     program: &Program,
     setup: Setup,
+    picks: PickWords,
 ) -> Result<(History, Journals), NoMemory>
     requires { Proper (given setup) }
-    ensures picked { IfOk result (λ r. (code : Block) → Stands program.now.script code → IsPicked code (given setup) zeros r.0.entries (events_of r.1) × (given r.0.setup ≡ given setup)) }
+    ensures picked { IfOk result (λ r. (code : Block) → Stands program.now.script code → IsPicked code (given setup) (picks_of (source_of picks)) r.0.entries (events_of r.1) × (given r.0.setup ≡ given setup)) }
     ensures ended { IfOk result (λ r. EndsWithRoot r.0.entries) }
+    ensures few { IfOk result (λ r. length r.0.entries < 2 ^ 31) }
+{
+    match picks {
+        PickWords::Zeros => run_program(alloc, program, setup, &mut ListPicks::open(alloc, &[])?),
+        PickWords::List(list) => {
+            run_program(alloc, program, setup, &mut ListPicks::open(alloc, &list)?)
+        }
+        PickWords::Seed(seed) => run_program(alloc, program, setup, &mut SeedPicks::open(seed)),
+    }
+}
+
+// Runs a program under a setup.
+fn run_program<P: Picks>(
+    alloc: Global,
+    program: &Program,
+    setup: Setup,
+    picks: &mut P,
+) -> Result<(History, Journals), NoMemory>
+    requires { Proper (given setup) }
+    ensures picked { (numbers : ℕ → ℕ) → ((j : ℕ) → P.number picks.old j ≡ numbers j) → IfOk result (λ r. (code : Block) → Stands program.now.script code → IsPicked code (given setup) numbers r.0.entries (events_of r.1) × (given r.0.setup ≡ given setup)) }
+    ensures ended { IfOk result (λ r. EndsWithRoot r.0.entries) }
+    ensures few { IfOk result (λ r. length r.0.entries < 2 ^ 31) }
 {
     checked(program);
+    entries_are_bounded();
     let ledger = TreeLedger::open(alloc, setup.places)?;
-    let mut picks = ListPicks::open(alloc, &[])?;
     let machine = Machine::open(alloc, program, setup, ledger)?;
     few_picks_are_used();
-    let (history, journals, _) = machine.run(program, &mut picks)?;
+    let (history, journals, _) = machine.run(program, picks)?;
     Ok((history, journals))
 }
 

@@ -1,6 +1,8 @@
 // What became of a command.
-ghost use Rattle.std.specs.Prelude.{◌≡◌};
-ghost use Rattle.rx10.specs.Top.{exit_of};
+ghost use Rattle.std.specs.Prelude.{◌≡◌, Some};
+ghost use Rattle.rx10.specs.Top.{exit_of, line_of};
+
+use std::fmt;
 
 /// What became of a command.
 #[derive(Clone, Copy, Debug, PartialEq, Eq)]
@@ -46,16 +48,31 @@ impl Status {
 
     /// Writes its line to standard error; `Done` and `Faulted` have none. Where that fails, nothing more can be said.
     pub fn tell<R: Eprint>(self, rt: &R) {
-        let _ = match self {
+        match self {
+            Status::Done => {}
+            Status::Faulted => {}
+            _ => {
+                let _ = eprintln!(rt; "{self}");
+            }
+        }
+    }
+}
+
+/// Its line on standard error, without the end of the line.
+impl fmt::Display for Status {
+    ghost output = { λ s. Some (line_of s) };
+
+    fn fmt<W: fmt::Write>(&self, f: &mut fmt::Formatter<W>) -> fmt::Result {
+        match self {
             Status::Done => Ok(()),
             Status::Faulted => Ok(()),
-            Status::Usage { word } => eprintln!(rt; "usage {word}"),
-            Status::Syntax { at } => eprintln!(rt; "syntax {at}"),
-            Status::Bad { rule, node } => eprintln!(rt; "bad {rule} {node}"),
-            Status::TooLong => eprintln!(rt; "too long"),
-            Status::ReadFault => eprintln!(rt; "read fault"),
-            Status::WriteFault => eprintln!(rt; "write fault"),
-            Status::NoMemory => eprintln!(rt; "no memory"),
-        };
+            Status::Usage { word } => write!(f, "usage {word}"),
+            Status::Syntax { at } => write!(f, "syntax {at}"),
+            Status::Bad { rule, node } => write!(f, "bad {rule} {node}"),
+            Status::TooLong => f.write_str("too long"),
+            Status::ReadFault => f.write_str("read fault"),
+            Status::WriteFault => f.write_str("write fault"),
+            Status::NoMemory => f.write_str("no memory"),
+        }
     }
 }

@@ -1,11 +1,13 @@
 // What no clause says: that scripts run to their end, with their whole text, and what faults and bad words give.
+use crate::seeds::SeedPicks;
 use crate::texts::{
     ADOPTION, AT_AND_ASYNC, AT_WAITS, BORN_STRUCK, EMPTY, ENDED_FIRST, FAULTS_IN_ORDER, FULL_HEAP,
-    LOST_IN_TRANSIT, NO_PLACE, ORDINARY, OVERFLOW, SOURCE_DIES, STALE, TWO_AT_ONCE, TWO_LOSSES,
-    WRONG_PLACE,
+    LOST_IN_TRANSIT, NO_PLACE, ORDINARY, OVERFLOW, PICKED, REALISTIC, SOURCE_DIES, STALE,
+    TWO_AT_ONCE, TWO_LOSSES, WRONG_PLACE,
 };
 use crate::{Status, rx10_step};
 use rx_base::{MemSink, MemSource, NoMemory, RxWord};
+use rx_machine::Picks;
 use rx_text::put_natural;
 use std::alloc::Global;
 
@@ -214,6 +216,96 @@ fn runs_of_all_statements(rt: HostRuntime) -> Result<(), NoMemory> {
     Ok(())
 }
 
+#[test]
+fn the_second_of_two_enabled_tasks_moves(rt: HostRuntime) -> Result<(), NoMemory> {
+    let words = [b"step".as_slice(), b"--pick", b"0,0,0,0,1"];
+    let script = b"finish { async { print 1; } async { print 2; } }";
+    assert!(rt; gives(rt.alloc(), &plain(&words, script), Status::Done, PICKED)?);
+    Ok(())
+}
+
+// The values that a trace prints, a blank behind each.
+fn printed(alloc: Global, trace: &[u8]) -> Result<Vec<u8>, NoMemory> {
+    let mut values = Vec::new(alloc);
+    for line in trace.split(|b| *b == b'\n') {
+        let mut parts = line.split(|b| *b == b' ');
+        let _ = parts.next();
+        if parts.next() == Some(b"print".as_slice()) {
+            let _ = parts.next();
+            if let Some(value) = parts.next() {
+                values.extend_from_slice(value)?;
+                values.push(b' ')?;
+            }
+        }
+    }
+    Ok(values)
+}
+
+#[test]
+fn one_place_of_eight_is_lost_under_a_seed(rt: HostRuntime) -> Result<(), NoMemory> {
+    let words = [
+        b"step".as_slice(),
+        b"--places",
+        b"8",
+        b"--kill",
+        b"3@5",
+        b"--seed",
+        b"5",
+    ];
+    let long = Outside {
+        room: 65_536,
+        ..plain(&words, REALISTIC)
+    };
+    let (status, text) = outcome(rt.alloc(), &long)?;
+    assert!(rt; status == Status::Done);
+    let values = printed(rt.alloc(), &text)?;
+    assert!(rt; values.as_slice() == b"999 6 46 86 166 206 246 286 ".as_slice());
+    Ok(())
+}
+
+#[test]
+fn generated_scripts(rt: HostRuntime) -> Result<(), NoMemory> {
+    for (words, text) in [
+        (
+            [b"gen".as_slice(), b"--size", b"1"].as_slice(),
+            b"entries 11\ntasks 3\nprints 1\ndeaths 0\nlosses 0\n".as_slice(),
+        ),
+        (
+            [b"gen".as_slice(), b"--size", b"2"].as_slice(),
+            b"entries 21\ntasks 5\nprints 2\ndeaths 0\nlosses 0\n".as_slice(),
+        ),
+        (
+            [b"gen".as_slice(), b"--kill", b"1@5", b"--size", b"2"].as_slice(),
+            b"entries 13\ntasks 4\nprints 0\ndeaths 1\nlosses 2\n".as_slice(),
+        ),
+        (
+            [b"gen".as_slice(), b"--size", b"3"].as_slice(),
+            b"entries 30\ntasks 7\nprints 3\ndeaths 0\nlosses 0\n".as_slice(),
+        ),
+        (
+            [b"gen".as_slice(), b"--size", b"10000"].as_slice(),
+            b"entries 95002\ntasks 20001\nprints 10000\ndeaths 0\nlosses 0\n".as_slice(),
+        ),
+        (
+            [b"gen".as_slice(), b"--size", b"10000", b"--seed", b"5"].as_slice(),
+            b"entries 95002\ntasks 20001\nprints 10000\ndeaths 0\nlosses 0\n".as_slice(),
+        ),
+    ] {
+        assert!(rt; gives(rt.alloc(), &plain(words, b"no script"), Status::Done, text)?);
+    }
+    Ok(())
+}
+
+// The picks of a seed are the words of its generator, from the first one on.
+#[test]
+fn seeds_give_their_words(rt: HostRuntime) -> Result<(), NoMemory> {
+    let mut picks = SeedPicks::open(5);
+    assert_eq!(rt; picks.next(), 257_813_417);
+    assert_eq!(rt; picks.next(), 4_216_695_592);
+    assert_eq!(rt; picks.next(), 1_501_603_199);
+    Ok(())
+}
+
 // How long the trace is where place 2 of 4 dies at a moment.
 fn length_at(alloc: Global, script: &[u8], moment: u32) -> Result<usize, NoMemory> {
     let mut kill = Vec::new(alloc);
@@ -339,6 +431,12 @@ fn faulty_words(rt: HostRuntime) -> Result<(), NoMemory> {
         ([b"stop".as_slice()].as_slice(), 0),
         ([b"check".as_slice(), b"more"].as_slice(), 1),
         ([b"step".as_slice(), b"--kill", b"2@1"].as_slice(), 2),
+        ([b"step".as_slice(), b"--pick"].as_slice(), 2),
+        ([b"gen".as_slice(), b"--places", b"3"].as_slice(), 3),
+        (
+            [b"step".as_slice(), b"--seed", b"5", b"--pick", b"0"].as_slice(),
+            3,
+        ),
     ] {
         assert!(rt;
             gives(

@@ -330,3 +330,50 @@ journal 0
 journal 1
 done
 ";
+
+pub(crate) const PICKED: &[u8] = b"rx10 trace 1
+places 2 heap 256
+kills
+history
+0 open t0 s1 in s0 0
+1 spawn t0 t1 in s1 0 0 0.0
+2 spawn t0 t2 in s1 0 0 0.1
+3 wait t0 s1
+4 print t2 2 0.1.0
+5 print t1 1 0.0.0
+6 end t1
+7 end t2
+8 release t0 s1
+9 end t0
+10 release host s0
+journal 0
+journal 1
+done
+";
+
+pub(crate) const REALISTIC: &[u8] = b"new parts = 8;
+set p = 0;
+try {
+  finish {
+    repeat 8 {
+      at p async {
+        new rail = 4;
+        set i = 0;
+        repeat 4 { put rail[i] = ((here * 10) + i); set i = (i + 1); }
+        set i = 0;
+        set sum = 0;
+        repeat 4 { get w = rail[i]; set sum = (sum + w); set i = (i + 1); }
+        forget rail;
+        at 0 { put parts[p] = sum; }
+      }
+      set p = (p + 1);
+    }
+  }
+} catch dead { print 999; }
+set p = 0;
+repeat 8 {
+  get s = parts[p];
+  if (s == 0) { } else { print s; }
+  set p = (p + 1);
+}
+";

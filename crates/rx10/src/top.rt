@@ -1,44 +1,47 @@
 // The program, over any source and sink.
-ghost use Rattle.std.specs.Prelude.{◌≡◌, ◌⊎◌, ◌<◌, ◌≤◌, ℕ, List, length, take, Some};
+ghost use Rattle.std.specs.Prelude.{◌≡◌, ◌⊎◌, ◌<◌, ◌≤◌, ℕ, List, Option, length, take, Some, None, Ok, IfOk, IfErr, IsErrOf};
 ghost use Rattle.std.specs.Io.KnownBytes.{Consumes, Appends, Keeps};
 ghost use Rattle.rx_base.specs.Outside.{Rose};
 ghost use Rattle.rx_rules.specs.Code.{Block};
+ghost use Rattle.rx_script.specs.Shape.{Stands};
 ghost use Rattle.rx_script.specs.Grammar.{IsScript};
 ghost use Rattle.rx_script.specs.Faults.{IsFaultAt};
 ghost use Rattle.rx_check.specs.Rules.{verdict};
-ghost use Rattle.rx_check.specs.Checked.{Meets};
-ghost use Rattle.rx_words.specs.Words.{asked, told, BadWord};
+ghost use Rattle.rx_rules.specs.Run.{Given};
+ghost use Rattle.rx_words.specs.Words.{Asked, Gen, asked, told, BadWord, source};
+ghost use Rattle.rx_words.specs.Commands.{IsAsked, IsProper, source_of};
 ghost use Rattle.rx10.specs.declared.status.Status.{Status as Told};
-ghost use Rattle.rx10.specs.declared.status.Status.TheVariants.{Usage, Syntax, Bad, TooLong, ReadFault, WriteFault, NoMemory};
-ghost use Rattle.rx10.specs.Top.{WasRead, WasScript, IsAnswer, IsCommand, IsOver};
+ghost use Rattle.rx10.specs.declared.status.Status.TheVariants.{Usage, Syntax, Bad, TooLong, ReadFault, WriteFault, NoMemory as NoRoom};
+ghost use Rattle.rx10.specs.Top.{WasRead, WasScript, IsOutcome, IsGood, CanDo, IsUnmade, IsOver, status_by};
 
 use crate::outside::{ReadStop, read_all, write_all};
-use crate::run::answer;
+use crate::run::{make_counts, make_trace, tell_work};
 use crate::status::Status;
-use rx_base::{RxWord, Sink, Source};
-use rx_check::{CheckCause, check};
+use rx_base::{NoMemory, RxWord, Sink, Source};
+use rx_check::{CheckCause, Program, check};
 use rx_script::{ScriptFault, no_fault_in_script, one_script, read_script};
-use rx_words::{WordFault, read_words};
+use rx_words::{Command, PickWords, WordFault, read_words};
 use std::alloc::Global;
 
-/// Does what the words say. `step` runs the script that the source gives and writes its trace to the sink, where the first of the
-/// enabled tasks moves at each turn; `check` writes the work of the script. It always returns. The source is read to its end or
-/// until 65,537 bytes have come, and the whole text is made before the first write. docs/commands.md states the words, each status
-/// and its cause.
+/// Does what the words say. `step` runs the script that the source gives, with the picks that the words ask for, and writes its
+/// trace to the sink; `gen` runs a script that it makes, and writes the numbers of its history; `check` writes the work of the script
+/// that the source gives. It always returns. The source is read to its end or until 65,537 bytes have come, by `gen` not at all, and
+/// the whole text is made before the first write. docs/commands.md states the words, each status and its cause.
 pub fn rx10_step<S: Source, K: Sink>(
     alloc: Global,
     words: &[RxWord],
     input: &mut S,
     out: &mut K,
 ) -> Status
-    // The words, from both sides, but for want of memory.
+    // The words, from both sides, but for want of memory. Bad words leave the source as it was.
     ensures usage { (word : ℕ) → result ≡ Usage word → (k : ℕ) × (asked words.now ≡ BadWord k) × (word ≡ told k) }
-    ensures words { (k : ℕ) → asked words.now ≡ BadWord k → (result ≡ Usage (told k)) ⊎ (result ≡ NoMemory) }
+    ensures words { (k : ℕ) → asked words.now ≡ BadWord k → ((result ≡ Usage (told k)) ⊎ (result ≡ NoRoom)) × (input.new ≡ input.old) }
+    // `gen` does not touch the source.
+    ensures unread { (size : ℕ) (U : Given) (seed : Option ℕ) → asked words.now ≡ Gen size U seed → input.new ≡ input.old }
     // The theorem: what was read is a script that meets the rules, and what was written is what the words ask for: of `step`, the
     // trace of a run of it.
-    ensures over { IsOver result → (code : Block) × (text : List ℕ)
-        × WasScript (S.left input.old) (S.left input.new) code
-        × IsAnswer (asked words.now) code text result
+    ensures over { IsOver result → (text : List ℕ)
+        × IsOutcome (asked words.now) (S.left input.old) (S.left input.new) text result
         × Appends (K.written out.old) (K.written out.new) text }
     // The causes of the refusals.
     ensures syntax { (at : ℕ) → result ≡ Syntax at → (bytes : List ℕ)
@@ -54,18 +57,16 @@ pub fn rx10_step<S: Source, K: Sink>(
     ensures read_fault { result ≡ ReadFault → Rose (S.faults input.old) (S.faults input.new) }
     ensures write_fault { result ≡ WriteFault → Rose (K.faults out.old) (K.faults out.new) }
     // What a fault of the sink leaves, and that no other refusal leaves anything.
-    ensures write_front { result ≡ WriteFault → (code : Block) × (text : List ℕ) × (status : Told) × (n : ℕ)
-        × WasScript (S.left input.old) (S.left input.new) code
-        × IsAnswer (asked words.now) code text status
+    ensures write_front { result ≡ WriteFault → (text : List ℕ) × (status : Told) × (n : ℕ)
+        × IsOutcome (asked words.now) (S.left input.old) (S.left input.new) text status
         × (n < length text)
         × Appends (K.written out.old) (K.written out.new) (take n text) }
     ensures untouched { (IsOver result → ⊥) → (result ≡ WriteFault → ⊥) → Keeps (K.written out.old) (K.written out.new) }
     ensures taken { (bytes : List ℕ) × Consumes (S.left input.old) (S.left input.new) bytes × (length bytes ≤ 65537) }
-    // A script that meets the rules, and is read and written without a fault, is done, but for want of memory.
-    ensures complete { IsCommand (asked words.now) → (bytes : List ℕ) (code : Block) →
-        S.left input.old ≡ Some bytes → length bytes ≤ 65536 → IsScript bytes code → Meets code →
+    // What can be done, and is read and written without a fault, is done, but for want of memory.
+    ensures complete { CanDo (asked words.now) (S.left input.old) →
         (Rose (S.faults input.old) (S.faults input.new) → ⊥) → (Rose (K.faults out.old) (K.faults out.new) → ⊥) →
-        IsOver result ⊎ (result ≡ NoMemory) }
+        IsOver result ⊎ (result ≡ NoRoom) }
     ensures read_later { S.faults input.old ≤ S.faults input.new }
     ensures write_later { K.faults out.old ≤ K.faults out.new }
 {
@@ -74,30 +75,123 @@ pub fn rx10_step<S: Source, K: Sink>(
         Err(WordFault::Bad { word }) => return Status::Usage { word },
         Err(WordFault::NoMemory) => return Status::NoMemory,
     };
+    match make_text(alloc, command, input) {
+        Ok((text, clean)) => put_text(out, &text, clean),
+        Err(status) => status,
+    }
+}
+
+// The text that is asked for, and whether the run that it tells of lost nothing and threw nothing at the root.
+fn make_text<S: Source>(
+    alloc: Global,
+    command: Command,
+    input: &mut S,
+) -> Result<(Vec<u8>, bool), Status>
+    requires { IsProper command }
+    ensures ok { IfOk result (λ r. (asked : Asked) → IsAsked command asked → IsOutcome asked (S.left input.old) (S.left input.new) r.0.items (status_by r.1)) }
+    ensures unread { (size : ℕ) (U : Given) (seed : Option ℕ) → IsAsked command (Gen size U seed) → input.new ≡ input.old }
+    ensures kind { IfErr result IsUnmade }
+    ensures syntax { (at : ℕ) → IsErrOf result (Syntax at) → (bytes : List ℕ)
+        × WasRead (S.left input.old) (S.left input.new) bytes
+        × IsFaultAt bytes at
+        × ((code : Block) → IsScript bytes code → ⊥) }
+    ensures bad { (rule node : ℕ) → IsErrOf result (Bad rule node) → (bytes : List ℕ) × (code : Block)
+        × WasRead (S.left input.old) (S.left input.new) bytes
+        × IsScript bytes code
+        × (verdict code ≡ Some (rule, node)) }
+    ensures too_long { IsErrOf result TooLong → (bytes : List ℕ)
+        × Consumes (S.left input.old) (S.left input.new) bytes × (length bytes ≡ 65537) }
+    ensures read_fault { IsErrOf result ReadFault → Rose (S.faults input.old) (S.faults input.new) }
+    ensures taken { (bytes : List ℕ) × Consumes (S.left input.old) (S.left input.new) bytes × (length bytes ≤ 65537) }
+    ensures complete { (asked : Asked) → IsAsked command asked → CanDo asked (S.left input.old) → (Rose (S.faults input.old) (S.faults input.new) → ⊥) → IfErr result (λ status. status ≡ NoRoom) }
+    ensures later { S.faults input.old ≤ S.faults input.new }
+{
+    match command {
+        Command::Step { setup, picks } => match read_program(alloc, input) {
+            Ok(program) => made(make_trace(alloc, &program, setup, picks)),
+            Err(status) => Err(status),
+        },
+        Command::Gen { size, setup, seed } => {
+            made(make_counts(alloc, size, setup, seeded(seed)))
+        }
+        Command::Check => match read_program(alloc, input) {
+            Ok(program) => made(tell_work(alloc, &program)),
+            Err(status) => Err(status),
+        },
+    }
+}
+
+// Want of memory as a status.
+fn made(text: Result<(Vec<u8>, bool), NoMemory>) -> Result<(Vec<u8>, bool), Status>
+    ensures ok { IfOk result (λ r. text ≡ Ok r) }
+    ensures err { IfErr result (λ status. status ≡ NoRoom) }
+{
+    match text {
+        Ok(made) => Ok(made),
+        Err(_) => Err(Status::NoMemory),
+    }
+}
+
+// The picks of a seed, or else 0.
+fn seeded(seed: Option<u64>) -> PickWords
+    ensures { source_of result ≡ source None seed }
+{
+    match seed {
+        Some(seed) => PickWords::Seed(seed),
+        None => PickWords::Zeros,
+    }
+}
+
+// The program that the source gives, or the status of what it gives.
+fn read_program<S: Source>(alloc: Global, input: &mut S) -> Result<Program, Status>
+    ensures ok { IfOk result (λ p. (code : Block) × Stands p.script code × WasScript (S.left input.old) (S.left input.new) code) }
+    ensures kind { IfErr result IsUnmade }
+    ensures syntax { (at : ℕ) → IsErrOf result (Syntax at) → (bytes : List ℕ)
+        × WasRead (S.left input.old) (S.left input.new) bytes
+        × IsFaultAt bytes at
+        × ((code : Block) → IsScript bytes code → ⊥) }
+    ensures bad { (rule node : ℕ) → IsErrOf result (Bad rule node) → (bytes : List ℕ) × (code : Block)
+        × WasRead (S.left input.old) (S.left input.new) bytes
+        × IsScript bytes code
+        × (verdict code ≡ Some (rule, node)) }
+    ensures too_long { IsErrOf result TooLong → (bytes : List ℕ)
+        × Consumes (S.left input.old) (S.left input.new) bytes × (length bytes ≡ 65537) }
+    ensures read_fault { IsErrOf result ReadFault → Rose (S.faults input.old) (S.faults input.new) }
+    ensures taken { (bytes : List ℕ) × Consumes (S.left input.old) (S.left input.new) bytes × (length bytes ≤ 65537) }
+    ensures complete { (bytes : List ℕ) → S.left input.old ≡ Some bytes → IsGood bytes → (Rose (S.faults input.old) (S.faults input.new) → ⊥) → IfErr result (λ status. status ≡ NoRoom) }
+    ensures later { S.faults input.old ≤ S.faults input.new }
+{
     let bytes = match read_all(alloc, input) {
         Ok(bytes) => bytes,
-        Err(ReadStop::NoMemory) => return Status::NoMemory,
-        Err(ReadStop::TooLong) => return Status::TooLong,
-        Err(ReadStop::Fault) => return Status::ReadFault,
+        Err(ReadStop::NoMemory) => return Err(Status::NoMemory),
+        Err(ReadStop::TooLong) => return Err(Status::TooLong),
+        Err(ReadStop::Fault) => return Err(Status::ReadFault),
     };
     one_script();
     no_fault_in_script();
     let script = match read_script(alloc, &bytes) {
         Ok(script) => script,
-        Err(ScriptFault::Syntax { at }) => return Status::Syntax { at },
-        Err(ScriptFault::NoMemory) => return Status::NoMemory,
+        Err(ScriptFault::Syntax { at }) => return Err(Status::Syntax { at }),
+        Err(ScriptFault::NoMemory) => return Err(Status::NoMemory),
     };
-    let program = match check(alloc, script) {
-        Ok(program) => program,
+    match check(alloc, script) {
+        Ok(program) => Ok(program),
         Err(fault) => match fault.cause {
-            CheckCause::Bad { rule, node } => return Status::Bad { rule, node },
-            CheckCause::NoMemory => return Status::NoMemory,
+            CheckCause::Bad { rule, node } => Err(Status::Bad { rule, node }),
+            CheckCause::NoMemory => Err(Status::NoMemory),
         },
-    };
-    let Ok((text, clean)) = answer(alloc, &program, command) else {
-        return Status::NoMemory;
-    };
-    match write_all(out, &text) {
+    }
+}
+
+// Writes a text, and tells the status of the run.
+fn put_text<K: Sink>(out: &mut K, text: &[u8], clean: bool) -> Status
+    ensures over { IsOver result → (result ≡ status_by clean) × Appends (K.written out.old) (K.written out.new) text.now }
+    ensures kind { IsOver result ⊎ (result ≡ WriteFault) }
+    ensures front { result ≡ WriteFault → (n : ℕ) × (n < length text.now) × Appends (K.written out.old) (K.written out.new) (take n text.now) }
+    ensures fault { result ≡ WriteFault → Rose (K.faults out.old) (K.faults out.new) }
+    ensures later { K.faults out.old ≤ K.faults out.new }
+{
+    match write_all(out, text) {
         Ok(()) => { if clean { Status::Done } else { Status::Faulted } }
         Err(_) => Status::WriteFault,
     }

@@ -1,4 +1,4 @@
-use Rattle.std.proofs.Common.{◌≡◌, ℕ, List, [], ◌∷◌, ◌++◌, ap, sym, ◌∙◌, refl}
+use Rattle.std.proofs.Common.{◌≡◌, ℕ, List, [], ◌∷◌, ◌++◌, ap, ◌∙◌, refl}
 use Rattle.rx_rules.specs.Code.{work}
 use Rattle.rx_text.specs.Numbers.{natural_text}
 use Rattle.rx_check.proofs.OneTree.{one-tree}

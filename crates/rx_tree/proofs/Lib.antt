@@ -1,4 +1,5 @@
 pub mod Allowed
+pub mod Falling
 pub mod Firsts
 pub mod Gone
 pub mod Inside

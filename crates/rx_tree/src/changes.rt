@@ -3,6 +3,7 @@ ghost use Rattle.std.specs.Prelude.{◌≡◌, ◌∷◌, ◌++◌, OnOk, IfErr,
 ghost use Rattle.rx_rules.specs.Tree.{is_task, is_scope};
 ghost use Rattle.rx_rules.specs.Entries.{place_number, change_first, hit, is_hit};
 ghost use Rattle.rx_tree.specs.Calls.{landing};
+ghost use Rattle.rx_tree.specs.Positions.{TasksFallIn, ScopesFallIn};
 
 use crate::LedgerFault;
 use crate::lookups::{row_of, scope_row};
@@ -96,6 +97,7 @@ pub fn insert_both(
 }
 
 pub fn set_waits(tasks: &mut [Task], t: TaskId, waits: bool)
+    requires { TasksFallIn tasks.old }
     ensures { tasks.new ≡ change_first (is_task t) (λ x. record x { waits = waits }) tasks.old }
 {
     if let Some(i) = row_of(tasks, t) {
@@ -104,6 +106,7 @@ pub fn set_waits(tasks: &mut [Task], t: TaskId, waits: bool)
 }
 
 pub fn land(tasks: &mut [Task], t: TaskId, p: PlaceId)
+    requires { TasksFallIn tasks.old }
     ensures { tasks.new ≡ change_first (is_task t) (λ x. record x { place = Where.At p }) tasks.old }
 {
     if let Some(i) = row_of(tasks, t) {
@@ -112,6 +115,7 @@ pub fn land(tasks: &mut [Task], t: TaskId, p: PlaceId)
 }
 
 pub fn note_body(scopes: &mut [Scope], s: ScopeId, thrown: Faults)
+    requires { ScopesFallIn scopes.old }
     ensures { scopes.new ≡ change_first (is_scope s) (λ g. record g { body = thrown }) scopes.old }
 {
     if let Some(i) = scope_row(scopes, s) {
@@ -121,6 +125,7 @@ pub fn note_body(scopes: &mut [Scope], s: ScopeId, thrown: Faults)
 
 /// Adds the faults to those of the tasks that ended in the scope.
 pub fn note_ends(scopes: &mut [Scope], s: ScopeId, thrown: Faults) -> Result<(), Faults>
+    requires { ScopesFallIn scopes.old }
     ensures noted { OnOk result (scopes.new ≡ change_first (is_scope s) (λ g. record g { ends = g.ends ++ thrown }) scopes.old) }
     ensures refused { IfErr result (λ back. (back ≡ thrown) × (scopes.new ≡ scopes.old)) }
 {

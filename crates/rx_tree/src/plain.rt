@@ -6,6 +6,7 @@ ghost use Rattle.rx_rules.specs.Fold.{opening};
 ghost use Rattle.rx_rules.specs.Reached.{Reached};
 ghost use Rattle.rx_tree.specs.Calls.{blow_of, landing};
 ghost use Rattle.rx_tree.specs.Kept.{kept};
+ghost use Rattle.rx_tree.specs.Positions.{InOrder};
 ghost use Rattle.rx_tree.specs.Removal.{LeaveReply};
 
 use crate::changes::{
@@ -13,13 +14,14 @@ use crate::changes::{
     note_ends, place_of, remove_task, set_waits, strike_all, travel,
 };
 use crate::ledger::{Born, Caller, FinishLedger, LedgerFault, Outcome};
-use crate::lookups::{death_at, find_governing, find_task, reaches};
+use crate::lookups::{death_at, find_gone, find_governing, find_task, reaches, scope_row};
 use crate::removal::{keep_gone, lost_places, remove_lost, remove_scopes, scopes_under};
 use rx_base::{Faults, NoMemory, PlaceId, ScopeId, TaskId};
 use rx_rules::{Blow, Kind, Scope, Task, Where};
 use std::alloc::Global;
 
-/// The plain ledger: it keeps the tree itself, the newest rows first, and has no index. It stands for the tree that it keeps.
+/// The plain ledger: it keeps the tree itself, the newest rows first, in which it searches by number. It stands for the tree
+/// that it keeps.
 #[derive(Drop)]
 pub struct TreeLedger {
     alloc: Global,
@@ -70,12 +72,13 @@ impl TreeLedger {
         })
     }
 
-    /// Whether no unstruck task is under the scope. A plain body: it walks over the scopes for each task.
+    /// Whether no unstruck task is under the scope. A plain body: it goes up the scopes for each unstruck task.
     fn is_quiet(&self, s: ScopeId) -> bool
+        requires { InOrder (kept self.now) }
         ensures { result ≡ quiet (kept self.now) s }
     {
         for x in &self.tasks {
-            if reaches(&self.scopes, x.under, s) && x.struck.is_none() {
+            if x.struck.is_none() && reaches(&self.scopes, x.under, s) {
                 return false;
             }
         }
@@ -84,10 +87,11 @@ impl TreeLedger {
 
     /// Where an unstruck task under the scope is or goes, if there is one. A plain body, as that of `is_quiet`.
     fn hindrance(&self, s: ScopeId) -> Option<PlaceId>
+        requires { InOrder (kept self.now) }
         ensures { result ≡ option_map (λ x. landing x.place) (find (λ x. is_under (kept self.now) s x && is_none x.struck) self.now.tasks.items) }
     {
         for x in &self.tasks {
-            if reaches(&self.scopes, x.under, s) && x.struck.is_none() {
+            if x.struck.is_none() && reaches(&self.scopes, x.under, s) {
                 return Some(landing_of(x.place));
             }
         }
@@ -96,18 +100,21 @@ impl TreeLedger {
 
     /// The faults of the scope's body and then of the tasks that ended in it.
     fn thrown_in(&self, s: ScopeId) -> Result<Faults, NoMemory>
+        requires { InOrder (kept self.now) }
         ensures { IfOk result (λ f. f ≡ thrown_of (kept self.now) s) }
     {
-        for g in &self.scopes {
-            if g.number == s {
-                return g.body.joined(self.alloc, &g.ends);
+        match scope_row(&self.scopes, s) {
+            Some(i) => {
+                let g = &self.scopes[i];
+                g.body.joined(self.alloc, &g.ends)
             }
+            None => Ok(Faults::open(self.alloc)),
         }
-        Ok(Faults::open(self.alloc))
     }
 
     /// Releases the scope where nothing hinders it: what is below it leaves with it.
     fn leave(&mut self, s: ScopeId) -> Result<Outcome, LedgerFault>
+        requires { InOrder (kept self.old) }
         ensures { LeaveReply (kept self.old) s result (kept self.new) }
     {
         if let Some(place) = self.hindrance(s) {
@@ -133,11 +140,12 @@ impl TreeLedger {
 
     /// The death that struck the task, if one did.
     fn blow(&self, t: TaskId) -> Option<Blow>
+        requires { InOrder (kept self.now) }
         ensures { result ≡ blow_of (kept self.now) t }
     {
         match find_task(&self.tasks, t) {
             Some(x) => x.struck,
-            None => match find_task(&self.gone, t) {
+            None => match find_gone(&self.gone, t) {
                 Some(x) => x.struck,
                 None => None,
             },
@@ -149,6 +157,7 @@ impl FinishLedger for TreeLedger {
     ghost stands = { λ l T. (kept l ≡ T) × Reached T };
 
     fn open_finish(&mut self, who: Caller) -> Result<ScopeId, LedgerFault> {
+        rx_sound::reached_is_sound();
         if let Some(blow) = self.blow(who.task) {
             return Err(lost_by(blow));
         }
@@ -168,6 +177,7 @@ impl FinishLedger for TreeLedger {
     }
 
     fn spawn(&mut self, who: Caller, to: PlaceId) -> Result<Born, LedgerFault> {
+        rx_sound::reached_is_sound();
         if let Some(blow) = self.blow(who.task) {
             return Err(lost_by(blow));
         }
@@ -192,6 +202,7 @@ impl FinishLedger for TreeLedger {
     }
 
     fn open_at(&mut self, who: Caller, to: PlaceId) -> Result<Born, LedgerFault> {
+        rx_sound::reached_is_sound();
         if let Some(blow) = self.blow(who.task) {
             return Err(lost_by(blow));
         }
@@ -227,6 +238,7 @@ impl FinishLedger for TreeLedger {
     }
 
     fn arrive(&mut self, who: Caller) -> Result<(), LedgerFault> {
+        rx_sound::reached_is_sound();
         if let Some(blow) = self.blow(who.task) {
             return Err(lost_by(blow));
         }
@@ -235,6 +247,7 @@ impl FinishLedger for TreeLedger {
     }
 
     fn wait(&mut self, who: Caller, thrown: Faults) -> Result<(), (LedgerFault, Faults)> {
+        rx_sound::reached_is_sound();
         if let Some(blow) = self.blow(who.task) {
             return Err((lost_by(blow), thrown));
         }
@@ -244,6 +257,7 @@ impl FinishLedger for TreeLedger {
     }
 
     fn release(&mut self, who: Caller) -> Result<Outcome, LedgerFault> {
+        rx_sound::reached_is_sound();
         if let Some(blow) = self.blow(who.task) {
             return Err(lost_by(blow));
         }
@@ -253,6 +267,7 @@ impl FinishLedger for TreeLedger {
     }
 
     fn end(&mut self, who: Caller, thrown: Faults) -> Result<(), (LedgerFault, Faults)> {
+        rx_sound::reached_is_sound();
         if let Some(blow) = self.blow(who.task) {
             return Err((lost_by(blow), thrown));
         }
@@ -264,6 +279,7 @@ impl FinishLedger for TreeLedger {
     }
 
     fn print(&self, who: Caller) -> Result<(), LedgerFault> {
+        rx_sound::reached_is_sound();
         match self.blow(who.task) {
             Some(blow) => Err(lost_by(blow)),
             None => Ok(()),
@@ -271,10 +287,12 @@ impl FinishLedger for TreeLedger {
     }
 
     fn release_root(&mut self) -> Result<Outcome, LedgerFault> {
+        rx_sound::reached_is_sound();
         self.leave(ScopeId(0))
     }
 
     fn ready(&self, who: Caller) -> bool {
+        rx_sound::reached_is_sound();
         self.blow(who.task).is_none() && self.is_quiet(who.inner)
     }
 

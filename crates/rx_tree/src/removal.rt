@@ -4,6 +4,7 @@ ghost use Rattle.std.specs.List.{list_any};
 ghost use Rattle.rx_base.specs.Sets.{members, all_places, has_bit};
 ghost use Rattle.rx_rules.specs.Tree.{is_scope, chain_in};
 ghost use Rattle.rx_rules.specs.Entries.{was_lost_at};
+ghost use Rattle.rx_tree.specs.Positions.{ScopesFallIn};
 ghost use Rattle.rx_tree.specs.Removal.{holds_scope};
 
 use crate::lookups::reaches;
@@ -11,8 +12,9 @@ use rx_base::{NoMemory, PlaceSet, ScopeId};
 use rx_rules::{Scope, Task};
 use std::alloc::Global;
 
-/// The scopes whose chains have the scope. A plain body: it walks over the scopes for each scope.
+/// The scopes whose chains have the scope. A plain body: it goes up the chain of each scope.
 pub fn scopes_under(scopes: &[Scope], s: ScopeId, alloc: Global) -> Result<Vec<ScopeId>, NoMemory>
+    requires { ScopesFallIn scopes.now }
     ensures { IfOk result (λ inside. (r : ScopeId) → holds_scope inside.items r ≡ list_any (is_scope s) (chain_in scopes.now (Some r))) }
 {
     let mut inside = Vec::new(alloc);

@@ -1,7 +1,11 @@
-use Rattle.std.proofs.Common.{◌≡◌, drop}
+use Rattle.std.proofs.Common.{◌≡◌, ◌-◌, ◌≤◌, length, drop}
 use Rattle.std.specs.Prelude.{Some}
 use Rattle.rx_rules.specs.Tree.{governing_in}
 use Rattle.rx_tree.proofs.lookups.find_governing.Given as goal
 
-abbrev pub invariant-loop-g : goal.invariant-loop-g
-invariant-loop-g l = governing_in l.scopes (Some l.fn.from) ≡ governing_in (drop l.g-index l.scopes) l.want
+abbrev pub invariant-up : goal.invariant-up
+invariant-up l =
+    (l.start ≤ length l.scopes) × (governing_in l.scopes (Some l.fn.from) ≡ governing_in (drop l.start l.scopes) (Some l.want))
+
+abbrev pub decreases-up : goal.decreases-up
+decreases-up l = length l.scopes - l.start

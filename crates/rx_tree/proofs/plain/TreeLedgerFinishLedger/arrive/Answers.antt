@@ -1,7 +1,7 @@
 use Rattle.std.specs.Prelude.{◌≡◌, List}
 use Rattle.std.specs.Vec.{with_items}
 use Rattle.std.proofs.lemmas.List.{with_items_is}
-use Rattle.std.proofs.Common.{ap, ◌∙◌, rules}
+use Rattle.std.proofs.Common.{ap, ◌∙◌, rules, sym, subst}
 use Rattle.rx_rules.specs.declared.tasks.Task.{Task}
 use Rattle.rx_rules.specs.Tree.{Tree, is_task}
 use Rattle.rx_rules.specs.Entries.{change_first}
@@ -12,6 +12,8 @@ use Rattle.rx_rules.specs.declared.tasks.Where.TheVariants.{At}
 use Rattle.rx_tree.specs.Calls.{landing}
 use Rattle.rx_tree.proofs.Allowed.{arrive_allowed}
 use Rattle.rx_tree.proofs.Replies.{at_kept, did, by_tasks}
+use Rattle.rx_tree.proofs.Falling.{in_order}
+use Rattle.rx_tree.specs.Positions.{TasksFallIn}
 use Rattle.rx_tree.proofs.plain.TreeLedgerFinishLedger.arrive.Goals as goal
 
 pub returns : goal.returns
@@ -25,3 +27,9 @@ returns c =
     ∙ ap (λ (xs : List Task). change_first (is_task c.args.who.task) (λ x. record x { place = At (landing c.args.who.place) }) xs) c.deref_mut.ensures.value))
     in
     at_kept K _ _ (λ r may. did K _ c.args.who _ r (arrive_allowed K c.args.who r may u) (by_tasks K _ _ lands))
+
+pub blow-requires : goal.blow-requires
+blow-requires c = in_order (kept c.args.self.now) _ c.reached_is_sound.ensures c.requires
+
+pub land-requires : goal.land-requires
+land-requires c = subst TasksFallIn (sym c.deref_mut.ensures.value) (in_order (kept c.args.self.now) _ c.reached_is_sound.ensures c.requires).tasks

@@ -1,7 +1,7 @@
 use Rattle.std.specs.Prelude.{◌≡◌, ◌++◌, List}
 use Rattle.std.specs.Vec.{with_items}
 use Rattle.std.proofs.lemmas.List.{with_items_is}
-use Rattle.std.proofs.Common.{sym, ap, ◌∙◌, rules}
+use Rattle.std.proofs.Common.{sym, ap, ◌∙◌, rules, subst}
 use Rattle.rx_rules.specs.declared.tasks.Scope.{Scope}
 use Rattle.rx_rules.specs.Tree.{Tree, is_scope}
 use Rattle.rx_rules.specs.Entries.{change_first}
@@ -10,6 +10,8 @@ use Rattle.rx_tree.specs.Kept.{kept}
 use Rattle.rx_tree.specs.Callers.{IsBare}
 use Rattle.rx_tree.proofs.Allowed.{end_allowed}
 use Rattle.rx_tree.proofs.Replies.{at_kept, did, ended_is, by_rows}
+use Rattle.rx_tree.proofs.Falling.{in_order}
+use Rattle.rx_tree.specs.Positions.{ScopesFallIn}
 use Rattle.rx_tree.proofs.plain.TreeLedgerFinishLedger.end.Goals as goal
 
 pub returns : goal.returns
@@ -25,3 +27,9 @@ returns c =
     (λ r may.
     did K _ c.args.who _ r (end_allowed K c.args.who c.args.thrown r may u)
     (by_rows K _ _ _ _ c.remove_task.ensures noted ∙ sym (ended_is K c.args.who (IsBare K c.args.who) c.args.thrown r may u)))
+
+pub blow-requires : goal.blow-requires
+blow-requires c = in_order (kept c.args.self.now) _ c.reached_is_sound.ensures c.requires
+
+pub note_ends-requires : goal.note_ends-requires
+note_ends-requires c = subst ScopesFallIn (sym c.deref_mut.ensures.value) (in_order (kept c.args.self.now) _ c.reached_is_sound.ensures c.requires).scopes

@@ -12,6 +12,7 @@ use Rattle.rx_rules.specs.Entries.{home_for, place_number, born, opened, waiting
 use Rattle.rx_tree.specs.Callers.{IsMoving}
 use Rattle.rx_tree.proofs.Allowed.{call_allowed}
 use Rattle.rx_tree.proofs.Replies.{at_kept, did, home_is, by_births}
+use Rattle.rx_tree.proofs.Falling.{in_order, kept_sound, born_first}
 use Rattle.rx_tree.proofs.plain.TreeLedgerFinishLedger.open_at.Goals as goal
 
 pub returns : goal.returns
@@ -31,3 +32,12 @@ returns c =
     ∙ (c.set_waits.ensures ∙ ap (change_first (is_task c.args.who.task) waiting) (c.deref_mut.ensures.value ∙ tasks))
     in
     (did K _ c.args.who _ r (call_allowed K c.args.who c.args.to _ _ r may u refl refl) (by_births K _ _ _ _ _ _ _ _ waits scopes more_tasks more_scopes), search rules))
+
+pub blow-requires : goal.blow-requires
+blow-requires c = in_order (kept c.args.self.now) _ c.reached_is_sound.ensures c.requires
+
+pub set_waits-requires : goal.set_waits-requires
+set_waits-requires c =
+    let K : Tree = kept c.args.self.now in
+    let callee : Task = born K (record { 0 = K.next_task }) (record { 0 = K.next_scope }) (place_number c.args.who.place) c.args.to in
+    born_first callee K.next_task K.tasks _ (kept_sound K _ c.reached_is_sound.ensures c.requires).tasks_fall refl (c.deref_mut.ensures.value ∙ search rules)

@@ -7,6 +7,7 @@ use Rattle.rx_tree.specs.Calls.{IsUnstruck}
 use Rattle.rx_tree.specs.Kept.{kept}
 use Rattle.rx_tree.proofs.Allowed.{open_allowed}
 use Rattle.rx_tree.proofs.Replies.{at_kept, did, home_is}
+use Rattle.rx_tree.proofs.Falling.{in_order}
 use Rattle.rx_tree.proofs.plain.TreeLedgerFinishLedger.open_finish.Goals as goal
 
 pub returns : goal.returns
@@ -17,3 +18,6 @@ returns c =
     (λ r may.
     let home : home_for K c.args.who.task ≡ place_number c.args.who.place = home_is K c.args.who IsMoving r may u in
     did K _ c.args.who _ r (open_allowed K c.args.who _ r may u refl) (search (rules, home)))
+
+pub blow-requires : goal.blow-requires
+blow-requires c = in_order (kept c.args.self.now) _ c.reached_is_sound.ensures c.requires

@@ -1,7 +1,7 @@
 use Rattle.std.specs.Prelude.{◌≡◌}
 use Rattle.std.specs.Vec.{with_items}
 use Rattle.std.proofs.lemmas.List.{with_items_is}
-use Rattle.std.proofs.Common.{ap, ◌∙◌, rules}
+use Rattle.std.proofs.Common.{ap, ◌∙◌, rules, sym, subst}
 use Rattle.rx_rules.specs.Tree.{Tree, is_task}
 use Rattle.rx_rules.specs.Entries.{change_first}
 use Rattle.rx_tree.specs.Calls.{IsUnstruck}
@@ -10,6 +10,8 @@ use Rattle.std.specs.Prelude.{Ok}
 use Rattle.rx_rules.specs.Entries.{resumed}
 use Rattle.rx_tree.specs.Removal.{LeaveReply}
 use Rattle.rx_tree.proofs.Replies.{at_kept, released, by_tasks}
+use Rattle.rx_tree.proofs.Falling.{in_order, kept_sound, left_in_order}
+use Rattle.rx_tree.specs.Positions.{TasksFallIn}
 use Rattle.rx_tree.proofs.plain.TreeLedgerFinishLedger.release.Goals as goal
 
 pub returns : goal.returns
@@ -23,3 +25,16 @@ returns c =
     ∙ (c.set_waits.ensures ∙ ap (change_first (is_task c.args.who.task) resumed) c.deref_mut.ensures.value)
     in
     at_kept K _ _ (λ r may. released K L _ c.args.who c.in_ok-outcome.outcome r may u left (by_tasks L _ _ goes_on))
+
+pub blow-requires : goal.blow-requires
+blow-requires c = in_order (kept c.args.self.now) _ c.reached_is_sound.ensures c.requires
+
+pub leave-requires : goal.leave-requires
+leave-requires c = in_order (kept c.args.self.now) _ c.reached_is_sound.ensures c.requires
+
+pub set_waits-requires : goal.set_waits-requires
+set_waits-requires c =
+    let K : Tree = kept c.args.self.now in
+    let L : Tree = kept c.leave.new.self in
+    let left : LeaveReply K c.args.who.inner (Ok c.in_ok-outcome.outcome) L = c.in_ok-outcome.ensures in
+    subst TasksFallIn (sym c.deref_mut.ensures.value) (left_in_order K L c.args.who.inner (kept_sound K _ c.reached_is_sound.ensures c.requires) left.2)

@@ -1,7 +1,7 @@
 use Rattle.std.specs.Prelude.{◌≡◌, List}
 use Rattle.std.specs.Vec.{with_items}
 use Rattle.std.proofs.lemmas.List.{with_items_is}
-use Rattle.std.proofs.Common.{ap, ◌∙◌, rules}
+use Rattle.std.proofs.Common.{ap, ◌∙◌, rules, sym, subst}
 use Rattle.rx_rules.specs.declared.tasks.Scope.{Scope}
 use Rattle.rx_rules.specs.Tree.{Tree, is_task, is_scope}
 use Rattle.rx_rules.specs.Entries.{change_first}
@@ -10,6 +10,8 @@ use Rattle.rx_tree.specs.Kept.{kept}
 use Rattle.rx_rules.specs.Entries.{waiting}
 use Rattle.rx_tree.proofs.Allowed.{wait_allowed}
 use Rattle.rx_tree.proofs.Replies.{at_kept, did, by_rows}
+use Rattle.rx_tree.proofs.Falling.{in_order}
+use Rattle.rx_tree.specs.Positions.{TasksFallIn, ScopesFallIn}
 use Rattle.rx_tree.proofs.plain.TreeLedgerFinishLedger.wait.Goals as goal
 
 pub returns : goal.returns
@@ -26,3 +28,12 @@ returns c =
     ∙ ap (λ (gs : List Scope). change_first (is_scope c.args.who.inner) (λ g. record g { body = c.args.thrown }) gs) c.deref_mut.ensures.value)
     in
     at_kept K _ _ (λ r may. did K _ c.args.who _ r (wait_allowed K c.args.who c.args.thrown r may u) (by_rows K _ _ _ _ waits noted))
+
+pub blow-requires : goal.blow-requires
+blow-requires c = in_order (kept c.args.self.now) _ c.reached_is_sound.ensures c.requires
+
+pub note_body-requires : goal.note_body-requires
+note_body-requires c = subst ScopesFallIn (sym c.deref_mut.ensures.value) (in_order (kept c.args.self.now) _ c.reached_is_sound.ensures c.requires).scopes
+
+pub set_waits-requires : goal.set_waits-requires
+set_waits-requires c = subst TasksFallIn (sym c.deref_mut-2.ensures.value) (in_order (kept c.args.self.now) _ c.reached_is_sound.ensures c.requires).tasks

@@ -1,0 +1,3 @@
+pub mod DeathRuns
+pub mod DeathRefusals
+mod StatementRuns

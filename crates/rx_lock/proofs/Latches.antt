@@ -1,13 +1,18 @@
 -- Each step on the lock keeps its rule.
-use Rattle.std.proofs.Common.{◌≡◌, ◌≢◌, ℕ, ◌<◌, eqb, Option, Some, None, List, [], ◌∷◌, set, slice_index, refl, ap, sym, ◌∙◌, arith, subst, ⊎_elim, inl, inr}
-use mathlib.Core.Option.{none, some}
+use Rattle.std.proofs.Common.{◌⊎◌, ◌≡◌, ◌≢◌, ℕ, zero, suc, ◌<◌, eqb, Option, Some, None, List, [], ◌∷◌, set, slice_index, refl, ap, sym, ◌∙◌, arith, subst, ⊎_elim, inl, inr}
+use mathlib.Core.Option.{none, some, some-ne-none}
 use prog.Atomic.{either}
 use lib.ListN.{get_elem?}
 use Rattle.std.specs.Prelude.{slice_set}
 use Rattle.atomic_table.specs.Table.{State, Act, keeps, takes, gives, step, stepped, carried_after, Valid, Allows, Enters}
-use Rattle.atomic_table.proofs.Lists.{at_set, at_snoc, set_here, set_again, exchanged}
+use Rattle.atomic_table.proofs.Lists.{at_set, at_snoc, at_longer, set_here, set_again, exchanged}
 use Rattle.rx_lock.specs.declared.steps.Hand.{Hand}
-use Rattle.rx_lock.specs.Latched.{idle, holding, closing, Emptied, AtHome, Knows, Latched, Took, Sat, Ends}
+use Rattle.rx_lock.specs.Latched.{idle, holding, closing, IsOut, Emptied, AtHome, Knows, Latched, Took, Sat, Ends}
+
+set_at : {A : Type 0} (l : List A) (i : ℕ) (a b : A) → get_elem? l i ≡ some b → get_elem? (set l i a) i ≡ some a
+set_at [] i a b e = absurd (some-ne-none b (sym e))
+set_at (x ∷ xs) zero a b e = refl
+set_at (x ∷ xs) (suc i) a b e = set_at xs i a b e
 
 module _ {T K : Type 0} (holds : K → T → Type 0) where
   abbrev St : Type 0
@@ -16,7 +21,7 @@ module _ {T K : Type 0} (holds : K → T → Type 0) where
   pub sits : (k : K) (slots : ℕ) → Enters (Latched holds k) slots 0 (λ n w. Sat {T = T} (step slots 0 0 0 none) (idle k, []) n (w, []))
   sits k slots s r _ _ = (
     idle k,
-    (r.0, r.1, λ id h e. ⊎_elim (r.2 id h) (λ (same : idle k ≡ h). subst (λ (z : Hand K). Knows holds k r.0 s id z) same (refl, (λ e. absurd (cc e)), λ e. absurd (cc e))) (at_snoc s.views (idle k) h id e)),
+    (r.0, ⊎_elim (λ (h : AtHome holds k s). inl h) (λ (t : IsOut k r.0 s ⊎ Emptied s). inr (⊎_elim (λ (o : IsOut k r.0 s). inl (o.0, at_longer s.views (idle k ∷ []) r.0 (holding k) o.1)) (λ (c : Emptied s). inr c) t)) r.1, λ id h e. ⊎_elim (r.2 id h) (λ (same : idle k ≡ h). subst (λ (z : Hand K). Knows holds k r.0 s id z) same (refl, (λ e. absurd (cc e)), λ e. absurd (cc e))) (at_snoc s.views (idle k) h id e)),
     refl,
   )
 
@@ -28,7 +33,7 @@ module _ {T K : Type 0} (holds : K → T → Type 0) where
 
   -- where the word is 0 the value is at home
   at_rest : (k : K) (s : St) → Latched holds k s → slice_index s.words 0 ≡ 0 → AtHome holds k s
-  at_rest k s r e = ⊎_elim (λ h. h) (λ t. absurd (⊎_elim (λ (one : s.words ≡ 1 ∷ []). let w = word_of s.words 1 one in cc (sym w ∙ e)) (λ (t : Emptied s). let w = word_of s.words 2 t.0 in cc (sym w ∙ e)) t)) r.1
+  at_rest k s r e = ⊎_elim (λ h. h) (λ t. absurd (⊎_elim (λ (one : IsOut k r.0 s). let w = word_of s.words 1 one.0 in cc (sym w ∙ e)) (λ (t : Emptied s). let w = word_of s.words 2 t.0 in cc (sym w ∙ e)) t)) r.1
 
   pub locks : (k : K) (slots id : ℕ) → Allows (Latched holds k) slots id (idle k, []) 0 (λ n. either (eqb n 0) 1 n) (Took holds (step slots 0 0 1 none) (idle k, []))
   locks k slots id s r count at _ = exchanged (slice_index s.words 0) 0 1 Goal hit miss
@@ -46,7 +51,7 @@ module _ {T K : Type 0} (holds : K → T → Type 0) where
             h.1.2,
             (
               id,
-              inr (inl now),
+              inr (inl (now, set_at s.views id (holding k) (idle k) at)),
               λ j u e'. ⊎_elim
                   (λ (t : (j ≡ id) × (holding k ≡ u)). subst (λ (z : ℕ × Hand K). Knows holds k id (stepped s 0 1 id [] (holding k) (takes 0 (Some x))) z.0 z.1) (λ i. (sym t.0 i, t.1 i)) (refl, (λ _. (now, refl)), λ e. absurd (cc e)))
                   (λ (t : (j ≢ id) × (get_elem? s.views j ≡ some u)). let o = r.2 j u t.1 in (o.0, (λ a. absurd (cc (sym h.0 ∙ (o.1 a).0))), λ c. absurd (cc (sym h.0 ∙ (o.2 c).0))))
@@ -58,7 +63,7 @@ module _ {T K : Type 0} (holds : K → T → Type 0) where
       miss : slice_index s.words 0 ≢ 0 → Goal (slice_index s.words 0)
       miss ne =
           let same : slice_set s.words 0 (slice_index s.words 0) ≡ s.words = ⊎_elim (λ (h : AtHome holds k s). absurd (ne (word_of s.words 0 h.0)))
-          (λ t. ⊎_elim (λ (one : s.words ≡ 1 ∷ []). ap (λ (l : List ℕ). slice_set l 0 (slice_index l 0)) one ∙ sym one) (λ (t : Emptied s). ap (λ (l : List ℕ). slice_set l 0 (slice_index l 0)) t.0 ∙ sym t.0) t) r.1 in
+          (λ t. ⊎_elim (λ (one : IsOut k r.0 s). ap (λ (l : List ℕ). slice_set l 0 (slice_index l 0)) one.0 ∙ sym one.0) (λ (t : Emptied s). ap (λ (l : List ℕ). slice_set l 0 (slice_index l 0)) t.0 ∙ sym t.0) t) r.1 in
           let still : set s.views id (idle k) ≡ s.views = set_again s.views id (idle k) at in (
             idle k,
             keeps,

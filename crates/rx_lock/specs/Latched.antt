@@ -20,6 +20,10 @@ module _ {K : Type 0} where
   closing k = record { key = k; has_it = false; closed = true }
 
 module _ {T K : Type 0} where
+  -- the value is out with the hand of this number
+  abbrev pub IsOut : K → ℕ → State (Option T) (Hand K) → Type 0
+  IsOut k holder s = (s.words ≡ 1 ∷ []) × (get_elem? s.views holder ≡ some (holding k))
+
   -- the lock is closed
   abbrev pub Emptied : State (Option T) (Hand K) → Type 0
   Emptied s = (s.words ≡ 2 ∷ []) × (get_elem? s.homes 0 ≡ some (some None))
@@ -33,9 +37,9 @@ module _ {T K : Type 0} where
     abbrev pub Knows : K → ℕ → State (Option T) (Hand K) → ℕ → Hand K → Type 0
     Knows k holder s id h = (h.key ≡ k) × (h.has_it ≡ true → (s.words ≡ 1 ∷ []) × (id ≡ holder)) × (h.closed ≡ true → Emptied s)
 
-    -- the rule: the lock is free, taken or closed, and each hand knows what is so
+    -- the rule: the lock is free, taken by a hand that is there, or closed, and each hand knows what is so
     abbrev pub Latched : K → State (Option T) (Hand K) → Type 0
-    Latched k s = (holder : ℕ) × (AtHome k s ⊎ ((s.words ≡ 1 ∷ []) ⊎ Emptied s)) × ((id : ℕ) (h : Hand K) → get_elem? s.views id ≡ some h → Knows k holder s id h)
+    Latched k s = (holder : ℕ) × (AtHome k s ⊎ (IsOut k holder s ⊎ Emptied s)) × ((id : ℕ) (h : Hand K) → get_elem? s.views id ≡ some h → Knows k holder s id h)
 
     -- where the word was 0, the value is in the hand
     abbrev pub Took : Step (Option T) → Me (Option T) (Hand K) → ℕ → Me (Option T) (Hand K) → Type 0

@@ -50,8 +50,12 @@ told_steady R S slots slots' made made' J K last late closed m cell t s h made_i
       live = all_live S slots' (after_cell (state_of J.events) cell).blocks h;
       room = λ _. room';
       holds = λ _. subst H (sym after) h;
+      none_left = λ e. absurd (true-false (sym e ∙ t.open'));
     } in
     subst P (sym t.journal) made
+  where
+    true-false : true ≡ false → ⊥
+    true-false e = cc
 
 same_kept : (place : PlaceId) (w v p q : ℕ) (es fs : List PlaceEvent) → w ≡ v → es ≡ fs → p ≡ q → Kept-is place w es p ≡ Kept-is place v fs q
 same_kept place w v p q es fs a b c = ap (λ z. Kept-is place z es p) a ∙ ap (λ z. Kept-is place v z p) b ∙ ap (λ z. Kept-is place v fs z) c
@@ -89,6 +93,7 @@ closed_steady R S slots made J last at closed s is_open words =
       live = record { starts = λ k h e. absurd (none_some h e); live = λ k h e. absurd (none_some h e) };
       room = λ e. absurd (true-false e);
       holds = λ e. absurd (true-false e);
+      none_left = λ _. refl;
     }
   where
     none_some : (h : Held) → None ≡ Some h → ⊥

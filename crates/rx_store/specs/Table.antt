@@ -1,5 +1,5 @@
 -- How the table of live blocks and the heap stand for the blocks of the store's law.
-use Rattle.std.specs.Prelude.{◌≡◌, ℕ, ◌+◌, ◌<◌, ◌⊎◌, pos, Bool, false, List, [], ◌∷◌, length, slice_index, slice_index_or, Option, Some, None}
+use Rattle.std.specs.Prelude.{◌≡◌, ℕ, ◌+◌, ◌<◌, ◌⊎◌, pos, Bool, true, false, List, [], ◌∷◌, length, slice_index, slice_index_or, Option, Some, None}
 use Rattle.rx_heap.specs.Region.{Region, Extent, IsLive, IsLaid}
 use Rattle.rx_rules.specs.declared.events.PlaceEvent.{PlaceEvent}
 use Rattle.rx_rules.specs.Store.{Live, opening_state, IsStoreRun}
@@ -44,7 +44,7 @@ pub record AllLive (R : Region) (slots : List (Option Held)) : Type 0 where
   pub live : (k : ℕ) (h : Held) → slot_at slots k ≡ Some h → IsLive R h.block
 
 -- what a store keeps: its journal is a run, its numbers are those of the journal, and while it is open its table and heap stand
--- for the blocks that the journal leaves and there is room for the close
+-- for the blocks that the journal leaves and there is room for the close; once it is closed every block was given back
 pub record IsSteady (R : Region) (slots : List (Option Held)) (made : ℕ) (events : List PlaceEvent) (spare last : ℕ) (closed : Bool) : Type 0 where
   pub run : IsStoreRun (length R.words) opening_state events
   pub closed_is : closed ≡ ends_closed events
@@ -53,3 +53,4 @@ pub record IsSteady (R : Region) (slots : List (Option Held)) (made : ℕ) (even
   pub live : AllLive R slots
   pub room : closed ≡ false → 0 < spare
   pub holds : closed ≡ false → Holds R slots (state_of events).blocks
+  pub none_left : closed ≡ true → slots ≡ []

@@ -5,7 +5,7 @@ pub mod Stepping
 pub mod Coming
 mod Blocks
 mod Capping
-mod Exprs
+pub mod Exprs
 mod Going
 mod Judging
 pub mod OneTree

@@ -1,4 +1,3 @@
-pub mod Exprs
 pub mod Plans
 pub mod Wrapping
 pub mod Moves

@@ -23,6 +23,7 @@ use Rattle.rx_control.specs.declared.step.Want.{Want}
 use Rattle.rx_control.specs.declared.step.Next.{Next}
 use Rattle.rx_control.specs.Next.{next_of}
 use Rattle.rx_control.specs.Stands.{StandsFor, Leaves}
+use Rattle.rx_control.proofs.Told.{told_local}
 use Rattle.rx_machine.specs.declared.machine.Machine.{Machine}
 use Rattle.rx_machine.specs.declared.seat.Seat.{Seat}
 use Rattle.rx_machine.specs.Held.{is_held}
@@ -96,20 +97,6 @@ acting-on stands shape code U m m' k i here q r seat seat' G Z events a o row go
 
 -- What the control tells.
 
-pub is_local : (d : Does) → next_of d ≡ LocalStep → (after : Term) × (left : Vars) × (d ≡ Local after left)
-is_local (Local left vars) e = (left, vars, refl)
-is_local (Makes name words) e = cc
-is_local (Gets name target index) e = cc
-is_local (Puts target index value) e = cc
-is_local (Forgets target) e = cc
-is_local Opens e = cc
-is_local (Calls place) e = cc
-is_local (Spawns place) e = cc
-is_local (Waits faults) e = cc
-is_local Releases e = cc
-is_local (Prints value) e = cc
-is_local (Done faults) e = cc
-
 pub asked_book : (d : Does) (w : Want) → next_of d ≡ Book w → IsAsked d
 asked_book (Local left vars) w e = cc
 asked_book (Makes name words) w e = cc
@@ -169,7 +156,7 @@ same m = record { history = refl; ledger = refl; seats = refl; ready = refl; kil
 
 pub stepped-local : {L : Type 0} (stands : L → Tree → Type 0) (shape : Shape) (code : Block) (U : Given) (m : Machine L) (k i : ℕ) (here : PlaceId) (q : Player) (seat seat' : Seat) (G : Game) → TermSinks → Acting stands shape code U m k i here q seat G → next_of (does q.vars here.0 U.places q.term) ≡ LocalStep → Leaves shape seat'.control (does q.vars here.0 U.places q.term) → seat'.batch ≡ begun q.term seat.batch → seat'.row ≡ seat.row → seat'.scopes ≡ seat.scopes → AfterStep stands shape code U m k i here q seat' G None
 stepped-local stands shape code U m k i here q seat seat' G law a e leaves batch row scopes =
-    let l = is_local (does q.vars here.0 U.places q.term) e in
+    let l = told_local (does q.vars here.0 U.places q.term) e in
     let left : StandsFor shape seat'.control l.0 × (seat'.control.vars ≡ l.1) = subst (λ (d : Does). Leaves shape seat'.control d) l.2 leaves in
     let less : steps l.0 + 1 ≤ steps q.term = subst (λ (d : Does). Sinks q.term d) l.2 (law q.vars here.0 U.places q.term) in
     (record { term = l.0; vars = l.1; batch = begun q.term q.batch }, acting-on stands shape code U m m k i here q _ seat seat' G a.left a.events a (same m) row (goes-local a.gone.goes l.2) (local-seat shape (tree_in U G) i here U.places q seat seat' l.0 l.1 a.gone.seat_is l.2 left.0 left.1 batch row scopes) a.stores, less)

@@ -3,7 +3,7 @@ use Rattle.std.proofs.lemmas.Int.{ints, to_z-of_z}
 use mir.Val.{SFits}
 use Rattle.rx_rules.specs.Terms.{eval, both, number_in}
 use Rattle.rx_script.specs.Shape.{op_of}
-use Rattle.rx_control.proofs.Exprs.{part-is, expr-within}
+use Rattle.rx_check.proofs.Exprs.{part-is, expr-within}
 use Rattle.rx_control.proofs.eval.+evaluate.Goals as goal
 
 pub expr-requires : goal.expr-requires

@@ -10,9 +10,11 @@ use Rattle.rx_control.specs.declared.frame.Frame.{Frame}
 use Rattle.rx_control.specs.declared.frame.Frame.TheVariants.{Turns, Try, Body, Held}
 use Rattle.rx_control.specs.declared.control.Control.{Control}
 use Rattle.rx_control.specs.Stands.{path_of, StandsFor, Leaves}
+use Rattle.rx_control.specs.Next.{next_of}
+use Rattle.rx_control.specs.declared.step.Next.TheVariants.{Local as LocalStep}
 use Rattle.rx_control.specs.Front.{lifted, AtStatement}
 use Rattle.rx_control.proofs.Front.{does-statement, does-turns, does-tried, does-inside, does-waiting, does-raised-tried, does-raised-inside}
-use Rattle.rx_control.proofs.Standing.{AtTop, at-end, at-turns, at-tried, at-inside, at-waiting}
+use Rattle.rx_control.proofs.Standing.{AtTop, calm-turns, at-end, at-turns, at-tried, at-inside, at-waiting}
 
 pub stmt-does : (s : Shape) (c : Control) (t : Term) (below : List Frame) (block : BlockId) (next : ℕ) (part : Option ℕ) (a : AtStatement s c t below block next part) (vars : Vars) (here places : ℕ) → does vars here places t ≡ lifted a.others (stmt_does vars here places a.stmt (at (path_of c.base below ++ option_to_list part) next) (seq (More a.more (path_of c.base below ++ option_to_list part) (suc next) ∷ a.others)))
 stmt-does s c t below block next part a vars here places =
@@ -57,3 +59,15 @@ inside-leaves s c d t below a vars here places = by-raised c.raised refl
     by-raised : (r : Option (List Fault)) → c.raised ≡ r → Leaves s d (does vars here places t)
     by-raised None e = let P : Does → Type 0 = λ x. Leaves s d x in subst P (sym (inside-does s c t below e a vars here places)) tt
     by-raised (Some faults) e = let P : Does → Type 0 = λ x. Leaves s d x in subst P (sym (raised-inside-does s c t below faults e a vars here places)) tt
+
+-- turns and tries go on by local steps
+pub turns-local : (s : Shape) (c : Control) (t : Term) (below : List Frame) (body : BlockId) (k n : ℕ) (a : AtTop s c t below (Turns body k n)) (vars : Vars) (here places : ℕ) → next_of (does vars here places t) ≡ LocalStep
+turns-local s c t below body k n a vars here places =
+    ap next_of (turns-does s c t below body k n (calm-turns s c t below body k n a) a vars here places)
+
+pub try-local : (s : Shape) (c : Control) (t : Term) (below : List Frame) (d : Bool) (b : BlockId) (a : AtTop s c t below (Try d b)) (vars : Vars) (here places : ℕ) → next_of (does vars here places t) ≡ LocalStep
+try-local s c t below d b a vars here places = by-raised c.raised refl
+  where
+    by-raised : (r : Option (List Fault)) → c.raised ≡ r → next_of (does vars here places t) ≡ LocalStep
+    by-raised None e = ap next_of (tried-does s c t below d b e a vars here places)
+    by-raised (Some faults) e = ap next_of (raised-tried-does s c t below d b faults e a vars here places)

@@ -1,16 +1,20 @@
 -- Plans of statements whose names are given by an equation.
-use Rattle.std.proofs.Common.{◌≡◌, ℕ, ℤ, List, Option, cond, ◌==◌, ap, sym, ◌∙◌, subst}
+use Rattle.std.proofs.Common.{◌≡◌, ◌≢◌, ℕ, ℤ, List, Option, cond, ◌==◌, refl, ap, sym, ◌∙◌, subst}
 use Rattle.rx_base.specs.declared.values.Value.TheVariants.{Num as Number}
 use Rattle.rx_base.specs.declared.ids.GlobalRef.{GlobalRef}
 use Rattle.rx_base.specs.declared.ids.PlaceId.{PlaceId}
 use Rattle.rx_base.specs.declared.values.Fault.TheVariants.{WrongPlace}
 use Rattle.rx_rules.specs.Code.{Expr, Stmt, SetTo, Get, Put}
-use Rattle.rx_rules.specs.Terms.{Vars, Term, Local, Gets, Puts, bound, raise, ref_in, value_of, eval, with_number}
+use Rattle.rx_rules.specs.Terms.{Vars, Term, Does, Local, Gets, Puts, bound, raise, ref_in, value_of, eval, with_number}
 use Rattle.rx_script.specs.declared.nodes.ExprId.{ExprId}
 use Rattle.rx_script.specs.declared.nodes.NameId.{NameId}
 use Rattle.rx_script.specs.declared.nodes.Stmt.TheVariants.{Set as SetNode, Get as GetNode, Put as PutNode}
 use Rattle.rx_script.specs.Shape.{Shape, StmtIs, ExprStands}
 use Rattle.rx_control.specs.declared.plan.Plan.{Plan}
+use Rattle.rx_control.specs.declared.plan.Plan.TheVariants.{Assign, Raise, Choose, Loop, Attempt, Ask}
+use Rattle.rx_control.specs.declared.step.Next.{Next}
+use Rattle.rx_control.specs.declared.step.Next.TheVariants.{Local as LocalStep}
+use Rattle.rx_control.specs.Next.{next_of}
 use Rattle.rx_control.specs.Plans.{Plans, IsPlan}
 
 -- an expression has the value z
@@ -38,3 +42,12 @@ put-plan s p vars here places target index value k z r (Put g e d) h v u w f x r
     (subst (λ z. P k z (ref_in (value_of vars g))) (u d h.2)
     (subst (P k z) (w ∙ ap (λ g. ref_in (value_of vars g)) (sym h.0)) (f x rest)))
 put-plan s p vars here places target index value k z r _ h v u w f x rest = absurd h
+
+-- a plan of a step that is not local asks
+pub asks : (s : Shape) (plan : Plan) (vars : Vars) (x : List ℕ) (rest : Term) (d : Does) → IsPlan s plan vars x rest d → next_of d ≢ LocalStep → (next : Next) × (plan ≡ Ask next)
+asks s (Assign name value) vars x rest d h n = absurd (n (ap next_of h))
+asks s (Raise fault) vars x rest d h n = absurd (n (ap next_of h))
+asks s (Choose block part) vars x rest d h n = absurd (n (ap next_of h.2))
+asks s (Loop body times) vars x rest d h n = absurd (n (ap next_of h.2))
+asks s (Attempt body dead_only handler) vars x rest d h n = absurd (n (ap next_of h.2.2))
+asks s (Ask next) vars x rest d h n = (next, refl)

@@ -1,5 +1,5 @@
 // The control of one activity.
-ghost use Rattle.std.specs.Prelude.{◌≡◌, ℕ, ◌+◌, ◌*◌, ◌<◌, ◌≤◌, List, [], ◌∷◌, ◌++◌, Option, Some, None, IfOk, OnOk, OnErr, IfErr, MatchOption, option_to_list, vec_len, vec_capacity};
+ghost use Rattle.std.specs.Prelude.{◌≡◌, ◌≢◌, ℕ, ◌+◌, ◌*◌, ◌<◌, ◌≤◌, List, [], ◌∷◌, ◌++◌, Option, Some, None, IfOk, OnOk, OnErr, IfErr, MatchOption, option_to_list, vec_len, vec_capacity};
 ghost use Rattle.rx_base.specs.declared.ids.PlaceId.{PlaceId};
 ghost use Rattle.rx_base.specs.declared.values.Fault.{Fault};
 ghost use Rattle.rx_rules.specs.Code.{Block, work};
@@ -134,8 +134,8 @@ impl Control {
         }
     }
 
-    /// Makes the local step that is next, at a place of so many. Fewer steps are left then. Where another step is next, nothing is
-    /// said of what it leaves. A refusal changes nothing.
+    /// Makes the local step that is next, at a place of so many. Fewer steps are left then. Where another step is next, nothing
+    /// changes. A refusal changes nothing.
     pub fn local(
         &mut self,
         alloc: Global,
@@ -145,6 +145,7 @@ impl Control {
     ) -> Result<(), NoMemory>
         requires { (t : Term) × StandsFor p.now.script self.old t }
         ensures ok { OnOk result ((t : Term) → StandsFor p.now.script self.old t → Leaves p.now.script self.new (does self.old.vars here.0 places t)) }
+        ensures other { (t : Term) → StandsFor p.now.script self.old t → next_of (does self.old.vars here.0 places t) ≢ Next.Local → IsSame self.new self.old }
         ensures err { OnErr result (IsSame self.new self.old) }
         ensures steps { (t : Term) → Falls (steps t) (does self.old.vars here.0 places t) }
     {
@@ -165,6 +166,7 @@ impl Control {
         requires room { vec_len self.old.frames + 2 ≤ vec_capacity self.old.frames }
         requires stands { (t : Term) × StandsFor script.now self.old t }
         ensures ok { OnOk result ((t : Term) → StandsFor script.now self.old t → Leaves script.now self.new (does self.old.vars here.0 places t)) }
+        ensures other { (t : Term) → StandsFor script.now self.old t → next_of (does self.old.vars here.0 places t) ≢ Next.Local → IsSame self.new self.old }
         ensures err { OnErr result (IsSame self.new self.old) }
     {
         match top(&self.frames) {
@@ -202,7 +204,8 @@ impl Control {
         requires room { vec_len self.old.frames + 2 ≤ vec_capacity self.old.frames }
         requires due { (t : Term) × (below : List Frame) × Due script.now self.old t below block next part plan }
         requires faults { FaultsFit plan faults }
-        ensures { (t : Term) (below : List Frame) → (h : Due script.now self.old t below block next part plan) → Leaves script.now self.new (lifted h.front.others h.act) }
+        ensures done { (t : Term) (below : List Frame) → (h : Due script.now self.old t below block next part plan) → Leaves script.now self.new (lifted h.front.others h.act) }
+        ensures asks { (next : Next) → plan ≡ Plan.Ask next → IsSame self.new self.old }
     {
         let after = following(script, block, next);
         match plan {
@@ -302,8 +305,8 @@ impl Control {
         }
     }
 
-    /// Takes the store's answer: a value for the name of a `new` or `get`, none for the others, or a fault, which is raised. The
-    /// next step begins a statement. Fewer steps are left then. A refusal changes nothing.
+    /// Takes the store's answer: a value for the name of a `new` or `get`, none for the others, or a fault, which is raised. Fewer
+    /// steps are left then. Where the next step begins no statement, nothing changes. A refusal changes nothing.
     pub fn cell_done(
         &mut self,
         alloc: Global,
@@ -312,6 +315,7 @@ impl Control {
     ) -> Result<(), NoMemory>
         requires { (t : Term) × StandsFor p.now.script self.old t }
         ensures ok { OnOk result ((t : Term) (x : List ℕ) → StandsFor p.now.script self.old t → begins t ≡ Some x → StandsFor p.now.script self.new (answered (answer_of (receives t) answer) t) × (self.new.vars ≡ vars_after (answer_of (receives t) answer) self.old.vars)) }
+        ensures other { (t : Term) → StandsFor p.now.script self.old t → begins t ≡ None → IsSame self.new self.old }
         ensures err { OnErr result (IsSame self.new self.old) }
         ensures steps { (t : Term) (x : List ℕ) → begins t ≡ Some x → steps (answered (answer_of (receives t) answer) t) < steps t }
     {
@@ -327,6 +331,7 @@ impl Control {
     ) -> Result<(), NoMemory>
         requires { (t : Term) × StandsFor script.now self.old t }
         ensures ok { OnOk result ((t : Term) (x : List ℕ) → StandsFor script.now self.old t → begins t ≡ Some x → StandsFor script.now self.new (answered (answer_of (receives t) answer) t) × (self.new.vars ≡ vars_after (answer_of (receives t) answer) self.old.vars)) }
+        ensures other { (t : Term) → StandsFor script.now self.old t → begins t ≡ None → IsSame self.new self.old }
         ensures err { OnErr result (IsSame self.new self.old) }
     {
         match self.front() {
@@ -401,12 +406,13 @@ impl Control {
         }
     }
 
-    /// Hands out the list that a wait or the end carries, which is empty where nothing was raised. The control then stands for
-    /// the same without that list; a wait grants the same.
+    /// Hands out the list that a wait or the end carries, which is empty where nothing was raised; then nothing changes. The
+    /// control stands afterwards for the same without that list; a wait grants the same.
     pub fn take_faults(&mut self, alloc: Global) -> Faults
         ensures list { (s : Shape) (t : Term) (here : PlaceId) (places : ℕ) (faults : List Fault) → StandsFor s self.old t → carried (does self.old.vars here.0 places t) ≡ Some faults → result ≡ faults }
         ensures after { (s : Shape) (t : Term) (here : PlaceId) (places : ℕ) (faults : List Fault) → StandsFor s self.old t → carried (does self.old.vars here.0 places t) ≡ Some faults → StandsFor s self.new (replaced t Empty) }
         ensures vars { self.new.vars ≡ self.old.vars }
+        ensures calm { self.old.raised ≡ None → (result ≡ []) × IsSame self.new self.old }
         ensures wait { (t : Term) (here : PlaceId) (places : ℕ) (faults list : List Fault) → does self.old.vars here.0 places t ≡ Waits faults → granted list (replaced t Empty) ≡ granted list t }
         ensures steps { (t : Term) → steps (replaced t Empty) ≤ steps t }
     {

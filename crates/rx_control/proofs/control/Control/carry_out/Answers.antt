@@ -20,8 +20,8 @@ settle-requires c =
     let w = went c.args.script.now c.args.self.now c.requires.due.0 c.requires.due.1 c.go_on.new.frames.items c.args.block c.args.next c.following-after.result c.args.part h.front (c.go_on.ensures.items c.requires.due.1 (Seq c.args.block c.args.next c.args.part) h.front.frames) c.following-after.ensures in
     (c.args.self.now.base, More h.front.more (path_of c.args.self.now.base c.requires.due.1 ++ option_to_list c.args.part) (suc c.args.next) ∷ h.front.others, w.stands)
 
-pub returns-in-Assign : goal.returns-in-Assign
-returns-in-Assign c t below h =
+pub returns-in-Assign-clause-done : goal.returns-in-Assign-clause-done
+returns-in-Assign-clause-done c t below h =
     let P : Plan → Type 0 = λ p. IsPlan c.args.script.now p c.args.self.now.vars (at (path_of c.args.self.now.base below ++ option_to_list c.args.part) c.args.next) (seq (More h.front.more (path_of c.args.self.now.base below ++ option_to_list c.args.part) (suc c.args.next) ∷ h.front.others)) h.act in
     let k = subst P c.in-Assign.is h.is in
     let w = went c.args.script.now c.args.self.now t below c.go_on.new.frames.items c.args.block c.args.next c.following-after.result c.args.part h.front (c.go_on.ensures.items below (Seq c.args.block c.args.next c.args.part) h.front.frames) c.following-after.ensures in
@@ -31,8 +31,8 @@ returns-in-Assign c t below h =
     (let fits : SFits w64 c.in-Assign.value = search (rules, ints) in
     c.set.ensures ∙ ap (λ z. bound c.in-Assign.name.0 (Number z) c.args.self.now.vars) (to_z-of_z w64 c.in-Assign.value fits))
 
-pub returns-in-Raise : goal.returns-in-Raise
-returns-in-Raise c t below h =
+pub returns-in-Raise-clause-done : goal.returns-in-Raise-clause-done
+returns-in-Raise-clause-done c t below h =
     let P : Plan → Type 0 = λ p. IsPlan c.args.script.now p c.args.self.now.vars (at (path_of c.args.self.now.base below ++ option_to_list c.args.part) c.args.next) (seq (More h.front.more (path_of c.args.self.now.base below ++ option_to_list c.args.part) (suc c.args.next) ∷ h.front.others)) h.act in
     let k = subst P c.in-Raise.is h.is in
     let F : Plan → Type 0 = λ p. FaultsFit p c.args.faults in
@@ -51,8 +51,8 @@ settle-requires-in-Choose c =
     let w = went c.args.script.now c.args.self.now c.requires.due.0 c.requires.due.1 c.go_on-in-Choose.new.frames.items c.args.block c.args.next c.following-after.result c.args.part c.requires.due.2.front (c.go_on-in-Choose.ensures.items c.requires.due.1 (Seq c.args.block c.args.next c.args.part) c.requires.due.2.front.frames) c.following-after.ensures in
     (c.args.self.now.base, More k.0 (at (at (path_of c.args.self.now.base c.requires.due.1 ++ option_to_list c.args.part) c.args.next) c.in-Choose.number) 0 ∷ More h.front.more (path_of c.args.self.now.base c.requires.due.1 ++ option_to_list c.args.part) (suc c.args.next) ∷ h.front.others, entered c.args.script.now c.args.self.now.base c.go_on-in-Choose.new.frames.items c.push_reserved.new.self.items c.in-Choose.inner k.0 (at (path_of c.args.self.now.base c.requires.due.1 ++ option_to_list c.args.part) c.args.next) c.in-Choose.number (More h.front.more (path_of c.args.self.now.base c.requires.due.1 ++ option_to_list c.args.part) (suc c.args.next) ∷ h.front.others) c.push_reserved.ensures.items w.path k.1 w.stands)
 
-pub returns-in-Choose : goal.returns-in-Choose
-returns-in-Choose c t below h =
+pub returns-in-Choose-clause-done : goal.returns-in-Choose-clause-done
+returns-in-Choose-clause-done c t below h =
     let P : Plan → Type 0 = λ p. IsPlan c.args.script.now p c.args.self.now.vars (at (path_of c.args.self.now.base below ++ option_to_list c.args.part) c.args.next) (seq (More h.front.more (path_of c.args.self.now.base below ++ option_to_list c.args.part) (suc c.args.next) ∷ h.front.others)) h.act in
     let k = subst P c.in-Choose.is h.is in
     let w = went c.args.script.now c.args.self.now t below c.go_on-in-Choose.new.frames.items c.args.block c.args.next c.following-after.result c.args.part h.front (c.go_on-in-Choose.ensures.items below (Seq c.args.block c.args.next c.args.part) h.front.frames) c.following-after.ensures in
@@ -61,8 +61,8 @@ returns-in-Choose c t below h =
     done-leaves c.args.script.now d h.front.others h.act (items k.0 (at (at (path_of c.args.self.now.base below ++ option_to_list c.args.part) c.args.next) c.in-Choose.number) (seq (More h.front.more (path_of c.args.self.now.base below ++ option_to_list c.args.part) (suc c.args.next) ∷ h.front.others))) c.args.self.now.vars ls None k.2 h.front.calm
     (c.settle-in-Choose.ensures c.args.self.now.base ls (entered c.args.script.now c.args.self.now.base c.go_on-in-Choose.new.frames.items c.push_reserved.new.self.items c.in-Choose.inner k.0 (at (path_of c.args.self.now.base below ++ option_to_list c.args.part) c.args.next) c.in-Choose.number (More h.front.more (path_of c.args.self.now.base below ++ option_to_list c.args.part) (suc c.args.next) ∷ h.front.others) c.push_reserved.ensures.items w.path k.1 w.stands)) refl refl
 
-pub returns-in-Loop : goal.returns-in-Loop
-returns-in-Loop c t below h =
+pub returns-in-Loop-clause-done : goal.returns-in-Loop-clause-done
+returns-in-Loop-clause-done c t below h =
     let P : Plan → Type 0 = λ p. IsPlan c.args.script.now p c.args.self.now.vars (at (path_of c.args.self.now.base below ++ option_to_list c.args.part) c.args.next) (seq (More h.front.more (path_of c.args.self.now.base below ++ option_to_list c.args.part) (suc c.args.next) ∷ h.front.others)) h.act in
     let k = subst P c.in-Loop.is h.is in
     let w = went c.args.script.now c.args.self.now t below c.go_on-in-Loop.new.frames.items c.args.block c.args.next c.following-after.result c.args.part h.front (c.go_on-in-Loop.ensures.items below (Seq c.args.block c.args.next c.args.part) h.front.frames) c.following-after.ensures in
@@ -88,8 +88,8 @@ settle-requires-in-Attempt c =
           (same-path c.args.self.now.base c.go_on-in-Attempt.new.frames.items fs (Try c.in-Attempt.dead_only c.in-Attempt.handler) y e (path-try c.args.self.now.base c.go_on-in-Attempt.new.frames.items c.in-Attempt.dead_only c.in-Attempt.handler) w.path) k.1 q,
     )
 
-pub returns-in-Attempt : goal.returns-in-Attempt
-returns-in-Attempt c t below h =
+pub returns-in-Attempt-clause-done : goal.returns-in-Attempt-clause-done
+returns-in-Attempt-clause-done c t below h =
     let P : Plan → Type 0 = λ p. IsPlan c.args.script.now p c.args.self.now.vars (at (path_of c.args.self.now.base below ++ option_to_list c.args.part) c.args.next) (seq (More h.front.more (path_of c.args.self.now.base below ++ option_to_list c.args.part) (suc c.args.next) ∷ h.front.others)) h.act in
     let k = subst P c.in-Attempt.is h.is in
     let w = went c.args.script.now c.args.self.now t below c.go_on-in-Attempt.new.frames.items c.args.block c.args.next c.following-after.result c.args.part h.front (c.go_on-in-Attempt.ensures.items below (Seq c.args.block c.args.next c.args.part) h.front.frames) c.following-after.ensures in

@@ -1,8 +1,8 @@
-use Rattle.std.proofs.Common.{◌≡◌, ℕ, List, Some, subst}
+use Rattle.std.proofs.Common.{◌≡◌, ℕ, List, Some, None, subst}
 use Rattle.std.specs.Prelude.{OnOk}
 use Rattle.rx_rules.specs.Terms.{Term, answered, answer_of, receives, vars_after, begins}
 use Rattle.rx_script.specs.Shape.{Shape}
-use Rattle.rx_control.specs.Stands.{StandsFor}
+use Rattle.rx_control.specs.Stands.{StandsFor, IsSame}
 use Rattle.rx_control.proofs.Bound.{answered-falls}
 use Rattle.rx_control.proofs.control.Control.cell_done.Goals as goal
 
@@ -13,3 +13,8 @@ returns-clause-ok c =
 
 pub returns-clause-steps : goal.returns-clause-steps
 returns-clause-steps c t x h = answered-falls (answer_of (receives t) c.args.answer) t x h
+
+pub returns-clause-other : goal.returns-clause-other
+returns-clause-other c =
+    let P : Shape → Type 0 = λ s. (t : Term) → StandsFor s c.args.self.now t → begins t ≡ None → IsSame c.take_answer.new.self c.args.self.now in
+    subst P c.script.ensures c.take_answer.ensures.other

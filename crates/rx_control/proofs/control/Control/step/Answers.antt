@@ -1,13 +1,16 @@
-use Rattle.std.proofs.Common.{suc, ◌∷◌, ◌++◌}
+use Rattle.std.proofs.Common.{suc, ◌∷◌, ◌++◌, ap, ◌∙◌}
 use Rattle.std.specs.Prelude.{option_to_list}
 use Rattle.rx_rules.specs.Terms.{Releases, stmt_does, at, does}
 use Rattle.rx_control.specs.Levels.{More, seq}
-use Rattle.rx_control.specs.declared.frame.Frame.TheVariants.{Seq, Body, Held}
+use Rattle.rx_control.specs.declared.frame.Frame.TheVariants.{Seq, Turns, Try, Body, Held}
 use Rattle.rx_control.specs.Stands.{path_of}
 use Rattle.rx_control.specs.Front.{lifted}
 use Rattle.rx_control.specs.Plans.{Due}
+use Rattle.rx_control.specs.Next.{next_of}
+use Rattle.rx_control.proofs.Front.{next-lifted}
+use Rattle.rx_control.proofs.Plans.{asks}
 use Rattle.rx_control.proofs.Standing.{at-top, at-statement, calm-seq, calm-held}
-use Rattle.rx_control.proofs.NextIs.{stmt-does, waiting-does, inside-leaves}
+use Rattle.rx_control.proofs.NextIs.{stmt-does, waiting-does, inside-leaves, turns-local, try-local}
 use Rattle.rx_control.proofs.Steps.{leaves-by}
 use Rattle.rx_control.proofs.control.Control.step.Goals as goal
 
@@ -53,7 +56,7 @@ returns-in_ok-faults-in-Some-Seq-clause-ok c t h =
     let d = stmt_does c.args.self.now.vars c.args.here.0 c.args.places a.stmt (at y c.in-Some-Seq.next) rest in
     let u : Due c.args.script.now c.args.self.now t e.0 c.in-Some-Seq.block c.in-Some-Seq.next c.in-Some-Seq.part c.make_plan-plan.result = record { front = a; act = d; is = c.make_plan-plan.ensures a.stmt (c.at_hand-stmt.ensures a.stmt a.more a.awaits) (at y c.in-Some-Seq.next) rest } in
     leaves-by c.args.script.now c.carry_out.new.self (does c.args.self.now.vars c.args.here.0 c.args.places t) (lifted a.others d)
-    (stmt-does c.args.script.now c.args.self.now t e.0 c.in-Some-Seq.block c.in-Some-Seq.next c.in-Some-Seq.part a c.args.self.now.vars c.args.here.0 c.args.places) (c.carry_out.ensures t e.0 u)
+    (stmt-does c.args.script.now c.args.self.now t e.0 c.in-Some-Seq.block c.in-Some-Seq.next c.in-Some-Seq.part a c.args.self.now.vars c.args.here.0 c.args.places) (c.carry_out.ensures.done t e.0 u)
 
 pub returns-in-Some-Held-clause-ok : goal.returns-in-Some-Held-clause-ok
 returns-in-Some-Held-clause-ok c t h =
@@ -67,3 +70,28 @@ returns-in-Some-Body-clause-ok c t h =
     let e = rw c.in-Some-Body.field-0-is at c.in-Some-Body.ensures in
     let a = at-top c.args.script.now c.args.self.now t e.0 Body e.1 h in
     inside-leaves c.args.script.now c.args.self.now c.args.self.now t e.0 a c.args.self.now.vars c.args.here.0 c.args.places
+
+pub returns-in_ok-faults-in-Some-Seq-clause-other : goal.returns-in_ok-faults-in-Some-Seq-clause-other
+returns-in_ok-faults-in-Some-Seq-clause-other c t h n =
+    let e = rw c.in-Some-Seq.field-0-is at c.in-Some-Seq.ensures in
+    let b = at-top c.args.script.now c.args.self.now t e.0 (Seq c.in-Some-Seq.block c.in-Some-Seq.next c.in-Some-Seq.part) e.1 h in
+    let r = calm-seq c.args.script.now c.args.self.now t e.0 c.in-Some-Seq.block c.in-Some-Seq.next c.in-Some-Seq.part b in
+    let a = at-statement c.args.script.now c.args.self.now t e.0 c.in-Some-Seq.block c.in-Some-Seq.next c.in-Some-Seq.part r e.1 h in
+    let y = path_of c.args.self.now.base e.0 ++ option_to_list c.in-Some-Seq.part in
+    let rest = seq (More a.more y (suc c.in-Some-Seq.next) ∷ a.others) in
+    let d = stmt_does c.args.self.now.vars c.args.here.0 c.args.places a.stmt (at y c.in-Some-Seq.next) rest in
+    let k = asks c.args.script.now c.make_plan-plan.result c.args.self.now.vars (at y c.in-Some-Seq.next) rest d (c.make_plan-plan.ensures a.stmt (c.at_hand-stmt.ensures a.stmt a.more a.awaits) (at y c.in-Some-Seq.next) rest)
+    (λ i. n (ap next_of (stmt-does c.args.script.now c.args.self.now t e.0 c.in-Some-Seq.block c.in-Some-Seq.next c.in-Some-Seq.part a c.args.self.now.vars c.args.here.0 c.args.places) ∙ next-lifted a.others d ∙ i)) in
+    c.carry_out.ensures.asks k.0 k.1
+
+pub returns-in-Some-Turns-clause-other : goal.returns-in-Some-Turns-clause-other
+returns-in-Some-Turns-clause-other c t h n =
+    let e = rw c.in-Some-Turns.field-0-is at c.in-Some-Turns.ensures in
+    let a = at-top c.args.script.now c.args.self.now t e.0 (Turns c.in-Some-Turns.body c.in-Some-Turns.turn c.in-Some-Turns.times) e.1 h in
+    absurd (n (turns-local c.args.script.now c.args.self.now t e.0 c.in-Some-Turns.body c.in-Some-Turns.turn c.in-Some-Turns.times a c.args.self.now.vars c.args.here.0 c.args.places))
+
+pub returns-in-Some-Try-clause-other : goal.returns-in-Some-Try-clause-other
+returns-in-Some-Try-clause-other c t h n =
+    let e = rw c.in-Some-Try.field-0-is at c.in-Some-Try.ensures in
+    let a = at-top c.args.script.now c.args.self.now t e.0 (Try c.in-Some-Try.dead_only c.in-Some-Try.handler) e.1 h in
+    absurd (n (try-local c.args.script.now c.args.self.now t e.0 c.in-Some-Try.dead_only c.in-Some-Try.handler a c.args.self.now.vars c.args.here.0 c.args.places))

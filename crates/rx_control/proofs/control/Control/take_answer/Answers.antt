@@ -11,6 +11,7 @@ use Rattle.rx_control.specs.Stands.{path_of, StandsFor}
 use Rattle.rx_control.specs.Plans.{name_in}
 use Rattle.rx_control.proofs.Standing.{at-statement, settled-stands}
 use Rattle.rx_control.proofs.Steps.{went, whole-stands}
+use Rattle.rx_control.proofs.Carried.{statement-begin}
 use Rattle.rx_control.proofs.Answering.{answered-err, receives-front, fails-front, goes-front}
 use Rattle.rx_control.proofs.control.Control.take_answer.Goals as goal
 
@@ -73,3 +74,15 @@ returns-in-Ok-clause-ok c t y h b =
 
 pub returns-in-None-clause-ok : goal.returns-in-None-clause-ok
 returns-in-None-clause-ok c t y h b = absurd (none-some y (sym (c.in-None.ensures c.args.script.now t h) ∙ b))
+
+pub returns-in_ok-faults-in-Err-clause-other : goal.returns-in_ok-faults-in-Err-clause-other
+returns-in_ok-faults-in-Err-clause-other c t h b =
+    let e = c.in-Some.ensures in
+    let a = at-statement c.args.script.now c.args.self.now t e.1.0 c.in-Some.block c.in-Some.next c.in-Some.part e.0 e.1.1 h in
+    absurd (none-some _ (sym b ∙ statement-begin c.args.script.now c.args.self.now t e.1.0 c.in-Some.block c.in-Some.next c.in-Some.part a))
+
+pub returns-in-Ok-clause-other : goal.returns-in-Ok-clause-other
+returns-in-Ok-clause-other c t h b =
+    let e = c.in-Some.ensures in
+    let a = at-statement c.args.script.now c.args.self.now t e.1.0 c.in-Some.block c.in-Some.next c.in-Some.part e.0 e.1.1 h in
+    absurd (none-some _ (sym b ∙ statement-begin c.args.script.now c.args.self.now t e.1.0 c.in-Some.block c.in-Some.next c.in-Some.part a))

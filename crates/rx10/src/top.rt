@@ -1,6 +1,6 @@
 // The program, over any source and sink.
 ghost use Rattle.std.specs.Prelude.{◌≡◌, ◌⊎◌, ◌<◌, ◌≤◌, ℕ, List, Option, length, take, Some, None, Ok, IfOk, IfErr, IsErrOf};
-ghost use Rattle.std.specs.Io.KnownBytes.{Consumes, Appends, Keeps};
+ghost use Rattle.std.specs.Io.KnownBytes.{Consumes, Appends};
 ghost use Rattle.rx_base.specs.Outside.{Rose};
 ghost use Rattle.rx_rules.specs.Code.{Block};
 ghost use Rattle.rx_script.specs.Shape.{Stands};
@@ -56,12 +56,12 @@ pub fn rx10_step<S: Source, K: Sink>(
         × Consumes (S.left input.old) (S.left input.new) bytes × (length bytes ≡ 65537) }
     ensures read_fault { result ≡ ReadFault → Rose (S.faults input.old) (S.faults input.new) }
     ensures write_fault { result ≡ WriteFault → Rose (K.faults out.old) (K.faults out.new) }
-    // What a fault of the sink leaves, and that no other refusal leaves anything.
+    // What a fault of the sink leaves, and that no other refusal touches the sink.
     ensures write_front { result ≡ WriteFault → (text : List ℕ) × (status : Told) × (n : ℕ)
         × IsOutcome (asked words.now) (S.left input.old) (S.left input.new) text status
         × (n < length text)
         × Appends (K.written out.old) (K.written out.new) (take n text) }
-    ensures untouched { (IsOver result → ⊥) → (result ≡ WriteFault → ⊥) → Keeps (K.written out.old) (K.written out.new) }
+    ensures untouched { (IsOver result → ⊥) → (result ≡ WriteFault → ⊥) → out.new ≡ out.old }
     ensures taken { (bytes : List ℕ) × Consumes (S.left input.old) (S.left input.new) bytes × (length bytes ≤ 65537) }
     // What can be done, and is read and written without a fault, is done, but for want of memory.
     ensures complete { CanDo (asked words.now) (S.left input.old) →

@@ -2,6 +2,8 @@
 use Rattle.std.specs.Prelude.{length, ◌≡◌, ℕ, suc, ◌+◌, ◌*◌, ◌≤◌, Bool, true, false, List, [], ◌∷◌, ◌++◌, map, reverse, refl}
 use Rattle.std.proofs.Common.{ap, ◌∙◌, sym, subst, arith}
 use Rattle.std.proofs.lemmas.List.{reverse-append, map-append, append_assoc, append-nil}
+use Rattle.rx_base.specs.declared.ids.TaskId.{TaskId}
+use Rattle.rx_rules.specs.declared.entries.Act.{Act}
 use Rattle.rx_rules.specs.declared.entries.Act.TheVariants.{Arrive, End}
 use Rattle.rx_rules.specs.declared.entries.Entry.{Entry}
 use Rattle.rx_rules.specs.declared.entries.Entry.TheVariants.{Step, Root, Death}
@@ -10,7 +12,7 @@ use Rattle.rx_rules.specs.Code.{Block, work}
 use Rattle.rx_rules.specs.Tree.{Tree}
 use Rattle.rx_rules.specs.Fold.{tree_of}
 use Rattle.rx_rules.specs.Run.{Given, NoRoot}
-use Rattle.rx_rules.specs.Picked.{Game, Turn, arrives, moves, ends, Turns, none, more, start_game, tree_in, used_after}
+use Rattle.rx_rules.specs.Picked.{Game, Turn, dies, arrives, moves, ends, root, Turns, none, more, start_game, tree_in, used_after}
 use Rattle.rx_runs.specs.Bounds.{TurnsBounded}
 use Rattle.rx_trace.specs.Logs.{Log}
 use Rattle.rx_trace.specs.Events.{Events, AllEvents, events_of}
@@ -19,7 +21,7 @@ use Rattle.rx_store.specs.Kept.{Kept}
 use Rattle.rx_script.specs.Shape.{Shape}
 use Rattle.rx_machine.specs.declared.machine.Machine.{Machine}
 use Rattle.rx_machine.specs.Holds.{Holds, StoresAre, Finished, Makes}
-use Rattle.rx_machine.specs.Runs.{RunsOn, WentOn, HasRun, Gives}
+use Rattle.rx_machine.specs.Runs.{RunsOn, WentOn, picks_in, HasRun, Gives}
 
 -- Turns that move tasks.
 
@@ -35,11 +37,32 @@ stays_open U k G G' (arrives x p none_due pick may) h = step_push G.entries (Ste
 stays_open U k G G' (moves x here p q S Z j act none_due pick at player store goes fits may) h = step_push G.entries (Step x.number act q.batch) h tt
 stays_open U k G G' (ends x here p q S Z j f none_due pick at player store goes done may) h = step_push G.entries (Step x.number (End f) q.batch) h tt
 
+pick-more : (es : List Entry) (t : TaskId) (act : Act) (batch : List (List ℕ)) → picks_in (es ++ Step t act batch ∷ []) ≡ suc (picks_in es)
+pick-more [] t act batch = refl
+pick-more (Step u a b ∷ es) t act batch = ap suc (pick-more es t act batch)
+pick-more (Root lost thrown ∷ es) t act batch = pick-more es t act batch
+pick-more (Death d ∷ es) t act batch = pick-more es t act batch
+
+no-pick-more : (es : List Entry) (e : Entry) → picks_in (e ∷ []) ≡ 0 → picks_in (es ++ e ∷ []) ≡ picks_in es
+no-pick-more [] e h = h
+no-pick-more (Step t act batch ∷ es) e h = ap suc (no-pick-more es e h)
+no-pick-more (Root lost thrown ∷ es) e h = no-pick-more es e h
+no-pick-more (Death d ∷ es) e h = no-pick-more es e h
+
+-- a turn uses a pick exactly where it tells a task's entry
+turn-uses : (U : Given) (k : ℕ) (G G' : Game) (used : Bool) → Turn U k G used G' → picks_in G'.entries ≡ used_after used (picks_in G.entries)
+turn-uses U k G G' false (dies d due) = no-pick-more G.entries (Death d) refl
+turn-uses U k G G' true (arrives x p none_due pick may) = pick-more G.entries x.number (Arrive p) []
+turn-uses U k G G' true (moves x here p q S Z j act none_due pick at player store goes fits may) = pick-more G.entries x.number act q.batch
+turn-uses U k G G' true (ends x here p q S Z j f none_due pick at player store goes done may) = pick-more G.entries x.number (End f) q.batch
+turn-uses U k G G' false (root lost thrown none_due none_enabled may) = no-pick-more G.entries (Root lost thrown) refl
+
 -- after i turns, of which j used a pick, the machine stands for a game in which the root stands
 pub record RunTo {L : Type 0} (stands : L → Tree → Type 0) (shape : Shape) (code : Block) (U : Given) (picks : ℕ → ℕ) (m : Machine L) (i j : ℕ) : Type 0 where
   pub game : Game
   pub holds : Holds stands shape code U m game
   pub unreleased : NoRoot game.entries
+  pub used : j ≡ picks_in game.entries
   pub made : (n : ℕ) (G : Game) → Turns U picks n j game G → Turns U picks (i + n) 0 (start_game code U) G
 
 pub run-begins : {L : Type 0} (stands : L → Tree → Type 0) (shape : Shape) (code : Block) (U : Given) (picks : ℕ → ℕ) (m : Machine L) → Holds stands shape code U m (start_game code U) → RunTo stands shape code U picks m 0 0
@@ -48,6 +71,7 @@ run-begins stands shape code U picks m h =
       game = start_game code U;
       holds = h;
       unreleased = tt;
+      used = refl;
       made = λ n G ts. (let e : n ≡ 0 + n = omega arith in subst (λ x. Turns U picks x 0 (start_game code U) G) e ts);
     }
 
@@ -57,6 +81,7 @@ run-goes stands shape code U picks m m' i j k used r e a =
       game = a.0;
       holds = a.2.0;
       unreleased = a.2.1;
+      used = ap (used_after used) r.used ∙ sym (turn-uses U k r.game a.0 used a.1);
       made = λ n G ts. (let z : i + suc n ≡ i + 1 + n = omega arith in
           let t : Turn U (picks j) r.game used a.0 = subst (λ x. Turn U x r.game used a.0) e a.1 in
           subst (λ x. Turns U picks x 0 (start_game code U) G) z (r.made (suc n) G (more r.unreleased t ts)));
@@ -102,13 +127,15 @@ gives-finished stands U m G r history events ledger f =
       ledger = subst (λ x. stands x (tree_in U G)) (sym ledger) f.ledger;
     }
 
-pub run-ends : {L : Type 0} (stands : L → Tree → Type 0) (shape : Shape) (code : Block) (U : Given) (picks : ℕ → ℕ) (m m' : Machine L) (i j k : ℕ) → TurnsBounded → RunsOn code U → (r : RunTo stands shape code U picks m i j) → k ≡ picks j → (a : Makes (Turn U k r.game false) (Finished stands U m')) → (parts : Log × AllEvents × L) → Gives stands U a.0 parts → HasRun code U picks stands parts
-run-ends stands shape code U picks m m' i j k law on r e a parts gives =
+pub run-ends : {L : Type 0} (stands : L → Tree → Type 0) (shape : Shape) (code : Block) (U : Given) (picks : ℕ → ℕ) (m m' : Machine L) (i j k : ℕ) (left : ℕ → ℕ) → TurnsBounded → RunsOn code U → (r : RunTo stands shape code U picks m i j) → k ≡ picks j → ((n : ℕ) → left n ≡ picks (j + n)) → (a : Makes (Turn U k r.game false) (Finished stands U m')) → (parts : Log × AllEvents × L) → Gives stands U a.0 parts → HasRun code U picks left stands parts
+run-ends stands shape code U picks m m' i j k left law on r e are a parts gives =
     let t : Turn U (picks j) r.game false a.0 = subst (λ x. Turn U x r.game false a.0) e a.1 in
     let made = r.made 1 a.0 (more r.unreleased t none) in
+    let used : j ≡ picks_in parts.0.entries = r.used ∙ (sym (turn-uses U k r.game a.0 false a.1) ∙ ap picks_in (sym gives.entries)) in
     record {
       picked = record { turns = i + 1; game = a.0; made = made; ended = a.2.ended; entries = gives.entries; journals = gives.journals };
       few = law code U picks (i + 1) a.0 on.proper made;
+      used = λ n. are n ∙ ap (λ x. picks (x + n)) used;
       setup = gives.setup;
       ledger = subst (λ es. stands parts.2 (tree_of U.places es)) (sym gives.entries) gives.ledger;
     }

@@ -1,8 +1,10 @@
 -- What a turn is made of, and what a run leaves.
-use Rattle.std.specs.Prelude.{◌≡◌, ℕ, ◌+◌, ◌*◌, ◌<◌, ◌≤◌, ◌%◌, Bool, true, false, length, Some, slice_get}
+use Rattle.std.specs.Prelude.{◌≡◌, ℕ, suc, ◌+◌, ◌*◌, ◌<◌, ◌≤◌, ◌%◌, Bool, true, false, List, [], ◌∷◌, length, Some, slice_get}
 use Rattle.rx_base.specs.declared.ids.PlaceId.{PlaceId}
 use Rattle.rx_base.specs.declared.ids.ScopeId.{ScopeId}
 use Rattle.rx_rules.specs.declared.tasks.Task.{Task}
+use Rattle.rx_rules.specs.declared.entries.Entry.{Entry}
+use Rattle.rx_rules.specs.declared.entries.Entry.TheVariants.{Step, Root, Death}
 use Rattle.rx_rules.specs.Code.{Block, work}
 use Rattle.rx_rules.specs.Tree.{Tree, task_of}
 use Rattle.rx_rules.specs.Run.{Given, Proper, NoneDue, IsDue, NoRoot}
@@ -77,10 +79,19 @@ HasDied stands shape code U m k G = Makes (Turn U k G false) (λ G'. Seated stan
 abbrev pub WentOn : {L : Type 0} → (L → Tree → Type 0) → Shape → Block → Given → Machine L → ℕ → Bool → Game → Type 0
 WentOn stands shape code U m k used G = Makes (Turn U k G used) (λ G'. Holds stands shape code U m G' × NoRoot G'.entries)
 
--- what a picked run leaves: its history, the journals of its places, and a ledger that stands for its last tree; it has few turns
-pub record HasRun {L : Type 0} (code : Block) (U : Given) (picks : ℕ → ℕ) (stands : L → Tree → Type 0) (r : Log × AllEvents × L) : Type 0 where
+-- the number of picks that the entries used: one for each that is a task's
+abbrev pub picks_in : List Entry → ℕ
+picks_in [] = 0
+picks_in (Step t act batch ∷ es) = suc (picks_in es)
+picks_in (Root lost thrown ∷ es) = picks_in es
+picks_in (Death d ∷ es) = picks_in es
+
+-- what a picked run leaves: its history, the journals of its places, a ledger that stands for its last tree, and the picks that
+-- it did not use; it has few turns
+pub record HasRun {L : Type 0} (code : Block) (U : Given) (picks left : ℕ → ℕ) (stands : L → Tree → Type 0) (r : Log × AllEvents × L) : Type 0 where
   pub picked : IsPicked code U picks r.0.entries (events_of r.1)
   pub few : picked.turns ≤ 4 * work code + 2 * U.places + 8
+  pub used : (j : ℕ) → left j ≡ picks (picks_in r.0.entries + j)
   pub setup : given r.0.setup ≡ U
   pub ledger : stands r.2 (tree_of U.places r.0.entries)
 

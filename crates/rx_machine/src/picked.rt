@@ -20,14 +20,15 @@ use rx_tree::FinishLedger;
 const LIMIT: u32 = 400_041;
 
 impl<L: FinishLedger> Machine<L> {
-    /// Makes the turns of the picked run up to the root's release: at most `4 * work + 2 * places + 8` of them.
+    /// Makes the turns of the picked run up to the root's release: at most `4 * work + 2 * places + 8` of them. It uses one pick for
+    /// each entry of a task, and no other.
     pub fn run<P: Picks>(
         mut self,
         p: &Program,
         picks: &mut P,
     ) -> Result<(History, Journals, L), NoMemory>
         requires { (code : Block) × (U : Given) × Holds L.stands p.now.script code U self (start_game code U) × RunsOn code U }
-        ensures { IfOk result (λ r. (code : Block) (U : Given) → Holds L.stands p.now.script code U self (start_game code U) → RunsOn code U → HasRun code U (P.number picks.old) L.stands r) }
+        ensures { IfOk result (λ r. (code : Block) (U : Given) → Holds L.stands p.now.script code U self (start_game code U) → RunsOn code U → HasRun code U (P.number picks.old) (P.number picks.new) L.stands r) }
     {
         rx_runs::turns_are_bounded();
         for _made in 0..LIMIT {

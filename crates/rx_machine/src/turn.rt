@@ -28,18 +28,19 @@ pub enum Turn {
 
 impl<L: FinishLedger> Machine<L> {
     /// Makes the next turn of the picked run, with the program that the machine was opened with; the run has not ended. `Ended`
-    /// comes exactly with the release of the root. After `NoMemory` the machine has failed, and every later turn answers `NoMemory`
-    /// and changes nothing; the history and the journals begin with those of the turns before, and begin those that the refused
-    /// turn leads to.
+    /// comes exactly with the release of the root, which uses no pick. After `NoMemory` the machine has failed, and every later turn
+    /// answers `NoMemory`, changes nothing and uses no pick; the history and the journals begin with those of the turns before, and
+    /// begin those that the refused turn leads to.
     pub fn turn<P: Picks>(&mut self, p: &Program, picks: &mut P) -> Result<Turn, NoMemory>
         requires game { self.old.failed ≡ false → (code : Block) × (U : Given) × (G : Game) × Holds L.stands p.now.script code U self.old G × RunsOn code U × NoRoot G.entries }
         ensures moved { result ≡ Ok Turn.Moved → (used : Bool) × ((code : Block) (U : Given) (G : Game) → Holds L.stands p.now.script code U self.old G → RunsOn code U → NoRoot G.entries → WentOn L.stands p.now.script code U self.new (P.number picks.old 0) used G) × ((j : ℕ) → P.number picks.new j ≡ P.number picks.old (used_after used j)) }
         ensures ended { result ≡ Ok Turn.Ended → (code : Block) (U : Given) (G : Game) → Holds L.stands p.now.script code U self.old G → RunsOn code U → NoRoot G.entries → Makes (MadeTurn U (P.number picks.old 0) G false) (Finished L.stands U self.new) }
+        ensures unused { result ≡ Ok Turn.Ended → picks.new ≡ picks.old }
         ensures failed { OnOk result (self.old.failed ≡ false) }
         ensures fails { OnErr result (self.new.failed ≡ true) }
         ensures refused { OnErr result ((code : Block) (U : Given) (G : Game) → Holds L.stands p.now.script code U self.old G → RunsOn code U → NoRoot G.entries → HasBegun U (P.number picks.old 0) G self.new.history.entries (map (λ s. s.events) self.new.stores.items)) }
         ensures setup { OnErr result (self.new.history.setup ≡ self.old.history.setup) }
-        ensures stays { self.old.failed ≡ true → self.new ≡ self.old }
+        ensures stays { self.old.failed ≡ true → (self.new ≡ self.old) × (picks.new ≡ picks.old) }
     {
         if self.failed {
             return Err(NoMemory);
@@ -63,6 +64,7 @@ impl<L: FinishLedger> Machine<L> {
         requires game { (code : Block) × (U : Given) × (G : Game) × Holds L.stands p.now.script code U self.old G × RunsOn code U × NoRoot G.entries }
         ensures moved { result ≡ Ok true → (used : Bool) × ((code : Block) (U : Given) (G : Game) → Holds L.stands p.now.script code U self.old G → RunsOn code U → NoRoot G.entries → WentOn L.stands p.now.script code U self.new (P.number picks.old 0) used G) × ((j : ℕ) → P.number picks.new j ≡ P.number picks.old (used_after used j)) }
         ensures ended { result ≡ Ok false → (code : Block) (U : Given) (G : Game) → Holds L.stands p.now.script code U self.old G → RunsOn code U → NoRoot G.entries → Makes (MadeTurn U (P.number picks.old 0) G false) (Finished L.stands U self.new) }
+        ensures unused { result ≡ Ok false → picks.new ≡ picks.old }
         ensures refused { OnErr result ((code : Block) (U : Given) (G : Game) → Holds L.stands p.now.script code U self.old G → RunsOn code U → NoRoot G.entries → HasBegun U (P.number picks.old 0) G self.new.history.entries (map (λ s. s.events) self.new.stores.items)) }
         ensures setup { OnErr result (self.new.history.setup ≡ self.old.history.setup) }
     {
@@ -119,6 +121,7 @@ impl<L: FinishLedger> Machine<L> {
         requires game { (code : Block) × (U : Given) × (G : Game) × Calm L.stands p.now.script code U self.old G }
         ensures moved { result ≡ Ok true → ((code : Block) (U : Given) (G : Game) → Calm L.stands p.now.script code U self.old G → WentOn L.stands p.now.script code U self.new (P.number picks.old 0) true G) × ((j : ℕ) → P.number picks.new j ≡ P.number picks.old (suc j)) }
         ensures ended { result ≡ Ok false → (code : Block) (U : Given) (G : Game) → Calm L.stands p.now.script code U self.old G → Makes (MadeTurn U (P.number picks.old 0) G false) (Finished L.stands U self.new) }
+        ensures unused { result ≡ Ok false → picks.new ≡ picks.old }
         ensures refused { OnErr result ((code : Block) (U : Given) (G : Game) → Calm L.stands p.now.script code U self.old G → HasBegun U (P.number picks.old 0) G self.new.history.entries (map (λ s. s.events) self.new.stores.items)) }
         ensures setup { OnErr result (self.new.history.setup ≡ self.old.history.setup) }
     {

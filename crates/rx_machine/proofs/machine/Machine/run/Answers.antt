@@ -46,4 +46,6 @@ returns-then-not-branch g c = λ code U h on.
     let r = c.loop-made.invariant.2 code U h on in
     let z : used + 0 ≡ used = omega arith in
     let a = ended code U r.game r.holds on r.unreleased in
-    run-ends g.L.FinishLedger.stands c.args.p.now.script code U (number c.args.picks.now) c.loop-made.self c.make_turn.new.self i used (number c.loop-made.picks 0) c.turns_are_bounded.ensures on r (c.loop-made.invariant.1 0 ∙ ap (number c.args.picks.now) z) a c.into_parts.result (c.into_parts.ensures.finished U a.0 a.2)
+    let unused = c.in_ok-make_turn.ensures.unused (ap (λ b. Ok b) c.if-not-branch.true) in
+    let left : (n : ℕ) → number c.make_turn.new.picks n ≡ number c.args.picks.now (used + n) = λ n. (ap (λ p. number p n) unused ∙ c.loop-made.invariant.1 n) in
+    run-ends g.L.FinishLedger.stands c.args.p.now.script code U (number c.args.picks.now) c.loop-made.self c.make_turn.new.self i used (number c.loop-made.picks 0) (number c.make_turn.new.picks) c.turns_are_bounded.ensures on r (c.loop-made.invariant.1 0 ∙ ap (number c.args.picks.now) z) left a c.into_parts.result (c.into_parts.ensures.finished U a.0 a.2)

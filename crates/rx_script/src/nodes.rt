@@ -1,6 +1,6 @@
 // Statements and expressions by number.
 
-/// The number of a statement in its script. A statement has a greater number than those inside it.
+/// The number of a statement in its script.
 #[derive(Clone, Copy, Debug, PartialEq, Eq)]
 pub struct StmtId(pub u32);
 

@@ -112,6 +112,7 @@ impl Write for FailsFirst {
 fn adapters_pass_on_what_std_answers(rt: HostRuntime) {
     let mut buf = [0; 4];
     let mut source = StdSource::over(Cursor::new(b"abc".as_slice()));
+    assert_eq!(rt; source.read(&mut buf[..0]), Ok(0));
     assert_eq!(rt; source.read(&mut buf), Ok(3));
     assert_eq!(rt; buf, *b"abc\0");
     assert_eq!(rt; source.read(&mut buf), Ok(0));

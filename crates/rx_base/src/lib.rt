@@ -1,10 +1,11 @@
 //! The words that every other crate speaks: ids of places, tasks and scopes, values and faults, short lists that contracts
-//! see as lists, and the traits of the outside with their implementations. It stands on std alone. The layers above use the
-//! meanings of `Source` and `Sink` (the bytes left and written, and counts of faults that never fall) and see `Faults`,
-//! `Path`, `Batch` and `PlaceSet` as lists and sets.
+//! see as lists, the traits of the outside with their implementations, and gates, by which a test holds workers. It stands on
+//! std alone. The layers above use the meanings of `Source` and `Sink` (the bytes left and written, and counts of faults that
+//! never fall) and see `Faults`, `Path`, `Batch` and `PlaceSet` as lists and sets.
 #![tactic(auto)]
 
 mod failures;
+mod gate;
 mod ids;
 mod lists;
 mod memory;
@@ -17,6 +18,7 @@ mod values;
 mod word;
 
 pub use failures::{Failed, NoMemory};
+pub use gate::{CellGate, Gate, MeetGate, NoGate};
 pub use ids::{GlobalRef, Kill, PlaceId, ScopeId, TaskId};
 pub use lists::{Batch, Faults, Path};
 pub use memory::{MemSink, MemSource};

@@ -13,7 +13,7 @@ use Rattle.rx_rules.specs.declared.events.Cell.{Cell}
 use Rattle.rx_rules.specs.declared.events.Cell.TheVariants as cells
 use Rattle.rx_rules.specs.Code.{Block}
 use Rattle.rx_rules.specs.Terms.{Vars, no_vars, bound, Term, Empty, Raise, Answer, answered, vars_after, Gives, Fine, Fails, Does, Local, Makes, Gets, Puts, Forgets, Opens, Calls, Spawns, Waits, Releases, Prints, Done, does, granted, replaced, after_it}
-use Rattle.rx_rules.specs.Plays.{Tells, TellsMake, TellsGet, TellsPut, TellsForget, Fits, brought}
+use Rattle.rx_rules.specs.Plays.{Tells, Fits, brought}
 use Rattle.rx_script.specs.Named.{NamesAreNumbered}
 use Rattle.rx_check.specs.Rules.{Kind, has, kind_of, nodes}
 use Rattle.rx_check.specs.Defined.{Comes, main, local, stores, asks, starts, AlwaysDefined, FewNames}
@@ -31,7 +31,7 @@ module _ (kinds : ℕ → Option Kind) (q : ℕ) (vars : Vars) (t : Term) where
   failed : (fault : Fault) (a : Answer) → a ≡ Fails fault → ((f : Fault) → Good kinds q vars (replaced t (Raise (f ∷ [])))) → Next kinds q vars (vars_after a vars) (answered a t)
   failed fault a e h = subst (λ (b : Answer). Next kinds q vars (vars_after b vars) (answered b t)) (sym e) (better-same kinds vars, h fault)
 
-  makes : (name words : ℕ) (here : PlaceId) (cell : Cell) (a : Answer) → TellsMake name words here cell a → KeepsTerm kinds q vars t (Makes name words) → Next kinds q vars (vars_after a vars) (answered a t)
+  makes : (name words : ℕ) (here : PlaceId) (cell : Cell) (a : Answer) → Tells (Makes name words) here cell a → KeepsTerm kinds q vars t (Makes name words) → Next kinds q vars (vars_after a vars) (answered a t)
   makes name words here (cells.Make n start generation) a h k =
       given name (Ref (record { home = here; start = start; generation = generation })) a h.1 (k.0 (record { home = here; start = start; generation = generation }))
   makes name words here (cells.MakeFull n) a h k = failed HeapFull a h.1 k.1
@@ -42,41 +42,41 @@ module _ (kinds : ℕ → Option Kind) (q : ℕ) (vars : Vars) (t : Term) where
   makes name words here (cells.PutRefused r i value stale) a h k = absurd h
   makes name words here (cells.ForgetStale r) a h k = absurd h
 
-  gets : (name : ℕ) (target : GlobalRef) (index : ℤ) (cell : Cell) (a : Answer) → TellsGet name target index cell a → KeepsTerm kinds q vars t (Gets name target index) → Next kinds q vars (vars_after a vars) (answered a t)
-  gets name target index (cells.Make n start generation) a h k = absurd h
-  gets name target index (cells.MakeFull n) a h k = absurd h
-  gets name target index (cells.Get r i value) a h k = given name (Number value) a h.2 (k.0 value)
-  gets name target index (cells.Put r i value) a h k = absurd h
-  gets name target index (cells.Forget r) a h k = absurd h
-  gets name target index (cells.GetRefused r i stale) a h k = failed (cond stale Stale Index) a h.2 k.1
-  gets name target index (cells.PutRefused r i value stale) a h k = absurd h
-  gets name target index (cells.ForgetStale r) a h k = absurd h
+  gets : (here : PlaceId) (name : ℕ) (target : GlobalRef) (index : ℤ) (cell : Cell) (a : Answer) → Tells (Gets name target index) here cell a → KeepsTerm kinds q vars t (Gets name target index) → Next kinds q vars (vars_after a vars) (answered a t)
+  gets here name target index (cells.Make n start generation) a h k = absurd h
+  gets here name target index (cells.MakeFull n) a h k = absurd h
+  gets here name target index (cells.Get r i value) a h k = given name (Number value) a h.2 (k.0 value)
+  gets here name target index (cells.Put r i value) a h k = absurd h
+  gets here name target index (cells.Forget r) a h k = absurd h
+  gets here name target index (cells.GetRefused r i stale) a h k = failed (cond stale Stale Index) a h.2 k.1
+  gets here name target index (cells.PutRefused r i value stale) a h k = absurd h
+  gets here name target index (cells.ForgetStale r) a h k = absurd h
 
-  puts : (target : GlobalRef) (index value : ℤ) (cell : Cell) (a : Answer) → TellsPut target index value cell a → KeepsTerm kinds q vars t (Puts target index value) → Next kinds q vars (vars_after a vars) (answered a t)
-  puts target index value (cells.Make n start generation) a h k = absurd h
-  puts target index value (cells.MakeFull n) a h k = absurd h
-  puts target index value (cells.Get r i v) a h k = absurd h
-  puts target index value (cells.Put r i v) a h k = went a h.3 k.0
-  puts target index value (cells.Forget r) a h k = absurd h
-  puts target index value (cells.GetRefused r i stale) a h k = absurd h
-  puts target index value (cells.PutRefused r i v stale) a h k = failed (cond stale Stale Index) a h.3 k.1
-  puts target index value (cells.ForgetStale r) a h k = absurd h
+  puts : (here : PlaceId) (target : GlobalRef) (index value : ℤ) (cell : Cell) (a : Answer) → Tells (Puts target index value) here cell a → KeepsTerm kinds q vars t (Puts target index value) → Next kinds q vars (vars_after a vars) (answered a t)
+  puts here target index value (cells.Make n start generation) a h k = absurd h
+  puts here target index value (cells.MakeFull n) a h k = absurd h
+  puts here target index value (cells.Get r i v) a h k = absurd h
+  puts here target index value (cells.Put r i v) a h k = went a h.3 k.0
+  puts here target index value (cells.Forget r) a h k = absurd h
+  puts here target index value (cells.GetRefused r i stale) a h k = absurd h
+  puts here target index value (cells.PutRefused r i v stale) a h k = failed (cond stale Stale Index) a h.3 k.1
+  puts here target index value (cells.ForgetStale r) a h k = absurd h
 
-  forgets : (target : GlobalRef) (cell : Cell) (a : Answer) → TellsForget target cell a → KeepsTerm kinds q vars t (Forgets target) → Next kinds q vars (vars_after a vars) (answered a t)
-  forgets target (cells.Make n start generation) a h k = absurd h
-  forgets target (cells.MakeFull n) a h k = absurd h
-  forgets target (cells.Get r i v) a h k = absurd h
-  forgets target (cells.Put r i v) a h k = absurd h
-  forgets target (cells.Forget r) a h k = went a h.1 k.0
-  forgets target (cells.GetRefused r i stale) a h k = absurd h
-  forgets target (cells.PutRefused r i v stale) a h k = absurd h
-  forgets target (cells.ForgetStale r) a h k = failed Stale a h.1 k.1
+  forgets : (here : PlaceId) (target : GlobalRef) (cell : Cell) (a : Answer) → Tells (Forgets target) here cell a → KeepsTerm kinds q vars t (Forgets target) → Next kinds q vars (vars_after a vars) (answered a t)
+  forgets here target (cells.Make n start generation) a h k = absurd h
+  forgets here target (cells.MakeFull n) a h k = absurd h
+  forgets here target (cells.Get r i v) a h k = absurd h
+  forgets here target (cells.Put r i v) a h k = absurd h
+  forgets here target (cells.Forget r) a h k = went a h.1 k.0
+  forgets here target (cells.GetRefused r i stale) a h k = absurd h
+  forgets here target (cells.PutRefused r i v stale) a h k = absurd h
+  forgets here target (cells.ForgetStale r) a h k = failed Stale a h.1 k.1
 
   tells : (d : Does) (here : PlaceId) (cell : Cell) (a : Answer) → Tells d here cell a → KeepsTerm kinds q vars t d → Next kinds q vars (vars_after a vars) (answered a t)
   tells (Makes name words) here cell a h k = makes name words here cell a h k
-  tells (Gets name target index) here cell a h k = gets name target index cell a h k
-  tells (Puts target index value) here cell a h k = puts target index value cell a h k
-  tells (Forgets target) here cell a h k = forgets target cell a h k
+  tells (Gets name target index) here cell a h k = gets here name target index cell a h k
+  tells (Puts target index value) here cell a h k = puts here target index value cell a h k
+  tells (Forgets target) here cell a h k = forgets here target cell a h k
   tells (Local left after) here cell a h k = absurd h
   tells Opens here cell a h k = absurd h
   tells (Calls place) here cell a h k = absurd h

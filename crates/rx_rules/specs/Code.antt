@@ -1,6 +1,5 @@
 -- Scripts as trees.
-use Rattle.std.specs.Prelude.{ℕ, ℤ, Bool, ◌+◌, ◌*◌}
-use Rattle.std.proofs.Common.{max}
+use Rattle.std.specs.Prelude.{ℕ, ℤ, Bool, ◌+◌, ◌*◌, max}
 
 -- the operations of expressions
 pub data Op : Type 0 where
@@ -42,13 +41,6 @@ mutual
 -- the work of a statement and of a block: what a script may ask for at most
 abbrev mutual
   pub work_of : Stmt → ℕ
-  work_of (SetTo name value) = 1
-  work_of (New name words) = 1
-  work_of (Get name target index) = 1
-  work_of (Put target index value) = 1
-  work_of (Forget target) = 1
-  work_of (Print value) = 1
-  work_of (Throw value) = 1
   work_of (Async body) = 1 + work body
   work_of (AtAsync place body) = 1 + work body
   work_of (At place body) = 1 + work body
@@ -56,6 +48,7 @@ abbrev mutual
   work_of (If test first other) = 1 + max (work first) (work other)
   work_of (Repeat times body) = 1 + times * (1 + work body)
   work_of (Try body dead_only handler) = 1 + work body + work handler
+  work_of _ = 1
 
   pub work : Block → ℕ
   work Nothing = 0

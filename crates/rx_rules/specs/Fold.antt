@@ -36,16 +36,9 @@ tree_of places es = fold_from 0 (opening places) es
 
 -- how many tasks an entry brings to the world
 abbrev pub births_of : Entry → ℕ
-births_of (Step t (Open s r path) batch) = 0
 births_of (Step t (Calls s r callee from to path) batch) = 1
 births_of (Step t (Spawn child s from to path) batch) = 1
-births_of (Step t (Arrive p) batch) = 0
-births_of (Step t (Wait s thrown) batch) = 0
-births_of (Step t (Release s lost thrown) batch) = 0
-births_of (Step t (End thrown) batch) = 0
-births_of (Step t (Print value path) batch) = 0
-births_of (Root lost thrown) = 0
-births_of (Death d) = 0
+births_of _ = 0
 
 -- how many tasks a history brings
 abbrev pub births : List Entry → ℕ

@@ -18,14 +18,7 @@ pub record Link : Type 0 where
 abbrev pub link_in : Entry → Option Link
 link_in (Step t (Open s r path) batch) = Some (record { scope = s.0; parent = r.0 })
 link_in (Step t (Calls s r c from to path) batch) = Some (record { scope = s.0; parent = r.0 })
-link_in (Step t (Spawn c s from to path) batch) = None
-link_in (Step t (Arrive p) batch) = None
-link_in (Step t (Wait s thrown) batch) = None
-link_in (Step t (Release s lost thrown) batch) = None
-link_in (Step t (End thrown) batch) = None
-link_in (Step t (Print value path) batch) = None
-link_in (Root lost thrown) = None
-link_in (Death d) = None
+link_in _ = None
 
 -- the scopes opened so far, the newest first; no entry opens the root
 abbrev pub links : List Entry → List Link
@@ -48,14 +41,7 @@ pub record Birth : Type 0 where
 abbrev pub birth_in : Entry → Option Birth
 birth_in (Step t (Calls s r c from to path) batch) = Some (record { task = c.0; under = s.0; from = from.0; to = to.0 })
 birth_in (Step t (Spawn c s from to path) batch) = Some (record { task = c.0; under = s.0; from = from.0; to = to.0 })
-birth_in (Step t (Open s r path) batch) = None
-birth_in (Step t (Arrive p) batch) = None
-birth_in (Step t (Wait s thrown) batch) = None
-birth_in (Step t (Release s lost thrown) batch) = None
-birth_in (Step t (End thrown) batch) = None
-birth_in (Step t (Print value path) batch) = None
-birth_in (Root lost thrown) = None
-birth_in (Death d) = None
+birth_in _ = None
 
 -- t0 is there from the start: no entry tells its birth
 abbrev pub main_birth : Birth
@@ -117,8 +103,7 @@ is_exposed past b d =
 abbrev pub hit : List Entry → Birth → Option ℕ
 hit [] b = None
 hit (Death d ∷ past) b = option_or (hit past b) (cond (is_exposed past b d.0) (Some d.0) None)
-hit (Step t act batch ∷ past) b = hit past b
-hit (Root lost thrown ∷ past) b = hit past b
+hit (e ∷ past) b = hit past b
 
 -- the entry releases the scope
 abbrev pub releases : ℕ → Entry → Bool
@@ -134,14 +119,7 @@ was_released past g = list_any (releases g) past
 abbrev pub AtRelease : (List Entry → ℕ → PlaceSet → Type 0) → List Entry → Entry → Type 0
 AtRelease P past (Step t (Release s lost thrown) batch) = P past s.0 lost
 AtRelease P past (Root lost thrown) = P past 0 lost
-AtRelease P past (Step t (Open s r path) batch) = Unit {0}
-AtRelease P past (Step t (Calls s r c from to path) batch) = Unit {0}
-AtRelease P past (Step t (Spawn c s from to path) batch) = Unit {0}
-AtRelease P past (Step t (Arrive p) batch) = Unit {0}
-AtRelease P past (Step t (Wait s thrown) batch) = Unit {0}
-AtRelease P past (Step t (End thrown) batch) = Unit {0}
-AtRelease P past (Step t (Print value path) batch) = Unit {0}
-AtRelease P past (Death d) = Unit {0}
+AtRelease P past _ = Unit {0}
 
 -- the same of each release among the entries
 abbrev pub EachRelease : (List Entry → ℕ → PlaceSet → Type 0) → List Entry → List Entry → Type 0

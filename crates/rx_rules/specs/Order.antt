@@ -13,29 +13,18 @@ use Rattle.rx_rules.specs.Code.{Stmt, SetTo, New, Get, Put, Forget, Print, Throw
 -- statement on: [] names the statement itself.
 abbrev mutual
   pub is_kept : Stmt → List ℕ → Bool
-  is_kept (SetTo name value) x = true
-  is_kept (New name words) x = true
-  is_kept (Get name target index) x = true
-  is_kept (Put target index value) x = true
-  is_kept (Forget target) x = true
-  is_kept (Print value) x = true
-  is_kept (Throw value) x = true
   is_kept (Async body) x = false
   is_kept (AtAsync place body) x = false
-  is_kept (At place body) [] = true
   is_kept (At place body) (i ∷ x) = is_kept_in body i x
-  is_kept (Finish body) x = true
-  is_kept (If test first other) [] = true
   is_kept (If test first other) (zero ∷ i ∷ x) = is_kept_in first i x
   is_kept (If test first other) (suc zero ∷ i ∷ x) = is_kept_in other i x
-  is_kept (If test first other) x = false
-  is_kept (Repeat times body) [] = true
-  is_kept (Repeat times body) (k ∷ []) = false
+  is_kept (If test first other) (n ∷ x) = false
   is_kept (Repeat times body) (k ∷ i ∷ x) = is_kept_in body i x
-  is_kept (Try body dead_only handler) [] = true
+  is_kept (Repeat times body) (k ∷ []) = false
   is_kept (Try body dead_only handler) (zero ∷ i ∷ x) = is_kept_in body i x
   is_kept (Try body dead_only handler) (suc zero ∷ i ∷ x) = is_kept_in handler i x
-  is_kept (Try body dead_only handler) x = false
+  is_kept (Try body dead_only handler) (n ∷ x) = false
+  is_kept _ x = true
 
   -- the statement at position i
   pub is_kept_in : Block → ℕ → List ℕ → Bool
@@ -62,17 +51,15 @@ abbrev mutual
 
   -- from the statements at positions i and j on
   pub is_before_in : Block → ℕ → List ℕ → ℕ → List ℕ → Bool
-  is_before_in Nothing i x j y = false
   is_before_in (Then first rest) zero x zero y = is_before first x y
   is_before_in (Then first rest) zero x (suc j) y = is_kept first x
-  is_before_in (Then first rest) (suc i) x zero y = false
   is_before_in (Then first rest) (suc i) x (suc j) y = is_before_in rest i x j y
+  is_before_in _ i x j y = false
 
 -- of two whole paths of a script
 abbrev pub comes_before : Block → List ℕ → List ℕ → Bool
 comes_before code (i ∷ x) (j ∷ y) = is_before_in code i x j y
-comes_before code [] y = false
-comes_before code (i ∷ x) [] = false
+comes_before code _ _ = false
 
 -- no later path is before an earlier one
 abbrev pub InOrder : Block → List (List ℕ) → Type 0
@@ -85,16 +72,12 @@ own_path (Open s r x) = x ∷ []
 own_path (Calls s r c from to x) = x ∷ []
 own_path (Spawn c s from to x) = x ∷ []
 own_path (Prints value x) = x ∷ []
-own_path (Arrive p) = []
-own_path (Wait s thrown) = []
-own_path (Release s lost thrown) = []
-own_path (End thrown) = []
+own_path _ = []
 
 -- the statements that an entry tells: its batch, then its own
 abbrev pub told_in : Entry → List (List ℕ)
 told_in (Step t act batch) = batch ++ own_path act
-told_in (Root lost thrown) = []
-told_in (Death d) = []
+told_in _ = []
 
 -- the statements that a history tells, in order
 abbrev pub told : List Entry → List (List ℕ)

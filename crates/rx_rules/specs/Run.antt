@@ -65,22 +65,19 @@ rest_of (k ∷ ks) = ks
 abbrev pub KillsInOrder : ℕ → List Kill → List Entry → Type 0
 KillsInOrder n ks [] = Unit {0}
 KillsInOrder n ks (Death d ∷ es) = IsDue n d ks × KillsInOrder (suc n) (rest_of ks) es
-KillsInOrder n ks (Step t act batch ∷ es) = NoneDue n ks × KillsInOrder (suc n) ks es
-KillsInOrder n ks (Root lost thrown ∷ es) = NoneDue n ks × KillsInOrder (suc n) ks es
+KillsInOrder n ks (e ∷ es) = NoneDue n ks × KillsInOrder (suc n) ks es
 
 -- the root's release is the last entry, and no other
 abbrev pub EndsWithRoot : List Entry → Type 0
 EndsWithRoot [] = ⊥
 EndsWithRoot (Root lost thrown ∷ es) = es ≡ []
-EndsWithRoot (Step t act batch ∷ es) = EndsWithRoot es
-EndsWithRoot (Death d ∷ es) = EndsWithRoot es
+EndsWithRoot (e ∷ es) = EndsWithRoot es
 
 -- no entry releases the root
 abbrev pub NoRoot : List Entry → Type 0
 NoRoot [] = Unit {0}
 NoRoot (Root lost thrown ∷ es) = ⊥
-NoRoot (Step t act batch ∷ es) = NoRoot es
-NoRoot (Death d ∷ es) = NoRoot es
+NoRoot (e ∷ es) = NoRoot es
 
 -- Stamps.
 
@@ -98,8 +95,7 @@ NotFalling low (e ∷ es) = (low ≤ stamp_of e) × NotFalling (stamp_of e) es
 abbrev pub death_number : ℕ → PlaceId → List Entry → Option ℕ
 death_number n p [] = None
 death_number n p (Death d ∷ es) = cond (d.0 == p.0) (Some n) (death_number (suc n) p es)
-death_number n p (Step t act batch ∷ es) = death_number (suc n) p es
-death_number n p (Root lost thrown ∷ es) = death_number (suc n) p es
+death_number n p (e ∷ es) = death_number (suc n) p es
 
 -- the stamp of a close
 abbrev pub close_in : PlaceEvent → Option ℕ

@@ -84,11 +84,7 @@ after_cell S (Make n start generation) =
     record S { blocks = record { start = start; generation = generation; words = replicate n (pos 0) } ∷ S.blocks; made = suc S.made }
 after_cell S (Put r i value) = record S { blocks = map (λ b. cond (is_block r b) (set_word i value b) b) S.blocks }
 after_cell S (Forget r) = record S { blocks = filter (λ b. not (is_block r b)) S.blocks }
-after_cell S (MakeFull n) = S
-after_cell S (Get r i value) = S
-after_cell S (GetRefused r i stale) = S
-after_cell S (PutRefused r i value stale) = S
-after_cell S (ForgetStale r) = S
+after_cell S _ = S
 
 -- the journal is a run of a store of w words from S on; nothing stands after its close
 abbrev pub IsStoreRun : ℕ → State → List PlaceEvent → Type 0

@@ -1,5 +1,5 @@
 -- What a task has still to run, and the steps of it.
-use Rattle.std.specs.Prelude.{ℕ, suc, ℤ, pos, negsuc, ◌+ℤ◌, ◌-ℤ◌, ◌*ℤ◌, int_lt, int_le, Bool, true, false, cond, ◌&&◌, ◌==◌, nat_lt, nat_le, List, [], ◌∷◌, ◌++◌, Option, Some, None, Result, Ok, Err, slice_get, slice_set, replicate}
+use Rattle.std.specs.Prelude.{ℕ, suc, ℤ, pos, negsuc, ◌+ℤ◌, ◌-ℤ◌, ◌*ℤ◌, int_lt, int_le, Bool, true, false, cond, ◌&&◌, ◌==◌, nat_lt, nat_le, List, [], ◌∷◌, ◌++◌, Option, Some, None, Result, Ok, Err, slice_get, slice_set, replicate, option_map}
 use Rattle.std.specs.List.{list_all}
 use Rattle.rx_base.specs.declared.ids.GlobalRef.{GlobalRef}
 use Rattle.rx_base.specs.declared.values.Value.{Value}
@@ -54,14 +54,12 @@ applied Equal a b = Some (one_if (int_le a b && int_le b a))
 -- the result where both operands have a value
 abbrev pub both : Op → Option ℤ → Option ℤ → Option ℤ
 both op (Some a) (Some b) = applied op a b
-both op (Some a) None = None
-both op None b = None
+both op _ _ = None
 
 -- the number that a variable holds
 abbrev pub number_in : Option Value → Option ℤ
 number_in (Some (Number z)) = Some z
-number_in (Some (Ref r)) = None
-number_in None = None
+number_in _ = None
 
 -- the value of an expression at a place, or none where a result is out of range
 abbrev pub eval : Vars → ℕ → Expr → Option ℤ
@@ -222,32 +220,27 @@ does vars here places (Trying inside dead_only handler x rest) =
 does vars here places (Body inside rest) = body_does inside (does vars here places inside) rest
 does vars here places (Held rest) = Releases
 
+-- the innermost statement, with its path and the items after it, where one stands there
+pub record Front : Type 0 where
+  pub stmt : Stmt
+  pub path : List ℕ
+  pub rest : Term
+
+abbrev pub front : Term → Option Front
+front (Run stmt x rest) = Some (record { stmt = stmt; path = x; rest = rest })
+front (Trying inside dead_only handler x rest) = front inside
+front (Body inside rest) = front inside
+front _ = None
+
 -- the statement that the next step begins
 abbrev pub begins : Term → Option (List ℕ)
-begins Empty = None
-begins (Raise faults) = None
-begins (Run stmt x rest) = Some x
-begins (Turns body x k times rest) = None
-begins (Trying inside dead_only handler x rest) = begins inside
-begins (Body inside rest) = begins inside
-begins (Held rest) = None
+begins t = option_map (λ f. f.path) (front t)
 
--- what a granted request leaves; `faults` is the list of a release, and empty for the others
+-- what a granted request leaves
 abbrev pub stmt_granted : Stmt → List ℕ → Term → Term
-stmt_granted (SetTo name value) x rest = rest
-stmt_granted (New name words) x rest = rest
-stmt_granted (Get name target index) x rest = rest
-stmt_granted (Put target index value) x rest = rest
-stmt_granted (Forget target) x rest = rest
-stmt_granted (Print value) x rest = rest
-stmt_granted (Throw value) x rest = rest
-stmt_granted (Async body) x rest = rest
-stmt_granted (AtAsync place body) x rest = rest
 stmt_granted (At place body) x rest = Held rest
 stmt_granted (Finish body) x rest = Body (items body x Empty) rest
-stmt_granted (If test first other) x rest = rest
-stmt_granted (Repeat times body) x rest = rest
-stmt_granted (Try body dead_only handler) x rest = rest
+stmt_granted _ x rest = rest
 
 -- an empty list raises nothing
 abbrev pub or_raise : List Fault → Term → Term
@@ -260,42 +253,24 @@ body_granted Empty after rest = Held rest
 body_granted (Raise faults) after rest = Held rest
 body_granted _ after rest = Body after rest
 
--- the term after a granted request
+-- the term after a granted request; `faults` is the list of a release, and empty for the others
 abbrev pub granted : List Fault → Term → Term
-granted faults Empty = Empty
-granted faults (Raise raised) = Raise raised
 granted faults (Run stmt x rest) = stmt_granted stmt x rest
-granted faults (Turns body x k times rest) = Turns body x k times rest
 granted faults (Trying inside dead_only handler x rest) = Trying (granted faults inside) dead_only handler x rest
 granted faults (Body inside rest) = body_granted inside (granted faults inside) rest
 granted faults (Held rest) = or_raise faults rest
+granted faults t = t
 
 -- the term that a spawn or a call gives the new task
 abbrev pub stmt_child : Stmt → List ℕ → Term
-stmt_child (SetTo name value) x = Empty
-stmt_child (New name words) x = Empty
-stmt_child (Get name target index) x = Empty
-stmt_child (Put target index value) x = Empty
-stmt_child (Forget target) x = Empty
-stmt_child (Print value) x = Empty
-stmt_child (Throw value) x = Empty
 stmt_child (Async body) x = items body x Empty
 stmt_child (AtAsync place body) x = items body x Empty
 stmt_child (At place body) x = items body x Empty
-stmt_child (Finish body) x = Empty
-stmt_child (If test first other) x = Empty
-stmt_child (Repeat times body) x = Empty
-stmt_child (Try body dead_only handler) x = Empty
+stmt_child _ x = Empty
 
 -- the new task's term
 abbrev pub child : Term → Term
-child Empty = Empty
-child (Raise faults) = Empty
-child (Run stmt x rest) = stmt_child stmt x
-child (Turns body x k times rest) = Empty
-child (Trying inside dead_only handler x rest) = child inside
-child (Body inside rest) = child inside
-child (Held rest) = Empty
+child t = elim (front t) [ Some f ↦ stmt_child f.stmt f.path | None ↦ Empty ]
 
 -- What the store answers: a value for a name, nothing, or a fault.
 pub data Answer : Type 0 where
@@ -305,67 +280,36 @@ pub data Answer : Type 0 where
 
 -- the term with the innermost statement replaced
 abbrev pub replaced : Term → Term → Term
-replaced Empty new = new
-replaced (Raise faults) new = new
-replaced (Run stmt x rest) new = new
-replaced (Turns body x k times rest) new = new
 replaced (Trying inside dead_only handler x rest) new = Trying (replaced inside new) dead_only handler x rest
 replaced (Body inside rest) new = Body (replaced inside new) rest
-replaced (Held rest) new = new
+replaced _ new = new
 
 -- the items after the innermost statement
 abbrev pub after_it : Term → Term
-after_it Empty = Empty
-after_it (Raise faults) = Empty
-after_it (Run stmt x rest) = rest
-after_it (Turns body x k times rest) = Empty
-after_it (Trying inside dead_only handler x rest) = after_it inside
-after_it (Body inside rest) = after_it inside
-after_it (Held rest) = Empty
+after_it t = elim (front t) [ Some f ↦ f.rest | None ↦ Empty ]
 
 -- the term after the store's answer
 abbrev pub answered : Answer → Term → Term
-answered (Gives name value) t = replaced t (after_it t)
-answered Fine t = replaced t (after_it t)
-answered (Fails fault) t = replaced t (Raise (fault ∷ []))
+answered (Fails fault) t = replaced t (raise fault)
+answered _ t = replaced t (after_it t)
 
 -- the variables after the store's answer
 abbrev pub vars_after : Answer → Vars → Vars
 vars_after (Gives name value) vars = bound name value vars
-vars_after Fine vars = vars
-vars_after (Fails fault) vars = vars
+vars_after _ vars = vars
 
 -- the name that the store's answer gives a value
 abbrev pub stmt_receives : Stmt → Option ℕ
-stmt_receives (SetTo name value) = None
 stmt_receives (New name words) = Some name
 stmt_receives (Get name target index) = Some name
-stmt_receives (Put target index value) = None
-stmt_receives (Forget target) = None
-stmt_receives (Print value) = None
-stmt_receives (Throw value) = None
-stmt_receives (Async body) = None
-stmt_receives (AtAsync place body) = None
-stmt_receives (At place body) = None
-stmt_receives (Finish body) = None
-stmt_receives (If test first other) = None
-stmt_receives (Repeat times body) = None
-stmt_receives (Try body dead_only handler) = None
+stmt_receives _ = None
 
 -- the name for which the innermost statement waits
 abbrev pub receives : Term → Option ℕ
-receives Empty = None
-receives (Raise faults) = None
-receives (Run stmt x rest) = stmt_receives stmt
-receives (Turns body x k times rest) = None
-receives (Trying inside dead_only handler x rest) = receives inside
-receives (Body inside rest) = receives inside
-receives (Held rest) = None
+receives t = elim (front t) [ Some f ↦ stmt_receives f.stmt | None ↦ None ]
 
 -- what the store answered, as the term takes it
 abbrev pub answer_of : Option ℕ → Result (Option Value) Fault → Answer
 answer_of (Some name) (Ok (Some v)) = Gives name v
-answer_of (Some name) (Ok None) = Fine
-answer_of None (Ok v) = Fine
-answer_of (Some name) (Err fault) = Fails fault
-answer_of None (Err fault) = Fails fault
+answer_of name (Ok v) = Fine
+answer_of name (Err fault) = Fails fault

@@ -13,7 +13,7 @@ use Rattle.rx_rules.specs.declared.entries.Act.TheVariants.{Open, At as Calls, S
 use Rattle.rx_rules.specs.Terms.{Term, Does, Local, Makes, Gets, Puts, Forgets, Opens, Calls as Asks, Spawns, Waits, Releases, Prints, Done}
 use Rattle.rx_rules.specs.Tree.{Tree, task_of, inner, governs}
 use Rattle.rx_rules.specs.Entries.{Names, AllowedAct}
-use Rattle.rx_rules.specs.Plays.{Fits, FitsOpen, FitsCall, FitsSpawn, FitsWait, FitsRelease, FitsPrint}
+use Rattle.rx_rules.specs.Plays.{Fits}
 use Rattle.rx_runs.specs.PickedRuns.{ActFits}
 use Rattle.rx_runs.proofs.Sets.{members_once}
 
@@ -33,29 +33,29 @@ one_task T t x y e f = let k : Some x ≡ Some y = sym e ∙ f in cc
 pub names_once : (T : Tree) (s : ScopeId) (a b : PlaceSet) (f g : List Fault) → Names T s a f → Names T s b g → a.0 < 2 ^ 16 → b.0 < 2 ^ 16 → (a ≡ b) × (f ≡ g)
 names_once T s a b f g h k low high = (members_once a b (h.places ∙ sym k.places) low high, h.faults ∙ sym k.faults)
 
-open_once : (T : Tree) (u : TaskId) (t : Term) (c d : Act) → FitsOpen t c → FitsOpen t d → AllowedAct T u c → AllowedAct T u d → ActFits c → ActFits d → c ≡ d
-open_once T u t (Open a0 a1 a2) (Open b0 b1 b2) h k m o p q =
+open_once : (T : Tree) (u : TaskId) (here : PlaceId) (t : Term) (c d : Act) → Fits here t Opens c → Fits here t Opens d → AllowedAct T u c → AllowedAct T u d → ActFits c → ActFits d → c ≡ d
+open_once T u here t (Open a0 a1 a2) (Open b0 b1 b2) h k m o p q =
     let s : a0 ≡ b0 = scope_is a0 b0 (m.next ∙ sym o.next) in
     let task : m.task ≡ o.task = one_task T u m.task o.task m.live.acts.stands o.live.acts.stands in
     let r : a1 ≡ b1 = m.parent ∙ ap (inner T) task ∙ sym o.parent in
     let x : a2 ≡ b2 = (let e : Some a2 ≡ Some b2 = sym h ∙ k in cc) in
     ap (λ (v : ScopeId). Open v a1 a2) s ∙ ap (λ (v : ScopeId). Open b0 v a2) r ∙ ap (λ (v : List ℕ). Open b0 b1 v) x
-open_once T u t (Open a0 a1 a2) (Calls b0 b1 b2 b3 b4 b5) h k m o p q = absurd k
-open_once T u t (Open a0 a1 a2) (Spawn b0 b1 b2 b3 b4) h k m o p q = absurd k
-open_once T u t (Open a0 a1 a2) (Arrive b0) h k m o p q = absurd k
-open_once T u t (Open a0 a1 a2) (Wait b0 b1) h k m o p q = absurd k
-open_once T u t (Open a0 a1 a2) (Release b0 b1 b2) h k m o p q = absurd k
-open_once T u t (Open a0 a1 a2) (End b0) h k m o p q = absurd k
-open_once T u t (Open a0 a1 a2) (Print b0 b1) h k m o p q = absurd k
-open_once T u t (Calls a0 a1 a2 a3 a4 a5) d h k m o p q = absurd h
-open_once T u t (Spawn a0 a1 a2 a3 a4) d h k m o p q = absurd h
-open_once T u t (Arrive a0) d h k m o p q = absurd h
-open_once T u t (Wait a0 a1) d h k m o p q = absurd h
-open_once T u t (Release a0 a1 a2) d h k m o p q = absurd h
-open_once T u t (End a0) d h k m o p q = absurd h
-open_once T u t (Print a0 a1) d h k m o p q = absurd h
+open_once T u here t (Open a0 a1 a2) (Calls b0 b1 b2 b3 b4 b5) h k m o p q = absurd k
+open_once T u here t (Open a0 a1 a2) (Spawn b0 b1 b2 b3 b4) h k m o p q = absurd k
+open_once T u here t (Open a0 a1 a2) (Arrive b0) h k m o p q = absurd k
+open_once T u here t (Open a0 a1 a2) (Wait b0 b1) h k m o p q = absurd k
+open_once T u here t (Open a0 a1 a2) (Release b0 b1 b2) h k m o p q = absurd k
+open_once T u here t (Open a0 a1 a2) (End b0) h k m o p q = absurd k
+open_once T u here t (Open a0 a1 a2) (Print b0 b1) h k m o p q = absurd k
+open_once T u here t (Calls a0 a1 a2 a3 a4 a5) d h k m o p q = absurd h
+open_once T u here t (Spawn a0 a1 a2 a3 a4) d h k m o p q = absurd h
+open_once T u here t (Arrive a0) d h k m o p q = absurd h
+open_once T u here t (Wait a0 a1) d h k m o p q = absurd h
+open_once T u here t (Release a0 a1 a2) d h k m o p q = absurd h
+open_once T u here t (End a0) d h k m o p q = absurd h
+open_once T u here t (Print a0 a1) d h k m o p q = absurd h
 
-call_once : (T : Tree) (u : TaskId) (here : PlaceId) (t : Term) (place : ℕ) (c d : Act) → FitsCall here t place c → FitsCall here t place d → AllowedAct T u c → AllowedAct T u d → ActFits c → ActFits d → c ≡ d
+call_once : (T : Tree) (u : TaskId) (here : PlaceId) (t : Term) (place : ℕ) (c d : Act) → Fits here t (Asks place) c → Fits here t (Asks place) d → AllowedAct T u c → AllowedAct T u d → ActFits c → ActFits d → c ≡ d
 call_once T u here t place (Open a0 a1 a2) d h k m o p q = absurd h
 call_once T u here t place (Calls a0 a1 a2 a3 a4 a5) (Open b0 b1 b2) h k m o p q = absurd k
 call_once T u here t place (Calls a0 a1 a2 a3 a4 a5) (Calls b0 b1 b2 b3 b4 b5) h k m o p q =
@@ -80,7 +80,7 @@ call_once T u here t place (Release a0 a1 a2) d h k m o p q = absurd h
 call_once T u here t place (End a0) d h k m o p q = absurd h
 call_once T u here t place (Print a0 a1) d h k m o p q = absurd h
 
-spawn_once : (T : Tree) (u : TaskId) (here : PlaceId) (t : Term) (place : ℕ) (c d : Act) → FitsSpawn here t place c → FitsSpawn here t place d → AllowedAct T u c → AllowedAct T u d → ActFits c → ActFits d → c ≡ d
+spawn_once : (T : Tree) (u : TaskId) (here : PlaceId) (t : Term) (place : ℕ) (c d : Act) → Fits here t (Spawns place) c → Fits here t (Spawns place) d → AllowedAct T u c → AllowedAct T u d → ActFits c → ActFits d → c ≡ d
 spawn_once T u here t place (Open a0 a1 a2) d h k m o p q = absurd h
 spawn_once T u here t place (Calls a0 a1 a2 a3 a4 a5) d h k m o p q = absurd h
 spawn_once T u here t place (Spawn a0 a1 a2 a3 a4) (Open b0 b1 b2) h k m o p q = absurd k
@@ -104,74 +104,74 @@ spawn_once T u here t place (Release a0 a1 a2) d h k m o p q = absurd h
 spawn_once T u here t place (End a0) d h k m o p q = absurd h
 spawn_once T u here t place (Print a0 a1) d h k m o p q = absurd h
 
-wait_once : (T : Tree) (u : TaskId) (faults : List Fault) (c d : Act) → FitsWait faults c → FitsWait faults d → AllowedAct T u c → AllowedAct T u d → ActFits c → ActFits d → c ≡ d
-wait_once T u faults (Open a0 a1 a2) d h k m o p q = absurd h
-wait_once T u faults (Calls a0 a1 a2 a3 a4 a5) d h k m o p q = absurd h
-wait_once T u faults (Spawn a0 a1 a2 a3 a4) d h k m o p q = absurd h
-wait_once T u faults (Arrive a0) d h k m o p q = absurd h
-wait_once T u faults (Wait a0 a1) (Open b0 b1 b2) h k m o p q = absurd k
-wait_once T u faults (Wait a0 a1) (Calls b0 b1 b2 b3 b4 b5) h k m o p q = absurd k
-wait_once T u faults (Wait a0 a1) (Spawn b0 b1 b2 b3 b4) h k m o p q = absurd k
-wait_once T u faults (Wait a0 a1) (Arrive b0) h k m o p q = absurd k
-wait_once T u faults (Wait a0 a1) (Wait b0 b1) h k m o p q =
+wait_once : (T : Tree) (u : TaskId) (here : PlaceId) (t : Term) (faults : List Fault) (c d : Act) → Fits here t (Waits faults) c → Fits here t (Waits faults) d → AllowedAct T u c → AllowedAct T u d → ActFits c → ActFits d → c ≡ d
+wait_once T u here t faults (Open a0 a1 a2) d h k m o p q = absurd h
+wait_once T u here t faults (Calls a0 a1 a2 a3 a4 a5) d h k m o p q = absurd h
+wait_once T u here t faults (Spawn a0 a1 a2 a3 a4) d h k m o p q = absurd h
+wait_once T u here t faults (Arrive a0) d h k m o p q = absurd h
+wait_once T u here t faults (Wait a0 a1) (Open b0 b1 b2) h k m o p q = absurd k
+wait_once T u here t faults (Wait a0 a1) (Calls b0 b1 b2 b3 b4 b5) h k m o p q = absurd k
+wait_once T u here t faults (Wait a0 a1) (Spawn b0 b1 b2 b3 b4) h k m o p q = absurd k
+wait_once T u here t faults (Wait a0 a1) (Arrive b0) h k m o p q = absurd k
+wait_once T u here t faults (Wait a0 a1) (Wait b0 b1) h k m o p q =
     let g : m.scope ≡ o.scope = (let e : Some m.scope ≡ Some o.scope = sym m.own ∙ o.own in cc) in
     let s : a0 ≡ b0 = sym m.is_it ∙ ap (λ (v : Scope). v.number) g ∙ o.is_it in
     ap (λ (v : ScopeId). Wait v a1) s ∙ ap (λ (v : List Fault). Wait b0 v) (h ∙ sym k)
-wait_once T u faults (Wait a0 a1) (Release b0 b1 b2) h k m o p q = absurd k
-wait_once T u faults (Wait a0 a1) (End b0) h k m o p q = absurd k
-wait_once T u faults (Wait a0 a1) (Print b0 b1) h k m o p q = absurd k
-wait_once T u faults (Release a0 a1 a2) d h k m o p q = absurd h
-wait_once T u faults (End a0) d h k m o p q = absurd h
-wait_once T u faults (Print a0 a1) d h k m o p q = absurd h
+wait_once T u here t faults (Wait a0 a1) (Release b0 b1 b2) h k m o p q = absurd k
+wait_once T u here t faults (Wait a0 a1) (End b0) h k m o p q = absurd k
+wait_once T u here t faults (Wait a0 a1) (Print b0 b1) h k m o p q = absurd k
+wait_once T u here t faults (Release a0 a1 a2) d h k m o p q = absurd h
+wait_once T u here t faults (End a0) d h k m o p q = absurd h
+wait_once T u here t faults (Print a0 a1) d h k m o p q = absurd h
 
-release_once : (T : Tree) (u : TaskId) (c d : Act) → FitsRelease c → FitsRelease d → AllowedAct T u c → AllowedAct T u d → ActFits c → ActFits d → c ≡ d
-release_once T u (Open a0 a1 a2) d h k m o p q = absurd h
-release_once T u (Calls a0 a1 a2 a3 a4 a5) d h k m o p q = absurd h
-release_once T u (Spawn a0 a1 a2 a3 a4) d h k m o p q = absurd h
-release_once T u (Arrive a0) d h k m o p q = absurd h
-release_once T u (Wait a0 a1) d h k m o p q = absurd h
-release_once T u (Release a0 a1 a2) (Open b0 b1 b2) h k m o p q = absurd k
-release_once T u (Release a0 a1 a2) (Calls b0 b1 b2 b3 b4 b5) h k m o p q = absurd k
-release_once T u (Release a0 a1 a2) (Spawn b0 b1 b2 b3 b4) h k m o p q = absurd k
-release_once T u (Release a0 a1 a2) (Arrive b0) h k m o p q = absurd k
-release_once T u (Release a0 a1 a2) (Wait b0 b1) h k m o p q = absurd k
-release_once T u (Release a0 a1 a2) (Release b0 b1 b2) h k m o p q =
+release_once : (T : Tree) (u : TaskId) (here : PlaceId) (t : Term) (c d : Act) → Fits here t Releases c → Fits here t Releases d → AllowedAct T u c → AllowedAct T u d → ActFits c → ActFits d → c ≡ d
+release_once T u here t (Open a0 a1 a2) d h k m o p q = absurd h
+release_once T u here t (Calls a0 a1 a2 a3 a4 a5) d h k m o p q = absurd h
+release_once T u here t (Spawn a0 a1 a2 a3 a4) d h k m o p q = absurd h
+release_once T u here t (Arrive a0) d h k m o p q = absurd h
+release_once T u here t (Wait a0 a1) d h k m o p q = absurd h
+release_once T u here t (Release a0 a1 a2) (Open b0 b1 b2) h k m o p q = absurd k
+release_once T u here t (Release a0 a1 a2) (Calls b0 b1 b2 b3 b4 b5) h k m o p q = absurd k
+release_once T u here t (Release a0 a1 a2) (Spawn b0 b1 b2 b3 b4) h k m o p q = absurd k
+release_once T u here t (Release a0 a1 a2) (Arrive b0) h k m o p q = absurd k
+release_once T u here t (Release a0 a1 a2) (Wait b0 b1) h k m o p q = absurd k
+release_once T u here t (Release a0 a1 a2) (Release b0 b1 b2) h k m o p q =
     let g : m.0.scope ≡ o.0.scope = (let e : Some m.0.scope ≡ Some o.0.scope = sym m.0.own ∙ o.0.own in cc) in
     let s : a0 ≡ b0 = sym m.0.is_it ∙ ap (λ (v : Scope). v.number) g ∙ o.0.is_it in
     let n = names_once T b0 a1 b1 a2 b2 (subst (λ (v : ScopeId). Names T v a1 a2) s m.1) o.1 p q in
     ap (λ (v : ScopeId). Release v a1 a2) s ∙ ap (λ (v : PlaceSet). Release b0 v a2) n.0 ∙ ap (λ (v : List Fault). Release b0 b1 v) n.1
-release_once T u (Release a0 a1 a2) (End b0) h k m o p q = absurd k
-release_once T u (Release a0 a1 a2) (Print b0 b1) h k m o p q = absurd k
-release_once T u (End a0) d h k m o p q = absurd h
-release_once T u (Print a0 a1) d h k m o p q = absurd h
+release_once T u here t (Release a0 a1 a2) (End b0) h k m o p q = absurd k
+release_once T u here t (Release a0 a1 a2) (Print b0 b1) h k m o p q = absurd k
+release_once T u here t (End a0) d h k m o p q = absurd h
+release_once T u here t (Print a0 a1) d h k m o p q = absurd h
 
-print_once : (T : Tree) (u : TaskId) (t : Term) (z : ℤ) (c d : Act) → FitsPrint t z c → FitsPrint t z d → AllowedAct T u c → AllowedAct T u d → ActFits c → ActFits d → c ≡ d
-print_once T u t z (Open a0 a1 a2) d h k m o p q = absurd h
-print_once T u t z (Calls a0 a1 a2 a3 a4 a5) d h k m o p q = absurd h
-print_once T u t z (Spawn a0 a1 a2 a3 a4) d h k m o p q = absurd h
-print_once T u t z (Arrive a0) d h k m o p q = absurd h
-print_once T u t z (Wait a0 a1) d h k m o p q = absurd h
-print_once T u t z (Release a0 a1 a2) d h k m o p q = absurd h
-print_once T u t z (End a0) d h k m o p q = absurd h
-print_once T u t z (Print a0 a1) (Open b0 b1 b2) h k m o p q = absurd k
-print_once T u t z (Print a0 a1) (Calls b0 b1 b2 b3 b4 b5) h k m o p q = absurd k
-print_once T u t z (Print a0 a1) (Spawn b0 b1 b2 b3 b4) h k m o p q = absurd k
-print_once T u t z (Print a0 a1) (Arrive b0) h k m o p q = absurd k
-print_once T u t z (Print a0 a1) (Wait b0 b1) h k m o p q = absurd k
-print_once T u t z (Print a0 a1) (Release b0 b1 b2) h k m o p q = absurd k
-print_once T u t z (Print a0 a1) (End b0) h k m o p q = absurd k
-print_once T u t z (Print a0 a1) (Print b0 b1) h k m o p q =
+print_once : (T : Tree) (u : TaskId) (here : PlaceId) (t : Term) (z : ℤ) (c d : Act) → Fits here t (Prints z) c → Fits here t (Prints z) d → AllowedAct T u c → AllowedAct T u d → ActFits c → ActFits d → c ≡ d
+print_once T u here t z (Open a0 a1 a2) d h k m o p q = absurd h
+print_once T u here t z (Calls a0 a1 a2 a3 a4 a5) d h k m o p q = absurd h
+print_once T u here t z (Spawn a0 a1 a2 a3 a4) d h k m o p q = absurd h
+print_once T u here t z (Arrive a0) d h k m o p q = absurd h
+print_once T u here t z (Wait a0 a1) d h k m o p q = absurd h
+print_once T u here t z (Release a0 a1 a2) d h k m o p q = absurd h
+print_once T u here t z (End a0) d h k m o p q = absurd h
+print_once T u here t z (Print a0 a1) (Open b0 b1 b2) h k m o p q = absurd k
+print_once T u here t z (Print a0 a1) (Calls b0 b1 b2 b3 b4 b5) h k m o p q = absurd k
+print_once T u here t z (Print a0 a1) (Spawn b0 b1 b2 b3 b4) h k m o p q = absurd k
+print_once T u here t z (Print a0 a1) (Arrive b0) h k m o p q = absurd k
+print_once T u here t z (Print a0 a1) (Wait b0 b1) h k m o p q = absurd k
+print_once T u here t z (Print a0 a1) (Release b0 b1 b2) h k m o p q = absurd k
+print_once T u here t z (Print a0 a1) (End b0) h k m o p q = absurd k
+print_once T u here t z (Print a0 a1) (Print b0 b1) h k m o p q =
     let x : a1 ≡ b1 = (let e : Some a1 ≡ Some b1 = sym h.1 ∙ k.1 in cc) in
     ap (λ (v : ℤ). Print v a1) (h.0 ∙ sym k.0) ∙ ap (λ (v : List ℕ). Print b0 v) x
 
 -- the act of a turn
 pub fit_once : (T : Tree) (u : TaskId) (here : PlaceId) (t : Term) (d : Does) (a b : Act) → Fits here t d a → Fits here t d b → AllowedAct T u a → AllowedAct T u b → ActFits a → ActFits b → a ≡ b
-fit_once T u here t Opens a b h k m o p q = open_once T u t a b h k m o p q
+fit_once T u here t Opens a b h k m o p q = open_once T u here t a b h k m o p q
 fit_once T u here t (Asks place) a b h k m o p q = call_once T u here t place a b h k m o p q
 fit_once T u here t (Spawns place) a b h k m o p q = spawn_once T u here t place a b h k m o p q
-fit_once T u here t (Waits faults) a b h k m o p q = wait_once T u faults a b h k m o p q
-fit_once T u here t Releases a b h k m o p q = release_once T u a b h k m o p q
-fit_once T u here t (Prints value) a b h k m o p q = print_once T u t value a b h k m o p q
+fit_once T u here t (Waits faults) a b h k m o p q = wait_once T u here t faults a b h k m o p q
+fit_once T u here t Releases a b h k m o p q = release_once T u here t a b h k m o p q
+fit_once T u here t (Prints value) a b h k m o p q = print_once T u here t value a b h k m o p q
 fit_once T u here t (Local left vars) a b h k m o p q = absurd h
 fit_once T u here t (Makes name words) a b h k m o p q = absurd h
 fit_once T u here t (Gets name target index) a b h k m o p q = absurd h

@@ -23,6 +23,7 @@ pub mod Telling
 pub mod Asking
 pub mod Picks
 pub mod Walks
+pub mod Plain
 pub mod Single
 pub mod Framing
 pub mod Sinking

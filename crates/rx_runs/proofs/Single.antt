@@ -1,5 +1,5 @@
 -- One script, setup and list of picks give one picked run.
-use Rattle.std.specs.Prelude.{◌≡◌, ℕ, suc, ◌+◌, ◌%◌, ◌<◌, ◌≤◌, Bool, true, false, List, [], ◌∷◌, ◌++◌, length, slice_get, slice_set, Some, refl}
+use Rattle.std.specs.Prelude.{◌≡◌, ℕ, suc, ◌+◌, ◌%◌, ◌<◌, ◌≤◌, Bool, true, false, List, [], ◌∷◌, ◌++◌, length, map, slice_get, slice_set, Some, refl}
 use Rattle.std.proofs.Common.{ap, ◌∙◌, sym, subst, arith}
 use Rattle.rx_base.specs.declared.ids.PlaceId.{PlaceId}
 use Rattle.rx_base.specs.declared.ids.TaskId.{TaskId}
@@ -24,13 +24,14 @@ use Rattle.rx_rules.specs.Run.{Given, NoRoot, EndsWithRoot, NoneDue, IsDue, rest
 use Rattle.rx_rules.specs.Picked as picked
 use Rattle.rx_rules.specs.Picked.{Player, Game, Turn, Turns, IsPicked, none, more, used_after, child_of, enabled, tree_in, start_game}
 use Rattle.rx_runs.specs.Games.{GameOk}
-use Rattle.rx_runs.specs.PickedRuns.{ActFits, SetsFit, OnePickedRun, FewPicks}
+use Rattle.rx_runs.specs.PickedRuns.{ActFits, SetsFit, plain, OnePickedRun, FewPicks}
 use Rattle.rx_runs.proofs.Asking.{one_task, names_once, fit_once}
 use Rattle.rx_runs.proofs.Picks.{Pick, picked_task, reached_in}
 use Rattle.rx_runs.proofs.Walks.{IsLast, fits_last, SameWalk, same_walk}
 use Rattle.rx_runs.proofs.Keeping.{turn_keeps}
 use Rattle.rx_runs.proofs.Opening.{starts_ok}
 use Rattle.rx_runs.proofs.Theorem.{turn_grows, not_both}
+use Rattle.rx_runs.proofs.Plain.{picked_plain, plain_fits}
 
 -- Kills.
 
@@ -189,9 +190,16 @@ turns_once code U picks n m j G G1 G2 ok (more {n = i} {G' = A} {used = u} free 
     turns_once code U picks i k (used_after u j) A G1 G2 (λ now. turn_keeps code U (picks j) u G A (ok free) t now) ts us a b c d
 
 pub one_picked_run : OnePickedRun
-one_picked_run code U picks es fs js ks proper p q fit fit2 =
-    let same : p.game ≡ q.game = turns_once code U picks p.turns q.turns 0 (start_game code U) p.game q.game (λ free. starts_ok code U proper) p.made q.made p.ended q.ended (subst SetsFit p.entries fit) (subst SetsFit q.entries fit2) in
-    (p.entries ∙ ap (λ (G : Game). G.entries) same ∙ sym q.entries, p.journals ∙ ap (λ (G : Game). G.journals) same ∙ sym q.journals)
+one_picked_run code U picks es fs js ks proper p q =
+    let first : IsPicked code U picks (map plain es) js = picked_plain code U picks es js p in
+    let other : IsPicked code U picks (map plain fs) ks = picked_plain code U picks fs ks q in
+    let fit : SetsFit first.game.entries = subst SetsFit first.entries (plain_fits es) in
+    let fit2 : SetsFit other.game.entries = subst SetsFit other.entries (plain_fits fs) in
+    let same : first.game ≡ other.game =
+    turns_once code U picks first.turns other.turns 0 (start_game code U) first.game other.game (λ free. starts_ok code U proper) first.made other.made first.ended other.ended fit fit2 in (
+      first.entries ∙ ap (λ (G : Game). G.entries) same ∙ sym other.entries,
+      first.journals ∙ ap (λ (G : Game). G.journals) same ∙ sym other.journals,
+    )
 
 -- Picks that are not used.
 

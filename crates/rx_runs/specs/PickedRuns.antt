@@ -1,5 +1,6 @@
 -- Picked runs are whole runs.
-use Rattle.std.specs.Prelude.{◌≡◌, ℕ, ◌<◌, ◌^◌, Bool, List, [], ◌∷◌}
+use Rattle.std.specs.Prelude.{◌≡◌, ℕ, ◌<◌, ◌^◌, ◌%◌, Bool, List, [], ◌∷◌, map}
+use Rattle.rx_base.specs.declared.place_set.PlaceSet.{PlaceSet}
 use Rattle.rx_rules.specs.declared.entries.Act.{Act}
 use Rattle.rx_rules.specs.declared.entries.Act.TheVariants.{Open, At as Calls, Spawn, Arrive, Wait, Release, End, Print}
 use Rattle.rx_rules.specs.declared.entries.Entry.{Entry}
@@ -31,9 +32,26 @@ SetsFit (Step t act batch ∷ es) = ActFits act × SetsFit es
 SetsFit (Root lost thrown ∷ es) = (lost.0 < 2 ^ 16) × SetsFit es
 SetsFit (Death d ∷ es) = SetsFit es
 
--- one script, setup and list of picks give at most one history and one list of journals
+-- the set with the bits of the 16 places alone, which has the same members
+abbrev pub plain_set : PlaceSet → PlaceSet
+plain_set s = record { 0 = s.0 % 2 ^ 16 }
+
+abbrev pub plain_act : Act → Act
+plain_act (Release s lost thrown) = Release s (plain_set lost) thrown
+plain_act act = act
+
+-- the entry whose set of places is such a set
+abbrev pub plain : Entry → Entry
+plain (Step t act batch) = Step t (plain_act act) batch
+plain (Root lost thrown) = Root (plain_set lost) thrown
+plain (Death d) = Death d
+
+-- One script, setup and list of picks give at most one history, but for bits of sets that stand for no place, and one list of
+-- journals.
 abbrev pub OnePickedRun : Type 0
-OnePickedRun = (code : Block) (U : Given) (picks : ℕ → ℕ) (es fs : List Entry) (js ks : List (List PlaceEvent)) → Proper U → IsPicked code U picks es js → IsPicked code U picks fs ks → SetsFit es → SetsFit fs → (es ≡ fs) × (js ≡ ks)
+OnePickedRun = (code : Block) (U : Given) (picks : ℕ → ℕ) (es fs : List Entry) (js ks : List (List PlaceEvent))
+    → Proper U → IsPicked code U picks es js → IsPicked code U picks fs ks
+    → (map plain es ≡ map plain fs) × (js ≡ ks)
 
 -- a run uses at most as many picks as it has turns: picks after those change nothing
 abbrev pub FewPicks : Type 0

@@ -3,3 +3,4 @@ pub mod Kills
 pub mod Sorting
 pub mod Onward
 pub mod Parts
+pub mod Proper

@@ -4,6 +4,7 @@
 #![tactic(auto)]
 
 mod command;
+pub mod laws;
 mod listing;
 mod number;
 mod options;

@@ -1,0 +1,261 @@
+-- A picked run stays one where its sets of places keep the bits of places alone.
+use Rattle.std.specs.Prelude.{◌≡◌, ℕ, zero, suc, ◌%◌, ◌/◌, ◌^◌, ◌<◌, ◌==◌, Bool, true, false, List, [], ◌∷◌, ◌++◌, length, map, filter, cond, slice_get, slice_set, Some, refl}
+use Rattle.std.proofs.Common.{ap, ◌∙◌, sym, subst, arith}
+use Rattle.std.specs.List.{AllByRecursion}
+use Rattle.std.proofs.lemmas.List.{length-map, map-append}
+use Rattle.rx_base.specs.Sets.{all_places, has_bit, members}
+use Rattle.rx_base.specs.declared.ids.PlaceId.{PlaceId}
+use Rattle.rx_base.specs.declared.ids.ScopeId.{ScopeId}
+use Rattle.rx_base.specs.declared.place_set.PlaceSet.{PlaceSet}
+use Rattle.rx_base.specs.declared.values.Fault.{Fault}
+use Rattle.rx_base.specs.declared.values.Fault.TheVariants.{Dead}
+use Rattle.rx_rules.specs.declared.tasks.Task.{Task}
+use Rattle.rx_rules.specs.declared.entries.Act.{Act}
+use Rattle.rx_rules.specs.declared.entries.Act.TheVariants.{Open, At as Calls, Spawn, Arrive, Wait, Release, End, Print}
+use Rattle.rx_rules.specs.declared.entries.Entry.{Entry}
+use Rattle.rx_rules.specs.declared.entries.Entry.TheVariants.{Step, Root, Death}
+use Rattle.rx_rules.specs.declared.events.PlaceEvent.{PlaceEvent}
+use Rattle.rx_rules.specs.declared.events.PlaceEvent.TheVariants.{Close}
+use Rattle.rx_rules.specs.Code.{Block}
+use Rattle.rx_rules.specs.Terms.{Term, Does, Local, Makes, Gets, Puts, Forgets, Opens, Calls as Asks, Spawns, Waits, Releases, Prints, Done, does, granted}
+use Rattle.rx_rules.specs.Tree.{Tree}
+use Rattle.rx_rules.specs.Entries.{Allowed, made}
+use Rattle.rx_rules.specs.Fold.{fold_from, opening}
+use Rattle.rx_rules.specs.Plays.{Fits, brought, journal_at}
+use Rattle.rx_rules.specs.Store.{State}
+use Rattle.rx_rules.specs.Run.{Given, NoRoot, EndsWithRoot, NoneDue, IsDue, rest_of}
+use Rattle.rx_rules.specs.Picked as picked
+use Rattle.rx_rules.specs.Picked.{Player, Game, Goes, Turn, Turns, IsPicked, none, more, child_of, enabled, tree_in, start_game}
+use Rattle.rx_runs.specs.PickedRuns.{ActFits, SetsFit, plain_set, plain_act, plain}
+
+-- Sets.
+
+bit_plain : (m p : ℕ) → p < 16 → has_bit (m % 2 ^ 16) p ≡ has_bit m p
+bit_plain m zero low = let e : ((m % 65536) / 1) % 2 ≡ (m / 1) % 2 = omega arith in ap (λ k. k == 1) e
+bit_plain m (suc zero) low = let e : ((m % 65536) / 2) % 2 ≡ (m / 2) % 2 = omega arith in ap (λ k. k == 1) e
+bit_plain m (suc (suc zero)) low = let e : ((m % 65536) / 4) % 2 ≡ (m / 4) % 2 = omega arith in ap (λ k. k == 1) e
+bit_plain m (suc (suc (suc zero))) low = let e : ((m % 65536) / 8) % 2 ≡ (m / 8) % 2 = omega arith in ap (λ k. k == 1) e
+bit_plain m (suc (suc (suc (suc zero)))) low = let e : ((m % 65536) / 16) % 2 ≡ (m / 16) % 2 = omega arith in ap (λ k. k == 1) e
+bit_plain m (suc (suc (suc (suc (suc zero))))) low = let e : ((m % 65536) / 32) % 2 ≡ (m / 32) % 2 = omega arith in ap (λ k. k == 1) e
+bit_plain m (suc (suc (suc (suc (suc (suc zero)))))) low = let e : ((m % 65536) / 64) % 2 ≡ (m / 64) % 2 = omega arith in ap (λ k. k == 1) e
+bit_plain m (suc (suc (suc (suc (suc (suc (suc zero))))))) low = let e : ((m % 65536) / 128) % 2 ≡ (m / 128) % 2 = omega arith in ap (λ k. k == 1) e
+bit_plain m (suc (suc (suc (suc (suc (suc (suc (suc zero)))))))) low = let e : ((m % 65536) / 256) % 2 ≡ (m / 256) % 2 = omega arith in ap (λ k. k == 1) e
+bit_plain m (suc (suc (suc (suc (suc (suc (suc (suc (suc zero))))))))) low = let e : ((m % 65536) / 512) % 2 ≡ (m / 512) % 2 = omega arith in ap (λ k. k == 1) e
+bit_plain m (suc (suc (suc (suc (suc (suc (suc (suc (suc (suc zero)))))))))) low = let e : ((m % 65536) / 1024) % 2 ≡ (m / 1024) % 2 = omega arith in ap (λ k. k == 1) e
+bit_plain m (suc (suc (suc (suc (suc (suc (suc (suc (suc (suc (suc zero))))))))))) low = let e : ((m % 65536) / 2048) % 2 ≡ (m / 2048) % 2 = omega arith in ap (λ k. k == 1) e
+bit_plain m (suc (suc (suc (suc (suc (suc (suc (suc (suc (suc (suc (suc zero)))))))))))) low = let e : ((m % 65536) / 4096) % 2 ≡ (m / 4096) % 2 = omega arith in ap (λ k. k == 1) e
+bit_plain m (suc (suc (suc (suc (suc (suc (suc (suc (suc (suc (suc (suc (suc zero))))))))))))) low = let e : ((m % 65536) / 8192) % 2 ≡ (m / 8192) % 2 = omega arith in ap (λ k. k == 1) e
+bit_plain m (suc (suc (suc (suc (suc (suc (suc (suc (suc (suc (suc (suc (suc (suc zero)))))))))))))) low = let e : ((m % 65536) / 16384) % 2 ≡ (m / 16384) % 2 = omega arith in ap (λ k. k == 1) e
+bit_plain m (suc (suc (suc (suc (suc (suc (suc (suc (suc (suc (suc (suc (suc (suc (suc zero))))))))))))))) low = let e : ((m % 65536) / 32768) % 2 ≡ (m / 32768) % 2 = omega arith in ap (λ k. k == 1) e
+bit_plain m (suc (suc (suc (suc (suc (suc (suc (suc (suc (suc (suc (suc (suc (suc (suc (suc p)))))))))))))))) low = absurd (omega arith)
+
+same_filter : (f g : ℕ → Bool) (xs : List ℕ) → AllByRecursion (λ p. f p ≡ g p) xs → filter f xs ≡ filter g xs
+same_filter f g [] all = refl
+same_filter f g (x ∷ xs) all =
+    ap (λ b. cond b (x ∷ filter f xs) (filter f xs)) all.0 ∙ ap (λ ys. cond (g x) (x ∷ ys) ys) (same_filter f g xs all.1)
+
+places_low : AllByRecursion (λ p. p < 16) all_places
+places_low = (omega arith, (omega arith, (omega arith, (omega arith, (omega arith, (omega arith, (omega arith, (omega arith, (omega arith, (omega arith, (omega arith, (omega arith, (omega arith, (omega arith, (omega arith, (omega arith, tt))))))))))))))))
+
+all_bits : (m : ℕ) (ps : List ℕ) → AllByRecursion (λ p. p < 16) ps → AllByRecursion (λ p. has_bit (m % 2 ^ 16) p ≡ has_bit m p) ps
+all_bits m [] low = tt
+all_bits m (p ∷ ps) low = (bit_plain m p low.0, all_bits m ps low.1)
+
+pub members_plain : (s : PlaceSet) → members (plain_set s) ≡ members s
+members_plain s = same_filter (has_bit (s.0 % 2 ^ 16)) (has_bit s.0) all_places (all_bits s.0 all_places places_low)
+
+-- Entries.
+
+plain_fits_act : (act : Act) → ActFits (plain_act act)
+plain_fits_act (Open s r x) = tt
+plain_fits_act (Calls s r c from to x) = tt
+plain_fits_act (Spawn c s from to x) = tt
+plain_fits_act (Arrive p) = tt
+plain_fits_act (Wait s thrown) = tt
+plain_fits_act (Release s lost thrown) = omega arith
+plain_fits_act (End thrown) = tt
+plain_fits_act (Print value x) = tt
+
+pub plain_fits : (es : List Entry) → SetsFit (map plain es)
+plain_fits [] = tt
+plain_fits (Step t act batch ∷ es) = (plain_fits_act act, plain_fits es)
+plain_fits (Root lost thrown ∷ es) = (omega arith, plain_fits es)
+plain_fits (Death d ∷ es) = plain_fits es
+
+-- Trees.
+
+made_plain : (n : ℕ) (T : Tree) (e : Entry) → made n T (plain e) ≡ made n T e
+made_plain n T (Step t (Open s r x) batch) = refl
+made_plain n T (Step t (Calls s r c from to x) batch) = refl
+made_plain n T (Step t (Spawn c s from to x) batch) = refl
+made_plain n T (Step t (Arrive p) batch) = refl
+made_plain n T (Step t (Wait s thrown) batch) = refl
+made_plain n T (Step t (Release s lost thrown) batch) = refl
+made_plain n T (Step t (End thrown) batch) = refl
+made_plain n T (Step t (Print value x) batch) = refl
+made_plain n T (Root lost thrown) = refl
+made_plain n T (Death d) = refl
+
+fold_plain : (n : ℕ) (T : Tree) (es : List Entry) → fold_from n T (map plain es) ≡ fold_from n T es
+fold_plain n T [] = refl
+fold_plain n T (e ∷ es) = ap (λ V. fold_from (suc n) V (map plain es)) (made_plain n T e) ∙ fold_plain (suc n) (made n T e) es
+
+pub root_stays : (es : List Entry) → NoRoot es → NoRoot (map plain es)
+root_stays [] h = h
+root_stays (Step t act batch ∷ es) h = root_stays es h
+root_stays (Root lost thrown ∷ es) h = h
+root_stays (Death d ∷ es) h = root_stays es h
+
+end_stays : (es : List Entry) → EndsWithRoot es → EndsWithRoot (map plain es)
+end_stays [] h = h
+end_stays (Step t act batch ∷ es) h = end_stays es h
+end_stays (Root lost thrown ∷ es) h = ap (map plain) h
+end_stays (Death d ∷ es) h = end_stays es h
+
+-- Acts.
+
+brought_plain : (act : Act) → brought (plain_act act) ≡ brought act
+brought_plain (Open s r x) = refl
+brought_plain (Calls s r c from to x) = refl
+brought_plain (Spawn c s from to x) = refl
+brought_plain (Arrive p) = refl
+brought_plain (Wait s thrown) = refl
+brought_plain (Release s lost thrown) = ap (λ ps. map (λ p. Dead (record { 0 = p })) ps ++ thrown) (members_plain lost)
+brought_plain (End thrown) = refl
+brought_plain (Print value x) = refl
+
+child_plain : (q : Player) (act : Act) → child_of q (plain_act act) ≡ child_of q act
+child_plain q (Open s r x) = refl
+child_plain q (Calls s r c from to x) = refl
+child_plain q (Spawn c s from to x) = refl
+child_plain q (Arrive p) = refl
+child_plain q (Wait s thrown) = refl
+child_plain q (Release s lost thrown) = refl
+child_plain q (End thrown) = refl
+child_plain q (Print value x) = refl
+
+release_fits : (here : PlaceId) (t : Term) (d : Does) (s : ScopeId) (lost other : PlaceSet) (thrown : List Fault)
+    → Fits here t d (Release s lost thrown) → Fits here t d (Release s other thrown)
+release_fits here t (Local left vars) s lost other thrown h = h
+release_fits here t (Makes name words) s lost other thrown h = h
+release_fits here t (Gets name target index) s lost other thrown h = h
+release_fits here t (Puts target index value) s lost other thrown h = h
+release_fits here t (Forgets target) s lost other thrown h = h
+release_fits here t Opens s lost other thrown h = h
+release_fits here t (Asks place) s lost other thrown h = h
+release_fits here t (Spawns place) s lost other thrown h = h
+release_fits here t (Waits faults) s lost other thrown h = h
+release_fits here t Releases s lost other thrown h = h
+release_fits here t (Prints value) s lost other thrown h = h
+release_fits here t (Done faults) s lost other thrown h = h
+
+fits_plain : (here : PlaceId) (t : Term) (d : Does) (act : Act) → Fits here t d act → Fits here t d (plain_act act)
+fits_plain here t d (Open s r x) h = h
+fits_plain here t d (Calls s r c from to x) h = h
+fits_plain here t d (Spawn c s from to x) h = h
+fits_plain here t d (Arrive p) h = h
+fits_plain here t d (Wait s thrown) h = h
+fits_plain here t d (Release s lost thrown) h = release_fits here t d s lost (plain_set lost) thrown h
+fits_plain here t d (End thrown) h = h
+fits_plain here t d (Print value x) h = h
+
+allowed_plain : (T : Tree) (e : Entry) → Allowed T e → Allowed T (plain e)
+allowed_plain T (Step t (Open s r x) batch) h = h
+allowed_plain T (Step t (Calls s r c from to x) batch) h = h
+allowed_plain T (Step t (Spawn c s from to x) batch) h = h
+allowed_plain T (Step t (Arrive p) batch) h = h
+allowed_plain T (Step t (Wait s thrown) batch) h = h
+allowed_plain T (Step t (Release s lost thrown) batch) h = (h.0, record { places = members_plain lost ∙ h.1.places; faults = h.1.faults })
+allowed_plain T (Step t (End thrown) batch) h = h
+allowed_plain T (Step t (Print value x) batch) h = h
+allowed_plain T (Root lost thrown) h = (h.0, record { places = members_plain lost ∙ h.1.places; faults = h.1.faults })
+allowed_plain T (Death d) h = h
+
+-- Turns.
+
+abbrev told : Game → Game
+told G = record G { entries = map plain G.entries }
+
+push : (es : List Entry) (e : Entry) → map plain es ++ plain e ∷ [] ≡ map plain (es ++ e ∷ [])
+push es e = sym (map-append plain es (e ∷ []))
+
+module _ (U : Given) (k : ℕ) (G : Game) where
+  long : length (map plain G.entries) ≡ length G.entries
+  long = length-map G.entries plain
+
+  tree : tree_in U (told G) ≡ tree_in U G
+  tree = fold_plain 0 (opening U.places) G.entries
+
+  free_plain : NoneDue (length G.entries) G.kills → NoneDue (length (map plain G.entries)) G.kills
+  free_plain h = subst (λ n. NoneDue n G.kills) (sym long) h
+
+  picks : (x : Task) → slice_get (enabled (tree_in U G)) (k % length (enabled (tree_in U G))) ≡ Some x
+      → slice_get (enabled (tree_in U (told G))) (k % length (enabled (tree_in U (told G)))) ≡ Some x
+  picks x h = subst (λ T. slice_get (enabled T) (k % length (enabled T)) ≡ Some x) (sym tree) h
+
+  may : (e : Entry) → Allowed (tree_in U G) e → Allowed (tree_in U (told G)) (plain e)
+  may e h = subst (λ T. Allowed T (plain e)) (sym tree) (allowed_plain (tree_in U G) e h)
+
+  walks : (x : Task) (here : PlaceId) (p q : Player) (S Z : State) (j : List PlaceEvent)
+      → Goes U.places U.heap (length G.entries) x.number here p S (journal_at G.journals here.0) q Z j
+      → Goes U.places U.heap (length (map plain G.entries)) x.number here p S (journal_at G.journals here.0) q Z j
+  walks x here p q S Z j h = subst (λ n. Goes U.places U.heap n x.number here p S (journal_at G.journals here.0) q Z j) (sym long) h
+
+  -- the game after an act
+  abbrev acted : Task → PlaceId → Player → List Fault → List Player → State → List PlaceEvent → List Entry → Game
+  acted x here q raised children Z j es = record G {
+    players = slice_set G.players x.number.0 (record { term = granted raised q.term; vars = q.vars; batch = [] }) ++ children;
+    entries = es;
+    journals = slice_set G.journals here.0 j;
+    stores = slice_set G.stores here.0 Z;
+  }
+
+  turn_plain : (u : Bool) (G' : Game) → Turn U k G u G' → Turn U k (told G) u (told G')
+  turn_plain u G' (picked.dies d due) =
+      let died : ℕ → List Entry → Game = λ n es. record G {
+        entries = es;
+        journals = slice_set G.journals d.0 (journal_at G.journals d.0 ++ Close n ∷ []);
+        kills = rest_of G.kills;
+      } in
+      let longer : List Entry = map plain G.entries ++ Death d ∷ [] in
+      let same : died (length (map plain G.entries)) longer ≡ died (length G.entries) (map plain (G.entries ++ Death d ∷ [])) =
+      ap (λ n. died n longer) long ∙ ap (died (length G.entries)) (push G.entries (Death d)) in
+      subst (Turn U k (told G) false) same (picked.dies d (subst (λ n. IsDue n d G.kills) (sym long) due))
+  turn_plain u G' (picked.arrives x p free pick allowed) =
+      let landed : List Entry → Game = λ es. record G { entries = es } in
+      subst (Turn U k (told G) true) (ap landed (push G.entries (Step x.number (Arrive p) [])))
+      (picked.arrives x p (free_plain free) (picks x pick) (may (Step x.number (Arrive p) []) allowed))
+  turn_plain u G' (picked.moves x here p q S Z j act free pick at player store goes fits allowed) =
+      let e : Entry = Step x.number act q.batch in
+      let longer : List Entry = map plain G.entries ++ plain e ∷ [] in
+      let same : acted x here q (brought (plain_act act)) (child_of q (plain_act act)) Z j longer
+      ≡ acted x here q (brought act) (child_of q act) Z j (map plain (G.entries ++ e ∷ [])) =
+      ap (λ raised. acted x here q raised (child_of q (plain_act act)) Z j longer) (brought_plain act)
+      ∙ ap (λ children. acted x here q (brought act) children Z j longer) (child_plain q act)
+      ∙ ap (acted x here q (brought act) (child_of q act) Z j) (push G.entries e) in
+      let asks = fits_plain here q.term (does q.vars here.0 U.places q.term) act fits in
+      subst (Turn U k (told G) true) same
+      (picked.moves x here p q S Z j (plain_act act) (free_plain free) (picks x pick) at player store (walks x here p q S Z j goes) asks (may e allowed))
+  turn_plain u G' (picked.ends x here p q S Z j faults free pick at player store goes done allowed) =
+      let ended : List Entry → Game = λ es. record G { entries = es; journals = slice_set G.journals here.0 j; stores = slice_set G.stores here.0 Z } in
+      subst (Turn U k (told G) true) (ap ended (push G.entries (Step x.number (End faults) q.batch)))
+      (picked.ends x here p q S Z j faults (free_plain free) (picks x pick) at player store (walks x here p q S Z j goes) done (may (Step x.number (End faults) q.batch) allowed))
+  turn_plain u G' (picked.root lost thrown free empty allowed) =
+      let rooted : List Entry → Game = λ es. record G { entries = es } in
+      subst (Turn U k (told G) false) (ap rooted (push G.entries (Root lost thrown)))
+      (picked.root (plain_set lost) thrown (free_plain free) (subst (λ T. enabled T ≡ []) (sym tree) empty) (may (Root lost thrown) allowed))
+
+turns_plain : (U : Given) (picks : ℕ → ℕ) (n j : ℕ) (G G' : Game) → Turns U picks n j G G' → Turns U picks n j (told G) (told G')
+turns_plain U picks n j G G' none = none
+turns_plain U picks n j G G'' (more {G' = G'} {used = u} free t ts) =
+    more (root_stays G.entries free) (turn_plain U (picks j) G u G' t) (turns_plain U picks _ _ G' G'' ts)
+
+pub picked_plain : (code : Block) (U : Given) (picks : ℕ → ℕ) (es : List Entry) (js : List (List PlaceEvent)) → IsPicked code U picks es js → IsPicked code U picks (map plain es) js
+picked_plain code U picks es js p = record {
+  turns = p.turns;
+  game = told p.game;
+  made = turns_plain U picks p.turns 0 (start_game code U) p.game p.made;
+  ended = end_stays p.game.entries p.ended;
+  entries = ap (map plain) p.entries;
+  journals = p.journals;
+}

@@ -1,0 +1,97 @@
+-- Words ask for proper setups.
+use Rattle.std.proofs.Common.{◌≡◌, ℕ, suc, ◌≤◌, ◌^◌, ◌-◌, List, [], ◌∷◌, Option, Some, None, refl, arith}
+use Rattle.std.specs.Prelude.{IfSome, Bool, true, false, bytes_eq, codes, if◌then◌else◌}
+use Rattle.rx_rules.specs.Run.{Proper}
+use Rattle.rx_words.specs.Words.{number_of, kill_of, picks_of, Wants, nothing_yet, Choice, NoOption, SizeOption, PlacesOption, HeapOption, KillOption, PickOption, SeedOption, Taken, NotAnOption, BadValue, Takes, good, taken, choice, or_else, bad_kill, setup_of, source, Step, Gen, Check, BadWord, unless_bad, generated, settled, cut_off, options, alone}
+use Rattle.rx_words.specs.declared.options.Verb.{Verb}
+use Rattle.rx_words.specs.declared.options.Verb.TheVariants as verbs
+use Rattle.rx_words.specs.Proper.{HasProper, SetupsAreProper}
+use Rattle.rx_words.proofs.Numbers.{number-spelled}
+use Rattle.rx_words.proofs.Sorting.{sorted-kills}
+
+-- the places and the words of a heap that options have said are in their ranges
+pub record IsRanged (w : Wants) : Type 0 where
+  pub places : IfSome w.places (λ n. (1 ≤ n) × (n ≤ 16))
+  pub heap : IfSome w.heap (λ n. (1 ≤ n) × (n ≤ 4096))
+
+-- the same of what an option makes of its value
+abbrev AfterTaking : Taken → Type 0
+AfterTaking NotAnOption = Unit {0}
+AfterTaking BadValue = Unit {0}
+AfterTaking (Takes w) = IsRanged w
+
+good-ranged : {A : Type 0} (o : Option A) (takes : A → Wants) → ((a : A) → o ≡ Some a → IsRanged (takes a)) → AfterTaking (good o takes)
+good-ranged (Some a) takes h = h a refl
+good-ranged None takes h = tt
+
+taken-ranged : (c : Choice) (w : Wants) (k : ℕ) (value : List ℕ) → IsRanged w → AfterTaking (taken c w k value)
+taken-ranged NoOption w k value r = tt
+taken-ranged SizeOption w k value r = good-ranged (number_of 1 10000 value) _ (λ n e. record { places = r.places; heap = r.heap })
+taken-ranged PlacesOption w k value r = good-ranged (number_of 1 16 value) _ (λ n e. record { places = let t = number-spelled 1 16 n value e in (t.1, t.2); heap = r.heap })
+taken-ranged HeapOption w k value r = good-ranged (number_of 1 4096 value) _ (λ n e. record { places = r.places; heap = let t = number-spelled 1 4096 n value e in (t.1, t.2) })
+taken-ranged KillOption w k value r = good-ranged (kill_of value) _ (λ kill e. record { places = r.places; heap = r.heap })
+taken-ranged PickOption w k value r = good-ranged (picks_of value) _ (λ list e. record { places = r.places; heap = r.heap })
+taken-ranged SeedOption w k value r = good-ranged (number_of 0 (2 ^ 64 - 1) value) _ (λ n e. record { places = r.places; heap = r.heap })
+
+-- what options say, or what stands for it, is in range
+within : (least most usual : ℕ) (o : Option ℕ) → (least ≤ usual) × (usual ≤ most) → IfSome o (λ n. (least ≤ n) × (n ≤ most)) → (least ≤ or_else o usual) × (or_else o usual ≤ most)
+within least most usual (Some n) u h = h
+within least most usual None u h = u
+
+setup-proper : (w : Wants) → IsRanged w → bad_kill (or_else w.places 2) [] w.kills ≡ None → Proper (setup_of w)
+setup-proper w r e =
+    let places = within 1 16 2 w.places (omega arith, omega arith) r.places in
+    let heap = within 1 4096 256 w.heap (omega arith, omega arith) r.heap in
+    record { some = places.0; few = places.1; words = heap.0; small = heap.1; kills = sorted-kills (or_else w.places 2) w.kills e }
+
+settled-proper : (verb : Verb) (w : Wants) (k : ℕ) → IsRanged w → HasProper (settled verb w k)
+settled-proper verbs.Step w k r = by (bad_kill (or_else w.places 2) [] w.kills) refl
+  where
+    by : (o : Option ℕ) → bad_kill (or_else w.places 2) [] w.kills ≡ o → HasProper (unless_bad o (Step (setup_of w) (source w.picks w.seed)))
+    by (Some n) e = tt
+    by None e = setup-proper w r e
+settled-proper verbs.Gen w k r = sized w.size
+  where
+    by : (n : ℕ) (o : Option ℕ) → bad_kill (or_else w.places 2) [] w.kills ≡ o → HasProper (unless_bad o (Gen n (setup_of w) w.seed))
+    by n (Some m) e = tt
+    by n None e = setup-proper w r e
+
+    sized : (o : Option ℕ) → HasProper (generated o w k)
+    sized (Some n) = by n (bad_kill (or_else w.places 2) [] w.kills) refl
+    sized None = tt
+
+cut-proper : (c : Choice) (k : ℕ) → HasProper (cut_off c k)
+cut-proper NoOption k = tt
+cut-proper SizeOption k = tt
+cut-proper PlacesOption k = tt
+cut-proper HeapOption k = tt
+cut-proper KillOption k = tt
+cut-proper PickOption k = tt
+cut-proper SeedOption k = tt
+
+pub options-proper : (verb : Verb) (w : Wants) (k : ℕ) (words : List (List ℕ)) → IsRanged w → HasProper (options verb w k words)
+options-proper verb w k [] r = settled-proper verb w k r
+options-proper verb w k (name ∷ []) r = cut-proper (choice verb w name) k
+options-proper verb w k (name ∷ value ∷ words) r = by (taken (choice verb w name) w (suc k) value) (taken-ranged (choice verb w name) w (suc k) value r) (λ v. options-proper verb v (suc (suc k)) words)
+  where
+    by : (t : Taken) → AfterTaking t → ((v : Wants) → IsRanged v → HasProper (options verb v (suc (suc k)) words)) → HasProper (elim t [ NotAnOption ↦ BadWord k | BadValue ↦ BadWord (suc k) | Takes v ↦ options verb v (suc (suc k)) words ])
+    by NotAnOption h rest = tt
+    by BadValue h rest = tt
+    by (Takes v) h rest = rest v h
+
+pub none-ranged : IsRanged nothing_yet
+none-ranged = record { places = tt; heap = tt }
+
+alone-proper : (words : List (List ℕ)) → HasProper (alone Check words)
+alone-proper [] = tt
+alone-proper (word ∷ words) = tt
+
+pub setups-are-proper : SetupsAreProper
+setups-are-proper [] = tt
+setups-are-proper (word ∷ words) = by (bytes_eq word (codes "step")) (bytes_eq word (codes "gen")) (bytes_eq word (codes "check"))
+  where
+    by : (a b c : Bool) → HasProper (if a then options verbs.Step nothing_yet 1 words else (if b then options verbs.Gen nothing_yet 1 words else (if c then alone Check words else BadWord 0)))
+    by true b c = options-proper verbs.Step nothing_yet 1 words none-ranged
+    by false true c = options-proper verbs.Gen nothing_yet 1 words none-ranged
+    by false false true = alone-proper words
+    by false false false = tt

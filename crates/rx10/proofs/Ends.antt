@@ -1,7 +1,9 @@
 -- The last entry of a run.
-use Rattle.std.proofs.Common.{◌≡◌, ℕ, zero, suc, ◌+◌, ◌-◌, ◌<◌, Bool, true, false, List, [], ◌∷◌, length, Some, refl, ap, sym, ◌∙◌, arith}
+use Rattle.std.proofs.Common.{◌≡◌, ℕ, zero, suc, ◌+◌, ◌-◌, ◌<◌, ◌^◌, Bool, true, false, List, [], ◌∷◌, length, Some, refl, ap, sym, ◌∙◌, arith}
 use Rattle.std.specs.Prelude.{slice_get, ◌==◌, ◌&&◌}
+use Rattle.std.proofs.lemmas.Bool.{eqb-true}
 use Rattle.std.proofs.lemmas.Bool.Decides.{nat_tests}
+use Rattle.rx_base.specs.Sets.{members, MembersMakeTheSet}
 use Rattle.rx_base.specs.declared.place_set.PlaceSet.{PlaceSet}
 use Rattle.rx_base.specs.declared.values.Fault.{Fault}
 use Rattle.rx_rules.specs.declared.entries.Entry.{Entry}
@@ -41,18 +43,33 @@ by-test lost thrown es l b e = ap status_by (e ∙ same lost thrown l.lost l.thr
     same : (a : PlaceSet) (x : List Fault) (d : PlaceSet) (y : List Fault) → Root a x ≡ Root d y → is_clean a x ≡ is_clean d y
     same a x d y e = cc
 
--- no faults where there are none of them
-pub clean-by : (lost : PlaceSet) (thrown : List Fault) → ((lost.0 == 0) && (length thrown == 0)) ≡ is_clean lost thrown
-clean-by lost [] = and-true (lost.0 == 0)
+-- nothing was lost where no place is a member
+none-lost : MembersMakeTheSet → (lost : PlaceSet) → lost.0 < 2 ^ 16 → (lost.0 == 0) ≡ (length (members lost) == 0)
+none-lost one lost small = by (lost.0 == 0) (length (members lost) == 0) refl refl
   where
-    and-true : (b : Bool) → (b && true) ≡ b
-    and-true true = refl
-    and-true false = refl
-clean-by lost (f ∷ fs) = and-false (lost.0 == 0) (length (f ∷ fs) == 0) (let some : 0 < length (f ∷ fs) = omega arith in grind (arith, nat_tests))
-  where
-    and-false : (b d : Bool) → d ≡ false → (b && d) ≡ false
-    and-false true d e = e
-    and-false false d e = refl
+    nothing : PlaceSet
+    nothing = record { 0 = 0 }
+
+    empty : (ms : List ℕ) → (length ms == 0) ≡ true → ms ≡ []
+    empty [] e = refl
+    empty (m ∷ ms) e = let some : 0 < length (m ∷ ms) = omega arith in absurd (grind (arith, nat_tests))
+
+    by : (a b : Bool) → (lost.0 == 0) ≡ a → (length (members lost) == 0) ≡ b → a ≡ b
+    by true true e f = refl
+    by false false e f = refl
+    by true false e f =
+        let zero : lost.0 ≡ 0 = eqb-true lost.0 0 e in
+        let same : members lost ≡ members nothing = ap (λ n. let s : PlaceSet = record { 0 = n } in members s) zero in
+        sym (ap (λ ms. length ms == 0) same) ∙ f
+    by false true e f =
+        let same : lost ≡ nothing = one lost nothing small (omega arith) (empty (members lost) f) in
+        sym e ∙ ap (λ (s : PlaceSet). s.0 == 0) same
+
+-- where something was lost the test of both answers so
+pub not-clean : MembersMakeTheSet → (lost : PlaceSet) (thrown : List Fault) → lost.0 < 2 ^ 16 → (lost.0 ≡ 0 → ⊥) → (lost.0 == 0) ≡ is_clean lost thrown
+not-clean one lost thrown small other =
+    let some : (lost.0 == 0) ≡ false = grind (arith, nat_tests) in
+    some ∙ sym (ap (λ b. b && (length thrown == 0)) (sym (none-lost one lost small) ∙ some))
 
 -- there is one
 pub some-entry : (es : List Entry) → EndsWithRoot es → 0 < length es

@@ -3,3 +3,5 @@ pub mod Settings
 pub mod Ends
 pub mod Told
 pub mod Asking
+pub mod Lines
+pub mod Outcomes

@@ -1,11 +1,12 @@
 -- What the statuses of the program mean.
-use Rattle.std.specs.Prelude.{◌≡◌, ◌⊎◌, ℕ, ◌≤◌, ◌==◌, Bool, false, cond, List, [], ◌∷◌, ◌++◌, length, slice_index_or, Option, Some, None, codes}
+use Rattle.std.specs.Prelude.{◌≡◌, ◌⊎◌, ℕ, ◌≤◌, ◌==◌, ◌&&◌, Bool, cond, List, [], ◌∷◌, ◌++◌, length, slice_index_or, Option, Some, None, codes}
 use Rattle.std.specs.Io.KnownBytes.{Consumes, IsAtEnd}
 use Rattle.rx_base.specs.declared.place_set.PlaceSet.{PlaceSet}
 use Rattle.rx_base.specs.declared.values.Fault.{Fault}
+use Rattle.rx_base.specs.Sets.{members}
 use Rattle.rx_text.specs.Numbers.{natural_text}
 use Rattle.rx_rules.specs.declared.entries.Entry.{Entry}
-use Rattle.rx_rules.specs.declared.entries.Entry.TheVariants.{Step as StepEntry, Root, Death}
+use Rattle.rx_rules.specs.declared.entries.Entry.TheVariants.{Root}
 use Rattle.rx_rules.specs.declared.events.PlaceEvent.{PlaceEvent}
 use Rattle.rx_rules.specs.Code.{Block, work}
 use Rattle.rx_rules.specs.Run.{Given, IsRun}
@@ -30,8 +31,7 @@ picks_of (Seeded n) j = seed_word n j
 
 -- nothing was lost and nothing thrown
 abbrev pub is_clean : PlaceSet → List Fault → Bool
-is_clean lost [] = lost.0 == 0
-is_clean lost (fault ∷ faults) = false
+is_clean lost thrown = (length (members lost) == 0) && (length thrown == 0)
 
 -- the status of a run that was clean or not
 abbrev pub status_by : Bool → Status
@@ -41,8 +41,7 @@ status_by clean = cond clean Done Faulted
 abbrev pub status_of : List Entry → Status
 status_of [] = Done
 status_of (Root lost thrown ∷ es) = status_by (is_clean lost thrown)
-status_of (StepEntry t act batch ∷ es) = status_of es
-status_of (Death d ∷ es) = status_of es
+status_of (e ∷ es) = status_of es
 
 -- The entries and journals are a run of the script under a setup: its picked run. Nothing is released early in it, its losses are
 -- exact, and the order of statements is kept; the status is that of its end.

@@ -1,11 +1,13 @@
-//! The program: it runs the script that standard input gives and writes the trace to standard output, or tells the script's work.
-//! `rx10_step` is the whole of it over any source and sink, and its contract is the theorem: a status `Done` or `Faulted` of `step`
-//! says that the bytes were a script that meets the rules, that what was written is the trace of a run of it, that nothing was
-//! released early in it, that its losses are exact and that the order of statements was kept. `main` makes the words, the source and
-//! the sink of what the system gives, and says the status. It stands on rx_words, rx_script, rx_check, rx_machine, rx_tree and
-//! rx_trace, and on the laws of rx_runs and rx_laws.
+//! The program: it runs the script that standard input gives and writes the trace to standard output, makes and runs a script of its
+//! own and writes the numbers of its history, or tells a script's work. `rx10_step` is the whole of it over any source and sink, and
+//! its contract is the theorem: a status `Done` or `Faulted` of `step` says that the bytes were a script that meets the rules, that
+//! what was written is the trace of a run of it, that nothing was released early in it, that its losses are exact and that the order
+//! of statements was kept. `laws` says that outcomes are determined. `main` makes the words, the source and the sink of what the system
+//! gives, and says the status. It stands on rx_words, rx_script, rx_check, rx_machine, rx_gen, rx_tree and rx_trace, and on the laws of
+//! rx_runs and rx_laws.
 #![tactic(auto)]
 
+pub mod laws;
 mod outside;
 mod run;
 mod seeds;

@@ -11,7 +11,7 @@ ghost use Rattle.rx10.specs.declared.status.Status.TheVariants.{Done};
 ghost use Rattle.rx10.specs.Top.{is_clean as clean, status_by, status_of, work_line, picks_of, IsTrace, IsCount};
 
 use crate::seeds::SeedPicks;
-use rx_base::{Faults, NoMemory, PlaceSet};
+use rx_base::{Faults, NoMemory, PlaceSet, members_make_the_set};
 use rx_check::{Program, checked};
 use rx_gen::{counts, generate, put_counts};
 use rx_laws::{run_is_exact, run_is_not_early, run_is_ordered};
@@ -137,5 +137,6 @@ fn ends_clean(history: &History) -> bool
 fn is_clean(lost: PlaceSet, thrown: &Faults) -> bool
     ensures { result ≡ clean lost thrown.now }
 {
+    members_make_the_set();
     lost.0 == 0 && thrown.len() == 0
 }

@@ -16,6 +16,7 @@ use Rattle.rx_reading.specs.Readers.{Reader, keyed, all_read}
 use Rattle.rx_reading.specs.EntryWords.{entry_at}
 use Rattle.rx_reading.specs.EventWords.{event_at}
 use Rattle.rx_reading.specs.Machine.{entry_of, event_of}
+use Rattle.rx_text.proofs.Digits.{digits-all}
 use Rattle.rx_reading.proofs.Cuts.{IsPlain, Plain, all-append, all-map, marked-together, pieces-marked, pieces-together}
 use Rattle.rx_reading.proofs.Entries.{IsEnd, entry-takes, entry-again}
 use Rattle.rx_reading.proofs.Events.{event-takes, event-again}
@@ -61,37 +62,6 @@ line-again r a line N end h =
       reads = ap (λ ws. all_read (r ws)) (cut ∙ sym (append-nil h.front)) ∙ ap all_read (h.reads [] end);
       lacks = all.1;
     }
-
-glyph-digit : (n : ℕ) → is_ascii_digit (digit_glyph false (n % 10)) ≡ true
-glyph-digit n = by (n % 10) (omega arith)
-  where
-    by : (d : ℕ) → d < 10 → is_ascii_digit (digit_glyph false d) ≡ true
-    by zero h = refl
-    by (suc zero) h = refl
-    by (suc (suc zero)) h = refl
-    by (suc (suc (suc zero))) h = refl
-    by (suc (suc (suc (suc zero)))) h = refl
-    by (suc (suc (suc (suc (suc zero))))) h = refl
-    by (suc (suc (suc (suc (suc (suc zero)))))) h = refl
-    by (suc (suc (suc (suc (suc (suc (suc zero))))))) h = refl
-    by (suc (suc (suc (suc (suc (suc (suc (suc zero)))))))) h = refl
-    by (suc (suc (suc (suc (suc (suc (suc (suc (suc zero))))))))) h = refl
-    by (suc (suc (suc (suc (suc (suc (suc (suc (suc (suc d)))))))))) h = absurd (omega arith)
-
-and-true : (a b : Bool) → a ≡ true → b ≡ true → (a && b) ≡ true
-and-true true b e f = f
-and-true false b e f = cc
-
-onto-digits : (k n : ℕ) (acc : List ℕ) → all_ascii_digits acc ≡ true → all_ascii_digits (digits_onto k 10 false n acc) ≡ true
-onto-digits zero n acc all = all
-onto-digits (suc k) n acc all =
-    let more = and-true (is_ascii_digit (digit_glyph false (n % 10))) (all_ascii_digits acc) (glyph-digit n) all in
-    elim (n / 10 == 0) as (λ b. all_ascii_digits (cond b (digit_glyph false (n % 10) ∷ acc) (digits_onto k 10 false (n / 10) (digit_glyph false (n % 10) ∷ acc))) ≡ true)
-    [ true ↦ more | false ↦ onto-digits k (n / 10) (digit_glyph false (n % 10) ∷ acc) more ]
-
-pub digits-all : (n : ℕ) → all_ascii_digits (natural_text n) ≡ true
-unfolding digits
-digits-all n = onto-digits 64 n [] refl
 
 -- each number's text has no blank and no newline
 pub number-plain-all : (n : ℕ) → Plain (natural_text n)

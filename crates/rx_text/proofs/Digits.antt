@@ -30,6 +30,38 @@ some-decimal n =
 pub all-digits : (n : ℕ) → n < 2 ^ 64 → all_ascii_digits (decimal n) ≡ true
 all-digits n small = digits_decimal own n small
 
+glyph-digit : (n : ℕ) → is_ascii_digit (digit_glyph false (n % 10)) ≡ true
+glyph-digit n = by (n % 10) (omega arith)
+  where
+    by : (d : ℕ) → d < 10 → is_ascii_digit (digit_glyph false d) ≡ true
+    by zero h = refl
+    by (suc zero) h = refl
+    by (suc (suc zero)) h = refl
+    by (suc (suc (suc zero))) h = refl
+    by (suc (suc (suc (suc zero)))) h = refl
+    by (suc (suc (suc (suc (suc zero))))) h = refl
+    by (suc (suc (suc (suc (suc (suc zero)))))) h = refl
+    by (suc (suc (suc (suc (suc (suc (suc zero))))))) h = refl
+    by (suc (suc (suc (suc (suc (suc (suc (suc zero)))))))) h = refl
+    by (suc (suc (suc (suc (suc (suc (suc (suc (suc zero))))))))) h = refl
+    by (suc (suc (suc (suc (suc (suc (suc (suc (suc (suc d)))))))))) h = absurd (omega arith)
+
+and-true : (a b : Bool) → a ≡ true → b ≡ true → (a && b) ≡ true
+and-true true b e f = f
+and-true false b e f = cc
+
+onto-digits : (k n : ℕ) (acc : List ℕ) → all_ascii_digits acc ≡ true → all_ascii_digits (digits_onto k 10 false n acc) ≡ true
+onto-digits zero n acc all = all
+onto-digits (suc k) n acc all =
+    let more = and-true (is_ascii_digit (digit_glyph false (n % 10))) (all_ascii_digits acc) (glyph-digit n) all in
+    elim (n / 10 == 0) as (λ b. all_ascii_digits (cond b (digit_glyph false (n % 10) ∷ acc) (digits_onto k 10 false (n / 10) (digit_glyph false (n % 10) ∷ acc))) ≡ true)
+    [ true ↦ more | false ↦ onto-digits k (n / 10) (digit_glyph false (n % 10) ∷ acc) more ]
+
+-- so is each byte of any number's text
+pub digits-all : (n : ℕ) → all_ascii_digits (decimal n) ≡ true
+unfolding digits
+digits-all n = onto-digits 64 n [] refl
+
 first-part : (a b : Bool) → (a && b) ≡ true → a ≡ true
 first-part true b h = refl
 first-part false b h = h

@@ -1,26 +1,18 @@
 -- The set of the deaths of some items, as a mask.
-use Rattle.std.proofs.Common.{◌≡◌, ◌≢◌, ℕ, ◌<◌, ◌≤◌, ◌^◌, ◌==◌, ◌||◌, Bool, true, false, Option, Some, None, List, [], ◌∷◌, ◌++◌, refl, ap, sym, ◌∙◌, arith, bit_or}
-use Rattle.std.specs.Prelude.{max}
+use Rattle.std.proofs.Common.{◌≡◌, ◌≢◌, ℕ, ◌<◌, ◌≤◌, ◌^◌, ◌==◌, ◌||◌, Bool, true, false, Option, Some, None, List, [], ◌∷◌, ◌++◌, refl, ap, sym, ◌∙◌, arith}
 use Rattle.std.specs.Option.{ForSome}
 use Rattle.std.specs.Int.{bit_at}
 use Rattle.std.proofs.Math.Pow.{pow-lt}
 use Rattle.std.proofs.lemmas.Nat.{or_of_16}
-use Rattle.std.proofs.lemmas.Nat.Bits.{bit_at_or, bit_at-zero, bit_at-pow_same, bit_at-pow_other, bit_at-lt, same_from_bits_below}
+use Rattle.std.proofs.lemmas.Nat.Bits.{bit_at-zero, bit_at-pow_same, bit_at-pow_other, bit_at-lt, same_from_bits_below}
 use Rattle.std.proofs.lemmas.Bool.{eqb-true, eq-eqb}
 use Rattle.rx_base.specs.Sets.{has_bit}
+use Rattle.rx_base.proofs.Bits.{has_bit-or}
 use Rattle.rx_book.specs.History.{mark_of, is_place, has_death, deaths_in}
 
 pub or_nothing : (b : Bool) → (b || false) ≡ b
 or_nothing true = refl
 or_nothing false = refl
-
--- a bit of two is that of either
-has_bit-or : (a b p : ℕ) → has_bit (bit_or a b) p ≡ (has_bit a p || has_bit b p)
-has_bit-or a b p = ap (λ (n : ℕ). n == 1) (bit_at_or a b p) ∙ go (bit_at a p) (bit_at b p) (bit_at-lt a p) (bit_at-lt b p) (bit_at a p == 1) refl
-  where
-    go : (x y : ℕ) → x < 2 → y < 2 → (t : Bool) → (x == 1) ≡ t → (max x y == 1) ≡ (t || (y == 1))
-    go x y hx hy true e = let one : x ≡ 1 = eqb-true x 1 e in let m : max x y ≡ 1 = omega arith in eq-eqb (max x y) 1 m
-    go x y hx hy false e = let other : x ≢ 1 = λ same. let t : (x == 1) ≡ true = eq-eqb x 1 same in cc in let m : max x y ≡ y = omega arith in ap (λ (n : ℕ). n == 1) m
 
 has_bit-mark : (p : ℕ) (o : Option ℕ) → has_bit (mark_of o) p ≡ is_place p o
 has_bit-mark p None = ap (λ (n : ℕ). n == 1) (bit_at-zero p)

@@ -39,7 +39,7 @@ use Rattle.rx_laws.proofs.Kept.{AllFinish, finish-filter, Known, Kept, kept-star
 use Rattle.rx_laws.proofs.KeptStep.{none-open, below-kept, single-kept, grow-kept, kind-kept, under-kept, own-kept, linked-kept, stays-open, stays-own}
 use Rattle.rx_laws.proofs.KeptBirth.{hangs, child-under}
 
-started-next : (T : Tree) (t : TaskId) (act : Act) → AllowedAct T t act → (d : TaskId) → started_by act ≡ Some d → d.0 ≡ T.next_task
+pub started-next : (T : Tree) (t : TaskId) (act : Act) → AllowedAct T t act → (d : TaskId) → started_by act ≡ Some d → d.0 ≡ T.next_task
 started-next T t (Calling s r c from to x) a d e = let same : c ≡ d = cc in ap (λ (v : TaskId). v.0) (sym same) ∙ a.next_task
 started-next T t (Spawn c s from to x) a d e = let same : c ≡ d = cc in ap (λ (v : TaskId). v.0) (sym same) ∙ a.next_task
 started-next T t (Open s r x) a d e = cc

@@ -2,6 +2,7 @@
 use Rattle.std.specs.Prelude.{◌≡◌, ℕ, suc, ◌≤◌, Bool, true, false, not, ◌&&◌, ◌||◌, ◌==◌, List, [], ◌∷◌, Option, Some, None, is_some, is_none, option_map, refl}
 use Rattle.std.specs.List.{list_any, list_all}
 use Rattle.std.proofs.Common.{ap, sym, subst, ◌∙◌, arith, inl, inr}
+use Rattle.std.proofs.Math.Bool.{and-false, and-true}
 use Rattle.std.proofs.lemmas.Bool.{eqb-true, ne_eqb, or_parts, or_cases, or_left, or_right, or_from, and_from, cond_both, true≢false, not-true, not_from_false}
 use Rattle.std.proofs.lemmas.List.{get_or-replicate}
 use Rattle.std.proofs.lemmas.List.Elements.{filter_agree}
@@ -67,12 +68,8 @@ module _ (F : Facts) (B : List Bone) (s : ℕ) (there : has s (nums B) ≡ true)
       let parts = or_parts (u x && is_none x.struck) (list_any (λ x. u x && is_none x.struck) xs) q in
       and_from (over F s b) (list_all (over F s) bs) (row_over b x u (u x) (is_none x.struck) refl refl (same x) parts.0 r) (all-over u same parts.1 a)
 
-  and_false : (y : Bool) → (y && false) ≡ false
-  and_false true = refl
-  and_false false = refl
-
   out_named : (p : ℕ) (b : Birth) (y : Bool) → has s (F.walk b.under) ≡ y → IsOut F B b → named F s p b ≡ false
-  out_named p b y e (ended k h) = rw h (and_false (has s (F.walk b.under) && not (list_any F.released (until s (F.walk b.under)))))
+  out_named p b y e (ended k h) = rw h (and-false (has s (F.walk b.under) && not (list_any F.released (until s (F.walk b.under)))))
   out_named p b true e (gone k h) = rw (e, h s there e)
   out_named p b false e (gone k h) = rw e
 
@@ -80,13 +77,9 @@ module _ (F : Facts) (B : List Bone) (s : ℕ) (there : has s (nums B) ≡ true)
   lost_row p None = refl
   lost_row p (Some v) = refl
 
-  and_true : (y : Bool) → (y && true) ≡ y
-  and_true true = refl
-  and_true false = refl
-
   row_named : (p : ℕ) (b : Birth) (x : Task) → IsRow F B b x → named F s p b ≡ (under_s x && was_lost_at p x)
   row_named p b x r =
-      rw (any-until F.released s (F.walk b.under) (walks b.under r.stands).free, and_true (has s (F.walk b.under)), chain_row b x r, ← r.struck)
+      rw (any-until F.released s (F.walk b.under) (walks b.under r.stands).free, and-true (has s (F.walk b.under)), chain_row b x r, ← r.struck)
       (ap (λ y. under_s x && y) (lost_row p x.struck))
 
   pub all-named : (p : ℕ) (u : Task → Bool) → ((x : Task) → u x ≡ under_s x) → {bs : List Birth} {xs : List Task} → Aligned F B bs xs → list_any (λ x. u x && was_lost_at p x) xs ≡ list_any (named F s p) bs

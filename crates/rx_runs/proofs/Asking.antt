@@ -17,7 +17,7 @@ use Rattle.rx_rules.specs.Plays.{Fits}
 use Rattle.rx_runs.specs.PickedRuns.{ActFits}
 use Rattle.rx_runs.proofs.Sets.{members_once}
 
-scope_is : (s r : ScopeId) → s.0 ≡ r.0 → s ≡ r
+pub scope_is : (s r : ScopeId) → s.0 ≡ r.0 → s ≡ r
 scope_is s r e = ap (λ (n : ℕ). let q : ScopeId = record { 0 = n } in q) e
 
 pub task_is : (s r : TaskId) → s.0 ≡ r.0 → s ≡ r

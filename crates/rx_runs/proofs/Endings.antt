@@ -146,25 +146,25 @@ held_from n T (e ∷ es) t h held low =
 
 -- At the end no task is left.
 
-all_leave : (T : Tree) (xs : List Task) → Each (λ x. leaves T the_root x ≡ true) xs → filter (λ x. not (leaves T the_root x)) xs ≡ []
+pub all_leave : (T : Tree) (xs : List Task) → Each (λ x. leaves T the_root x ≡ true) xs → filter (λ x. not (leaves T the_root x)) xs ≡ []
 all_leave T [] h = refl
 all_leave T (x ∷ xs) h = ap (λ b. cond (not b) (x ∷ filter (λ y. not (leaves T the_root y)) xs) (filter (λ y. not (leaves T the_root y)) xs)) h.0 ∙ all_leave T xs h.1
 
-struck_if : (u n s : Bool) → u ≡ true → u && n ≡ false → n ≡ not s → u && s ≡ true
+pub struck_if : (u n s : Bool) → u ≡ true → u && n ≡ false → n ≡ not s → u && s ≡ true
 struck_if true true true a b e = refl
 struck_if true false true a b e = refl
 struck_if true true false a b e = absurd (true≢false b)
 struck_if true false false a b e = absurd (true≢false (sym e))
 struck_if false n s a b e = absurd (true≢false (sym a))
 
-root_empties : (T : Tree) → Sound T → quiet T the_root ≡ true → (without T the_root).tasks ≡ []
+pub root_empties : (T : Tree) → Sound T → quiet T the_root ≡ true → (without T the_root).tasks ≡ []
 root_empties T h still =
     all_leave T T.tasks
     (each_more (λ x. TaskFits T.dead T.places T.scopes x × (is_under T the_root x && is_none x.struck ≡ false)) (λ x. leaves T the_root x ≡ true)
     (λ (x : Task) b. struck_if (is_under T the_root x) (is_none x.struck) (is_some x.struck) (on_meets the_root T.scopes (Some x.under) ∙ b.0.rooted) b.1 (none_is_not x.struck)) T.tasks
     (each_both (TaskFits T.dead T.places T.scopes) (λ x. is_under T the_root x && is_none x.struck ≡ false) T.tasks h.tasks (each_none (λ x. is_under T the_root x && is_none x.struck) T.tasks (not-true _ still))))
 
-empty_at_end : (n : ℕ) (T : Tree) (es : List Entry) → Reached T → All (IsOlder n) T.dead → AllAllowed n T es → EndsWithRoot es → (fold_from n T es).tasks ≡ []
+pub empty_at_end : (n : ℕ) (T : Tree) (es : List Entry) → Reached T → All (IsOlder n) T.dead → AllAllowed n T es → EndsWithRoot es → (fold_from n T es).tasks ≡ []
 empty_at_end n T [] r o h e = absurd e
 empty_at_end n T (Root lost thrown ∷ es) r o h e =
     subst (λ (fs : List Entry). (fold_from (suc n) (without T the_root) fs).tasks ≡ []) (sym e) (root_empties T (sound r) h.0.0.is_quiet)

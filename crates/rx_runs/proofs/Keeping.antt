@@ -80,21 +80,21 @@ picked_row q size es T i x ties h =
 
 -- the kills that are left
 
-may_on : (q : ℕ) (es fs : List Entry) (ks : List Kill) → ((p : PlaceId) → death_number 0 p fs ≡ death_number 0 p es) → MayCome q es ks → MayCome q fs ks
+pub may_on : (q : ℕ) (es fs : List Entry) (ks : List Kill) → ((p : PlaceId) → death_number 0 p fs ≡ death_number 0 p es) → MayCome q es ks → MayCome q fs ks
 may_on q es fs [] f h = tt
 may_on q es fs (k ∷ ks) f h = (h.0, h.1, f k.place ∙ h.2, h.3, may_on q es fs ks f h.4)
 
-may_dies : (q : ℕ) (es : List Entry) (d : PlaceId) (ks : List Kill) → Spares d ks → MayCome q es ks → MayCome q (es ++ Death d ∷ []) ks
+pub may_dies : (q : ℕ) (es : List Entry) (d : PlaceId) (ks : List Kill) → Spares d ks → MayCome q es ks → MayCome q (es ++ Death d ∷ []) ks
 may_dies q es d [] a h = tt
 may_dies q es d (k ∷ ks) a h = (h.0, h.1, death_same k.place es (Death d) (other_death k.place d es a.0) ∙ h.2, h.3, may_dies q es d ks a.1 h.4)
 
-left-step : (ks : List Kill) (es : List Entry) (t : TaskId) (act : Act) (batch : List (List ℕ)) → kills_left ks (es ++ Step t act batch ∷ []) ≡ kills_left ks es
+pub left-step : (ks : List Kill) (es : List Entry) (t : TaskId) (act : Act) (batch : List (List ℕ)) → kills_left ks (es ++ Step t act batch ∷ []) ≡ kills_left ks es
 left-step ks [] t act batch = refl
 left-step ks (Step u a b ∷ es) t act batch = left-step ks es t act batch
 left-step ks (Root l f ∷ es) t act batch = left-step ks es t act batch
 left-step ks (Death d ∷ es) t act batch = left-step (rest_of ks) es t act batch
 
-left-death : (ks : List Kill) (es : List Entry) (d : PlaceId) → kills_left ks (es ++ Death d ∷ []) ≡ rest_of (kills_left ks es)
+pub left-death : (ks : List Kill) (es : List Entry) (d : PlaceId) → kills_left ks (es ++ Death d ∷ []) ≡ rest_of (kills_left ks es)
 left-death ks [] d = refl
 left-death ks (Step u a b ∷ es) d = left-death ks es d
 left-death ks (Root l f ∷ es) d = left-death ks es d
@@ -112,11 +112,40 @@ pub record DueOne (q : ℕ) (es : List Entry) (d : PlaceId) (ks : List Kill) : T
   pub lives : death_number 0 d es ≡ None
   pub others : MayCome q (es ++ Death d ∷ []) (rest_of ks)
 
-due_one : (q n : ℕ) (es : List Entry) (d : PlaceId) (ks : List Kill) → IsDue n d ks → MayCome q es ks → DueOne q es d ks
+pub due_one : (q n : ℕ) (es : List Entry) (d : PlaceId) (ks : List Kill) → IsDue n d ks → MayCome q es ks → DueOne q es d ks
 due_one q n es d [] due h = absurd due
 due_one q n es d (k ∷ ks) due h =
     subst (λ (p : PlaceId). DueOne q es p (k ∷ ks)) due.0
     (record { inside = h.0; not_zero = h.1; lives = h.2; others = may_dies q es k.place ks h.3 h.4 })
+
+-- a term asks for no arrival and no end
+pub no_arrival : (here : PlaceId) (t : Term) (d : Does) (p : PlaceId) → Fits here t d (Arrive p) → ⊥
+no_arrival here t (Local a b) p h = h
+no_arrival here t (Makes a b) p h = h
+no_arrival here t (Gets a b c) p h = h
+no_arrival here t (Puts a b c) p h = h
+no_arrival here t (Forgets a) p h = h
+no_arrival here t Opens p h = h
+no_arrival here t (Asks a) p h = h
+no_arrival here t (Spawns a) p h = h
+no_arrival here t (Waits a) p h = h
+no_arrival here t Releases p h = h
+no_arrival here t (Prints a) p h = h
+no_arrival here t (Done a) p h = h
+
+pub no_ending : (here : PlaceId) (t : Term) (d : Does) (f : List Fault) → Fits here t d (End f) → ⊥
+no_ending here t (Local a b) f h = h
+no_ending here t (Makes a b) f h = h
+no_ending here t (Gets a b c) f h = h
+no_ending here t (Puts a b c) f h = h
+no_ending here t (Forgets a) f h = h
+no_ending here t Opens f h = h
+no_ending here t (Asks a) f h = h
+no_ending here t (Spawns a) f h = h
+no_ending here t (Waits a) f h = h
+no_ending here t Releases f h = h
+no_ending here t (Prints a) f h = h
+no_ending here t (Done a) f h = h
 
 module _ (code : Block) (U : Given) (G : Game) (ok : GameOk code U G) where
   next_is : (tree_in U G).next_task ≡ length ok.starts
@@ -351,34 +380,6 @@ module _ (code : Block) (U : Given) (G : Game) (ok : GameOk code U G) where
       (subst (λ (n : ℕ). Ties U.places n fs (made_act (tree_in U G) t act)) (size ∙ longer_by)
       (ties-act U.places (length ok.starts) G.entries (tree_in U G) t act r.batch ok.folds.few next_is may e ps.acting starts_at ok.ties na))
       (λ m q le. ps.silent m q (omega arith))
-
-  no_arrival : (here : PlaceId) (t : Term) (d : Does) (p : PlaceId) → Fits here t d (Arrive p) → ⊥
-  no_arrival here t (Local a b) p h = h
-  no_arrival here t (Makes a b) p h = h
-  no_arrival here t (Gets a b c) p h = h
-  no_arrival here t (Puts a b c) p h = h
-  no_arrival here t (Forgets a) p h = h
-  no_arrival here t Opens p h = h
-  no_arrival here t (Asks a) p h = h
-  no_arrival here t (Spawns a) p h = h
-  no_arrival here t (Waits a) p h = h
-  no_arrival here t Releases p h = h
-  no_arrival here t (Prints a) p h = h
-  no_arrival here t (Done a) p h = h
-
-  no_ending : (here : PlaceId) (t : Term) (d : Does) (f : List Fault) → Fits here t d (End f) → ⊥
-  no_ending here t (Local a b) f h = h
-  no_ending here t (Makes a b) f h = h
-  no_ending here t (Gets a b c) f h = h
-  no_ending here t (Puts a b c) f h = h
-  no_ending here t (Forgets a) f h = h
-  no_ending here t Opens f h = h
-  no_ending here t (Asks a) f h = h
-  no_ending here t (Spawns a) f h = h
-  no_ending here t (Waits a) f h = h
-  no_ending here t Releases f h = h
-  no_ending here t (Prints a) f h = h
-  no_ending here t (Done a) f h = h
 
   -- a turn with an entry other than an arrival or an end
   pub keeps_move : (i : ℕ) (x : Task) (here : PlaceId) (p r : Player) (S Z : State) (k : List PlaceEvent) (act : Act) → NoneDue (length G.entries) G.kills → slice_get (enabled (tree_in U G)) i ≡ Some x → x.place ≡ At here → slice_get G.players x.number.0 ≡ Some p → slice_get G.stores here.0 ≡ Some S → picked.Goes U.places U.heap (length G.entries) x.number here p S (journal_at G.journals here.0) r Z k → Fits here r.term (does r.vars here.0 U.places r.term) act → AllowedAct (tree_in U G) x.number act → NoRoot (G.entries ++ Step x.number act r.batch ∷ []) → GameOk code U (record { players = slice_set G.players x.number.0 (record { term = granted (brought act) r.term; vars = r.vars; batch = [] }) ++ child_of r act; entries = G.entries ++ Step x.number act r.batch ∷ []; journals = slice_set G.journals here.0 k; stores = slice_set G.stores here.0 Z; kills = G.kills })

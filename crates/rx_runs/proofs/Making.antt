@@ -13,14 +13,14 @@ use Rattle.rx_runs.specs.Ties.{Moves}
 use Rattle.rx_runs.proofs.Paying.{tells_store}
 use Rattle.rx_runs.specs.AnyAnswers.{Works, local, answers, asks, ends, stops, BeginsWork, EachWorks, sum_of, RunIsMade}
 
-plays_work : {starts : Starts} {here : PlaceId} {places low : ℕ} {vars : Vars} {t : Term} {batch : List (List ℕ)} {cells : List (ℕ × Cell × List ℕ)} {moves : Moves} → Plays starts here places low vars t batch cells moves → (n : ℕ) × Works starts here places n vars t moves
+pub plays_work : {starts : Starts} {here : PlaceId} {places low : ℕ} {vars : Vars} {t : Term} {batch : List (List ℕ)} {cells : List (ℕ × Cell × List ℕ)} {moves : Moves} → Plays starts here places low vars t batch cells moves → (n : ℕ) × Works starts here places n vars t moves
 plays_work (rules.local e p) = let r = plays_work p in (suc r.0, local e r.1)
 plays_work {here = here} {places = places} {vars = vars} {t = t} (rules.stores {cell = cell} a le tells b p) = let r = plays_work p in (suc r.0, answers a (tells_store (does vars here.0 places t) here cell a tells) r.1)
 plays_work (rules.asks le fits so p) = let r = plays_work p in (suc r.0, asks fits so r.1)
 plays_work (rules.ends le e) = (1, ends e)
 plays_work rules.stops = (0, stops)
 
-begins_work : (starts : Starts) (here : PlaceId) (places : ℕ) (b : Bool) (low : ℕ) (vars : Vars) (t : Term) (cells : List (ℕ × Cell × List ℕ)) (moves : Moves) → Begins starts here places b low vars t cells moves → (n : ℕ) × BeginsWork starts here places b n vars t moves
+pub begins_work : (starts : Starts) (here : PlaceId) (places : ℕ) (b : Bool) (low : ℕ) (vars : Vars) (t : Term) (cells : List (ℕ × Cell × List ℕ)) (moves : Moves) → Begins starts here places b low vars t cells moves → (n : ℕ) × BeginsWork starts here places b n vars t moves
 begins_work starts here places false low vars t cells moves h = plays_work h
 begins_work starts here places true low vars t cells [] h = (0, refl)
 begins_work starts here places true low vars t cells ((n, Arrive p, batch) ∷ moves) h = plays_work h.1

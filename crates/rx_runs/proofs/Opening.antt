@@ -36,7 +36,7 @@ first_ties q =
       unmoved = λ t h. refl;
     }
 
-may_come : (q : ℕ) (ks : List Kill) → AreKills q ks → MayCome q [] ks
+pub may_come : (q : ℕ) (ks : List Kill) → AreKills q ks → MayCome q [] ks
 may_come q [] h = tt
 may_come q (k ∷ ks) h = (h.0, h.1, refl, h.2, may_come q ks h.4)
 

@@ -4,6 +4,7 @@ use Rattle.std.specs.List.{list_any}
 use Rattle.std.specs.Int.{bit_at}
 use Rattle.std.proofs.Common.{ap, ◌∙◌, sym, arith, ⊎_elim}
 use Rattle.std.proofs.Math.Nat.{two-pow-succ}
+use Rattle.std.proofs.Math.Bool.{and-true}
 use Rattle.std.proofs.lemmas.Bool.{eqb-true, eq-eqb, ne_eqb, or_right, true≢false, cases_lt}
 use Rattle.std.proofs.lemmas.Nat.Bits.{bit_at-lt, bit_at-suc, bit_at_lowest, same_from_bits_below}
 use Rattle.rx_base.specs.declared.place_set.PlaceSet.{PlaceSet}
@@ -43,12 +44,8 @@ all_there (suc (suc (suc (suc (suc (suc (suc (suc (suc (suc (suc (suc (suc (suc 
 all_there (suc (suc (suc (suc (suc (suc (suc (suc (suc (suc (suc (suc (suc (suc (suc zero))))))))))))))) h = refl
 all_there (suc (suc (suc (suc (suc (suc (suc (suc (suc (suc (suc (suc (suc (suc (suc (suc p)))))))))))))))) h = absurd (omega arith)
 
-and_true : (b : Bool) → (b && true) ≡ b
-and_true true = refl
-and_true false = refl
-
 bit_is : (s : PlaceSet) (p : ℕ) → p < 16 → list_any (λ x. x == p) (members s) ≡ has_bit s.0 p
-bit_is s p h = kept_if (has_bit s.0) p all_places ∙ ap (λ b. has_bit s.0 p && b) (all_there p h) ∙ and_true (has_bit s.0 p)
+bit_is s p h = kept_if (has_bit s.0) p all_places ∙ ap (λ b. has_bit s.0 p && b) (all_there p h) ∙ and-true (has_bit s.0 p)
 
 same_bit : (a b : ℕ) → a < 2 → b < 2 → (a == 1) ≡ (b == 1) → a ≡ b
 same_bit zero zero h k e = refl

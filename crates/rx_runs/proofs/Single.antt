@@ -35,11 +35,11 @@ use Rattle.rx_runs.proofs.Plain.{picked_plain, plain_fits}
 
 -- Kills.
 
-due_once : (n : ℕ) (d e : PlaceId) (ks : List Kill) → IsDue n d ks → IsDue n e ks → d ≡ e
+pub due_once : (n : ℕ) (d e : PlaceId) (ks : List Kill) → IsDue n d ks → IsDue n e ks → d ≡ e
 due_once n d e [] h k = absurd h
 due_once n d e (a ∷ ks) h k = sym h.0 ∙ k.0
 
-due_not : (n : ℕ) (d : PlaceId) (ks : List Kill) → IsDue n d ks → NoneDue n ks → ⊥
+pub due_not : (n : ℕ) (d : PlaceId) (ks : List Kill) → IsDue n d ks → NoneDue n ks → ⊥
 due_not n d [] h k = h
 due_not n d (a ∷ ks) h k = let low : a.moment ≤ n = h.1 in let high : n < a.moment = k in absurd (omega arith)
 

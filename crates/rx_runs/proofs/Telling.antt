@@ -12,7 +12,7 @@ use Rattle.rx_rules.specs.Terms.{Answer, Gives, Fails, Does, Local, Makes, Gets,
 use Rattle.rx_rules.specs.Plays.{Tells}
 use Rattle.rx_rules.specs.Store.{State, Live, block_of, fits, IsLeastFree, is_index, word_at, Reads, Refuses, MayCell}
 
-least_once : (w : ℕ) (S : State) (n a b : ℕ) → IsLeastFree w S n a → IsLeastFree w S n b → a ≡ b
+pub least_once : (w : ℕ) (S : State) (n a b : ℕ) → IsLeastFree w S n a → IsLeastFree w S n b → a ≡ b
 least_once w S n a b h k =
     ⊎_elim
     (λ (lt : a < b). absurd (true≢false (sym h.here ∙ k.least a lt)))
@@ -24,13 +24,13 @@ least_once w S n a b h k =
     (cases_lt a b)
 
 -- a block that is read is not refused
-not_refused : (S : State) (r : GlobalRef) (i : ℤ) (b : Live) (stale : Bool) → Reads S r i b → Refuses S r i stale → ⊥
+pub not_refused : (S : State) (r : GlobalRef) (i : ℤ) (b : Live) (stale : Bool) → Reads S r i b → Refuses S r i stale → ⊥
 not_refused S r i b true h k = let e : Some b ≡ None = sym h.block ∙ k in cc
 not_refused S r i b false h k =
     let same : b ≡ k.0 = (let e : Some b ≡ Some k.0 = sym h.block ∙ k.1 in cc) in
     true≢false (sym h.index ∙ ap (λ (q : Live). is_index i q.words) same ∙ k.2)
 
-one_refusal : (S : State) (r : GlobalRef) (i : ℤ) (a b : Bool) → Refuses S r i a → Refuses S r i b → a ≡ b
+pub one_refusal : (S : State) (r : GlobalRef) (i : ℤ) (a b : Bool) → Refuses S r i a → Refuses S r i b → a ≡ b
 one_refusal S r i true true h k = refl
 one_refusal S r i false false h k = refl
 one_refusal S r i true false h k = let e : None ≡ Some k.0 = sym h ∙ k.1 in cc

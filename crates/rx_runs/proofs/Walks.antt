@@ -45,7 +45,7 @@ fits_last here t Releases act h = tt
 fits_last here t (Prints value) act h = tt
 fits_last here t (Done faults) act h = tt
 
-tells_not : (d : Does) (here : PlaceId) (c : Cell) (a : Answer) → Tells d here c a → IsLast d → ⊥
+pub tells_not : (d : Does) (here : PlaceId) (c : Cell) (a : Answer) → Tells d here c a → IsLast d → ⊥
 tells_not (Local left vars) here c a h l = h
 tells_not (Makes name words) here c a h l = l
 tells_not (Gets name target index) here c a h l = l

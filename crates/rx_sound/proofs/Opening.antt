@@ -1,7 +1,8 @@
 -- A new scope keeps a tree sound, and births hang under scopes that stand.
-use Rattle.std.specs.Prelude.{◌≡◌, ℕ, ◌<◌, ◌≤◌, Bool, true, false, cond, ◌||◌, ◌&&◌, ◌==◌, not, List, [], ◌∷◌, Option, Some, None, refl}
+use Rattle.std.specs.Prelude.{◌≡◌, ℕ, ◌<◌, ◌≤◌, true, false, cond, ◌||◌, ◌&&◌, ◌==◌, not, List, [], ◌∷◌, Option, Some, None, refl}
 use Rattle.std.specs.List.{find, list_any}
 use Rattle.std.proofs.Common.{sym, ap, ◌∙◌, subst, arith}
+use Rattle.std.proofs.Math.Bool.{and-true}
 use Rattle.std.proofs.lemmas.Bool.{eqb-true, eq-eqb, ne_eqb, true≢false, or_right, or_parts, or_from, and_left}
 use Rattle.rx_base.specs.declared.ids.PlaceId.{PlaceId}
 use Rattle.rx_base.specs.declared.ids.TaskId.{TaskId}
@@ -28,10 +29,6 @@ pub record OwnChain (gs : List Scope) (t : TaskId) (h : ScopeId) (u : ScopeId) :
 met_head : (s : ScopeId) (g : Scope) (gs : List Scope) → meets s (g ∷ gs) (Some g.number) ≡ (is_scope s g || meets s gs g.parent)
 met_head s g gs = rw (eq-eqb g.number.0 g.number.0 refl)
 
-and_true : (b : Bool) → b && true ≡ b
-and_true true = refl
-and_true false = refl
-
 own_here : (ts : List Task) (g : Scope) (gs : List Scope) (t : TaskId) (x : Task) (o : Option TaskId) → g.opener ≡ o → opened_by t g ≡ true → find (is_task t) ts ≡ Some x → HasOpener ts g gs o → OwnChain (g ∷ gs) t g.number x.under
 own_here ts g gs t x None e mine found h = absurd (true≢false (sym mine ∙ rw e))
 own_here ts g gs t x (Some o) e mine found h =
@@ -46,7 +43,7 @@ own_here ts g gs t x (Some o) e mine found h =
       hangs = λ s m. met_head s g gs ∙ or_right (is_scope s g) (meets s gs g.parent) (h.hangs s (subst (λ (v : ScopeId). meets s gs (Some v) ≡ true) (sym under) (sym (meets_skips s g gs x.under older) ∙ m)));
       above = λ s m a.
           let parts = or_parts (is_scope s g && opened_by t g) (list_any (λ k. is_scope s k && opened_by t k) gs) a in
-          let apart : is_scope s g ≡ false = sym (and_true (is_scope s g)) ∙ ap (λ b. is_scope s g && b) (sym mine) ∙ parts.0 in
+          let apart : is_scope s g ≡ false = sym (and-true (is_scope s g)) ∙ ap (λ b. is_scope s g && b) (sym mine) ∙ parts.0 in
           let m2 : meets s gs g.parent ≡ true = sym (ap (λ b. b || meets s gs g.parent) apart) ∙ sym (met_head s g gs) ∙ m in
           let rest : list_any (λ k. is_scope s k && opened_by o k) gs ≡ false = subst (λ (v : TaskId). list_any (λ k. is_scope s k && opened_by v k) gs ≡ false) (sym same) parts.1 in
           meets_skips s g gs x.under older ∙ subst (λ (v : ScopeId). meets s gs (Some v) ≡ true) under (h.above s m2 rest);
@@ -66,6 +63,24 @@ own_older ts g gs t x (Some o) e mine found h =
     let found2 : find (is_task o) ts ≡ Some x = subst (λ (v : TaskId). find (is_task v) ts ≡ Some x) (sym same) found in
     let task : h.task ≡ x = (let k = h.stands in cc) in
     subst (λ (v : Task). v.under.0 < g.number.0) task h.older
+
+-- an opener is at the home of its scope
+pub head_place : (ts : List Task) (g : Scope) (gs : List Scope) (t : TaskId) (x : Task) (o : Option TaskId) → g.opener ≡ o → opened_by t g ≡ true → find (is_task t) ts ≡ Some x → HasOpener ts g gs o → x.place ≡ At g.home
+head_place ts g gs t x None e mine found h = absurd (true≢false (sym mine ∙ rw e))
+head_place ts g gs t x (Some o) e mine found h =
+    let num : o.0 ≡ t.0 = eqb-true o.0 t.0 (rw e at mine) in
+    let same : o ≡ t = ap (λ (n : ℕ). let q : TaskId = record { 0 = n } in q) num in
+    let found2 : find (is_task o) ts ≡ Some x = subst (λ (v : TaskId). find (is_task v) ts ≡ Some x) (sym same) found in
+    let task : h.task ≡ x = (let k = h.stands in cc) in
+    subst (λ (v : Task). v.place ≡ At g.home) task h.at_home
+
+pub own_place : (ts : List Task) (gs : List Scope) (t : TaskId) (x : Task) (g : Scope) → Opened ts gs → find (is_task t) ts ≡ Some x → find (opened_by t) gs ≡ Some g → x.place ≡ At g.home
+own_place ts [] t x g o found e = cc
+own_place ts (h ∷ hs) t x g o found e =
+    (elim (opened_by t h) as (λ b. opened_by t h ≡ b → cond b (Some h) (find (opened_by t) hs) ≡ Some g → x.place ≡ At g.home) [
+      | true ↦ λ mine k. let same : h ≡ g = cc in subst (λ (v : Scope). x.place ≡ At v.home) same (head_place ts h hs t x h.opener refl mine found o.0)
+      | false ↦ λ other k. own_place ts hs t x g o.1 found k
+    ]) refl e
 
 -- one scope further
 own_lift : (g : Scope) (gs : List Scope) (n : ℕ) (t : TaskId) (h : Scope) (u : ScopeId) → g.number.0 < n → opened_by t g ≡ false → Own gs g.number.0 t h u → Own (g ∷ gs) n t h u
@@ -159,7 +174,7 @@ governs_rooted n (g ∷ gs) want f k m =
           (elim (is_finish g.kind) as (λ b. is_finish g.kind ≡ b → meets the_root (g ∷ gs) (Some (elim (cond b (Some g) (find (λ g. is_finish g.kind) (chain_in gs g.parent))) as (λ _. ScopeId) [ Some h ↦ h.number | None ↦ the_root ])) ≡ true) [
             | true ↦ λ q. met_head the_root g gs ∙ m2
             | false ↦ λ q.
-                let apart : is_scope the_root g ≡ false = sym (and_true (is_scope the_root g)) ∙ sym (ap (λ b. is_scope the_root g && not b) q) ∙ parts.0 in
+                let apart : is_scope the_root g ≡ false = sym (and-true (is_scope the_root g)) ∙ sym (ap (λ b. is_scope the_root g && not b) q) ∙ parts.0 in
                 let m3 : meets the_root gs g.parent ≡ true = sym (ap (λ b. b || meets the_root gs g.parent) apart) ∙ m2 in
                 let r = governs_rooted g.number.0 gs g.parent f.1 parts.1 m3 in
                 meets_skips the_root g gs (governing_in gs g.parent) (met_start the_root g.number.0 gs (governing_in gs g.parent) f.1 r) ∙ r

@@ -2,6 +2,7 @@
 use Rattle.std.specs.Prelude.{◌≡◌, ◌≢◌, ℕ, ◌<◌, Bool, true, false, cond, not, ◌||◌, ◌&&◌, ◌==◌, List, [], ◌∷◌, ◌++◌, filter, Option, Some, None, is_none, is_some, refl}
 use Rattle.std.specs.List.{find, list_any}
 use Rattle.std.proofs.Common.{sym, ap, ◌∙◌, subst, arith}
+use Rattle.std.proofs.Math.Bool.{and-true}
 use Rattle.std.proofs.lemmas.Bool.{eqb-true, eq-eqb, ne_eqb, true≢false, or_right, or_parts, and_right, and_parts, false_from_ne_true, not-true}
 use Rattle.rx_base.specs.declared.ids.TaskId.{TaskId}
 use Rattle.rx_base.specs.declared.ids.ScopeId.{ScopeId}
@@ -60,7 +61,7 @@ any_changed p q f same (x ∷ xs) =
       | false ↦ ap (λ v. p x || v) (any_changed p q f same xs)
     ]
 
-any_same : {X : Type 0} (p q : X → Bool) (xs : List X) → Each (λ x. p x ≡ q x) xs → list_any p xs ≡ list_any q xs
+pub any_same : {X : Type 0} (p q : X → Bool) (xs : List X) → Each (λ x. p x ≡ q x) xs → list_any p xs ≡ list_any q xs
 any_same p q [] h = refl
 any_same p q (x ∷ xs) h = ap (λ v. v || list_any p xs) h.0 ∙ ap (λ v. q x || v) (any_same p q xs h.1)
 
@@ -149,7 +150,7 @@ governs_meets s n (g ∷ gs) want f k m a =
           (elim (is_finish g.kind) as (λ b. is_finish g.kind ≡ b → meets s (g ∷ gs) (Some (elim (cond b (Some g) (find (λ g. is_finish g.kind) (chain_in gs g.parent))) as (λ _. ScopeId) [ Some h ↦ h.number | None ↦ the_root ])) ≡ true → (is_scope s g || meets s gs g.parent) ≡ true) [
             | true ↦ λ q a2. sym (head_meets g gs) ∙ a2
             | false ↦ λ q a2.
-                let apart : is_scope the_root g ≡ false = sym (and_true (is_scope the_root g)) ∙ sym (ap (λ b. is_scope the_root g && not b) q) ∙ parts.0 in
+                let apart : is_scope the_root g ≡ false = sym (and-true (is_scope the_root g)) ∙ sym (ap (λ b. is_scope the_root g && not b) q) ∙ parts.0 in
                 let m3 : meets the_root gs g.parent ≡ true = sym (ap (λ b. b || meets the_root gs g.parent) apart) ∙ m2 in
                 let r = governs_rooted g.number.0 gs g.parent f.1 parts.1 m3 in
                 let low = met_start the_root g.number.0 gs (governing_in gs g.parent) f.1 r in
@@ -161,10 +162,6 @@ governs_meets s n (g ∷ gs) want f k m a =
           governs_meets s g.number.0 gs want f.1 parts.1 m2 (sym (meets_skips s g gs (governing_in gs want) low) ∙ a2)
     ]) m a
   where
-    and_true : (b : Bool) → b && true ≡ b
-    and_true true = refl
-    and_true false = refl
-
     head_meets : (g : Scope) (gs : List Scope) → meets s (g ∷ gs) (Some g.number) ≡ (is_scope s g || meets s gs g.parent)
     head_meets g gs = rw (eq-eqb g.number.0 g.number.0 refl) refl
 

@@ -120,7 +120,7 @@ number_of : (T : Tree) (t : TaskId) (x : Task) → task_of T t ≡ Some x → x.
 number_of T t x h = ap (λ (n : ℕ). record { 0 = n }) (eqb-true x.number.0 t.0 (find_passes (is_task t) T.tasks x h))
 
 -- the scope that a caller opened last is the inner one
-own_is : (T : Tree) (who : Caller) (P : Task → Type 0) (f : Free T who P) (g : Scope) → own_scope T who.task ≡ Some g → g.number ≡ who.inner
+pub own_is : (T : Tree) (who : Caller) (P : Task → Type 0) (f : Free T who P) (g : Scope) → own_scope T who.task ≡ Some g → g.number ≡ who.inner
 own_is T who P f g h =
     let same : own_scope T f.at.task.number ≡ Some g = ap (own_scope T) (number_of T who.task f.at.task f.at.stands) ∙ h in
     let there : inner T f.at.task ≡ g.number = rw (same, inner) in

@@ -1,7 +1,7 @@
 -- A task that has left a reached tree with a release is struck.
-use Rattle.std.specs.Prelude.{◌≡◌, Bool, true, false, cond, not, ◌&&◌, List, [], ◌∷◌, ◌++◌, filter, Some, None, is_some, refl}
+use Rattle.std.specs.Prelude.{◌≡◌, Bool, true, false, cond, not, ◌&&◌, List, [], ◌∷◌, ◌++◌, filter, Some, None, is_some, refl, ◌⊎◌}
 use Rattle.std.specs.List.{find, list_all}
-use Rattle.std.proofs.Common.{ap, ◌∙◌, subst}
+use Rattle.std.proofs.Common.{ap, ◌∙◌, subst, inl, inr}
 use Rattle.std.proofs.lemmas.List.Folds.{list_all-append}
 use Rattle.rx_base.specs.declared.ids.TaskId.{TaskId}
 use Rattle.rx_base.specs.declared.ids.ScopeId.{ScopeId}
@@ -12,7 +12,12 @@ use Rattle.rx_rules.specs.declared.entries.Act.TheVariants.{Open, At as Calls, S
 use Rattle.rx_rules.specs.Tree.{Tree, is_task, task_of, is_under, the_root}
 use Rattle.rx_rules.specs.Entries.{after_end, change_scope, made_act, without}
 use Rattle.rx_rules.specs.Reached.{Reached, opens, acts, ends, dies}
-use Rattle.rx_tree.specs.Callers.{gone_of}
+use Rattle.rx_sound.specs.Blows.{blow_at}
+use Rattle.rx_sound.specs.Sound.{TaskFits, LeftFits, Sound}
+use Rattle.rx_sound.proofs.Changes.{each_found}
+use Rattle.rx_tree.specs.declared.ledger.Caller.{Caller}
+use Rattle.rx_tree.specs.Callers.{gone_of, Stands, HasLeft}
+use Rattle.rx_tree.specs.Calls.{blow_of}
 
 abbrev pub all_struck : List Task → Bool
 all_struck xs = list_all (λ x. is_some x.struck) xs
@@ -71,3 +76,8 @@ found_struck t x (y ∷ ys) h s = found_next t x y ys (is_task t y) (is_some y.s
 
 pub left_struck : (T : Tree) (t : TaskId) (x : Task) → Reached T → gone_of T t ≡ Some x → is_some x.struck ≡ true
 left_struck T t x r h = found_struck t x T.gone h (gone_struck r)
+
+-- the death that struck a caller is found from its place
+pub blow_known : (T : Tree) (who : Caller) (P : Task → Type 0) → Sound T → Stands T who P ⊎ HasLeft T who → blow_of T who.task ≡ blow_at T.dead who.place
+blow_known T who P h (inl c) = rw (c.stands, blow_of) ((each_found (TaskFits T.dead T.places T.scopes) (is_task who.task) T.tasks c.task h.tasks c.stands).struck ∙ ap (blow_at T.dead) c.says.place)
+blow_known T who P h (inr c) = rw (c.none, blow_of, c.gone) ((each_found (LeftFits T.dead) (is_task who.task) T.gone c.task h.gone c.gone).struck ∙ ap (blow_at T.dead) c.says.place)

@@ -1,5 +1,6 @@
-// What no clause says: that scripts are answered at all, and that deep nesting costs no stack.
-use crate::{CheckCause, check};
+// What no clause says: that scripts are answered at all, that deep nesting costs no stack, and that programs may be moved and
+// shared between threads.
+use crate::{CheckCause, Program, check};
 use rx_script::read_script;
 use std::alloc::{AllocError, Global};
 
@@ -153,4 +154,17 @@ fn rules_have_an_order(rt: HostRuntime) {
     ] {
         assert_eq!(rt; fault(rt.alloc(), bytes), Some((rule, node)));
     }
+}
+
+// Values of the type may be moved to another thread.
+fn may_move<T: Send>() {}
+
+// Values of the type may be shared between threads.
+fn may_share<T: Sync>() {}
+
+/// A program may be moved and shared.
+#[test]
+fn programs_may_be_moved(_rt: HostRuntime) {
+    may_move::<Program>();
+    may_share::<Program>();
 }

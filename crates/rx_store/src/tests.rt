@@ -1,4 +1,4 @@
-// A store by hand: a stale reference, a full heap, a closed store.
+// A store by hand: a stale reference, a full heap, a closed store. And that stores may be moved between threads.
 use crate::{Mark, Store, StoreFault};
 use rx_base::{GlobalRef, Path, PlaceId, TaskId};
 use rx_rules::{Cell, PlaceEvent};
@@ -118,4 +118,13 @@ fn closed_store(rt: HostRuntime) -> Result<(), Fail> {
     assert_eq!(rt; store.put(mark(&rt, 4), r, 0, 8), Err(StoreFault::Closed));
     assert_eq!(rt; store.journal().len(), 1);
     Ok(())
+}
+
+// Values of the type may be moved to another thread.
+fn may_move<T: Send>() {}
+
+/// A store may be moved.
+#[test]
+fn stores_may_be_moved(_rt: HostRuntime) {
+    may_move::<Store>();
 }

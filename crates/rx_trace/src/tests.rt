@@ -1,4 +1,4 @@
-// What no clause says: that the writer can succeed.
+// What no clause says: that the writer can succeed, and that what a run tells may be moved between threads.
 use crate::{
     Act, Cell, Entry, History, Journal, Journals, KillList, PlaceEvent, Setup, write_trace,
 };
@@ -66,4 +66,20 @@ fn small_trace_is_written(rt: HostRuntime) -> Result<(), Fail> {
         b"before\nrx10 trace 1\nplaces 2 heap 256\nkills 1@3\nhistory\n0 death 1\n1 end t0 thrown dead:1 code:-5 | 0.12\n2 release host s0 lost 1 thrown dead:1 code:-5\njournal 0\n0 t0 0 get 3 1 -1 index 0.12\ndone\n".as_slice()
     );
     Ok(())
+}
+
+// Values of the type may be moved to another thread.
+fn may_move<T: Send>() {}
+
+// Values of the type may be shared between threads.
+fn may_share<T: Sync>() {}
+
+/// What a run tells may be moved, and its setup may be shared.
+#[test]
+fn histories_may_be_moved(_rt: HostRuntime) {
+    may_move::<Journal>();
+    may_move::<Journals>();
+    may_move::<History>();
+    may_move::<Setup>();
+    may_share::<Setup>();
 }

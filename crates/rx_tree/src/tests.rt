@@ -1,4 +1,4 @@
-// Worked histories, call by call, through the bound of the trait.
+// Worked histories, call by call, through the bound of the trait. And that ledgers may be moved between threads.
 ghost use Rattle.std.specs.Prelude.{◌<◌, [], OnOk};
 ghost use Rattle.rx_rules.specs.declared.entries.Act.TheVariants.{Open, Spawn, Wait, End};
 ghost use Rattle.rx_rules.specs.Tree.{Tree};
@@ -283,4 +283,13 @@ fn at_calls_a_place(rt: HostRuntime) -> Result<(), Fail> {
         }
     );
     Ok(())
+}
+
+// Values of the type may be moved to another thread.
+fn may_move<T: Send>() {}
+
+/// A ledger may be moved.
+#[test]
+fn ledgers_may_be_moved(_rt: HostRuntime) {
+    may_move::<TreeLedger>();
 }

@@ -1,10 +1,11 @@
 -- Kills in ascending order.
-use Rattle.std.proofs.Common.{◌≡◌, ◌⊎◌, inl, inr, ℕ, ◌<◌, List, [], ◌∷◌, length, refl, arith}
+use Rattle.std.proofs.Common.{◌≡◌, ◌⊎◌, inl, inr, ℕ, zero, suc, ◌<◌, List, [], ◌∷◌, drop, length, refl, arith}
 use Rattle.std.specs.Prelude.{Contains}
 use Rattle.std.specs.List.{AllByRecursion}
 use Rattle.std.proofs.lemmas.List.Elements.{All-from_recursion}
 use Rattle.rx_base.specs.declared.ids.Kill.{Kill}
 use Rattle.rx_rules.specs.Run.{ComesAfter, Ascends}
+use Rattle.rx_trace.specs.KillOrder.{IsAscending}
 use Rattle.rx_kills.specs.Least.{DueIsLeast, NoneIsReached}
 
 -- what comes after a later kill comes after the earlier one
@@ -41,3 +42,13 @@ all-later n a (k ∷ ks) h low = let next = later n a k h.0 low in (next, all-la
 pub none : NoneIsReached
 none n [] order due = All-from_recursion (λ k. n < k.moment) [] tt
 none n (k ∷ ks) order due = All-from_recursion (λ j. n < j.moment) (k ∷ ks) (due, all-later n k ks order due)
+
+ascending-rest : (k : Kill) (ks : List Kill) → IsAscending (k ∷ ks) → IsAscending ks
+ascending-rest k [] h = tt
+ascending-rest k (j ∷ ks) h = h.1
+
+-- what is left of a list in ascending order is in ascending order
+pub ascending-left : (n : ℕ) (ks : List Kill) → IsAscending ks → IsAscending (drop n ks)
+ascending-left zero ks h = h
+ascending-left (suc n) [] h = tt
+ascending-left (suc n) (k ∷ ks) h = ascending-left n ks (ascending-rest k ks h)

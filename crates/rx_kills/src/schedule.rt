@@ -1,9 +1,12 @@
 // Which kills are still to be done, and which of them is due.
 ghost use Rattle.std.specs.Prelude.{◌≡◌, ◌<◌, length, IfOk, IfSome, IfNone};
 ghost use Rattle.rx_rules.specs.Run.{IsDue, NoneDue, rest_of};
+ghost use Rattle.rx_kills.specs.Least.{IsLeastDue, NoneReached};
+ghost use Rattle.rx_trace.specs.KillOrder.{IsAscending};
 
+use crate::laws::{due_is_least, none_is_reached};
 use rx_base::{NoMemory, PlaceId};
-use rx_trace::KillList;
+use rx_trace::{KillList, kills_ascend};
 use std::alloc::Global;
 use std::marker::Model;
 
@@ -37,12 +40,18 @@ impl Kills {
         })
     }
 
-    /// The place of the first kill that is not done, where the history's length `len` has reached its moment. None comes exactly
-    /// where no undone kill is reached. No memory is taken.
+    /// The place of the first kill that is not done, where the history's length `len` has reached its moment. It is the least of
+    /// those that are not done, by moment and place. None comes exactly where the moment of none of them is reached. No memory is
+    /// taken.
     pub fn due(&self, len: u32) -> Option<PlaceId>
         ensures due { IfSome result (λ place. IsDue len place self.now) }
+        ensures least { IfSome result (λ place. IsLeastDue len place self.now) }
         ensures none { IfNone result (NoneDue len self.now) }
+        ensures unreached { IfNone result (NoneReached len self.now) }
     {
+        left_ascend(self);
+        due_is_least();
+        none_is_reached();
         if self.done == self.list.len() {
             return None;
         }
@@ -62,4 +71,11 @@ impl Kills {
         prove!(self.done < self.list.len());
         self.done += 1;
     }
+}
+
+/// A law: the kills that are not done come in ascending order.
+pub fn left_ascend(kills: &Kills)
+    ensures { IsAscending kills.now }
+{
+    kills_ascend(&kills.list);
 }

@@ -18,5 +18,5 @@ mod text;
 pub use history::History;
 pub use journal::{Journal, Journals};
 pub use rx_rules::{Act, Cell, Entry, PlaceEvent};
-pub use setup::{KillList, Setup};
+pub use setup::{KillList, Setup, kills_ascend};
 pub use text::write_trace;

@@ -1,6 +1,6 @@
 // What a run is given.
 ghost use Rattle.std.specs.Prelude.{◌≡◌, ◌<◌, ◌++◌, [], ◌∷◌, Some, length, slice_get, IfOk, OnOk, OnErr};
-ghost use Rattle.rx_trace.specs.KillOrder.{ComesLast};
+ghost use Rattle.rx_trace.specs.KillOrder.{ComesLast, IsAscending};
 
 use rx_base::{Kill, NoMemory};
 use std::alloc::Global;
@@ -67,6 +67,13 @@ impl KillList {
     {
         self.kills[i]
     }
+}
+
+/// A law: the kills of a list come in ascending order.
+pub fn kills_ascend(list: &KillList)
+    ensures { IsAscending list.now }
+{
+    let _ = &list.kills;
 }
 
 /// What a run is given: the number of places (1 to 16), the words of each place's heap (1 to 4,096), and the kills. It is proper

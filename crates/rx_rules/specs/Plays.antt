@@ -44,13 +44,6 @@ Tells (Forgets target) here (Forget r) a = (r ≡ target) × (a ≡ Fine)
 Tells (Forgets target) here (ForgetStale r) a = (r ≡ target) × (a ≡ Fails Stale)
 Tells _ here cell a = ⊥
 
--- an event of a task with its stamp and path, and an entry of a task with its number and batch
-abbrev pub CellMove : Type 0
-CellMove = ℕ × Cell × List ℕ
-
-abbrev pub Move : Type 0
-Move = ℕ × Act × List (List ℕ)
-
 -- each task's term and variables at its birth
 abbrev pub Starts : Type 0
 Starts = List (Term × Vars)
@@ -88,7 +81,7 @@ pub data Plays (starts : List (Term × Vars)) (here : PlaceId) (places : ℕ) : 
   stores : {low : ℕ} {vars : Vars} {t : Term} {batch : List (List ℕ)} {cells : List (ℕ × Cell × List ℕ)} {moves : List (ℕ × Act × List (List ℕ))} {stamp : ℕ} {cell : Cell} {x : List ℕ} (a : Answer) → low ≤ stamp → Tells (does vars here.0 places t) here cell a → begins t ≡ Some x → Plays starts here places stamp (vars_after a vars) (answered a t) (begun t batch) cells moves → Plays starts here places low vars t batch ((stamp, cell, x) ∷ cells) moves
   asks : {low : ℕ} {vars : Vars} {t : Term} {batch : List (List ℕ)} {cells : List (ℕ × Cell × List ℕ)} {moves : List (ℕ × Act × List (List ℕ))} {n : ℕ} {act : Act} → low ≤ n → Fits here t (does vars here.0 places t) act → StartsSo starts t vars act → Plays starts here places (suc n) vars (granted (brought act) t) [] cells moves → Plays starts here places low vars t batch cells ((n, act, batch) ∷ moves)
   ends : {low : ℕ} {vars : Vars} {t : Term} {batch : List (List ℕ)} {n : ℕ} {faults : List Fault} → low ≤ n → does vars here.0 places t ≡ Done faults → Plays starts here places low vars t batch [] ((n, End faults, batch) ∷ [])
-  -- a struck task stops anywhere
+  -- a task stops anywhere; that no other than a struck one does is a law of whole runs
   stops : {low : ℕ} {vars : Vars} {t : Term} {batch : List (List ℕ)} → Plays starts here places low vars t batch [] []
 
 -- where a task travels, its arrival comes first

@@ -61,7 +61,7 @@ abbrev pub number_in : Option Value → Option ℤ
 number_in (Some (Number z)) = Some z
 number_in _ = None
 
--- the value of an expression at a place, or none where a result is out of range
+-- the value of an expression at a place, or none where a result is out of range or a name holds no number
 abbrev pub eval : Vars → ℕ → Expr → Option ℤ
 eval vars here (Num z) = Some z
 eval vars here (Name x) = number_in (value_of vars x)
@@ -124,11 +124,6 @@ is_dead _ = false
 -- `catch` catches every list, `catch dead` those in which every fault tells a death
 abbrev pub catches : Bool → List Fault → Bool
 catches dead_only faults = cond dead_only (list_all is_dead faults) true
-
--- raised F, or none where it is not
-abbrev pub raised : Term → Option (List Fault)
-raised (Raise faults) = Some faults
-raised _ = None
 
 -- one fault is raised
 abbrev pub raise : Fault → Term

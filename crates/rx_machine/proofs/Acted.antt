@@ -66,6 +66,7 @@ pub shared : {L : Type 0} (stands : L → Tree → Type 0) (shape : Shape) (code
 shared stands shape code U m m' k i here p q S Z j seat G act h pick gone fits may went slots =
     let same = sym (tree-after U G seat.row.number here q Z j act) in
     record {
+      on = h.on;
       comes = turns h.comes pick.stands (turned shape U k i here p q S Z j seat G act pick gone fits may);
       places = h.places ∙ sym went.places;
       setup = ap given went.setup ∙ h.setup;

@@ -51,13 +51,13 @@ due-so q n es d (k ∷ ks) due h =
     let so : DueSo q es k.place = record { inside = h.0; not_zero = h.1; lives = h.2 } in subst (λ (p : PlaceId). DueSo q es p) due.0 so
 
 -- the deaths of a tree are older than the next entry
-older-from : (n : ℕ) (T : Tree) (es : List Entry) → All (IsOlder n) T.dead → All (IsOlder (n + length es)) (fold_from n T es).dead
+pub older-from : (n : ℕ) (T : Tree) (es : List Entry) → All (IsOlder n) T.dead → All (IsOlder (n + length es)) (fold_from n T es).dead
 older-from n T [] o = let e : n ≡ n + 0 = omega arith in subst (λ (m : ℕ). All (IsOlder m) T.dead) e o
 older-from n T (x ∷ es) o =
     let e : suc n + length es ≡ n + length (x ∷ es) = omega arith in
     subst (λ (m : ℕ). All (IsOlder m) (fold_from (suc n) (made n T x) es).dead) e (older-from (suc n) (made n T x) es (dead-now n T x o))
 
-still_open : (es : List Entry) (d : PlaceId) → NoRoot es → NoRoot (es ++ Death d ∷ [])
+pub still_open : (es : List Entry) (d : PlaceId) → NoRoot es → NoRoot (es ++ Death d ∷ [])
 still_open [] d h = tt
 still_open (Step t act batch ∷ es) d h = still_open es d h
 still_open (Root lost thrown ∷ es) d h = h
@@ -119,13 +119,13 @@ pub record Fell {L : Type 0} (stands : L → Tree → Type 0) (m m' : Machine L)
 
 module _ {L : Type 0} (stands : L → Tree → Type 0) (shape : Shape) (code : Block) (U : Given) (m : Machine L) (d : PlaceId) (G : Game) (come : GamesCome) (t : Dying stands shape code U m d G) where
   came : CameTo code U G
-  came = come code U G t.on.proper t.can.holds.shares.comes t.can.unreleased
+  came = come code U G t.can.holds.shares.on.proper t.can.holds.shares.comes t.can.unreleased
 
   due : DueSo U.places G.entries d
   due = due-so U.places (length G.entries) G.entries d G.kills t.due came.ok.kills
 
   few : U.places ≤ 16
-  few = t.on.proper.few
+  few = t.can.holds.shares.on.proper.few
 
   pub may-strike : MayStrike (tree_in U G) d (length G.entries)
   may-strike =
@@ -146,7 +146,7 @@ module _ {L : Type 0} (stands : L → Tree → Type 0) (shape : Shape) (code : B
   entries-few =
       let entries : length G.entries ≤ 4 * work code + U.places = came.entries in
       let most : U.places ≤ 16 = few in
-      let small : work code ≤ 100000 = t.on.few in omega (arith, entries, most, small)
+      let small : work code ≤ 100000 = t.can.holds.shares.on.few in omega (arith, entries, most, small)
 
   pub store-open : (s : Kept) × IsOpen (length G.entries) d U.heap m.stores.items (journal_at G.journals d.0) s
   store-open =
@@ -185,6 +185,7 @@ module _ {L : Type 0} (stands : L → Tree → Type 0) (shape : Shape) (code : B
         (
           record {
             shares = record {
+              on = h.shares.on;
               comes = turns h.shares.comes t.can.unreleased turn;
               places = h.shares.places ∙ sym f.places;
               setup = ap given f.setup ∙ h.shares.setup;

@@ -99,6 +99,7 @@ ended stands shape code U m m' k i here q seat G fs a asks may went back =
       turn,
       record {
         shares = record {
+          on = h.on;
           comes = turns h.comes pick.stands turn;
           places = h.places ∙ sym went.places;
           setup = ap given went.setup ∙ h.setup;

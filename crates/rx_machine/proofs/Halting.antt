@@ -36,7 +36,6 @@ use Rattle.rx_control.specs.Next.{next_of}
 use Rattle.rx_machine.specs.declared.machine.Machine.{Machine}
 use Rattle.rx_machine.specs.declared.seat.Seat.{Seat}
 use Rattle.rx_machine.specs.Holds.{Seated, Acting, StoresAre}
-use Rattle.rx_machine.specs.Runs.{RunsOn}
 use Rattle.rx_machine.specs.Refusals.{BeginEach, HasBegun, HasTold}
 use Rattle.rx_machine.specs.Asked.{Asked}
 use Rattle.rx_machine.proofs.Called.{IsCall, StoreIs, call-told}
@@ -232,12 +231,12 @@ called-told stands shape code U m k i here q seat G op answer x old new mark ite
 -- A turn that was refused.
 
 -- it has told nothing
-pub refused-same : {L : Type 0} (stands : L → Tree → Type 0) (shape : Shape) (code : Block) (U : Given) (m m' : Machine L) (k : ℕ) (G : Game) → GoesOn → Seated stands shape code U m G → RunsOn code U → NoRoot G.entries → m'.history.entries ≡ m.history.entries → m'.stores ≡ m.stores → HasBegun U k G m'.history.entries (map (λ s. s.events) m'.stores.items)
-refused-same stands shape code U m m' k G law h on unreleased history stored =
-    begun-same code U k G m'.history.entries (map (λ (s : Kept). s.events) m'.stores.items) law on.proper h.shares.comes unreleased (history ∙ h.shares.entries)
+pub refused-same : {L : Type 0} (stands : L → Tree → Type 0) (shape : Shape) (code : Block) (U : Given) (m m' : Machine L) (k : ℕ) (G : Game) → GoesOn → Seated stands shape code U m G → NoRoot G.entries → m'.history.entries ≡ m.history.entries → m'.stores ≡ m.stores → HasBegun U k G m'.history.entries (map (λ s. s.events) m'.stores.items)
+refused-same stands shape code U m m' k G law h unreleased history stored =
+    begun-same code U k G m'.history.entries (map (λ (s : Kept). s.events) m'.stores.items) law h.shares.on.proper h.shares.comes unreleased (history ∙ h.shares.entries)
     (ap (λ v. map (λ (s : Kept). s.events) v.items) stored ∙ journals_are U.heap 0 m.stores.items G.journals h.stores)
 
 -- it has told a part
-pub refused-told : {L : Type 0} (stands : L → Tree → Type 0) (shape : Shape) (code : Block) (U : Given) (m m' : Machine L) (k : ℕ) (G : Game) → GoesOn → Seated stands shape code U m G → RunsOn code U → NoRoot G.entries → m'.history ≡ m.history → HasTold U k G m'.stores.items → HasBegun U k G m'.history.entries (map (λ s. s.events) m'.stores.items)
-refused-told stands shape code U m m' k G law h on unreleased history told =
-    begun-told code U k G m'.history.entries m'.stores.items law on.proper h.shares.comes unreleased (ap (λ l. l.entries) history ∙ h.shares.entries) told
+pub refused-told : {L : Type 0} (stands : L → Tree → Type 0) (shape : Shape) (code : Block) (U : Given) (m m' : Machine L) (k : ℕ) (G : Game) → GoesOn → Seated stands shape code U m G → NoRoot G.entries → m'.history ≡ m.history → HasTold U k G m'.stores.items → HasBegun U k G m'.history.entries (map (λ s. s.events) m'.stores.items)
+refused-told stands shape code U m m' k G law h unreleased history told =
+    begun-told code U k G m'.history.entries m'.stores.items law h.shares.on.proper h.shares.comes unreleased (ap (λ l. l.entries) history ∙ h.shares.entries) told

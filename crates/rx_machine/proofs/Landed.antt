@@ -1,5 +1,5 @@
 -- The turn of an arrival, and the root's release.
-use Rattle.std.specs.Prelude.{◌≡◌, ℕ, true, false, List, [], ◌∷◌, ◌++◌, length, reverse, Option, Some, slice_set, refl}
+use Rattle.std.specs.Prelude.{◌≡◌, ℕ, true, false, List, [], ◌∷◌, ◌++◌, length, filter, reverse, Option, Some, slice_set, refl}
 use Rattle.std.proofs.Common.{ap, ◌∙◌, sym, subst, inl, inr}
 use Rattle.std.proofs.lemmas.List.{length-set}
 use Rattle.rx_base.specs.declared.ids.PlaceId.{PlaceId}
@@ -15,13 +15,14 @@ use Rattle.rx_rules.specs.Code.{Block}
 use Rattle.rx_rules.specs.Tree.{Tree, the_root}
 use Rattle.rx_rules.specs.Entries.{AllowedAct, Allowed, made_act, without}
 use Rattle.rx_rules.specs.Run.{Given, NoRoot, EndsWithRoot}
-use Rattle.rx_rules.specs.Picked.{Game, Turn, arrives, root, turns, tree_in}
+use Rattle.rx_rules.specs.Picked.{Game, Turn, arrives, root, turns, is_enabled, enabled, tree_in}
 use Rattle.rx_trace.specs.Setups.{given}
 use Rattle.rx_store.specs.Kept.{Kept}
 use Rattle.rx_script.specs.Shape.{Shape}
 use Rattle.rx_control.specs.declared.control.Control.{Control}
 use Rattle.rx_control.specs.Stands.{StandsFor}
 use Rattle.rx_machine.specs.declared.machine.Machine.{Machine}
+use Rattle.rx_machine.specs.declared.ready.Ready.{Ready}
 use Rattle.rx_machine.specs.declared.seat.Seat.{Seat}
 use Rattle.rx_machine.specs.Slots.{live_task, SlotIs, IsSeat, seat_at}
 use Rattle.rx_machine.specs.Holds.{StoresAre, Seated, Landing, Finished, Releasing, Makes}
@@ -62,6 +63,7 @@ landed stands shape code U m m' k i to seat seat' G a may row scopes control bat
       turn,
       record {
         shares = record {
+          on = h.on;
           comes = turns h.comes a.pick.stands turn;
           places = h.places ∙ sym went.places;
           setup = ap given went.setup ∙ h.setup;
@@ -91,8 +93,12 @@ ends-with (Step t act b ∷ es) lost thrown h = ends-with es lost thrown h
 ends-with (Root l f ∷ es) lost thrown h = absurd h
 ends-with (Death d ∷ es) lost thrown h = ends-with es lost thrown h
 
-pub finished : {L : Type 0} (stands : L → Tree → Type 0) (shape : Shape) (code : Block) (U : Given) (m m' : Machine L) (k : ℕ) (G : Game) (lost : PlaceSet) (thrown : List Fault) → Releasing stands shape code U m G → NoRoot G.entries → Allowed (tree_in U G) (Root lost thrown) → m'.history.entries ≡ m.history.entries ++ Root lost thrown ∷ [] → m'.history.setup ≡ m.history.setup → m'.stores ≡ m.stores → stands m'.ledger (without (tree_in U G) the_root) → Makes (Turn U k G false) (Finished stands U m')
-finished stands shape code U m m' k G lost thrown a open_still may entries setup stores ledger =
+-- where no task is left none is enabled
+none-left : (T : Tree) → T.tasks ≡ [] → enabled T ≡ []
+none-left T e = ap (λ (xs : List Task). reverse (filter (is_enabled T) xs)) e
+
+pub finished : {L : Type 0} (stands : L → Tree → Type 0) (shape : Shape) (code : Block) (U : Given) (m m' : Machine L) (k : ℕ) (G : Game) (lost : PlaceSet) (thrown : List Fault) → Releasing stands shape code U m G → NoRoot G.entries → Allowed (tree_in U G) (Root lost thrown) → m'.history.entries ≡ m.history.entries ++ Root lost thrown ∷ [] → m'.history.setup ≡ m.history.setup → m'.stores ≡ m.stores → m'.ready ≡ m.ready → stands m'.ledger (without (tree_in U G) the_root) → Makes (Turn U k G false) (Finished stands U m')
+finished stands shape code U m m' k G lost thrown a open_still may entries setup stores ready ledger =
     let G' : Game = record G { entries = G.entries ++ Root lost thrown ∷ [] } in
     let h = a.holds.shares in
     let same : without (tree_in U G) the_root ≡ tree_in U G' = sym (tree-push U.places G.entries (Root lost thrown)) in (
@@ -104,5 +110,7 @@ finished stands shape code U m m' k G lost thrown a open_still may entries setup
         ledger = subst (λ (T : Tree). stands m'.ledger T) same ledger;
         stores = subst (λ (ss : List Kept). StoresAre U.heap 0 ss G.journals) (ap (λ v. v.items) (sym stores)) a.holds.stores;
         ended = ends-with G.entries lost thrown open_still;
+        none_enabled = subst (λ (T : Tree). enabled T ≡ []) same (none-left (without (tree_in U G) the_root) a.none_left);
+        none_ready = ap (λ (r : Ready). r.tasks.members) ready ∙ a.none_ready;
       },
     )

@@ -33,3 +33,4 @@ pub mod Turned
 pub mod Deaths
 pub mod Halting
 pub mod Noting
+pub mod Programs

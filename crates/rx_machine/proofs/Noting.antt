@@ -31,7 +31,7 @@ use Rattle.rx_machine.specs.Slots.{live_task, SlotIs, seat_at}
 use Rattle.rx_machine.specs.Picking.{slot_able, has, IsReady}
 use Rattle.rx_machine.specs.Origins.{TellsOrigins, origin_in, origin_by}
 use Rattle.rx_machine.specs.Holds.{Seated, Holds, CanTurn}
-use Rattle.rx_machine.specs.Runs.{HasMoved, HasDied, AfterTurn, WentOn, Taken, RunsOn}
+use Rattle.rx_machine.specs.Runs.{HasMoved, HasDied, AfterTurn, WentOn, Taken}
 use Rattle.rx_machine.proofs.Finding.{same_or_not, get_pushed}
 use Rattle.rx_machine.proofs.Live.{live_stands, live_number}
 use Rattle.rx_machine.proofs.Pushed.{tree-push}
@@ -45,6 +45,7 @@ pub seated-same : {L : Type 0} (stands : L → Tree → Type 0) (shape : Shape) 
 seated-same stands shape code U m r G a =
     record {
       shares = record {
+        on = a.shares.on;
         comes = a.shares.comes;
         places = a.shares.places;
         setup = a.shares.setup;
@@ -291,7 +292,7 @@ pub has-moved : {L : Type 0} (stands : L → Tree → Type 0) (shape : Shape) (c
 has-moved stands shape code U m m' k i under before G come fold t ready a same hung size =
     let slot = subst (λ (o : Option Seat). SlotIs shape (tree_in U G) G.players i o) t.at (t.can.holds.seats i) in
     record {
-      can = can-turn stands shape code U m' a.0 come fold a.2 t.on (stays_open U k G a.0 a.1 t.can.unreleased);
+      can = can-turn stands shape code U m' a.0 come fold a.2 (stays_open U k G a.0 a.1 t.can.unreleased);
       turn = a.1;
       reached = t.can.reached;
       mover = t.seat.row;
@@ -322,18 +323,16 @@ inside-still stands shape code U m m' k i G t a =
     omega (arith, least, old, new, inside)
 
 -- the turn was noted
-pub went-on : {L : Type 0} (stands : L → Tree → Type 0) (shape : Shape) (code : Block) (U : Given) (m m' : Machine L) (k i : ℕ) (under : ScopeId) (before : ℕ) (G H : Game) → HasMoved stands shape code U m k i under before G H → NoRoot G.entries → m' ≡ record m { ready = m'.ready } → IsReady (tree_in U H) m'.ready.tasks.members → TellsOrigins (tree_in U H) m'.ready.origins.items → WentOn stands shape code U m' k true G
-went-on {L = L} stands shape code U m m' k i under before G H h unreleased same ready told = (
+pub went-on : {L : Type 0} (stands : L → Tree → Type 0) (shape : Shape) (code : Block) (U : Given) (m m' : Machine L) (k i : ℕ) (under : ScopeId) (before : ℕ) (G H : Game) → HasMoved stands shape code U m k i under before G H → m' ≡ record m { ready = m'.ready } → IsReady (tree_in U H) m'.ready.tasks.members → TellsOrigins (tree_in U H) m'.ready.origins.items → WentOn stands shape code U m' k true G
+went-on {L = L} stands shape code U m m' k i under before G H h same ready told = (
   H,
   h.turn,
-  (
-    record {
-      seated = subst (λ (x : Machine L). Seated stands shape code U x H) (sym same) (seated-same stands shape code U m m'.ready H h.can.holds);
-      ready = ready;
-      origins = told;
-    },
-    stays_open U k G H h.turn unreleased,
-  ),
+  record {
+    seated = subst (λ (x : Machine L). Seated stands shape code U x H) (sym same) (seated-same stands shape code U m m'.ready H h.can.holds);
+    unreleased = h.can.unreleased;
+    ready = ready;
+    origins = told;
+  },
 )
 
 -- a turn without a pick opens no scope
@@ -348,24 +347,22 @@ pub died-on : {L : Type 0} (stands : L → Tree → Type 0) (shape : Shape) (cod
 died-on {L = L} stands shape code U m m' k G old sound reached a can ready same ascends noted others told = (
   a.0,
   a.1,
-  (
-    record {
-      seated = subst (λ (x : Machine L). Seated stands shape code U x a.0) (sym same) (seated-same stands shape code U m m'.ready a.0 a.2.0);
-      ready =
-          noted-all shape (tree_in U G) (tree_in U a.0) a.0.players m.seats.items old m'.ready.tasks.members
-          (sound (tree_in U G) reached) (sound (tree_in U a.0) can.reached) (turn-grows U k false G a.0 a.1) a.2.0.shares.slots a.2.0.seats ready ascends noted others;
-      origins = turn-tells U k G a.0 m'.ready.origins.items a.1 told;
-    },
-    a.2.1,
-  ),
+  record {
+    seated = subst (λ (x : Machine L). Seated stands shape code U x a.0) (sym same) (seated-same stands shape code U m m'.ready a.0 a.2.0);
+    unreleased = a.2.1;
+    ready =
+        noted-all shape (tree_in U G) (tree_in U a.0) a.0.players m.seats.items old m'.ready.tasks.members
+        (sound (tree_in U G) reached) (sound (tree_in U a.0) can.reached) (turn-grows U k false G a.0 a.1) a.2.0.shares.slots a.2.0.seats ready ascends noted others;
+    origins = turn-tells U k G a.0 m'.ready.origins.items a.1 told;
+  },
 )
 
 -- a turn can be made where there is more room
-pub roomy-can : {L : Type 0} (stands : L → Tree → Type 0) (shape : Shape) (code : Block) (U : Given) (m m' : Machine L) (G : Game) → GamesCome → FoldReached → m' ≡ record m { history = m'.history; ready = m'.ready } → (m'.history.entries ≡ m.history.entries) × (m'.history.setup ≡ m.history.setup) → Holds stands shape code U m G → RunsOn code U → NoRoot G.entries → CanTurn stands shape code U m' G
-roomy-can {L = L} stands shape code U m m' G come fold same told h on unreleased =
+pub roomy-can : {L : Type 0} (stands : L → Tree → Type 0) (shape : Shape) (code : Block) (U : Given) (m m' : Machine L) (G : Game) → GamesCome → FoldReached → m' ≡ record m { history = m'.history; ready = m'.ready } → (m'.history.entries ≡ m.history.entries) × (m'.history.setup ≡ m.history.setup) → Holds stands shape code U m G → CanTurn stands shape code U m' G
+roomy-can {L = L} stands shape code U m m' G come fold same told h =
     subst (λ (x : Machine L). CanTurn stands shape code U x G) (sym same)
     (can-same stands shape code U (record m { history = m'.history }) m'.ready G
-    (can-turn stands shape code U (record m { history = m'.history }) G come fold (roomier stands shape code U m m'.history G told.0 told.1 h.seated) on unreleased))
+    (can-turn stands shape code U (record m { history = m'.history }) G come fold (roomier stands shape code U m m'.history G told.0 told.1 h.seated) h.unreleased))
 
 -- The last entry.
 

@@ -23,7 +23,7 @@ use Rattle.rx_sound.specs.Enabling.{able_in}
 use Rattle.rx_machine.specs.Picking.{IsReady}
 use Rattle.rx_machine.specs.Origins.{TellsOrigins}
 use Rattle.rx_machine.specs.declared.ready.Origin.{Origin}
-use Rattle.rx_machine.specs.Holds.{StoresAre, Seated}
+use Rattle.rx_machine.specs.Holds.{RunsOn, StoresAre, Seated}
 use Rattle.rx_machine.proofs.Holding.{unheld-front, unheld-items}
 use Rattle.rx_machine.proofs.Openers.{tells_root}
 use Rattle.rx_machine.proofs.Spines.{flat-spine, flat-items}
@@ -69,10 +69,11 @@ opens-seats shape code U seat (suc n) row scopes batch term vars =
     ap (λ (b : Bool). live_in (cond b (Some root_row) None)) other
 
 -- the machine stands for the game before the first turn
-pub opens-so : {L : Type 0} (stands : L → Tree → Type 0) (shape : Shape) (code : Block) (U : Given) (m : Machine L) (seat : Seat) → U.places ≡ m.places → given m.history.setup ≡ U → m.history.entries ≡ [] → m.kills ≡ U.kills → m.failed ≡ false → stands m.ledger (opening U.places) → StoresAre U.heap 0 m.stores.items (replicate U.places []) → m.seats.items ≡ Some seat ∷ [] → seat.row ≡ root_row → seat.scopes.items ≡ [] → seat.batch ≡ [] → StandsFor shape seat.control (items code [] Empty) → seat.control.vars ≡ no_vars → Seated stands shape code U m (start_game code U)
-opens-so stands shape code U m seat places setup entries kills failed ledger stores seats row scopes batch term vars =
+pub opens-so : {L : Type 0} (stands : L → Tree → Type 0) (shape : Shape) (code : Block) (U : Given) (m : Machine L) (seat : Seat) → RunsOn code U → U.places ≡ m.places → given m.history.setup ≡ U → m.history.entries ≡ [] → m.kills ≡ U.kills → m.failed ≡ false → stands m.ledger (opening U.places) → StoresAre U.heap 0 m.stores.items (replicate U.places []) → m.seats.items ≡ Some seat ∷ [] → seat.row ≡ root_row → seat.scopes.items ≡ [] → seat.batch ≡ [] → StandsFor shape seat.control (items code [] Empty) → seat.control.vars ≡ no_vars → Seated stands shape code U m (start_game code U)
+opens-so stands shape code U m seat on places setup entries kills failed ledger stores seats row scopes batch term vars =
     record {
       shares = record {
+        on = on;
         comes = Comes.opens;
         places = places;
         setup = setup;

@@ -179,3 +179,7 @@ on_err (Err e) f h = f h
 pub any_err : {A E P : Type 0} (r : Result A E) → P → OnErr r P
 any_err (Ok x) h = tt
 any_err (Err e) h = h
+
+pub on_errs : {A E P Q R : Type 0} (r : Result A E) → (P → Q → R) → OnErr r P → OnErr r Q → OnErr r R
+on_errs (Ok x) f h k = h
+on_errs (Err e) f h k = f h k

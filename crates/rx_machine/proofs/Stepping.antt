@@ -51,6 +51,7 @@ goes-stores cell x a (stores c y d t e m g) told b may = stores c y d t e m (goe
 pub shares-on : {L : Type 0} (stands : L → Tree → Type 0) (code : Block) (U : Given) (m m' : Machine L) (G : Game) → Shares stands code U m G → OnlyStores m m' → Shares stands code U m' G
 shares-on stands code U m m' G h o =
     record {
+      on = h.on;
       comes = h.comes;
       places = h.places ∙ sym o.places;
       setup = ap (λ l. given l.setup) o.history ∙ h.setup;

@@ -56,6 +56,7 @@ holds-but {L = L} stands shape code U m m' i G h inside e =
     let s = h.shares in
     record {
       shares = record {
+        on = s.on;
         comes = s.comes;
         places = s.places ∙ sym (ap (λ (x : Machine L). x.places) e.same);
         setup = ap (λ (x : Machine L). given x.history.setup) e.same ∙ s.setup;
@@ -97,7 +98,7 @@ pub acts : {L : Type 0} (stands : L → Tree → Type 0) (shape : Shape) (code :
 acts stands shape code U m m' k i here seat G come sound t at e is_at =
     let T = tree_in U G in
     let f = found stands shape code U m k i seat G t at in
-    let came : CameTo code U G = come code U G t.on.proper t.can.holds.shares.comes t.can.unreleased in
+    let came : CameTo code U G = come code U G t.can.holds.shares.on.proper t.can.holds.shares.comes t.can.unreleased in
     let row = live_stands T i seat.row f.seat_is.row in
     let fits = fits_of T (record { 0 = i }) seat.row (sound T t.can.reached) row.0 in
     let place : here.0 < U.places = subst (λ (n : ℕ). here.0 < n) came.ok.ties.same (subst (λ (w : Where). Inside T.places w) is_at fits.inside) in

@@ -2,6 +2,7 @@
 use Rattle.std.specs.Prelude.{length, ◌≡◌, ℕ, suc, ◌+◌, ◌*◌, ◌≤◌, Bool, true, false, List, [], ◌∷◌, ◌++◌, map, reverse, refl}
 use Rattle.std.proofs.Common.{ap, ◌∙◌, sym, subst, arith}
 use Rattle.std.proofs.lemmas.List.{reverse-append, map-append, append_assoc, append-nil}
+use Rattle.std.proofs.Common.{length-append}
 use Rattle.rx_base.specs.declared.ids.TaskId.{TaskId}
 use Rattle.rx_rules.specs.declared.entries.Act.{Act}
 use Rattle.rx_rules.specs.declared.entries.Act.TheVariants.{Arrive, End}
@@ -10,10 +11,9 @@ use Rattle.rx_rules.specs.declared.entries.Entry.TheVariants.{Step, Root, Death}
 use Rattle.rx_rules.specs.declared.events.PlaceEvent.{PlaceEvent}
 use Rattle.rx_rules.specs.Code.{Block, work}
 use Rattle.rx_rules.specs.Tree.{Tree}
-use Rattle.rx_rules.specs.Fold.{tree_of}
 use Rattle.rx_rules.specs.Run.{Given, NoRoot}
-use Rattle.rx_rules.specs.Picked.{Game, Turn, dies, arrives, moves, ends, root, Turns, none, more, start_game, tree_in, used_after}
-use Rattle.rx_runs.specs.Bounds.{TurnsBounded}
+use Rattle.rx_rules.specs.Picked.{Game, Turn, dies, arrives, moves, ends, root, Turns, none, more, IsPicked, start_game, tree_in, used_after}
+use Rattle.rx_runs.specs.Coming.{GamesCome}
 use Rattle.rx_trace.specs.Logs.{Log}
 use Rattle.rx_trace.specs.Events.{Events, AllEvents, events_of}
 use Rattle.rx_trace.specs.Setups.{given}
@@ -21,7 +21,7 @@ use Rattle.rx_store.specs.Kept.{Kept}
 use Rattle.rx_script.specs.Shape.{Shape}
 use Rattle.rx_machine.specs.declared.machine.Machine.{Machine}
 use Rattle.rx_machine.specs.Holds.{Holds, StoresAre, Finished, Makes}
-use Rattle.rx_machine.specs.Runs.{RunsOn, WentOn, picks_in, HasRun, Gives}
+use Rattle.rx_machine.specs.Runs.{WentOn, picks_in, RanFrom, Gives}
 
 -- Turns that move tasks.
 
@@ -37,54 +37,79 @@ stays_open U k G G' (arrives x p none_due pick may) h = step_push G.entries (Ste
 stays_open U k G G' (moves x here p q S Z j act none_due pick at player store goes fits may) h = step_push G.entries (Step x.number act q.batch) h tt
 stays_open U k G G' (ends x here p q S Z j f none_due pick at player store goes done may) h = step_push G.entries (Step x.number (End f) q.batch) h tt
 
-pick-more : (es : List Entry) (t : TaskId) (act : Act) (batch : List (List ℕ)) → picks_in (es ++ Step t act batch ∷ []) ≡ suc (picks_in es)
+-- The picks that turns use.
+
+pub pick-more : (es : List Entry) (t : TaskId) (act : Act) (batch : List (List ℕ)) → picks_in (es ++ Step t act batch ∷ []) ≡ suc (picks_in es)
 pick-more [] t act batch = refl
 pick-more (Step u a b ∷ es) t act batch = ap suc (pick-more es t act batch)
 pick-more (Root lost thrown ∷ es) t act batch = pick-more es t act batch
 pick-more (Death d ∷ es) t act batch = pick-more es t act batch
 
-no-pick-more : (es : List Entry) (e : Entry) → picks_in (e ∷ []) ≡ 0 → picks_in (es ++ e ∷ []) ≡ picks_in es
+pub no-pick-more : (es : List Entry) (e : Entry) → picks_in (e ∷ []) ≡ 0 → picks_in (es ++ e ∷ []) ≡ picks_in es
 no-pick-more [] e h = h
 no-pick-more (Step t act batch ∷ es) e h = ap suc (no-pick-more es e h)
 no-pick-more (Root lost thrown ∷ es) e h = no-pick-more es e h
 no-pick-more (Death d ∷ es) e h = no-pick-more es e h
 
--- a turn uses a pick exactly where it tells a task's entry
-turn-uses : (U : Given) (k : ℕ) (G G' : Game) (used : Bool) → Turn U k G used G' → picks_in G'.entries ≡ used_after used (picks_in G.entries)
-turn-uses U k G G' false (dies d due) = no-pick-more G.entries (Death d) refl
-turn-uses U k G G' true (arrives x p none_due pick may) = pick-more G.entries x.number (Arrive p) []
-turn-uses U k G G' true (moves x here p q S Z j act none_due pick at player store goes fits may) = pick-more G.entries x.number act q.batch
-turn-uses U k G G' true (ends x here p q S Z j f none_due pick at player store goes done may) = pick-more G.entries x.number (End f) q.batch
-turn-uses U k G G' false (root lost thrown none_due none_enabled may) = no-pick-more G.entries (Root lost thrown) refl
+-- a turn adds one entry, and uses a pick exactly where that is a task's
+pub record AddsEntry (used : Bool) (G G' : Game) : Type 0 where
+  pub entry : Entry
+  pub entries : G'.entries ≡ G.entries ++ entry ∷ []
+  pub uses : (es : List Entry) → picks_in (es ++ entry ∷ []) ≡ used_after used (picks_in es)
 
--- after i turns, of which j used a pick, the machine stands for a game in which the root stands
-pub record RunTo {L : Type 0} (stands : L → Tree → Type 0) (shape : Shape) (code : Block) (U : Given) (picks : ℕ → ℕ) (m : Machine L) (i j : ℕ) : Type 0 where
+pub turn-adds : (U : Given) (k : ℕ) (G G' : Game) (used : Bool) → Turn U k G used G' → AddsEntry used G G'
+turn-adds U k G G' false (dies d due) = record { entry = Death d; entries = refl; uses = λ es. no-pick-more es (Death d) refl }
+turn-adds U k G G' true (arrives x p none_due pick may) = record { entry = Step x.number (Arrive p) []; entries = refl; uses = λ es. pick-more es x.number (Arrive p) [] }
+turn-adds U k G G' true (moves x here p q S Z j act none_due pick at player store goes fits may) = record { entry = Step x.number act q.batch; entries = refl; uses = λ es. pick-more es x.number act q.batch }
+turn-adds U k G G' true (ends x here p q S Z j f none_due pick at player store goes done may) = record { entry = Step x.number (End f) q.batch; entries = refl; uses = λ es. pick-more es x.number (End f) q.batch }
+turn-adds U k G G' false (root lost thrown none_due none_enabled may) = record { entry = Root lost thrown; entries = refl; uses = λ es. no-pick-more es (Root lost thrown) refl }
+
+pub turn-uses : (U : Given) (k : ℕ) (G G' : Game) (used : Bool) → Turn U k G used G' → picks_in G'.entries ≡ used_after used (picks_in G.entries)
+turn-uses U k G G' used t = let a = turn-adds U k G G' used t in ap picks_in a.entries ∙ a.uses G.entries
+
+-- Turns from a game on.
+
+-- after i turns from a game on, of which j used a pick, the machine stands for a game
+pub record RunTo {L : Type 0} (stands : L → Tree → Type 0) (shape : Shape) (code : Block) (U : Given) (picks : ℕ → ℕ) (G : Game) (m : Machine L) (i j : ℕ) : Type 0 where
   pub game : Game
   pub holds : Holds stands shape code U m game
-  pub unreleased : NoRoot game.entries
-  pub used : j ≡ picks_in game.entries
-  pub made : (n : ℕ) (G : Game) → Turns U picks n j game G → Turns U picks (i + n) 0 (start_game code U) G
+  pub added : List Entry
+  pub adds : game.entries ≡ G.entries ++ added
+  pub size : length added ≡ i
+  pub used : j ≡ picks_in added
+  pub made : (n : ℕ) (G' : Game) → Turns U picks n j game G' → Turns U picks (i + n) 0 G G'
 
-pub run-begins : {L : Type 0} (stands : L → Tree → Type 0) (shape : Shape) (code : Block) (U : Given) (picks : ℕ → ℕ) (m : Machine L) → Holds stands shape code U m (start_game code U) → RunTo stands shape code U picks m 0 0
-run-begins stands shape code U picks m h =
+pub run-begins : {L : Type 0} (stands : L → Tree → Type 0) (shape : Shape) (code : Block) (U : Given) (picks : ℕ → ℕ) (G : Game) (m : Machine L) → Holds stands shape code U m G → RunTo stands shape code U picks G m 0 0
+run-begins stands shape code U picks G m h =
     record {
-      game = start_game code U;
+      game = G;
       holds = h;
-      unreleased = tt;
+      added = [];
+      adds = sym (append-nil G.entries);
+      size = refl;
       used = refl;
-      made = λ n G ts. (let e : n ≡ 0 + n = omega arith in subst (λ x. Turns U picks x 0 (start_game code U) G) e ts);
+      made = λ n G' ts. (let e : n ≡ 0 + n = omega arith in subst (λ x. Turns U picks x 0 G G') e ts);
     }
 
-pub run-goes : {L : Type 0} (stands : L → Tree → Type 0) (shape : Shape) (code : Block) (U : Given) (picks : ℕ → ℕ) (m m' : Machine L) (i j k : ℕ) (used : Bool) → (r : RunTo stands shape code U picks m i j) → k ≡ picks j → WentOn stands shape code U m' k used r.game → RunTo stands shape code U picks m' (i + 1) (used_after used j)
-run-goes stands shape code U picks m m' i j k used r e a =
+added-more : (es fs added : List Entry) (e : Entry) (gs : List Entry) → gs ≡ fs ++ e ∷ [] → fs ≡ es ++ added → gs ≡ es ++ (added ++ e ∷ [])
+added-more es fs added e gs grown adds = grown ∙ (ap (λ xs. xs ++ e ∷ []) adds ∙ append_assoc es added (e ∷ []))
+
+size-more : (added : List Entry) (e : Entry) (i : ℕ) → length added ≡ i → length (added ++ e ∷ []) ≡ i + 1
+size-more added e i h = let one : length (e ∷ []) ≡ 1 = refl in omega (arith, length-append added (e ∷ []), h, one)
+
+pub run-goes : {L : Type 0} (stands : L → Tree → Type 0) (shape : Shape) (code : Block) (U : Given) (picks : ℕ → ℕ) (G : Game) (m m' : Machine L) (i j k : ℕ) (used : Bool) → (r : RunTo stands shape code U picks G m i j) → k ≡ picks j → WentOn stands shape code U m' k used r.game → RunTo stands shape code U picks G m' (i + 1) (used_after used j)
+run-goes stands shape code U picks G m m' i j k used r e a =
+    let more_one = turn-adds U k r.game a.0 used a.1 in
     record {
       game = a.0;
-      holds = a.2.0;
-      unreleased = a.2.1;
-      used = ap (used_after used) r.used ∙ sym (turn-uses U k r.game a.0 used a.1);
-      made = λ n G ts. (let z : i + suc n ≡ i + 1 + n = omega arith in
+      holds = a.2;
+      added = r.added ++ more_one.entry ∷ [];
+      adds = added-more G.entries r.game.entries r.added more_one.entry a.0.entries more_one.entries r.adds;
+      size = size-more r.added more_one.entry i r.size;
+      used = ap (used_after used) r.used ∙ sym (more_one.uses r.added);
+      made = λ n G' ts. (let z : i + suc n ≡ i + 1 + n = omega arith in
           let t : Turn U (picks j) r.game used a.0 = subst (λ x. Turn U x r.game used a.0) e a.1 in
-          subst (λ x. Turns U picks x 0 (start_game code U) G) z (r.made (suc n) G (more r.unreleased t ts)));
+          subst (λ x. Turns U picks x 0 G G') z (r.made (suc n) G' (more r.holds.unreleased t ts)));
     }
 
 -- the picks that are left after a turn
@@ -92,12 +117,19 @@ pub picks-left : (picks old new : ℕ → ℕ) (j : ℕ) (used : Bool) → ((n :
 picks-left picks old new j true were are n = let e : j + suc n ≡ suc j + n = omega arith in are n ∙ (were (suc n) ∙ ap picks e)
 picks-left picks old new j false were are n = are n ∙ were n
 
+-- its turns and the entries before them are few
+run-few : {L : Type 0} (stands : L → Tree → Type 0) (shape : Shape) (code : Block) (U : Given) (picks : ℕ → ℕ) (G : Game) (m : Machine L) (i j : ℕ) → GamesCome → (r : RunTo stands shape code U picks G m i j) → length G.entries + i ≤ 4 * work code + U.places
+run-few stands shape code U picks G m i j come r =
+    let s = r.holds.seated.shares in
+    let most : length r.game.entries ≤ 4 * work code + U.places = (come code U r.game s.on.proper s.comes r.holds.unreleased).entries in
+    omega (arith, most, r.size, ap (λ es. length es) r.adds, length-append G.entries r.added)
+
 -- no run makes so many turns
-pub run-stops : {L : Type 0} (stands : L → Tree → Type 0) (shape : Shape) (code : Block) (U : Given) (picks : ℕ → ℕ) (m : Machine L) (i j : ℕ) → TurnsBounded → RunsOn code U → RunTo stands shape code U picks m i j → i ≤ 400040
-run-stops stands shape code U picks m i j law on r =
-    let most : i + 0 ≤ 4 * work code + 2 * U.places + 8 = law code U picks (i + 0) r.game on.proper (r.made 0 r.game none) in
-    let few : work code ≤ 100000 = on.few in
-    let places : U.places ≤ 16 = on.proper.few in
+pub run-stops : {L : Type 0} (stands : L → Tree → Type 0) (shape : Shape) (code : Block) (U : Given) (picks : ℕ → ℕ) (G : Game) (m : Machine L) (i j : ℕ) → GamesCome → RunTo stands shape code U picks G m i j → i ≤ 400040
+run-stops stands shape code U picks G m i j come r =
+    let most = run-few stands shape code U picks G m i j come r in
+    let few : work code ≤ 100000 = r.holds.seated.shares.on.few in
+    let places : U.places ≤ 16 = r.holds.seated.shares.on.proper.few in
     omega (arith, most, few, places)
 
 -- The end.
@@ -127,18 +159,28 @@ gives-finished stands U m G r history events ledger f =
       ledger = subst (λ x. stands x (tree_in U G)) (sym ledger) f.ledger;
     }
 
-pub run-ends : {L : Type 0} (stands : L → Tree → Type 0) (shape : Shape) (code : Block) (U : Given) (picks : ℕ → ℕ) (m m' : Machine L) (i j k : ℕ) (left : ℕ → ℕ) → TurnsBounded → RunsOn code U → (r : RunTo stands shape code U picks m i j) → k ≡ picks j → ((n : ℕ) → left n ≡ picks (j + n)) → (a : Makes (Turn U k r.game false) (Finished stands U m')) → (parts : Log × AllEvents × L) → Gives stands U a.0 parts → HasRun code U picks left stands parts
-run-ends stands shape code U picks m m' i j k left law on r e are a parts gives =
+pub run-ends : {L : Type 0} (stands : L → Tree → Type 0) (shape : Shape) (code : Block) (U : Given) (picks : ℕ → ℕ) (G : Game) (m m' : Machine L) (i j k : ℕ) (left : ℕ → ℕ) → GamesCome → (r : RunTo stands shape code U picks G m i j) → k ≡ picks j → ((n : ℕ) → left n ≡ picks (j + n)) → (a : Makes (Turn U k r.game false) (Finished stands U m')) → (parts : Log × AllEvents × L) → Gives stands U a.0 parts → RanFrom stands code U picks left G parts
+run-ends stands shape code U picks G m m' i j k left come r e are a parts gives =
     let t : Turn U (picks j) r.game false a.0 = subst (λ x. Turn U x r.game false a.0) e a.1 in
-    let made = r.made 1 a.0 (more r.unreleased t none) in
-    let used : j ≡ picks_in parts.0.entries = r.used ∙ (sym (turn-uses U k r.game a.0 false a.1) ∙ ap picks_in (sym gives.entries)) in
+    let last = turn-adds U k r.game a.0 false a.1 in
+    let used : j ≡ picks_in (r.added ++ last.entry ∷ []) = r.used ∙ sym (last.uses r.added) in
+    let most = run-few stands shape code U picks G m i j come r in
     record {
-      picked = record { turns = i + 1; game = a.0; made = made; ended = a.2.ended; entries = gives.entries; journals = gives.journals };
-      few = law code U picks (i + 1) a.0 on.proper made;
+      turns = i + 1;
+      game = a.0;
+      made = r.made 1 a.0 (more r.holds.unreleased t none);
+      ended = a.2.ended;
+      gives = gives;
+      added = r.added ++ last.entry ∷ [];
+      adds = added-more G.entries r.game.entries r.added last.entry a.0.entries last.entries r.adds;
       used = λ n. are n ∙ ap (λ x. picks (x + n)) used;
-      setup = gives.setup;
-      ledger = subst (λ es. stands parts.2 (tree_of U.places es)) (sym gives.entries) gives.ledger;
+      few = omega (arith, most);
     }
+
+-- from the game before the first turn they are the picked run
+pub run-picked : {L : Type 0} (stands : L → Tree → Type 0) (code : Block) (U : Given) (picks left : ℕ → ℕ) (parts : Log × AllEvents × L) → RanFrom stands code U picks left (start_game code U) parts → IsPicked code U picks parts.0.entries (events_of parts.1)
+run-picked stands code U picks left parts r =
+    record { turns = r.turns; game = r.game; made = r.made; ended = r.ended; entries = r.gives.entries; journals = r.gives.journals }
 
 -- One journal more.
 

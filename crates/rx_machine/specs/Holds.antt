@@ -1,15 +1,17 @@
 -- A machine stands for a game that turns have made.
-use Rattle.std.specs.Prelude.{◌≡◌, ◌≢◌, ℕ, suc, ◌<◌, ◌%◌, true, false, List, [], ◌∷◌, slice_set, length, Some, None, slice_get}
+use Rattle.std.specs.Prelude.{◌≡◌, ◌≢◌, ℕ, suc, ◌<◌, ◌≤◌, ◌%◌, true, false, List, [], ◌∷◌, slice_set, length, Some, None, slice_get}
 use Rattle.rx_base.specs.declared.ids.PlaceId.{PlaceId}
 use Rattle.rx_rules.specs.declared.tasks.Where.TheVariants.{At, Travel}
 use Rattle.rx_rules.specs.declared.events.PlaceEvent.{PlaceEvent}
-use Rattle.rx_rules.specs.Code.{Block}
+use Rattle.rx_rules.specs.Code.{Block, work}
 use Rattle.rx_rules.specs.Tree.{Tree, quiet, the_root}
+use Rattle.rx_rules.specs.Entries.{without}
 use Rattle.rx_rules.specs.Store.{State}
 use Rattle.rx_rules.specs.Plays.{journal_at}
 use Rattle.rx_rules.specs.Reached.{Reached}
-use Rattle.rx_rules.specs.Run.{Given, NoRoot, NoneDue, EndsWithRoot}
+use Rattle.rx_rules.specs.Run.{Given, Proper, NoRoot, NoneDue, EndsWithRoot}
 use Rattle.rx_rules.specs.Picked.{Game, Player, Goes, Comes, tree_in, enabled}
+use Rattle.rx_runs.specs.SomeWords.{MakesSome}
 use Rattle.rx_trace.specs.Setups.{given}
 use Rattle.rx_store.specs.Kept.{Kept}
 use Rattle.rx_script.specs.Shape.{Shape}
@@ -20,6 +22,12 @@ use Rattle.rx_machine.specs.Slots.{SlotIs, IsSeat, seat_at}
 use Rattle.rx_machine.specs.Picking.{IsReady}
 use Rattle.rx_machine.specs.Origins.{TellsOrigins}
 
+-- a script and a setup for which a machine runs on: a checked script and a proper setup
+pub record RunsOn (code : Block) (U : Given) : Type 0 where
+  pub proper : Proper U
+  pub few : work code ≤ 100000
+  pub makes : MakesSome code
+
 -- the stores of places p, p + 1, ..: each with its place, so many words, and its journal
 abbrev pub StoresAre : ℕ → ℕ → List Kept → List (List PlaceEvent) → Type 0
 StoresAre heap p [] [] = Unit {0}
@@ -29,6 +37,7 @@ StoresAre heap p (s ∷ ss) [] = ⊥
 
 -- what a machine and a game share beside the seats: `stands` says for which trees a ledger stands
 pub record Shares {L : Type 0} (stands : L → Tree → Type 0) (code : Block) (U : Given) (m : Machine L) (G : Game) : Type 0 where
+  pub on : RunsOn code U
   pub comes : Comes code U G
   pub places : U.places ≡ m.places
   pub setup : given m.history.setup ≡ U
@@ -44,9 +53,10 @@ pub record Seated {L : Type 0} (stands : L → Tree → Type 0) (shape : Shape) 
   pub stores : StoresAre U.heap 0 m.stores.items G.journals
   pub seats : (n : ℕ) → SlotIs shape (tree_in U G) G.players n (seat_at m.seats.items n)
 
--- the machine stands for the game
+-- the machine stands for the game, in which the root stands
 pub record Holds {L : Type 0} (stands : L → Tree → Type 0) (shape : Shape) (code : Block) (U : Given) (m : Machine L) (G : Game) : Type 0 where
   pub seated : Seated stands shape code U m G
+  pub unreleased : NoRoot G.entries
   pub ready : IsReady (tree_in U G) m.ready.tasks.members
   pub origins : TellsOrigins (tree_in U G) m.ready.origins.items
 
@@ -111,8 +121,11 @@ pub record Finished {L : Type 0} (stands : L → Tree → Type 0) (U : Given) (m
   pub ledger : stands m.ledger (tree_in U G)
   pub stores : StoresAre U.heap 0 m.stores.items G.journals
   pub ended : EndsWithRoot G.entries
+  -- no task is enabled, and none is told as enabled
+  pub none_enabled : enabled (tree_in U G) ≡ []
+  pub none_ready : m.ready.tasks.members ≡ []
 
--- no task is enabled, and the root may be released
+-- no task is enabled, and the root may be released, which leaves no task
 pub record Releasing {L : Type 0} (stands : L → Tree → Type 0) (shape : Shape) (code : Block) (U : Given) (m : Machine L) (G : Game) : Type 0 where
   pub holds : Seated stands shape code U m G
   pub unreleased : NoRoot G.entries
@@ -120,6 +133,8 @@ pub record Releasing {L : Type 0} (stands : L → Tree → Type 0) (shape : Shap
   pub none_enabled : enabled (tree_in U G) ≡ []
   pub is_quiet : quiet (tree_in U G) the_root ≡ true
   pub root : HasRoot (tree_in U G)
+  pub none_ready : m.ready.tasks.members ≡ []
+  pub none_left : (without (tree_in U G) the_root).tasks ≡ []
 
 -- the machine stands for a game in which the root stands, and what holds of such a game
 pub record CanTurn {L : Type 0} (stands : L → Tree → Type 0) (shape : Shape) (code : Block) (U : Given) (m : Machine L) (G : Game) : Type 0 where

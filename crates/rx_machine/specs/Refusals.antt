@@ -1,5 +1,5 @@
 -- What a refused turn leaves: a beginning of what the turn tells.
-use Rattle.std.specs.Prelude.{◌≡◌, ℕ, ◌%◌, Bool, List, [], ◌∷◌, length, Some, slice_get, slice_set}
+use Rattle.std.specs.Prelude.{◌≡◌, ℕ, ◌%◌, Bool, List, [], ◌∷◌, map, length, Some, slice_get, slice_set}
 use mathlib.Core.List.{IsPrefix}
 use Rattle.rx_base.specs.declared.ids.PlaceId.{PlaceId}
 use Rattle.rx_rules.specs.declared.tasks.Task.{Task}
@@ -49,6 +49,12 @@ pub record HasTold (U : Given) (k : ℕ) (G : Game) (items : List Kept) : Type 0
   pub found : slice_get G.stores here.0 ≡ Some store
   pub goes : Goes U.places U.heap (length G.entries) task.number here began store (journal_at G.journals here.0) now left events
   pub stores : StoresAre U.heap 0 items (slice_set G.journals here.0 events)
+
+-- a turn with the pick k was refused from the game: what is told of it begins what the turn leads to, and as many tasks are told as
+-- enabled as were before it
+pub record HasFailed {L : Type 0} (U : Given) (k : ℕ) (m : Machine L) (G : Game) : Type 0 where
+  pub begun : HasBegun U k G m.history.entries (map (λ s. s.events) m.stores.items)
+  pub ready : length m.ready.tasks.members ≡ length (enabled (tree_in U G))
 
 -- nothing is told: history and stores are as they were
 pub record NothingTold {L : Type 0} (m m' : Machine L) : Type 0 where

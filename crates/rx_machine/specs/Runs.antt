@@ -1,5 +1,5 @@
 -- What a turn is made of, and what a run leaves.
-use Rattle.std.specs.Prelude.{◌≡◌, ℕ, suc, ◌+◌, ◌*◌, ◌<◌, ◌≤◌, ◌%◌, Bool, true, false, List, [], ◌∷◌, length, Some, slice_get}
+use Rattle.std.specs.Prelude.{◌≡◌, ℕ, suc, ◌+◌, ◌*◌, ◌<◌, ◌≤◌, ◌%◌, Bool, true, false, List, [], ◌∷◌, ◌++◌, length, Some, slice_get}
 use Rattle.rx_base.specs.declared.ids.PlaceId.{PlaceId}
 use Rattle.rx_base.specs.declared.ids.ScopeId.{ScopeId}
 use Rattle.rx_rules.specs.declared.tasks.Task.{Task}
@@ -7,14 +7,12 @@ use Rattle.rx_rules.specs.declared.entries.Entry.{Entry}
 use Rattle.rx_rules.specs.declared.entries.Entry.TheVariants.{Step, Root, Death}
 use Rattle.rx_rules.specs.Code.{Block, work}
 use Rattle.rx_rules.specs.Tree.{Tree, task_of}
-use Rattle.rx_rules.specs.Run.{Given, Proper, NoneDue, IsDue, NoRoot}
-use Rattle.rx_rules.specs.Fold.{tree_of}
+use Rattle.rx_rules.specs.Run.{Given, NoneDue, IsDue, NoRoot, EndsWithRoot}
 use Rattle.rx_rules.specs.Reached.{Reached}
-use Rattle.rx_rules.specs.Picked.{Game, Turn, IsPicked, enabled, tree_in}
+use Rattle.rx_rules.specs.Picked.{Game, Turn, Turns, enabled, tree_in}
 use Rattle.rx_trace.specs.Logs.{Log}
 use Rattle.rx_trace.specs.Events.{AllEvents, events_of}
 use Rattle.rx_trace.specs.Setups.{given}
-use Rattle.rx_runs.specs.SomeWords.{MakesSome}
 use Rattle.rx_script.specs.Shape.{Shape}
 use Rattle.rx_machine.specs.declared.machine.Machine.{Machine}
 use Rattle.rx_machine.specs.declared.seat.Seat.{Seat}
@@ -23,16 +21,9 @@ use Rattle.rx_machine.specs.Picking.{IsReady}
 use Rattle.rx_machine.specs.Origins.{TellsOrigins}
 use Rattle.rx_machine.specs.Holds.{Seated, Holds, CanTurn, Makes}
 
--- a script and a setup for which a machine runs on
-pub record RunsOn (code : Block) (U : Given) : Type 0 where
-  pub proper : Proper U
-  pub few : work code ≤ 100000
-  pub makes : MakesSome code
-
 -- a turn can be made, no kill is due, and it is told which tasks are enabled
 pub record Calm {L : Type 0} (stands : L → Tree → Type 0) (shape : Shape) (code : Block) (U : Given) (m : Machine L) (G : Game) : Type 0 where
   pub can : CanTurn stands shape code U m G
-  pub on : RunsOn code U
   pub none_due : NoneDue (length G.entries) G.kills
   pub ready : IsReady (tree_in U G) m.ready.tasks.members
   pub origins : TellsOrigins (tree_in U G) m.ready.origins.items
@@ -40,13 +31,11 @@ pub record Calm {L : Type 0} (stands : L → Tree → Type 0) (shape : Shape) (c
 -- the death of the place is due
 pub record Dying {L : Type 0} (stands : L → Tree → Type 0) (shape : Shape) (code : Block) (U : Given) (m : Machine L) (d : PlaceId) (G : Game) : Type 0 where
   pub can : CanTurn stands shape code U m G
-  pub on : RunsOn code U
   pub due : IsDue (length G.entries) d G.kills
 
 -- the pick k moves the task of slot i
 pub record Taken {L : Type 0} (stands : L → Tree → Type 0) (shape : Shape) (code : Block) (U : Given) (m : Machine L) (k i : ℕ) (G : Game) : Type 0 where
   pub can : CanTurn stands shape code U m G
-  pub on : RunsOn code U
   pub none_due : NoneDue (length G.entries) G.kills
   pub inside : i < length m.seats.items
   pub seat : Seat
@@ -75,9 +64,9 @@ AfterTurn stands shape code U m k G = Makes (Turn U k G true) (Seated stands sha
 abbrev pub HasDied : {L : Type 0} → (L → Tree → Type 0) → Shape → Block → Given → Machine L → ℕ → Game → Type 0
 HasDied stands shape code U m k G = Makes (Turn U k G false) (λ G'. Seated stands shape code U m G' × NoRoot G'.entries)
 
--- a turn, with the pick or as a death, leads to a game for which the machine stands, and in which the root stands
+-- a turn, with the pick or as a death, leads to a game for which the machine stands
 abbrev pub WentOn : {L : Type 0} → (L → Tree → Type 0) → Shape → Block → Given → Machine L → ℕ → Bool → Game → Type 0
-WentOn stands shape code U m k used G = Makes (Turn U k G used) (λ G'. Holds stands shape code U m G' × NoRoot G'.entries)
+WentOn stands shape code U m k used G = Makes (Turn U k G used) (Holds stands shape code U m)
 
 -- the number of picks that the entries used: one for each that is a task's
 abbrev pub picks_in : List Entry → ℕ
@@ -86,18 +75,22 @@ picks_in (Step t act batch ∷ es) = suc (picks_in es)
 picks_in (Root lost thrown ∷ es) = picks_in es
 picks_in (Death d ∷ es) = picks_in es
 
--- what a picked run leaves: its history, the journals of its places, a ledger that stands for its last tree, and the picks that
--- it did not use; it has few turns
-pub record HasRun {L : Type 0} (code : Block) (U : Given) (picks left : ℕ → ℕ) (stands : L → Tree → Type 0) (r : Log × AllEvents × L) : Type 0 where
-  pub picked : IsPicked code U picks r.0.entries (events_of r.1)
-  pub few : picked.turns ≤ 4 * work code + 2 * U.places + 8
-  pub used : (j : ℕ) → left j ≡ picks (picks_in r.0.entries + j)
-  pub setup : given r.0.setup ≡ U
-  pub ledger : stands r.2 (tree_of U.places r.0.entries)
-
 -- what is given out of a machine is that of the game: its history, the journals of its places, and a ledger that stands for its tree
 pub record Gives {L : Type 0} (stands : L → Tree → Type 0) (U : Given) (G : Game) (r : Log × AllEvents × L) : Type 0 where
   pub entries : r.0.entries ≡ G.entries
   pub setup : given r.0.setup ≡ U
   pub journals : events_of r.1 ≡ G.journals
   pub ledger : stands r.2 (tree_in U G)
+
+-- What is left of a machine that has made all turns from a game on: the game that they lead to, which ends with the root's release, is
+-- given out, and one pick was used for each entry of a task that they added. They and the turns before them are few.
+pub record RanFrom {L : Type 0} (stands : L → Tree → Type 0) (code : Block) (U : Given) (picks left : ℕ → ℕ) (G : Game) (r : Log × AllEvents × L) : Type 0 where
+  pub turns : ℕ
+  pub game : Game
+  pub made : Turns U picks turns 0 G game
+  pub ended : EndsWithRoot game.entries
+  pub gives : Gives stands U game r
+  pub added : List Entry
+  pub adds : game.entries ≡ G.entries ++ added
+  pub used : (j : ℕ) → left j ≡ picks (picks_in added + j)
+  pub few : length G.entries + turns ≤ 4 * work code + 2 * U.places + 8

@@ -44,6 +44,7 @@ impl<L: FinishLedger> Machine<L> {
         requires game { (code : Block) × (U : Given) × (G : Game) × Releasing L.stands p.now.script code U self.old G }
         ensures made { OnOk result ((code : Block) (U : Given) (k : ℕ) (G : Game) → Releasing L.stands p.now.script code U self.old G → Makes (Turn U k G false) (Finished L.stands U self.new)) }
         ensures refused { OnErr result (NothingTold self.old self.new) }
+        ensures ready { self.new.ready ≡ self.old.ready }
     {
         let _ = p;
         match self.ledger.release_root() {

@@ -1,10 +1,9 @@
 // The store call of a task.
-ghost use Rattle.std.specs.Prelude.{◌≡◌, ◌<◌, ◌≤◌, ◌^◌, ℕ, List, Option, Some, None, Result, IfOk, OnOk, OnErr, false, length, ◌++◌, [], ◌∷◌};
-ghost use Rattle.rx_rules.specs.Code.{Block, work};
+ghost use Rattle.std.specs.Prelude.{◌≡◌, ◌<◌, ◌^◌, ℕ, List, Option, Some, None, Result, IfOk, OnOk, OnErr, false, length, ◌++◌, [], ◌∷◌};
+ghost use Rattle.rx_rules.specs.Code.{Block};
 ghost use Rattle.rx_rules.specs.Terms.{Term, does, begins};
-ghost use Rattle.rx_rules.specs.Run.{Given, Proper};
+ghost use Rattle.rx_rules.specs.Run.{Given};
 ghost use Rattle.rx_rules.specs.Picked.{Game, Player};
-ghost use Rattle.rx_runs.specs.SomeWords.{MakesSome};
 ghost use Rattle.rx_store.specs.Kept.{ends_closed};
 ghost use Rattle.rx_control.specs.declared.step.CellOp.TheVariants.{Make, Get, Put, Forget};
 ghost use Rattle.rx_control.specs.declared.step.Next.TheVariants.{Cell};
@@ -35,10 +34,10 @@ impl<L: FinishLedger> Machine<L> {
         here: PlaceId,
         op: CellOp,
     ) -> Result<(), NoMemory>
-        requires game { (code : Block) × (U : Given) × (k : ℕ) × (q : Player) × (G : Game) × Acting L.stands p.now.script code U self.old k i here q seat.old G × Proper U × (work code ≤ 100000) × MakesSome code × (next_of (does q.vars here.0 U.places q.term) ≡ Cell op) }
+        requires game { (code : Block) × (U : Given) × (k : ℕ) × (q : Player) × (G : Game) × Acting L.stands p.now.script code U self.old k i here q seat.old G × (next_of (does q.vars here.0 U.places q.term) ≡ Cell op) }
         ensures same { OnlyStores self.old self.new }
-        ensures next { OnOk result ((code : Block) (U : Given) (k : ℕ) (q : Player) (G : Game) → Acting L.stands p.now.script code U self.old k i here q seat.old G → Proper U → work code ≤ 100000 → MakesSome code → next_of (does q.vars here.0 U.places q.term) ≡ Cell op → AfterStep L.stands p.now.script code U self.new k i here q seat.new G None) }
-        ensures refused { OnErr result ((code : Block) (U : Given) (k : ℕ) (q : Player) (G : Game) → Acting L.stands p.now.script code U self.old k i here q seat.old G → Proper U → work code ≤ 100000 → MakesSome code → next_of (does q.vars here.0 U.places q.term) ≡ Cell op → HasTold U k G self.new.stores.items) }
+        ensures next { OnOk result ((code : Block) (U : Given) (k : ℕ) (q : Player) (G : Game) → Acting L.stands p.now.script code U self.old k i here q seat.old G → next_of (does q.vars here.0 U.places q.term) ≡ Cell op → AfterStep L.stands p.now.script code U self.new k i here q seat.new G None) }
+        ensures refused { OnErr result ((code : Block) (U : Given) (k : ℕ) (q : Player) (G : Game) → Acting L.stands p.now.script code U self.old k i here q seat.old G → next_of (does q.vars here.0 U.places q.term) ≡ Cell op → HasTold U k G self.new.stores.items) }
     {
         rx_runs::games_come();
         rx_runs::few_events_are_told();

@@ -16,7 +16,7 @@ use crate::ready::{Origin, Ready};
 use crate::seat::Seat;
 use crate::stores::Stores;
 use rx_base::{Batch, NoMemory, PlaceId, ScopeId, TaskId};
-use rx_check::Program;
+use rx_check::{Program, checked};
 use rx_control::Control;
 use rx_kills::Kills;
 use rx_rank::Ranks;
@@ -46,9 +46,11 @@ pub struct Machine<L: FinishLedger> {
 impl<L: FinishLedger> Machine<L> {
     /// Before the first turn of a program under a setup, over a ledger that stands for the opening tree.
     pub fn open(alloc: Global, p: &Program, setup: Setup, ledger: L) -> Result<Machine<L>, NoMemory>
-        requires { (code : Block) × Stands p.now.script code × Proper (given setup) × L.stands ledger (opening (given setup).places) }
+        requires proper { Proper (given setup) }
+        requires opened { L.stands ledger (opening (given setup).places) }
         ensures { IfOk result (λ m. (code : Block) → Stands p.now.script code → Holds L.stands p.now.script code (given setup) m (start_game code (given setup))) }
     {
+        checked(p);
         let kills = Kills::open(alloc, &setup.kills)?;
         let places = setup.places;
         let stores = Stores::open(alloc, places, setup.heap)?;

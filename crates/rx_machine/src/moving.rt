@@ -1,9 +1,8 @@
 // How the task of a turn moves.
-ghost use Rattle.std.specs.Prelude.{◌≡◌, ◌≤◌, ◌<◌, ℕ, Some, None, OnOk, OnErr};
-ghost use Rattle.rx_rules.specs.Code.{Block, work};
-ghost use Rattle.rx_rules.specs.Run.{Given, Proper};
+ghost use Rattle.std.specs.Prelude.{◌≡◌, ◌<◌, ℕ, Some, None, OnOk, OnErr};
+ghost use Rattle.rx_rules.specs.Code.{Block};
+ghost use Rattle.rx_rules.specs.Run.{Given};
 ghost use Rattle.rx_rules.specs.Picked.{Game, Player};
-ghost use Rattle.rx_runs.specs.SomeWords.{MakesSome};
 ghost use Rattle.rx_machine.specs.Refusals.{HasTold};
 ghost use Rattle.rx_machine.specs.Holds.{Acting, Makes};
 ghost use Rattle.rx_machine.specs.Runs.{Taken, AfterTurn};
@@ -44,9 +43,9 @@ impl<L: FinishLedger> Machine<L> {
     // Makes a task at a place go on to its next entry.
     fn act(&mut self, p: &Program, i: usize, seat: Seat, here: PlaceId) -> Result<(), NoMemory>
         requires room { 0 < self.old.history.spare }
-        requires game { (code : Block) × (U : Given) × (k : ℕ) × (q : Player) × (G : Game) × Acting L.stands p.now.script code U self.old k i here q seat G × Proper U × (work code ≤ 100000) × MakesSome code }
-        ensures made { OnOk result ((code : Block) (U : Given) (k : ℕ) (q : Player) (G : Game) → Acting L.stands p.now.script code U self.old k i here q seat G → Proper U → work code ≤ 100000 → MakesSome code → AfterTurn L.stands p.now.script code U self.new k G) }
-        ensures refused { OnErr result ((code : Block) (U : Given) (k : ℕ) (q : Player) (G : Game) → Acting L.stands p.now.script code U self.old k i here q seat G → Proper U → work code ≤ 100000 → MakesSome code → HasTold U k G self.new.stores.items) }
+        requires game { (code : Block) × (U : Given) × (k : ℕ) × (q : Player) × (G : Game) × Acting L.stands p.now.script code U self.old k i here q seat G }
+        ensures made { OnOk result ((code : Block) (U : Given) (k : ℕ) (q : Player) (G : Game) → Acting L.stands p.now.script code U self.old k i here q seat G → AfterTurn L.stands p.now.script code U self.new k G) }
+        ensures refused { OnErr result ((code : Block) (U : Given) (k : ℕ) (q : Player) (G : Game) → Acting L.stands p.now.script code U self.old k i here q seat G → HasTold U k G self.new.stores.items) }
         ensures history { OnErr result (self.new.history ≡ self.old.history) }
         ensures ready { self.new.ready ≡ self.old.ready }
     {

@@ -1,12 +1,12 @@
 // The picked run: every turn, and what is left at the end.
-ghost use Rattle.std.specs.Prelude.{◌≡◌, ℕ, map, IfOk};
+ghost use Rattle.std.specs.Prelude.{◌≡◌, ℕ, true, false, map, IfOk, OnOk};
 ghost use Rattle.rx_rules.specs.Code.{Block};
 ghost use Rattle.rx_rules.specs.Run.{Given};
-ghost use Rattle.rx_rules.specs.Picked.{Game, start_game};
+ghost use Rattle.rx_rules.specs.Picked.{Game, IsPicked, start_game};
 ghost use Rattle.rx_trace.specs.Events.{events_of};
 ghost use Rattle.rx_machine.specs.Holds.{Holds, Finished};
-ghost use Rattle.rx_machine.specs.Refusals.{HasBegun};
-ghost use Rattle.rx_machine.specs.Runs.{RunsOn, HasRun, Gives};
+ghost use Rattle.rx_machine.specs.Refusals.{HasBegun, HasFailed};
+ghost use Rattle.rx_machine.specs.Runs.{RanFrom, Gives};
 ghost use Rattle.rx_script.specs.Shape.{Shape};
 
 use crate::machine::Machine;
@@ -20,17 +20,24 @@ use rx_tree::FinishLedger;
 const LIMIT: u32 = 400_041;
 
 impl<L: FinishLedger> Machine<L> {
-    /// Makes the turns of the picked run up to the root's release: at most `4 * work + 2 * places + 8` of them. It uses one pick for
-    /// each entry of a task, and no other.
+    /// Makes the turns that are left of the picked run, up to the root's release, with the program that the machine was opened with;
+    /// the run has not ended. It uses one pick for each entry of a task, and no other. With the turns that the machine had made they
+    /// are at most `4 * work + 2 * places + 8`. A machine of which a turn was refused answers `NoMemory` and uses no pick.
     pub fn run<P: Picks>(
         mut self,
         p: &Program,
         picks: &mut P,
     ) -> Result<(History, Journals, L), NoMemory>
-        requires { (code : Block) × (U : Given) × Holds L.stands p.now.script code U self (start_game code U) × RunsOn code U }
-        ensures { IfOk result (λ r. (code : Block) (U : Given) → Holds L.stands p.now.script code U self (start_game code U) → RunsOn code U → HasRun code U (P.number picks.old) (P.number picks.new) L.stands r) }
+        requires game { self.failed ≡ false → (code : Block) × (U : Given) × (G : Game) × Holds L.stands p.now.script code U self G }
+        ensures ran { IfOk result (λ r. (code : Block) (U : Given) (G : Game) → Holds L.stands p.now.script code U self G → RanFrom L.stands code U (P.number picks.old) (P.number picks.new) G r) }
+        ensures picked { IfOk result (λ r. (code : Block) (U : Given) → Holds L.stands p.now.script code U self (start_game code U) → IsPicked code U (P.number picks.old) r.0.entries (events_of r.1)) }
+        ensures failed { OnOk result (self.failed ≡ false) }
+        ensures stays { self.failed ≡ true → picks.new ≡ picks.old }
     {
-        rx_runs::turns_are_bounded();
+        if self.failed {
+            return Err(NoMemory);
+        }
+        rx_runs::games_come();
         for _made in 0..LIMIT {
             if !self.make_turn(p, picks)? {
                 return Ok(self.into_parts());
@@ -47,7 +54,7 @@ impl<L: FinishLedger> Machine<L> {
         ensures ledger { result.2 ≡ self.ledger }
         ensures holds { (shape : Shape) (code : Block) (U : Given) (G : Game) → Holds L.stands shape code U self G → Gives L.stands U G result }
         ensures finished { (U : Given) (G : Game) → Finished L.stands U self G → Gives L.stands U G result }
-        ensures refused { (U : Given) (k : ℕ) (G : Game) → HasBegun U k G self.history.entries (map (λ s. s.events) self.stores.items) → HasBegun U k G result.0.entries (events_of result.1) }
+        ensures refused { (U : Given) (k : ℕ) (G : Game) → HasFailed U k self G → HasBegun U k G result.0.entries (events_of result.1) }
     {
         let Machine {
             ledger,

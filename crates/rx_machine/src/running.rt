@@ -1,11 +1,10 @@
 // The local steps and store calls of a task up to its next entry.
-ghost use Rattle.std.specs.Prelude.{◌≡◌, ◌≤◌, ℕ, Some, None, IfOk, OnOk, OnErr};
-ghost use Rattle.rx_rules.specs.Code.{Block, work};
+ghost use Rattle.std.specs.Prelude.{◌≡◌, ℕ, Some, None, IfOk, OnOk, OnErr};
+ghost use Rattle.rx_rules.specs.Code.{Block};
 ghost use Rattle.rx_rules.specs.Terms.{Term, does};
 ghost use Rattle.rx_rules.specs.Plays.{begun};
-ghost use Rattle.rx_rules.specs.Run.{Given, Proper};
+ghost use Rattle.rx_rules.specs.Run.{Given};
 ghost use Rattle.rx_rules.specs.Picked.{Game, Player};
-ghost use Rattle.rx_runs.specs.SomeWords.{MakesSome};
 ghost use Rattle.rx_control.specs.Stands.{StandsFor, Leaves};
 ghost use Rattle.rx_machine.specs.Holds.{Acting};
 ghost use Rattle.rx_machine.specs.Refusals.{HasTold};
@@ -31,10 +30,10 @@ impl<L: FinishLedger> Machine<L> {
         seat: &mut Seat,
         here: PlaceId,
     ) -> Result<Next, NoMemory>
-        requires game { (code : Block) × (U : Given) × (k : ℕ) × (q : Player) × (G : Game) × Acting L.stands p.now.script code U self.old k i here q seat.old G × Proper U × (work code ≤ 100000) × MakesSome code }
+        requires game { (code : Block) × (U : Given) × (k : ℕ) × (q : Player) × (G : Game) × Acting L.stands p.now.script code U self.old k i here q seat.old G }
         ensures same { OnlyStores self.old self.new }
-        ensures next { IfOk result (λ next. (code : Block) (U : Given) (k : ℕ) (q : Player) (G : Game) → Acting L.stands p.now.script code U self.old k i here q seat.old G → Proper U → work code ≤ 100000 → MakesSome code → (r : Player) × Acting L.stands p.now.script code U self.new k i here r seat.new G × IsRequest next (does r.vars here.0 U.places r.term)) }
-        ensures refused { OnErr result ((code : Block) (U : Given) (k : ℕ) (q : Player) (G : Game) → Acting L.stands p.now.script code U self.old k i here q seat.old G → Proper U → work code ≤ 100000 → MakesSome code → HasTold U k G self.new.stores.items) }
+        ensures next { IfOk result (λ next. (code : Block) (U : Given) (k : ℕ) (q : Player) (G : Game) → Acting L.stands p.now.script code U self.old k i here q seat.old G → (r : Player) × Acting L.stands p.now.script code U self.new k i here r seat.new G × IsRequest next (does r.vars here.0 U.places r.term)) }
+        ensures refused { OnErr result ((code : Block) (U : Given) (k : ℕ) (q : Player) (G : Game) → Acting L.stands p.now.script code U self.old k i here q seat.old G → HasTold U k G self.new.stores.items) }
     {
         rx_runs::few_steps_are_left();
         rx_runs::going_sinks();
@@ -55,10 +54,10 @@ impl<L: FinishLedger> Machine<L> {
         seat: &mut Seat,
         here: PlaceId,
     ) -> Result<Option<Next>, NoMemory>
-        requires game { (code : Block) × (U : Given) × (k : ℕ) × (q : Player) × (G : Game) × Acting L.stands p.now.script code U self.old k i here q seat.old G × Proper U × (work code ≤ 100000) × MakesSome code }
+        requires game { (code : Block) × (U : Given) × (k : ℕ) × (q : Player) × (G : Game) × Acting L.stands p.now.script code U self.old k i here q seat.old G }
         ensures same { OnlyStores self.old self.new }
-        ensures next { IfOk result (λ next. (code : Block) (U : Given) (k : ℕ) (q : Player) (G : Game) → Acting L.stands p.now.script code U self.old k i here q seat.old G → Proper U → work code ≤ 100000 → MakesSome code → AfterStep L.stands p.now.script code U self.new k i here q seat.new G next) }
-        ensures refused { OnErr result ((code : Block) (U : Given) (k : ℕ) (q : Player) (G : Game) → Acting L.stands p.now.script code U self.old k i here q seat.old G → Proper U → work code ≤ 100000 → MakesSome code → HasTold U k G self.new.stores.items) }
+        ensures next { IfOk result (λ next. (code : Block) (U : Given) (k : ℕ) (q : Player) (G : Game) → Acting L.stands p.now.script code U self.old k i here q seat.old G → AfterStep L.stands p.now.script code U self.new k i here q seat.new G next) }
+        ensures refused { OnErr result ((code : Block) (U : Given) (k : ℕ) (q : Player) (G : Game) → Acting L.stands p.now.script code U self.old k i here q seat.old G → HasTold U k G self.new.stores.items) }
     {
         rx_runs::terms_sink();
         match seat.control.next(p, here, self.places) {

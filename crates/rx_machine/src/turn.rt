@@ -1,13 +1,13 @@
 // A turn: the place whose kill is due dies, or else the pick's task moves, or the root is released.
 ghost use Rattle.std.specs.Prelude.{◌≡◌, ◌<◌, ◌^◌, ◌%◌, ℕ, suc, Bool, length, map, slice_get, Some, Ok, OnOk, OnErr, true, false, vec_len, vec_capacity};
 ghost use Rattle.rx_rules.specs.Code.{Block};
-ghost use Rattle.rx_rules.specs.Run.{Given, NoRoot};
+ghost use Rattle.rx_rules.specs.Run.{Given};
 ghost use Rattle.rx_rules.specs.Picked.{Game, Turn as MadeTurn, used_after, tree_in};
 ghost use Rattle.rx_machine.specs.Picking.{IsReady};
 ghost use Rattle.rx_machine.specs.Origins.{TellsOrigins};
 ghost use Rattle.rx_machine.specs.Holds.{Holds, Finished, Makes};
-ghost use Rattle.rx_machine.specs.Refusals.{HasBegun};
-ghost use Rattle.rx_machine.specs.Runs.{RunsOn, Calm, Dying, WentOn};
+ghost use Rattle.rx_machine.specs.Refusals.{HasBegun, HasFailed};
+ghost use Rattle.rx_machine.specs.Runs.{Calm, Dying, WentOn};
 
 use crate::machine::Machine;
 use crate::picks::Picks;
@@ -30,15 +30,15 @@ impl<L: FinishLedger> Machine<L> {
     /// Makes the next turn of the picked run, with the program that the machine was opened with; the run has not ended. `Ended`
     /// comes exactly with the release of the root, which uses no pick. After `NoMemory` the machine has failed, and every later turn
     /// answers `NoMemory`, changes nothing and uses no pick; the history and the journals begin with those of the turns before, and
-    /// begin those that the refused turn leads to.
+    /// begin those that the refused turn leads to, and `enabled` tells what it told before that turn.
     pub fn turn<P: Picks>(&mut self, p: &Program, picks: &mut P) -> Result<Turn, NoMemory>
-        requires game { self.old.failed ≡ false → (code : Block) × (U : Given) × (G : Game) × Holds L.stands p.now.script code U self.old G × RunsOn code U × NoRoot G.entries }
-        ensures moved { result ≡ Ok Turn.Moved → (used : Bool) × ((code : Block) (U : Given) (G : Game) → Holds L.stands p.now.script code U self.old G → RunsOn code U → NoRoot G.entries → WentOn L.stands p.now.script code U self.new (P.number picks.old 0) used G) × ((j : ℕ) → P.number picks.new j ≡ P.number picks.old (used_after used j)) }
-        ensures ended { result ≡ Ok Turn.Ended → (code : Block) (U : Given) (G : Game) → Holds L.stands p.now.script code U self.old G → RunsOn code U → NoRoot G.entries → Makes (MadeTurn U (P.number picks.old 0) G false) (Finished L.stands U self.new) }
+        requires game { self.old.failed ≡ false → (code : Block) × (U : Given) × (G : Game) × Holds L.stands p.now.script code U self.old G }
+        ensures moved { result ≡ Ok Turn.Moved → (used : Bool) × ((code : Block) (U : Given) (G : Game) → Holds L.stands p.now.script code U self.old G → WentOn L.stands p.now.script code U self.new (P.number picks.old 0) used G) × ((j : ℕ) → P.number picks.new j ≡ P.number picks.old (used_after used j)) }
+        ensures ended { result ≡ Ok Turn.Ended → (code : Block) (U : Given) (G : Game) → Holds L.stands p.now.script code U self.old G → Makes (MadeTurn U (P.number picks.old 0) G false) (Finished L.stands U self.new) }
         ensures unused { result ≡ Ok Turn.Ended → picks.new ≡ picks.old }
         ensures failed { OnOk result (self.old.failed ≡ false) }
         ensures fails { OnErr result (self.new.failed ≡ true) }
-        ensures refused { OnErr result ((code : Block) (U : Given) (G : Game) → Holds L.stands p.now.script code U self.old G → RunsOn code U → NoRoot G.entries → HasBegun U (P.number picks.old 0) G self.new.history.entries (map (λ s. s.events) self.new.stores.items)) }
+        ensures refused { OnErr result ((code : Block) (U : Given) (G : Game) → Holds L.stands p.now.script code U self.old G → HasFailed U (P.number picks.old 0) self.new G) }
         ensures setup { OnErr result (self.new.history.setup ≡ self.old.history.setup) }
         ensures stays { self.old.failed ≡ true → (self.new ≡ self.old) × (picks.new ≡ picks.old) }
     {
@@ -61,16 +61,17 @@ impl<L: FinishLedger> Machine<L> {
         p: &Program,
         picks: &mut P,
     ) -> Result<bool, NoMemory>
-        requires game { (code : Block) × (U : Given) × (G : Game) × Holds L.stands p.now.script code U self.old G × RunsOn code U × NoRoot G.entries }
-        ensures moved { result ≡ Ok true → (used : Bool) × ((code : Block) (U : Given) (G : Game) → Holds L.stands p.now.script code U self.old G → RunsOn code U → NoRoot G.entries → WentOn L.stands p.now.script code U self.new (P.number picks.old 0) used G) × ((j : ℕ) → P.number picks.new j ≡ P.number picks.old (used_after used j)) }
-        ensures ended { result ≡ Ok false → (code : Block) (U : Given) (G : Game) → Holds L.stands p.now.script code U self.old G → RunsOn code U → NoRoot G.entries → Makes (MadeTurn U (P.number picks.old 0) G false) (Finished L.stands U self.new) }
+        requires game { (code : Block) × (U : Given) × (G : Game) × Holds L.stands p.now.script code U self.old G }
+        ensures moved { result ≡ Ok true → (used : Bool) × ((code : Block) (U : Given) (G : Game) → Holds L.stands p.now.script code U self.old G → WentOn L.stands p.now.script code U self.new (P.number picks.old 0) used G) × ((j : ℕ) → P.number picks.new j ≡ P.number picks.old (used_after used j)) }
+        ensures ended { result ≡ Ok false → (code : Block) (U : Given) (G : Game) → Holds L.stands p.now.script code U self.old G → Makes (MadeTurn U (P.number picks.old 0) G false) (Finished L.stands U self.new) }
         ensures unused { result ≡ Ok false → picks.new ≡ picks.old }
-        ensures refused { OnErr result ((code : Block) (U : Given) (G : Game) → Holds L.stands p.now.script code U self.old G → RunsOn code U → NoRoot G.entries → HasBegun U (P.number picks.old 0) G self.new.history.entries (map (λ s. s.events) self.new.stores.items)) }
+        ensures refused { OnErr result ((code : Block) (U : Given) (G : Game) → Holds L.stands p.now.script code U self.old G → HasFailed U (P.number picks.old 0) self.new G) }
         ensures setup { OnErr result (self.new.history.setup ≡ self.old.history.setup) }
     {
         rx_runs::games_come();
         rx_runs::games_go_on();
         rx_sound::fold_is_reached();
+        rx_sound::reached_is_sound();
         self.make_room()?;
         match self.kills.due(self.history.len() as u32) {
             Some(place) => {
@@ -123,6 +124,7 @@ impl<L: FinishLedger> Machine<L> {
         ensures ended { result ≡ Ok false → (code : Block) (U : Given) (G : Game) → Calm L.stands p.now.script code U self.old G → Makes (MadeTurn U (P.number picks.old 0) G false) (Finished L.stands U self.new) }
         ensures unused { result ≡ Ok false → picks.new ≡ picks.old }
         ensures refused { OnErr result ((code : Block) (U : Given) (G : Game) → Calm L.stands p.now.script code U self.old G → HasBegun U (P.number picks.old 0) G self.new.history.entries (map (λ s. s.events) self.new.stores.items)) }
+        ensures ready { OnErr result (self.new.ready.tasks.members ≡ self.old.ready.tasks.members) }
         ensures setup { OnErr result (self.new.history.setup ≡ self.old.history.setup) }
     {
         rx_runs::games_come();

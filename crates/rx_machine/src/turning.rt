@@ -2,14 +2,15 @@
 ghost use Rattle.std.specs.Prelude.{◌≡◌, ◌<◌, ◌≤◌, ℕ, true, false, length, Some, None, IfSome, slice_set, vec_len, vec_capacity};
 ghost use Rattle.rx_rules.specs.Code.{Block};
 ghost use Rattle.rx_rules.specs.Tree.{on_chain, the_root};
-ghost use Rattle.rx_rules.specs.Run.{Given, NoRoot};
+ghost use Rattle.rx_rules.specs.Run.{Given};
 ghost use Rattle.rx_rules.specs.Picked.{Game, Turn, enabled, tree_in};
 ghost use Rattle.rx_rank.specs.Numbers.{Ascends, marked};
 ghost use Rattle.rx_sound.specs.Enabling.{nearest_opener as nearest};
 ghost use Rattle.rx_script.specs.Shape.{Shape};
 ghost use Rattle.rx_machine.specs.Slots.{seat_at};
-ghost use Rattle.rx_machine.specs.Holds.{Holds, CanTurn};
-ghost use Rattle.rx_machine.specs.Runs.{RunsOn, HasMoved};
+ghost use Rattle.rx_machine.specs.Holds.{Holds, CanTurn, Finished};
+ghost use Rattle.rx_machine.specs.Runs.{HasMoved};
+ghost use Rattle.rx_machine.specs.Refusals.{HasFailed};
 ghost use Rattle.rx_machine.specs.Picking.{slot_able, has, IsReady};
 ghost use Rattle.rx_machine.specs.Origins.{TellsOrigins, origin_in as told_in, origin_by as told_by};
 
@@ -40,10 +41,12 @@ impl<L: FinishLedger> Machine<L> {
         }
     }
 
-    /// How many tasks are enabled. It takes no memory.
+    /// How many tasks are enabled in the tree to which the history folds. It may be asked at any time: after the end of the run it
+    /// is 0, and after a refused turn it is what it was before that turn. It takes no memory.
     pub fn enabled(&self) -> u32
-        requires game { (shape : Shape) × (code : Block) × (U : Given) × (G : Game) × Holds L.stands shape code U self.now G × RunsOn code U × NoRoot G.entries }
-        ensures { (shape : Shape) (code : Block) (U : Given) (G : Game) → Holds L.stands shape code U self.now G → RunsOn code U → NoRoot G.entries → result ≡ length (enabled (tree_in U G)) }
+        ensures holds { (shape : Shape) (code : Block) (U : Given) (G : Game) → Holds L.stands shape code U self.now G → result ≡ length (enabled (tree_in U G)) }
+        ensures finished { (U : Given) (G : Game) → Finished L.stands U self.now G → result ≡ length (enabled (tree_in U G)) }
+        ensures refused { (U : Given) (k : ℕ) (G : Game) → HasFailed U k self.now G → result ≡ length (enabled (tree_in U G)) }
     {
         rx_runs::games_come();
         rx_sound::fold_is_reached();

@@ -8,145 +8,145 @@ use Rattle.rx_machine.proofs.machine.Machine.act.Goals as goal
 pub open_finish-requires-clause-game : goal.open_finish-requires-clause-game
 open_finish-requires-clause-game g c =
     let w = c.requires.game in
-    let r = c.in_ok-next.ensures.next w.0 w.1 w.2 w.3 w.4 w.5 w.6 w.7 w.8 in
+    let r = c.in_ok-next.ensures.next w.0 w.1 w.2 w.3 w.4 w.5 in
     (w.0, w.1, w.2, r.0, w.4, r.1, told_open _ _ c.in-Book-Open.field-0 r.2 c.in-Book-Open.is (rw c.in-Book-Open.is at c.in-Book-Open.field-0-is))
 
 pub call-requires-clause-game : goal.call-requires-clause-game
 call-requires-clause-game g c =
     let w = c.requires.game in
-    let r = c.in_ok-next.ensures.next w.0 w.1 w.2 w.3 w.4 w.5 w.6 w.7 w.8 in
+    let r = c.in_ok-next.ensures.next w.0 w.1 w.2 w.3 w.4 w.5 in
     (w.0, w.1, w.2, r.0, w.4, r.1, told_call _ _ c.in-Book-At.field-0 c.in-Book-At.to r.2 c.in-Book-At.is (rw c.in-Book-At.is at c.in-Book-At.field-0-is))
 
 pub spawn-requires-clause-game : goal.spawn-requires-clause-game
 spawn-requires-clause-game g c =
     let w = c.requires.game in
-    let r = c.in_ok-next.ensures.next w.0 w.1 w.2 w.3 w.4 w.5 w.6 w.7 w.8 in
+    let r = c.in_ok-next.ensures.next w.0 w.1 w.2 w.3 w.4 w.5 in
     (w.0, w.1, w.2, r.0, w.4, r.1, told_spawn _ _ c.in-Book-Spawn.field-0 c.in-Book-Spawn.to r.2 c.in-Book-Spawn.is (rw c.in-Book-Spawn.is at c.in-Book-Spawn.field-0-is))
 
 pub wait-requires-clause-game : goal.wait-requires-clause-game
 wait-requires-clause-game g c =
     let w = c.requires.game in
-    let r = c.in_ok-next.ensures.next w.0 w.1 w.2 w.3 w.4 w.5 w.6 w.7 w.8 in
+    let r = c.in_ok-next.ensures.next w.0 w.1 w.2 w.3 w.4 w.5 in
     (w.0, w.1, w.2, r.0, w.4, r.1, told_wait _ _ c.in-Book-Wait.field-0 r.2 c.in-Book-Wait.is (rw c.in-Book-Wait.is at c.in-Book-Wait.field-0-is))
 
 pub release-requires-clause-game : goal.release-requires-clause-game
 release-requires-clause-game g c =
     let w = c.requires.game in
-    let r = c.in_ok-next.ensures.next w.0 w.1 w.2 w.3 w.4 w.5 w.6 w.7 w.8 in
+    let r = c.in_ok-next.ensures.next w.0 w.1 w.2 w.3 w.4 w.5 in
     (w.0, w.1, w.2, r.0, w.4, r.1, told_release _ _ c.in-Book-Release.field-0 r.2 c.in-Book-Release.is (rw c.in-Book-Release.is at c.in-Book-Release.field-0-is))
 
 pub print-requires-clause-game : goal.print-requires-clause-game
 print-requires-clause-game g c =
     let w = c.requires.game in
-    let r = c.in_ok-next.ensures.next w.0 w.1 w.2 w.3 w.4 w.5 w.6 w.7 w.8 in
+    let r = c.in_ok-next.ensures.next w.0 w.1 w.2 w.3 w.4 w.5 in
     let t : to_z w64 (of_z w64 c.in-Book-Print.value) ≡ c.in-Book-Print.value = search rules in
     (w.0, w.1, w.2, r.0, w.4, r.1, told_print _ _ c.in-Book-Print.field-0 c.in-Book-Print.value r.2 c.in-Book-Print.is (rw c.in-Book-Print.is at c.in-Book-Print.field-0-is) ∙ ap (λ z. Prints z) (sym t))
 
 pub end-requires-clause-game : goal.end-requires-clause-game
 end-requires-clause-game g c =
     let w = c.requires.game in
-    let r = c.in_ok-next.ensures.next w.0 w.1 w.2 w.3 w.4 w.5 w.6 w.7 w.8 in
+    let r = c.in_ok-next.ensures.next w.0 w.1 w.2 w.3 w.4 w.5 in
     (w.0, w.1, w.2, r.0, w.4, r.1, told_end _ _ r.2 c.in-Done.is)
 
 pub unreachable-requires : goal.unreachable-requires
 unreachable-requires g c =
     let w = c.requires.game in
-    let r = c.in_ok-next.ensures.next w.0 w.1 w.2 w.3 w.4 w.5 w.6 w.7 w.8 in
+    let r = c.in_ok-next.ensures.next w.0 w.1 w.2 w.3 w.4 w.5 in
     told_no_local _ _ r.2 c.in-Local.is
 
 pub unreachable-requires-in-Cell : goal.unreachable-requires-in-Cell
 unreachable-requires-in-Cell g c =
     let w = c.requires.game in
-    let r = c.in_ok-next.ensures.next w.0 w.1 w.2 w.3 w.4 w.5 w.6 w.7 w.8 in
+    let r = c.in_ok-next.ensures.next w.0 w.1 w.2 w.3 w.4 w.5 in
     told_no_cell _ _ _ r.2 c.in-Cell.is
 
 pub returns-in-Book-Open-clause-made : goal.returns-in-Book-Open-clause-made
-returns-in-Book-Open-clause-made g c = on_ok c.open_finish.result (λ h code U k q G a proper few some.
-    let r = c.in_ok-next.ensures.next code U k q G a proper few some in
+returns-in-Book-Open-clause-made g c = on_ok c.open_finish.result (λ h code U k q G a.
+    let r = c.in_ok-next.ensures.next code U k q G a in
     h code U k r.0 G r.1 (told_open _ _ c.in-Book-Open.field-0 r.2 c.in-Book-Open.is (rw c.in-Book-Open.is at c.in-Book-Open.field-0-is))) c.open_finish.ensures.made
 
 pub returns-in-Book-At-clause-made : goal.returns-in-Book-At-clause-made
-returns-in-Book-At-clause-made g c = on_ok c.call.result (λ h code U k q G a proper few some.
-    let r = c.in_ok-next.ensures.next code U k q G a proper few some in
+returns-in-Book-At-clause-made g c = on_ok c.call.result (λ h code U k q G a.
+    let r = c.in_ok-next.ensures.next code U k q G a in
     h code U k r.0 G r.1 (told_call _ _ c.in-Book-At.field-0 c.in-Book-At.to r.2 c.in-Book-At.is (rw c.in-Book-At.is at c.in-Book-At.field-0-is))) c.call.ensures.made
 
 pub returns-in-Book-Spawn-clause-made : goal.returns-in-Book-Spawn-clause-made
-returns-in-Book-Spawn-clause-made g c = on_ok c.spawn.result (λ h code U k q G a proper few some.
-    let r = c.in_ok-next.ensures.next code U k q G a proper few some in
+returns-in-Book-Spawn-clause-made g c = on_ok c.spawn.result (λ h code U k q G a.
+    let r = c.in_ok-next.ensures.next code U k q G a in
     h code U k r.0 G r.1 (told_spawn _ _ c.in-Book-Spawn.field-0 c.in-Book-Spawn.to r.2 c.in-Book-Spawn.is (rw c.in-Book-Spawn.is at c.in-Book-Spawn.field-0-is))) c.spawn.ensures.made
 
 pub returns-in-Book-Wait-clause-made : goal.returns-in-Book-Wait-clause-made
-returns-in-Book-Wait-clause-made g c = on_ok c.wait.result (λ h code U k q G a proper few some.
-    let r = c.in_ok-next.ensures.next code U k q G a proper few some in
+returns-in-Book-Wait-clause-made g c = on_ok c.wait.result (λ h code U k q G a.
+    let r = c.in_ok-next.ensures.next code U k q G a in
     h code U k r.0 G r.1 (told_wait _ _ c.in-Book-Wait.field-0 r.2 c.in-Book-Wait.is (rw c.in-Book-Wait.is at c.in-Book-Wait.field-0-is))) c.wait.ensures.made
 
 pub returns-in-Book-Release-clause-made : goal.returns-in-Book-Release-clause-made
-returns-in-Book-Release-clause-made g c = on_ok c.release.result (λ h code U k q G a proper few some.
-    let r = c.in_ok-next.ensures.next code U k q G a proper few some in
+returns-in-Book-Release-clause-made g c = on_ok c.release.result (λ h code U k q G a.
+    let r = c.in_ok-next.ensures.next code U k q G a in
     h code U k r.0 G r.1 (told_release _ _ c.in-Book-Release.field-0 r.2 c.in-Book-Release.is (rw c.in-Book-Release.is at c.in-Book-Release.field-0-is))) c.release.ensures.made
 
 pub returns-in-Book-Print-clause-made : goal.returns-in-Book-Print-clause-made
-returns-in-Book-Print-clause-made g c = on_ok c.print.result (λ h code U k q G a proper few some.
-    let r = c.in_ok-next.ensures.next code U k q G a proper few some in
+returns-in-Book-Print-clause-made g c = on_ok c.print.result (λ h code U k q G a.
+    let r = c.in_ok-next.ensures.next code U k q G a in
     let t : to_z w64 (of_z w64 c.in-Book-Print.value) ≡ c.in-Book-Print.value = search rules in
     h code U k r.0 G r.1 (told_print _ _ c.in-Book-Print.field-0 c.in-Book-Print.value r.2 c.in-Book-Print.is (rw c.in-Book-Print.is at c.in-Book-Print.field-0-is) ∙ ap (λ z. Prints z) (sym t))) c.print.ensures.made
 
 pub returns-in-Done-clause-made : goal.returns-in-Done-clause-made
-returns-in-Done-clause-made g c = on_ok c.end.result (λ h code U k q G a proper few some.
-    let r = c.in_ok-next.ensures.next code U k q G a proper few some in
+returns-in-Done-clause-made g c = on_ok c.end.result (λ h code U k q G a.
+    let r = c.in_ok-next.ensures.next code U k q G a in
     h code U k r.0 G r.1 (told_end _ _ r.2 c.in-Done.is)) c.end.ensures.made
 
 pub returns-in-Book-Open-clause-refused : goal.returns-in-Book-Open-clause-refused
-returns-in-Book-Open-clause-refused g c = on_err c.open_finish.result (λ told code U k q G a proper few some.
-    let r = c.in_ok-next.ensures.next code U k q G a proper few some in
+returns-in-Book-Open-clause-refused g c = on_err c.open_finish.result (λ told code U k q G a.
+    let r = c.in_ok-next.ensures.next code U k q G a in
     acting-told g.L.FinishLedger.stands c.args.p.now.script code U _ k c.args.i c.args.here r.0 _ G _ (ap (λ v. v.items) told.stores) r.1) c.open_finish.ensures.refused
 
 pub returns-in-Book-Open-clause-history : goal.returns-in-Book-Open-clause-history
 returns-in-Book-Open-clause-history g c = on_err c.open_finish.result (λ told. told.history ∙ c.run_on.ensures.same.history) c.open_finish.ensures.refused
 
 pub returns-in-Book-At-clause-refused : goal.returns-in-Book-At-clause-refused
-returns-in-Book-At-clause-refused g c = on_err c.call.result (λ told code U k q G a proper few some.
-    let r = c.in_ok-next.ensures.next code U k q G a proper few some in
+returns-in-Book-At-clause-refused g c = on_err c.call.result (λ told code U k q G a.
+    let r = c.in_ok-next.ensures.next code U k q G a in
     acting-told g.L.FinishLedger.stands c.args.p.now.script code U _ k c.args.i c.args.here r.0 _ G _ (ap (λ v. v.items) told.stores) r.1) c.call.ensures.refused
 
 pub returns-in-Book-At-clause-history : goal.returns-in-Book-At-clause-history
 returns-in-Book-At-clause-history g c = on_err c.call.result (λ told. told.history ∙ c.run_on.ensures.same.history) c.call.ensures.refused
 
 pub returns-in-Book-Spawn-clause-refused : goal.returns-in-Book-Spawn-clause-refused
-returns-in-Book-Spawn-clause-refused g c = on_err c.spawn.result (λ told code U k q G a proper few some.
-    let r = c.in_ok-next.ensures.next code U k q G a proper few some in
+returns-in-Book-Spawn-clause-refused g c = on_err c.spawn.result (λ told code U k q G a.
+    let r = c.in_ok-next.ensures.next code U k q G a in
     acting-told g.L.FinishLedger.stands c.args.p.now.script code U _ k c.args.i c.args.here r.0 _ G _ (ap (λ v. v.items) told.stores) r.1) c.spawn.ensures.refused
 
 pub returns-in-Book-Spawn-clause-history : goal.returns-in-Book-Spawn-clause-history
 returns-in-Book-Spawn-clause-history g c = on_err c.spawn.result (λ told. told.history ∙ c.run_on.ensures.same.history) c.spawn.ensures.refused
 
 pub returns-in-Book-Wait-clause-refused : goal.returns-in-Book-Wait-clause-refused
-returns-in-Book-Wait-clause-refused g c = on_err c.wait.result (λ told code U k q G a proper few some.
-    let r = c.in_ok-next.ensures.next code U k q G a proper few some in
+returns-in-Book-Wait-clause-refused g c = on_err c.wait.result (λ told code U k q G a.
+    let r = c.in_ok-next.ensures.next code U k q G a in
     acting-told g.L.FinishLedger.stands c.args.p.now.script code U _ k c.args.i c.args.here r.0 _ G _ (ap (λ v. v.items) told.stores) r.1) c.wait.ensures.refused
 
 pub returns-in-Book-Wait-clause-history : goal.returns-in-Book-Wait-clause-history
 returns-in-Book-Wait-clause-history g c = on_err c.wait.result (λ told. told.history ∙ c.run_on.ensures.same.history) c.wait.ensures.refused
 
 pub returns-in-Book-Release-clause-refused : goal.returns-in-Book-Release-clause-refused
-returns-in-Book-Release-clause-refused g c = on_err c.release.result (λ told code U k q G a proper few some.
-    let r = c.in_ok-next.ensures.next code U k q G a proper few some in
+returns-in-Book-Release-clause-refused g c = on_err c.release.result (λ told code U k q G a.
+    let r = c.in_ok-next.ensures.next code U k q G a in
     acting-told g.L.FinishLedger.stands c.args.p.now.script code U _ k c.args.i c.args.here r.0 _ G _ (ap (λ v. v.items) told.stores) r.1) c.release.ensures.refused
 
 pub returns-in-Book-Release-clause-history : goal.returns-in-Book-Release-clause-history
 returns-in-Book-Release-clause-history g c = on_err c.release.result (λ told. told.history ∙ c.run_on.ensures.same.history) c.release.ensures.refused
 
 pub returns-in-Book-Print-clause-refused : goal.returns-in-Book-Print-clause-refused
-returns-in-Book-Print-clause-refused g c = on_err c.print.result (λ told code U k q G a proper few some.
-    let r = c.in_ok-next.ensures.next code U k q G a proper few some in
+returns-in-Book-Print-clause-refused g c = on_err c.print.result (λ told code U k q G a.
+    let r = c.in_ok-next.ensures.next code U k q G a in
     acting-told g.L.FinishLedger.stands c.args.p.now.script code U _ k c.args.i c.args.here r.0 _ G _ (ap (λ v. v.items) told.stores) r.1) c.print.ensures.refused
 
 pub returns-in-Book-Print-clause-history : goal.returns-in-Book-Print-clause-history
 returns-in-Book-Print-clause-history g c = on_err c.print.result (λ told. told.history ∙ c.run_on.ensures.same.history) c.print.ensures.refused
 
 pub returns-in-Done-clause-refused : goal.returns-in-Done-clause-refused
-returns-in-Done-clause-refused g c = on_err c.end.result (λ told code U k q G a proper few some.
-    let r = c.in_ok-next.ensures.next code U k q G a proper few some in
+returns-in-Done-clause-refused g c = on_err c.end.result (λ told code U k q G a.
+    let r = c.in_ok-next.ensures.next code U k q G a in
     acting-told g.L.FinishLedger.stands c.args.p.now.script code U _ k c.args.i c.args.here r.0 _ G _ (ap (λ v. v.items) told.stores) r.1) c.end.ensures.refused
 
 pub returns-in-Done-clause-history : goal.returns-in-Done-clause-history

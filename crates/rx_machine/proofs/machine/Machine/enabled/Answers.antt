@@ -1,10 +1,13 @@
-use Rattle.std.proofs.Common.{◌∙◌}
-use Rattle.rx_rules.specs.Picked.{tree_in}
-use Rattle.rx_machine.proofs.Readying.{ready_slots}
-use Rattle.rx_machine.proofs.Turned.{all-counted}
+use Rattle.std.proofs.Common.{◌∙◌, length, ap, sym}
+use Rattle.rx_machine.proofs.Turned.{counted}
 use Rattle.rx_machine.proofs.machine.Machine.enabled.Goals as goal
 
-pub returns : goal.returns
-returns g c = λ shape code U G h on unreleased.
-    let m = c.args.self.now in
-    c.len.ensures.len ∙ all-counted g.L.FinishLedger.stands shape code U m G m.ready.tasks.members c.games_come.ensures c.fold_is_reached.ensures c.reached_is_sound.ensures h.seated on unreleased (ready_slots shape (tree_in U G) G.players m.seats.items m.ready.tasks.members h.seated.seats h.ready)
+pub returns-clause-holds : goal.returns-clause-holds
+returns-clause-holds g c = λ shape code U G h.
+    c.len.ensures.len ∙ counted g.L.FinishLedger.stands shape code U c.args.self.now G c.games_come.ensures c.fold_is_reached.ensures c.reached_is_sound.ensures h
+
+pub returns-clause-finished : goal.returns-clause-finished
+returns-clause-finished g c = λ U G f. c.len.ensures.len ∙ (ap length f.none_ready ∙ sym (ap length f.none_enabled))
+
+pub returns-clause-refused : goal.returns-clause-refused
+returns-clause-refused g c = λ U k G h. c.len.ensures.len ∙ h.ready

@@ -11,4 +11,4 @@ pub returns-clause-finished : goal.returns-clause-finished
 returns-clause-finished g c = λ U G f. gives-finished g.L.FinishLedger.stands U c.args.self G _ refl c.into_journals.ensures refl f
 
 pub returns-clause-refused : goal.returns-clause-refused
-returns-clause-refused g c = λ U k G h. subst (λ (js : List (List PlaceEvent)). HasBegun U k G c.args.self.history.entries js) (sym c.into_journals.ensures) h
+returns-clause-refused g c = λ U k G h. subst (λ (js : List (List PlaceEvent)). HasBegun U k G c.args.self.history.entries js) (sym c.into_journals.ensures) h.begun

@@ -22,13 +22,13 @@ pub note_all-requires-clause-game : goal.note_all-requires-clause-game
 note_all-requires-clause-game g c =
     let w = c.requires.game in
     let a = c.die.ensures.made w.0 w.1 0 w.2 w.3 in
-    (c.args.p.now.script, w.0, w.1, a.0, can-turn g.L.FinishLedger.stands c.args.p.now.script w.0 w.1 c.die.new.self a.0 c.games_come.ensures c.fold_is_reached.ensures a.2.0 w.3.on a.2.1)
+    (c.args.p.now.script, w.0, w.1, a.0, can-turn g.L.FinishLedger.stands c.args.p.now.script w.0 w.1 c.die.new.self a.0 c.games_come.ensures c.fold_is_reached.ensures a.2.0 a.2.1)
 
 pub returns : goal.returns
 returns g c = λ code U k G t ready told.
     let stands = g.L.FinishLedger.stands in
     let a = c.die.ensures.made code U k G t in
-    let can = can-turn stands c.args.p.now.script code U c.die.new.self a.0 c.games_come.ensures c.fold_is_reached.ensures a.2.0 t.on a.2.1 in
+    let can = can-turn stands c.args.p.now.script code U c.die.new.self a.0 c.games_come.ensures c.fold_is_reached.ensures a.2.0 a.2.1 in
     let same : c.die.new.self.ready ≡ c.args.self.now.ready = c.die.ensures.ready in
     died-on stands c.args.p.now.script code U c.die.new.self c.note_all.new.self k G c.die.new.self.ready.tasks.members c.reached_is_sound.ensures t.can.reached a can
     (subst (λ (r : Ready). IsReady (tree_in U G) r.tasks.members) (sym same) ready) c.note_all.ensures.same c.note_all.ensures.ascends (c.note_all.ensures.noted c.args.p.now.script code U a.0 can) c.note_all.ensures.others

@@ -1,19 +1,19 @@
-use Rattle.std.proofs.Common.{arith, ℕ, List, refl, true, false, ap, sym, subst}
+use Rattle.std.proofs.Common.{arith, ℕ, List, length, refl, true, false, ap, ◌∙◌, sym, subst}
 use Rattle.rx_rules.specs.Picked.{tree_in}
 use Rattle.rx_machine.specs.declared.machine.Machine.{Machine}
 use Rattle.rx_machine.specs.Picking.{IsReady}
 use Rattle.rx_machine.specs.Origins.{TellsOrigins}
 use Rattle.rx_machine.specs.declared.ready.Origin.{Origin}
-use Rattle.rx_machine.proofs.Turned.{dying, calm, can-turn}
+use Rattle.rx_machine.proofs.Turned.{dying, calm, can-turn, counted}
 use Rattle.rx_machine.proofs.Noting.{roomy-can}
 use Rattle.rx_machine.proofs.Halting.{refused-same}
-use Rattle.rx_machine.proofs.Requested.{on_err, any_err}
+use Rattle.rx_machine.proofs.Requested.{on_errs, any_err}
 use Rattle.rx_machine.proofs.machine.Machine.make_turn.Goals as goal
 
 pub make_room-requires : goal.make_room-requires
 make_room-requires g c =
     let w = c.requires.game in
-    let can = can-turn g.L.FinishLedger.stands c.args.p.now.script w.0 w.1 c.args.self.now w.2 c.games_come.ensures c.fold_is_reached.ensures w.3.seated w.4 w.5 in
+    let can = can-turn g.L.FinishLedger.stands c.args.p.now.script w.0 w.1 c.args.self.now w.2 c.games_come.ensures c.fold_is_reached.ensures w.3.seated w.3.unreleased in
     let few = can.numbers.tasks in
     let slots = w.3.seated.shares.slots in
     omega (arith, few, slots)
@@ -21,11 +21,11 @@ make_room-requires g c =
 pub make_death-requires-clause-game : goal.make_death-requires-clause-game
 make_death-requires-clause-game g c =
     let w = c.requires.game in
-    let can = roomy-can g.L.FinishLedger.stands c.args.p.now.script w.0 w.1 c.args.self.now c.make_room.new.self w.2 c.games_come.ensures c.fold_is_reached.ensures c.in_ok-make_room.ensures.same c.in_ok-make_room.ensures.told w.3 w.4 w.5 in (
+    let can = roomy-can g.L.FinishLedger.stands c.args.p.now.script w.0 w.1 c.args.self.now c.make_room.new.self w.2 c.games_come.ensures c.fold_is_reached.ensures c.in_ok-make_room.ensures.same c.in_ok-make_room.ensures.told w.3 in (
       w.0,
       w.1,
       w.2,
-      dying g.L.FinishLedger.stands c.args.p.now.script w.0 w.1 c.make_room.new.self c.in-Some.place w.2 c.len.result can w.4 c.len.ensures c.in-Some.ensures.due,
+      dying g.L.FinishLedger.stands c.args.p.now.script w.0 w.1 c.make_room.new.self c.in-Some.place w.2 c.len.result can c.len.ensures c.in-Some.ensures.due,
       subst (λ (ns : List ℕ). IsReady (tree_in w.1 w.2) ns) (sym c.in_ok-make_room.ensures.members) w.3.ready,
       subst (λ (xs : List Origin). TellsOrigins (tree_in w.1 w.2) xs) (sym c.in_ok-make_room.ensures.origins) w.3.origins,
     )
@@ -33,19 +33,19 @@ make_death-requires-clause-game g c =
 pub take_pick-requires-clause-game : goal.take_pick-requires-clause-game
 take_pick-requires-clause-game g c =
     let w = c.requires.game in
-    let can = roomy-can g.L.FinishLedger.stands c.args.p.now.script w.0 w.1 c.args.self.now c.make_room.new.self w.2 c.games_come.ensures c.fold_is_reached.ensures c.in_ok-make_room.ensures.same c.in_ok-make_room.ensures.told w.3 w.4 w.5 in
+    let can = roomy-can g.L.FinishLedger.stands c.args.p.now.script w.0 w.1 c.args.self.now c.make_room.new.self w.2 c.games_come.ensures c.fold_is_reached.ensures c.in_ok-make_room.ensures.same c.in_ok-make_room.ensures.told w.3 in
     let ready = subst (λ (ns : List ℕ). IsReady (tree_in w.1 w.2) ns) (sym c.in_ok-make_room.ensures.members) w.3.ready in
     let told = subst (λ (xs : List Origin). TellsOrigins (tree_in w.1 w.2) xs) (sym c.in_ok-make_room.ensures.origins) w.3.origins in
-    (w.0, w.1, w.2, calm g.L.FinishLedger.stands c.args.p.now.script w.0 w.1 c.make_room.new.self w.2 c.len.result can w.4 c.len.ensures c.in-None.ensures.none ready told)
+    (w.0, w.1, w.2, calm g.L.FinishLedger.stands c.args.p.now.script w.0 w.1 c.make_room.new.self w.2 c.len.result can c.len.ensures c.in-None.ensures.none ready told)
 
 pub returns-in-Some-clause-moved : goal.returns-in-Some-clause-moved
 returns-in-Some-clause-moved g c = λ e. (
   false,
-  λ code U G h on unreleased.
-      let can = roomy-can g.L.FinishLedger.stands c.args.p.now.script code U c.args.self.now c.make_room.new.self G c.games_come.ensures c.fold_is_reached.ensures c.in_ok-make_room.ensures.same c.in_ok-make_room.ensures.told h on unreleased in
+  λ code U G h.
+      let can = roomy-can g.L.FinishLedger.stands c.args.p.now.script code U c.args.self.now c.make_room.new.self G c.games_come.ensures c.fold_is_reached.ensures c.in_ok-make_room.ensures.same c.in_ok-make_room.ensures.told h in
       let ready = subst (λ (ns : List ℕ). IsReady (tree_in U G) ns) (sym c.in_ok-make_room.ensures.members) h.ready in
       let told = subst (λ (xs : List Origin). TellsOrigins (tree_in U G) xs) (sym c.in_ok-make_room.ensures.origins) h.origins in
-      c.make_death.ensures code U (g.P.Picks.number c.args.picks.now 0) G (dying g.L.FinishLedger.stands c.args.p.now.script code U c.make_room.new.self c.in-Some.place G c.len.result can on c.len.ensures c.in-Some.ensures.due) ready told,
+      c.make_death.ensures code U (g.P.Picks.number c.args.picks.now 0) G (dying g.L.FinishLedger.stands c.args.p.now.script code U c.make_room.new.self c.in-Some.place G c.len.result can c.len.ensures c.in-Some.ensures.due) ready told,
   λ j. refl,
 )
 
@@ -53,29 +53,37 @@ pub returns-in-None-clause-moved : goal.returns-in-None-clause-moved
 returns-in-None-clause-moved g c = λ e.
     let moved = c.take_pick.ensures.moved e in (
       true,
-      λ code U G h on unreleased.
-          let can = roomy-can g.L.FinishLedger.stands c.args.p.now.script code U c.args.self.now c.make_room.new.self G c.games_come.ensures c.fold_is_reached.ensures c.in_ok-make_room.ensures.same c.in_ok-make_room.ensures.told h on unreleased in
+      λ code U G h.
+          let can = roomy-can g.L.FinishLedger.stands c.args.p.now.script code U c.args.self.now c.make_room.new.self G c.games_come.ensures c.fold_is_reached.ensures c.in_ok-make_room.ensures.same c.in_ok-make_room.ensures.told h in
           let ready = subst (λ (ns : List ℕ). IsReady (tree_in U G) ns) (sym c.in_ok-make_room.ensures.members) h.ready in
           let told = subst (λ (xs : List Origin). TellsOrigins (tree_in U G) xs) (sym c.in_ok-make_room.ensures.origins) h.origins in
-          moved.0 code U G (calm g.L.FinishLedger.stands c.args.p.now.script code U c.make_room.new.self G c.len.result can on c.len.ensures c.in-None.ensures.none ready told),
+          moved.0 code U G (calm g.L.FinishLedger.stands c.args.p.now.script code U c.make_room.new.self G c.len.result can c.len.ensures c.in-None.ensures.none ready told),
       moved.1,
     )
 
 pub returns-in-None-clause-ended : goal.returns-in-None-clause-ended
-returns-in-None-clause-ended g c = λ e code U G h on unreleased.
-    let can = roomy-can g.L.FinishLedger.stands c.args.p.now.script code U c.args.self.now c.make_room.new.self G c.games_come.ensures c.fold_is_reached.ensures c.in_ok-make_room.ensures.same c.in_ok-make_room.ensures.told h on unreleased in
+returns-in-None-clause-ended g c = λ e code U G h.
+    let can = roomy-can g.L.FinishLedger.stands c.args.p.now.script code U c.args.self.now c.make_room.new.self G c.games_come.ensures c.fold_is_reached.ensures c.in_ok-make_room.ensures.same c.in_ok-make_room.ensures.told h in
     let ready = subst (λ (ns : List ℕ). IsReady (tree_in U G) ns) (sym c.in_ok-make_room.ensures.members) h.ready in
     let told = subst (λ (xs : List Origin). TellsOrigins (tree_in U G) xs) (sym c.in_ok-make_room.ensures.origins) h.origins in
-    c.take_pick.ensures.ended e code U G (calm g.L.FinishLedger.stands c.args.p.now.script code U c.make_room.new.self G c.len.result can on c.len.ensures c.in-None.ensures.none ready told)
+    c.take_pick.ensures.ended e code U G (calm g.L.FinishLedger.stands c.args.p.now.script code U c.make_room.new.self G c.len.result can c.len.ensures c.in-None.ensures.none ready told)
 
 pub returns-in-None-clause-refused : goal.returns-in-None-clause-refused
-returns-in-None-clause-refused g c = on_err c.take_pick.result (λ told code U G h on unreleased.
-    let can = roomy-can g.L.FinishLedger.stands c.args.p.now.script code U c.args.self.now c.make_room.new.self G c.games_come.ensures c.fold_is_reached.ensures c.in_ok-make_room.ensures.same c.in_ok-make_room.ensures.told h on unreleased in
+returns-in-None-clause-refused g c = on_errs c.take_pick.result (λ told same code U G h.
+    let can = roomy-can g.L.FinishLedger.stands c.args.p.now.script code U c.args.self.now c.make_room.new.self G c.games_come.ensures c.fold_is_reached.ensures c.in_ok-make_room.ensures.same c.in_ok-make_room.ensures.told h in
     let ready = subst (λ (ns : List ℕ). IsReady (tree_in U G) ns) (sym c.in_ok-make_room.ensures.members) h.ready in
     let origins = subst (λ (xs : List Origin). TellsOrigins (tree_in U G) xs) (sym c.in_ok-make_room.ensures.origins) h.origins in
-    told code U G (calm g.L.FinishLedger.stands c.args.p.now.script code U c.make_room.new.self G c.len.result can on c.len.ensures c.in-None.ensures.none ready origins)) c.take_pick.ensures.refused
+    let counts = counted g.L.FinishLedger.stands c.args.p.now.script code U c.args.self.now G c.games_come.ensures c.fold_is_reached.ensures c.reached_is_sound.ensures h in
+    record {
+      begun = told code U G (calm g.L.FinishLedger.stands c.args.p.now.script code U c.make_room.new.self G c.len.result can c.len.ensures c.in-None.ensures.none ready origins);
+      ready = ap length (same ∙ c.in_ok-make_room.ensures.members) ∙ counts;
+    }) c.take_pick.ensures.refused c.take_pick.ensures.ready
 
 pub returns-in_err-make_room-clause-refused : goal.returns-in_err-make_room-clause-refused
-returns-in_err-make_room-clause-refused g c = any_err c.from_residual.result (λ code U G h on unreleased.
-    refused-same g.L.FinishLedger.stands c.args.p.now.script code U c.args.self.now c.make_room.new.self (g.P.Picks.number c.args.picks.now 0) G c.games_go_on.ensures h.seated on unreleased c.in_err-make_room.ensures.told.0
-    (ap (λ (x : Machine g.row.L.Denot). x.stores) c.in_err-make_room.ensures.same))
+returns-in_err-make_room-clause-refused g c = any_err c.from_residual.result (λ code U G h. record {
+  begun = refused-same g.L.FinishLedger.stands c.args.p.now.script code U c.args.self.now c.make_room.new.self (g.P.Picks.number c.args.picks.now 0) G c.games_go_on.ensures h.seated h.unreleased c.in_err-make_room.ensures.told.0
+      (ap (λ (x : Machine g.row.L.Denot). x.stores) c.in_err-make_room.ensures.same);
+  ready =
+      ap length c.in_err-make_room.ensures.members
+      ∙ counted g.L.FinishLedger.stands c.args.p.now.script code U c.args.self.now G c.games_come.ensures c.fold_is_reached.ensures c.reached_is_sound.ensures h;
+})

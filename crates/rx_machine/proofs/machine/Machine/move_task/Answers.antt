@@ -17,7 +17,7 @@ act-requires-clause-game g c =
     let w = c.requires.game in
     let at = sym c.take_seat.ensures.taken ∙ c.in-Some.is in
     let a = acts g.L.FinishLedger.stands c.args.p.now.script w.0 w.1 c.args.self.now (record c.args.self.now { seats = c.take_seat.new.seats }) w.2 c.args.i c.in-At.here c.in-Some.seat w.3 c.games_come.ensures c.reached_is_sound.ensures w.4 at (record { same = refl; left = c.take_seat.ensures.left }) c.in-At.is in
-    (w.0, w.1, w.2, a.0, w.3, a.1, w.4.on.proper, w.4.on.few, w.4.on.makes)
+    (w.0, w.1, w.2, a.0, w.3, a.1)
 
 pub unreachable-requires : goal.unreachable-requires
 unreachable-requires g c =
@@ -34,10 +34,10 @@ pub returns-in-At-clause-made : goal.returns-in-At-clause-made
 returns-in-At-clause-made g c = on_ok c.act.result (λ h code U k G t.
     let at = sym c.take_seat.ensures.taken ∙ c.in-Some.is in
     let a = acts g.L.FinishLedger.stands c.args.p.now.script code U c.args.self.now (record c.args.self.now { seats = c.take_seat.new.seats }) k c.args.i c.in-At.here c.in-Some.seat G c.games_come.ensures c.reached_is_sound.ensures t at (record { same = refl; left = c.take_seat.ensures.left }) c.in-At.is in
-    h code U k a.0 G a.1 t.on.proper t.on.few t.on.makes) c.act.ensures.made
+    h code U k a.0 G a.1) c.act.ensures.made
 
 pub returns-in-At-clause-refused : goal.returns-in-At-clause-refused
 returns-in-At-clause-refused g c = on_err c.act.result (λ h code U k G t.
     let at = sym c.take_seat.ensures.taken ∙ c.in-Some.is in
     let a = acts g.L.FinishLedger.stands c.args.p.now.script code U c.args.self.now (record c.args.self.now { seats = c.take_seat.new.seats }) k c.args.i c.in-At.here c.in-Some.seat G c.games_come.ensures c.reached_is_sound.ensures t at (record { same = refl; left = c.take_seat.ensures.left }) c.in-At.is in
-    h code U k a.0 G a.1 t.on.proper t.on.few t.on.makes) c.act.ensures.refused
+    h code U k a.0 G a.1) c.act.ensures.refused

@@ -22,4 +22,4 @@ unreachable-requires-in-Err-NotYet g c =
 pub returns-in-Ok-clause-made : goal.returns-in-Ok-clause-made
 returns-in-Ok-clause-made g c = λ code U k G a.
     let reply = c.in-Ok.ensures (tree_in U G) a.holds.shares.ledger a.root in
-    finished g.L.FinishLedger.stands c.args.p.now.script code U c.args.self.now _ k G c.in-Ok.outcome.lost c.in-Ok.outcome.thrown a a.unreleased (reply.0, reply.1) (ap (λ l. l.entries) c.add.ensures) (ap (λ l. l.setup) c.add.ensures) refl reply.2
+    finished g.L.FinishLedger.stands c.args.p.now.script code U c.args.self.now _ k G c.in-Ok.outcome.lost c.in-Ok.outcome.thrown a a.unreleased (reply.0, reply.1) (ap (λ l. l.entries) c.add.ensures) (ap (λ l. l.setup) c.add.ensures) refl refl reply.2

@@ -1,9 +1,8 @@
 use Rattle.std.proofs.Common.{◌≤◌, ◌+◌, ℕ}
-use Rattle.rx_rules.specs.Code.{Block, work}
-use Rattle.rx_rules.specs.Run.{Given, Proper}
+use Rattle.rx_rules.specs.Code.{Block}
+use Rattle.rx_rules.specs.Run.{Given}
 use Rattle.rx_rules.specs.Picked.{Game, Player}
 use Rattle.rx_runs.specs.Steps.{steps}
-use Rattle.rx_runs.specs.SomeWords.{MakesSome}
 use Rattle.rx_machine.specs.Holds.{Acting}
 use Rattle.rx_machine.specs.Requests.{OnlyStores}
 use Rattle.rx_machine.proofs.machine.Machine.run_on.Given as goal
@@ -11,4 +10,4 @@ use Rattle.rx_machine.proofs.machine.Machine.run_on.Given as goal
 abbrev pub invariant-loop-made : goal.invariant-loop-made
 invariant-loop-made g l =
     OnlyStores l.initial.self l.self
-    × ((code : Block) (U : Given) (k : ℕ) (q : Player) (G : Game) → Acting g.L.FinishLedger.stands l.p.script code U l.initial.self k l.i l.here q l.initial.seat G → Proper U → work code ≤ 100000 → MakesSome code → (r : Player) × Acting g.L.FinishLedger.stands l.p.script code U l.self k l.i l.here r l.seat G × (steps r.term + l._made ≤ 300000))
+    × ((code : Block) (U : Given) (k : ℕ) (q : Player) (G : Game) → Acting g.L.FinishLedger.stands l.p.script code U l.initial.self k l.i l.here q l.initial.seat G → (r : Player) × Acting g.L.FinishLedger.stands l.p.script code U l.self k l.i l.here r l.seat G × (steps r.term + l._made ≤ 300000))

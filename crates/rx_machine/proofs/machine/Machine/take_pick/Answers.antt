@@ -19,7 +19,7 @@ release_root-requires-clause-game g c =
       w.0,
       w.1,
       w.2,
-      releasing g.L.FinishLedger.stands c.args.p.now.script w.0 w.1 m w.2 m.ready.tasks.members c.games_come.ensures c.reached_is_sound.ensures c.none_enabled_is_quiet.ensures c.root_stands_until_released.ensures w.3
+      releasing g.L.FinishLedger.stands c.args.p.now.script w.0 w.1 m w.2 c.games_come.ensures c.reached_is_sound.ensures c.none_enabled_is_quiet.ensures c.root_stands_until_released.ensures w.3
           (ready_slots c.args.p.now.script (tree_in w.1 w.2) w.2.players m.seats.items m.ready.tasks.members w.3.can.holds.seats w.3.ready) none,
     )
 
@@ -28,13 +28,13 @@ returns-then-len-eq0-clause-ended g c = λ e code U G calm.
     let m = c.args.self.now in
     let none : length m.ready.tasks.members ≡ 0 = omega (arith, c.len.ensures.len, c.if-len-eq0.true) in
     c.in_ok-release_root.ensures.made code U (g.P.Picks.number c.args.picks.now 0) G
-    (releasing g.L.FinishLedger.stands c.args.p.now.script code U m G m.ready.tasks.members c.games_come.ensures c.reached_is_sound.ensures c.none_enabled_is_quiet.ensures c.root_stands_until_released.ensures calm
+    (releasing g.L.FinishLedger.stands c.args.p.now.script code U m G c.games_come.ensures c.reached_is_sound.ensures c.none_enabled_is_quiet.ensures c.root_stands_until_released.ensures calm
     (ready_slots c.args.p.now.script (tree_in U G) G.players m.seats.items m.ready.tasks.members calm.can.holds.seats calm.ready) none)
 
 pub returns-in_err-release_root-clause-refused : goal.returns-in_err-release_root-clause-refused
 returns-in_err-release_root-clause-refused g c = any_err c.from_residual.result (λ code U G quietly.
     let told = c.in_err-release_root.ensures.refused in
-    refused-same g.L.FinishLedger.stands c.args.p.now.script code U c.args.self.now c.release_root.new.self (g.P.Picks.number c.args.picks.now 0) G c.games_go_on.ensures quietly.can.holds quietly.on quietly.can.unreleased (ap (λ l. l.entries) told.history) told.stores)
+    refused-same g.L.FinishLedger.stands c.args.p.now.script code U c.args.self.now c.release_root.new.self (g.P.Picks.number c.args.picks.now 0) G c.games_go_on.ensures quietly.can.holds quietly.can.unreleased (ap (λ l. l.entries) told.history) told.stores)
 
 pub move_task-requires-clause-game : goal.move_task-requires-clause-game
 move_task-requires-clause-game g c =
@@ -56,7 +56,7 @@ returns-in_err-move_task-clause-refused g c = any_err c.from_residual-in_err-mov
     let t = taken g.L.FinishLedger.stands c.args.p.now.script code U m G m.ready.tasks.members k c.chosen-i.result c.reached_is_sound.ensures quietly
     (ready_slots c.args.p.now.script (tree_in U G) G.players m.seats.items m.ready.tasks.members quietly.can.holds.seats quietly.ready) c.chosen-i.ensures.taken
     in
-    refused-told g.L.FinishLedger.stands c.args.p.now.script code U m c.move_task.new.self k G c.games_go_on.ensures quietly.can.holds quietly.on quietly.can.unreleased c.in_err-move_task.ensures.history (c.in_err-move_task.ensures.refused code U k G t))
+    refused-told g.L.FinishLedger.stands c.args.p.now.script code U m c.move_task.new.self k G c.games_go_on.ensures quietly.can.holds quietly.can.unreleased c.in_err-move_task.ensures.history (c.in_err-move_task.ensures.refused code U k G t))
 
 pub note_turn-requires-clause-room : goal.note_turn-requires-clause-room
 note_turn-requires-clause-room g c =
@@ -124,6 +124,6 @@ returns-clause-moved g c = λ e. (
       let size : c.len-before.result ≡ length m.seats.items = omega (arith, c.len-before.ensures, m.seats.ok.0) in
       let h = has-moved stands c.args.p.now.script code U m c.move_task.new.self k c.chosen-i.result c.under_of-under.result c.len-before.result G c.games_come.ensures c.fold_is_reached.ensures t quietly.ready a c.in_ok-move_task.ensures.ready (λ seat at. c.under_of-under.ensures seat (ap (λ (xs : List (Option Seat)). seat_at xs c.chosen-i.result) c.deref.ensures.value ∙ at)) size in
       let told : TellsOrigins (tree_in U G) c.move_task.new.self.ready.origins.items = subst (λ (r : Ready). TellsOrigins (tree_in U G) r.origins.items) (sym c.in_ok-move_task.ensures.ready) quietly.origins in
-      went-on stands c.args.p.now.script code U c.move_task.new.self c.note_turn.new.self k c.chosen-i.result c.under_of-under.result c.len-before.result G a.0 h quietly.can.unreleased c.note_turn.ensures.same (c.note_turn.ensures.ready c.args.p.now.script code U k G a.0 h told) (c.note_turn.ensures.origins c.args.p.now.script code U k G a.0 h told),
+      went-on stands c.args.p.now.script code U c.move_task.new.self c.note_turn.new.self k c.chosen-i.result c.under_of-under.result c.len-before.result G a.0 h c.note_turn.ensures.same (c.note_turn.ensures.ready c.args.p.now.script code U k G a.0 h told) (c.note_turn.ensures.origins c.args.p.now.script code U k G a.0 h told),
   c.chosen-i.ensures.later,
 )

@@ -10,7 +10,7 @@ use Rattle.rx_rules.specs.declared.entries.Entry.{Entry}
 use Rattle.rx_rules.specs.declared.events.PlaceEvent.{PlaceEvent}
 use Rattle.rx_rules.specs.Run.{Given}
 use Rattle.rx_text.specs.Numbers.{natural_text}
-use Rattle.rx_text.proofs.Digits.{digit-first, some-decimal}
+use Rattle.rx_text.proofs.Digits.{digit-first, digits-all, some-decimal}
 use Rattle.rx_trace.specs.EntryLines.{entry_text}
 use Rattle.rx_trace.specs.EventLines.{event_text}
 use Rattle.rx_trace.specs.Fields.{kill_field}
@@ -24,7 +24,7 @@ use Rattle.rx_reading.proofs.Figures.{true-lt}
 use Rattle.rx_reading.proofs.Plans.{sizes_text, sizes-again, kills-line-again}
 use Rattle.rx_reading.proofs.Spelt.{some-is, not-none}
 use Rattle.rx_reading.proofs.States.{state_text, SoFar, FitEntries, ended, stepped, over-is-text, journals-fit-end}
-use Rattle.rx_reading.proofs.Wholes.{LineAgain, entry-line-again, event-line-again, number-plain-all, digits-all}
+use Rattle.rx_reading.proofs.Wholes.{LineAgain, entry-line-again, event-line-again, number-plain-all}
 
 -- lines that can be read one after the other
 abbrev all_ended : List (List ℕ) → List ℕ

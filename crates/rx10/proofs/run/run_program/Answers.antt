@@ -6,10 +6,10 @@ use Rattle.rx_trace.specs.Setups.{given}
 use Rattle.rx10.proofs.run.run_program.Goals as goal
 
 pub run-requires : goal.run-requires
-run-requires g c = λ works.
+run-requires g c =
     let w = c.checked.ensures in
     let U : Given = given c.args.setup in
-    (w.0, U, start_game w.0 U, c.in_ok-machine.ensures w.0 w.1)
+    record { game = λ works. (w.0, U, start_game w.0 U, c.in_ok-machine.ensures w.0 w.1) }
 
 pub returns-clause-picked : goal.returns-clause-picked
 returns-clause-picked g c numbers same code stands =

@@ -1,0 +1,115 @@
+"""The words of the commands, for the help that the tools give. What the words mean the program says; docs/commands.md has the rules."""
+
+import difflib
+import os
+import re
+
+RANGES = {
+    "--places": (1, 16, "the number of places"),
+    "--heap": (1, 4096, "the words of each place's heap"),
+    "--workers": (1, 8, "the number of workers"),
+    "--size": (1, 10000, "the lines of the script"),
+    "--seed": (0, 18446744073709551615, "a seed"),
+}
+MOST_MOMENT = 1000000
+OPTIONS = {
+    "step": ["--places", "--heap", "--kill", "--pick", "--seed"],
+    "live": ["--places", "--heap", "--kill", "--workers"],
+    "gen": ["--size", "--places", "--heap", "--kill", "--seed"],
+    "check": [],
+}
+FILES = ("step", "live", "check")
+OF_LAUNCHER = ("draw", "sweep", "explain", "install", "build", "help")
+
+
+def value_rule(option):
+    """What the value of an option must be, in words."""
+    if option in RANGES:
+        least, most, what = RANGES[option]
+        return "`%s` takes %s, from %d to %d" % (option, what, least, most)
+    if option == "--kill":
+        return "`--kill` takes PLACE@MOMENT, as in 2@9: a place from 1 to 15, and how many entries the history has then, from 0 to %d" % MOST_MOMENT
+    if option == "--pick":
+        return "`--pick` takes numbers from 0 to 1000000 with commas between them, as in 0,0,1"
+    return "`%s` takes a value" % option
+
+
+def number_of(text):
+    """The number that these digits spell, or None where they spell none in its one form."""
+    return int(text) if re.fullmatch("0|[1-9][0-9]*", text) else None
+
+
+def why_kill(words, k):
+    """What is wrong with the value of `--kill` at word k."""
+    form = re.fullmatch("(0|[1-9][0-9]*)@(0|[1-9][0-9]*)", words[k])
+    if not form or int(form[1]) > 15 or int(form[2]) > MOST_MOMENT:
+        return value_rule("--kill")
+    place, places = int(form[1]), 2
+    earlier = set()
+    for i in range(1, len(words) - 1, 2):
+        if words[i] == "--places":
+            places = number_of(words[i + 1]) or places
+        if words[i] == "--kill" and i + 1 < k:
+            earlier.add(words[i + 1].split("@")[0])
+    if place == 0:
+        return "place 0 never dies"
+    if place >= places:
+        return "there is no place %d: the places are 0 to %d (`--places %d` has it)" % (place, places - 1, place + 1)
+    if form[1] in earlier:
+        return "an earlier `--kill` has place %d already, and a place dies once" % place
+    return value_rule("--kill")
+
+
+def near(word, known):
+    """A hint at the known word that this one may have been meant to be."""
+    found = difflib.get_close_matches(word, known, 1)
+    return "; is `%s` meant?" % found[0] if found else ""
+
+
+def why_option(words, k):
+    """What is wrong with word k, where an option of the command must stand."""
+    command, word = words[0], words[k]
+    options = OPTIONS[command]
+    if word in options:
+        if word in ("--seed", "--pick") and word not in words[1:k]:
+            return "`--seed` and `--pick` exclude each other"
+        return "`%s` stands twice" % word
+    if command in FILES and os.path.isfile(word):
+        return "a file must be the last word"
+    if command in FILES and k == len(words) - 1 and not word.startswith("-"):
+        return "there is no file `%s` here" % word
+    if word.startswith("--") and "=" in word and word.split("=")[0] in options:
+        return "write `%s %s`: an option and its value are two words" % tuple(word.split("=", 1))
+    if not options:
+        return "`%s` takes no options" % command
+    return "`%s` has no option `%s`%s" % (command, word, near(word, options) or "; it has %s" % ", ".join(options))
+
+
+def why(words, k):
+    """What is wrong with word k of a command, where the program answers `usage k`."""
+    if k == 0:
+        commands = list(OPTIONS)
+        if not words:
+            return "a command is missing: %s" % ", ".join(commands)
+        return "there is no command `%s`%s" % (words[0], near(words[0], [*commands, *OF_LAUNCHER]) or "; there are %s" % ", ".join(commands))
+    if words[0] not in OPTIONS:
+        return "this word is not known"
+    if k >= len(words):
+        if len(words) % 2 == 0:
+            return "a value is missing: %s" % value_rule(words[-1])
+        return "`gen` needs `--size LINES`" if words[0] == "gen" else "a word is missing"
+    if k % 2 == 1:
+        return why_option(words, k)
+    return why_kill(words, k) if words[k - 1] == "--kill" else value_rule(words[k - 1])
+
+
+def shown(words, k, program="rx10"):
+    """The words on a line, with a mark under word k on the next one."""
+    line, under = program, 0
+    for number, word in enumerate([*words, ""]):
+        printed = word if re.fullmatch(r"[\w@%+=:,./-]+", word) or number == len(words) else repr(word)
+        if number == k:
+            under = len(line) + 1
+            mark = "^" * max(len(printed), 1)
+        line += " " + printed if number < len(words) else ""
+    return "%s\n%s%s" % (line, " " * under, mark)

@@ -1,7 +1,7 @@
 #!/usr/bin/env python3
 """Draws a trace: a lane for each place, a bar for each activity, a bracket for each scope, and a list of all entries.
 
-usage: rx10 draw [TRACE] [-o FILE] [--script FILE] [--columns N] [--title TEXT] [--perfetto]
+usage: rx10 draw [TRACE] [-o FILE] [--script FILE] [--columns N] [--title TEXT] [--svg | --perfetto]
 
 TRACE is what `rx10 step` wrote; standard input where it is left out. The picture is one HTML file that needs nothing else: NAME.html in
 this folder for NAME.trace, standard output where the trace came from standard input.
@@ -9,6 +9,7 @@ this folder for NAME.trace, standard output where the trace came from standard i
   -o FILE         writes to FILE; `-` is standard output
   --script FILE   shows with each entry the line of the script that it comes from
   --columns N     so many entries in a strip; 32 where it is left out
+  --svg           in place of the page, its picture alone (NAME.svg)
   --perfetto      in place of the picture, JSON that ui.perfetto.dev and chrome://tracing open (NAME.json)
 
 Keys in the picture: arrows choose an entry, + and - zoom, 0 ends that. Exit status: 0; 1 where TRACE is no trace; 2 for bad words; 125
@@ -30,8 +31,7 @@ import trace_text
 
 FAILED = 125
 HERE = pathlib.Path(__file__).resolve().parent
-DEAD = """<svg width="0" height="0" style="position:absolute" aria-hidden="true"><defs><pattern id="dead" width="7" height="7" patternUnits="userSpaceOnUse"
- patternTransform="rotate(45)"><rect width="7" height="7" fill="#c9ccd3" opacity=".55"/><path d="M0 0V7" stroke="#7d8594" stroke-width="1.6"/></pattern></defs></svg>"""
+DEAD = '<svg width="0" height="0" style="position:absolute" aria-hidden="true">%s</svg>' % lanes.DEAD
 LEGEND = [
     ('<rect class="bar" style="--hue:212" x="0" y="3" width="26" height="11"/>', "an activity runs"),
     ('<rect class="waits" style="--hue:212" x="0" y="3" width="26" height="11"/>', "it waits"),
@@ -88,14 +88,14 @@ def page(trace, title, found, source, columns):
     came = "the root was released" + (activities.names_of(root) or ", with nothing lost and nothing thrown") if root else "the root is not released"
     drawn = lanes.strips(story, columns)
     legend = "".join('<span><svg width="28" height="17">%s</svg>%s</span>' % it for it in LEGEND)
-    setup = "%d places, %d heap words each; kills: %s" % (trace.places, trace.heap, " ".join(trace.kills) or "none")
+    setup = "%d place%s, %d heap words each; kills: %s" % (trace.places, "" if trace.places == 1 else "s", trace.heap, " ".join(trace.kills) or "none")
     if trace.joins:
         setup += "; joins: %s" % " ".join(trace.joins)
     shown = "<pre class=source>%s</pre>" % escape(source.rstrip()) if source else ""
     parts = [
         "<!doctype html>\n<html lang=en><head><meta charset=utf-8><meta name=viewport content='width=device-width'>",
         "<title>%s</title><style>%s</style></head>" % (escape(title), (HERE / "page.css").read_text()),
-        '<body data-column="%d" data-left="%d" data-total="%d">' % (lanes.COLUMN, lanes.LEFT, len(trace.entries)), DEAD,
+        '<body data-column="%d" data-left="%d" data-total="%d">' % (lanes.COLUMN, lanes.LEFT + lanes.FIRST - lanes.COLUMN // 2, len(trace.entries)), DEAD,
         '<header><div class="controls" hidden><button data-zoom="0.8" title="key -">−</button> <span class="zoom">100 %</span> '
         '<button data-zoom="1.25" title="key +">+</button> <button data-zoom="1" title="key 0">reset</button></div>',
         "<h1>%s</h1><p>%s. %d entries, %d activities; %s.</p>" % (escape(title), escape(setup), len(trace.entries), len(story.activities), escape(came)),
@@ -115,6 +115,7 @@ def arguments(words):
     parser.add_argument("--title")
     parser.add_argument("--columns", type=int, default=32)
     parser.add_argument("--perfetto", action="store_true")
+    parser.add_argument("--svg", action="store_true")
     given = parser.parse_args(words)
     if given.columns < 4:
         parser.error("--columns takes a number from 4")
@@ -135,11 +136,15 @@ def main(words):
         trace = trace_text.read_trace(text.decode("utf-8", "replace"))
         if given.perfetto:
             made = json.dumps({"displayTimeUnit": "ns", "traceEvents": perfetto.events_of(activities.Story(trace))})
+        elif given.svg:
+            style = "".join(it for it in (HERE / "page.css").read_text().splitlines(True) if it.startswith("svg "))
+            made = lanes.whole(lanes.strips(activities.Story(trace), given.columns), style)
         else:
             found = source_lines(given.script, script) if script is not None else None
             title = given.title or (pathlib.Path(given.trace).stem if given.trace else "trace")
             made = page(trace, title, found, script.decode("utf-8", "replace") if script is not None else None, given.columns)
-        out = given.out or ("-" if not given.trace else pathlib.Path(given.trace).stem + (".json" if given.perfetto else ".html"))
+        ending = ".json" if given.perfetto else ".svg" if given.svg else ".html"
+        out = given.out or ("-" if not given.trace else pathlib.Path(given.trace).stem + ending)
         if out == "-":
             sys.stdout.write(made)
             sys.stdout.flush()

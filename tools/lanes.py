@@ -5,18 +5,24 @@ a text do, so that it can be read and printed without being moved sideways. A st
 that only wait or travel it shows a few, and tells how many more there are.
 """
 
+import re
 from bisect import bisect_left
 from html import escape
 
 from activities import counted
 
 COLUMN = 32
-LEFT = 74
+LEFT = 70
+FIRST = 26
 BAR = 11
 LEVEL = 9
 NOTE = 11
 GAP = 5
 IDLE_SHOWN = 6
+
+
+DEAD = """<defs><pattern id="dead" width="7" height="7" patternUnits="userSpaceOnUse" patternTransform="rotate(45)">\
+<rect width="7" height="7" fill="#c9ccd3" opacity=".55"/><path d="M0 0V7" stroke="#7d8594" stroke-width="1.6"/></pattern></defs>"""
 
 
 def hue(place):
@@ -43,7 +49,7 @@ class Strip:
     def __init__(self, story, begin, end, active):
         self.story, self.begin, self.end = story, begin, end
         self.total = len(story.trace.entries)
-        self.width = LEFT + (end - begin) * COLUMN + 12
+        self.width = LEFT + FIRST + (end - begin) * COLUMN - COLUMN // 2 + 14
         self.parts = []
         self.row_of = {}
         self.active = active
@@ -52,7 +58,7 @@ class Strip:
 
     def x(self, moment):
         """The middle of an entry's column."""
-        return LEFT + (moment - self.begin + 0.5) * COLUMN
+        return LEFT + FIRST + (moment - self.begin) * COLUMN
 
     def clip(self, moment):
         """The middle of an entry's column, or the edge of the strip where that lies beyond it."""
@@ -273,13 +279,25 @@ class Strip:
         self.put('<path class="fault%s" d="M%g %gl5 8h-10z"/>', " of-loss" if entry.lost else "", x, y - BAR - 4)
         text = ", ".join(words)
         text = text if len(text) <= 44 else text[:42] + "…"
-        width = 5.3 * len(text)
+        width = (6.2 if entry.lost else 5.8) * len(text)
         left = min(x - 4, self.width - width - 4)
         for line, end in enumerate(free):
             if end <= left:
                 self.put('<text class="note%s" x="%g" y="%g">%s</text>', " of-loss" if entry.lost else "", left, y + NOTE * (line + 1) - 2, escape(text))
                 free[line] = left + width + 6
                 return
+
+
+def whole(drawn, style):
+    """The strips below one another as one SVG that stands by itself."""
+    sizes = [tuple(map(int, re.search(r'viewBox="0 0 (\d+) (\d+)"', it).groups())) for it in drawn]
+    parts, top = [], 4
+    for svg, (width, height) in zip(drawn, sizes):
+        parts.append(svg.replace("<svg ", '<svg x="0" y="%d" width="%d" height="%d" ' % (top, width, height), 1))
+        top += height + 10
+    width = max(width for width, _ in sizes)
+    return '<svg xmlns="http://www.w3.org/2000/svg" viewBox="0 0 %d %d" width="%d" height="%d"><style>%s</style>%s<rect width="100%%" height="100%%" fill="#fff"/>%s</svg>\n' % (
+        width, top, width, top, style, DEAD, "\n".join(parts))
 
 
 def strips(story, columns):

@@ -1,0 +1,38 @@
+#!/usr/bin/env python3
+"""Holds the examples to the program, and tries the launcher and the tools. Run it by hand from anywhere: python3 tools/check.py [NAME..]
+
+It uses the program that crates/rx10/out/rx10 is, and has `./rx10 build` make it where it is missing; RX10_PROGRAM names another one. The
+last line is `N passed, N failed`. Nothing here is part of a claim: what is proved `rt ci` tells.
+"""
+
+import os
+import pathlib
+import subprocess
+import sys
+import unittest
+
+HERE = pathlib.Path(__file__).resolve().parent
+sys.dont_write_bytecode = True
+
+
+def main(names):
+    program = os.environ.get("RX10_PROGRAM")
+    if not program:
+        program = HERE.parent / "crates" / "rx10" / "out" / "rx10"
+        if subprocess.run([HERE.parent / "rx10", "build"], stdin=subprocess.DEVNULL, check=False).returncode or not program.exists():
+            print("0 passed, 1 failed")
+            return 1
+    os.environ["RX10_PROGRAM"] = str(program)
+    # (these are read where the tests are loaded)
+    os.environ["PYTHONDONTWRITEBYTECODE"] = "1"
+    sys.path[:0] = [str(HERE), str(HERE / "tests")]
+    loader = unittest.TestLoader()
+    found = loader.loadTestsFromNames(names) if names else loader.discover(str(HERE / "tests"))
+    result = unittest.TextTestRunner(stream=sys.stdout, verbosity=0).run(found)
+    failed = len({it[0].id() for it in [*result.failures, *result.errors]}) + len(result.unexpectedSuccesses)
+    print("%d passed, %d failed" % (result.testsRun - failed - len(result.skipped), failed))
+    return 1 if failed or not result.testsRun else 0
+
+
+if __name__ == "__main__":
+    sys.exit(main(sys.argv[1:]))

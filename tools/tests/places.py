@@ -1,0 +1,9 @@
+"""Where the tests find the repository, the program and the examples."""
+
+import os
+import pathlib
+
+TOP = pathlib.Path(__file__).resolve().parent.parent.parent
+PROGRAM = os.environ["RX10_PROGRAM"]
+EXAMPLES = TOP / "examples"
+PICTURES = TOP / "docs" / "pictures"

@@ -1,0 +1,48 @@
+"""Each example gives the trace that stands beside it, by the words that it names."""
+
+import pathlib
+import re
+import subprocess
+import unittest
+
+from places import EXAMPLES, PICTURES, PROGRAM, TOP
+
+import trace_text
+
+RUN = re.compile(r"Run it with: \./rx10 (step.*) (examples/\S+)$", re.M)
+
+
+class Examples(unittest.TestCase):
+    """One test for each script; they are made below."""
+
+    maxDiff = None
+
+    def try_example(self, path):
+        found = RUN.search(path.read_text())
+        self.assertIsNotNone(found, "the example names no words: `Run it with: ./rx10 step .. examples/%s`" % path.name)
+        self.assertEqual(TOP / found[2], path)
+        with open(path, "rb") as source:
+            done = subprocess.run([PROGRAM, *found[1].split()], stdin=source, capture_output=True, timeout=60, check=False)
+        self.assertEqual(done.stdout.decode(), path.with_suffix(".trace").read_text())
+        root = trace_text.read_trace(done.stdout.decode()).root()
+        self.assertEqual(done.returncode, 1 if root.lost or root.thrown else 0)
+        self.assertEqual(done.stderr, b"")
+
+    def test_each_has_a_trace(self):
+        self.assertEqual({it.stem for it in EXAMPLES.glob("*.rx")}, {it.stem for it in EXAMPLES.glob("*.trace")})
+
+    def test_pictures_are_of_the_traces(self):
+        for picture in PICTURES.glob("*.svg"):
+            trace = EXAMPLES / (picture.stem + ".trace")
+            if not trace.exists():
+                continue
+            done = subprocess.run([TOP / "rx10", "draw", trace, "--svg", "-o", "-"], capture_output=True, timeout=60, check=False)
+            self.assertEqual(done.stdout.decode(), picture.read_text(), "make it again: ./rx10 draw %s --svg -o %s" % (trace, picture))
+
+
+def add(path):
+    setattr(Examples, "test_" + path.stem, lambda self: self.try_example(path))
+
+
+for it in sorted(EXAMPLES.glob("*.rx")):
+    add(pathlib.Path(it))

@@ -1,0 +1,84 @@
+"""What is added to a refusal."""
+
+import unittest
+
+import explain
+import script_text
+
+# A script, what the program says of it, and the first line and the mark of what is added.
+FAULTS = [
+    ("print 7", "syntax 7", "x:1:8: the script ends here, though more must come: `;` must come", "       ^"),
+    ("print 1;\nprint 7\n# end\n", "syntax 23", "x:3:6: the script ends here, though more must come: `;` must come", "     ^"),
+    ("print 7; pri", "syntax 9", "x:1:10: `pri` can't stand here: a statement must come", "         ^^^"),
+    ("print 9223372036854775808;", "syntax 6", "x:1:7: `9223372036854775808` can't stand here: a number, a name, `here` or `(` must come",
+     "      ^^^^^^^^^^^^^^^^^^^"),
+    ("new r = 0;", "syntax 8", "x:1:9: `0` can't stand here: a number from 1 to 65,536 must come", "        ^"),
+    ("if 1 { }\nprint 2;", "syntax 9", "x:2:1: `print` can't stand here: `else` must come", "^^^^^"),
+    ("async { } }", "syntax 10", "x:1:11: `}` can't stand here: a statement must come", "          ^"),
+    ("print \N{SNOWMAN};", "syntax 6", "x:1:7: `\N{SNOWMAN}` can't stand here: a number, a name, `here` or `(` must come", "      ^"),
+    ("print (7);", "syntax 8", "x:1:9: `)` can't stand here: `+`, `-`, `*`, `<` or `==` must come", "        ^"),
+    ("print x;", "bad 1 0", "x:1:7: `x` is not known here", "      ^"),
+    ("set x = 1;\n\tforget x;", "bad 2 1", "x:2:9: `x` is a number, and only a reference has words to read, write or forget", "\t       ^"),
+    ("if 1 { set x = 1; } else { print x; }", "bad 1 2", "x:1:34: `x` is not known here", " " * 33 + "^"),
+    ("new r = 1; set r = 2;", "bad 2 1", "x:1:16: `r` is a reference since its first assignment, and can't become a number", " " * 15 + "^"),
+    ("repeat 9 { repeat 11109 { } } print 1;", "bad 5 0", "x:1:1: the script may do too much", "^^^^^^"),
+    ("".join("set a%d = 1;" % i for i in range(33)), "bad 4 32", "x:1:379: `a32` is one name too many", None),
+    ("finish { " * 33 + "print 1;" + " }" * 33, "bad 3 33", "x:1:298: this statement stands in 33 blocks", None),
+    ("print " + "(" * 33 + "1" + " + 1)" * 33 + ";", "bad 3 0", "x:1:39: this expression has 33 parentheses in one another", None),
+]
+# Words of a command, what the program says of them, and what is added.
+WORDS = [
+    ("", 0, "a command is missing"),
+    ("stepp", 0, "is `step` meant?"),
+    ("step --kill", 2, "a value is missing: `--kill` takes PLACE@MOMENT"),
+    ("step --places 17", 2, "from 1 to 16"),
+    ("step --places 2 --kill 0@3", 4, "place 0 never dies"),
+    ("step --kill 3@1", 2, "`--places 4` has it"),
+    ("step --kill 1@1 --kill 1@2", 4, "an earlier `--kill` has place 1"),
+    ("step --seed 5 --pick 0", 3, "exclude each other"),
+    ("step --seed 5 --seed 6", 3, "stands twice"),
+    ("step --places=3", 1, "write `--places 3`"),
+    ("step nothing.rx", 1, "there is no file `nothing.rx` here"),
+    ("live --workers 9", 2, "the number of workers, from 1 to 8"),
+    ("gen --places 3", 3, "`gen` needs `--size LINES`"),
+]
+
+
+class Faults(unittest.TestCase):
+    def test_places_of_faults(self):
+        for script, said, line, mark in FAULTS:
+            with self.subTest(script=script):
+                shown = explain.explained(3 if "syntax" in said else 4, said, "x", script.encode(), ["check"])
+                self.assertEqual(shown.split("\n")[0], line)
+                if mark is not None:
+                    self.assertEqual(shown.split("\n")[3].split("| ", 1)[1], mark)
+
+    def test_bad_words(self):
+        for words, k, part in WORDS:
+            with self.subTest(words=words):
+                self.assertIn(part, explain.explained(2, "usage %d" % k, None, None, words.split()))
+
+    def test_the_mark_stands_under_the_word(self):
+        shown = explain.explained(2, "usage 2", None, None, ["step", "--heap", "0"]).split("\n")
+        self.assertEqual(shown[1:3], ["  rx10 step --heap 0", " " * 19 + "^"])
+
+    def test_a_long_line_is_cut(self):
+        shown = explain.explained(3, "syntax 900", "x", b"print 1; " * 100 + b"prin", ["check"]).split("\n")
+        self.assertLess(max(map(len, shown)), 140)
+        self.assertEqual(shown[2][shown[3].index("^"):], "prin")
+
+    def test_pairs_and_lines_of_traces(self):
+        shown = explain.explained(10, "bad line 2", "x", b"rx10 pair 8\nprint 7;rx10 trace 1\nplace 2\n", ["verify"])
+        self.assertTrue(shown.startswith("x:3:1: line 2 of the trace can't stand here"), shown)
+        self.assertIn("is no pair", explain.explained(9, "bad pair", "x", b"", ["verify"]))
+
+    def test_deep_scripts_are_read(self):
+        for deep in (b"(" * 60000, b"finish{" * 9000, b"print " + b"(" * 20000 + b"1" + b"+1)" * 10000):
+            with self.assertRaises(script_text.Wrong):
+                script_text.Reader(deep).read()
+
+    def test_meanings(self):
+        self.assertIn("Syntax", explain.meaning("3"))
+        self.assertIn("BadTrace", explain.meaning("10"))
+        self.assertIn("place P", explain.meaning("dead:4"))
+        self.assertIsNone(explain.meaning("nonsense"))

@@ -34,8 +34,8 @@ class Sweeps(unittest.TestCase):
         self.assertNotIn("--kill 2@0 --kill 1@0", done.stdout)
 
     def test_seeds_alone(self):
-        done = launch("sweep", EXAMPLES / "picks.rx", "--seeds", "6", "--no-deaths")
-        self.assertIn("picks.rx: 6 runs, 2 outcomes", done.stdout)
+        done = launch("sweep", EXAMPLES / "picks.rx", "--seeds", "14", "--no-deaths")
+        self.assertIn("picks.rx: 14 runs, 2 outcomes", done.stdout)
         self.assertIn("1 2", done.stdout)
         self.assertIn("2 1", done.stdout)
 

@@ -1,0 +1,56 @@
+# Completion for bash: put `source PATH/tools/completion/rx10.bash` into ~/.bashrc. It completes `rx10` and `./rx10`.
+
+_rx10() {
+    local now=${COMP_WORDS[COMP_CWORD]} before=${COMP_WORDS[COMP_CWORD - 1]} command=${COMP_WORDS[1]} words=
+    COMPREPLY=()
+    if [ "$COMP_CWORD" -eq 1 ]; then
+        mapfile -t COMPREPLY < <(compgen -W 'step live check gen draw sweep explain install build help --help --version' -- "$now")
+        return
+    fi
+    case $before in
+        --places) words='1 2 3 4 5 6 7 8 9 10 11 12 13 14 15 16' ;;
+        --workers) words='1 2 3 4 5 6 7 8' ;;
+        --expect | --script | -o)
+            compopt -o default
+            return
+            ;;
+        --heap | --kill | --pick | --seed | --size | --seeds | --jobs | --columns | --title) return ;;
+    esac
+    if [ -n "$words" ]; then
+        mapfile -t COMPREPLY < <(compgen -W "$words" -- "$now")
+        return
+    fi
+    case $command in
+        step) words='--places --heap --kill --pick --seed --help' ;;
+        live) words='--places --heap --kill --workers --help' ;;
+        gen) words='--size --places --heap --kill --seed --help' ;;
+        check) words='--help' ;;
+        draw) words='-o --script --columns --title --svg --perfetto --help' ;;
+        sweep) words='--places --heap --kill --pick --seed --pairs --seeds --no-deaths --jobs --expect --help' ;;
+        explain) words='--help' ;;
+        install)
+            compopt -o filenames
+            mapfile -t COMPREPLY < <(compgen -d -- "$now")
+            return
+            ;;
+        help) words='step live check gen draw sweep explain install build' ;;
+        *) return ;;
+    esac
+    case $now in
+        -*) mapfile -t COMPREPLY < <(compgen -W "$words" -- "$now") ;;
+        *)
+            if [ "$command" = help ]; then
+                mapfile -t COMPREPLY < <(compgen -W "$words" -- "$now")
+                return
+            fi
+            # scripts, traces, and folders on the way to them
+            local ending=rx
+            [ "$command" = draw ] && ending=trace
+            [ "$command" = gen ] && return
+            compopt -o filenames
+            mapfile -t COMPREPLY < <(compgen -f -X "!*.$ending" -- "$now"; compgen -d -- "$now")
+            ;;
+    esac
+}
+
+complete -F _rx10 rx10 ./rx10

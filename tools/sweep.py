@@ -24,6 +24,7 @@ import difflib
 import os
 import subprocess
 import sys
+import tempfile
 import time
 
 import explain
@@ -41,10 +42,10 @@ class Refused(Exception):
         self.status, self.said, self.words = status, said, words
 
 
-def run(program, name, words):
-    """One run: what came of it, and how many entries its history has."""
+def run(program, script, words):
+    """One run of the script in this open file: what came of it, and how many entries its history has."""
     words = ["step", *words]
-    with open(name, "rb") as source:
+    with open("/proc/self/fd/%d" % script.fileno(), "rb") as source:
         done = subprocess.run([program, *words], stdin=source, stdout=subprocess.PIPE, stderr=subprocess.PIPE, check=False)
     if done.returncode not in (0, 1):
         raise Refused(done.returncode, done.stderr.decode("utf-8", "replace").strip(), words)
@@ -81,8 +82,8 @@ class Progress:
 class Sweep:
     """The runs of one script, and their groups."""
 
-    def __init__(self, program, name, given):
-        self.program, self.name, self.given = program, name, given
+    def __init__(self, program, script, given):
+        self.program, self.script, self.given = program, script, given
         self.groups = {}
         self.progress = Progress()
         self.moments = set()
@@ -103,7 +104,7 @@ class Sweep:
     def all_of(self, pool, asked):
         """Runs a list of (seed, kills) at once, and gives for each how many entries it had."""
         self.progress.known += len(asked)
-        waiting = [pool.submit(run, self.program, self.name, self.words(*it)) for it in asked]
+        waiting = [pool.submit(run, self.program, self.script, self.words(*it)) for it in asked]
         lengths = []
         try:
             for one, it in zip(asked, waiting):
@@ -147,7 +148,7 @@ class Sweep:
     def table(self):
         """The table, one line for each group, that of the run without a death first, and then by the number of runs."""
         runs = sum(map(len, self.groups.values()))
-        head = "%s%s: %s, %s" % (os.path.basename(self.name), "".join(" " + it for it in self.base), many(runs, "run"), many(len(self.groups), "outcome"))
+        head = "%s%s: %s, %s" % (os.path.basename(self.given.file), "".join(" " + it for it in self.base), many(runs, "run"), many(len(self.groups), "outcome"))
         rows = [("runs", "status", "prints", "thrown", "lost", "masked", "least words that lead to it")]
         for outcome, found in sorted(self.groups.items(), key=lambda it: (min(len(kills) for _, kills in it[1]) > 0, -len(it[1]), self.least(it[1])[1])):
             seed, kills = self.least(found)
@@ -210,10 +211,14 @@ def main(words):
     except OSError as why:
         print("rx10: can't read %s: %s" % (why.filename, why.strerror), file=sys.stderr)
         return FAILED
-    sweep = Sweep(os.environ["RX10_PROGRAM"], given.file, given)
+    # (a copy, so that an edit meanwhile does not mix two scripts)
+    script = tempfile.TemporaryFile()
+    script.write(text)
+    script.flush()
+    sweep = Sweep(os.environ["RX10_PROGRAM"], script, given)
     try:
         # (bad words and a bad script are refused before anything is counted)
-        run(sweep.program, given.file, sweep.base)
+        run(sweep.program, script, sweep.base)
         sweep.make()
     except Refused as refusal:
         sweep.progress.end()

@@ -183,4 +183,5 @@ def names_of(entry):
 
 def counted(faults):
     """Faults in a row, with repeats counted: `dead:1 dead:2 x3`."""
-    return " ".join(it if many == 1 else "%s x%d" % (it, many) for it, many in ((it, len(list(same))) for it, same in itertools.groupby(faults)))
+    runs = [(it, len(list(same))) for it, same in itertools.groupby(faults)]
+    return " ".join(it if many == 1 else "%s x%d" % (it, many) for it, many in runs)

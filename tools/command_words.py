@@ -28,7 +28,8 @@ def value_rule(option):
         least, most, what = RANGES[option]
         return "`%s` takes %s, from %d to %d" % (option, what, least, most)
     if option == "--kill":
-        return "`--kill` takes PLACE@MOMENT, as in 2@9: a place from 1 to 15, and how many entries the history has then, from 0 to %d" % MOST_MOMENT
+        form = "`--kill` takes PLACE@MOMENT, as in 2@9: a place from 1 to 15"
+        return "%s, and how many entries the history has then, from 0 to %d" % (form, MOST_MOMENT)
     if option == "--pick":
         return "`--pick` takes numbers from 0 to 1000000 with commas between them, as in 0,0,1"
     return "`%s` takes a value" % option
@@ -91,7 +92,8 @@ def why(words, k):
         commands = list(OPTIONS)
         if not words:
             return "a command is missing: %s" % ", ".join(commands)
-        return "there is no command `%s`%s" % (words[0], near(words[0], [*commands, *OF_LAUNCHER]) or "; there are %s" % ", ".join(commands))
+        known = [it for it in (*commands, *OF_LAUNCHER) if it != words[0]]
+        return "there is no command `%s`%s" % (words[0], near(words[0], known) or "; there are %s" % ", ".join(commands))
     if words[0] not in OPTIONS:
         return "this word is not known"
     if k >= len(words):

@@ -78,37 +78,45 @@ def item(entry, story, found):
         kinds = ["loss"]
     source = found(entry.path) if found and entry.path else None
     small = "<small>%s</small>" % escape(source) if source else ""
-    return '<li class="is-%s" title="%s"><b>%d</b>%s%s</li>' % (kinds[0], escape(entry.line), entry.number, escape(activities.in_words(entry, story)), small)
+    words = escape(activities.in_words(entry, story))
+    return '<li class="is-%s" title="%s"><b>%d</b>%s%s</li>' % (kinds[0], escape(entry.line), entry.number, words, small)
 
 
 def page(trace, title, found, source, columns):
     """The whole HTML file."""
     story = activities.Story(trace)
     root = trace.root()
-    came = "the root was released" + (activities.names_of(root) or ", with nothing lost and nothing thrown") if root else "the root is not released"
+    came = "the root is not released"
+    if root:
+        came = "the root was released" + (activities.names_of(root) or ", with nothing lost and nothing thrown")
     drawn = lanes.strips(story, columns)
+    items = [item(it, story, found) for it in trace.entries]
     legend = "".join('<span><svg width="28" height="17">%s</svg>%s</span>' % it for it in LEGEND)
-    setup = "%d place%s, %d heap words each; kills: %s" % (trace.places, "" if trace.places == 1 else "s", trace.heap, " ".join(trace.kills) or "none")
+    places = "%d place%s" % (trace.places, "" if trace.places == 1 else "s")
+    setup = "%s, %d heap words each; kills: %s" % (places, trace.heap, " ".join(trace.kills) or "none")
     if trace.joins:
         setup += "; joins: %s" % " ".join(trace.joins)
     shown = "<pre class=source>%s</pre>" % escape(source.rstrip()) if source else ""
     parts = [
         "<!doctype html>\n<html lang=en><head><meta charset=utf-8><meta name=viewport content='width=device-width'>",
         "<title>%s</title><style>%s</style></head>" % (escape(title), (HERE / "page.css").read_text()),
-        '<body data-column="%d" data-left="%d" data-total="%d">' % (lanes.COLUMN, lanes.LEFT + lanes.FIRST - lanes.COLUMN // 2, len(trace.entries)), DEAD,
+        '<body data-column="%d" data-left="%d" data-total="%d">' % (lanes.COLUMN, lanes.EDGE, len(trace.entries)),
+        DEAD,
         '<header><div class="controls" hidden><button data-zoom="0.8" title="key -">−</button> <span class="zoom">100 %</span> '
         '<button data-zoom="1.25" title="key +">+</button> <button data-zoom="1" title="key 0">reset</button></div>',
-        "<h1>%s</h1><p>%s. %d entries, %d activities; %s.</p>" % (escape(title), escape(setup), len(trace.entries), len(story.activities), escape(came)),
+        "<h1>%s</h1><p>%s. %d entries, %d activities; " % (escape(title), escape(setup), len(trace.entries), len(story.activities)),
+        "%s.</p>" % escape(came),
         '<div class="legend">%s</div></header>' % legend,
         '<div class="page"><main><div class="strips">%s</div>%s</main>' % ("\n".join(drawn), shown),
-        '<nav aria-label="entries" tabindex="0"><h2>Entries</h2><ol>%s</ol></nav></div>' % "\n".join(item(it, story, found) for it in trace.entries),
+        '<nav aria-label="entries" tabindex="0"><h2>Entries</h2><ol>%s</ol></nav></div>' % "\n".join(items),
         "<script>%s</script></body></html>\n" % (HERE / "page.js").read_text(),
     ]
     return "".join(parts)
 
 
 def arguments(words):
-    parser = argparse.ArgumentParser(prog="rx10 draw", usage="rx10 draw [TRACE] [OPTION..]  (rx10 draw --help tells them)", add_help=False, allow_abbrev=False)
+    usage = "rx10 draw [TRACE] [OPTION..]  (rx10 draw --help tells them)"
+    parser = argparse.ArgumentParser(prog="rx10 draw", usage=usage, add_help=False, allow_abbrev=False)
     parser.add_argument("trace", nargs="?")
     parser.add_argument("-o", dest="out")
     parser.add_argument("--script")

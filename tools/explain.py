@@ -122,7 +122,8 @@ def of_rule(name, text, rule, node):
         return None
     if rule == 5:
         statement = reader.statements[0]
-        return marked(name, text, statement.at, len(statement.kind), "the script may do too much", [RULES[5], "a `repeat` counts its block so many times"])
+        notes = [RULES[5], "a `repeat` counts its block so many times"]
+        return marked(name, text, statement.at, len(statement.kind), "the script may do too much", notes)
     at, why = script_text.culprit(block, node, rule, reader.statements)
     length = len(script_text.TOKEN.match(text, at).group())
     # (place_of tells a statement by its line; its number is the program's)
@@ -139,7 +140,8 @@ def of_line(name, text, number):
             break
         start = found + 1
     end = text.find(b"\n", start)
-    return marked(name, text, start, (len(text) if end < 0 else end) - start, "line %d of the trace can't stand here" % number, ["docs/trace.md has the lines"])
+    length = (len(text) if end < 0 else end) - start
+    return marked(name, text, start, length, "line %d of the trace can't stand here" % number, ["docs/trace.md has the lines"])
 
 
 def explained(status, said, name, text, words):

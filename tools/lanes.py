@@ -14,6 +14,7 @@ from activities import counted
 COLUMN = 32
 LEFT = 70
 FIRST = 26
+EDGE = LEFT + FIRST - COLUMN // 2
 BAR = 11
 LEVEL = 9
 NOTE = 11
@@ -92,7 +93,8 @@ class Strip:
                     row = Row()
                     rows.append(row)
                 row.end = last
-                row.levels = max([row.levels] + [scope.level + 1 for scope in it.scopes if scope.begin < self.end and (scope.ended or self.total) >= self.begin])
+                seen = [scope for scope in it.scopes if scope.begin < self.end and (scope.ended or self.total) >= self.begin]
+                row.levels = max([row.levels] + [scope.level + 1 for scope in seen])
                 row.notes = max([row.notes, self.notes_of(it)])
                 self.row_of[it.number] = row
             height = 6
@@ -129,8 +131,9 @@ class Strip:
     def draw(self):
         """The SVG of the strip."""
         label = "entries %d to %d" % (self.begin, self.end - 1)
-        self.put('<svg class="strip" role="img" aria-label="%s; the list of entries tells the same" data-begin="%d" data-end="%d" viewBox="0 0 %d %d" style="--w:%d;--h:%d">',
-                 label, self.begin, self.end, self.width, self.height, self.width, self.height)
+        self.put('<svg class="strip" role="img" aria-label="%s; the list of entries tells the same" ', label)
+        self.put('data-begin="%d" data-end="%d" viewBox="0 0 %d %d" ', self.begin, self.end, self.width, self.height)
+        self.put('style="--w:%d;--h:%d">', self.width, self.height)
         self.put('<rect class="cursor" x="-99" y="0" width="%d" height="%d"/>', COLUMN, self.height)
         self.draw_lanes()
         self.draw_columns()
@@ -148,7 +151,8 @@ class Strip:
     def draw_lanes(self):
         right = self.width - 12
         for place, top, height, idle in self.lanes:
-            self.put('<rect class="lane" style="--hue:%d" x="%d" y="%d" width="%d" height="%d"/>', hue(place), LEFT, top, right - LEFT, height)
+            lane = '<rect class="lane" style="--hue:%d" x="%d" y="%d" width="%d" height="%d"/>'
+            self.put(lane, hue(place), LEFT, top, right - LEFT, height)
             self.put('<text class="place" x="6" y="%d">place %d</text>', top + 15, place)
             if idle:
                 self.put('<text class="idle" x="6" y="%d">and %d more</text>', top + 27, idle)
@@ -160,21 +164,21 @@ class Strip:
                 self.put('<rect class="dead" x="%g" y="%d" width="%g" height="%d"/>', x, top, right - x, height)
 
     def draw_columns(self):
+        lines = "".join("M%g 22V%d" % (self.x(it), self.height - 6) for it in range(self.begin, self.end))
+        self.put('<path class="grid" d="%s"/>', lines)
         for moment in range(self.begin, self.end):
             entry = self.story.trace.entries[moment]
             x = self.x(moment)
             kind = " of-death" if entry.kind == "death" else ""
             self.put('<text class="number%s" x="%g" y="16">%d</text>', kind, x, moment)
-            self.put('<path class="grid" d="M%g 22V%d"/>', x, self.height - 6)
             if entry.kind not in ("death", "join"):
                 continue
             place, top, height, _ = self.lanes[entry.place]
             self.put('<path class="%s" d="M%g %dv%d"/>', entry.kind, x, top, height)
-            word = "dies" if entry.kind == "death" else "joins"
-            if moment + 3 > self.end and moment - self.begin > 3:
-                self.put('<text class="%s-word end" x="%g" y="%d">%s place %d %s</text>', entry.kind, x - 8, top + height - 4, "✖" if word == "dies" else "✚", place, word)
-            else:
-                self.put('<text class="%s-word" x="%g" y="%d">%s place %d %s</text>', entry.kind, x + 8, top + height - 4, "✖" if word == "dies" else "✚", place, word)
+            words = "✖ place %d dies" if entry.kind == "death" else "✚ place %d joins"
+            is_right = moment + 3 > self.end and moment - self.begin > 3
+            at = (" end", x - 8) if is_right else ("", x + 8)
+            self.put('<text class="%s-word%s" x="%g" y="%d">%s</text>', entry.kind, *at, top + height - 4, words % place)
 
     def draw_root(self):
         """The bracket of the root scope, which the host opened and releases."""
@@ -219,7 +223,8 @@ class Strip:
             if start < self.end and (end is None or end >= self.begin) and b > a:
                 self.put('<rect class="waits" style="--hue:%d" x="%g" y="%g" width="%g" height="%d"/>', h, a, y, b - a, BAR)
         if right - left > 24:
-            self.put('<text class="task" x="%g" y="%g">t%d</text>', left + (6 if it.travels() and it.arrived >= self.begin else 3), y + BAR - 2.5, it.number)
+            gap = 6 if it.travels() and it.arrived >= self.begin else 3
+            self.put('<text class="task" x="%g" y="%g">t%d</text>', left + gap, y + BAR - 2.5, it.number)
 
     def draw_start(self, it):
         """The line from the bar of the starter to that of the activity that it starts."""
@@ -236,7 +241,8 @@ class Strip:
 
     def draw_scopes(self, it):
         for scope in it.scopes:
-            self.bracket(scope, self.row_of[it.number].top + (scope.level + 1) * LEVEL, "s%d%s" % (scope.number, " at" if scope.kind == "at" else ""))
+            name = "s%d%s" % (scope.number, " at" if scope.kind == "at" else "")
+            self.bracket(scope, self.row_of[it.number].top + (scope.level + 1) * LEVEL, name)
 
     def draw_marks(self, it):
         """A mark for each entry of an activity, for its events, and for its loss."""
@@ -249,7 +255,8 @@ class Strip:
                 text = str(entry.value)
                 text = text if len(text) <= 5 else text[:4] + "…"
                 width = max(14, 6.2 * len(text) + 6)
-                self.put('<rect class="%s" x="%g" y="%g" width="%g" height="%d" rx="5"/>', entry.kind, x - width / 2, y - 1.5, width, BAR + 3)
+                pill = '<rect class="%s" x="%g" y="%g" width="%g" height="%d" rx="5"/>'
+                self.put(pill, entry.kind, x - width / 2, y - 1.5, width, BAR + 3)
                 self.put('<text class="value" x="%g" y="%g">%s</text>', x, y + BAR - 2, escape(text))
             elif entry.kind == "end":
                 self.put('<path class="ends" d="M%g %gv%d"/>', x, y - 2, BAR + 4)
@@ -263,8 +270,10 @@ class Strip:
         for event in it.events:
             if self.begin <= event.stamp < self.end:
                 is_refused = event.words[-2] in ("stale", "index", "full")
-                self.put('<path class="event%s" d="M%g %gv5"><title>%s</title></path>', " refused" if is_refused else "",
-                         self.x(event.stamp) - COLUMN / 2 + 3 + 2 * (event.number % 9), y + BAR - 1, escape("journal %d: %s" % (event.place, event.line)))
+                at = self.x(event.stamp) - COLUMN / 2 + 3 + 2 * (event.number % 9)
+                said = escape("journal %d: %s" % (event.place, event.line))
+                kind = " refused" if is_refused else ""
+                self.put('<path class="event%s" d="M%g %gv5"><title>%s</title></path>', kind, at, y + BAR - 1, said)
         if it.struck is not None and self.begin <= it.struck < self.end and (it.ended is None or it.struck < it.ended):
             x = self.x(it.struck) + (COLUMN / 2 + 5 if it.born_struck else 0)
             self.put('<path class="struck" d="M%g %gl8 8m0 -8l-8 8"/>', x - 4, middle - 4)
@@ -283,7 +292,8 @@ class Strip:
         left = min(x - 4, self.width - width - 4)
         for line, end in enumerate(free):
             if end <= left:
-                self.put('<text class="note%s" x="%g" y="%g">%s</text>', " of-loss" if entry.lost else "", left, y + NOTE * (line + 1) - 2, escape(text))
+                kind = " of-loss" if entry.lost else ""
+                self.put('<text class="note%s" x="%g" y="%g">%s</text>', kind, left, y + NOTE * (line + 1) - 2, escape(text))
                 free[line] = left + width + 6
                 return
 
@@ -296,8 +306,9 @@ def whole(drawn, style):
         parts.append(svg.replace("<svg ", '<svg x="0" y="%d" width="%d" height="%d" ' % (top, width, height), 1))
         top += height + 10
     width = max(width for width, _ in sizes)
-    return '<svg xmlns="http://www.w3.org/2000/svg" viewBox="0 0 %d %d" width="%d" height="%d"><style>%s</style>%s<rect width="100%%" height="100%%" fill="#fff"/>%s</svg>\n' % (
-        width, top, width, top, style, DEAD, "\n".join(parts))
+    head = '<svg xmlns="http://www.w3.org/2000/svg" viewBox="0 0 %d %d" width="%d" height="%d">' % (width, top, width, top)
+    ground = '<style>%s</style>%s<rect width="100%%" height="100%%" fill="#fff"/>' % (style, DEAD)
+    return "%s%s%s</svg>\n" % (head, ground, "\n".join(parts))
 
 
 def strips(story, columns):

@@ -1,7 +1,8 @@
 """A trace as the JSON that trace viewers open (ui.perfetto.dev, chrome://tracing).
 
-A place is a process and an activity a thread in it. The number of an entry is the time, in microseconds. A slice is the life of an activity,
-its travel, its waits and its scopes; an instant is a print, an end, a death; a flow leads from a start to where the activity begins.
+A place is a process and an activity a thread in it. The number of an entry is the time, in microseconds. A slice is the life of an
+activity, its travel, its waits and its scopes; an instant is a print, an end, a death; a flow leads from a start to where the activity
+begins.
 """
 
 import activities
@@ -43,5 +44,6 @@ def events_of(story):
             put("place %d %s" % (entry.place, "dies" if entry.kind == "death" else "joins"), "i", entry.number, entry.place, 0, s="p")
         else:
             task = story.activities.get(entry.task)
-            put(activities.in_words(entry, story), "i", entry.number, task.place if task else 0, entry.task or 0, s="t", args={"line": entry.line})
+            where = (task.place, task.number) if task else (0, 0)
+            put(activities.in_words(entry, story), "i", entry.number, *where, s="t", args={"line": entry.line})
     return made

@@ -9,7 +9,11 @@ from dataclasses import dataclass, field
 
 KEYWORDS = frozenset("set new get put forget print throw async at finish if else repeat try catch dead here census".split())
 STARTS = frozenset("set new get put forget print throw async at finish if repeat try".split())
-TOKEN = re.compile(rb"(?P<gap>[ \t\n\r]+|#[^\n]*)|(?P<word>[a-z][a-z0-9_]*)|(?P<number>[0-9][0-9a-z_]*)|(?P<sign>==|[{}()\[\]=;+\-*<,])|(?P<other>.)", re.S)
+TOKEN = re.compile(
+    rb"(?P<gap>[ \t\n\r]+|#[^\n]*)|(?P<word>[a-z][a-z0-9_]*)|(?P<number>[0-9][0-9a-z_]*)"
+    rb"|(?P<sign>==|[{}()\[\]=;+\-*<,])|(?P<other>.)",
+    re.S,
+)
 GREATEST = 9223372036854775807
 MAX_NAME = 16
 
@@ -125,7 +129,8 @@ class Reader:
                     statement.deepest, statement.too_deep = len(stages), self.peek().at
                 self.here += 1
             token = self.peek()
-            if fault_of(token) or not (token.kind == "number" or token.kind == "word" and (token.text == "here" or token.text not in KEYWORDS)):
+            is_operand = token.kind == "number" or token.kind == "word" and (token.text == "here" or token.text not in KEYWORDS)
+            if fault_of(token) or not is_operand:
                 self.fail("a number", "a name", "`here`", "`(`")
             self.here += 1
             if token.kind == "word" and token.text != "here":
@@ -171,7 +176,7 @@ class Reader:
         self.take(";")
 
     def take_head(self, kind, statement):
-        """What stands before the first block of a compound statement; gives the words between this block and a second one, if there is one."""
+        """What stands before the first block of a compound statement; gives the word between this block and a second one, if any."""
         if kind in ("at", "if"):
             self.take_expression(statement)
         if kind == "repeat":

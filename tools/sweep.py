@@ -132,7 +132,9 @@ class Sweep:
             lengths = self.all_of(pool, first)
             if self.given.no_deaths:
                 return
-            singles = [(seed, ((moment, place),)) for (seed, _), length in zip(first, lengths) for moment in range(length) for place in self.keys()]
+            singles = []
+            for (seed, _), length in zip(first, lengths):
+                singles += [(seed, ((moment, place),)) for moment in range(length) for place in self.keys()]
             lengths = self.all_of(pool, singles)
             if self.given.pairs:
                 pairs = []
@@ -148,10 +150,11 @@ class Sweep:
     def table(self):
         """The table, one line for each group, that of the run without a death first, and then by the number of runs."""
         runs = sum(map(len, self.groups.values()))
-        head = "%s%s: %s, %s" % (os.path.basename(self.given.file), "".join(" " + it for it in self.base), many(runs, "run"), many(len(self.groups), "outcome"))
+        name = " ".join([os.path.basename(self.given.file), *self.base])
+        head = "%s: %s, %s" % (name, many(runs, "run"), many(len(self.groups), "outcome"))
         rows = [("runs", "status", "prints", "thrown", "lost", "masked", "least words that lead to it")]
-        for outcome, found in sorted(self.groups.items(), key=lambda it: (min(len(kills) for _, kills in it[1]) > 0, -len(it[1]), self.least(it[1])[1])):
-            seed, kills = self.least(found)
+        leasts = [(outcome, found, self.least(found)) for outcome, found in self.groups.items()]
+        for outcome, found, (seed, kills) in sorted(leasts, key=lambda it: (bool(it[2][1]), -len(it[1]), it[2][1], it[2][0] or 0)):
             words = self.words(seed, kills)[len(self.base):]
             rows.append((str(len(found)), str(outcome.status), listed(outcome.prints), listed(outcome.thrown), listed(outcome.lost),
                          str(outcome.masked or "-"), " ".join(words) or "no death"))
@@ -183,7 +186,8 @@ def listed(values):
 
 def arguments(words):
     """The words of the sweep."""
-    parser = argparse.ArgumentParser(prog="rx10 sweep", usage="rx10 sweep FILE [OPTION..]  (rx10 sweep --help tells them)", add_help=False, allow_abbrev=False)
+    usage = "rx10 sweep FILE [OPTION..]  (rx10 sweep --help tells them)"
+    parser = argparse.ArgumentParser(prog="rx10 sweep", usage=usage, add_help=False, allow_abbrev=False)
     parser.add_argument("file")
     for option in ("--places", "--heap", "--pick", "--seed", "--expect"):
         parser.add_argument(option)

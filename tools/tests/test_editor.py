@@ -13,7 +13,8 @@ from places import EXAMPLES, TOP
 def completed(*words):
     """What bash offers for the last of these words."""
     script = 'source "$1"; shift; COMP_WORDS=("$@"); COMP_CWORD=$(($# - 1)); compopt() { :; }; _rx10; printf "%s\\n" "${COMPREPLY[@]}"'
-    done = subprocess.run(["bash", "-c", script, "bash", TOP / "tools/completion/rx10.bash", *words], cwd=TOP, capture_output=True, timeout=30, check=True)
+    command = ["bash", "-c", script, "bash", TOP / "tools/completion/rx10.bash", *words]
+    done = subprocess.run(command, cwd=TOP, capture_output=True, timeout=30, check=True)
     return done.stdout.decode().split()
 
 
@@ -28,7 +29,8 @@ class Editor(unittest.TestCase):
 
     def test_grammar(self):
         rules = json.loads((TOP / "tools/editor/rx10.tmLanguage.json").read_text())["patterns"]
-        words = {it for rule in rules if rule["name"].startswith(("keyword", "variable.language")) for it in re.findall("[a-z]+", re.sub(r"\\b", "", rule["match"]))}
+        of_words = [rule["match"].replace("\\b", "") for rule in rules if rule["name"].startswith(("keyword", "variable.language"))]
+        words = {it for rule in of_words for it in re.findall("[a-z]+", rule)}
         self.assertEqual(words, script_text.KEYWORDS)
         for script in EXAMPLES.glob("*.rx"):
             for line in script.read_text().split("\n"):

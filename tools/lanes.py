@@ -134,8 +134,8 @@ class Strip:
         self.put('<svg class="strip" role="img" aria-label="%s; the list of entries tells the same" ', label)
         self.put('data-begin="%d" data-end="%d" viewBox="0 0 %d %d" ', self.begin, self.end, self.width, self.height)
         self.put('style="--w:%d;--h:%d">', self.width, self.height)
-        self.put('<rect class="cursor" x="-99" y="0" width="%d" height="%d"/>', COLUMN, self.height)
         self.draw_lanes()
+        self.put('<rect class="cursor" x="-99" y="0" width="%d" height="%d"/>', COLUMN, self.height)
         self.draw_columns()
         self.draw_root()
         for number in self.row_of:

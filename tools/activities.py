@@ -7,7 +7,10 @@ from dataclasses import dataclass, field
 
 @dataclass
 class Activity:
-    """One activity (a task). Moments are numbers of entries; `begin` is -1 for the main one, and None stands for what did not come."""
+    """One activity (a task). Moments are numbers of entries; `begin` is -1 for the main one, and None stands for what did not come.
+
+    `over` is the last moment at which it is there.
+    """
 
     number: int
     place: int
@@ -18,6 +21,7 @@ class Activity:
     ended: int = None
     struck: int = None
     born_struck: bool = False
+    over: int = None
     waits: list = field(default_factory=list)
     scopes: list = field(default_factory=list)
     marks: list = field(default_factory=list)
@@ -68,6 +72,9 @@ class Story:
         self.children = {}
         for entry in trace.entries:
             self.take(entry)
+        self.places = trace.all_places()
+        for it in self.activities.values():
+            it.over = it.last(len(trace.entries))
         for event in trace.events:
             if event.task in self.activities:
                 self.activities[event.task].events.append(event)

@@ -1,7 +1,8 @@
 #!/usr/bin/env python3
 """Tells a refusal of the program by its place: file, line, column, the line of the source with a mark, and the rule in words.
 
-usage: rx10 explain FILE [WORD..]     what is wrong with a script, or its work where nothing is; WORD.. are words of `step` or `live`
+usage: rx10 explain FILE              what is wrong with a script, or its work where nothing is
+       rx10 explain FILE WORD..       the same of a command, as in: rx10 explain FILE step --kill 1@3
        rx10 explain NAME              what a status (0 to 10), a fault (stale) or an answer (bad) means
 
 The program says `syntax 21` or `bad 1 4`, and stays as it is; this tool adds the place to it. It is part of no claim of the repository.

@@ -67,8 +67,9 @@ class Strip:
 
     def span(self, it):
         """From which moment to which an activity is drawn in this strip, or None."""
-        first, last = max(it.begin, self.begin - 1), min(it.last(self.total), self.end)
-        return (first, last) if first <= last and it.begin < self.end and it.last(self.total) >= self.begin else None
+        if it.begin >= self.end or it.over < self.begin:
+            return None
+        return max(it.begin, self.begin - 1), min(it.over, self.end)
 
     def place_rows(self):
         """Gives each activity of the strip a row in the lane of its place, and each row its room."""
@@ -78,7 +79,7 @@ class Strip:
             if self.span(it):
                 by_place.setdefault(it.place, []).append(it)
         top = 30
-        for place in range(self.story.trace.all_places()):
+        for place in range(self.story.places):
             rows, idle = [], 0
             shown = []
             for it in sorted(by_place.get(place, []), key=lambda it: it.number):
@@ -189,7 +190,7 @@ class Strip:
         first, last = scope.begin, self.total - 1 if scope.ended is None else scope.ended
         if scope.how == "gone" or scope.ended is None and scope.opener is not None:
             opener = self.story.activities[scope.opener]
-            last = min(last, opener.last(self.total))
+            last = min(last, opener.over)
         if first >= self.end or last < self.begin:
             return
         left, right = self.clip(first), self.clip(last)
@@ -215,7 +216,7 @@ class Strip:
         if it.arrived == it.begin and it.begin >= self.begin:
             left += COLUMN / 2
         right = max(self.clip(last), left + 4)
-        if it.last(self.total) > self.end - 1:
+        if it.over > self.end - 1:
             right = self.width - 12
         self.put('<rect class="bar" style="--hue:%d" x="%g" y="%g" width="%g" height="%d" rx="2"/>', h, left, y, right - left, BAR)
         for start, end in it.waits:
@@ -321,6 +322,6 @@ def strips(story, columns):
         while at < len(begun) and begun[at].begin < end:
             alive.append(begun[at])
             at += 1
-        alive = [it for it in alive if it.last(total) >= begin]
+        alive = [it for it in alive if it.over >= begin]
         made.append(Strip(story, begin, end, [it.number for it in alive]).draw())
     return made

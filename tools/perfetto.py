@@ -11,17 +11,16 @@ import activities
 def events_of(story):
     """All events of the viewer, in no order."""
     trace, made = story.trace, []
-    total = len(trace.entries)
 
     def put(name, phase, ts, place, task, **more):
         made.append({"name": name, "ph": phase, "ts": ts, "pid": place, "tid": task, **more})
 
-    for place in range(trace.all_places()):
+    for place in range(story.places):
         put("process_name", "M", 0, place, 0, args={"name": "place %d" % place})
         put("process_sort_index", "M", 0, place, 0, args={"sort_index": place})
     for it in story.activities.values():
         put("thread_name", "M", 0, it.place, it.number, args={"name": "t%d" % it.number})
-        begin, last = max(it.begin, 0), it.last(total)
+        begin, last = max(it.begin, 0), it.over
         put("t%d" % it.number + (" (lost)" if it.struck is not None else ""), "X", begin, it.place, it.number, dur=max(last - begin, 0) + 1,
             args={"from": it.source, "to": it.place})
         if it.arrived is None or it.arrived > begin:

@@ -28,9 +28,8 @@ class Sweeps(unittest.TestCase):
 
     def test_pairs(self):
         done = launch("sweep", EXAMPLES / "hello.rx", "--places", "3", "--pairs")
-        # 1 + 10 moments of place 2 + 10 of place 1, and then each moment from the first death on, of the other place, counted once
-        self.assertIn("hello.rx --places 3: ", done.stdout)
-        self.assertIn("no death", done.stdout)
+        # (1 with no death, 10 moments for each of two places, and the pairs, each counted once though it could be begun by either death)
+        self.assertIn("hello.rx --places 3: 120 runs, 3 outcomes", done.stdout)
         self.assertNotIn("--kill 2@0 --kill 1@0", done.stdout)
 
     def test_seeds_alone(self):

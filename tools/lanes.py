@@ -183,8 +183,13 @@ class Strip:
 
     def draw_root(self):
         """The bracket of the root scope, which the host opened and releases."""
-        root, top = self.story.scopes[0], self.lanes[0][1] + 6
-        self.bracket(root, top + LEVEL, "s0, of the host")
+        root, y = self.story.scopes[0], self.lanes[0][1] + 6 + LEVEL
+        self.bracket(root, y, "s0, of the host")
+        words = words_of(root.entry) if root.entry and self.begin <= root.ended < self.end else None
+        if words:
+            x, kind = self.x(root.ended), " of-loss" if root.entry.lost else ""
+            self.put('<path class="fault%s" d="M%g %gl5 8h-10z"/>', kind, x, y - 4)
+            self.put('<text class="note end%s" x="%g" y="%g">%s</text>', kind, x - 8, y + 3, escape(words))
 
     def bracket(self, scope, y, label):
         first, last = scope.begin, self.total - 1 if scope.ended is None else scope.ended
@@ -281,14 +286,10 @@ class Strip:
 
     def draw_note(self, entry, x, y, free):
         """What an entry names as lost, masked or thrown, in words below the bar where there is room, and as a mark in any case."""
-        words = ["lost " + " ".join(map(str, entry.lost))] * bool(entry.lost)
-        words += ["masked %d" % entry.masked] * bool(entry.masked)
-        words += ["thrown " + counted(entry.thrown)] * bool(entry.thrown)
-        if not words:
+        text = words_of(entry)
+        if not text:
             return
         self.put('<path class="fault%s" d="M%g %gl5 8h-10z"/>', " of-loss" if entry.lost else "", x, y - BAR - 4)
-        text = ", ".join(words)
-        text = text if len(text) <= 44 else text[:42] + "…"
         width = (6.2 if entry.lost else 5.8) * len(text)
         left = min(x - 4, self.width - width - 4)
         for line, end in enumerate(free):
@@ -297,6 +298,15 @@ class Strip:
                 self.put('<text class="note%s" x="%g" y="%g">%s</text>', kind, left, y + NOTE * (line + 1) - 2, escape(text))
                 free[line] = left + width + 6
                 return
+
+
+def words_of(entry):
+    """What an entry names as lost, masked or thrown, in a few words, or nothing."""
+    words = ["lost " + " ".join(map(str, entry.lost))] * bool(entry.lost)
+    words += ["masked %d" % entry.masked] * bool(entry.masked)
+    words += ["thrown " + counted(entry.thrown)] * bool(entry.thrown)
+    text = ", ".join(words)
+    return text if len(text) <= 44 else text[:42] + "…"
 
 
 def whole(drawn, style):

@@ -1,0 +1,160 @@
+-- What a caller's place and the records tell of it.
+use Rattle.std.specs.Prelude.{◌≡◌, ℕ, ◌<◌, ◌≤◌, ◌^◌, ◌+◌, Bool, true, false, ◌&&◌, List, [], ◌∷◌, Option, Some, None, is_none, is_some, length, option_map, box_value, Err, refl}
+use Rattle.std.specs.List.{find}
+use Rattle.std.specs.Global.{Box}
+use Rattle.std.proofs.Common.{sym, ap, ◌∙◌, subst, arith, ⊎_elim}
+use Rattle.std.proofs.lemmas.Bool.{true≢false, cases_lt}
+use Rattle.std.proofs.lemmas.List.{get_or_past}
+use Rattle.std.proofs.lemmas.List.Sums.{count_by-le-length}
+use Rattle.rx_sound.proofs.Parents.{met_found}
+use Rattle.rx_tree.proofs.Gone.{blow_known}
+use Rattle.rx_base.specs.declared.ids.PlaceId.{PlaceId}
+use Rattle.rx_base.specs.declared.ids.ScopeId.{ScopeId}
+use Rattle.rx_rules.specs.declared.tasks.Where.{Where}
+use Rattle.rx_rules.specs.declared.tasks.Blow.{Blow}
+use Rattle.rx_rules.specs.declared.tasks.Task.{Task}
+use Rattle.rx_rules.specs.declared.tasks.Scope.{Scope}
+use Rattle.rx_rules.specs.Tree.{Tree, the_root}
+use Rattle.rx_sound.specs.Blows.{blow_at}
+use Rattle.rx_sound.specs.Chains.{meets}
+use Rattle.rx_sound.specs.Sound.{Sound, TasksFall}
+use Rattle.rx_sound.proofs.Reach.{fits_of}
+use Rattle.rx_sound.proofs.Reached.{sound}
+use Rattle.rx_tree.specs.declared.ledger.Caller.{Caller}
+use Rattle.rx_tree.specs.Callers.{MayAsk}
+use Rattle.rx_tree.specs.declared.ledger.LedgerFault.{LedgerFault}
+use Rattle.rx_tree.specs.declared.ledger.LedgerFault.TheVariants.{NoMemory}
+use Rattle.rx_tree.specs.Calls.{IsUnstruck, WasLost, OpenReply, CallReply, blow_of}
+use Rattle.rx_tree.proofs.Allowed.{Free, free}
+use Rattle.rx_counts.specs.declared.record.Sums.{Sums}
+use Rattle.rx_counts.specs.declared.record.Record.{Record}
+use Rattle.rx_counts.specs.declared.ledger.CountLedger.{CountLedger}
+use Rattle.rx_counts.specs.Keeping.{stands_home, keeper, kept_at, same_where}
+use Rattle.rx_rules.specs.Counts.{has_number}
+use Rattle.rx_counts.specs.Stands.{slot, in_range, ShapeOf, SumsOf, RecordOf, Both, AllFit, Fit, StandsFor, IsShaped, record_at, count_in}
+use Rattle.rx_counts.proofs.Telling.{within_range}
+use Rattle.rx_counts.proofs.Lasting.{root_keeps}
+use Rattle.rx_counts.proofs.Walks.{keeper_exists, keeper_stands}
+use Rattle.rx_counts.proofs.Shapes.{both_found}
+use Rattle.rx_counts.proofs.Joining.{both_more, number_is}
+
+pub blow_is : (l : CountLedger) (T : Tree) (who : Caller) (P : Task → Type 0) → StandsFor l T → MayAsk T who P → blow_of T who.task ≡ blow_at l.dead who.place
+blow_is l T who P s may = blow_known T who P (sound s.reached) may.caller ∙ ap (λ d. blow_at d who.place) (sym s.fit.dead)
+
+-- a struck caller, and one that is not
+pub was_lost : (l : CountLedger) (T : Tree) (who : Caller) (P : Task → Type 0) (b : Blow) → StandsFor l T → MayAsk T who P → blow_at l.dead who.place ≡ Some b → WasLost T who b.place b.entry
+was_lost l T who P b s may e = blow_is l T who P s may ∙ e
+
+pub unstruck : (l : CountLedger) (T : Tree) (who : Caller) (P : Task → Type 0) → StandsFor l T → MayAsk T who P → blow_at l.dead who.place ≡ None → IsUnstruck T who
+unstruck l T who P s may e = blow_is l T who P s may ∙ e
+
+pub caller : (l : CountLedger) (T : Tree) (who : Caller) (P : Task → Type 0) → StandsFor l T → MayAsk T who P → blow_at l.dead who.place ≡ None → Free T who P
+caller l T who P s may e = free T who P s.reached may (unstruck l T who P s may e)
+
+pub unstruck_of : (T : Tree) (who : Caller) (P : Task → Type 0) → Free T who P → IsUnstruck T who
+unstruck_of T who P f = rw (f.at.stands, blow_of) f.acts.unstruck
+
+-- The records.
+
+pub fit_shaped : (T : Tree) (keeps : Scope → Bool) (rs : List (Option (Box Record))) → Sound T → AllFit keeps T.scopes T.tasks rs → IsShaped T rs
+fit_shaped T keeps rs h fit =
+    record {
+      falls = h.falls;
+      opened = h.opened;
+      shapes = λ n. both_more (RecordOf keeps T.scopes T.tasks) (ShapeOf T.scopes) (record_at rs n) (find (has_number n) T.scopes) (λ r g e a. a.shape) (fit n);
+    }
+
+pub shaped : (l : CountLedger) (T : Tree) → StandsFor l T → IsShaped T l.scopes.items
+shaped l T s = fit_shaped T (stands_home T.dead) l.scopes.items (sound s.reached) s.fit.scopes
+
+-- the walk by records is the walk in the tree
+pub keeper_found : (l : CountLedger) (T : Tree) (s : ScopeId) (o : Option ScopeId) (rs : List (Option (Box Record))) → StandsFor l T → rs ≡ l.scopes.items → ((U : Tree) → IsShaped U rs → option_map (λ k. k.0) o ≡ keeper (stands_home l.dead) U.scopes (Some s)) → option_map (λ k. k.0) o ≡ keeper (stands_home T.dead) T.scopes (Some s)
+keeper_found l T s o rs h e walk = walk T (subst (IsShaped T) (sym e) (shaped l T h)) ∙ ap (λ d. keeper (stands_home d) T.scopes (Some s)) h.fit.dead
+
+pub keeper_some : (l : CountLedger) (T : Tree) (s k : ScopeId) (rs : List (Option (Box Record))) → StandsFor l T → rs ≡ l.scopes.items → ((U : Tree) → IsShaped U rs → Some k.0 ≡ keeper (stands_home l.dead) U.scopes (Some s)) → keeper (stands_home T.dead) T.scopes (Some s) ≡ Some k.0
+keeper_some l T s k rs h e walk = sym (walk T (subst (IsShaped T) (sym e) (shaped l T h)) ∙ ap (λ d. keeper (stands_home d) T.scopes (Some s)) h.fit.dead)
+
+pub below_length : (rs : List (Option (Box Record))) (k : ℕ) (r : Record) → record_at rs k ≡ Some r → k < length rs
+below_length rs k r e = ⊎_elim (λ (lt : k < length rs). lt) (λ (ge : length rs ≤ k). let p = ap (option_map box_value) (get_or_past rs k None ge) in cc) (cases_lt k (length rs))
+
+-- the record of a scope that stands
+pub record Kept (T : Tree) (rs : List (Option (Box Record))) (k : ℕ) : Type 0 where
+  pub kept : Record
+  pub found : record_at rs k ≡ Some kept
+  pub scope : Scope
+  pub stands : find (has_number k) T.scopes ≡ Some scope
+  pub number : scope.number.0 ≡ k
+  pub fits : RecordOf (stands_home T.dead) T.scopes T.tasks kept scope
+  pub low : k < length rs
+
+pub kept_found : (T : Tree) (rs : List (Option (Box Record))) (k : ℕ) (g : Scope) → AllFit (stands_home T.dead) T.scopes T.tasks rs → find (has_number k) T.scopes ≡ Some g → Kept T rs k
+kept_found T rs k g h e =
+    let r = both_found (RecordOf (stands_home T.dead) T.scopes T.tasks) (record_at rs k) (find (has_number k) T.scopes) g (h k) e in
+    record { kept = r.0; found = r.1; scope = g; stands = e; number = number_is k T.scopes g e; fits = r.2; low = below_length rs k r.0 r.1 }
+
+pub kept_some : (T : Tree) (rs : List (Option (Box Record))) (k : ℕ) → AllFit (stands_home T.dead) T.scopes T.tasks rs → (o : Option Scope) → find (has_number k) T.scopes ≡ o → is_some o ≡ true → Kept T rs k
+kept_some T rs k h (Some g) e q = kept_found T rs k g h e
+kept_some T rs k h None e q = absurd (true≢false (sym q))
+
+pub kept_at_keeper : (T : Tree) (rs : List (Option (Box Record))) (want : Option ScopeId) (k : ℕ) → AllFit (stands_home T.dead) T.scopes T.tasks rs → keeper (stands_home T.dead) T.scopes want ≡ Some k → Kept T rs k
+kept_at_keeper T rs want k h e = kept_some T rs k h (find (has_number k) T.scopes) refl (keeper_stands (stands_home T.dead) k T.scopes want e)
+
+-- a keeper is always found
+pub keeper_known : (T : Tree) (u : ScopeId) → Sound T → meets the_root T.scopes (Some u) ≡ true → is_some (keeper (stands_home T.dead) T.scopes (Some u)) ≡ true
+keeper_known T u h m = keeper_exists (stands_home T.dead) T.scopes (Some u) (root_keeps T.dead T.scopes h.zero_lives h.root_home) m
+
+-- a walk that answers None has no keeper
+pub none_kept : (o : Option ScopeId) (k : Option ℕ) → o ≡ None → option_map (λ (s : ScopeId). s.0) o ≡ k → is_some k ≡ false
+none_kept (Some s) k e f = cc
+none_kept None k e f = ap is_some (sym f)
+
+-- the tasks are no more than have been numbered
+pub tasks_length : (n : ℕ) (ts : List Task) → TasksFall n ts → length ts ≤ n
+tasks_length n [] f = omega arith
+tasks_length n (x ∷ xs) f = let a : x.number.0 < n = f.0 in let b : length xs ≤ x.number.0 = tasks_length x.number.0 xs f.1 in omega arith
+
+-- so no count is above their number
+pub small : (keeps : Scope → Bool) (gs : List Scope) (ts : List Task) (q : Sums) (n m : ℕ) (w : Where) → SumsOf keeps gs ts q m → length ts ≤ n → n < 2 ^ 31 → in_range w → (count_in q (slot w) + 1 < 2 ^ 32) × (q.total + 1 < 2 ^ 32)
+small keeps gs ts q n m w fits f low within =
+    let a = fits.counts w within in
+    let b = count_by-le-length (λ x. (is_none x.struck && same_where w x.place) && kept_at keeps gs m x) ts in
+    let c = fits.total in
+    let d = count_by-le-length (λ x. is_none x.struck && kept_at keeps gs m x) ts in
+    (omega arith, omega arith)
+
+-- where the caller is
+pub place_in : (T : Tree) (who : Caller) (P : Task → Type 0) → Sound T → (f : Free T who P) → in_range who.place
+place_in T who P h f = subst in_range f.at.says.place (within_range T.places f.at.task.place h.few (fits_of T who.task f.at.task h f.at.stands).inside)
+
+-- the scope that it hangs under leads to the root
+pub scope_rooted : (T : Tree) (who : Caller) (P : Task → Type 0) → Sound T → (f : Free T who P) → meets the_root T.scopes (Some who.scope) ≡ true
+scope_rooted T who P h f = subst (λ (u : ScopeId). meets the_root T.scopes (Some u) ≡ true) f.at.says.under (fits_of T who.task f.at.task h f.at.stands).rooted
+
+-- the record of the scope that it hangs under
+pub scope_kept : (l : CountLedger) (T : Tree) (who : Caller) (P : Task → Type 0) → StandsFor l T → (f : Free T who P) → Kept T l.scopes.items who.scope.0
+scope_kept l T who P s f = kept_some T l.scopes.items who.scope.0 s.fit.scopes (find (has_number who.scope.0) T.scopes) refl (met_found the_root T.scopes who.scope (scope_rooted T who P (sound s.reached) f))
+
+-- a missing record is that of no scope
+pub missing : (T : Tree) (rs : List (Option (Box Record))) (k : ℕ) → Kept T rs k → record_at rs k ≡ None → ⊥
+missing T rs k q e = let f = q.found in cc
+
+-- a ledger with the same records stands for the same trees
+pub same_fit : (l m : CountLedger) (T : Tree) → Fit l T → m.places ≡ l.places → m.dead ≡ l.dead → m.next_task ≡ l.next_task → m.next_scope ≡ l.next_scope → length m.scopes.items ≡ length l.scopes.items → ((n : ℕ) → record_at m.scopes.items n ≡ record_at l.scopes.items n) → Fit m T
+same_fit l m T h places dead next_task next_scope len same =
+    record {
+      places = places ∙ h.places;
+      dead = dead ∙ h.dead;
+      next_task = next_task ∙ h.next_task;
+      next_scope = next_scope ∙ h.next_scope;
+      numbers = len ∙ h.numbers;
+      scopes = λ n. subst (λ o. Both (RecordOf (stands_home T.dead) T.scopes T.tasks) o (find (has_number n) T.scopes)) (sym (same n)) (h.scopes n);
+    }
+
+pub same_records : (l m : CountLedger) (T : Tree) → StandsFor l T → m.places ≡ l.places → m.dead ≡ l.dead → m.next_task ≡ l.next_task → m.next_scope ≡ l.next_scope → m.scopes.items ≡ l.scopes.items → StandsFor m T
+same_records l m T h places dead next_task next_scope items = record { reached = h.reached; fit = same_fit l m T h.fit places dead next_task next_scope (ap length items) (λ n. ap (λ xs. record_at xs n) items) }
+
+pub open_refused : (T : Tree) (who : Caller) (f : LedgerFault) (S : Tree → Type 0) → f ≡ NoMemory → IsUnstruck T who → S T → OpenReply T who (Err f) S
+open_refused T who f S is none s = subst (λ (v : LedgerFault). OpenReply T who (Err v) S) (sym is) (none, s)
+
+pub call_refused : (T : Tree) (who : Caller) (to : PlaceId) (f : LedgerFault) (S : Tree → Type 0) → f ≡ NoMemory → IsUnstruck T who → S T → CallReply T who to (Err f) S
+call_refused T who to f S is none s = subst (λ (v : LedgerFault). CallReply T who to (Err v) S) (sym is) (none, s)

@@ -1,0 +1,93 @@
+-- An `at` is opened: a scope with its callee.
+use Rattle.std.specs.Prelude.{◌≡◌, ℕ, ◌<◌, ◌^◌, ◌+◌, Bool, true, false, ◌||◌, ◌==◌, not, List, [], ◌∷◌, Some, None, is_none, is_some, slice_index_or, Ok, refl}
+use Rattle.std.proofs.Common.{sym, ap, ◌∙◌, subst, arith}
+use Rattle.std.proofs.lemmas.Bool.{eq-eqb, ne_eqb}
+use Rattle.std.proofs.lemmas.List.{get_or-replicate}
+use Rattle.rx_base.specs.Sets.{has_bit}
+use Rattle.rx_base.specs.declared.ids.PlaceId.{PlaceId}
+use Rattle.rx_base.specs.declared.ids.TaskId.{TaskId}
+use Rattle.rx_base.specs.declared.ids.ScopeId.{ScopeId}
+use Rattle.rx_rules.specs.declared.tasks.Kind.TheVariants.{Call}
+use Rattle.rx_rules.specs.declared.tasks.Task.{Task}
+use Rattle.rx_rules.specs.declared.tasks.Scope.{Scope}
+use Rattle.rx_rules.specs.declared.entries.Act.TheVariants.{At as Calls}
+use Rattle.rx_rules.specs.Tree.{Tree, death_of}
+use Rattle.rx_rules.specs.Entries.{place_number, home_for, born}
+use Rattle.rx_rules.specs.Reached.{acts}
+use Rattle.rx_sound.specs.Blows.{death_blow, blow_at}
+use Rattle.rx_sound.specs.Chains.{Falls}
+use Rattle.rx_sound.specs.Sound.{Sound, Each}
+use Rattle.rx_sound.proofs.Reached.{sound}
+use Rattle.rx_tree.specs.declared.ledger.Caller.{Caller}
+use Rattle.rx_tree.specs.Callers.{MayAskTo, IsMoving}
+use Rattle.rx_tree.specs.Calls.{CallReply}
+use Rattle.rx_tree.proofs.Allowed.{Free, call_allowed}
+use Rattle.rx_counts.specs.declared.record.Sums.{Sums}
+use Rattle.rx_counts.specs.declared.record.Record.{Record}
+use Rattle.rx_counts.specs.declared.ledger.CountLedger.{CountLedger}
+use Rattle.rx_counts.specs.Keeping.{stands_home, keeper, finishes, is_number, kept_at}
+use Rattle.rx_counts.specs.Stands.{slot, in_range, SumsOf, StandsFor, Pushed, count_in, more, with_lost}
+use Rattle.rx_counts.proofs.Asking.{unstruck_of}
+use Rattle.rx_counts.proofs.Joining.{join_here, join_lost, join_other, all_waits, slot_below}
+use Rattle.rx_counts.proofs.NewRecord.{IsZero, all_opened, sums_fresh, sums_further}
+use Rattle.rx_counts.proofs.Born.{IsNew, record_new, finish_up, home_known, place_lives, unders_low}
+use Rattle.rx_counts.proofs.Spawning.{start, started_in, to_low, is_lost, struck_by, struck_none}
+
+-- a scope that keeps counts is its own keeper
+self_kept : (keeps : Scope → Bool) (g : Scope) (gs : List Scope) → keeps g ≡ true → keeper keeps (g ∷ gs) (Some g.number) ≡ Some g.number.0
+self_kept keeps g gs e = rw (eq-eqb g.number.0 g.number.0 refl, e)
+
+sums_callee : (T : Tree) (keeps : Scope → Bool) (gs : List Scope) (ts : List Task) (child : TaskId) (s : ScopeId) (from to : PlaceId) (q p : Sums) (b : Bool) → b ≡ is_some (death_of T to) → kept_at keeps gs s.0 (born T child s from to) ≡ true → in_range (start from to) → (b ≡ true → (p ≡ with_lost p.lost q) × ((i : ℕ) → i < 16 → has_bit p.lost.0 i ≡ (has_bit q.lost.0 i || (to.0 == i)))) → (b ≡ false → p ≡ more (slot (start from to)) q) → SumsOf keeps gs ts q s.0 → SumsOf keeps gs (born T child s from to ∷ ts) p s.0
+sums_callee T keeps gs ts child s from to q p true e here within lost joins h =
+    let b = struck_by T child s from to (sym e) in
+    join_lost keeps gs ts (born T child s from to) b.0 q p s.0 here b.1 (lost refl).0 (subst (λ (v : PlaceId). (i : ℕ) → i < 16 → has_bit p.lost.0 i ≡ (has_bit q.lost.0 i || (v.0 == i))) (sym b.2) (lost refl).1) h
+sums_callee T keeps gs ts child s from to q p false e here within lost joins h =
+    subst (λ (v : Sums). SumsOf keeps gs (born T child s from to ∷ ts) v s.0) (sym (joins refl)) (join_here keeps gs ts (born T child s from to) q s.0 here (struck_none T child s from to (sym e)) within h)
+
+pub called_stands : (l m : CountLedger) (T : Tree) (who : Caller) (to : PlaceId) (s : ScopeId) (child : TaskId) (r : Record) (zero : Sums) (b : Bool) → StandsFor l T → MayAskTo T who to → blow_at l.dead who.place ≡ None → (f : Free T who IsMoving) → s.0 ≡ l.next_scope → child.0 ≡ l.next_task → r.kind ≡ Call → r.home ≡ place_number who.place → r.parent ≡ Some who.inner → keeper finishes T.scopes (Some who.inner) ≡ Some r.finish.0 → IsZero zero → b ≡ not (is_none (death_blow l.dead to)) → (b ≡ true → (r.sums ≡ with_lost r.sums.lost zero) × ((i : ℕ) → i < 16 → has_bit r.sums.lost.0 i ≡ (has_bit zero.lost.0 i || (to.0 == i)))) → (b ≡ false → r.sums ≡ more (slot (start (place_number who.place) to)) zero) → r.body ≡ [] → r.ends ≡ [] → m.places ≡ l.places → m.dead ≡ l.dead → m.next_task ≡ l.next_task + 1 → m.next_scope ≡ l.next_scope + 1 → Pushed r l.scopes.items m.scopes.items → CallReply T who to (Ok (record { child = child; scope = s; lost = b })) (StandsFor m)
+called_stands l m T who to s child r zero b st may blow f next num kind home parent fin is_zero e lost joins body ends places dead next_task next_scope p =
+    let h : Sound T = sound st.reached in
+    let keeps : Scope → Bool = stands_home T.dead in
+    let from : PlaceId = place_number who.place in
+    let y : Task = born T child s from to in
+    let number : s.0 ≡ T.next_scope = next ∙ st.fit.next_scope in
+    let g : Scope = record { number = s; kind = Call; opener = Some who.task; home = home_for T who.task; parent = Some who.inner; body = []; ends = [] } in
+    let a = call_allowed T who to s child st.reached may (unstruck_of T who IsMoving f) number (num ∙ st.fit.next_task) in
+    let home2 : home_for T who.task ≡ place_number who.place = home_known T who IsMoving f in
+    let lives : keeps g ≡ true = subst (λ (q : PlaceId). is_none (slice_index_or T.dead q.0 None) ≡ true) (sym home2) (place_lives l T who st f blow) in
+    let falls : Falls s.0 T.scopes = subst (λ n. Falls n T.scopes) (sym number) h.falls in
+    let low : Each (λ x. x.under.0 < s.0) T.tasks = unders_low T s.0 h number in
+    let new : IsNew r g T.scopes = record { kind = kind; home = home ∙ sym home2; parent = parent; finish = finish_up g T.scopes refl ∙ fin; body = body; ends = ends } in
+    let dies : b ≡ is_some (death_of T to) = e ∙ is_lost l T to st.fit in
+    let own : keeper keeps (g ∷ T.scopes) (Some s) ≡ Some s.0 = self_kept keeps g T.scopes lives in
+    let here : kept_at keeps (g ∷ T.scopes) s.0 y ≡ true = ap (is_number s.0) own ∙ eq-eqb s.0 s.0 refl in
+    let mine : SumsOf keeps (g ∷ T.scopes) (y ∷ T.tasks) r.sums s.0 = sums_callee T keeps (g ∷ T.scopes) T.tasks child s from to zero r.sums b dies here (started_in T who to h may f) lost joins (sums_fresh keeps g T.scopes T.tasks zero falls low lives is_zero) in (
+      record {
+        allowed = a;
+        made =
+            record {
+              reached = acts who.task (Calls s who.inner child from to []) st.reached a;
+              fit =
+                  record {
+                    places = places ∙ st.fit.places;
+                    dead = dead ∙ st.fit.dead;
+                    next_task = (let q = st.fit.next_task in omega arith);
+                    next_scope = (let q = st.fit.next_scope in omega arith);
+                    numbers = (let q = st.fit.numbers in let v = p.len in omega arith);
+                    scopes =
+                        all_waits keeps (g ∷ T.scopes) (y ∷ T.tasks) who.task true m.scopes.items
+                        (all_opened keeps g T.scopes T.tasks (y ∷ T.tasks) l.scopes.items m.scopes.items r (st.fit.numbers ∙ sym number) falls
+                        (λ q n below old. join_other keeps (g ∷ T.scopes) T.tasks y q n (ap (is_number n) own ∙ ne_eqb s.0 n (λ v. absurd (omega arith))) (sums_further keeps g T.scopes T.tasks q n falls low lives old)) p
+                        (record_new keeps g T.scopes (y ∷ T.tasks) r new mine) st.fit.scopes);
+                  };
+            };
+      },
+      dies,
+    )
+
+pub call_ok : (T : Tree) (who : Caller) (to : PlaceId) (q : Sums) → Sound T → MayAskTo T who to → (f : Free T who IsMoving) → IsZero q → (to.0 < 16) × (slot (start (place_number who.place) to) < 272) × (count_in q (slot (start (place_number who.place) to)) + 1 < 2 ^ 32) × (q.total + 1 < 2 ^ 32)
+call_ok T who to q h may f z =
+    let low : slot (start (place_number who.place) to) < 272 = slot_below (start (place_number who.place) to) (started_in T who to h may f) in
+    let none : count_in q (slot (start (place_number who.place) to)) ≡ 0 = ap (λ xs. slice_index_or xs (slot (start (place_number who.place) to)) 0) z.counts ∙ get_or-replicate 272 (slot (start (place_number who.place) to)) 0 0 low in
+    let total : q.total ≡ 0 = z.total in
+    (to_low T who to h may, low, omega arith, omega arith)

@@ -1,0 +1,112 @@
+-- The records tell the counts of the rules.
+use Rattle.std.specs.Prelude.{◌≡◌, ℕ, ◌<◌, Bool, true, false, ◌&&◌, ◌==◌, Option, Some, None, is_none, option_map, IfSome, refl}
+use Rattle.std.specs.List.{find, list_any}
+use Rattle.std.proofs.Common.{sym, ap, ◌∙◌, subst}
+use Rattle.rx_sound.proofs.Releasing.{each_all}
+use Rattle.rx_sound.proofs.Staying.{any_same}
+use Rattle.rx_base.specs.Sets.{has_bit, members, all_places}
+use Rattle.rx_base.specs.declared.ids.PlaceId.{PlaceId}
+use Rattle.rx_base.specs.declared.ids.ScopeId.{ScopeId}
+use Rattle.rx_rules.specs.declared.tasks.Where.{Where}
+use Rattle.rx_rules.specs.declared.tasks.Where.TheVariants.{At, Travel}
+use Rattle.rx_rules.specs.declared.tasks.Task.{Task}
+use Rattle.rx_rules.specs.declared.tasks.Scope.{Scope}
+use Rattle.rx_rules.specs.Tree.{Tree, chain_in}
+use Rattle.rx_rules.specs.Entries.{was_lost_at}
+use Rattle.rx_rules.specs.Counts.{CountsOf, CountsAt, counts_at, is_there, goes, has_number, live_count, transit_count, lost_at}
+use Rattle.rx_sound.proofs.Changes.{each_more}
+use Rattle.rx_counts.specs.declared.record.Record.{Record}
+use Rattle.rx_counts.specs.declared.ledger.CountLedger.{CountLedger}
+use Rattle.rx_counts.specs.Keeping.{stands_home, is_number, kept_at, same_where, count_of}
+use Rattle.rx_counts.specs.Stands.{slot, in_range, Both, StandsFor, HasScope, record_at, count_in}
+use Rattle.rx_counts.specs.Stands.{RecordOf}
+use Rattle.rx_counts.specs.Meaning.{counts_of, CountsStand}
+use Rattle.rx_counts.proofs.Joining.{both_more, number_is}
+use Rattle.rx_counts.proofs.Counting.{count_same}
+use Rattle.rx_counts.proofs.Walks.{keeper_is}
+use Rattle.rx_counts.proofs.Asking.{Kept, kept_some}
+use Rattle.rx_counts.proofs.Hindering.{filter_same, places_low}
+
+number_of_found : (o : Option Scope) (n : ℕ) → (elim o as (λ _. Bool) [ Some a ↦ a.number.0 == n | None ↦ false ]) ≡ is_number n (option_map (λ g. g.number.0) o)
+number_of_found (Some g) n = refl
+number_of_found None n = refl
+
+pub counts_is : (T : Tree) (g : ScopeId) (x : Task) → counts_at T g x ≡ kept_at (stands_home T.dead) T.scopes g.0 x
+counts_is T g x = number_of_found (find (stands_home T.dead) (chain_in T.scopes (Some x.under))) g.0 ∙ ap (is_number g.0) (keeper_is (stands_home T.dead) T.scopes (Some x.under))
+
+there_is : (p : PlaceId) (w : Where) → is_there p w ≡ same_where (At p) w
+there_is p (At q) = refl
+there_is p (Travel f t) = refl
+
+goes_is : (p r : PlaceId) (w : Where) → goes p r w ≡ same_where (Travel p r) w
+goes_is p r (At q) = refl
+goes_is p r (Travel f t) = refl
+
+pub live_is : (T : Tree) (g : ScopeId) (p : PlaceId) → live_count T g p ≡ count_of (stands_home T.dead) T.scopes T.tasks g.0 (At p)
+live_is T g p = count_same (λ x. is_none x.struck && is_there p x.place && counts_at T g x) (λ x. (is_none x.struck && same_where (At p) x.place) && kept_at (stands_home T.dead) T.scopes g.0 x) T.tasks (each_all _ (λ (x : Task). three (is_none x.struck) (is_there p x.place) (same_where (At p) x.place) (counts_at T g x) (kept_at (stands_home T.dead) T.scopes g.0 x) (there_is p x.place) (counts_is T g x)) T.tasks)
+  where
+    three : (a b c d e : Bool) → b ≡ c → d ≡ e → a && b && d ≡ (a && c) && e
+    three true b c d e x y = ap (λ v. v && d) x ∙ ap (λ v. c && v) y
+    three false b c d e x y = refl
+
+pub transit_is : (T : Tree) (g : ScopeId) (p r : PlaceId) → transit_count T g p r ≡ count_of (stands_home T.dead) T.scopes T.tasks g.0 (Travel p r)
+transit_is T g p r = count_same (λ x. is_none x.struck && goes p r x.place && counts_at T g x) (λ x. (is_none x.struck && same_where (Travel p r) x.place) && kept_at (stands_home T.dead) T.scopes g.0 x) T.tasks (each_all _ (λ (x : Task). three (is_none x.struck) (goes p r x.place) (same_where (Travel p r) x.place) (counts_at T g x) (kept_at (stands_home T.dead) T.scopes g.0 x) (goes_is p r x.place) (counts_is T g x)) T.tasks)
+  where
+    three : (a b c d e : Bool) → b ≡ c → d ≡ e → a && b && d ≡ (a && c) && e
+    three true b c d e x y = ap (λ v. v && d) x ∙ ap (λ v. c && v) y
+    three false b c d e x y = refl
+
+pub lost_is : (T : Tree) (g : ScopeId) (p : ℕ) → list_any (λ x. was_lost_at p x && counts_at T g x) T.tasks ≡ list_any (λ x. was_lost_at p x && kept_at (stands_home T.dead) T.scopes g.0 x) T.tasks
+lost_is T g p = any_same (λ x. was_lost_at p x && counts_at T g x) (λ x. was_lost_at p x && kept_at (stands_home T.dead) T.scopes g.0 x) T.tasks (each_all _ (λ (x : Task). ap (λ b. was_lost_at p x && b) (counts_is T g x)) T.tasks)
+
+-- The accessors.
+
+pub scope_record : (l : CountLedger) (T : Tree) (s : ScopeId) → StandsFor l T → HasScope T s → Kept T l.scopes.items s.0
+scope_record l T s st h = kept_some T l.scopes.items s.0 st.fit.scopes (find (has_number s.0) T.scopes) refl h
+
+pub cell_told : (l : CountLedger) (T : Tree) (s : ScopeId) (w : Where) (n : ℕ) → StandsFor l T → HasScope T s → in_range w → IfSome (record_at l.scopes.items s.0) (λ r. n ≡ count_in r.sums (slot w)) → n ≡ count_of (stands_home T.dead) T.scopes T.tasks s.0 w
+cell_told l T s w n st h within e =
+    let k : Kept T l.scopes.items s.0 = scope_record l T s st h in
+    subst (λ o. IfSome o (λ r. n ≡ count_in r.sums (slot w))) k.found e ∙ k.fits.sums.counts w within ∙ ap (λ (m : ℕ). count_of (stands_home T.dead) T.scopes T.tasks m w) k.number
+
+pub lost_told : (l : CountLedger) (T : Tree) (s : ScopeId) (r : Record) → StandsFor l T → HasScope T s → record_at l.scopes.items s.0 ≡ Some r → members r.sums.lost ≡ lost_at T s
+lost_told l T s r st h e =
+    let k : Kept T l.scopes.items s.0 = scope_record l T s st h in
+    let same : k.kept ≡ r = (let f = k.found in cc) in
+    filter_same (has_bit r.sums.lost.0) (λ p. list_any (λ x. was_lost_at p x && counts_at T s x) T.tasks) all_places
+    (each_more (λ (p : ℕ). p < 16) _ (λ (p : ℕ) low. ap (λ (v : Record). has_bit v.sums.lost.0 p) (sym same) ∙ k.fits.sums.lost p low ∙ ap (λ (m : ℕ). list_any (λ x. was_lost_at p x && kept_at (stands_home T.dead) T.scopes m x) T.tasks) k.number ∙ sym (lost_is T s p)) all_places places_low)
+
+pub scope_missing : (l : CountLedger) (T : Tree) (s : ScopeId) → StandsFor l T → HasScope T s → record_at l.scopes.items s.0 ≡ None → ⊥
+scope_missing l T s st h e = let f = (scope_record l T s st h).found in cc
+
+-- The relation of the ledger in the words of the rules.
+
+counted : (T : Tree) (n : ℕ) (o : Option Record) (k : Option Scope) → Both (λ r g. CountsOf T (counts_of n r) g) o k → CountsAt T (option_map (counts_of n) o) k
+counted T n (Some r) (Some g) h = h
+counted T n (Some r) None h = h
+counted T n None (Some g) h = h
+counted T n None None h = h
+
+pub counts_stand : CountsStand
+counts_stand l T st =
+    record {
+      reached = st.reached;
+      places = st.fit.places;
+      dead = st.fit.dead;
+      next_task = st.fit.next_task;
+      next_scope = st.fit.next_scope;
+      scopes = λ n.
+          counted T n (record_at l.scopes.items n) (find (has_number n) T.scopes) (both_more (RecordOf (stands_home T.dead) T.scopes T.tasks) (λ r g. CountsOf T (counts_of n r) g) (record_at l.scopes.items n) (find (has_number n) T.scopes)
+          (λ r g found a.
+          record {
+            number = ap (λ (m : ℕ). let q : ScopeId = record { 0 = m } in q) (sym (number_is n T.scopes g found));
+            kind = a.shape.kind;
+            home = a.shape.home;
+            parent = a.shape.parent;
+            live = λ p low. a.sums.counts (At p) low ∙ sym (live_is T g.number p);
+            transit = λ p q low lowq. a.sums.counts (Travel p q) (low, lowq) ∙ sym (transit_is T g.number p q);
+            lost = filter_same (has_bit r.sums.lost.0) (λ p. list_any (λ x. was_lost_at p x && counts_at T g.number x) T.tasks) all_places (each_more (λ (p : ℕ). p < 16) _ (λ (p : ℕ) low. a.sums.lost p low ∙ sym (lost_is T g.number p)) all_places places_low);
+            faults = a.faults;
+          })
+          (st.fit.scopes n));
+    }

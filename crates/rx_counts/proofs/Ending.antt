@@ -1,0 +1,94 @@
+-- A task ends.
+use Rattle.std.specs.Prelude.{◌≡◌, ℕ, Bool, true, cond, ◌==◌, List, ◌++◌, Option, Some, None, option_map, Ok, IfSome, refl}
+use Rattle.std.specs.List.{find}
+use Rattle.std.specs.Global.{Box}
+use Rattle.std.proofs.Common.{sym, ap, ◌∙◌, subst, ⊎_elim}
+use Rattle.std.proofs.lemmas.Bool.{eq-eqb, cases_eq}
+use Rattle.rx_base.specs.declared.values.Fault.{Fault}
+use Rattle.rx_base.specs.declared.ids.ScopeId.{ScopeId}
+use Rattle.rx_rules.specs.declared.tasks.Scope.{Scope}
+use Rattle.rx_rules.specs.declared.entries.Act.TheVariants.{End}
+use Rattle.rx_rules.specs.Tree.{Tree, is_scope}
+use Rattle.rx_rules.specs.Entries.{change_first}
+use Rattle.rx_rules.specs.Reached.{acts}
+use Rattle.rx_sound.specs.Sound.{Sound}
+use Rattle.rx_sound.proofs.Reached.{sound}
+use Rattle.rx_sound.proofs.Stay.{faulted}
+use Rattle.rx_tree.specs.declared.ledger.Caller.{Caller}
+use Rattle.rx_tree.specs.Callers.{MayAskEnd, IsBare}
+use Rattle.rx_tree.specs.Calls.{EndReply}
+use Rattle.rx_tree.proofs.Allowed.{Free, end_allowed}
+use Rattle.rx_tree.proofs.Replies.{ended_is}
+use Rattle.rx_counts.specs.declared.record.Sums.{Sums}
+use Rattle.rx_counts.specs.declared.record.Record.{Record}
+use Rattle.rx_counts.specs.declared.ledger.CountLedger.{CountLedger}
+use Rattle.rx_counts.specs.Keeping.{stands_home, keeper}
+use Rattle.rx_rules.specs.Counts.{has_number}
+use Rattle.rx_counts.specs.Stands.{slot, in_sums, less, AllFit, Fit, StandsFor, record_at, Changed, ends_if}
+use Rattle.rx_counts.proofs.Asking.{unstruck_of, same_fit}
+use Rattle.rx_counts.proofs.Walks.{keeper_faulted, keeper_step}
+use Rattle.rx_counts.proofs.Arriving.{left_in}
+use Rattle.rx_counts.proofs.Faulting.{all_faulted}
+
+map_sums : (P : Sums → Type 0) (f : Record → Record) (o : Option Record) → ((r : Record) → (f r).sums ≡ r.sums) → IfSome o (λ r. P r.sums) → IfSome (option_map f o) (λ r. P r.sums)
+map_sums P f (Some r) same h = subst P (sym (same r)) h
+map_sums P f None same h = tt
+
+-- a change of other fields leaves the sums
+pub changed_sums : (P : Sums → Type 0) (f : Record → Record) (s k : ℕ) (rs qs : List (Option (Box Record))) → ((r : Record) → (f r).sums ≡ r.sums) → Changed f s rs qs → IfSome (record_at rs k) (λ r. P r.sums) → IfSome (record_at qs k) (λ r. P r.sums)
+changed_sums P f s k rs qs same c h =
+    ⊎_elim
+    (λ (e : k ≡ s). subst (λ (m : ℕ). IfSome (record_at qs m) (λ r. P r.sums)) (sym e) (subst (λ o. IfSome o (λ r. P r.sums)) (sym c.here) (map_sums P f (record_at rs s) same (subst (λ (m : ℕ). IfSome (record_at rs m) (λ r. P r.sums)) e h))))
+    (λ (e : k ≡ s → ⊥). subst (λ o. IfSome o (λ r. P r.sums)) (sym (c.others k e)) h)
+    (cases_eq k s)
+
+-- where the scope keeps counts it is its own keeper
+own_keeper : (T : Tree) (s : ScopeId) (g : Scope) (k : ℕ) → Sound T → find (has_number s.0) T.scopes ≡ Some g → stands_home T.dead g ≡ true → keeper (stands_home T.dead) T.scopes (Some s) ≡ Some k → k == s.0 ≡ true
+own_keeper T s g k h found live at =
+    let step = keeper_step T.tasks (stands_home T.dead) T.next_scope T.scopes s g h.falls h.opened found in
+    let own : keeper (stands_home T.dead) T.scopes (Some s) ≡ Some s.0 = step ∙ ap (λ b. cond b (Some s.0) (keeper (stands_home T.dead) T.scopes g.parent)) live in
+    let same : k ≡ s.0 = cc in
+    eq-eqb k s.0 same
+
+pub ended : (l m : CountLedger) (T : Tree) (who : Caller) (thrown : List Fault) (k : ScopeId) (qs : List (Option (Box Record))) → StandsFor l T → MayAskEnd T who → (f : Free T who (IsBare T who)) → keeper (stands_home T.dead) T.scopes (Some who.scope) ≡ Some k.0 → m.places ≡ l.places → m.dead ≡ l.dead → m.next_task ≡ l.next_task → m.next_scope ≡ l.next_scope → Changed (ends_if (k.0 == who.scope.0) thrown) who.scope.0 l.scopes.items qs → Changed (in_sums (less (slot who.place))) k.0 qs m.scopes.items → EndReply T who thrown (Ok tt) (StandsFor m)
+ended l m T who thrown k qs st may f at places dead next_task next_scope c d =
+    let h : Sound T = sound st.reached in
+    let keeps : Scope → Bool = stands_home T.dead in
+    let a = end_allowed T who thrown st.reached may (unstruck_of T who (IsBare T who) f) in
+    let is = ended_is T who (IsBare T who) thrown st.reached may (unstruck_of T who (IsBare T who) f) in
+    let first : AllFit keeps (change_first (is_scope who.scope) (faulted (λ g. g.body) (λ g. g.ends ++ thrown)) T.scopes) T.tasks qs =
+    all_faulted (λ g. g.body) (λ g. g.ends ++ thrown) who.scope keeps (λ g. refl) T.scopes T.tasks (ends_if (k.0 == who.scope.0) thrown) l.scopes.items qs (λ r. (refl, refl, refl, refl, refl))
+    (λ r g found live was. (was.0, ap (λ b. cond b (r.ends ++ thrown) r.ends) (own_keeper T who.scope g k.0 h found live at) ∙ ap (λ xs. xs ++ thrown) was.1)) c st.fit.scopes
+    in
+    let at2 = keeper_faulted (λ g. g.body) (λ g. g.ends ++ thrown) (is_scope who.scope) keeps (λ g. refl) T.scopes (Some who.scope) ∙ at in
+    record {
+      allowed = a;
+      made =
+          record {
+            reached = acts who.task (End thrown) st.reached a;
+            fit =
+                subst (Fit m) (sym is)
+                (record {
+                  places = places ∙ st.fit.places;
+                  dead = dead ∙ st.fit.dead;
+                  next_task = next_task ∙ st.fit.next_task;
+                  next_scope = next_scope ∙ st.fit.next_scope;
+                  numbers = d.len ∙ c.len ∙ st.fit.numbers;
+                  scopes = left_in T who (IsBare T who) keeps (change_first (is_scope who.scope) (faulted (λ g. g.body) (λ g. g.ends ++ thrown)) T.scopes) qs m.scopes.items k.0 h f at2 d first;
+                });
+          };
+    }
+
+same_pointwise : (s : ℕ) (rs qs : List (Option (Box Record))) → Changed (λ r. r) s rs qs → (n : ℕ) → record_at qs n ≡ record_at rs n
+same_pointwise s rs qs c n =
+    ⊎_elim
+    (λ (e : n ≡ s). ap (record_at qs) e ∙ c.here ∙ map_id (record_at rs s) ∙ ap (record_at rs) (sym e))
+    (λ (e : n ≡ s → ⊥). c.others n e)
+    (cases_eq n s)
+  where
+    map_id : (o : Option Record) → option_map (λ r. r) o ≡ o
+    map_id (Some r) = refl
+    map_id None = refl
+
+pub end_unchanged : (l m : CountLedger) (T : Tree) (who : Caller) → StandsFor l T → m.places ≡ l.places → m.dead ≡ l.dead → m.next_task ≡ l.next_task → m.next_scope ≡ l.next_scope → Changed (λ r. r) who.scope.0 l.scopes.items m.scopes.items → StandsFor m T
+end_unchanged l m T who st places dead next_task next_scope c = record { reached = st.reached; fit = same_fit l m T st.fit places dead next_task next_scope c.len (same_pointwise who.scope.0 l.scopes.items m.scopes.items c) }

@@ -1,0 +1,166 @@
+-- What a release names, and what hinders it.
+use Rattle.std.specs.Prelude.{◌≡◌, ℕ, zero, suc, ◌<◌, ◌≤◌, Bool, true, false, cond, ◌||◌, ◌&&◌, ◌==◌, not, List, [], ◌∷◌, ◌++◌, Some, None, is_none, count_by, filter, refl}
+use Rattle.std.specs.List.{list_any}
+use Rattle.std.proofs.Common.{sym, ap, ◌∙◌, subst, arith}
+use Rattle.std.proofs.lemmas.Bool.{eq-eqb, ne_eqb, true≢false, and_parts, and_from, or_left, or_right, lt-ltb}
+use Rattle.rx_sound.proofs.Staying.{any_same}
+use Rattle.rx_base.specs.Sets.{has_bit, members, all_places}
+use Rattle.rx_base.specs.declared.ids.PlaceId.{PlaceId}
+use Rattle.rx_base.specs.declared.ids.ScopeId.{ScopeId}
+use Rattle.rx_rules.specs.declared.tasks.Where.{Where}
+use Rattle.rx_rules.specs.declared.tasks.Where.TheVariants.{At, Travel}
+use Rattle.rx_rules.specs.declared.tasks.Task.{Task}
+use Rattle.rx_rules.specs.declared.tasks.Scope.{Scope}
+use Rattle.rx_rules.specs.Tree.{Tree, is_under, quiet}
+use Rattle.rx_rules.specs.Entries.{was_lost_at, lost_under, thrown_of}
+use Rattle.rx_sound.specs.Sound.{Each, Sound, TaskFits}
+use Rattle.rx_sound.proofs.Changes.{each_found, each_more}
+use Rattle.rx_sound.proofs.Below.{found_any}
+use Rattle.rx_sound.proofs.Lookups.{find_passes}
+use Rattle.rx_sound.proofs.Reached.{sound}
+use Rattle.rx_sound.proofs.Releasing.{on_meets, each_all}
+use Rattle.rx_tree.specs.Calls.{IsHindered, landing}
+use Rattle.rx_counts.specs.declared.record.Record.{Record}
+use Rattle.rx_counts.specs.declared.ledger.CountLedger.{CountLedger}
+use Rattle.rx_counts.specs.Keeping.{stands_home, kept_at, same_where, count_of, total_of, orphans_of}
+use Rattle.rx_counts.specs.Stands.{slot, in_range, SumsOf, StandsFor, record_at, count_in}
+use Rattle.rx_counts.specs.Freeing.{IsLast, Hides, unslot}
+use Rattle.rx_counts.proofs.Counting.{one, count_cons, any_counted}
+use Rattle.rx_counts.proofs.Telling.{keeper_meets, same_self, slot_of_unslot, unslot_in, within_range, one_number}
+use Rattle.rx_counts.proofs.Lasting.{kept_here}
+use Rattle.rx_counts.proofs.Joining.{slot_below}
+use Rattle.rx_counts.proofs.Asking.{Kept}
+use Rattle.rx_counts.proofs.Readying.{last_kept, total_quiet}
+
+-- each element has its part in each count
+pub each_part : {X : Type 0} (xs ts : List X) → ((p : X → Bool) → count_by p xs ≤ count_by p ts) → Each (λ x. (p : X → Bool) → one (p x) ≤ count_by p ts) xs
+each_part [] ts le = tt
+each_part {X = X} (x ∷ xs) ts le = (
+  (λ p. let a = count_cons p x xs in let b = le p in omega arith),
+  each_part xs ts (λ p. let a = count_cons p x xs in let b = le p in omega arith),
+)
+
+pub any_more : {X : Type 0} (p q : X → Bool) (xs : List X) → ((x : X) → p x ≡ true → q x ≡ true) → list_any p xs ≡ true → list_any q xs ≡ true
+any_more p q [] f h = h
+any_more p q (x ∷ xs) f h =
+    (elim (p x) as (λ b. p x ≡ b → b || list_any p xs ≡ true → q x || list_any q xs ≡ true) [
+      | true ↦ λ e k. or_left (q x) (list_any q xs) (f x e)
+      | false ↦ λ e k. or_right (q x) (list_any q xs) (any_more p q xs f k)
+    ]) refl h
+
+-- a record with a total above 0 has a cell above 0
+pub some_cell : (T : Tree) (keeps : Scope → Bool) (r : Record) (n : ℕ) → Sound T → SumsOf keeps T.scopes T.tasks r.sums n → 0 < r.sums.total → (k : ℕ) × (k < 272) × (0 < count_in r.sums k)
+some_cell T keeps r n h s pos =
+    let total : r.sums.total ≡ total_of keeps T.scopes T.tasks n = s.total in
+    let any : list_any (λ x. is_none x.struck && kept_at keeps T.scopes n x) T.tasks ≡ true = any_counted (λ x. is_none x.struck && kept_at keeps T.scopes n x) T.tasks ∙ lt-ltb 0 (total_of keeps T.scopes T.tasks n) (omega arith) in
+    let found = found_any (λ x. is_none x.struck && kept_at keeps T.scopes n x) T.tasks any in
+    let x : Task = found.0 in
+    let here = and_parts (is_none x.struck) (kept_at keeps T.scopes n x) (find_passes (λ y. is_none y.struck && kept_at keeps T.scopes n y) T.tasks x found.1) in
+    let within : in_range x.place = within_range T.places x.place h.few (each_found (TaskFits T.dead T.places T.scopes) (λ y. is_none y.struck && kept_at keeps T.scopes n y) T.tasks x h.tasks found.1).inside in
+    let part = each_found (λ y. (p : Task → Bool) → one (p y) ≤ count_by p T.tasks) (λ y. is_none y.struck && kept_at keeps T.scopes n y) T.tasks x (each_part T.tasks T.tasks (λ p. omega arith)) found.1 (λ y. (is_none y.struck && same_where x.place y.place) && kept_at keeps T.scopes n y) in
+    let mine : (is_none x.struck && same_where x.place x.place) && kept_at keeps T.scopes n x ≡ true = and_from (is_none x.struck && same_where x.place x.place) (kept_at keeps T.scopes n x) (and_from (is_none x.struck) (same_where x.place x.place) here.0 (same_self x.place)) here.1 in
+    let is_one = ap one mine in
+    let c = s.counts x.place within in
+    (slot x.place, slot_below x.place within, omega arith)
+
+land_alike : (w v : Where) → same_where w v ≡ true → (landing v).0 == (landing w).0 ≡ true
+land_alike (At p) (At q) e = e
+land_alike (At p) (Travel f t) e = absurd (true≢false (sym e))
+land_alike (Travel p r) (At q) e = absurd (true≢false (sym e))
+land_alike (Travel p r) (Travel f t) e = (and_parts (f.0 == p.0) (t.0 == r.0) e).1
+
+-- so a place is found that hinders
+pub hindered : (l : CountLedger) (T : Tree) (s : ScopeId) (r : Record) (p : PlaceId) → StandsFor l T → IsLast T s → record_at l.scopes.items s.0 ≡ Some r → 0 < r.sums.total → Hides r.sums.counts p → IsHindered T s p
+hindered l T s r p st i e pos hides =
+    let h : Sound T = sound st.reached in
+    let keeps : Scope → Bool = stands_home T.dead in
+    let k : Kept T l.scopes.items s.0 = last_kept l T s st i in
+    let same : k.kept ≡ r = (let f = k.found in cc) in
+    let sums : SumsOf keeps T.scopes T.tasks r.sums s.0 = subst (λ (v : Record). SumsOf keeps T.scopes T.tasks v.sums s.0) same (subst (SumsOf keeps T.scopes T.tasks k.kept.sums) k.number k.fits.sums) in
+    let cell = some_cell T keeps r s.0 h sums pos in
+    let hid = hides cell.0 cell.1 cell.2 in
+    let w : Where = unslot hid.0 in
+    let c : count_in r.sums (slot w) ≡ count_of keeps T.scopes T.tasks s.0 w = sums.counts w (unslot_in hid.0 hid.1) in
+    let up : 0 < count_in r.sums hid.0 = hid.2 in
+    let at : count_in r.sums (slot w) ≡ count_in r.sums hid.0 = ap (count_in r.sums) {x = slot w} {y = hid.0} (slot_of_unslot hid.0) in
+    let any : list_any (λ x. (is_none x.struck && same_where w x.place) && kept_at keeps T.scopes s.0 x) T.tasks ≡ true = any_counted (λ x. (is_none x.struck && same_where w x.place) && kept_at keeps T.scopes s.0 x) T.tasks ∙ lt-ltb 0 (count_of keeps T.scopes T.tasks s.0 w) (omega arith) in
+    record {
+      busy = sym (total_quiet l T s r st i e) ∙ nonzero r.sums.total pos;
+      by =
+          any_more (λ x. (is_none x.struck && same_where w x.place) && kept_at keeps T.scopes s.0 x) (λ x. (is_under T s x && is_none x.struck) && ((landing x.place).0 == p.0)) T.tasks
+          (λ x t.
+          let one_ = and_parts (is_none x.struck && same_where w x.place) (kept_at keeps T.scopes s.0 x) t in
+          let two = and_parts (is_none x.struck) (same_where w x.place) one_.0 in
+          and_from (is_under T s x && is_none x.struck) ((landing x.place).0 == p.0)
+          (and_from (is_under T s x) (is_none x.struck) (on_meets s T.scopes (Some x.under) ∙ keeper_meets keeps s T.scopes (Some x.under) one_.1) two.0)
+          (ap (λ (q : PlaceId). (landing x.place).0 == q.0) {x = p} {y = landing w} hid.3 ∙ land_alike w x.place two.1)) any;
+    }
+  where
+    nonzero : (n : ℕ) → 0 < n → n == 0 ≡ false
+    nonzero zero h = absurd (omega arith)
+    nonzero (suc n) h = ne_eqb (suc n) 0 (λ e. absurd (omega arith))
+
+-- What a release names.
+
+pub places_low : Each (λ (p : ℕ). p < 16) all_places
+places_low = (omega arith, (omega arith, (omega arith, (omega arith, (omega arith, (omega arith, (omega arith, (omega arith, (omega arith, (omega arith, (omega arith, (omega arith, (omega arith, (omega arith, (omega arith, (omega arith, tt))))))))))))))))
+
+pub filter_same : {X : Type 0} (p q : X → Bool) (xs : List X) → Each (λ x. p x ≡ q x) xs → filter p xs ≡ filter q xs
+filter_same p q [] h = refl
+filter_same p q (x ∷ xs) h = ap (λ b. cond b (x ∷ filter p xs) (filter p xs)) h.0 ∙ ap (λ ys. cond (q x) (x ∷ ys) ys) (filter_same p q xs h.1)
+
+swap : (u l k : Bool) → (u ≡ true → k ≡ true) → (k ≡ true → u ≡ true) → u && l ≡ l && k
+swap true true k f b = sym (f refl)
+swap true false k f b = refl
+swap false l true f b = absurd (true≢false (sym (b refl)))
+swap false true false f b = refl
+swap false false false f b = refl
+
+-- whether a place is in the list that a release names is read from the record of the scope alone
+pub lost_named : (T : Tree) (s : ScopeId) → Sound T → IsLast T s → quiet T s ≡ true → (p : ℕ) → list_any (λ y. is_under T s y && was_lost_at p y) T.tasks ≡ list_any (λ y. was_lost_at p y && kept_at (stands_home T.dead) T.scopes s.0 y) T.tasks
+lost_named T s h i still p =
+    any_same (λ y. is_under T s y && was_lost_at p y) (λ y. was_lost_at p y && kept_at (stands_home T.dead) T.scopes s.0 y) T.tasks
+    (each_all _ (λ (y : Task).
+    swap (is_under T s y) (was_lost_at p y) (kept_at (stands_home T.dead) T.scopes s.0 y)
+    (λ e. kept_here T s h i still y.under (sym (on_meets s T.scopes (Some y.under)) ∙ e))
+    (λ e. on_meets s T.scopes (Some y.under) ∙ keeper_meets (stands_home T.dead) s T.scopes (Some y.under) e)) T.tasks)
+
+unnot : (b : Bool) → not b ≡ false → b ≡ true
+unnot true e = refl
+unnot false e = absurd (true≢false e)
+
+pub home_keeps : (T : Tree) (s : ScopeId) → Sound T → (i : IsLast T s) → stands_home T.dead i.scope ≡ true
+home_keeps T s h i = unnot (stands_home T.dead i.scope) (sym (one_number (λ k. not (stands_home T.dead k)) T.next_scope T.scopes s i.scope h.falls i.stands) ∙ i.keeps_it)
+
+pub record Outcomes (T : Tree) (s : ScopeId) (r : Record) : Type 0 where
+  pub still : quiet T s ≡ true
+  pub places : members r.sums.lost ≡ lost_under T s
+  pub faults : r.body ++ r.ends ≡ thrown_of T s
+  pub orphans : r.sums.orphans ≡ orphans_of (stands_home T.dead) T.scopes s.0
+
+pub outcome : (l : CountLedger) (T : Tree) (s : ScopeId) (r : Record) → StandsFor l T → IsLast T s → record_at l.scopes.items s.0 ≡ Some r → r.sums.total ≡ 0 → Outcomes T s r
+outcome l T s r st i e zero_total =
+    let h : Sound T = sound st.reached in
+    let keeps : Scope → Bool = stands_home T.dead in
+    let k : Kept T l.scopes.items s.0 = last_kept l T s st i in
+    let same : k.kept ≡ r = (let f = k.found in cc) in
+    let sums : SumsOf keeps T.scopes T.tasks r.sums s.0 = subst (λ (v : Record). SumsOf keeps T.scopes T.tasks v.sums s.0) same (subst (SumsOf keeps T.scopes T.tasks k.kept.sums) k.number k.fits.sums) in
+    let still : quiet T s ≡ true = sym (total_quiet l T s r st i e) ∙ eq-eqb r.sums.total 0 zero_total in
+    let is : k.scope ≡ i.scope = (let a = k.stands in let b = i.stands in let c : Some k.scope ≡ Some i.scope = sym a ∙ b in cc) in
+    let faults = subst (λ (v : Record). (v.body ≡ k.scope.body) × (v.ends ≡ k.scope.ends)) same (k.fits.faults (ap keeps is ∙ home_keeps T s h i)) in
+    record {
+      still = still;
+      places = filter_same (has_bit r.sums.lost.0) (λ p. list_any (λ x. is_under T s x && was_lost_at p x) T.tasks) all_places (each_more (λ (p : ℕ). p < 16) _ (λ (p : ℕ) low. sums.lost p low ∙ sym (lost_named T s h i still p)) all_places places_low);
+      faults = ap (λ xs. xs ++ r.ends) (faults.0 ∙ ap (λ (v : Scope). v.body) is) ∙ ap (λ xs. i.scope.body ++ xs) (faults.1 ∙ ap (λ (v : Scope). v.ends) is) ∙ sym (let q : thrown_of T s ≡ i.scope.body ++ i.scope.ends = rw (i.stands, thrown_of) in q);
+      orphans = sums.orphans;
+    }
+
+pub not_missing : (l : CountLedger) (T : Tree) (s : ScopeId) → StandsFor l T → IsLast T s → record_at l.scopes.items s.0 ≡ None → ⊥
+not_missing l T s st i e = let f = (last_kept l T s st i).found in cc
+
+-- the total of such a record tells that it is quiet
+pub quiet_now : (l : CountLedger) (T : Tree) (s : ScopeId) (r : Record) → StandsFor l T → IsLast T s → record_at l.scopes.items s.0 ≡ Some r → r.sums.total ≡ 0 → quiet T s ≡ true
+quiet_now l T s r st i e z = (outcome l T s r st i e z).still
+
+pub zero_of : (n : ℕ) → n ≤ 0 → n ≡ 0
+zero_of n e = omega arith

@@ -1,0 +1,361 @@
+-- A task joins the tree, or leaves it, and the sums of one record change.
+use Rattle.std.specs.Prelude.{◌≡◌, ℕ, ◌<◌, ◌≤◌, ◌+◌, ◌-◌, Bool, true, false, cond, ◌||◌, ◌&&◌, ◌==◌, not, List, [], ◌∷◌, Option, Some, None, is_none, option_map, length, slice_index_or, filter, count_by, refl}
+use Rattle.std.specs.List.{find, list_any}
+use Rattle.std.specs.Global.{Box}
+use Rattle.std.proofs.Common.{sym, ap, ◌∙◌, subst, arith, ltb, ⊎_elim}
+use Rattle.std.proofs.lemmas.Bool.{eqb-true, eq-eqb, ne_eqb, true≢false, and_parts, and_from, and_left, and_right, cases_eq}
+use Rattle.std.proofs.lemmas.List.{get_or-set_same, get_or-set_other, length-set}
+use Rattle.std.proofs.Math.Bool.{and-true}
+use Rattle.rx_sound.proofs.Waiting.{tasks_below}
+use Rattle.rx_base.specs.declared.ids.TaskId.{TaskId}
+use Rattle.rx_rules.specs.declared.tasks.Where.{Where}
+use Rattle.rx_rules.specs.declared.tasks.Where.TheVariants.{At, Travel}
+use Rattle.rx_rules.specs.declared.tasks.Blow.{Blow}
+use Rattle.rx_rules.specs.declared.tasks.Task.{Task}
+use Rattle.rx_rules.specs.declared.tasks.Scope.{Scope}
+use Rattle.rx_rules.specs.Tree.{is_task}
+use Rattle.rx_rules.specs.Entries.{change_first, was_lost_at}
+use Rattle.rx_sound.specs.Sound.{TasksFall}
+use Rattle.rx_sound.proofs.Changes.{each_more}
+use Rattle.rx_sound.proofs.Lookups.{find_passes}
+use Rattle.rx_counts.specs.declared.record.Sums.{Sums}
+use Rattle.rx_counts.specs.declared.record.Record.{Record}
+use Rattle.rx_counts.specs.Keeping.{keeper, is_number, kept_at, same_where}
+use Rattle.rx_base.specs.Sets.{has_bit}
+use Rattle.rx_rules.specs.Counts.{has_number}
+use Rattle.rx_counts.specs.Stands.{slot, in_range, ShapeOf, SumsOf, RecordOf, Both, AllFit, record_at, count_in, more, less, in_sums, with_lost, Changed, ChangedBy, Pairs, Loses}
+use Rattle.rx_counts.proofs.Counting.{one, count_cons, count_change, count_filter, any_counted, sum_change}
+use Rattle.rx_counts.proofs.Telling.{same_self}
+
+-- Cells of places and pairs differ.
+
+pub same_slot : (v w : Where) → in_range v → in_range w → same_where w v ≡ true → slot v ≡ slot w
+same_slot (At p) (At q) a b e = eqb-true p.0 q.0 e
+same_slot (At p) (Travel from to) a b e = absurd (true≢false (sym e))
+same_slot (Travel from to) (At q) a b e = absurd (true≢false (sym e))
+same_slot (Travel f t) (Travel p r) a b e = let parts = and_parts (f.0 == p.0) (t.0 == r.0) e in let x : f.0 ≡ p.0 = eqb-true f.0 p.0 parts.0 in let y : t.0 ≡ r.0 = eqb-true t.0 r.0 parts.1 in omega arith
+
+pub slot_same : (v w : Where) → in_range v → in_range w → slot v ≡ slot w → same_where w v ≡ true
+slot_same (At p) (At q) a b e = eq-eqb p.0 q.0 e
+slot_same (At p) (Travel from to) a b e = absurd (omega arith)
+slot_same (Travel from to) (At q) a b e = absurd (omega arith)
+slot_same (Travel f t) (Travel p r) a b e = let c : t.0 < 16 = a.1 in let d : r.0 < 16 = b.1 in and_from (f.0 == p.0) (t.0 == r.0) (eq-eqb f.0 p.0 (omega arith)) (eq-eqb t.0 r.0 (omega arith))
+
+pub slot_below : (w : Where) → in_range w → slot w < 272
+slot_below (At p) h = omega arith
+slot_below (Travel f t) h = let a : f.0 < 16 = h.0 in let b : t.0 < 16 = h.1 in omega arith
+
+pub more_count : (r : Sums) (v w : Where) → length r.counts ≡ 272 → in_range v → in_range w → count_in (more (slot v) r) (slot w) ≡ count_in r (slot w) + one (same_where w v)
+more_count r v w len a b =
+    (elim (same_where w v) as (λ c. same_where w v ≡ c → count_in (more (slot v) r) (slot w) ≡ count_in r (slot w) + one c) [
+      | true ↦ λ e.
+          let same : slot v ≡ slot w = same_slot v w a b e in
+          let low : slot v < length r.counts = (let q = slot_below v a in omega arith) in
+          subst (λ (i : ℕ). count_in (more (slot v) r) i ≡ count_in r i + 1) same (get_or-set_same r.counts (slot v) (count_in r (slot v) + 1) 0 low)
+      | false ↦ λ e. get_or-set_other r.counts (slot v) (slot w) (count_in r (slot v) + 1) 0 (λ q. true≢false (sym (slot_same v w a b (sym q)) ∙ e)) ∙ omega arith
+    ]) refl
+
+pub less_count : (r : Sums) (v w : Where) → length r.counts ≡ 272 → in_range v → in_range w → 1 ≤ count_in r (slot v) → count_in (less (slot v) r) (slot w) + one (same_where w v) ≡ count_in r (slot w)
+less_count r v w len a b pos =
+    (elim (same_where w v) as (λ c. same_where w v ≡ c → count_in (less (slot v) r) (slot w) + one c ≡ count_in r (slot w)) [
+      | true ↦ λ e.
+          let same : slot v ≡ slot w = same_slot v w a b e in
+          let low : slot v < length r.counts = (let q = slot_below v a in omega arith) in
+          subst (λ (i : ℕ). count_in (less (slot v) r) i + 1 ≡ count_in r i) same (let g = get_or-set_same r.counts (slot v) (count_in r (slot v) - 1) 0 low in omega arith)
+      | false ↦ λ e. let g = get_or-set_other r.counts (slot v) (slot w) (count_in r (slot v) - 1) 0 (λ q. true≢false (sym (slot_same v w a b (sym q)) ∙ e)) in omega arith
+    ]) refl
+
+-- One record.
+
+one_false : (b : Bool) → b ≡ false → one b ≡ 0
+one_false b e = ap one e
+
+kept_cell : (f w k : Bool) → f ≡ true → k ≡ true → one ((f && w) && k) ≡ one w
+kept_cell true true true a b = refl
+kept_cell true false true a b = refl
+kept_cell false w k a b = absurd (true≢false (sym a))
+kept_cell true w false a b = absurd (true≢false (sym b))
+
+kept_one : (f k : Bool) → f ≡ true → k ≡ true → one (f && k) ≡ 1
+kept_one true true a b = refl
+kept_one false k a b = absurd (true≢false (sym a))
+kept_one true false a b = absurd (true≢false (sym b))
+
+lost_none : (p : ℕ) (x : Task) → x.struck ≡ None → was_lost_at p x ≡ false
+lost_none p x e = rw (e, was_lost_at)
+
+-- a task that is counted elsewhere joins
+pub join_other : (keeps : Scope → Bool) (gs : List Scope) (ts : List Task) (y : Task) (q : Sums) (n : ℕ) → kept_at keeps gs n y ≡ false → SumsOf keeps gs ts q n → SumsOf keeps gs (y ∷ ts) q n
+join_other keeps gs ts y q n out h =
+    record {
+      cells = h.cells;
+      counts = λ w in_w.
+          let a = h.counts w in_w in
+          let b = count_cons (λ x. (is_none x.struck && same_where w x.place) && kept_at keeps gs n x) y ts in
+          let c = one_false _ (and_right (is_none y.struck && same_where w y.place) (kept_at keeps gs n y) out) in
+          omega arith;
+      total =
+          let a = h.total in
+          let b = count_cons (λ x. is_none x.struck && kept_at keeps gs n x) y ts in
+          let c = one_false _ (and_right (is_none y.struck) (kept_at keeps gs n y) out) in
+          omega arith;
+      orphans = h.orphans;
+      lost = λ p low. h.lost p low ∙ sym (ap (λ b. b || list_any (λ x. was_lost_at p x && kept_at keeps gs n x) ts) (and_right (was_lost_at p y) (kept_at keeps gs n y) out));
+    }
+
+-- an unstruck task that is counted here joins
+pub join_here : (keeps : Scope → Bool) (gs : List Scope) (ts : List Task) (y : Task) (q : Sums) (n : ℕ) → kept_at keeps gs n y ≡ true → y.struck ≡ None → in_range y.place → SumsOf keeps gs ts q n → SumsOf keeps gs (y ∷ ts) (more (slot y.place) q) n
+join_here keeps gs ts y q n here free within h =
+    record {
+      cells = length-set q.counts (slot y.place) (count_in q (slot y.place) + 1) ∙ h.cells;
+      counts = λ w in_w.
+          let a = h.counts w in_w in
+          let b = count_cons (λ x. (is_none x.struck && same_where w x.place) && kept_at keeps gs n x) y ts in
+          let c = kept_cell (is_none y.struck) (same_where w y.place) (kept_at keeps gs n y) (ap is_none free) here in
+          let d = more_count q y.place w h.cells within in_w in
+          omega arith;
+      total =
+          let a = h.total in
+          let b = count_cons (λ x. is_none x.struck && kept_at keeps gs n x) y ts in
+          let c = kept_one (is_none y.struck) (kept_at keeps gs n y) (ap is_none free) here in
+          omega arith;
+      orphans = h.orphans;
+      lost = λ p low. h.lost p low ∙ sym (ap (λ b. b || list_any (λ x. was_lost_at p x && kept_at keeps gs n x) ts) (and_left (was_lost_at p y) (kept_at keeps gs n y) (lost_none p y free)));
+    }
+
+one_struck : (o : Option Blow) (b : Blow) (w k : Bool) → o ≡ Some b → (is_none o && w) && k ≡ false
+one_struck o b w k e = rw e refl
+
+two_struck : (o : Option Blow) (b : Blow) (k : Bool) → o ≡ Some b → is_none o && k ≡ false
+two_struck o b k e = rw e refl
+
+lost_first : (q : ℕ) (o : Option Blow) (b : Blow) (k l m : Bool) → o ≡ Some b → k ≡ true → m ≡ (l || (b.place.0 == q)) → m ≡ (((elim o as (λ _. Bool) [ Some c ↦ c.place.0 == q | None ↦ false ]) && k) || l)
+lost_first q o b k l m e f h = h ∙ or_swap l (b.place.0 == q) ∙ rw (e, f) (ap (λ v. v || l) (sym (and-true (b.place.0 == q))))
+  where
+    or_swap : (a c : Bool) → (a || c) ≡ (c || a)
+    or_swap true true = refl
+    or_swap true false = refl
+    or_swap false true = refl
+    or_swap false false = refl
+
+-- a struck task that is counted here joins
+pub join_lost : (keeps : Scope → Bool) (gs : List Scope) (ts : List Task) (y : Task) (b : Blow) (q p : Sums) (n : ℕ) → kept_at keeps gs n y ≡ true → y.struck ≡ Some b → p ≡ with_lost p.lost q → ((i : ℕ) → i < 16 → has_bit p.lost.0 i ≡ (has_bit q.lost.0 i || (b.place.0 == i))) → SumsOf keeps gs ts q n → SumsOf keeps gs (y ∷ ts) p n
+join_lost keeps gs ts y b q p n here struck same bits h =
+    let counts : p.counts ≡ q.counts = ap (λ (v : Sums). v.counts) same in
+    let total : p.total ≡ q.total = ap (λ (v : Sums). v.total) same in
+    let orphans : p.orphans ≡ q.orphans = ap (λ (v : Sums). v.orphans) same in
+    record {
+      cells = ap length counts ∙ h.cells;
+      counts = λ w in_w.
+          let a = h.counts w in_w in
+          let c = count_cons (λ x. (is_none x.struck && same_where w x.place) && kept_at keeps gs n x) y ts in
+          let d = one_false _ (one_struck y.struck b (same_where w y.place) (kept_at keeps gs n y) struck) in
+          let e = ap (λ xs. slice_index_or xs (slot w) 0) counts in
+          omega arith;
+      total =
+          let a = h.total in
+          let c = count_cons (λ x. is_none x.struck && kept_at keeps gs n x) y ts in
+          let d = one_false _ (two_struck y.struck b (kept_at keeps gs n y) struck) in
+          omega arith;
+      orphans = orphans ∙ h.orphans;
+      lost = λ i low. lost_first i y.struck b (kept_at keeps gs n y) (list_any (λ x. was_lost_at i x && kept_at keeps gs n x) ts) (has_bit p.lost.0 i) struck here (bits i low ∙ ap (λ c. c || (b.place.0 == i)) (h.lost i low));
+    }
+
+-- whether a task waits is not counted
+pub sums_waits : (keeps : Scope → Bool) (gs : List Scope) (ts : List Task) (t : TaskId) (b : Bool) (q : Sums) (n : ℕ) → SumsOf keeps gs ts q n → SumsOf keeps gs (change_first (is_task t) (λ x. record x { waits = b }) ts) q n
+sums_waits keeps gs ts t b q n h =
+    record {
+      cells = h.cells;
+      counts = λ w in_w. h.counts w in_w ∙ sym (sum_change (λ x. cond ((is_none x.struck && same_where w x.place) && kept_at keeps gs n x) 1 0) (is_task t) (λ x. record x { waits = b }) ts (λ x. refl));
+      total = h.total ∙ sym (sum_change (λ x. cond (is_none x.struck && kept_at keeps gs n x) 1 0) (is_task t) (λ x. record x { waits = b }) ts (λ x. refl));
+      orphans = h.orphans;
+      lost = λ p low. h.lost p low ∙ any_counted (λ x. was_lost_at p x && kept_at keeps gs n x) ts ∙ ap (ltb 0) (sym (sum_change (λ x. cond (was_lost_at p x && kept_at keeps gs n x) 1 0) (is_task t) (λ x. record x { waits = b }) ts (λ x. refl))) ∙ sym (any_counted (λ x. was_lost_at p x && kept_at keeps gs n x) (change_first (is_task t) (λ x. record x { waits = b }) ts));
+    }
+
+-- and the same backwards
+pub leave_other : (keeps : Scope → Bool) (gs : List Scope) (ts : List Task) (y : Task) (q : Sums) (n : ℕ) → kept_at keeps gs n y ≡ false → SumsOf keeps gs (y ∷ ts) q n → SumsOf keeps gs ts q n
+leave_other keeps gs ts y q n out h =
+    record {
+      cells = h.cells;
+      counts = λ w in_w.
+          let a = h.counts w in_w in
+          let b = count_cons (λ x. (is_none x.struck && same_where w x.place) && kept_at keeps gs n x) y ts in
+          let c = one_false _ (and_right (is_none y.struck && same_where w y.place) (kept_at keeps gs n y) out) in
+          omega arith;
+      total =
+          let a = h.total in
+          let b = count_cons (λ x. is_none x.struck && kept_at keeps gs n x) y ts in
+          let c = one_false _ (and_right (is_none y.struck) (kept_at keeps gs n y) out) in
+          omega arith;
+      orphans = h.orphans;
+      lost = λ p low. h.lost p low ∙ ap (λ b. b || list_any (λ x. was_lost_at p x && kept_at keeps gs n x) ts) (and_right (was_lost_at p y) (kept_at keeps gs n y) out);
+    }
+
+-- who is counted here, is in the count
+pub counted : (keeps : Scope → Bool) (gs : List Scope) (ts : List Task) (y : Task) (q : Sums) (n : ℕ) → kept_at keeps gs n y ≡ true → y.struck ≡ None → in_range y.place → SumsOf keeps gs (y ∷ ts) q n → (1 ≤ count_in q (slot y.place)) × (1 ≤ q.total)
+counted keeps gs ts y q n here free within h =
+    let a = h.counts y.place within in
+    let b = count_cons (λ x. (is_none x.struck && same_where y.place x.place) && kept_at keeps gs n x) y ts in
+    let c = kept_cell (is_none y.struck) (same_where y.place y.place) (kept_at keeps gs n y) (ap is_none free) here in
+    let d = ap one (same_self y.place) in
+    let e = h.total in
+    let f = count_cons (λ x. is_none x.struck && kept_at keeps gs n x) y ts in
+    let g = kept_one (is_none y.struck) (kept_at keeps gs n y) (ap is_none free) here in
+    (omega arith, omega arith)
+
+pub leave_here : (keeps : Scope → Bool) (gs : List Scope) (ts : List Task) (y : Task) (q : Sums) (n : ℕ) → kept_at keeps gs n y ≡ true → y.struck ≡ None → in_range y.place → SumsOf keeps gs (y ∷ ts) q n → SumsOf keeps gs ts (less (slot y.place) q) n
+leave_here keeps gs ts y q n here free within h =
+    record {
+      cells = length-set q.counts (slot y.place) (count_in q (slot y.place) - 1) ∙ h.cells;
+      counts = λ w in_w.
+          let a = h.counts w in_w in
+          let b = count_cons (λ x. (is_none x.struck && same_where w x.place) && kept_at keeps gs n x) y ts in
+          let c = kept_cell (is_none y.struck) (same_where w y.place) (kept_at keeps gs n y) (ap is_none free) here in
+          let d = less_count q y.place w h.cells within in_w (counted keeps gs ts y q n here free within h).0 in
+          omega arith;
+      total =
+          let a = h.total in
+          let b = count_cons (λ x. is_none x.struck && kept_at keeps gs n x) y ts in
+          let c = kept_one (is_none y.struck) (kept_at keeps gs n y) (ap is_none free) here in
+          omega arith;
+      orphans = h.orphans;
+      lost = λ p low. h.lost p low ∙ ap (λ b. b || list_any (λ x. was_lost_at p x && kept_at keeps gs n x) ts) (and_left (was_lost_at p y) (kept_at keeps gs n y) (lost_none p y free));
+    }
+
+-- sums count and ask of no more than how many tasks pass a test
+pub sums_same : (keeps : Scope → Bool) (gs : List Scope) (ts us : List Task) (q : Sums) (n : ℕ) → ((p : Task → Bool) → count_by p ts ≡ count_by p us) → SumsOf keeps gs ts q n → SumsOf keeps gs us q n
+sums_same keeps gs ts us q n same h =
+    record {
+      cells = h.cells;
+      counts = λ w in_w. h.counts w in_w ∙ same _;
+      total = h.total ∙ same _;
+      orphans = h.orphans;
+      lost = λ p low. h.lost p low ∙ any_counted _ ts ∙ ap (ltb 0) (same _) ∙ sym (any_counted _ us);
+    }
+
+-- All records.
+
+pub both_map : (P Q : Record → Scope → Type 0) (f : Record → Record) (a : Option Record) (b : Option Scope) → ((r : Record) (g : Scope) → b ≡ Some g → P r g → Q (f r) g) → Both P a b → Both Q (option_map f a) b
+both_map P Q f (Some r) (Some g) k h = k r g refl h
+both_map P Q f (Some r) None k h = absurd h
+both_map P Q f None (Some g) k h = absurd h
+both_map P Q f None None k h = tt
+
+pub both_more : (P Q : Record → Scope → Type 0) (a : Option Record) (b : Option Scope) → ((r : Record) (g : Scope) → b ≡ Some g → P r g → Q r g) → Both P a b → Both Q a b
+both_more P Q (Some r) (Some g) k h = k r g refl h
+both_more P Q (Some r) None k h = absurd h
+both_more P Q None (Some g) k h = absurd h
+both_more P Q None None k h = tt
+
+pub number_is : (n : ℕ) (gs : List Scope) (g : Scope) → find (has_number n) gs ≡ Some g → g.number.0 ≡ n
+number_is n gs g e = eqb-true g.number.0 n (find_passes (has_number n) gs g e)
+
+-- the record of k changes by f, and the others stay
+pub all_change : (keeps : Scope → Bool) (gs : List Scope) (ts us : List Task) (f : Record → Record) (k : ℕ) (rs qs : List (Option (Box Record))) → ((r : Record) (g : Scope) → g.number.0 ≡ k → RecordOf keeps gs ts r g → RecordOf keeps gs us (f r) g) → ((r : Record) (g : Scope) → (g.number.0 ≡ k → ⊥) → RecordOf keeps gs ts r g → RecordOf keeps gs us r g) → Changed f k rs qs → AllFit keeps gs ts rs → AllFit keeps gs us qs
+all_change keeps gs ts us f k rs qs here other c h n =
+    ⊎_elim
+    (λ (e : n ≡ k).
+    subst (λ o. Both (RecordOf keeps gs us) o (find (has_number n) gs)) (sym (ap (record_at qs) e ∙ c.here ∙ ap (λ m. option_map f (record_at rs m)) (sym e)))
+    (both_map (RecordOf keeps gs ts) (RecordOf keeps gs us) f (record_at rs n) (find (has_number n) gs) (λ r g found. here r g (number_is n gs g found ∙ e)) (h n)))
+    (λ (e : n ≡ k → ⊥).
+    subst (λ o. Both (RecordOf keeps gs us) o (find (has_number n) gs)) (sym (c.others n e))
+    (both_more (RecordOf keeps gs ts) (RecordOf keeps gs us) (record_at rs n) (find (has_number n) gs) (λ r g found. other r g (λ q. e (sym (number_is n gs g found) ∙ q))) (h n)))
+    (cases_eq n k)
+
+pub both_pairs : (P Q : Record → Scope → Type 0) (R : Record → Record → Type 0) (a c : Option Record) (b : Option Scope) → ((r q : Record) (g : Scope) → b ≡ Some g → R r q → P r g → Q q g) → Pairs R a c → Both P a b → Both Q c b
+both_pairs P Q R (Some r) (Some q) (Some g) k s h = k r q g refl s h
+both_pairs P Q R (Some r) (Some q) None k s h = absurd h
+both_pairs P Q R (Some r) None b k s h = absurd s
+both_pairs P Q R None (Some q) b k s h = absurd s
+both_pairs P Q R None None (Some g) k s h = absurd h
+both_pairs P Q R None None None k s h = tt
+
+-- the record of k changes as R says, and the others stay
+pub all_by : (keeps fresh : Scope → Bool) (gs : List Scope) (ts us : List Task) (R : Record → Record → Type 0) (k : ℕ) (rs qs : List (Option (Box Record))) → ((r q : Record) (g : Scope) → find (has_number k) gs ≡ Some g → R r q → RecordOf keeps gs ts r g → RecordOf fresh gs us q g) → ((r : Record) (n : ℕ) (g : Scope) → find (has_number n) gs ≡ Some g → (n ≡ k → ⊥) → RecordOf keeps gs ts r g → RecordOf fresh gs us r g) → ChangedBy R k rs qs → AllFit keeps gs ts rs → AllFit fresh gs us qs
+all_by keeps fresh gs ts us R k rs qs here other c h n =
+    ⊎_elim
+    (λ (e : n ≡ k).
+    subst (λ (m : ℕ). Both (RecordOf fresh gs us) (record_at qs m) (find (has_number m) gs)) (sym e)
+    (both_pairs (RecordOf keeps gs ts) (RecordOf fresh gs us) R (record_at rs k) (record_at qs k) (find (has_number k) gs) here c.here (h k)))
+    (λ (e : n ≡ k → ⊥).
+    subst (λ o. Both (RecordOf fresh gs us) o (find (has_number n) gs)) (sym (c.others n e))
+    (both_more (RecordOf keeps gs ts) (RecordOf fresh gs us) (record_at rs n) (find (has_number n) gs) (λ r g found. other r n g found e) (h n)))
+    (cases_eq n k)
+
+pub all_waits : (keeps : Scope → Bool) (gs : List Scope) (ts : List Task) (t : TaskId) (b : Bool) (rs : List (Option (Box Record))) → AllFit keeps gs ts rs → AllFit keeps gs (change_first (is_task t) (λ x. record x { waits = b }) ts) rs
+all_waits keeps gs ts t b rs h n =
+    both_more (RecordOf keeps gs ts) (RecordOf keeps gs (change_first (is_task t) (λ x. record x { waits = b }) ts)) (record_at rs n) (find (has_number n) gs) (λ r g found a. record { shape = a.shape; sums = sums_waits keeps gs ts t b r.sums g.number.0 a.sums; faults = a.faults }) (h n)
+
+pub all_lost : (keeps : Scope → Bool) (gs : List Scope) (ts : List Task) (y : Task) (b : Blow) (k : ℕ) (rs qs : List (Option (Box Record))) → keeper keeps gs (Some y.under) ≡ Some k → y.struck ≡ Some b → ChangedBy (Loses b.place) k rs qs → AllFit keeps gs ts rs → AllFit keeps gs (y ∷ ts) qs
+all_lost keeps gs ts y b k rs qs at struck c h =
+    all_by keeps keeps gs ts (y ∷ ts) (Loses b.place) k rs qs
+    (λ r q g found l a.
+    let num : g.number.0 ≡ k = number_is k gs g found in
+    let is : q ≡ in_sums (with_lost q.sums.lost) r = l.0 in
+    record {
+      shape = subst (λ (v : Record). ShapeOf gs v g) (sym is) (record { kind = a.shape.kind; home = a.shape.home; parent = a.shape.parent; finish = a.shape.finish });
+      sums = join_lost keeps gs ts y b r.sums q.sums g.number.0 (ap (is_number g.number.0) at ∙ eq-eqb k g.number.0 (sym num)) struck (ap (λ (v : Record). v.sums) is) l.1 a.sums;
+      faults = λ e. (ap (λ (v : Record). v.body) is ∙ (a.faults e).0, ap (λ (v : Record). v.ends) is ∙ (a.faults e).1);
+    })
+    (λ r n g found e a. record { shape = a.shape; sums = join_other keeps gs ts y r.sums g.number.0 (ap (is_number g.number.0) at ∙ ne_eqb k g.number.0 (λ v. e (sym (number_is n gs g found) ∙ sym v))) a.sums; faults = a.faults })
+    c h
+
+-- the sums of one record change
+pub all_sums : (keeps : Scope → Bool) (gs : List Scope) (ts us : List Task) (f : Sums → Sums) (k : ℕ) (rs qs : List (Option (Box Record))) → ((q : Sums) → SumsOf keeps gs ts q k → SumsOf keeps gs us (f q) k) → ((q : Sums) (n : ℕ) → (n ≡ k → ⊥) → SumsOf keeps gs ts q n → SumsOf keeps gs us q n) → Changed (in_sums f) k rs qs → AllFit keeps gs ts rs → AllFit keeps gs us qs
+all_sums keeps gs ts us f k rs qs here other c h =
+    all_change keeps gs ts us (in_sums f) k rs qs
+    (λ r g e a. record { shape = record { kind = a.shape.kind; home = a.shape.home; parent = a.shape.parent; finish = a.shape.finish }; sums = subst (SumsOf keeps gs us (f r.sums)) (sym e) (here r.sums (subst (SumsOf keeps gs ts r.sums) e a.sums)); faults = a.faults })
+    (λ r g e a. record { shape = a.shape; sums = other r.sums g.number.0 e a.sums; faults = a.faults })
+    c h
+
+pub all_join : (keeps : Scope → Bool) (gs : List Scope) (ts : List Task) (y : Task) (k : ℕ) (rs qs : List (Option (Box Record))) → keeper keeps gs (Some y.under) ≡ Some k → y.struck ≡ None → in_range y.place → Changed (in_sums (more (slot y.place))) k rs qs → AllFit keeps gs ts rs → AllFit keeps gs (y ∷ ts) qs
+all_join keeps gs ts y k rs qs at free within c h =
+    all_sums keeps gs ts (y ∷ ts) (more (slot y.place)) k rs qs
+    (λ q a. join_here keeps gs ts y q k (ap (is_number k) at ∙ eq-eqb k k refl) free within a)
+    (λ q n e a. join_other keeps gs ts y q n (ap (is_number n) at ∙ ne_eqb k n (λ v. e (sym v))) a)
+    c h
+
+pub all_leave : (keeps : Scope → Bool) (gs : List Scope) (ts : List Task) (y : Task) (k : ℕ) (rs qs : List (Option (Box Record))) → keeper keeps gs (Some y.under) ≡ Some k → y.struck ≡ None → in_range y.place → Changed (in_sums (less (slot y.place))) k rs qs → AllFit keeps gs (y ∷ ts) rs → AllFit keeps gs ts qs
+all_leave keeps gs ts y k rs qs at free within c h =
+    all_sums keeps gs (y ∷ ts) ts (less (slot y.place)) k rs qs
+    (λ q a. leave_here keeps gs ts y q k (ap (is_number k) at ∙ eq-eqb k k refl) free within a)
+    (λ q n e a. leave_other keeps gs ts y q n (ap (is_number n) at ∙ ne_eqb k n (λ v. e (sym v))) a)
+    c h
+
+pub all_same : (keeps : Scope → Bool) (gs : List Scope) (ts us : List Task) (rs : List (Option (Box Record))) → ((p : Task → Bool) → count_by p ts ≡ count_by p us) → AllFit keeps gs ts rs → AllFit keeps gs us rs
+all_same keeps gs ts us rs same h n =
+    both_more (RecordOf keeps gs ts) (RecordOf keeps gs us) (record_at rs n) (find (has_number n) gs) (λ r g found a. record { shape = a.shape; sums = sums_same keeps gs ts us r.sums g.number.0 same a.sums; faults = a.faults }) (h n)
+
+-- The tasks but one.
+
+abbrev pub others : TaskId → List Task → List Task
+others t ts = filter (λ y. not (is_task t y)) ts
+
+pub count_out : (t : TaskId) (n : ℕ) (ts : List Task) (x : Task) → TasksFall n ts → find (is_task t) ts ≡ Some x → (p : Task → Bool) → count_by p ts ≡ count_by p (x ∷ others t ts)
+count_out t n [] x f e p = cc
+count_out t n (h ∷ hs) x f e p =
+    (elim (is_task t h) as (λ b. is_task t h ≡ b → cond b (Some h) (find (is_task t) hs) ≡ Some x → count_by p (h ∷ hs) ≡ count_by p (x ∷ cond (not b) (h ∷ others t hs) (others t hs))) [
+      | true ↦ λ q k.
+          let same : h ≡ x = cc in
+          let num : h.number.0 ≡ t.0 = eqb-true h.number.0 t.0 q in
+          let rest = count_filter p (λ y. not (is_task t y)) hs (each_more (λ y. y.number.0 < h.number.0) (λ y. not (is_task t y) ≡ false → p y ≡ false) (λ (y : Task) (low : y.number.0 < h.number.0) bad. absurd (true≢false (sym (ap not (ne_eqb y.number.0 t.0 (λ v. absurd (omega arith)))) ∙ bad))) hs (tasks_below h.number.0 hs f.1)) in
+          let a = count_cons p h hs in
+          let b = count_cons p x (others t hs) in
+          let c = ap (λ (v : Task). one (p v)) same in
+          omega arith
+      | false ↦ λ q k.
+          let a = count_cons p h hs in
+          let b = count_cons p x (h ∷ others t hs) in
+          let c = count_cons p h (others t hs) in
+          let d = count_cons p x (others t hs) in
+          let i = count_out t h.number.0 hs x f.1 k p in
+          omega arith
+    ]) refl e
+
+pub count_back : (t : TaskId) (n : ℕ) (ts : List Task) (x : Task) (f : Task → Task) → TasksFall n ts → find (is_task t) ts ≡ Some x → (p : Task → Bool) → count_by p (f x ∷ others t ts) ≡ count_by p (change_first (is_task t) f ts)
+count_back t n ts x f fall e p =
+    let a = count_change p (is_task t) f ts x e in
+    let b = count_out t n ts x fall e p in
+    let c = count_cons p x (others t ts) in
+    let d = count_cons p (f x) (others t ts) in
+    omega arith

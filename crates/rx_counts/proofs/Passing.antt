@@ -1,0 +1,239 @@
+-- One turn of the hand-over.
+use Rattle.std.specs.Prelude.{◌≡◌, ℕ, ◌<◌, ◌≤◌, ◌+◌, ◌^◌, Bool, true, false, cond, ◌&&◌, ◌==◌, not, ltb, List, [], ◌∷◌, Option, Some, None, is_none, is_some, slice_index_or, length, IfSome, refl}
+use Rattle.std.specs.List.{find}
+use Rattle.std.specs.Global.{Box}
+use Rattle.std.proofs.Common.{sym, ap, ◌∙◌, subst, arith, ⊎_elim}
+use Rattle.std.proofs.lemmas.Bool.{eqb-true, eq-eqb, ne_eqb, true≢false, lt-ltb, le-ltb, cases_eq, cases_lt}
+use Rattle.std.proofs.lemmas.List.Sums.{count_by-le-length}
+use Rattle.std.proofs.Math.Bool.{and-false, and-true}
+use Rattle.rx_sound.proofs.Parents.{parent_rooted}
+use Rattle.rx_base.specs.declared.ids.PlaceId.{PlaceId}
+use Rattle.rx_base.specs.declared.ids.ScopeId.{ScopeId}
+use Rattle.rx_rules.specs.declared.tasks.Scope.{Scope}
+use Rattle.rx_rules.specs.Tree.{Tree, is_scope, the_root}
+use Rattle.rx_sound.specs.Chains.{Falls}
+use Rattle.rx_sound.specs.Sound.{Each}
+use Rattle.rx_sound.proofs.Changes.{each_found, each_more}
+use Rattle.rx_sound.proofs.Releasing.{each_none, each_below}
+use Rattle.rx_counts.specs.declared.record.Sums.{Sums}
+use Rattle.rx_counts.specs.declared.record.Record.{Record}
+use Rattle.rx_counts.specs.Keeping.{stands_home, keeper, is_number, kept_at, same_where, is_orphan}
+use Rattle.rx_rules.specs.Counts.{has_number}
+use Rattle.rx_counts.specs.Stands.{ShapeOf, SumsOf, RecordOf, AllFit, ChangedBy, IsShaped, record_at}
+use Rattle.rx_counts.specs.Freeing.{unslot}
+use Rattle.rx_counts.specs.Dying.{Emptied, Gained, MayGain, until, Passing, parent_there}
+use Rattle.rx_counts.proofs.HandOver.{but, heir, never_but, count_heir}
+use Rattle.rx_counts.proofs.Handing.{all_hand, all_keeps, orphans_heir}
+use Rattle.rx_counts.proofs.Walks.{keeper_step, keeper_low, keeper_stands, keeper_exists, OlderThan}
+use Rattle.rx_counts.proofs.Shapes.{both_found, shape_in, walk_older}
+use Rattle.rx_counts.proofs.Joining.{both_more, number_is}
+use Rattle.rx_counts.proofs.Telling.{slot_of_unslot, unslot_in}
+use Rattle.rx_counts.proofs.Asking.{below_length}
+
+-- the scope of a number, among all
+pub each_at : (i n : ℕ) (P : Scope → Type 0) (gs : List Scope) → Falls n gs → ((g : Scope) → find (has_number i) gs ≡ Some g → P g) → Each (λ k. k.number.0 ≡ i → P k) gs
+each_at i n P [] f h = tt
+each_at i n P (k ∷ ks) f h =
+    (elim (has_number i k) as (λ b. has_number i k ≡ b → ((g : Scope) → cond b (Some k) (find (has_number i) ks) ≡ Some g → P g) → Each (λ k. k.number.0 ≡ i → P k) (k ∷ ks)) [
+      | true ↦ λ e w.
+          let num : k.number.0 ≡ i = eqb-true k.number.0 i e in
+          (λ q. w k refl, each_more (λ j. j.number.0 < k.number.0) (λ j. j.number.0 ≡ i → P j) (λ (j : Scope) (low : j.number.0 < k.number.0) q. absurd (omega arith)) ks (each_below k.number.0 ks f.1))
+      | false ↦ λ e w. (λ q. absurd (true≢false (sym (eq-eqb k.number.0 i q) ∙ e)), each_at i k.number.0 P ks f.1 w)
+    ]) refl h
+
+ltb_same : (m i : ℕ) → (m ≡ i → ⊥) → ltb m i ≡ ltb m (i + 1)
+ltb_same m i apart = ⊎_elim (λ (a : m < i). lt-ltb m i a ∙ sym (lt-ltb m (i + 1) (omega arith))) (λ (a : i ≤ m). le-ltb m i a ∙ sym (le-ltb m (i + 1) (above m i a apart))) (cases_lt m i)
+  where
+    above : (m n : ℕ) → n ≤ m → (m ≡ n → ⊥) → n + 1 ≤ m
+    above m n le apart = ⊎_elim (λ (a : n < m). omega arith) (λ (b : m ≤ n). absurd (apart (omega arith))) (cases_lt n m)
+
+-- who does not have the home, or another number, keeps on
+until_same : (keeps : Scope → Bool) (d : PlaceId) (i : ℕ) (k : Scope) → (k.number.0 ≡ i → k.home.0 == d.0 ≡ false) → until keeps d i k ≡ until keeps d (i + 1) k
+until_same keeps d i k h =
+    ⊎_elim
+    (λ (e : k.number.0 ≡ i). ap (λ b. keeps k && not (b && ltb k.number.0 i)) (h e) ∙ sym (ap (λ b. keeps k && not (b && ltb k.number.0 (i + 1))) (h e)))
+    (λ (e : k.number.0 ≡ i → ⊥). ap (λ b. keeps k && not ((k.home.0 == d.0) && b)) (ltb_same k.number.0 i e))
+    (cases_eq k.number.0 i)
+
+-- who is older has given all away, if its home died
+but_low : (keeps : Scope → Bool) (d : PlaceId) (i : ℕ) (h : ScopeId) (k : Scope) → h.0 ≡ i → k.number.0 < i → but h (until keeps d i) k ≡ (keeps k && not (k.home.0 == d.0))
+but_low keeps d i h k e lt =
+    ap (λ b. (keeps k && not ((k.home.0 == d.0) && ltb k.number.0 i)) && not b) (ne_eqb k.number.0 h.0 (λ q. absurd (omega arith)))
+    ∙ and-true (keeps k && not ((k.home.0 == d.0) && ltb k.number.0 i))
+    ∙ ap (λ b. keeps k && not ((k.home.0 == d.0) && b)) (lt-ltb k.number.0 i lt)
+    ∙ ap (λ b. keeps k && not b) (and-true (k.home.0 == d.0))
+
+but_next : (keeps : Scope → Bool) (d : PlaceId) (i : ℕ) (h : ScopeId) (k : Scope) → h.0 ≡ i → (k.number.0 ≡ i → k.home.0 == d.0 ≡ true) → but h (until keeps d i) k ≡ until keeps d (i + 1) k
+but_next keeps d i h k e home =
+    ⊎_elim
+    (λ (q : k.number.0 ≡ i).
+    ap (λ b. until keeps d i k && not b) (eq-eqb k.number.0 h.0 (q ∙ sym e)) ∙ and-false (until keeps d i k)
+    ∙ sym (ap (λ b. keeps k && not (b && ltb k.number.0 (i + 1))) (home q) ∙ ap (λ b. keeps k && not b) (lt-ltb k.number.0 (i + 1) (omega arith)) ∙ and-false (keeps k)))
+    (λ (q : k.number.0 ≡ i → ⊥).
+    ap (λ b. until keeps d i k && not b) (ne_eqb k.number.0 h.0 (λ v. q (v ∙ e))) ∙ and-true (until keeps d i k) ∙ ap (λ b. keeps k && not ((k.home.0 == d.0) && b)) (ltb_same k.number.0 i q))
+    (cases_eq k.number.0 i)
+
+shaped_by : (T : Tree) (keeps : Scope → Bool) (rs qs : List (Option (Box Record))) → IsShaped T rs → AllFit keeps T.scopes T.tasks qs → IsShaped T qs
+shaped_by T keeps rs qs h fit =
+    record {
+      falls = h.falls;
+      opened = h.opened;
+      shapes = λ n. both_more (RecordOf keeps T.scopes T.tasks) (ShapeOf T.scopes) (record_at qs n) (find (has_number n) T.scopes) (λ r g e a. a.shape) (fit n);
+    }
+
+-- the next turn, where the records fit it
+next_turn : (T : Tree) (keeps : Scope → Bool) (dead : List (Option ℕ)) (d : PlaceId) (i : ℕ) (rs qs : List (Option (Box Record))) → Passing T keeps dead d i rs → AllFit (until keeps d (i + 1)) T.scopes T.tasks qs → Passing T keeps dead d (i + 1) qs
+next_turn T keeps dead d i rs qs p fit =
+    record {
+      shaped = shaped_by T (until keeps d (i + 1)) rs qs p.shaped fit;
+      after = p.after;
+      lived = p.lived;
+      root = p.root;
+      based = p.based;
+      few_tasks = p.few_tasks;
+      few_scopes = p.few_scopes;
+      fit = fit;
+    }
+
+-- Where no scope of this number has the home.
+
+homeless : (T : Tree) (keeps : Scope → Bool) (dead : List (Option ℕ)) (d : PlaceId) (i : ℕ) (rs : List (Option (Box Record))) → Passing T keeps dead d i rs → parent_there d (record_at rs i) ≡ None → (g : Scope) → find (has_number i) T.scopes ≡ Some g → g.home.0 == d.0 ≡ false
+homeless T keeps dead d i rs p none g found =
+    let q = both_found (ShapeOf T.scopes) (record_at rs i) (find (has_number i) T.scopes) g (p.shaped.shapes i) found in
+    (elim (g.home.0 == d.0) as (λ b. g.home.0 == d.0 ≡ b → b ≡ false) [
+      | true ↦ λ e.
+          let home : q.0.home.0 == d.0 ≡ true = ap (λ (v : PlaceId). v.0 == d.0) q.2.home ∙ e in
+          let no : q.0.parent ≡ None = sym (ap (λ b. cond b q.0.parent None) home) ∙ sym (ap (parent_there d) q.1) ∙ none in
+          let zero_ : g.number.0 ≡ 0 = each_found (λ k. k.parent ≡ None → k.number.0 ≡ 0) (has_number i) T.scopes g p.based found (sym q.2.parent ∙ no) in
+          let root : is_scope the_root g && not (stands_home dead g) ≡ false = each_found (λ k. is_scope the_root k && not (stands_home dead k) ≡ false) (has_number i) T.scopes g (each_none (λ k. is_scope the_root k && not (stands_home dead k)) T.scopes p.root) found in
+          let dies : stands_home dead g ≡ false = p.after g ∙ ap (λ b. keeps g && not b) e ∙ and-false (keeps g) in
+          absurd (true≢false (sym (ap (λ b. b && not (stands_home dead g)) (eq-eqb g.number.0 0 zero_) ∙ ap not dies) ∙ root))
+      | false ↦ λ e. refl
+    ]) refl
+
+pub passes_by : (T : Tree) (keeps : Scope → Bool) (dead : List (Option ℕ)) (d : PlaceId) (i : ℕ) (rs : List (Option (Box Record))) → Passing T keeps dead d i rs → parent_there d (record_at rs i) ≡ None → Passing T keeps dead d (i + 1) rs
+passes_by T keeps dead d i rs p none =
+    let same : Each (λ k. until keeps d i k ≡ until keeps d (i + 1) k) T.scopes = each_more (λ k. k.number.0 ≡ i → k.home.0 == d.0 ≡ false) (λ k. until keeps d i k ≡ until keeps d (i + 1) k) (λ (k : Scope) h. until_same keeps d i k h) T.scopes (each_at i T.next_scope (λ k. k.home.0 == d.0 ≡ false) T.scopes p.shaped.falls (homeless T keeps dead d i rs p none)) in
+    next_turn T keeps dead d i rs rs p
+    (all_keeps (until keeps d i) (until keeps d (i + 1)) T.scopes T.tasks rs same (λ n k found. each_found (λ k. until keeps d i k ≡ until keeps d (i + 1) k) (has_number n) T.scopes k same found) p.fit)
+
+-- Where one has.
+
+there : (d : PlaceId) (o : Option Record) (u : ScopeId) → parent_there d o ≡ Some u → (r : Record) × (o ≡ Some r) × (r.home.0 == d.0 ≡ true) × (r.parent ≡ Some u)
+there d (Some r) u e =
+    (elim (r.home.0 == d.0) as (λ b. r.home.0 == d.0 ≡ b → cond b r.parent None ≡ Some u → (s : Record) × (Some r ≡ Some s) × (s.home.0 == d.0 ≡ true) × (s.parent ≡ Some u)) [
+      | true ↦ λ h k. (r, refl, h, k)
+      | false ↦ λ h k. cc
+    ]) refl e
+there d None u e = cc
+
+pub record Hands (T : Tree) (keeps : Scope → Bool) (d : PlaceId) (i a : ℕ) (rs : List (Option (Box Record))) (h : ScopeId) : Type 0 where
+  pub from : Record
+  pub has_from : record_at rs i ≡ Some from
+  pub scope : Scope
+  pub found : find (has_number i) T.scopes ≡ Some scope
+  pub heir_scope : Scope
+  pub found_heir : find (has_number a) T.scopes ≡ Some heir_scope
+  pub home : scope.home.0 == d.0 ≡ true
+  pub kept : until keeps d i scope ≡ true
+  pub is_heir : heir (until keeps d i) T.scopes h ≡ Some a
+
+abbrev number_id : ℕ → ScopeId
+number_id n = record { 0 = n }
+
+some_of : {X : Type 0} (o : Option X) → is_some o ≡ true → (x : X) × (o ≡ Some x)
+some_of (Some x) e = (x, refl)
+some_of None e = absurd (true≢false (sym e))
+
+hands_to : (T : Tree) (keeps : Scope → Bool) (dead : List (Option ℕ)) (d : PlaceId) (i : ℕ) (rs : List (Option (Box Record))) (u : ScopeId) (g : Scope) → Passing T keeps dead d i rs → find (has_number i) T.scopes ≡ Some g → g.parent ≡ Some u → u.0 < i → heir (until keeps d i) T.scopes (number_id i) ≡ keeper (stands_home dead) T.scopes (Some u)
+hands_to T keeps dead d i rs u g p found parent older =
+    let h : ScopeId = number_id i in
+    let K : Scope → Bool = until keeps d i in
+    let num : g.number.0 ≡ i = number_is i T.scopes g found in
+    let off : but h K g ≡ false = ap (λ b. K g && not b) (eq-eqb g.number.0 i num) ∙ and-false (K g) in
+    keeper_step T.tasks (but h K) T.next_scope T.scopes h g p.shaped.falls p.shaped.opened found
+    ∙ ap (λ b. cond b (Some i) (keeper (but h K) T.scopes g.parent)) off
+    ∙ ap (keeper (but h K) T.scopes) parent
+    ∙ keeper_low T.tasks (but h K) (stands_home dead) T.next_scope i T.scopes (Some u) p.shaped.falls p.shaped.opened older
+    (low_all T.scopes)
+  where
+    low_all : (gs : List Scope) → Each (λ k. k.number.0 < i → but (number_id i) (until keeps d i) k ≡ stands_home dead k) gs
+    low_all [] = tt
+    low_all (k ∷ ks) = (λ lt. but_low keeps d i (number_id i) k refl lt ∙ sym (p.after k), low_all ks)
+
+pub hands : (T : Tree) (keeps : Scope → Bool) (dead : List (Option ℕ)) (d : PlaceId) (i : ℕ) (rs : List (Option (Box Record))) (u a : ScopeId) → Passing T keeps dead d i rs → parent_there d (record_at rs i) ≡ Some u → keeper (stands_home dead) T.scopes (Some u) ≡ Some a.0 → Hands T keeps d i a.0 rs (number_id i)
+hands T keeps dead d i rs u a p e at =
+    let t = there d (record_at rs i) u e in
+    let k = shape_in T rs (number_id i) t.0 p.shaped t.1 in
+    let home : k.0.home.0 == d.0 ≡ true = sym (ap (λ (v : PlaceId). v.0 == d.0) k.2.home) ∙ t.2 in
+    let parent : k.0.parent ≡ Some u = sym k.2.parent ∙ t.3 in
+    let older : u.0 < i = subst (OlderThan i) t.3 (walk_older T rs (number_id i) t.0 p.shaped t.1) in
+    let num : k.0.number.0 ≡ i = number_is i T.scopes k.0 k.1 in
+    let ga = some_of (find (has_number a.0) T.scopes) (keeper_stands (stands_home dead) a.0 T.scopes (Some u) at) in
+    record {
+      from = t.0;
+      has_from = t.1;
+      scope = k.0;
+      found = k.1;
+      heir_scope = ga.0;
+      found_heir = ga.1;
+      home = home;
+      kept = ap (λ b. b && not ((k.0.home.0 == d.0) && ltb k.0.number.0 i)) (p.lived k.0 home) ∙ ap (λ b. not ((k.0.home.0 == d.0) && b)) (le-ltb k.0.number.0 i (omega arith)) ∙ ap not (and-false (k.0.home.0 == d.0));
+      is_heir = hands_to T keeps dead d i rs u k.0 p k.1 parent older ∙ at;
+    }
+
+pub passes_hand : (T : Tree) (keeps : Scope → Bool) (dead : List (Option ℕ)) (d : PlaceId) (i : ℕ) (rs ps qs : List (Option (Box Record))) (u a : ScopeId) (given : Sums) → Passing T keeps dead d i rs → parent_there d (record_at rs i) ≡ Some u → keeper (stands_home dead) T.scopes (Some u) ≡ Some a.0 → IfSome (record_at rs i) (λ r. given ≡ r.sums) → ChangedBy Emptied i rs ps → ChangedBy (Gained given) a.0 ps qs → Passing T keeps dead d (i + 1) qs
+passes_hand T keeps dead d i rs ps qs u a given p e at took emptied gained =
+    let h : Hands T keeps d i a.0 rs (number_id i) = hands T keeps dead d i rs u a p e at in
+    let same : Each (λ k. but (number_id i) (until keeps d i) k ≡ until keeps d (i + 1) k) T.scopes = each_more (λ k. k.number.0 ≡ i → k.home.0 == d.0 ≡ true) (λ k. but (number_id i) (until keeps d i) k ≡ until keeps d (i + 1) k) (λ (k : Scope) v. but_next keeps d i (number_id i) k refl v) T.scopes (each_at i T.next_scope (λ k. k.home.0 == d.0 ≡ true) T.scopes p.shaped.falls (λ g found. let f = h.found in let is : h.scope ≡ g = cc in subst (λ (v : Scope). v.home.0 == d.0 ≡ true) is h.home)) in
+    next_turn T keeps dead d i rs qs p
+    (all_keeps (but (number_id i) (until keeps d i)) (until keeps d (i + 1)) T.scopes T.tasks qs same (λ n k found. each_found (λ k. but (number_id i) (until keeps d i) k ≡ until keeps d (i + 1) k) (has_number n) T.scopes k same found)
+    (all_hand (until keeps d i) (number_id i) a.0 T.next_scope T.scopes T.tasks rs ps qs given h.scope h.heir_scope p.shaped.falls h.found h.found_heir h.kept h.is_heir took emptied gained p.fit))
+
+-- there is always an heir
+pub heir_exists : (T : Tree) (keeps : Scope → Bool) (dead : List (Option ℕ)) (d : PlaceId) (i : ℕ) (rs : List (Option (Box Record))) (u : ScopeId) → Passing T keeps dead d i rs → parent_there d (record_at rs i) ≡ Some u → is_some (keeper (stands_home dead) T.scopes (Some u)) ≡ true
+heir_exists T keeps dead d i rs u p e =
+    let t = there d (record_at rs i) u e in
+    let k = shape_in T rs (number_id i) t.0 p.shaped t.1 in
+    keeper_exists (stands_home dead) T.scopes (Some u) p.root (parent_rooted T.tasks (has_number i) T.next_scope T.scopes k.0 u p.shaped.falls p.shaped.opened k.1 (sym k.2.parent ∙ t.3))
+
+-- the sums of both fit
+pub pour_ok : (T : Tree) (keeps : Scope → Bool) (dead : List (Option ℕ)) (d : PlaceId) (i : ℕ) (rs ps : List (Option (Box Record))) (u a : ScopeId) (given : Sums) → Passing T keeps dead d i rs → parent_there d (record_at rs i) ≡ Some u → keeper (stands_home dead) T.scopes (Some u) ≡ Some a.0 → IfSome (record_at rs i) (λ r. given ≡ r.sums) → ChangedBy Emptied i rs ps → (a.0 < length ps) × IfSome (record_at ps a.0) (MayGain given)
+pour_ok T keeps dead d i rs ps u a given p e at took emptied =
+    let h : Hands T keeps d i a.0 rs (number_id i) = hands T keeps dead d i rs u a p e at in
+    let K : Scope → Bool = until keeps d i in
+    let n : ℕ = T.next_scope in
+    let apart : a.0 ≡ i → ⊥ = λ v. true≢false (sym (ap (is_number i) h.is_heir ∙ eq-eqb a.0 i v) ∙ never_but K (number_id i) T.scopes (Some (number_id i))) in
+    let is : is_number a.0 (heir K T.scopes (number_id i)) ≡ true = ap (is_number a.0) h.is_heir ∙ eq-eqb a.0 a.0 refl in
+    let giver = both_found (RecordOf K T.scopes T.tasks) (record_at rs i) (find (has_number i) T.scopes) h.scope (p.fit i) h.found in
+    let taker = both_found (RecordOf K T.scopes T.tasks) (record_at rs a.0) (find (has_number a.0) T.scopes) h.heir_scope (p.fit a.0) h.found_heir in
+    let is_given : given ≡ giver.0.sums = subst (λ o. IfSome o (λ r. given ≡ r.sums)) giver.1 took in
+    let has : record_at ps a.0 ≡ Some taker.0 = emptied.others a.0 apart ∙ taker.1 in
+    let mine : SumsOf K T.scopes T.tasks taker.0.sums a.0 = subst (SumsOf K T.scopes T.tasks taker.0.sums) (number_is a.0 T.scopes h.heir_scope h.found_heir) taker.2.sums in
+    let his : SumsOf K T.scopes T.tasks given i = subst (λ (v : Sums). SumsOf K T.scopes T.tasks v i) (sym is_given) (subst (SumsOf K T.scopes T.tasks giver.0.sums) (number_is i T.scopes h.scope h.found) giver.2.sums) in
+    let few_t : length T.tasks < 2 ^ 32 = p.few_tasks in
+    let few_s : length T.scopes < 2 ^ 32 = p.few_scopes in (
+      below_length ps a.0 taker.0 has,
+      subst (λ o. IfSome o (MayGain given)) (sym has)
+          (record {
+            cells = λ k low.
+                let w = unslot k in
+                let c1 = ap (λ j. slice_index_or taker.0.sums.counts j 0) (sym (slot_of_unslot k)) ∙ mine.counts (unslot k) (unslot_in k low) in
+                let c2 = ap (λ j. slice_index_or given.counts j 0) (sym (slot_of_unslot k)) ∙ his.counts (unslot k) (unslot_in k low) in
+                let s = count_heir (λ t. is_none t.struck && same_where (unslot k) t.place) K (number_id i) a.0 n T.scopes T.tasks p.shaped.falls apart is in
+                let b = count_by-le-length (λ t. (is_none t.struck && same_where (unslot k) t.place) && kept_at (but (number_id i) K) T.scopes a.0 t) T.tasks in
+                omega arith;
+            total =
+                let c1 = mine.total in
+                let c2 = his.total in
+                let s = count_heir (λ t. is_none t.struck) K (number_id i) a.0 n T.scopes T.tasks p.shaped.falls apart is in
+                let b = count_by-le-length (λ t. is_none t.struck && kept_at (but (number_id i) K) T.scopes a.0 t) T.tasks in
+                omega arith;
+            orphans =
+                let c1 = mine.orphans in
+                let c2 = his.orphans in
+                let s = orphans_heir K (number_id i) a.0 n T.scopes h.scope p.shaped.falls h.found h.kept apart is in
+                let b = count_by-le-length (is_orphan (but (number_id i) K) T.scopes a.0) T.scopes in
+                omega arith;
+          }),
+    )

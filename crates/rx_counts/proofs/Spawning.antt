@@ -1,0 +1,118 @@
+-- A task is born.
+use Rattle.std.specs.Prelude.{◌≡◌, ℕ, ◌<◌, ◌^◌, ◌+◌, Bool, true, false, cond, ◌==◌, not, List, [], ◌∷◌, Option, Some, None, is_none, is_some, option_map, length, slice_index_or, IfSome, Ok, refl}
+use Rattle.std.specs.Global.{Box}
+use Rattle.std.proofs.Common.{sym, ap, ◌∙◌, subst, arith}
+use Rattle.std.proofs.lemmas.Bool.{true≢false}
+use Rattle.rx_base.specs.declared.ids.PlaceId.{PlaceId}
+use Rattle.rx_base.specs.declared.ids.TaskId.{TaskId}
+use Rattle.rx_base.specs.declared.ids.ScopeId.{ScopeId}
+use Rattle.rx_rules.specs.declared.tasks.Where.{Where}
+use Rattle.rx_rules.specs.declared.tasks.Where.TheVariants.{At, Travel}
+use Rattle.rx_rules.specs.declared.tasks.Blow.{Blow}
+use Rattle.rx_rules.specs.declared.tasks.Task.{Task}
+use Rattle.rx_rules.specs.declared.tasks.Scope.{Scope}
+use Rattle.rx_rules.specs.declared.entries.Act.TheVariants.{Spawn}
+use Rattle.rx_rules.specs.Tree.{Tree, death_of, the_root}
+use Rattle.rx_rules.specs.Entries.{place_number, born}
+use Rattle.rx_rules.specs.Reached.{acts}
+use Rattle.rx_sound.specs.Blows.{death_blow}
+use Rattle.rx_sound.specs.Chains.{meets}
+use Rattle.rx_sound.specs.Sound.{Sound}
+use Rattle.rx_sound.proofs.Opening.{governs_rooted}
+use Rattle.rx_sound.proofs.Reached.{sound}
+use Rattle.rx_tree.specs.declared.ledger.Caller.{Caller}
+use Rattle.rx_tree.specs.Callers.{MayAskTo, IsMoving}
+use Rattle.rx_tree.specs.Calls.{SpawnReply}
+use Rattle.rx_tree.proofs.Allowed.{Free, spawn_allowed}
+use Rattle.rx_counts.specs.declared.record.Record.{Record}
+use Rattle.rx_counts.specs.declared.ledger.CountLedger.{CountLedger}
+use Rattle.rx_counts.specs.Keeping.{stands_home, keeper, finishes}
+use Rattle.rx_counts.specs.Stands.{slot, in_range, AllFit, Fit, StandsFor, record_at, count_in, more, in_sums, Loses, Changed, ChangedBy}
+use Rattle.rx_counts.proofs.Asking.{Kept, kept_at_keeper, place_in, tasks_length, unstruck_of}
+use Rattle.rx_counts.proofs.Joining.{all_join, all_lost, slot_below}
+use Rattle.rx_counts.proofs.Arriving.{room}
+use Rattle.rx_counts.proofs.Born.{inner_rooted, governing_is}
+
+-- whether a place is dead, by the deaths that the ledger keeps
+pub is_lost : (l : CountLedger) (T : Tree) (to : PlaceId) → Fit l T → not (is_none (death_blow l.dead to)) ≡ is_some (death_of T to)
+is_lost l T to h = ap (λ d. not (is_none (death_blow d to))) h.dead ∙ ((elim (slice_index_or T.dead to.0 None) as (λ o. not (is_none (option_map (λ n. let b : Blow = record { place = to; entry = n } in b) o)) ≡ is_some o) [ Some n ↦ refl | None ↦ refl ]))
+
+-- where a new task is
+abbrev pub start : PlaceId → PlaceId → Where
+start from to = cond (from.0 == to.0) (At to) (Travel from to)
+
+pub start_in : (from to : PlaceId) → from.0 < 16 → to.0 < 16 → in_range (start from to)
+start_in from to a b = elim (from.0 == to.0) as (λ c. in_range (cond c (At to) (Travel from to))) [ true ↦ b | false ↦ (a, b) ]
+
+pub to_low : (T : Tree) (who : Caller) (to : PlaceId) → Sound T → MayAskTo T who to → to.0 < 16
+to_low T who to h may = let a = may.target in let b = h.few in omega arith
+
+from_low : (w : Where) → in_range w → (place_number w).0 < 16
+from_low (At p) h = h
+from_low (Travel from to) h = h.0
+
+pub started_in : (T : Tree) (who : Caller) (to : PlaceId) → Sound T → MayAskTo T who to → (f : Free T who IsMoving) → in_range (start (place_number who.place) to)
+started_in T who to h may f = start_in (place_number who.place) to (from_low who.place (place_in T who IsMoving h f)) (to_low T who to h may)
+
+pub bear_ok : (T : Tree) (who : Caller) (to : PlaceId) (rs : List (Option (Box Record))) (k : ℕ) (want : Option ScopeId) → Sound T → MayAskTo T who to → (f : Free T who IsMoving) → keeper (stands_home T.dead) T.scopes want ≡ Some k → AllFit (stands_home T.dead) T.scopes T.tasks rs → (k < length rs) × (to.0 < 16) × (slot (start (place_number who.place) to) < 272) × IfSome (record_at rs k) (λ r. (count_in r.sums (slot (start (place_number who.place) to)) + 1 < 2 ^ 32) × (r.sums.total + 1 < 2 ^ 32))
+bear_ok T who to rs k want h may f at fit =
+    let q : Kept T rs k = kept_at_keeper T rs want k fit at in (
+      q.low,
+      to_low T who to h may,
+      slot_below (start (place_number who.place) to) (started_in T who to h may f),
+      room T T.tasks rs k (start (place_number who.place) to) (tasks_length T.next_task T.tasks h.tasks_fall) may.asks.numbers.tasks (started_in T who to h may f) fit,
+    )
+
+pub struck_by : (T : Tree) (child : TaskId) (s : ScopeId) (from to : PlaceId) → is_some (death_of T to) ≡ true → (b : Blow) × ((born T child s from to).struck ≡ Some b) × (b.place ≡ to)
+struck_by T child s from to e =
+    (elim (death_of T to) as (λ o. is_some o ≡ true → (b : Blow) × (option_map (λ n. let c : Blow = record { place = to; entry = n } in c) o ≡ Some b) × (b.place ≡ to)) [
+      | Some n ↦ λ k. (record { place = to; entry = n }, refl, refl)
+      | None ↦ λ k. absurd (true≢false (sym k))
+    ]) e
+
+pub struck_none : (T : Tree) (child : TaskId) (s : ScopeId) (from to : PlaceId) → is_some (death_of T to) ≡ false → (born T child s from to).struck ≡ None
+struck_none T child s from to e =
+    (elim (death_of T to) as (λ o. is_some o ≡ false → option_map (λ n. let c : Blow = record { place = to; entry = n } in c) o ≡ None) [
+      | Some n ↦ λ k. absurd (true≢false k)
+      | None ↦ λ k. refl
+    ]) e
+
+-- the records with one more
+pub all_born : (T : Tree) (gs : List Scope) (keeps : Scope → Bool) (ts : List Task) (child : TaskId) (s : ScopeId) (from to : PlaceId) (k : ℕ) (rs qs : List (Option (Box Record))) (b : Bool) → b ≡ is_some (death_of T to) → keeper keeps gs (Some s) ≡ Some k → in_range (start from to) → (b ≡ true → ChangedBy (Loses to) k rs qs) → (b ≡ false → Changed (in_sums (more (slot (start from to)))) k rs qs) → AllFit keeps gs ts rs → AllFit keeps gs (born T child s from to ∷ ts) qs
+all_born T gs keeps ts child s from to k rs qs true e at within lost joins h =
+    let b = struck_by T child s from to (sym e) in
+    all_lost keeps gs ts (born T child s from to) b.0 k rs qs at b.1 (subst (λ (p : PlaceId). ChangedBy (Loses p) k rs qs) (sym b.2) (lost refl)) h
+all_born T gs keeps ts child s from to k rs qs false e at within lost joins h =
+    all_join keeps gs ts (born T child s from to) k rs qs at (struck_none T child s from to (sym e)) within (joins refl) h
+
+len_of : (to : PlaceId) (n k : ℕ) (rs qs : List (Option (Box Record))) (b : Bool) → (b ≡ true → ChangedBy (Loses to) k rs qs) → (b ≡ false → Changed (in_sums (more n)) k rs qs) → length qs ≡ length rs
+len_of to n k rs qs true lost joins = (lost refl).len
+len_of to n k rs qs false lost joins = (joins refl).len
+
+-- the governing finish leads to the root
+pub finish_rooted : (T : Tree) (who : Caller) (s : ScopeId) → Sound T → (f : Free T who IsMoving) → keeper finishes T.scopes (Some who.inner) ≡ Some s.0 → meets the_root T.scopes (Some s) ≡ true
+finish_rooted T who s h f e = subst (λ (u : ScopeId). meets the_root T.scopes (Some u) ≡ true) (governing_is T.scopes (Some who.inner) s e) (governs_rooted T.next_scope T.scopes (Some who.inner) h.falls h.root_kind (inner_rooted T who IsMoving h f))
+
+pub spawned : (l m : CountLedger) (T : Tree) (who : Caller) (to : PlaceId) (child : TaskId) (s : ScopeId) (k : ℕ) (b : Bool) → StandsFor l T → MayAskTo T who to → (f : Free T who IsMoving) → child.0 ≡ l.next_task → keeper finishes T.scopes (Some who.inner) ≡ Some s.0 → keeper (stands_home T.dead) T.scopes (Some s) ≡ Some k → b ≡ not (is_none (death_blow l.dead to)) → m.places ≡ l.places → m.dead ≡ l.dead → m.next_task ≡ l.next_task + 1 → m.next_scope ≡ l.next_scope → (b ≡ true → ChangedBy (Loses to) k l.scopes.items m.scopes.items) → (b ≡ false → Changed (in_sums (more (slot (start (place_number who.place) to)))) k l.scopes.items m.scopes.items) → SpawnReply T who to (Ok (record { child = child; scope = s; lost = b })) (StandsFor m)
+spawned l m T who to child s k b st may f num fin at e places dead next_task next_scope lost joins =
+    let h : Sound T = sound st.reached in
+    let a = spawn_allowed T who to s child st.reached may (unstruck_of T who IsMoving f) (sym (governing_is T.scopes (Some who.inner) s fin)) (num ∙ st.fit.next_task) in
+    let dies : b ≡ is_some (death_of T to) = e ∙ is_lost l T to st.fit in (
+      record {
+        allowed = a;
+        made =
+            record {
+              reached = acts who.task (Spawn child s (place_number who.place) to []) st.reached a;
+              fit =
+                  record {
+                    places = places ∙ st.fit.places;
+                    dead = dead ∙ st.fit.dead;
+                    next_task = (let q = st.fit.next_task in omega arith);
+                    next_scope = next_scope ∙ st.fit.next_scope;
+                    numbers = len_of to (slot (start (place_number who.place) to)) k l.scopes.items m.scopes.items b lost joins ∙ st.fit.numbers;
+                    scopes = all_born T T.scopes (stands_home T.dead) T.tasks child s (place_number who.place) to k l.scopes.items m.scopes.items b dies at (started_in T who to h may f) lost joins st.fit.scopes;
+                  };
+            };
+      },
+      dies,
+    )

@@ -1,0 +1,200 @@
+-- A scope goes where its parent went.
+use Rattle.std.specs.Prelude.{◌≡◌, ℕ, ◌<◌, ◌≤◌, ◌+◌, Bool, true, false, cond, ◌||◌, ◌&&◌, ◌==◌, not, List, [], ◌∷◌, Option, Some, None, is_none, is_some, length, Err, refl}
+use Rattle.std.specs.List.{find}
+use Rattle.std.specs.Global.{Box}
+use Rattle.std.proofs.Common.{sym, ap, ◌∙◌, subst, arith, ⊎_elim}
+use Rattle.std.proofs.lemmas.Bool.{eqb-true, eq-eqb, ne_eqb, true≢false, false_from_ne_true, cases_eq, cases_lt}
+use Rattle.std.proofs.Math.Bool.{and-false, and-true}
+use Rattle.rx_sound.proofs.Freeing.{meets_none}
+use Rattle.rx_sound.proofs.Parents.{met_found}
+use Rattle.rx_base.specs.declared.ids.TaskId.{TaskId}
+use Rattle.rx_base.specs.declared.ids.ScopeId.{ScopeId}
+use Rattle.rx_rules.specs.declared.tasks.Task.{Task}
+use Rattle.rx_rules.specs.declared.tasks.Scope.{Scope}
+use Rattle.rx_rules.specs.Tree.{Tree, is_scope, wants, the_root, quiet}
+use Rattle.rx_rules.specs.Entries.{without}
+use Rattle.rx_sound.specs.Chains.{meets, Falls, HasOpener, Opened}
+use Rattle.rx_sound.specs.Sound.{Sound}
+use Rattle.rx_sound.proofs.Changes.{each_found}
+use Rattle.rx_sound.proofs.Below.{met_newer}
+use Rattle.rx_sound.proofs.Lookups.{find_passes}
+use Rattle.rx_sound.proofs.Reached.{sound}
+use Rattle.rx_counts.specs.declared.record.Record.{Record}
+use Rattle.rx_counts.specs.declared.ledger.CountLedger.{CountLedger}
+use Rattle.rx_counts.specs.Keeping.{stands_home, keeper, is_number, is_orphan, orphans_of}
+use Rattle.rx_rules.specs.Counts.{has_number}
+use Rattle.rx_counts.specs.Stands.{ShapeOf, RecordOf, Both, Fit, StandsFor, IsShaped, record_at}
+use Rattle.rx_counts.specs.Freeing.{IsLast, parent_gone, OutcomeReply, FreeReply}
+use Rattle.rx_tree.specs.declared.ledger.LedgerFault.{LedgerFault}
+use Rattle.rx_tree.specs.declared.ledger.LedgerFault.TheVariants.{NotYet, Lost, NoMemory}
+use Rattle.rx_counts.proofs.Counting.{none_counted}
+use Rattle.rx_counts.proofs.Walks.{keeper_step, OlderThan}
+use Rattle.rx_counts.proofs.Shapes.{both_found, shape_in, walk_older}
+use Rattle.rx_counts.proofs.Lasting.{kept_here}
+use Rattle.rx_counts.proofs.Asking.{shaped}
+use Rattle.rx_counts.proofs.Released.{all_released, met_own}
+
+-- the walk that meets s is one that s alone keeps
+meets_keeper : (s : ScopeId) (gs : List Scope) (want : Option ScopeId) → meets s gs want ≡ is_number s.0 (keeper (is_scope s) gs want)
+meets_keeper s [] want = refl
+meets_keeper s (g ∷ gs) want =
+    elim (wants want g) as (λ a. cond a (is_scope s g || meets s gs g.parent) (meets s gs want) ≡ is_number s.0 (cond a (cond (is_scope s g) (Some g.number.0) (keeper (is_scope s) gs g.parent)) (keeper (is_scope s) gs want))) [
+      | true ↦
+          (elim (is_scope s g) as (λ b. is_scope s g ≡ b → b || meets s gs g.parent ≡ is_number s.0 (cond b (Some g.number.0) (keeper (is_scope s) gs g.parent))) [
+            | true ↦ λ e. sym e
+            | false ↦ λ e. meets_keeper s gs g.parent
+          ]) refl
+      | false ↦ meets_keeper s gs want
+    ]
+
+-- one step of it
+pub meets_step : (ts : List Task) (n : ℕ) (gs : List Scope) (s u : ScopeId) (g : Scope) → Falls n gs → Opened ts gs → find (is_scope u) gs ≡ Some g → meets s gs (Some u) ≡ (u.0 == s.0 || meets s gs g.parent)
+meets_step ts n gs s u g f o e =
+    let num : g.number.0 ≡ u.0 = eqb-true g.number.0 u.0 (find_passes (is_scope u) gs g e) in
+    meets_keeper s gs (Some u) ∙ ap (is_number s.0) (keeper_step ts (is_scope s) n gs u g f o e ∙ ap (λ (m : ℕ). cond (m == s.0) (Some u.0) (keeper (is_scope s) gs g.parent)) num)
+    ∙ ((elim (u.0 == s.0) as (λ b. u.0 == s.0 ≡ b → is_number s.0 (cond b (Some u.0) (keeper (is_scope s) gs g.parent)) ≡ (b || meets s gs g.parent)) [
+      | true ↦ λ k. k
+      | false ↦ λ k. sym (meets_keeper s gs g.parent)
+    ]) refl)
+
+-- a parent stands
+head_parent : (ts : List Task) (g : Scope) (gs : List Scope) (o : Option TaskId) (r : ScopeId) → g.parent ≡ Some r → HasOpener ts g gs o → is_some (find (is_scope r) gs) ≡ true
+head_parent ts g gs None r e h = let k = h.1 in cc
+head_parent ts g gs (Some o) r e h = met_found the_root gs r (sym (ap (meets the_root gs) e) ∙ h.rooted)
+
+parent_found : (ts : List Task) (p : Scope → Bool) (gs : List Scope) (g : Scope) (r : ScopeId) → Opened ts gs → find p gs ≡ Some g → g.parent ≡ Some r → is_some (find (is_scope r) gs) ≡ true
+parent_found ts p [] g r o e k = cc
+parent_found ts p (h ∷ hs) g r o e k =
+    elim (is_scope r h) as (λ b. is_some (cond b (Some h) (find (is_scope r) hs)) ≡ true) [
+      | true ↦ refl
+      | false ↦
+          (elim (p h) as (λ c. cond c (Some h) (find p hs) ≡ Some g → is_some (find (is_scope r) hs) ≡ true) [
+            | true ↦ λ v. let same : h ≡ g = cc in head_parent ts h hs h.opener r (ap (λ (x : Scope). x.parent) same ∙ k) o.0
+            | false ↦ λ v. parent_found ts p hs g r o.1 v k
+          ]) e
+    ]
+
+some_of : {X : Type 0} (o : Option X) → is_some o ≡ true → (x : X) × (o ≡ Some x)
+some_of (Some x) e = (x, refl)
+some_of None e = absurd (true≢false (sym e))
+
+cond_none : {X : Type 0} (b : Bool) (o : Option X) (x : X) → o ≡ Some x → is_none (cond b None o) ≡ b
+cond_none true o x e = refl
+cond_none false o x e = rw e refl
+
+parent_is : (T : Tree) (rs qs : List (Option (Box Record))) (s : ScopeId) (i : ℕ) (r : Record) (g : Scope) (want : Option ScopeId) → IsShaped T rs → find (has_number i) T.scopes ≡ Some g → g.parent ≡ want → OlderThan i want → ((u : ScopeId) → u.0 < i → record_at qs u.0 ≡ cond (meets s T.scopes (Some u)) None (record_at rs u.0)) → (elim want as (λ _. Bool) [ Some p ↦ is_none (record_at qs p.0) | None ↦ false ]) ≡ meets s T.scopes want
+parent_is T rs qs s i r g None h found e old below = sym (meets_none s T.scopes)
+parent_is T rs qs s i r g (Some p) h found e old below =
+    let k = some_of (find (has_number p.0) T.scopes) (parent_found T.tasks (has_number i) T.scopes g p h.opened found e) in
+    let q = both_found (ShapeOf T.scopes) (record_at rs p.0) (find (has_number p.0) T.scopes) k.0 (h.shapes p.0) k.1 in
+    ap is_none (below p old) ∙ cond_none (meets s T.scopes (Some p)) (record_at rs p.0) q.0 q.1
+
+-- whether the scope of number i goes is what the code asks
+pub goes_now : (T : Tree) (rs qs : List (Option (Box Record))) (s u : ScopeId) (r : Record) → IsShaped T rs → record_at rs u.0 ≡ Some r → ((v : ScopeId) → v.0 < u.0 → record_at qs v.0 ≡ cond (meets s T.scopes (Some v)) None (record_at rs v.0)) → (u.0 == s.0 || parent_gone qs (Some r)) ≡ meets s T.scopes (Some u)
+goes_now T rs qs s u r h e below =
+    let k = shape_in T rs u r h e in
+    sym (meets_step T.tasks T.next_scope T.scopes s u k.0 h.falls h.opened k.1
+    ∙ ap (λ b. u.0 == s.0 || b) (sym (parent_is T rs qs s u.0 r k.0 k.0.parent h k.1 refl (subst (OlderThan u.0) k.2.parent (walk_older T rs u r h e)) below) ∙ ap (λ (w : Option ScopeId). elim w as (λ _. Bool) [ Some p ↦ is_none (record_at qs p.0) | None ↦ false ]) (sym k.2.parent)))
+
+-- one turn of the sweep
+pub swept_one : (T : Tree) (rs ps qs : List (Option (Box Record))) (s u : ScopeId) (goes : Bool) → IsShaped T rs → (goes ≡ (u.0 == s.0 || parent_gone ps (record_at ps u.0))) → ((v : ScopeId) → v.0 < u.0 → record_at ps v.0 ≡ cond (meets s T.scopes (Some v)) None (record_at rs v.0)) → record_at ps u.0 ≡ record_at rs u.0 → record_at qs u.0 ≡ cond (goes && (u.0 == u.0)) None (record_at ps u.0) → record_at qs u.0 ≡ cond (meets s T.scopes (Some u)) None (record_at rs u.0)
+swept_one T rs ps qs s u goes h e below above dropped =
+    (elim (record_at rs u.0) as (λ o. record_at rs u.0 ≡ o → record_at qs u.0 ≡ cond (meets s T.scopes (Some u)) None o) [
+      | Some r ↦ λ k.
+          let is : goes ≡ meets s T.scopes (Some u) = e ∙ ap (λ o. u.0 == s.0 || parent_gone ps o) (above ∙ k) ∙ goes_now T rs ps s u r h k below in
+          dropped ∙ ap (λ b. cond (goes && b) None (record_at ps u.0)) (eq-eqb u.0 u.0 refl) ∙ ap (λ b. cond (b && true) None (record_at ps u.0)) is ∙ ap (cond (meets s T.scopes (Some u) && true) None) (above ∙ k) ∙ ap (λ b. cond b None (Some r)) (and-true (meets s T.scopes (Some u)))
+      | None ↦ λ k. dropped ∙ ap (cond (goes && (u.0 == u.0)) None) (above ∙ k) ∙ both_nothing (goes && (u.0 == u.0)) (meets s T.scopes (Some u))
+    ]) refl
+  where
+    both_nothing : (a b : Bool) → cond {A = Option Record} a None None ≡ cond b None None
+    both_nothing true true = refl
+    both_nothing true false = refl
+    both_nothing false true = refl
+    both_nothing false false = refl
+
+-- the other records stay in that turn
+pub swept_other : (qs ps : List (Option (Box Record))) (i n : ℕ) (goes : Bool) → (n ≡ i → ⊥) → record_at qs n ≡ cond (goes && (n == i)) None (record_at ps n) → record_at qs n ≡ record_at ps n
+swept_other qs ps i n goes apart e = e ∙ ap (λ b. cond (goes && b) None (record_at ps n)) (ne_eqb n i apart) ∙ ap (λ b. cond b None (record_at ps n)) (and-false goes)
+
+-- the invariant of the sweep
+pub swept_below : (T : Tree) (rs ps qs : List (Option (Box Record))) (s : ScopeId) (i : ℕ) (goes : Bool) → IsShaped T rs → (goes ≡ (i == s.0 || parent_gone ps (record_at ps i))) → ((v : ScopeId) → v.0 < i → record_at ps v.0 ≡ cond (meets s T.scopes (Some v)) None (record_at rs v.0)) → ((n : ℕ) → i ≤ n → record_at ps n ≡ record_at rs n) → ((n : ℕ) → record_at qs n ≡ cond (goes && (n == i)) None (record_at ps n)) → (u : ScopeId) → u.0 < i + 1 → record_at qs u.0 ≡ cond (meets s T.scopes (Some u)) None (record_at rs u.0)
+swept_below T rs ps qs s i goes h e below above dropped u low =
+    ⊎_elim
+    (λ (k : u.0 ≡ i). swept_one T rs ps qs s u goes h (e ∙ ap (λ (m : ℕ). m == s.0 || parent_gone ps (record_at ps m)) (sym k)) (λ v lt. below v (omega arith)) (above u.0 (omega arith)) (dropped u.0 ∙ ap (λ (m : ℕ). cond (goes && (u.0 == m)) None (record_at ps u.0)) (sym k)))
+    (λ (k : u.0 ≡ i → ⊥). swept_other qs ps i u.0 goes k (dropped u.0) ∙ below u (lower u.0 i k low))
+    (cases_eq u.0 i)
+  where
+    lower : (m i : ℕ) → (m ≡ i → ⊥) → m < i + 1 → m < i
+    lower m i apart lt = ⊎_elim (λ (a : m < i). a) (λ (b : i ≤ m). absurd (apart (omega arith))) (cases_lt m i)
+
+pub swept_above : (rs ps qs : List (Option (Box Record))) (i : ℕ) (goes : Bool) → ((n : ℕ) → i ≤ n → record_at ps n ≡ record_at rs n) → ((n : ℕ) → record_at qs n ≡ cond (goes && (n == i)) None (record_at ps n)) → (n : ℕ) → i + 1 ≤ n → record_at qs n ≡ record_at rs n
+swept_above rs ps qs i goes above dropped n le = swept_other qs ps i n goes (λ e. absurd (omega arith)) (dropped n) ∙ above n (omega arith)
+
+-- below s nothing goes
+pub none_before : (T : Tree) (rs : List (Option (Box Record))) (s u : ScopeId) → IsShaped T rs → u.0 < s.0 → meets s T.scopes (Some u) ≡ false
+none_before T rs s u h lt = false_from_ne_true (meets s T.scopes (Some u)) (λ m. let a : s.0 ≤ u.0 = met_newer s T.next_scope T.scopes u h.falls m in absurd (omega arith))
+
+-- where s has adopted none, it goes alone
+pub goes_alone : (l : CountLedger) (T : Tree) (s u : ScopeId) → StandsFor l T → (i : IsLast T s) → quiet T s ≡ true → orphans_of (stands_home T.dead) T.scopes s.0 ≡ 0 → cond (u.0 == s.0) None (record_at l.scopes.items u.0) ≡ cond (meets s T.scopes (Some u)) None (record_at l.scopes.items u.0)
+goes_alone l T s u st i still none =
+    let h : Sound T = sound st.reached in
+    let keeps : Scope → Bool = stands_home T.dead in
+    (elim (u.0 == s.0) as (λ b. u.0 == s.0 ≡ b → cond b None (record_at l.scopes.items u.0) ≡ cond (meets s T.scopes (Some u)) None (record_at l.scopes.items u.0)) [
+      | true ↦ λ e.
+          let same : u ≡ s = ap (λ (n : ℕ). let q : ScopeId = record { 0 = n } in q) (eqb-true u.0 s.0 e) in
+          sym (ap (λ b. cond b None (record_at l.scopes.items u.0)) (ap (λ (v : ScopeId). meets s T.scopes (Some v)) same ∙ met_own T s i))
+      | false ↦ λ e.
+          (elim (meets s T.scopes (Some u)) as (λ m. meets s T.scopes (Some u) ≡ m → record_at l.scopes.items u.0 ≡ cond m None (record_at l.scopes.items u.0)) [
+            | true ↦ λ m.
+                both_none_of (find (has_number u.0) T.scopes) refl e m
+            | false ↦ λ m. refl
+          ]) refl
+    ]) refl
+  where
+    adopted : (g : Scope) → find (has_number u.0) T.scopes ≡ Some g → u.0 == s.0 ≡ false → meets s T.scopes (Some u) ≡ true → ⊥
+    adopted g found e m =
+        let h : Sound T = sound st.reached in
+        let keeps : Scope → Bool = stands_home T.dead in
+        let num : g.number.0 ≡ u.0 = eqb-true g.number.0 u.0 (find_passes (has_number u.0) T.scopes g found) in
+        let is_u : g.number ≡ u = ap (λ (n : ℕ). let q : ScopeId = record { 0 = n } in q) num in
+        let here : is_number s.0 (keeper keeps T.scopes (Some u)) ≡ true = kept_here T s h i still u m in
+        let step = keeper_step T.tasks keeps T.next_scope T.scopes u g h.falls h.opened found in
+        let one : is_orphan keeps T.scopes s.0 g ≡ false = each_found (λ k. is_orphan keeps T.scopes s.0 k ≡ false) (has_number u.0) T.scopes g (none_counted (is_orphan keeps T.scopes s.0) T.scopes none) found in
+        (elim (keeps g) as (λ b. keeps g ≡ b → ⊥) [
+          | true ↦ λ k. true≢false (sym here ∙ ap (is_number s.0) (step ∙ ap (λ b. cond b (Some u.0) (keeper keeps T.scopes g.parent)) k) ∙ e)
+          | false ↦ λ k. true≢false (sym here ∙ ap (λ (v : ScopeId). is_number s.0 (keeper keeps T.scopes (Some v))) (sym is_u) ∙ ap (λ b. not b && is_number s.0 (keeper keeps T.scopes (Some g.number))) (sym k) ∙ one)
+        ]) refl
+
+    both_none_of : (o : Option Scope) → find (has_number u.0) T.scopes ≡ o → u.0 == s.0 ≡ false → meets s T.scopes (Some u) ≡ true → record_at l.scopes.items u.0 ≡ None
+    both_none_of (Some g) found e m = absurd (adopted g found e m)
+    both_none_of None found e m = none_record (record_at l.scopes.items u.0) (subst (λ o. Both (RecordOf (stands_home T.dead) T.scopes T.tasks) (record_at l.scopes.items u.0) o) found (st.fit.scopes u.0))
+      where
+        none_record : (o : Option Record) → Both (RecordOf (stands_home T.dead) T.scopes T.tasks) o None → o ≡ None
+        none_record (Some r) h = absurd h
+        none_record None h = refl
+
+-- The ledger afterwards.
+
+pub freed : (l m : CountLedger) (T : Tree) (s : ScopeId) → StandsFor l T → IsLast T s → quiet T s ≡ true → m.places ≡ l.places → m.dead ≡ l.dead → m.next_task ≡ l.next_task → m.next_scope ≡ l.next_scope → length m.scopes.items ≡ length l.scopes.items → ((u : ScopeId) → record_at m.scopes.items u.0 ≡ cond (meets s T.scopes (Some u)) None (record_at l.scopes.items u.0)) → Fit m (without T s)
+freed l m T s st i still places dead next_task next_scope len gone =
+    record {
+      places = places ∙ st.fit.places;
+      dead = dead ∙ st.fit.dead;
+      next_task = next_task ∙ st.fit.next_task;
+      next_scope = next_scope ∙ st.fit.next_scope;
+      numbers = len ∙ st.fit.numbers;
+      scopes = all_released T s l.scopes.items m.scopes.items (sound st.reached) i still gone st.fit.scopes;
+    }
+
+pub free_refused : (l : CountLedger) (T : Tree) (s : ScopeId) (f : LedgerFault) → StandsFor l T → OutcomeReply T s (Err f) → FreeReply T s (Err f) l
+free_refused l T s NoMemory st h = (h, st)
+free_refused l T s (Lost p a) st h = absurd h
+free_refused l T s (NotYet p) st h = (h, st)
+
+-- both ways of removing
+pub gone_all : (l : CountLedger) (T : Tree) (s : ScopeId) (n : ℕ) (qs : List (Option (Box Record))) → StandsFor l T → IsLast T s → quiet T s ≡ true → n ≡ orphans_of (stands_home T.dead) T.scopes s.0 → (n ≡ 0 → (u : ScopeId) → record_at qs u.0 ≡ cond (u.0 == s.0) None (record_at l.scopes.items u.0)) → ((n ≡ 0 → ⊥) → (U : Tree) → IsShaped U l.scopes.items → (u : ScopeId) → record_at qs u.0 ≡ cond (meets s U.scopes (Some u)) None (record_at l.scopes.items u.0)) → (u : ScopeId) → record_at qs u.0 ≡ cond (meets s T.scopes (Some u)) None (record_at l.scopes.items u.0)
+gone_all l T s n qs st i still e alone below u =
+    ⊎_elim
+    (λ (z : n ≡ 0). alone z u ∙ goes_alone l T s u st i still (sym e ∙ z))
+    (λ (z : n ≡ 0 → ⊥). below z T (shaped l T st) u)
+    (cases_eq n 0)

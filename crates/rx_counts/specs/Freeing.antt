@@ -1,0 +1,54 @@
+-- A release, by a caller or by the host.
+use Rattle.std.specs.Prelude.{◌≡◌, ℕ, ◌<◌, ◌≤◌, ◌-◌, ◌/◌, ◌%◌, Bool, true, false, cond, ltb, ◌&&◌, not, List, Option, Some, None, is_none, slice_index_or, Result, Ok, Err}
+use Rattle.std.specs.Global.{Box}
+use Rattle.std.specs.List.{find, list_any}
+use Rattle.rx_base.specs.declared.ids.TaskId.{TaskId}
+use Rattle.rx_base.specs.declared.ids.ScopeId.{ScopeId}
+use Rattle.rx_rules.specs.declared.tasks.Scope.{Scope}
+use Rattle.rx_rules.specs.Tree.{Tree, is_scope, scope_of, opened_by, quiet}
+use Rattle.rx_rules.specs.Entries.{Names, without}
+use Rattle.rx_tree.specs.declared.ledger.LedgerFault.{LedgerFault}
+use Rattle.rx_tree.specs.declared.ledger.LedgerFault.TheVariants.{NotYet, Lost, NoMemory}
+use Rattle.rx_tree.specs.declared.ledger.Outcome.{Outcome}
+use Rattle.rx_tree.specs.Calls.{IsHindered, landing}
+use Rattle.rx_base.specs.declared.ids.PlaceId.{PlaceId}
+use Rattle.rx_rules.specs.declared.tasks.Where.{Where}
+use Rattle.rx_rules.specs.declared.tasks.Where.TheVariants.{At, Travel}
+use Rattle.rx_counts.specs.declared.record.Record.{Record}
+use Rattle.rx_counts.specs.declared.ledger.CountLedger.{CountLedger}
+use Rattle.rx_counts.specs.Keeping.{stands_home, orphans_of}
+use Rattle.rx_counts.specs.Stands.{Fit, StandsFor, record_at}
+
+-- the scope stands, its home lives, and its opener, if it has one, has no later scope
+pub record IsLast (T : Tree) (s : ScopeId) : Type 0 where
+  pub scope : Scope
+  pub stands : scope_of T s ≡ Some scope
+  pub keeps_it : list_any (λ h. is_scope s h && not (stands_home T.dead h)) T.scopes ≡ false
+  pub last : (o : TaskId) (h : Scope) → list_any (λ x. is_scope s x && opened_by o x) T.scopes ≡ true → find (opened_by o) T.scopes ≡ Some h → h.number.0 ≤ s.0
+
+-- what a release names, and how many scopes with a dead home go with it
+abbrev pub OutcomeReply : Tree → ScopeId → Result (Outcome × ℕ) LedgerFault → Type 0
+OutcomeReply T s (Ok (o, n)) = (quiet T s ≡ true) × Names T s o.lost o.thrown × (n ≡ orphans_of (stands_home T.dead) T.scopes s.0)
+OutcomeReply T s (Err NoMemory) = quiet T s ≡ true
+OutcomeReply T s (Err (Lost place at)) = ⊥
+OutcomeReply T s (Err (NotYet place)) = IsHindered T s place
+
+-- the answer, and the ledger afterwards
+abbrev pub FreeReply : Tree → ScopeId → Result Outcome LedgerFault → CountLedger → Type 0
+FreeReply T s (Ok o) l = (quiet T s ≡ true) × Names T s o.lost o.thrown × Fit l (without T s)
+FreeReply T s (Err NoMemory) l = (quiet T s ≡ true) × StandsFor l T
+FreeReply T s (Err (Lost place at)) l = ⊥
+FreeReply T s (Err (NotYet place)) l = IsHindered T s place × StandsFor l T
+
+-- the record stands and that of its parent does not
+abbrev pub parent_gone : List (Option (Box Record)) → Option Record → Bool
+parent_gone rs None = false
+parent_gone rs (Some r) = elim r.parent [ Some p ↦ is_none (record_at rs p.0) | None ↦ false ]
+
+-- the place or the pair of a cell
+abbrev pub unslot : ℕ → Where
+unslot i = cond (ltb i 16) (At (record { 0 = i })) (Travel (record { 0 = (i - 16) / 16 }) (record { 0 = (i - 16) % 16 }))
+
+-- where a cell is above 0, the place is where the tasks of such a cell are or go
+abbrev pub Hides : List ℕ → PlaceId → Type 0
+Hides counts p = (k : ℕ) → k < 272 → 0 < slice_index_or counts k 0 → (i : ℕ) × (i < 272) × (0 < slice_index_or counts i 0) × (p ≡ landing (unslot i))

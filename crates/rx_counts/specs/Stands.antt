@@ -1,0 +1,154 @@
+-- The records of a count ledger stand for a tree.
+use Rattle.std.specs.Prelude.{◌≡◌, ℕ, ◌<◌, ◌+◌, ◌++◌, ◌*◌, ◌-◌, Bool, true, cond, ◌&&◌, ◌||◌, ◌==◌, List, Option, Some, None, is_some, slice_index_or, length, option_map, slice_set, box_value}
+use Rattle.std.specs.Global.{Box}
+use Rattle.std.specs.List.{find, list_any}
+use Rattle.rx_base.specs.Sets.{has_bit}
+use Rattle.rx_base.specs.declared.ids.PlaceId.{PlaceId}
+use Rattle.rx_base.specs.declared.place_set.PlaceSet.{PlaceSet}
+use Rattle.rx_base.specs.declared.values.Fault.{Fault}
+use Rattle.rx_rules.specs.declared.tasks.Where.{Where}
+use Rattle.rx_rules.specs.declared.tasks.Where.TheVariants.{At, Travel}
+use Rattle.rx_rules.specs.declared.tasks.Task.{Task}
+use Rattle.rx_rules.specs.declared.tasks.Scope.{Scope}
+use Rattle.rx_base.specs.declared.ids.ScopeId.{ScopeId}
+use Rattle.rx_rules.specs.Tree.{Tree, scope_of}
+use Rattle.rx_rules.specs.Entries.{was_lost_at}
+use Rattle.rx_rules.specs.Counts.{has_number}
+use Rattle.rx_rules.specs.Reached.{Reached}
+use Rattle.rx_counts.specs.declared.record.Sums.{Sums}
+use Rattle.rx_counts.specs.declared.record.Record.{Record}
+use Rattle.rx_counts.specs.declared.ledger.CountLedger.{CountLedger}
+use Rattle.rx_sound.specs.Chains.{Falls, Opened}
+use Rattle.rx_counts.specs.Keeping.{stands_home, finishes, keeper, kept_at, count_of, total_of, orphans_of}
+
+-- the cell of a place, or of a pair: 16 places, then 16 times 16 pairs
+abbrev pub slot : Where → ℕ
+slot (At p) = p.0
+slot (Travel from to) = 16 + 16 * from.0 + to.0
+
+abbrev pub in_range : Where → Type 0
+in_range (At p) = p.0 < 16
+in_range (Travel from to) = (from.0 < 16) × (to.0 < 16)
+
+-- what a record says of the scope itself
+pub record ShapeOf (gs : List Scope) (r : Record) (g : Scope) : Type 0 where
+  pub kind : r.kind ≡ g.kind
+  pub home : r.home ≡ g.home
+  pub parent : r.parent ≡ g.parent
+  pub finish : keeper finishes gs (Some g.number) ≡ Some r.finish.0
+
+-- the sums of scope n, where keeps says which scopes keep counts
+pub record SumsOf (keeps : Scope → Bool) (gs : List Scope) (ts : List Task) (q : Sums) (n : ℕ) : Type 0 where
+  pub counts : (w : Where) → in_range w → slice_index_or q.counts (slot w) 0 ≡ count_of keeps gs ts n w
+  pub cells : length q.counts ≡ 272
+  pub total : q.total ≡ total_of keeps gs ts n
+  pub orphans : q.orphans ≡ orphans_of keeps gs n
+  pub lost : (p : ℕ) → p < 16 → has_bit q.lost.0 p ≡ list_any (λ x. was_lost_at p x && kept_at keeps gs n x) ts
+
+-- a record is that of scope g
+pub record RecordOf (keeps : Scope → Bool) (gs : List Scope) (ts : List Task) (r : Record) (g : Scope) : Type 0 where
+  pub shape : ShapeOf gs r g
+  pub sums : SumsOf keeps gs ts r.sums g.number.0
+  pub faults : keeps g ≡ true → (r.body ≡ g.body) × (r.ends ≡ g.ends)
+
+-- the same of a record and a scope that may be missing
+abbrev pub Both : (Record → Scope → Type 0) → Option Record → Option Scope → Type 0
+Both P (Some r) (Some g) = P r g
+Both P (Some r) None = ⊥
+Both P None (Some g) = ⊥
+Both P None None = Unit {0}
+
+-- the record of a number
+abbrev pub record_at : List (Option (Box Record)) → ℕ → Option Record
+record_at rs n = option_map box_value (slice_index_or rs n None)
+
+-- the record of each number is that of its scope, or both are missing
+abbrev pub AllFit : (Scope → Bool) → List Scope → List Task → List (Option (Box Record)) → Type 0
+AllFit keeps gs ts rs = (n : ℕ) → Both (RecordOf keeps gs ts) (record_at rs n) (find (has_number n) gs)
+
+-- the same of the shapes alone
+abbrev pub AllShaped : List Scope → List (Option (Box Record)) → Type 0
+AllShaped gs rs = (n : ℕ) → Both (ShapeOf gs) (record_at rs n) (find (has_number n) gs)
+
+-- the ledger keeps the numbers of the tree, and its records are those of the scopes
+pub record Fit (l : CountLedger) (T : Tree) : Type 0 where
+  pub places : l.places ≡ T.places
+  pub dead : l.dead ≡ T.dead
+  pub next_task : l.next_task ≡ T.next_task
+  pub next_scope : l.next_scope ≡ T.next_scope
+  pub numbers : length l.scopes.items ≡ T.next_scope
+  pub scopes : AllFit (stands_home T.dead) T.scopes T.tasks l.scopes.items
+
+-- and the tree can be reached
+pub record StandsFor (l : CountLedger) (T : Tree) : Type 0 where
+  pub reached : Reached T
+  pub fit : Fit l T
+
+-- what is in a cell
+abbrev pub count_in : Sums → ℕ → ℕ
+count_in q i = slice_index_or q.counts i 0
+
+-- one task more, and one less, in a cell
+abbrev pub more : ℕ → Sums → Sums
+more i q = record q { counts = slice_set q.counts i (count_in q i + 1); total = q.total + 1 }
+
+abbrev pub less : ℕ → Sums → Sums
+less i q = record q { counts = slice_set q.counts i (count_in q i - 1); total = q.total - 1 }
+
+-- the change of the sums of a record
+abbrev pub in_sums : (Sums → Sums) → Record → Record
+in_sums f r = record r { sums = f r.sums }
+
+-- other faults
+abbrev pub with_body : List Fault → Record → Record
+with_body thrown r = record r { body = thrown }
+
+abbrev pub with_ends : List Fault → Record → Record
+with_ends thrown r = record r { ends = r.ends ++ thrown }
+
+-- a relation of two records that may be missing
+abbrev pub Pairs : (Record → Record → Type 0) → Option Record → Option Record → Type 0
+Pairs R (Some r) (Some q) = R r q
+Pairs R (Some r) None = ⊥
+Pairs R None (Some q) = ⊥
+Pairs R None None = Unit {0}
+
+-- the record of number n changed as R says, and no other
+pub record ChangedBy (R : Record → Record → Type 0) (n : ℕ) (rs qs : List (Option (Box Record))) : Type 0 where
+  pub len : length qs ≡ length rs
+  pub here : Pairs R (record_at rs n) (record_at qs n)
+  pub others : (m : ℕ) → (m ≡ n → ⊥) → record_at qs m ≡ record_at rs m
+
+-- the lost set is another
+abbrev pub with_lost : PlaceSet → Sums → Sums
+with_lost lost q = record q { lost = lost }
+
+-- a task that counts in the record was lost at the place
+abbrev pub Loses : PlaceId → Record → Record → Type 0
+Loses p r q = (q ≡ in_sums (with_lost q.sums.lost) r) × ((i : ℕ) → i < 16 → has_bit q.sums.lost.0 i ≡ (has_bit r.sums.lost.0 i || (p.0 == i)))
+
+-- faults join the ends, or are dropped
+abbrev pub ends_if : Bool → List Fault → Record → Record
+ends_if b thrown r = record r { ends = cond b (r.ends ++ thrown) r.ends }
+
+-- the records are of the scopes of a tree in which scopes stand as they do in every tree that can be reached
+pub record IsShaped (T : Tree) (rs : List (Option (Box Record))) : Type 0 where
+  pub falls : Falls T.next_scope T.scopes
+  pub opened : Opened T.tasks T.scopes
+  pub shapes : AllShaped T.scopes rs
+
+-- one record more
+pub record Pushed (r : Record) (rs qs : List (Option (Box Record))) : Type 0 where
+  pub len : length qs ≡ length rs + 1
+  pub here : record_at qs (length rs) ≡ Some r
+  pub others : (m : ℕ) → (m ≡ length rs → ⊥) → record_at qs m ≡ record_at rs m
+
+-- the records after those of number n changed by f, and no other
+pub record Changed (f : Record → Record) (n : ℕ) (rs qs : List (Option (Box Record))) : Type 0 where
+  pub len : length qs ≡ length rs
+  pub here : record_at qs n ≡ option_map f (record_at rs n)
+  pub others : (m : ℕ) → (m ≡ n → ⊥) → record_at qs m ≡ record_at rs m
+
+-- the scope stands
+abbrev pub HasScope : Tree → ScopeId → Type 0
+HasScope T s = is_some (scope_of T s) ≡ true

@@ -1,0 +1,216 @@
+// What a death does to the records.
+ghost use Rattle.std.specs.Prelude.{◌≡◌, ◌<◌, ◌≤◌, ◌^◌, ◌+◌, ◌||◌, ◌&&◌, ◌==◌, ℕ, Bool, ltb, cond, length, slice_index_or, IfSome, Some, None, option_map, box_value};
+ghost use Rattle.rx_base.specs.Sets.{has_bit};
+ghost use Rattle.rx_rules.specs.Tree.{Tree};
+ghost use Rattle.rx_rules.specs.declared.tasks.Scope.{Scope};
+ghost use Rattle.rx_counts.specs.Stands.{record_at, Pairs, ChangedBy};
+ghost use Rattle.rx_counts.specs.Dying.{hits_cell, hits, Strikes, StrikesRecord, MayHit, Emptied, Gained, MayGain, CanGain, Gains, Passing, parent_there};
+
+use crate::record::{Record, Sums, nothing};
+use crate::table::keeper_of;
+use rx_base::{Faults, PlaceId, PlaceSet, ScopeId};
+use std::alloc::Global;
+
+/// Whether the death of a place hits the place or the pair of a cell.
+fn is_hit_cell(d: PlaceId, cell: usize) -> bool
+    ensures { result ≡ hits_cell d.0 cell }
+{
+    let place = d.0 as usize;
+    if cell < 16 {
+        cell == place
+    } else {
+        (cell - 16) / 16 == place || (cell - 16) % 16 == place
+    }
+}
+
+/// Makes the cell 0 where the death hits it, and answers what it had.
+fn clear_one(counts: &mut [u32], cell: usize, d: PlaceId) -> u32
+    requires { cell < length counts.old }
+    ensures had { result ≡ cond (hits_cell d.0 cell) (slice_index_or counts.old cell 0) 0 }
+    ensures cleared { (k : ℕ) → slice_index_or counts.new k 0 ≡ cond (hits_cell d.0 k && (k == cell)) 0 (slice_index_or counts.old k 0) }
+{
+    if !is_hit_cell(d, cell) {
+        return 0;
+    }
+    let had = counts[cell];
+    counts[cell] = 0;
+    had
+}
+
+/// Makes each cell 0 that the death hits, and answers what they had.
+fn clear_hit(counts: &mut [u32], d: PlaceId) -> u32
+    requires { hits d.0 counts.old < 2 ^ 32 }
+    ensures sum { result ≡ hits d.0 counts.old }
+    ensures cleared { (k : ℕ) → k < length counts.old → slice_index_or counts.new k 0 ≡ cond (hits_cell d.0 k) 0 (slice_index_or counts.old k 0) }
+{
+    let mut sum = 0;
+    for cell in 0..counts.len() {
+        sum += clear_one(counts, cell, d);
+    }
+    sum
+}
+
+fn lost_if(lost: PlaceSet, d: PlaceId, hurt: u32) -> PlaceSet
+    requires { d.0 < 16 }
+    ensures { (p : ℕ) → p < 16 → has_bit result.0 p ≡ (has_bit lost.0 p || (ltb 0 hurt && (d.0 == p))) }
+{
+    if 0 < hurt { lost.with(d) } else { lost }
+}
+
+impl Sums {
+    /// The death of a place.
+    pub fn strike(&mut self, d: PlaceId)
+        requires { (d.0 < 16) × (hits d.0 self.old.counts ≤ self.old.total) }
+        ensures { Strikes d self.old self.new }
+    {
+        let total = self.total;
+        let hurt = clear_hit(&mut self.counts, d);
+        self.total = total - hurt;
+        self.lost = lost_if(self.lost, d, hurt);
+    }
+}
+
+fn strike_entry(entry: &mut Option<Box<Record>>, d: PlaceId)
+    requires { (d.0 < 16) × IfSome (option_map box_value entry.old) (MayHit d) }
+    ensures { Pairs (StrikesRecord d) (option_map box_value entry.old) (option_map box_value entry.new) }
+{
+    if let Some(kept) = entry {
+        kept.sums.strike(d);
+    }
+}
+
+/// The death of a place strikes each record.
+pub fn strike_all(scopes: &mut Vec<Option<Box<Record>>>, d: PlaceId)
+    requires { (d.0 < 16) × ((n : ℕ) → IfSome (record_at scopes.old.items n) (MayHit d)) }
+    ensures len { length scopes.new.items ≡ length scopes.old.items }
+    ensures struck { (n : ℕ) → Pairs (StrikesRecord d) (record_at scopes.old.items n) (record_at scopes.new.items n) }
+{
+    for i in 0..scopes.len() {
+        strike_entry(&mut scopes[i], d);
+    }
+}
+
+impl Record {
+    /// Gives the sums away, and drops the faults.
+    fn give(&mut self, alloc: Global) -> Sums
+        ensures given { result ≡ self.old.sums }
+        ensures left { Emptied self.old self.new }
+    {
+        let given = self.sums;
+        self.sums = nothing();
+        self.body = Faults::open(alloc);
+        self.ends = Faults::open(alloc);
+        given
+    }
+}
+
+/// The sums of the record, which has none afterwards, and no faults.
+fn take_entry(entry: &mut Option<Box<Record>>, alloc: Global) -> Sums
+    ensures taken { IfSome (option_map box_value entry.old) (λ r. result ≡ r.sums) }
+    ensures left { Pairs Emptied (option_map box_value entry.old) (option_map box_value entry.new) }
+{
+    match entry {
+        Some(kept) => kept.give(alloc),
+        None => nothing(),
+    }
+}
+
+fn take_at(scopes: &mut Vec<Option<Box<Record>>>, i: usize, alloc: Global) -> Sums
+    requires { i < length scopes.old.items }
+    ensures taken { IfSome (record_at scopes.old.items i) (λ r. result ≡ r.sums) }
+    ensures left { ChangedBy Emptied i scopes.old.items scopes.new.items }
+{
+    take_entry(&mut scopes[i], alloc)
+}
+
+/// Adds the counts of another scope.
+fn add_counts(counts: &mut [u32], given: &[u32])
+    requires { (length counts.old ≡ 272) × (length given.now ≡ 272) × ((k : ℕ) → k < 272 → slice_index_or counts.old k 0 + slice_index_or given.now k 0 < 2 ^ 32) }
+    ensures { (k : ℕ) → k < 272 → slice_index_or counts.new k 0 ≡ slice_index_or counts.old k 0 + slice_index_or given.now k 0 }
+{
+    for cell in 0..counts.len() {
+        counts[cell] += given[cell];
+    }
+}
+
+/// The places of both sets.
+fn either(a: PlaceSet, b: PlaceSet) -> PlaceSet
+    ensures { (p : ℕ) → p < 16 → has_bit result.0 p ≡ (has_bit a.0 p || has_bit b.0 p) }
+{
+    PlaceSet(a.0 | b.0)
+}
+
+impl Sums {
+    /// Takes the sums of another scope, and that scope as an orphan.
+    fn gain(&mut self, given: &Sums)
+        requires { CanGain given.now self.old }
+        ensures { Gains self.old given.now self.new }
+    {
+        add_counts(&mut self.counts, &given.counts);
+        self.total += given.total;
+        self.orphans += given.orphans + 1;
+        self.lost = either(self.lost, given.lost);
+    }
+}
+
+fn pour_entry(entry: &mut Option<Box<Record>>, given: &Sums)
+    requires { IfSome (option_map box_value entry.old) (MayGain given.now) }
+    ensures { Pairs (Gained given.now) (option_map box_value entry.old) (option_map box_value entry.new) }
+{
+    if let Some(kept) = entry {
+        kept.sums.gain(given);
+    }
+}
+
+fn pour_at(scopes: &mut Vec<Option<Box<Record>>>, a: ScopeId, given: &Sums)
+    requires { (a.0 < length scopes.old.items) × IfSome (record_at scopes.old.items a.0) (MayGain given.now) }
+    ensures { ChangedBy (Gained given.now) a.0 scopes.old.items scopes.new.items }
+{
+    pour_entry(&mut scopes[a.0 as usize], given);
+}
+
+/// The parent of the scope of a number, where that stands and its home is the place.
+fn parent_at(scopes: &[Option<Box<Record>>], i: usize, d: PlaceId) -> Option<ScopeId>
+    ensures { result ≡ parent_there d (record_at scopes.now i) }
+{
+    match scopes.get(i) {
+        Some(Some(kept)) => if kept.home == d { kept.parent } else { None },
+        _ => None,
+    }
+}
+
+/// Where the home of the scope of this number died, its sums go to the first scope above it with a living home.
+fn hand_over(
+    scopes: &mut Vec<Option<Box<Record>>>,
+    dead: &[Option<u32>],
+    d: PlaceId,
+    i: usize,
+    alloc: Global,
+)
+    requires { (i < length scopes.old.items) × (T : Tree) × (keeps : (Scope → Bool)) × Passing T keeps dead.now d i scopes.old.items }
+    ensures len { length scopes.new.items ≡ length scopes.old.items }
+    ensures passes { (T : Tree) (keeps : Scope → Bool) → Passing T keeps dead.now d i scopes.old.items → Passing T keeps dead.now d (i + 1) scopes.new.items }
+{
+    if let Some(parent) = parent_at(scopes, i, d) {
+        if let Some(heir) = keeper_of(scopes, dead, parent) {
+            let given = take_at(scopes, i, alloc);
+            pour_at(scopes, heir, &given);
+        }
+    }
+}
+
+/// The same of each scope, from the oldest on.
+pub fn hand_over_all(
+    scopes: &mut Vec<Option<Box<Record>>>,
+    dead: &[Option<u32>],
+    d: PlaceId,
+    alloc: Global,
+)
+    requires { (T : Tree) × (keeps : (Scope → Bool)) × Passing T keeps dead.now d 0 scopes.old.items }
+    ensures len { length scopes.new.items ≡ length scopes.old.items }
+    ensures passes { (T : Tree) (keeps : Scope → Bool) → Passing T keeps dead.now d 0 scopes.old.items → Passing T keeps dead.now d (length scopes.old.items) scopes.new.items }
+{
+    for i in 0..scopes.len() {
+        hand_over(scopes, dead, d, i, alloc);
+    }
+}

@@ -1,0 +1,297 @@
+// The ledger.
+ghost use Rattle.std.specs.Prelude.{◌≡◌, ◌≤◌, ◌<◌, IfOk, IfSome, is_some, true, Err};
+ghost use Rattle.rx_rules.specs.Tree.{Tree};
+ghost use Rattle.rx_rules.specs.Fold.{opening};
+ghost use Rattle.rx_base.specs.Sets.{members};
+ghost use Rattle.rx_rules.specs.Counts.{live_count, transit_count, lost_at, adopter};
+ghost use Rattle.rx_tree.specs.Callers.{MayAskTo};
+ghost use Rattle.rx_tree.specs.Calls.{SpawnReply};
+ghost use Rattle.rx_counts.specs.Stands.{StandsFor, HasScope};
+ghost use Rattle.rx_counts.specs.Meaning.{CountsStand};
+ghost use Rattle.rx_counts.specs.Freeing.{IsLast, OutcomeReply, FreeReply};
+
+use crate::dying::{hand_over_all, strike_all};
+use crate::places::{blow_there, landing_of, lives, lost, place_of, slot_of, travel};
+use crate::record::{Record, fresh};
+use crate::removal::{hindrance, remove};
+use crate::table::{
+    bear, count_at, finish_of, join, keeper_of, leave, look, note_body, note_ends, push,
+};
+use rx_base::{Faults, NoMemory, PlaceId, PlaceSet, ScopeId, TaskId};
+use rx_rules::{Kind, Where};
+use rx_tree::{Born, Caller, FinishLedger, LedgerFault, Outcome};
+use std::alloc::Global;
+
+/// A ledger that keeps counts and no task: the records of the scopes that stand, by number.
+#[derive(Drop)]
+pub struct CountLedger {
+    alloc: Global,
+    scopes: Vec<Option<Box<Record>>>,
+    places: u8,
+    dead: [Option<u32>; 16],
+    next_task: u32,
+    next_scope: u32,
+}
+
+impl CountLedger {
+    /// Opens a ledger of 1 to 16 places. It stands for the tree before the first entry: task 0 at place 0 under the root.
+    pub fn open(alloc: Global, places: u8) -> Result<CountLedger, NoMemory>
+        requires { (1 ≤ places) × (places ≤ 16) }
+        ensures { IfOk result (λ l. ⟦<CountLedger as FinishLedger>⟧.stands l (opening places)) }
+    {
+        let mut scopes = Vec::new(alloc);
+        let mut root = fresh(alloc, Kind::Finish, PlaceId(0), None, ScopeId(0));
+        root.sums.join(0);
+        match push(&mut scopes, root, alloc) {
+            Ok(_) => {}
+            Err(_) => return Err(NoMemory),
+        }
+        Ok(CountLedger {
+            alloc,
+            scopes,
+            places,
+            dead: [None; 16],
+            next_task: 1,
+            next_scope: 1,
+        })
+    }
+
+    /// How many unstruck tasks at a place are counted at a scope.
+    pub fn live_at(&self, s: ScopeId, p: PlaceId) -> u32
+        requires { (T : Tree) × StandsFor self.now T × HasScope T s × (p.0 < 16) }
+        ensures { (T : Tree) → StandsFor self.now T → HasScope T s → result ≡ live_count T s p }
+    {
+        count_at(&self.scopes, s, slot_of(Where::At(p)))
+    }
+
+    /// How many unstruck tasks that travel from one place to another are counted at a scope.
+    pub fn transit_of(&self, s: ScopeId, from: PlaceId, to: PlaceId) -> u32
+        requires { (T : Tree) × StandsFor self.now T × HasScope T s × (from.0 < 16) × (to.0 < 16) }
+        ensures { (T : Tree) → StandsFor self.now T → HasScope T s → result ≡ transit_count T s from to }
+    {
+        count_at(&self.scopes, s, slot_of(Where::Travel { from, to }))
+    }
+
+    /// The places at which tasks that are counted at a scope were lost.
+    pub fn lost_of(&self, s: ScopeId) -> PlaceSet
+        requires { (T : Tree) × StandsFor self.now T × HasScope T s }
+        ensures { (T : Tree) → StandsFor self.now T → HasScope T s → members result ≡ lost_at T s }
+    {
+        match look(&self.scopes, s) {
+            Some(kept) => kept.sums.lost,
+            None => PlaceSet::empty(),
+        }
+    }
+
+    /// The nearest scope with a living home, from the scope itself along parents.
+    pub fn adopter_of(&self, s: ScopeId) -> ScopeId
+        requires { (T : Tree) × StandsFor self.now T × HasScope T s }
+        ensures { (T : Tree) → StandsFor self.now T → HasScope T s → IfSome (adopter T s) (λ g. result ≡ g.number) × (is_some (adopter T s) ≡ true) }
+    {
+        match keeper_of(&self.scopes, &self.dead, s) {
+            Some(keeper) => keeper,
+            None => s,
+        }
+    }
+
+    /// What the release of a scope names, and how many scopes go with it.
+    fn outcome_of(&self, s: ScopeId) -> Result<(Outcome, u32), LedgerFault>
+        requires { (T : Tree) × StandsFor self.now T × IsLast T s }
+        ensures { (T : Tree) → StandsFor self.now T → IsLast T s → OutcomeReply T s result }
+    {
+        match look(&self.scopes, s) {
+            None => Err(LedgerFault::NoMemory),
+            Some(kept) => {
+                if kept.sums.total > 0 {
+                    return Err(LedgerFault::NotYet {
+                        place: hindrance(&kept.sums.counts),
+                    });
+                }
+                match kept.body.joined(self.alloc, &kept.ends) {
+                    Ok(thrown) => Ok((
+                        Outcome {
+                            lost: kept.sums.lost,
+                            thrown,
+                        },
+                        kept.sums.orphans,
+                    )),
+                    Err(_) => Err(LedgerFault::NoMemory),
+                }
+            }
+        }
+    }
+
+    /// Releases a scope where its counts are 0: what is below it leaves with it.
+    fn free(&mut self, s: ScopeId) -> Result<Outcome, LedgerFault>
+        requires { (T : Tree) × StandsFor self.old T × IsLast T s }
+        ensures { (T : Tree) → StandsFor self.old T → IsLast T s → FreeReply T s result self.new }
+    {
+        match self.outcome_of(s) {
+            Err(fault) => Err(fault),
+            Ok((outcome, orphans)) => {
+                remove(&mut self.scopes, s, orphans);
+                Ok(outcome)
+            }
+        }
+    }
+}
+
+impl FinishLedger for CountLedger {
+    ghost stands = { λ l T. StandsFor l T };
+
+    fn open_finish(&mut self, who: Caller) -> Result<ScopeId, LedgerFault> {
+        if let Some(blow) = blow_there(&self.dead, who.place) {
+            return Err(lost(blow));
+        }
+        let number = ScopeId(self.next_scope);
+        let kept = fresh(
+            self.alloc,
+            Kind::Finish,
+            place_of(who.place),
+            Some(who.inner),
+            number,
+        );
+        if let Err(fault) = push(&mut self.scopes, kept, self.alloc) {
+            return Err(fault);
+        }
+        self.next_scope += 1;
+        Ok(number)
+    }
+
+    fn open_at(&mut self, who: Caller, to: PlaceId) -> Result<Born, LedgerFault> {
+        if let Some(blow) = blow_there(&self.dead, who.place) {
+            return Err(lost(blow));
+        }
+        let scope = ScopeId(self.next_scope);
+        let child = TaskId(self.next_task);
+        let finish = finish_of(&self.scopes, who.inner);
+        let from = place_of(who.place);
+        let is_lost = !lives(&self.dead, to);
+        let mut kept = fresh(self.alloc, Kind::Call, from, Some(who.inner), finish);
+        kept.sums.bear(is_lost, slot_of(travel(from, to)), to);
+        if let Err(fault) = push(&mut self.scopes, kept, self.alloc) {
+            return Err(fault);
+        }
+        self.next_scope += 1;
+        self.next_task += 1;
+        Ok(Born {
+            child,
+            scope,
+            lost: is_lost,
+        })
+    }
+
+    fn spawn(&mut self, who: Caller, to: PlaceId) -> Result<Born, LedgerFault>
+        requires { (T : Tree) × StandsFor self.old T × MayAskTo T who to }
+        ensures replies { (T : Tree) → StandsFor self.old T → MayAskTo T who to → SpawnReply T who to result (StandsFor self.new) }
+        ensures takes_no_memory { result ≡ Err LedgerFault.NoMemory → ⊥ }
+    {
+        if let Some(blow) = blow_there(&self.dead, who.place) {
+            return Err(lost(blow));
+        }
+        let child = TaskId(self.next_task);
+        let scope = finish_of(&self.scopes, who.inner);
+        let from = place_of(who.place);
+        let is_lost = !lives(&self.dead, to);
+        let Some(keeper) = keeper_of(&self.scopes, &self.dead, scope) else {
+            return Ok(Born {
+                child,
+                scope,
+                lost: is_lost,
+            });
+        };
+        bear(
+            &mut self.scopes,
+            keeper,
+            is_lost,
+            slot_of(travel(from, to)),
+            to,
+        );
+        self.next_task += 1;
+        Ok(Born {
+            child,
+            scope,
+            lost: is_lost,
+        })
+    }
+
+    fn arrive(&mut self, who: Caller) -> Result<(), LedgerFault> {
+        if let Some(blow) = blow_there(&self.dead, who.place) {
+            return Err(lost(blow));
+        }
+        let Some(keeper) = keeper_of(&self.scopes, &self.dead, who.scope) else {
+            return Ok(());
+        };
+        leave(&mut self.scopes, keeper, slot_of(who.place));
+        join(
+            &mut self.scopes,
+            keeper,
+            slot_of(Where::At(landing_of(who.place))),
+        );
+        Ok(())
+    }
+
+    fn wait(&mut self, who: Caller, thrown: Faults) -> Result<(), (LedgerFault, Faults)> {
+        if let Some(blow) = blow_there(&self.dead, who.place) {
+            return Err((lost(blow), thrown));
+        }
+        note_body(&mut self.scopes, who.inner, thrown);
+        Ok(())
+    }
+
+    fn ready(&self, who: Caller) -> bool {
+        if blow_there(&self.dead, who.place).is_some() {
+            return false;
+        }
+        match look(&self.scopes, who.inner) {
+            Some(kept) => kept.sums.total == 0,
+            None => false,
+        }
+    }
+
+    fn release(&mut self, who: Caller) -> Result<Outcome, LedgerFault> {
+        if let Some(blow) = blow_there(&self.dead, who.place) {
+            return Err(lost(blow));
+        }
+        self.free(who.inner)
+    }
+
+    fn end(&mut self, who: Caller, thrown: Faults) -> Result<(), (LedgerFault, Faults)> {
+        if let Some(blow) = blow_there(&self.dead, who.place) {
+            return Err((lost(blow), thrown));
+        }
+        let Some(keeper) = keeper_of(&self.scopes, &self.dead, who.scope) else {
+            return Ok(());
+        };
+        let keeps = keeper == who.scope;
+        if let Err(back) = note_ends(&mut self.scopes, who.scope, keeps, thrown) {
+            return Err((LedgerFault::NoMemory, back));
+        }
+        leave(&mut self.scopes, keeper, slot_of(who.place));
+        Ok(())
+    }
+
+    fn print(&self, who: Caller) -> Result<(), LedgerFault> {
+        match blow_there(&self.dead, who.place) {
+            Some(blow) => Err(lost(blow)),
+            None => Ok(()),
+        }
+    }
+
+    fn release_root(&mut self) -> Result<Outcome, LedgerFault> {
+        self.free(ScopeId(0))
+    }
+
+    fn death(&mut self, place: PlaceId, at: u32) {
+        let _tasks = self.next_task;
+        let _scopes = self.next_scope;
+        strike_all(&mut self.scopes, place);
+        self.dead[place.0 as usize] = Some(at);
+        hand_over_all(&mut self.scopes, &self.dead, place, self.alloc);
+    }
+}
+
+/// A law: the ledger's relation to a tree says of each scope what the rules say of counts. It does nothing when it runs.
+pub fn counts_stand()
+    ensures { CountsStand }
+{}

@@ -1,0 +1,101 @@
+// Where a caller is, and what the deaths of places tell of it.
+ghost use Rattle.std.specs.Prelude.{◌≡◌, is_none, cond, ◌==◌};
+ghost use Rattle.rx_rules.specs.Entries.{place_number};
+ghost use Rattle.rx_sound.specs.Blows.{death_blow, earlier, blow_at};
+ghost use Rattle.rx_tree.specs.Calls.{landing};
+ghost use Rattle.rx_counts.specs.Stands.{slot};
+
+use rx_base::PlaceId;
+use rx_rules::{Blow, Where};
+use rx_tree::LedgerFault;
+
+/// The death of a place, as a blow.
+pub fn death_at(dead: &[Option<u32>], place: PlaceId) -> Option<Blow>
+    ensures { result ≡ death_blow dead.now place }
+{
+    match dead.get(place.0 as usize) {
+        Some(Some(entry)) => Some(Blow {
+            place,
+            entry: *entry,
+        }),
+        _ => None,
+    }
+}
+
+/// Whether a place lives.
+pub fn lives(dead: &[Option<u32>], place: PlaceId) -> bool
+    ensures { result ≡ is_none (death_blow dead.now place) }
+{
+    death_at(dead, place).is_none()
+}
+
+fn earlier_of(b: Option<Blow>, c: Option<Blow>) -> Option<Blow>
+    ensures { result ≡ earlier b c }
+{
+    match b {
+        None => c,
+        Some(first) => match c {
+            None => b,
+            Some(second) => if first.entry < second.entry { b } else { c },
+        },
+    }
+}
+
+/// The death that struck whoever is there.
+pub fn blow_there(dead: &[Option<u32>], place: Where) -> Option<Blow>
+    ensures { result ≡ blow_at dead.now place }
+{
+    match place {
+        Where::At(p) => death_at(dead, p),
+        Where::Travel { from, to } => earlier_of(death_at(dead, from), death_at(dead, to)),
+    }
+}
+
+/// The answer to a caller that the blow struck.
+pub fn lost(blow: Blow) -> LedgerFault
+    ensures { result ≡ LedgerFault.Lost blow.place blow.entry }
+{
+    LedgerFault::Lost {
+        place: blow.place,
+        at: blow.entry,
+    }
+}
+
+pub fn place_of(place: Where) -> PlaceId
+    ensures { result ≡ place_number place }
+{
+    match place {
+        Where::At(p) => p,
+        Where::Travel { from, to: _ } => from,
+    }
+}
+
+pub fn landing_of(place: Where) -> PlaceId
+    ensures { result ≡ landing place }
+{
+    match place {
+        Where::At(p) => p,
+        Where::Travel { from: _, to } => to,
+    }
+}
+
+/// Where a task is that is started at one place for another.
+pub fn travel(from: PlaceId, to: PlaceId) -> Where
+    ensures { result ≡ cond (from.0 == to.0) (Where.At to) (Where.Travel from to) }
+{
+    if from == to {
+        Where::At(to)
+    } else {
+        Where::Travel { from, to }
+    }
+}
+
+/// The cell of a place or of a pair of places.
+pub fn slot_of(place: Where) -> usize
+    ensures { result ≡ slot place }
+{
+    match place {
+        Where::At(p) => p.0 as usize,
+        Where::Travel { from, to } => 16 + 16 * (from.0 as usize) + (to.0 as usize),
+    }
+}

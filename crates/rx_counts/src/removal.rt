@@ -1,0 +1,97 @@
+// What a release takes out of the records.
+ghost use Rattle.std.specs.Prelude.{◌≡◌, ◌<◌, ◌+◌, ◌==◌, ◌||◌, ◌&&◌, ℕ, cond, length, None, Some, is_some};
+ghost use Rattle.rx_rules.specs.Tree.{Tree};
+ghost use Rattle.rx_tree.specs.Calls.{landing};
+ghost use Rattle.rx_sound.specs.Chains.{meets};
+ghost use Rattle.rx_counts.specs.Stands.{record_at, IsShaped};
+ghost use Rattle.rx_counts.specs.Freeing.{Hides, parent_gone, unslot};
+
+use crate::record::Record;
+use rx_base::{PlaceId, ScopeId};
+
+/// Whether a number is that of the scope, or its scope stands and the parent of that does not.
+fn is_below(scopes: &[Option<Box<Record>>], i: usize, s: ScopeId) -> bool
+    ensures { result ≡ ((i == s.0) || parent_gone scopes.now (record_at scopes.now i)) }
+{
+    if i == s.0 as usize {
+        return true;
+    }
+    match scopes.get(i) {
+        Some(Some(kept)) => match kept.parent {
+            Some(parent) => !stands(scopes, parent),
+            None => false,
+        },
+        _ => false,
+    }
+}
+
+fn stands(scopes: &[Option<Box<Record>>], s: ScopeId) -> bool
+    ensures { result ≡ is_some (record_at scopes.now s.0) }
+{
+    match scopes.get(s.0 as usize) {
+        Some(Some(_)) => true,
+        _ => false,
+    }
+}
+
+/// Removes the record of a number, where it goes.
+fn drop_if(scopes: &mut Vec<Option<Box<Record>>>, i: usize, goes: bool)
+    requires { i < length scopes.old.items }
+    ensures len { length scopes.new.items ≡ length scopes.old.items }
+    ensures goes { (n : ℕ) → record_at scopes.new.items n ≡ cond (goes && (n == i)) None (record_at scopes.old.items n) }
+{
+    if goes {
+        scopes[i] = None;
+    }
+}
+
+/// Removes the record of a scope and those of the scopes below it: a scope goes where its parent went.
+pub fn remove_below(scopes: &mut Vec<Option<Box<Record>>>, s: ScopeId)
+    requires { s.0 < length scopes.old.items }
+    ensures len { length scopes.new.items ≡ length scopes.old.items }
+    ensures below { (T : Tree) → IsShaped T scopes.old.items → (u : ScopeId) → record_at scopes.new.items u.0 ≡ cond (meets s T.scopes (Some u)) None (record_at scopes.old.items u.0) }
+{
+    for i in s.0 as usize..scopes.len() {
+        let goes = is_below(scopes, i, s);
+        drop_if(scopes, i, goes);
+    }
+}
+
+/// Where the tasks of a cell are or go.
+fn place_of_cell(cell: usize) -> PlaceId
+    requires { cell < 272 }
+    ensures { result ≡ landing (unslot cell) }
+{
+    if cell < 16 {
+        PlaceId(cell as u8)
+    } else {
+        PlaceId(((cell - 16) % 16) as u8)
+    }
+}
+
+/// The place of a count above 0.
+pub fn hindrance(counts: &[u32]) -> PlaceId
+    requires { length counts.now ≡ 272 }
+    ensures { Hides counts.now result }
+{
+    for cell in 0..counts.len() {
+        if counts[cell] > 0 {
+            return place_of_cell(cell);
+        }
+    }
+    PlaceId(0)
+}
+
+/// Removes the record of a scope and, where it has adopted any, those of the scopes below it.
+pub fn remove(scopes: &mut Vec<Option<Box<Record>>>, s: ScopeId, orphans: u32)
+    requires { s.0 < length scopes.old.items }
+    ensures len { length scopes.new.items ≡ length scopes.old.items }
+    ensures alone { orphans ≡ 0 → (u : ScopeId) → record_at scopes.new.items u.0 ≡ cond (u.0 == s.0) None (record_at scopes.old.items u.0) }
+    ensures below { (orphans ≡ 0 → ⊥) → (T : Tree) → IsShaped T scopes.old.items → (u : ScopeId) → record_at scopes.new.items u.0 ≡ cond (meets s T.scopes (Some u)) None (record_at scopes.old.items u.0) }
+{
+    if orphans == 0 {
+        drop_if(scopes, s.0 as usize, true);
+    } else {
+        remove_below(scopes, s);
+    }
+}

@@ -1,0 +1,193 @@
+// The records of the scopes that stand, by number.
+ghost use Rattle.std.specs.Prelude.{◌≡◌, ◌+◌, ◌<◌, ◌≤◌, ◌^◌, ◌++◌, ◌∷◌, [], length, None, Some, option_map, box_value, slice_index_or, MatchOption, IfSome, OnOk, IfErr, true, false};
+ghost use Rattle.rx_rules.specs.Tree.{Tree};
+ghost use Rattle.rx_counts.specs.Keeping.{keeper, stands_home};
+ghost use Rattle.rx_counts.specs.Stands.{record_at, more, less, in_sums, count_in, Changed, ChangedBy, Pairs, Loses, IsShaped, Pushed, with_body, ends_if};
+
+use crate::places::lives;
+use crate::record::Record;
+use rx_base::{Faults, PlaceId, ScopeId};
+use rx_tree::LedgerFault;
+use std::alloc::Global;
+
+/// The record of a number.
+pub fn look(scopes: &[Option<Box<Record>>], s: ScopeId) -> Option<&Record>
+    ensures { MatchOption result (record_at scopes.now s.0 ≡ None) (λ r. record_at scopes.now s.0 ≡ Some r.now) }
+{
+    match scopes.get(s.0 as usize) {
+        Some(Some(kept)) => Some(&**kept),
+        _ => None,
+    }
+}
+
+fn join_in(entry: &mut Option<Box<Record>>, cell: usize)
+    requires { (cell < 272) × IfSome (option_map box_value entry.old) (λ r. (count_in r.sums cell + 1 < 2 ^ 32) × (r.sums.total + 1 < 2 ^ 32)) }
+    ensures { option_map box_value entry.new ≡ option_map (in_sums (more cell)) (option_map box_value entry.old) }
+{
+    if let Some(kept) = entry {
+        kept.sums.join(cell);
+    }
+}
+
+fn leave_in(entry: &mut Option<Box<Record>>, cell: usize)
+    requires { (cell < 272) × IfSome (option_map box_value entry.old) (λ r. (1 ≤ count_in r.sums cell) × (1 ≤ r.sums.total)) }
+    ensures { option_map box_value entry.new ≡ option_map (in_sums (less cell)) (option_map box_value entry.old) }
+{
+    if let Some(kept) = entry {
+        kept.sums.leave(cell);
+    }
+}
+
+/// One task more in a cell of the record of a scope.
+pub fn join(scopes: &mut Vec<Option<Box<Record>>>, s: ScopeId, cell: usize)
+    requires { (s.0 < length scopes.old.items) × (cell < 272) × IfSome (record_at scopes.old.items s.0) (λ r. (count_in r.sums cell + 1 < 2 ^ 32) × (r.sums.total + 1 < 2 ^ 32)) }
+    ensures { Changed (in_sums (more cell)) s.0 scopes.old.items scopes.new.items }
+{
+    join_in(&mut scopes[s.0 as usize], cell);
+}
+
+/// One task less in a cell of the record of a scope.
+pub fn leave(scopes: &mut Vec<Option<Box<Record>>>, s: ScopeId, cell: usize)
+    requires { (s.0 < length scopes.old.items) × (cell < 272) × IfSome (record_at scopes.old.items s.0) (λ r. (1 ≤ count_in r.sums cell) × (1 ≤ r.sums.total)) }
+    ensures { Changed (in_sums (less cell)) s.0 scopes.old.items scopes.new.items }
+{
+    leave_in(&mut scopes[s.0 as usize], cell);
+}
+
+fn bear_in(entry: &mut Option<Box<Record>>, is_lost: bool, cell: usize, to: PlaceId)
+    requires { (to.0 < 16) × (cell < 272) × IfSome (option_map box_value entry.old) (λ r. (count_in r.sums cell + 1 < 2 ^ 32) × (r.sums.total + 1 < 2 ^ 32)) }
+    ensures lost { is_lost ≡ true → Pairs (Loses to) (option_map box_value entry.old) (option_map box_value entry.new) }
+    ensures joins { is_lost ≡ false → option_map box_value entry.new ≡ option_map (in_sums (more cell)) (option_map box_value entry.old) }
+{
+    if let Some(kept) = entry {
+        kept.sums.bear(is_lost, cell, to);
+    }
+}
+
+/// A task is born that counts in the record of a scope: for a dead place, or else into a cell.
+pub fn bear(
+    scopes: &mut Vec<Option<Box<Record>>>,
+    s: ScopeId,
+    is_lost: bool,
+    cell: usize,
+    to: PlaceId,
+)
+    requires { (s.0 < length scopes.old.items) × (to.0 < 16) × (cell < 272) × IfSome (record_at scopes.old.items s.0) (λ r. (count_in r.sums cell + 1 < 2 ^ 32) × (r.sums.total + 1 < 2 ^ 32)) }
+    ensures lost { is_lost ≡ true → ChangedBy (Loses to) s.0 scopes.old.items scopes.new.items }
+    ensures joins { is_lost ≡ false → Changed (in_sums (more cell)) s.0 scopes.old.items scopes.new.items }
+{
+    bear_in(&mut scopes[s.0 as usize], is_lost, cell, to);
+}
+
+fn note_body_in(entry: &mut Option<Box<Record>>, thrown: Faults)
+    ensures { option_map box_value entry.new ≡ option_map (with_body thrown) (option_map box_value entry.old) }
+{
+    if let Some(kept) = entry {
+        kept.body = thrown;
+    }
+}
+
+/// Notes the faults of the body of a scope.
+pub fn note_body(scopes: &mut Vec<Option<Box<Record>>>, s: ScopeId, thrown: Faults)
+    requires { s.0 < length scopes.old.items }
+    ensures { Changed (with_body thrown) s.0 scopes.old.items scopes.new.items }
+{
+    note_body_in(&mut scopes[s.0 as usize], thrown);
+}
+
+fn note_ends_in(entry: &mut Option<Box<Record>>, keeps: bool, thrown: Faults) -> Result<(), Faults>
+    ensures noted { OnOk result (option_map box_value entry.new ≡ option_map (ends_if keeps thrown) (option_map box_value entry.old)) }
+    ensures refused { IfErr result (λ back. (back ≡ thrown) × (option_map box_value entry.new ≡ option_map box_value entry.old)) }
+{
+    if !keeps {
+        return Ok(());
+    }
+    if let Some(kept) = entry {
+        return kept.ends.append(thrown);
+    }
+    Ok(())
+}
+
+/// Adds faults to those of the tasks that ended under a scope, where it keeps them, and else drops them.
+pub fn note_ends(
+    scopes: &mut Vec<Option<Box<Record>>>,
+    s: ScopeId,
+    keeps: bool,
+    thrown: Faults,
+) -> Result<(), Faults>
+    requires { s.0 < length scopes.old.items }
+    ensures noted { OnOk result (Changed (ends_if keeps thrown) s.0 scopes.old.items scopes.new.items) }
+    ensures refused { IfErr result (λ back. (back ≡ thrown) × Changed (λ r. r) s.0 scopes.old.items scopes.new.items) }
+{
+    note_ends_in(&mut scopes[s.0 as usize], keeps, thrown)
+}
+
+/// The first scope from s along parents with a living home.
+pub fn keeper_of(
+    scopes: &[Option<Box<Record>>],
+    dead: &[Option<u32>],
+    s: ScopeId,
+) -> Option<ScopeId>
+    ensures { (T : Tree) → IsShaped T scopes.now → option_map (λ k. k.0) result ≡ keeper (stands_home dead.now) T.scopes (Some s) }
+{
+    let mut at = s;
+    'walk: loop {
+        match look(scopes, at) {
+            None => return None,
+            Some(kept) => {
+                if lives(dead, kept.home) {
+                    return Some(at);
+                }
+                match kept.parent {
+                    None => return None,
+                    Some(parent) => {
+                        if parent.0 >= at.0 {
+                            return None;
+                        }
+                        at = parent;
+                    }
+                }
+            }
+        }
+    }
+}
+
+/// The nearest finish from a scope along parents.
+pub fn finish_of(scopes: &[Option<Box<Record>>], s: ScopeId) -> ScopeId
+    ensures { IfSome (record_at scopes.now s.0) (λ r. result ≡ r.finish) }
+{
+    match look(scopes, s) {
+        Some(kept) => kept.finish,
+        None => ScopeId(0),
+    }
+}
+
+/// Adds a record.
+pub fn push(
+    scopes: &mut Vec<Option<Box<Record>>>,
+    kept: Record,
+    alloc: Global,
+) -> Result<(), LedgerFault>
+    ensures pushed { OnOk result (Pushed kept scopes.old.items scopes.new.items) }
+    ensures refused { IfErr result (λ f. (f ≡ LedgerFault.NoMemory) × (scopes.new.items ≡ scopes.old.items)) }
+{
+    let boxed = match Box::new(alloc, kept) {
+        Ok(boxed) => boxed,
+        Err(_) => return Err(LedgerFault::NoMemory),
+    };
+    match scopes.push(Some(boxed)) {
+        Ok(_) => Ok(()),
+        Err(_) => Err(LedgerFault::NoMemory),
+    }
+}
+
+/// What is in a cell of the record of a scope.
+pub fn count_at(scopes: &[Option<Box<Record>>], s: ScopeId, cell: usize) -> u32
+    requires { cell < 272 }
+    ensures { IfSome (record_at scopes.now s.0) (λ r. result ≡ count_in r.sums cell) }
+{
+    match look(scopes, s) {
+        Some(kept) => kept.sums.counts[cell],
+        None => 0,
+    }
+}

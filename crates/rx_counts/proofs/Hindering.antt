@@ -83,6 +83,7 @@ hindered l T s r p st i e pos hides =
     let c : count_in r.sums (slot w) ≡ count_of keeps T.scopes T.tasks s.0 w = sums.counts w (unslot_in hid.0 hid.1) in
     let up : 0 < count_in r.sums hid.0 = hid.2 in
     let at : count_in r.sums (slot w) ≡ count_in r.sums hid.0 = ap (count_in r.sums) {x = slot w} {y = hid.0} (slot_of_unslot hid.0) in
+    let there : (x : Task) → ((landing x.place).0 == p.0) ≡ ((landing x.place).0 == (landing w).0) = λ x. ap (λ (q : PlaceId). (landing x.place).0 == q.0) {x = p} {y = landing w} hid.3 in
     let any : list_any (λ x. (is_none x.struck && same_where w x.place) && kept_at keeps T.scopes s.0 x) T.tasks ≡ true = any_counted (λ x. (is_none x.struck && same_where w x.place) && kept_at keeps T.scopes s.0 x) T.tasks ∙ lt-ltb 0 (count_of keeps T.scopes T.tasks s.0 w) (omega arith) in
     record {
       busy = sym (total_quiet l T s r st i e) ∙ nonzero r.sums.total pos;
@@ -93,7 +94,7 @@ hindered l T s r p st i e pos hides =
           let two = and_parts (is_none x.struck) (same_where w x.place) one_.0 in
           and_from (is_under T s x && is_none x.struck) ((landing x.place).0 == p.0)
           (and_from (is_under T s x) (is_none x.struck) (on_meets s T.scopes (Some x.under) ∙ keeper_meets keeps s T.scopes (Some x.under) one_.1) two.0)
-          (ap (λ (q : PlaceId). (landing x.place).0 == q.0) {x = p} {y = landing w} hid.3 ∙ land_alike w x.place two.1)) any;
+          (there x ∙ land_alike w x.place two.1)) any;
     }
   where
     nonzero : (n : ℕ) → 0 < n → n == 0 ≡ false

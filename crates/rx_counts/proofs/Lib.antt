@@ -28,3 +28,4 @@ pub mod Deaths
 pub mod Beginning
 pub mod Counts
 pub mod Adopting
+pub mod Nested

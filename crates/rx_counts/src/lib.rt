@@ -13,5 +13,7 @@ mod places;
 mod record;
 mod removal;
 mod table;
+#[cfg(test)]
+mod tests;
 
 pub use ledger::{CountLedger, counts_stand};

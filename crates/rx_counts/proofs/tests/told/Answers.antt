@@ -1,0 +1,1 @@
+use Rattle.rx_counts.proofs.tests.told.Goals as goal

@@ -3,6 +3,7 @@
 //! they have made room for. `write_trace` appends `trace_text` of these, and a refusal leaves what was there.
 #![tactic(auto)]
 
+mod asks;
 mod entry_lines;
 mod event_lines;
 mod fields;
@@ -15,6 +16,7 @@ mod setup;
 mod tests;
 mod text;
 
+pub use asks::Ask;
 pub use history::History;
 pub use journal::{Journal, Journals};
 pub use rx_rules::{Act, Cell, Entry, PlaceEvent};

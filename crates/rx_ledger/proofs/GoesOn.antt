@@ -1,0 +1,317 @@
+-- The ticket of a reply serves the next request.
+use Rattle.std.specs.Prelude.{◌≡◌, ◌≢◌, ℕ, ◌<◌, ◌==◌, Bool, true, false, cond, not, ◌&&◌, filter, is_some, List, [], ◌∷◌, ◌++◌, Option, Some, None, refl}
+use Rattle.std.specs.List.{find}
+use Rattle.std.proofs.Common.{ap, ◌∙◌, sym, subst, arith, inl, inr}
+use Rattle.std.proofs.lemmas.Bool.{eq-eqb, eqb-true, ne_eqb}
+use Rattle.rx_rules.specs.declared.tasks.Where.{Where}
+use Rattle.rx_rules.specs.declared.tasks.Where.TheVariants.{At, Travel}
+use Rattle.rx_rules.specs.Reached.{Reached}
+use Rattle.rx_sound.specs.Chains.{Opened as OpenedAll, HasOpener}
+use Rattle.rx_sound.proofs.Waiting.{waiter_owns}
+use Rattle.rx_tree.specs.Calls.{landing}
+use Rattle.rx_base.specs.declared.ids.PlaceId.{PlaceId}
+use Rattle.rx_base.specs.declared.ids.TaskId.{TaskId}
+use Rattle.rx_base.specs.declared.ids.ScopeId.{ScopeId}
+use Rattle.rx_rules.specs.declared.entries.Act.{Act}
+use Rattle.rx_rules.specs.declared.entries.Act.TheVariants.{Open, At as Calls, Spawn, Arrive, Wait, Release, End, Print}
+use Rattle.rx_rules.specs.declared.entries.Entry.{Entry}
+use Rattle.rx_rules.specs.declared.entries.Entry.TheVariants.{Step}
+use Rattle.rx_rules.specs.declared.tasks.Kind.TheVariants.{Finish, Call}
+use Rattle.rx_rules.specs.declared.tasks.Task.{Task}
+use Rattle.rx_rules.specs.declared.tasks.Scope.{Scope}
+use Rattle.rx_rules.specs.Tree.{Tree, task_of, is_task, is_scope, inner, own_scope, opened_by, is_under}
+use Rattle.rx_rules.specs.Entries.{AllowedAct, made_act, born, home_for, change_first, waiting, resumed, without, place_number}
+use Rattle.rx_rules.specs.Fold.{tree_of}
+use Rattle.rx_rules.specs.Run.{Given, Folds}
+use Rattle.rx_sound.specs.Sound.{Sound}
+use Rattle.rx_sound.proofs.Reached.{sound}
+use Rattle.rx_sound.proofs.Reach.{task_below}
+use Rattle.rx_sound.proofs.Lookups.{number_of}
+use Rattle.rx_sound.proofs.Histories.{fold_reached}
+use Rattle.rx_runs.proofs.Append.{tree-push}
+use Rattle.rx_tree.specs.declared.ledger.Caller.{Caller}
+use Rattle.rx_base.specs.declared.values.Fault.{Fault}
+use Rattle.rx_tree.specs.Callers.{Says, Stands, MayAsk, MayAskMoving, MayAskTo, MayAskWait, MayAskRelease, MayAskArrive, HasFinish, WaitsInside, IsMoving, Travels, HasNumbers}
+use Rattle.rx_base.specs.declared.place_set.PlaceSet.{PlaceSet}
+use Rattle.rx_rules.specs.declared.tasks.Blow.{Blow}
+use Rattle.rx_ledger.proofs.Uncovers.{uncovers}
+use Rattle.rx_ticket.specs.declared.tickets.AnyTicket.{AnyTicket}
+use Rattle.rx_ticket.specs.declared.tickets.AnyTicket.TheVariants.{Running}
+use Rattle.rx_trace.specs.declared.asks.Ask.TheVariants.{Open as AskOpen, Spawn as AskSpawn, Print as AskPrint}
+use Rattle.rx_ledger.specs.declared.asks.Request.{Request}
+use Rattle.rx_ledger.specs.declared.asks.Reply.TheVariants.{Opened, Called, Spawned, Landed, Waits, Released, Ended, Printed, RootDone, NotYet, Lost, NoMemory}
+use Rattle.rx_ledger.specs.Asking.{MayApply}
+use Rattle.rx_ledger.specs.Answering.{Appends, parent_told}
+use Rattle.rx_ledger.specs.GoingOn.{TicketsGoOn}
+
+-- a caller that acts stands as it says
+pub record So (T : Tree) (who : Caller) (x : Task) : Type 0 where
+  pub says : Says who x
+  pub inner_is : inner T x ≡ who.inner
+
+pub so_says : (T : Tree) (who : Caller) (P : Task → Type 0) (x : Task) → MayAsk T who P → task_of T who.task ≡ Some x → So T who x
+so_says T who P x h found =
+    elim h.caller [
+      | inl s ↦ (let same : Some s.task ≡ Some x = sym s.stands ∙ found in let it : s.task ≡ x = cc in subst (λ (y : Task). So T who y) it (record { says = s.says; inner_is = s.inner_is }))
+      | inr s ↦ absurd (let none : None ≡ Some x = sym s.none ∙ found in let v : ⊥ = cc in v)
+    ]
+
+id_is : (a b : TaskId) → a.0 ≡ b.0 → a ≡ b
+id_is a b e = ap (λ (k : ℕ). (let t : TaskId = record { 0 = k } in t)) e
+
+-- who was changed is found changed
+found_changed : (f : Task → Task) (t : TaskId) (xs : List Task) (x : Task) → ((y : Task) → (f y).number ≡ y.number) → find (is_task t) xs ≡ Some x → find (is_task t) (change_first (is_task t) f xs) ≡ Some (f x)
+found_changed f t [] x keeps e = absurd (let v : ⊥ = cc in v)
+found_changed f t (y ∷ ys) x keeps e =
+    (elim (is_task t y) as (λ b. is_task t y ≡ b → cond b (Some y) (find (is_task t) ys) ≡ Some x → find (is_task t) (cond b (f y ∷ ys) (y ∷ change_first (is_task t) f ys)) ≡ Some (f x)) [
+      | true ↦ λ w k.
+          let same : y ≡ x = cc in
+          let it : is_task t (f y) ≡ true = ap (λ (n : TaskId). n.0 == t.0) (keeps y) ∙ w in
+          ap (λ (b : Bool). cond b (Some (f y)) (find (is_task t) ys)) it ∙ ap (λ (z : Task). Some (f z)) same
+      | false ↦ λ w k. ap (λ (b : Bool). cond b (Some y) (find (is_task t) (change_first (is_task t) f ys))) w ∙ found_changed f t ys x keeps k
+    ]) refl e
+
+record Faulted (p : Scope → Bool) (gs : List Scope) (g : Scope) : Type 0 where
+  scope : Scope
+  found : find p gs ≡ Some scope
+  number : scope.number ≡ g.number
+
+-- a scope is found with other faults
+found_faulted : (p q : Scope → Bool) (f : Scope → Scope) (gs : List Scope) (g : Scope) → ((k : Scope) → p (f k) ≡ p k) → ((k : Scope) → (f k).number ≡ k.number) → find p gs ≡ Some g → Faulted p (change_first q f gs) g
+found_faulted p q f [] g same keeps e = absurd (let v : ⊥ = cc in v)
+found_faulted p q f (k ∷ ks) g same keeps e =
+    (elim (p k) as (λ b. p k ≡ b → cond b (Some k) (find p ks) ≡ Some g → Faulted p (change_first q f (k ∷ ks)) g) [
+      | true ↦ λ w j.
+          let it : k ≡ g = cc in
+          elim (q k) as (λ c. Faulted p (cond c (f k ∷ ks) (k ∷ change_first q f ks)) g) [
+            | true ↦ record { scope = f k; found = ap (λ (b : Bool). cond b (Some (f k)) (find p ks)) (same k ∙ w); number = keeps k ∙ ap (λ (z : Scope). z.number) it }
+            | false ↦ record { scope = k; found = ap (λ (b : Bool). cond b (Some k) (find p (change_first q f ks))) w; number = ap (λ (z : Scope). z.number) it }
+          ]
+      | false ↦ λ w j.
+          let rest = found_faulted p q f ks g same keeps j in
+          elim (q k) as (λ c. Faulted p (cond c (f k ∷ ks) (k ∷ change_first q f ks)) g) [
+            | true ↦ record { scope = g; found = ap (λ (b : Bool). cond b (Some (f k)) (find p ks)) (same k ∙ w) ∙ j; number = refl }
+            | false ↦ record { scope = rest.scope; found = ap (λ (b : Bool). cond b (Some k) (find p (change_first q f ks))) w ∙ rest.found; number = rest.number }
+          ]
+    ]) refl e
+
+-- the opener of a scope is at the scope's home
+own_here : (ts : List Task) (g : Scope) (gs : List Scope) (t : TaskId) (x : Task) (o : Option TaskId) → g.opener ≡ o → opened_by t g ≡ true → find (is_task t) ts ≡ Some x → HasOpener ts g gs o → x.place ≡ At g.home
+own_here ts g gs t x None e mine found k = absurd (let v : false ≡ true = sym (rw (e, opened_by) refl) ∙ mine in let w : ⊥ = cc in w)
+own_here ts g gs t x (Some o) e mine found k =
+    let it : (o.0 == t.0) ≡ true = sym (rw (e, opened_by) refl) ∙ mine in
+    let ot : o ≡ t = id_is o t (eqb-true o.0 t.0 it) in
+    let same : Some k.task ≡ Some x = sym k.stands ∙ (ap (λ (v : TaskId). find (is_task v) ts) ot ∙ found) in
+    let kx : k.task ≡ x = cc in
+    sym (ap (λ (z : Task). z.place) kx) ∙ k.at_home
+
+own_at : (ts : List Task) (gs : List Scope) (t : TaskId) (x : Task) (g : Scope) → OpenedAll ts gs → find (is_task t) ts ≡ Some x → find (opened_by t) gs ≡ Some g → x.place ≡ At g.home
+own_at ts [] t x g o found e = absurd (let v : ⊥ = cc in v)
+own_at ts (k ∷ gs) t x g o found e =
+    (elim (opened_by t k) as (λ b. opened_by t k ≡ b → cond b (Some k) (find (opened_by t) gs) ≡ Some g → x.place ≡ At g.home) [
+      | true ↦ λ mine j. (let same : k ≡ g = cc in ap (λ (p : Where). p) (own_here ts k gs t x k.opener refl mine found o.0) ∙ ap (λ (z : Scope). At z.home) same)
+      | false ↦ λ other j. own_at ts gs t x g o.1 found j
+    ]) refl e
+
+-- who travels does not wait
+traveller_moves : (T : Tree) (t : TaskId) (x : Task) (from to : PlaceId) → Reached T → task_of T t ≡ Some x → x.struck ≡ None → x.place ≡ Travel from to → x.waits ≡ false
+traveller_moves T t x from to r found free travels =
+    (elim x.waits as (λ b. x.waits ≡ b → b ≡ false) [
+      | true ↦ λ e.
+          let own = waiter_owns T t x r found free e in
+          let place : x.place ≡ At own.0.home = own_at T.tasks T.scopes t x own.0 (sound r).opened found own.1 in
+          let both : Travel from to ≡ At own.0.home = sym travels ∙ place in
+          absurd (let v : ⊥ = cc in v)
+      | false ↦ λ e. refl
+    ]) refl
+
+-- it arrived
+landed_on : (T : Tree) (who : Caller) → Reached T → MayAskArrive T who → AllowedAct T who.task (Arrive (landing who.place)) → HasNumbers (made_act T who.task (Arrive (landing who.place))) → MayAskMoving (made_act T who.task (Arrive (landing who.place))) (record who { place = At (landing who.place) })
+landed_on T who r may act few =
+    let x = act.task in
+    let so = so_says T who Travels x may act.acts.stands in
+    record {
+      caller = inl (record {
+        task = record x { place = At (landing who.place) };
+        stands = found_changed (λ y. record y { place = At (landing who.place) }) who.task T.tasks x (λ y. refl) act.acts.stands;
+        says = record { under = so.says.under; place = refl };
+        inner_is = so.inner_is;
+        allowed = record { place = landing who.place; is_at = refl; moves = traveller_moves T who.task x act.from (landing who.place) r act.acts.stands act.acts.unstruck act.travels };
+      });
+      numbers = few;
+    }
+
+-- who is kept is found among those that are kept
+found_kept : (p q : Task → Bool) (xs : List Task) (z : Task) → q z ≡ true → find p xs ≡ Some z → find p (filter q xs) ≡ Some z
+found_kept p q [] z keep e = absurd (let v : ⊥ = cc in v)
+found_kept p q (x ∷ xs) z keep e =
+    (elim (p x) as (λ b. p x ≡ b → cond b (Some x) (find p xs) ≡ Some z → find p (cond (q x) (x ∷ filter q xs) (filter q xs)) ≡ Some z) [
+      | true ↦ λ w k.
+          let same : x ≡ z = cc in
+          let kept : q x ≡ true = ap q same ∙ keep in
+          ap (λ (c : Bool). find p (cond c (x ∷ filter q xs) (filter q xs))) kept ∙ (ap (λ (c : Bool). cond c (Some x) (find p (filter q xs))) w ∙ ap (λ (y : Task). Some y) same)
+      | false ↦ λ w k.
+          elim (q x) as (λ c. find p (cond c (x ∷ filter q xs) (filter q xs)) ≡ Some z) [
+            | true ↦ ap (λ (c : Bool). cond c (Some x) (find p (filter q xs))) w ∙ found_kept p q xs z keep k
+            | false ↦ found_kept p q xs z keep k
+          ]
+    ]) refl e
+
+free_stays : (b : Bool) (o : Option Blow) → o ≡ None → not (b && is_some o) ≡ true
+free_stays true o e = ap (λ (v : Option Blow). not (true && is_some v)) e
+free_stays false o e = refl
+
+-- it released its scope
+released_on : (U : Given) (es : List Entry) (who : Caller) (lost : PlaceSet) (thrown : List Fault) → Folds U es → MayAskRelease (tree_of U.places es) who → AllowedAct (tree_of U.places es) who.task (Release who.inner lost thrown) → HasNumbers (made_act (tree_of U.places es) who.task (Release who.inner lost thrown)) → MayAskMoving (made_act (tree_of U.places es) who.task (Release who.inner lost thrown)) (record who { inner = parent_told es who.inner })
+released_on U es who lost thrown folds may act few =
+    let T : Tree = tree_of U.places es in
+    let m = act.0 in
+    let z = m.task in
+    let h = sound (fold_reached U.places es folds.some folds.few folds.allowed) in
+    let so = so_says T who (WaitsInside T who) z may m.acts.stands in
+    let left : find (is_task who.task) (without T who.inner).tasks ≡ Some z = found_kept (is_task who.task) (λ x. not (is_under T who.inner x && is_some x.struck)) T.tasks z (free_stays (is_under T who.inner z) z.struck m.acts.unstruck) m.acts.stands in
+    let found = found_changed resumed who.task (without T who.inner).tasks z (λ y. refl) left in
+    record {
+      caller = inl (record {
+        task = resumed z;
+        stands = found;
+        says = record { under = so.says.under; place = so.says.place };
+        inner_is = uncovers U es who.task who.inner lost thrown (resumed z) folds act found;
+        allowed = record { place = m.scope.home; is_at = own_at T.tasks T.scopes who.task z m.scope h.opened m.acts.stands m.own; moves = refl };
+      });
+      numbers = few;
+    }
+
+module _ (T : Tree) (h : Sound T) where
+  -- it opened a finish
+  pub opened_on : (who : Caller) (s : ScopeId) (path : List ℕ) → MayAskMoving T who → AllowedAct T who.task (Open s who.inner path) → HasNumbers (made_act T who.task (Open s who.inner path)) → MayAskMoving (made_act T who.task (Open s who.inner path)) (record who { inner = s })
+  opened_on who s path may act few =
+      let x = act.task in
+      let so = so_says T who IsMoving x may act.live.acts.stands in
+      let own : (who.task.0 == x.number.0) ≡ true = eq-eqb who.task.0 x.number.0 (sym (number_of T who.task x act.live.acts.stands)) in
+      record {
+        caller = inl (record {
+          task = x;
+          stands = act.live.acts.stands;
+          says = record { under = so.says.under; place = so.says.place };
+          inner_is = rw (own, inner, own_scope) refl;
+          allowed = record { place = act.place; is_at = act.live.is_at; moves = act.live.moves };
+        });
+        numbers = few;
+      }
+
+  -- it started a task
+  pub started_on : (who : Caller) (child : TaskId) (s : ScopeId) (from to : PlaceId) (path : List ℕ) → MayAsk T who IsMoving → AllowedAct T who.task (Spawn child s from to path) → HasNumbers (made_act T who.task (Spawn child s from to path)) → MayAskMoving (made_act T who.task (Spawn child s from to path)) who
+  started_on who child s from to path may act few =
+      let x = act.task in
+      let so = so_says T who IsMoving x may act.live.acts.stands in
+      let low : who.task.0 < T.next_task = task_below T.next_task T.tasks who.task x h.tasks_fall act.live.acts.stands in
+      let next : child.0 ≡ T.next_task = act.next_task in
+      let other : (child.0 == who.task.0) ≡ false = ne_eqb child.0 who.task.0 (λ e. absurd (omega (arith, low, next, e))) in
+      record {
+        caller = inl (record {
+          task = x;
+          stands = rw other act.live.acts.stands;
+          says = so.says;
+          inner_is = so.inner_is;
+          allowed = record { place = from; is_at = act.live.is_at; moves = act.live.moves };
+        });
+        numbers = few;
+      }
+
+  -- it waits at its finish
+  pub waits_on : (who : Caller) (thrown : List Fault) → MayAskWait T who → AllowedAct T who.task (Wait who.inner thrown) → HasNumbers (made_act T who.task (Wait who.inner thrown)) → MayAskRelease (made_act T who.task (Wait who.inner thrown)) who
+  waits_on who thrown may act few =
+      let x = act.task in
+      let so = so_says T who (HasFinish T who) x may act.live.acts.stands in
+      let own = found_faulted (opened_by who.task) (is_scope who.inner) (λ g. record g { body = thrown }) T.scopes act.scope (λ g. refl) (λ g. refl) act.own in
+      let number : x.number ≡ who.task = id_is x.number who.task (number_of T who.task x act.live.acts.stands) in
+      let found : find (opened_by x.number) (change_first (is_scope who.inner) (λ g. record g { body = thrown }) T.scopes) ≡ Some own.scope = subst (λ (t : TaskId). find (opened_by t) (change_first (is_scope who.inner) (λ g. record g { body = thrown }) T.scopes) ≡ Some own.scope) (sym number) own.found in
+      record {
+        caller = inl (record {
+          task = waiting x;
+          stands = found_changed waiting who.task T.tasks x (λ y. refl) act.live.acts.stands;
+          says = record { under = so.says.under; place = so.says.place };
+          inner_is = rw (found, inner, own_scope) (own.number ∙ act.is_it);
+          allowed = record { waits = refl; scope = own.scope; own = own.found };
+        });
+        numbers = few;
+      }
+
+  -- it opened an at
+  pub called_on : (who : Caller) (s : ScopeId) (child : TaskId) (from to : PlaceId) (path : List ℕ) → MayAsk T who IsMoving → AllowedAct T who.task (Calls s who.inner child from to path) → HasNumbers (made_act T who.task (Calls s who.inner child from to path)) → MayAskRelease (made_act T who.task (Calls s who.inner child from to path)) (record who { inner = s })
+  called_on who s child from to path may act few =
+      let x = act.task in
+      let so = so_says T who IsMoving x may act.live.acts.stands in
+      let low : who.task.0 < T.next_task = task_below T.next_task T.tasks who.task x h.tasks_fall act.live.acts.stands in
+      let next : child.0 ≡ T.next_task = act.next_task in
+      let other : (child.0 == who.task.0) ≡ false = ne_eqb child.0 who.task.0 (λ e. absurd (omega (arith, low, next, e))) in
+      let there : find (is_task who.task) (born T child s from to ∷ T.tasks) ≡ Some x = rw other act.live.acts.stands in
+      let own : (who.task.0 == x.number.0) ≡ true = eq-eqb who.task.0 x.number.0 (sym (number_of T who.task x act.live.acts.stands)) in
+      let mine : (who.task.0 == who.task.0) ≡ true = eq-eqb who.task.0 who.task.0 refl in
+      let g : Scope = record { number = s; kind = Call; opener = Some who.task; home = home_for T who.task; parent = Some who.inner; body = []; ends = [] } in
+      record {
+        caller = inl (record {
+          task = waiting x;
+          stands = found_changed waiting who.task (born T child s from to ∷ T.tasks) x (λ y. refl) there;
+          says = record { under = so.says.under; place = so.says.place };
+          inner_is = rw (own, inner, own_scope) refl;
+          allowed = record { waits = refl; scope = g; own = rw mine refl };
+        });
+        numbers = few;
+      }
+
+-- the tree of the longer history
+pub grown : (U : Given) (es es' : List Entry) (who : Caller) (act : Act) (batch : List (List ℕ)) → Appends (tree_of U.places es) es who act batch es' → tree_of U.places es' ≡ made_act (tree_of U.places es) who.task act
+grown U es es' who act batch a = ap (tree_of U.places) a.added ∙ tree-push U.places es (Step who.task act batch)
+
+pub tickets_go_on : TicketsGoOn
+tickets_go_on U es es' q (Opened ticket scope) folds may h few =
+    let T = tree_of U.places es in
+    let so = sound (fold_reached U.places es folds.some folds.few folds.allowed) in
+    let asks = (subst (λ (z : Request). MayApply T z) h.asked may).0 in
+    let same = grown U es es' h.who (Open scope h.who.inner h.path) q.batch h.entry in
+    let on = opened_on T so h.who scope h.path asks h.entry.allowed (subst HasNumbers same few) in
+    subst (λ (w : Caller). MayAskMoving (tree_of U.places es') w) (sym h.ticket_is) (subst (λ (V : Tree). MayAskMoving V (record h.who { inner = scope })) (sym same) on)
+tickets_go_on U es es' q (Called ticket callee) folds may h few =
+    let T = tree_of U.places es in
+    let so = sound (fold_reached U.places es folds.some folds.few folds.allowed) in
+    let asks = (subst (λ (z : Request). MayApply T z) h.asked may).0 in
+    let same = grown U es es' h.who (Calls h.scope h.who.inner h.child (place_number h.who.place) h.to h.path) q.batch h.entry in
+    let on = called_on T so h.who h.scope h.child (place_number h.who.place) h.to h.path asks.asks h.entry.allowed (subst HasNumbers same few) in
+    subst (λ (w : Caller). MayAskRelease (tree_of U.places es') w) (sym h.ticket_is) (subst (λ (V : Tree). MayAskRelease V (record h.who { inner = h.scope })) (sym same) on)
+tickets_go_on U es es' q (Spawned ticket child) folds may h few =
+    let T = tree_of U.places es in
+    let so = sound (fold_reached U.places es folds.some folds.few folds.allowed) in
+    let asks = (subst (λ (z : Request). MayApply T z) h.asked may).0 in
+    let same = grown U es es' h.who (Spawn h.child h.scope (place_number h.who.place) h.to h.path) q.batch h.entry in
+    let on = started_on T so h.who h.child h.scope (place_number h.who.place) h.to h.path asks.asks h.entry.allowed (subst HasNumbers same few) in
+    subst (λ (w : Caller). MayAskMoving (tree_of U.places es') w) (sym h.ticket_is) (subst (λ (V : Tree). MayAskMoving V h.who) (sym same) on)
+tickets_go_on U es es' q (Landed ticket) folds may h few =
+    let T = tree_of U.places es in
+    let asks = (subst (λ (z : Request). MayApply T z) h.asked may).0 in
+    let same = grown U es es' h.who (Arrive (landing h.who.place)) q.batch h.entry in
+    let on = landed_on T h.who (fold_reached U.places es folds.some folds.few folds.allowed) asks h.entry.allowed (subst HasNumbers same few) in
+    subst (λ (w : Caller). MayAskMoving (tree_of U.places es') w) (sym h.ticket_is) (subst (λ (V : Tree). MayAskMoving V (record h.who { place = At (landing h.who.place) })) (sym same) on)
+tickets_go_on U es es' q (Waits ticket) folds may h few =
+    let T = tree_of U.places es in
+    let so = sound (fold_reached U.places es folds.some folds.few folds.allowed) in
+    let asks = (subst (λ (z : Request). MayApply T z) h.asked may).0 in
+    let same = grown U es es' h.who (Wait h.who.inner h.thrown) q.batch h.entry in
+    let on = waits_on T so h.who h.thrown asks h.entry.allowed (subst HasNumbers same few) in
+    subst (λ (w : Caller). MayAskRelease (tree_of U.places es') w) (sym h.ticket_is) (subst (λ (V : Tree). MayAskRelease V h.who) (sym same) on)
+tickets_go_on U es es' q (Released ticket outcome) folds may h few =
+    let asks = (subst (λ (z : Request). MayApply (tree_of U.places es) z) h.asked may).0 in
+    let same = grown U es es' h.who (Release h.who.inner outcome.lost outcome.thrown) q.batch h.entry in
+    let on = released_on U es h.who outcome.lost outcome.thrown folds asks h.entry.allowed (subst HasNumbers same few) in
+    subst (λ (w : Caller). MayAskMoving (tree_of U.places es') w) (sym h.ticket_is) (subst (λ (V : Tree). MayAskMoving V (record h.who { inner = parent_told es h.who.inner })) (sym same) on)
+tickets_go_on U es es' q Ended folds may h few = tt
+tickets_go_on U es es' q (Printed ticket) folds may h few =
+    let T = tree_of U.places es in
+    let asks = (subst (λ (z : Request). MayApply T z) h.asked may).0 in
+    let same = grown U es es' h.who (Print h.value h.path) q.batch h.entry in
+    subst (λ (w : Caller). MayAskMoving (tree_of U.places es') w) (sym h.ticket_is) (subst (λ (V : Tree). MayAskMoving V h.who) (sym same) asks)
+tickets_go_on U es es' q RootDone folds may h few = tt
+tickets_go_on U es es' q (NotYet place request) folds may h few = tt
+tickets_go_on U es es' q (Lost place at) folds may h few = tt
+tickets_go_on U es es' q (NoMemory request) folds may h few = tt

@@ -1,0 +1,133 @@
+-- What may be asked of a tree may be asked of it after a death.
+use Rattle.std.specs.Prelude.{◌≡◌, ℕ, suc, ◌&&◌, ◌==◌, Bool, true, false, cond, is_none, List, [], ◌∷◌, map, Option, Some, None, option_map, refl}
+use Rattle.std.specs.List.{find}
+use Rattle.std.proofs.Common.{ap, ◌∙◌, inl, inr}
+use Rattle.rx_base.specs.declared.ids.PlaceId.{PlaceId}
+use Rattle.rx_base.specs.declared.ids.TaskId.{TaskId}
+use Rattle.rx_base.specs.declared.ids.ScopeId.{ScopeId}
+use Rattle.rx_rules.specs.declared.tasks.Task.{Task}
+use Rattle.rx_rules.specs.declared.tasks.Blow.{Blow}
+use Rattle.rx_rules.specs.Tree.{Tree, is_task, inner, own_scope}
+use Rattle.rx_rules.specs.Entries.{strike, hit, is_hit}
+use Rattle.rx_rules.specs.Fold.{fold_from}
+use Rattle.rx_tree.specs.declared.ledger.Caller.{Caller}
+use Rattle.rx_tree.specs.Callers.{MayAsk, MayAskTo, IsMoving, Travels, HasFinish, WaitsInside, IsBare, does_travel}
+use Rattle.rx_ticket.specs.declared.tickets.AnyTicket.{AnyTicket}
+use Rattle.rx_ticket.specs.declared.tickets.AnyTicket.TheVariants.{Moving, Running, Held, Host}
+use Rattle.rx_trace.specs.declared.asks.Ask.{Ask}
+use Rattle.rx_trace.specs.declared.asks.Ask.TheVariants.{Open, At as Calls, Spawn, Arrive, Wait, Release, End, Print, Root}
+use Rattle.rx_ledger.specs.Asking.{MayAskFor, IsMoving as Moves, IsRunning, IsHeld}
+use Rattle.rx_ledger.specs.Told.{deaths}
+
+-- A blow changes nothing of a task but whether it is struck.
+
+hit_number : (b : Blow) (x : Task) → (hit b x).number ≡ x.number
+hit_number b x = if_hit (is_none x.struck && is_hit b.place x.place)
+  where
+    if_hit : (c : Bool) → (cond c (record x { struck = Some b }) x).number ≡ x.number
+    if_hit true = refl
+    if_hit false = refl
+
+pub hit_under : (b : Blow) (x : Task) → (hit b x).under ≡ x.under
+hit_under b x = if_hit (is_none x.struck && is_hit b.place x.place)
+  where
+    if_hit : (c : Bool) → (cond c (record x { struck = Some b }) x).under ≡ x.under
+    if_hit true = refl
+    if_hit false = refl
+
+hit_place : (b : Blow) (x : Task) → (hit b x).place ≡ x.place
+hit_place b x = if_hit (is_none x.struck && is_hit b.place x.place)
+  where
+    if_hit : (c : Bool) → (cond c (record x { struck = Some b }) x).place ≡ x.place
+    if_hit true = refl
+    if_hit false = refl
+
+hit_waits : (b : Blow) (x : Task) → (hit b x).waits ≡ x.waits
+hit_waits b x = if_hit (is_none x.struck && is_hit b.place x.place)
+  where
+    if_hit : (c : Bool) → (cond c (record x { struck = Some b }) x).waits ≡ x.waits
+    if_hit true = refl
+    if_hit false = refl
+
+-- who stands there stands there still, and who does not does not
+found-hit : (b : Blow) (x : Task) (r o : Option Task) (c : Bool) → r ≡ option_map (hit b) o → cond c (Some (hit b x)) r ≡ option_map (hit b) (cond c (Some x) o)
+found-hit b x r o true h = refl
+found-hit b x r o false h = h
+
+pub find-hit : (b : Blow) (t : TaskId) (xs : List Task) → find (is_task t) (map (hit b) xs) ≡ option_map (hit b) (find (is_task t) xs)
+find-hit b t [] = refl
+find-hit b t (x ∷ xs) =
+    let same : is_task t (hit b x) ≡ is_task t x = ap (λ (n : TaskId). n.0 == t.0) (hit_number b x) in
+    ap (λ (c : Bool). cond c (Some (hit b x)) (find (is_task t) (map (hit b) xs))) same ∙ found-hit b x (find (is_task t) (map (hit b) xs)) (find (is_task t) xs) (is_task t x) (find-hit b t xs)
+
+module _ (b : Blow) (T : Tree) where
+  moving-on : (x : Task) → IsMoving x → IsMoving (hit b x)
+  moving-on x h = record { place = h.place; is_at = hit_place b x ∙ h.is_at; moves = hit_waits b x ∙ h.moves }
+
+  travels-on : (x : Task) → Travels x → Travels (hit b x)
+  travels-on x h = record { travels = ap does_travel (hit_place b x) ∙ h.travels }
+
+  finish-on : (who : Caller) (x : Task) → HasFinish T who x → HasFinish (strike b T) who (hit b x)
+  finish-on who x h = record { moving = moving-on x h.moving; scope = h.scope; own = h.own; finish = h.finish }
+
+  waits-on : (who : Caller) (x : Task) → WaitsInside T who x → WaitsInside (strike b T) who (hit b x)
+  waits-on who x h = record { waits = hit_waits b x ∙ h.waits; scope = h.scope; own = h.own }
+
+  bare-on : (who : Caller) (x : Task) → IsBare T who x → IsBare (strike b T) who (hit b x)
+  bare-on who x h = record { moving = moving-on x h.moving; none_open = h.none_open }
+
+  asks-on : (who : Caller) (P Q : Task → Type 0) → ((x : Task) → P x → Q (hit b x)) → MayAsk T who P → MayAsk (strike b T) who Q
+  asks-on who P Q f h =
+      record {
+        caller = elim h.caller [
+          | inl s ↦ inl (record {
+            task = hit b s.task;
+            stands = find-hit b who.task T.tasks ∙ ap (option_map (hit b)) s.stands;
+            says = record { under = hit_under b s.task ∙ s.says.under; place = hit_place b s.task ∙ s.says.place };
+            inner_is = inner-on s.task ∙ s.inner_is;
+            allowed = f s.task s.allowed;
+          })
+          | inr s ↦ inr (record { task = s.task; none = find-hit b who.task T.tasks ∙ ap (option_map (hit b)) s.none; gone = s.gone; says = s.says })
+        ];
+        numbers = record { tasks = h.numbers.tasks; scopes = h.numbers.scopes };
+      }
+    where
+      inner-on : (x : Task) → inner (strike b T) (hit b x) ≡ inner T x
+      inner-on x = ap (λ (n : TaskId). elim (own_scope T n) [ Some g ↦ g.number | None ↦ (hit b x).under ]) (hit_number b x) ∙ ap (λ (u : ScopeId). elim (own_scope T x.number) [ Some g ↦ g.number | None ↦ u ]) (hit_under b x)
+
+  to-on : (who : Caller) (to : PlaceId) → MayAskTo T who to → MayAskTo (strike b T) who to
+  to-on who to h = record { asks = asks-on who IsMoving IsMoving moving-on h.asks; target = h.target }
+
+  running-on : (t : AnyTicket) (P Q : Caller → Type 0) → ((who : Caller) → P who → Q who) → IsRunning t P → IsRunning t Q
+  running-on (Running who) P Q f h = f who h
+  running-on (Moving who) P Q f h = h
+  running-on (Held who) P Q f h = h
+  running-on Host P Q f h = h
+
+  moves-on : (t : AnyTicket) (P Q : Caller → Type 0) → ((who : Caller) → P who → Q who) → Moves t P → Moves t Q
+  moves-on (Running who) P Q f h = h
+  moves-on (Moving who) P Q f h = f who h
+  moves-on (Held who) P Q f h = h
+  moves-on Host P Q f h = h
+
+  held-on : (t : AnyTicket) (P Q : Caller → Type 0) → ((who : Caller) → P who → Q who) → IsHeld t P → IsHeld t Q
+  held-on (Running who) P Q f h = h
+  held-on (Moving who) P Q f h = h
+  held-on (Held who) P Q f h = f who h
+  held-on Host P Q f h = h
+
+  may-on : (t : AnyTicket) (path : Option (List ℕ)) (a : Ask) → MayAskFor T t path a → MayAskFor (strike b T) t path a
+  may-on t path Open h = (running-on t _ _ (λ who. asks-on who IsMoving IsMoving moving-on) h.0, h.1)
+  may-on t path (Calls to) h = (running-on t _ _ (λ who. to-on who to) h.0, h.1)
+  may-on t path (Spawn to) h = (running-on t _ _ (λ who. to-on who to) h.0, h.1)
+  may-on t path Arrive h = (moves-on t _ _ (λ who. asks-on who Travels Travels travels-on) h.0, h.1)
+  may-on t path (Wait thrown) h = (running-on t _ _ (λ who. asks-on who (HasFinish T who) (HasFinish (strike b T) who) (finish-on who)) h.0, h.1)
+  may-on t path Release h = (held-on t _ _ (λ who. asks-on who (WaitsInside T who) (WaitsInside (strike b T) who) (waits-on who)) h.0, h.1)
+  may-on t path (End thrown) h = (running-on t _ _ (λ who. asks-on who (IsBare T who) (IsBare (strike b T) who) (bare-on who)) h.0, h.1)
+  may-on t path (Print value) h = (running-on t _ _ (λ who. asks-on who IsMoving IsMoving moving-on) h.0, h.1)
+  may-on t path Root h = h
+
+-- and so after any deaths
+pub may-after : (n : ℕ) (T : Tree) (ds : List PlaceId) (t : AnyTicket) (path : Option (List ℕ)) (a : Ask) → MayAskFor T t path a → MayAskFor (fold_from n T (deaths ds)) t path a
+may-after n T [] t path a h = h
+may-after n T (d ∷ ds) t path a h = may-after (suc n) (strike (record { place = d; entry = n }) T) ds t path a (may-on (record { place = d; entry = n }) T t path a h)

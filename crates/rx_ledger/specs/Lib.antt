@@ -1,0 +1,9 @@
+pub mod Asking
+pub mod Told
+pub mod Answering
+pub mod Keeping
+pub mod Doing
+pub mod Kept
+pub mod Uncovering
+pub mod GoingOn
+pub mod Staying

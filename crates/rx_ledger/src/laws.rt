@@ -1,0 +1,33 @@
+//! Laws of contracts. They do nothing when they run.
+ghost use Rattle.rx_ledger.specs.GoingOn.{ChildrenBegin, TicketsGoOn};
+ghost use Rattle.rx_ledger.specs.Staying.{EntryKeepsTicket, TicketsStayGood};
+ghost use Rattle.rx_ledger.specs.Uncovering.{UncoversParent};
+
+/// A law: after a release the inner scope of its task is the parent of the released scope, as the history tells it. So the ticket
+/// that comes with `Released` names the inner scope of its task.
+pub fn release_uncovers_parent()
+    ensures { UncoversParent }
+{}
+
+/// A law: the ticket that comes with `Opened`, `Spawned`, `Landed`, `Released` or `Printed` is of a task that may go on, and the one that comes with
+/// `Called` or `Waits` of a task that may ask for its release, as long as numbers of tasks and scopes suffice.
+pub fn tickets_go_on()
+    ensures { TicketsGoOn }
+{}
+
+/// A law: the ticket of a task that was started is of a task that may go on where it is, or that may arrive.
+pub fn children_begin()
+    ensures { ChildrenBegin }
+{}
+
+/// A law: a request that may be applied may be applied after an entry of another task, after a death and after the root's release
+/// too, as long as numbers of tasks and scopes suffice.
+pub fn entry_keeps_ticket()
+    ensures { EntryKeepsTicket }
+{}
+
+/// A law: a request that may be applied at the end of a history may be applied at the end of each longer one to which its task
+/// has added nothing, as long as numbers of tasks and scopes suffice. So a ticket stays good while other tasks act.
+pub fn tickets_stay_good()
+    ensures { TicketsStayGood }
+{}

@@ -1,0 +1,78 @@
+// The requests that take no memory of the ledger.
+ghost use Rattle.std.specs.Prelude.{◌≡◌, ◌<◌, Some, None};
+ghost use Rattle.rx_tree.specs.Callers.{MayAskMoving, MayAskArrive};
+ghost use Rattle.rx_ticket.specs.declared.tickets.AnyTicket.TheVariants.{Running, Moving};
+ghost use Rattle.rx_trace.specs.declared.asks.Ask.TheVariants.{Arrive, Print};
+ghost use Rattle.rx_ledger.specs.Doing.{tree_in, Calm, Did};
+
+use crate::asks::Reply;
+use crate::books::Books;
+use crate::parts::target_of;
+use rx_base::{Batch, Path};
+use rx_rules::{Act, Entry};
+use rx_ticket::{InTransit, Live, Ticket};
+use rx_tree::{FinishLedger, LedgerFault};
+
+impl<L: FinishLedger> Books<L> {
+    /// Makes a travelling task live. It takes no memory.
+    pub(crate) fn arrive(&mut self, ticket: Ticket<InTransit>, batch: Batch) -> Reply
+        requires room { 0 < self.old.history.spare }
+        requires calm { Calm L.stands self.old }
+        requires asks { MayAskArrive (tree_in self.old) ticket }
+        ensures { Did L.stands self.old (record { ticket = Moving ticket; ask = Arrive; batch = batch; path = None }) result self.new }
+    {
+        let who = ticket.caller();
+        match self.ledger.arrive(who) {
+            Ok(()) => {
+                self.history.add(Entry::Step {
+                    task: who.task,
+                    act: Act::Arrive {
+                        place: target_of(who.place),
+                    },
+                    batch,
+                });
+                Reply::Landed {
+                    ticket: ticket.landed(),
+                }
+            }
+            Err(LedgerFault::Lost { place, at }) => {
+                ticket.lost(place, at);
+                Reply::Lost { place, at }
+            }
+            Err(LedgerFault::NoMemory) => unreachable!(),
+            Err(LedgerFault::NotYet { place: _ }) => unreachable!(),
+        }
+    }
+
+    /// Prints. It takes no memory.
+    pub(crate) fn print(
+        &mut self,
+        ticket: Ticket<Live>,
+        value: i64,
+        batch: Batch,
+        path: Path,
+    ) -> Reply
+        requires room { 0 < self.old.history.spare }
+        requires calm { Calm L.stands self.old }
+        requires asks { MayAskMoving (tree_in self.old) ticket }
+        ensures { Did L.stands self.old (record { ticket = Running ticket; ask = Print value; batch = batch; path = Some path }) result self.new }
+    {
+        let who = ticket.caller();
+        match self.ledger.print(who) {
+            Ok(()) => {
+                self.history.add(Entry::Step {
+                    task: who.task,
+                    act: Act::Print { value, path },
+                    batch,
+                });
+                Reply::Printed { ticket }
+            }
+            Err(LedgerFault::Lost { place, at }) => {
+                ticket.lost(place, at);
+                Reply::Lost { place, at }
+            }
+            Err(LedgerFault::NoMemory) => unreachable!(),
+            Err(LedgerFault::NotYet { place: _ }) => unreachable!(),
+        }
+    }
+}

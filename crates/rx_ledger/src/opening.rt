@@ -1,0 +1,184 @@
+// The requests that open a scope or start a task.
+ghost use Rattle.std.specs.Prelude.{◌≡◌, ◌<◌, false, Some};
+ghost use Rattle.rx_tree.specs.Callers.{MayAskMoving, MayAskTo};
+ghost use Rattle.rx_ticket.specs.declared.tickets.AnyTicket.TheVariants.{Running};
+ghost use Rattle.rx_trace.specs.declared.asks.Ask.TheVariants.{Open, At, Spawn};
+ghost use Rattle.rx_ledger.specs.Doing.{tree_in, Calm, Did};
+
+use crate::asks::{Reply, Request};
+use crate::books::{Books, Note};
+use crate::parts::{place_of, ticket_for};
+use rx_base::{Batch, Path, PlaceId};
+use rx_rules::{Act, Entry};
+use rx_ticket::{AnyTicket, Live, Ticket};
+use rx_trace::Ask;
+use rx_tree::{FinishLedger, LedgerFault};
+
+impl<L: FinishLedger> Books<L> {
+    /// Opens a finish.
+    pub(crate) fn open(&mut self, ticket: Ticket<Live>, batch: Batch, path: Path) -> Reply
+        requires room { 0 < self.old.history.spare }
+        requires calm { Calm L.stands self.old }
+        requires asks { MayAskMoving (tree_in self.old) ticket }
+        ensures { Did L.stands self.old (record { ticket = Running ticket; ask = Open; batch = batch; path = Some path }) result self.new }
+    {
+        if self.scopes.reserve(1).is_err() {
+            return Reply::NoMemory {
+                request: Request {
+                    ticket: AnyTicket::Running(ticket),
+                    ask: Ask::Open,
+                    batch,
+                    path: Some(path),
+                },
+            };
+        }
+        let who = ticket.caller();
+        match self.ledger.open_finish(who) {
+            Ok(scope) => {
+                self.history.add(Entry::Step {
+                    task: who.task,
+                    act: Act::Open {
+                        scope,
+                        parent: who.inner,
+                        path,
+                    },
+                    batch,
+                });
+                self.scopes.push_reserved(Note {
+                    parent: who.inner,
+                    faults: 0,
+                });
+                Reply::Opened {
+                    ticket: ticket.opened(scope),
+                    scope,
+                }
+            }
+            Err(LedgerFault::Lost { place, at }) => {
+                ticket.lost(place, at);
+                Reply::Lost { place, at }
+            }
+            Err(LedgerFault::NoMemory) => Reply::NoMemory {
+                request: Request {
+                    ticket: AnyTicket::Running(ticket),
+                    ask: Ask::Open,
+                    batch,
+                    path: Some(path),
+                },
+            },
+            Err(LedgerFault::NotYet { place: _ }) => unreachable!(),
+        }
+    }
+
+    /// Opens an at and starts its callee.
+    pub(crate) fn call(
+        &mut self,
+        ticket: Ticket<Live>,
+        to: PlaceId,
+        batch: Batch,
+        path: Path,
+    ) -> Reply
+        requires room { 0 < self.old.history.spare }
+        requires calm { Calm L.stands self.old }
+        requires asks { MayAskTo (tree_in self.old) ticket to }
+        ensures { Did L.stands self.old (record { ticket = Running ticket; ask = At to; batch = batch; path = Some path }) result self.new }
+    {
+        if self.scopes.reserve(1).is_err() {
+            return Reply::NoMemory {
+                request: Request {
+                    ticket: AnyTicket::Running(ticket),
+                    ask: Ask::At { to },
+                    batch,
+                    path: Some(path),
+                },
+            };
+        }
+        let who = ticket.caller();
+        let from = place_of(who.place);
+        match self.ledger.open_at(who, to) {
+            Ok(born) => {
+                self.history.add(Entry::Step {
+                    task: who.task,
+                    act: Act::At {
+                        scope: born.scope,
+                        parent: who.inner,
+                        callee: born.child,
+                        from,
+                        to,
+                        path,
+                    },
+                    batch,
+                });
+                self.scopes.push_reserved(Note {
+                    parent: who.inner,
+                    faults: 0,
+                });
+                Reply::Called {
+                    ticket: ticket.opened(born.scope).waits(),
+                    callee: ticket_for(born.lost, born.child, born.scope, from, to),
+                }
+            }
+            Err(LedgerFault::Lost { place, at }) => {
+                ticket.lost(place, at);
+                Reply::Lost { place, at }
+            }
+            Err(LedgerFault::NoMemory) => Reply::NoMemory {
+                request: Request {
+                    ticket: AnyTicket::Running(ticket),
+                    ask: Ask::At { to },
+                    batch,
+                    path: Some(path),
+                },
+            },
+            Err(LedgerFault::NotYet { place: _ }) => unreachable!(),
+        }
+    }
+
+    /// Starts a task.
+    pub(crate) fn spawn(
+        &mut self,
+        ticket: Ticket<Live>,
+        to: PlaceId,
+        batch: Batch,
+        path: Path,
+    ) -> Reply
+        requires room { 0 < self.old.history.spare }
+        requires calm { Calm L.stands self.old }
+        requires asks { MayAskTo (tree_in self.old) ticket to }
+        ensures { Did L.stands self.old (record { ticket = Running ticket; ask = Spawn to; batch = batch; path = Some path }) result self.new }
+    {
+        let who = ticket.caller();
+        let from = place_of(who.place);
+        match self.ledger.spawn(who, to) {
+            Ok(born) => {
+                self.history.add(Entry::Step {
+                    task: who.task,
+                    act: Act::Spawn {
+                        child: born.child,
+                        scope: born.scope,
+                        from,
+                        to,
+                        path,
+                    },
+                    batch,
+                });
+                Reply::Spawned {
+                    ticket,
+                    child: ticket_for(born.lost, born.child, born.scope, from, to),
+                }
+            }
+            Err(LedgerFault::Lost { place, at }) => {
+                ticket.lost(place, at);
+                Reply::Lost { place, at }
+            }
+            Err(LedgerFault::NoMemory) => Reply::NoMemory {
+                request: Request {
+                    ticket: AnyTicket::Running(ticket),
+                    ask: Ask::Spawn { to },
+                    batch,
+                    path: Some(path),
+                },
+            },
+            Err(LedgerFault::NotYet { place: _ }) => unreachable!(),
+        }
+    }
+}

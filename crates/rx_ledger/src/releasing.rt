@@ -1,0 +1,117 @@
+// The releases.
+ghost use Rattle.std.specs.Prelude.{◌≡◌, ◌<◌, Some, None};
+ghost use Rattle.rx_tree.specs.Callers.{MayAskRelease};
+ghost use Rattle.rx_ticket.specs.declared.tickets.AnyTicket.TheVariants.{Held, Host};
+ghost use Rattle.rx_trace.specs.declared.asks.Ask.TheVariants.{Release, Root};
+ghost use Rattle.rx_ledger.specs.Doing.{tree_in, Calm, Did};
+
+use crate::asks::{Reply, Request};
+use crate::books::Books;
+use crate::parts::{copy_into, faults_of, parent_of};
+use rx_base::Batch;
+use rx_rules::{Act, Entry};
+use rx_ticket::{AnyTicket, Ticket, Waiting};
+use rx_trace::Ask;
+use rx_tree::{FinishLedger, LedgerFault};
+
+impl<L: FinishLedger> Books<L> {
+    /// Releases the scope at which the caller waits.
+    pub(crate) fn release(&mut self, ticket: Ticket<Waiting>, batch: Batch) -> Reply
+        requires room { 0 < self.old.history.spare }
+        requires calm { Calm L.stands self.old }
+        requires asks { MayAskRelease (tree_in self.old) ticket }
+        ensures { Did L.stands self.old (record { ticket = Held ticket; ask = Release; batch = batch; path = None }) result self.new }
+    {
+        let who = ticket.caller();
+        let Ok(room) = Vec::with_capacity(self.alloc, faults_of(&self.scopes, who.inner) as usize)
+        else {
+            return Reply::NoMemory {
+                request: Request {
+                    ticket: AnyTicket::Held(ticket),
+                    ask: Ask::Release,
+                    batch,
+                    path: None,
+                },
+            };
+        };
+        match self.ledger.release(who) {
+            Ok(outcome) => {
+                let told = copy_into(&outcome.thrown, room);
+                self.history.add(Entry::Step {
+                    task: who.task,
+                    act: Act::Release {
+                        scope: who.inner,
+                        lost: outcome.lost,
+                        thrown: told,
+                    },
+                    batch,
+                });
+                Reply::Released {
+                    ticket: ticket.resumed(parent_of(&self.scopes, who.inner)),
+                    outcome,
+                }
+            }
+            Err(LedgerFault::Lost { place, at }) => {
+                ticket.lost(place, at);
+                Reply::Lost { place, at }
+            }
+            Err(LedgerFault::NotYet { place }) => Reply::NotYet {
+                place,
+                request: Request {
+                    ticket: AnyTicket::Held(ticket),
+                    ask: Ask::Release,
+                    batch,
+                    path: None,
+                },
+            },
+            Err(LedgerFault::NoMemory) => Reply::NoMemory {
+                request: Request {
+                    ticket: AnyTicket::Held(ticket),
+                    ask: Ask::Release,
+                    batch,
+                    path: None,
+                },
+            },
+        }
+    }
+
+    /// The host's release of the root. After it, it is done again with no effect.
+    pub(crate) fn root(&mut self, batch: Batch) -> Reply
+        requires room { 0 < self.old.history.spare }
+        requires calm { Calm L.stands self.old }
+        ensures { Did L.stands self.old (record { ticket = Host; ask = Root; batch = batch; path = None }) result self.new }
+    {
+        rx_sound::root_stands_until_released();
+        if self.ended {
+            return Reply::RootDone;
+        }
+        match self.ledger.release_root() {
+            Ok(outcome) => {
+                self.history.add(Entry::Root {
+                    lost: outcome.lost,
+                    thrown: outcome.thrown,
+                });
+                self.ended = true;
+                Reply::RootDone
+            }
+            Err(LedgerFault::NotYet { place }) => Reply::NotYet {
+                place,
+                request: Request {
+                    ticket: AnyTicket::Host,
+                    ask: Ask::Root,
+                    batch,
+                    path: None,
+                },
+            },
+            Err(LedgerFault::NoMemory) => Reply::NoMemory {
+                request: Request {
+                    ticket: AnyTicket::Host,
+                    ask: Ask::Root,
+                    batch,
+                    path: None,
+                },
+            },
+            Err(LedgerFault::Lost { place: _, at: _ }) => unreachable!(),
+        }
+    }
+}

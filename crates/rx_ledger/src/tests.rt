@@ -1,0 +1,165 @@
+// A keeper over the plain ledger, before its first entry.
+ghost use Rattle.std.specs.Prelude.{◌≡◌, [], IfOk};
+ghost use Rattle.rx_rules.specs.declared.tasks.Where.TheVariants.{At as Stays};
+ghost use Rattle.rx_rules.specs.Tree.{the_root};
+ghost use Rattle.rx_rules.specs.Run.{Proper};
+ghost use Rattle.rx_trace.specs.Setups.{given};
+
+use crate::{Keeper, Reply, Request};
+use rx_base::{Batch, NoMemory, Path, PlaceId, PlaceSet, TaskId};
+use rx_ticket::{AnyTicket, Live, Ticket};
+use rx_trace::{Ask, KillList, Setup};
+use rx_tree::TreeLedger;
+use std::alloc::Global;
+use std::test::Fail;
+
+// Two places and no kills.
+fn calm(alloc: Global) -> Setup
+    ensures proper { Proper (given result) }
+    ensures places { result.places ≡ 2 }
+{
+    Setup {
+        places: 2,
+        heap: 256,
+        kills: KillList::open(alloc),
+    }
+}
+
+// A keeper of such a setup.
+fn opened(alloc: Global) -> Result<(Keeper<TreeLedger>, Ticket<Live>), NoMemory>
+    ensures empty { IfOk result (λ r. (r.0.entries ≡ []) × (r.0.setup.places ≡ 2)) }
+    ensures ticket { IfOk result (λ r. r.1 ≡ record { task = record { 0 = 0 }; scope = the_root; inner = the_root; place = Stays (record { 0 = 0 }) }) }
+{
+    let setup = calm(alloc);
+    let ledger = TreeLedger::open(alloc, 2)?;
+    match Keeper::open(alloc, ledger, &setup) {
+        Ok(both) => Ok(both),
+        Err(_) => Err(NoMemory),
+    }
+}
+
+// What any thread may be given.
+fn moved<T: Send>(x: T) -> T
+    ensures { result ≡ x }
+{
+    x
+}
+
+#[test]
+fn a_keeper_opens_without_entries(rt: HostRuntime) -> Result<(), Fail> {
+    let (keeper, ticket) = opened(rt.alloc())?;
+    let task = ticket.caller().task;
+    ticket.spent();
+    assert_eq!(rt; task, TaskId(0));
+    assert_eq!(rt; keeper.len(), 0);
+    assert_eq!(rt; keeper.deaths(), PlaceSet(0));
+    let (history, _ledger) = moved(keeper).into_history();
+    assert_eq!(rt; history.len(), 0);
+    Ok(())
+}
+
+#[test]
+fn requests_and_replies_may_be_moved(rt: HostRuntime) -> Result<(), Fail> {
+    let (_keeper, ticket) = opened(rt.alloc())?;
+    let request = moved(Request {
+        ticket: AnyTicket::Running(ticket),
+        ask: Ask::Open,
+        batch: Batch::open(rt.alloc()),
+        path: None,
+    });
+    let reply = moved(Reply::NotYet {
+        place: PlaceId(1),
+        request,
+    });
+    match reply {
+        Reply::NotYet { place: _, request } => end(request),
+        _ => unreachable!(),
+    }
+    Ok(())
+}
+
+// Lets the main activity print, and then asks for the root's release, which has to wait for it.
+fn prints_and_waits(alloc: Global) -> Result<(u32, u32), NoMemory> {
+    let (mut keeper, ticket) = opened(alloc)?;
+    let printed = keeper.apply(Request {
+        ticket: AnyTicket::Running(ticket),
+        ask: Ask::Print { value: 4 },
+        batch: Batch::open(alloc),
+        path: Some(Path::open(alloc)),
+    });
+    let first = keeper.len();
+    finish(printed);
+    let early = keeper.apply(Request {
+        ticket: AnyTicket::Host,
+        ask: Ask::Root,
+        batch: Batch::open(alloc),
+        path: None,
+    });
+    let place = match &early {
+        Reply::NotYet { place, request: _ } => place.0 as u32,
+        _ => 99,
+    };
+    finish(early);
+    Ok((first, place))
+}
+
+#[test]
+fn the_root_waits_for_the_main_activity(rt: HostRuntime) -> Result<(), Fail> {
+    let (entries, place) = prints_and_waits(rt.alloc())?;
+    assert_eq!(rt; entries, 1);
+    assert_eq!(rt; place, 0);
+    Ok(())
+}
+
+// Ends what a reply holds.
+fn finish(reply: Reply) {
+    match reply {
+        Reply::Opened { ticket, scope: _ } => ticket.spent(),
+        Reply::Called { ticket, callee } => {
+            ticket.lost(PlaceId(1), 0);
+            finish_child(callee);
+        }
+        Reply::Spawned { ticket, child } => {
+            ticket.spent();
+            finish_child(child);
+        }
+        Reply::Landed { ticket } => ticket.spent(),
+        Reply::Waits { ticket } => ticket.lost(PlaceId(1), 0),
+        Reply::Released { ticket, outcome: _ } => ticket.spent(),
+        Reply::Ended => {}
+        Reply::Printed { ticket } => ticket.spent(),
+        Reply::RootDone => {}
+        Reply::NotYet { place: _, request } => end(request),
+        Reply::Lost { place: _, at: _ } => {}
+        Reply::NoMemory { request } => end(request),
+    }
+}
+
+// Ends the ticket of a task that was started.
+fn finish_child(child: Option<AnyTicket>) {
+    match child {
+        Some(ticket) => lost(ticket),
+        None => {}
+    }
+}
+
+// Ends a request.
+fn end(request: Request) {
+    let Request {
+        ticket,
+        ask: _,
+        batch: _,
+        path: _,
+    } = request;
+    lost(ticket);
+}
+
+// Ends a ticket.
+fn lost(ticket: AnyTicket) {
+    match ticket {
+        AnyTicket::Moving(t) => t.lost(PlaceId(1), 0),
+        AnyTicket::Running(t) => t.lost(PlaceId(1), 0),
+        AnyTicket::Held(t) => t.lost(PlaceId(1), 0),
+        AnyTicket::Host => {}
+    }
+}

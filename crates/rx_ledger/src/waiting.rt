@@ -1,0 +1,117 @@
+// The requests that hand faults to the ledger.
+ghost use Rattle.std.specs.Prelude.{◌≡◌, ◌<◌, Some, None};
+ghost use Rattle.rx_tree.specs.Callers.{MayAskWait, MayAskEnd};
+ghost use Rattle.rx_ticket.specs.declared.tickets.AnyTicket.TheVariants.{Running};
+ghost use Rattle.rx_trace.specs.declared.asks.Ask.TheVariants.{Wait, End};
+ghost use Rattle.rx_ledger.specs.Doing.{tree_in, Calm, Did};
+
+use crate::asks::{Reply, Request};
+use crate::books::Books;
+use crate::parts::{raised, set_faults};
+use rx_base::{Batch, Faults};
+use rx_rules::{Act, Entry};
+use rx_ticket::{AnyTicket, Live, Ticket};
+use rx_trace::Ask;
+use rx_tree::{FinishLedger, LedgerFault};
+
+impl<L: FinishLedger> Books<L> {
+    /// Records the faults of the body of the caller's finish, and that the caller waits there.
+    pub(crate) fn wait(&mut self, ticket: Ticket<Live>, thrown: Faults, batch: Batch) -> Reply
+        requires room { 0 < self.old.history.spare }
+        requires calm { Calm L.stands self.old }
+        requires asks { MayAskWait (tree_in self.old) ticket }
+        ensures { Did L.stands self.old (record { ticket = Running ticket; ask = Wait thrown; batch = batch; path = None }) result self.new }
+    {
+        let who = ticket.caller();
+        let (Ok(told), Ok(faults)) = (
+            thrown.copy(self.alloc),
+            raised(&self.scopes, who.inner, thrown.len()),
+        ) else {
+            return Reply::NoMemory {
+                request: Request {
+                    ticket: AnyTicket::Running(ticket),
+                    ask: Ask::Wait { thrown },
+                    batch,
+                    path: None,
+                },
+            };
+        };
+        match self.ledger.wait(who, thrown) {
+            Ok(()) => {
+                self.history.add(Entry::Step {
+                    task: who.task,
+                    act: Act::Wait {
+                        scope: who.inner,
+                        thrown: told,
+                    },
+                    batch,
+                });
+                set_faults(&mut self.scopes, who.inner, faults);
+                Reply::Waits {
+                    ticket: ticket.waits(),
+                }
+            }
+            Err((LedgerFault::Lost { place, at }, _)) => {
+                ticket.lost(place, at);
+                Reply::Lost { place, at }
+            }
+            Err((LedgerFault::NoMemory, back)) => Reply::NoMemory {
+                request: Request {
+                    ticket: AnyTicket::Running(ticket),
+                    ask: Ask::Wait { thrown: back },
+                    batch,
+                    path: None,
+                },
+            },
+            Err((LedgerFault::NotYet { place: _ }, _)) => unreachable!(),
+        }
+    }
+
+    /// Ends the caller: its faults join those of the scope that it hangs under.
+    pub(crate) fn end(&mut self, ticket: Ticket<Live>, thrown: Faults, batch: Batch) -> Reply
+        requires room { 0 < self.old.history.spare }
+        requires calm { Calm L.stands self.old }
+        requires asks { MayAskEnd (tree_in self.old) ticket }
+        ensures { Did L.stands self.old (record { ticket = Running ticket; ask = End thrown; batch = batch; path = None }) result self.new }
+    {
+        let who = ticket.caller();
+        let (Ok(told), Ok(faults)) = (
+            thrown.copy(self.alloc),
+            raised(&self.scopes, who.scope, thrown.len()),
+        ) else {
+            return Reply::NoMemory {
+                request: Request {
+                    ticket: AnyTicket::Running(ticket),
+                    ask: Ask::End { thrown },
+                    batch,
+                    path: None,
+                },
+            };
+        };
+        match self.ledger.end(who, thrown) {
+            Ok(()) => {
+                self.history.add(Entry::Step {
+                    task: who.task,
+                    act: Act::End { thrown: told },
+                    batch,
+                });
+                set_faults(&mut self.scopes, who.scope, faults);
+                ticket.spent();
+                Reply::Ended
+            }
+            Err((LedgerFault::Lost { place, at }, _)) => {
+                ticket.lost(place, at);
+                Reply::Lost { place, at }
+            }
+            Err((LedgerFault::NoMemory, back)) => Reply::NoMemory {
+                request: Request {
+                    ticket: AnyTicket::Running(ticket),
+                    ask: Ask::End { thrown: back },
+                    batch,
+                    path: None,
+                },
+            },
+            Err((LedgerFault::NotYet { place: _ }, _)) => unreachable!(),
+        }
+    }
+}

@@ -18,3 +18,4 @@ pub mod GoesOn
 pub mod Begins
 pub mod Others
 pub mod StaysGood
+pub mod OwnTold

@@ -76,7 +76,7 @@ none_filtered p q (x ∷ xs) e =
     ]) refl e
 
 -- what is found among those that pass passes
-passes_filter : {X : Type 0} (p q : X → Bool) (xs : List X) (x : X) → find p (filter q xs) ≡ Some x → q x ≡ true
+pub passes_filter : {X : Type 0} (p q : X → Bool) (xs : List X) (x : X) → find p (filter q xs) ≡ Some x → q x ≡ true
 passes_filter p q [] x e = absurd (let v : ⊥ = cc in v)
 passes_filter p q (y ∷ xs) x e =
     (elim (q y) as (λ b. q y ≡ b → find p (cond b (y ∷ filter q xs) (filter q xs)) ≡ Some x → q x ≡ true) [
@@ -113,7 +113,7 @@ find_other u t f keeps apart xs x found =
     ]
 
 -- the tree after an end
-ended : (T : Tree) (u : TaskId) (thrown : List Fault) (z : Task) → task_of T u ≡ Some z → after_end T u thrown ≡ change_scope (λ g. record g { ends = g.ends ++ thrown }) z.under (record T { tasks = filter (λ y. not (is_task u y)) T.tasks })
+pub ended : (T : Tree) (u : TaskId) (thrown : List Fault) (z : Task) → task_of T u ≡ Some z → after_end T u thrown ≡ change_scope (λ g. record g { ends = g.ends ++ thrown }) z.under (record T { tasks = filter (λ y. not (is_task u y)) T.tasks })
 ended T u thrown z at = rw (at, after_end) refl
 
 -- Tasks that left with a release.
@@ -129,7 +129,7 @@ none_born T child t s rest b number next low =
     let other : (b.number.0 == t.0) ≡ false = ne_eqb b.number.0 t.0 (λ e. absurd (omega (arith, next, low, num, e))) in
     ap (λ (c : Bool). cond c (Some b) rest) other
 
-none_act : (T : Tree) (u t : TaskId) (act : Act) → AllowedAct T u act → Apart T t → task_of (made_act T u act) t ≡ None
+pub none_act : (T : Tree) (u t : TaskId) (act : Act) → AllowedAct T u act → Apart T t → task_of (made_act T u act) t ≡ None
 none_act T u t (Open s r path) may h = h.none
 none_act T u t (Calls s r child from to path) may h =
     none_changed (is_task t) (is_task u) waiting (λ x. refl) (born T child s from to ∷ T.tasks)

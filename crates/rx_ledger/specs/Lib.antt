@@ -7,3 +7,4 @@ pub mod Kept
 pub mod Uncovering
 pub mod GoingOn
 pub mod Staying
+pub mod Owned

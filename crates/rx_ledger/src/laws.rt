@@ -1,5 +1,6 @@
 //! Laws of contracts. They do nothing when they run.
 ghost use Rattle.rx_ledger.specs.GoingOn.{ChildrenBegin, TicketsGoOn};
+ghost use Rattle.rx_ledger.specs.Owned.{MayEndNext, MayWaitNext, NumbersAreLeft, OwnedAsTold};
 ghost use Rattle.rx_ledger.specs.Staying.{EntryKeepsTicket, TicketsStayGood};
 ghost use Rattle.rx_ledger.specs.Uncovering.{UncoversParent};
 
@@ -30,4 +31,24 @@ pub fn entry_keeps_ticket()
 /// has added nothing, as long as numbers of tasks and scopes suffice. So a ticket stays good while other tasks act.
 pub fn tickets_stay_good()
     ensures { TicketsStayGood }
+{}
+
+/// A law: a task that stands in the tree, struck or not, has opened and not released the scopes that its own entries tell.
+pub fn owned_as_told()
+    ensures { OwnedAsTold }
+{}
+
+/// A law: a task that may go on and whose newest scope, as its entries tell, is a finish may wait.
+pub fn may_wait_next()
+    ensures { MayWaitNext }
+{}
+
+/// A law: a task that may go on and has no scope, as its entries tell, may end.
+pub fn may_end_next()
+    ensures { MayEndNext }
+{}
+
+/// A law: a history of fewer than 2^31 - 1 entries leaves numbers for more tasks and scopes.
+pub fn numbers_are_left()
+    ensures { NumbersAreLeft }
 {}

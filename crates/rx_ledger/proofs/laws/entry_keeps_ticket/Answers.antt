@@ -1,5 +1,5 @@
-use Rattle.rx_ledger.proofs.StaysGood.{entry_keeps_ticket}
+use Rattle.rx_ledger.proofs.StaysGood as staying
 use Rattle.rx_ledger.proofs.laws.entry_keeps_ticket.Goals as goal
 
 pub returns : goal.returns
-returns c = entry_keeps_ticket
+returns c = staying.entry_keeps_ticket

@@ -1,5 +1,5 @@
-use Rattle.rx_ledger.proofs.StaysGood.{tickets_stay_good}
+use Rattle.rx_ledger.proofs.StaysGood as staying
 use Rattle.rx_ledger.proofs.laws.tickets_stay_good.Goals as goal
 
 pub returns : goal.returns
-returns c = tickets_stay_good
+returns c = staying.tickets_stay_good

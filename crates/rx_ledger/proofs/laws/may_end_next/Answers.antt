@@ -1,0 +1,5 @@
+use Rattle.rx_ledger.proofs.OwnTold as told
+use Rattle.rx_ledger.proofs.laws.may_end_next.Goals as goal
+
+pub returns : goal.returns
+returns c = told.may_end_next

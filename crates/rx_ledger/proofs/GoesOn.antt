@@ -265,6 +265,11 @@ module _ (T : Tree) (h : Sound T) where
 pub grown : (U : Given) (es es' : List Entry) (who : Caller) (act : Act) (batch : List (List ℕ)) → Appends (tree_of U.places es) es who act batch es' → tree_of U.places es' ≡ made_act (tree_of U.places es) who.task act
 grown U es es' who act batch a = ap (tree_of U.places) a.added ∙ tree-push U.places es (Step who.task act batch)
 
+-- a request that comes back
+again : (U : Given) (es es' : List Entry) (q request : Request) → request ≡ q → es' ≡ es → MayApply (tree_of U.places es) q → MayApply (tree_of U.places es') request
+again U es es' q request back same may =
+    subst (λ (z : Request). MayApply (tree_of U.places es') z) (sym back) (subst (λ (fs : List Entry). MayApply (tree_of U.places fs) q) (sym same) may)
+
 pub tickets_go_on : TicketsGoOn
 tickets_go_on U es es' q (Opened ticket scope) folds may h few =
     let T = tree_of U.places es in
@@ -312,6 +317,6 @@ tickets_go_on U es es' q (Printed ticket) folds may h few =
     let same = grown U es es' h.who (Print h.value h.path) q.batch h.entry in
     subst (λ (w : Caller). MayAskMoving (tree_of U.places es') w) (sym h.ticket_is) (subst (λ (V : Tree). MayAskMoving V h.who) (sym same) asks)
 tickets_go_on U es es' q RootDone folds may h few = tt
-tickets_go_on U es es' q (NotYet place request) folds may h few = tt
+tickets_go_on U es es' q (NotYet place request) folds may h few = again U es es' q request h.0 h.2 may
 tickets_go_on U es es' q (Lost place at) folds may h few = tt
-tickets_go_on U es es' q (NoMemory request) folds may h few = tt
+tickets_go_on U es es' q (NoMemory request) folds may h few = again U es es' q request h.0 h.1 may

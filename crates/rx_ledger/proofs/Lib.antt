@@ -19,3 +19,5 @@ pub mod Begins
 pub mod Others
 pub mod StaysGood
 pub mod OwnTold
+pub mod Called
+pub mod Scenes

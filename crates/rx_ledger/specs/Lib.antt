@@ -8,3 +8,4 @@ pub mod Uncovering
 pub mod GoingOn
 pub mod Staying
 pub mod Owned
+pub mod Calling

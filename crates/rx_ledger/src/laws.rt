@@ -1,4 +1,5 @@
 //! Laws of contracts. They do nothing when they run.
+ghost use Rattle.rx_ledger.specs.Calling.{CallsGoOn, CallsKeepOthers, CallsOwn};
 ghost use Rattle.rx_ledger.specs.GoingOn.{ChildrenBegin, TicketsGoOn};
 ghost use Rattle.rx_ledger.specs.Owned.{MayEndNext, MayWaitNext, NumbersAreLeft, OwnedAsTold};
 ghost use Rattle.rx_ledger.specs.Staying.{EntryKeepsTicket, TicketsStayGood};
@@ -51,4 +52,21 @@ pub fn may_end_next()
 /// A law: a history of fewer than 2^31 - 1 entries leaves numbers for more tasks and scopes.
 pub fn numbers_are_left()
     ensures { NumbersAreLeft }
+{}
+
+/// A law: after a call the caller's ticket that the reply holds serves what `tickets_go_on` says, the tickets of tasks that were
+/// started serve what `children_begin` says, and a request that came back may be made again. It is said of what is seen.
+pub fn calls_go_on()
+    ensures { CallsGoOn }
+{}
+
+/// A law: what another task may ask before a call it may ask after it.
+pub fn calls_keep_others()
+    ensures { CallsKeepOthers }
+{}
+
+/// A law: the reply tells which scopes the caller has opened and not released: `Opened` adds a finish, `Called` an `at`, `Released`
+/// takes the newest away, and all others leave them.
+pub fn calls_own()
+    ensures { CallsOwn }
 {}

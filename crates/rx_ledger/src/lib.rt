@@ -17,6 +17,8 @@ mod releasing;
 #[cfg(test)]
 mod tests;
 mod waiting;
+#[cfg(test)]
+mod worked;
 
 pub use asks::{Reply, Request};
 pub use keeper::Keeper;

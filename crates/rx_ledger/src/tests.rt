@@ -14,7 +14,7 @@ use std::alloc::Global;
 use std::test::Fail;
 
 // Two places and no kills.
-fn calm(alloc: Global) -> Setup
+pub(crate) fn calm(alloc: Global) -> Setup
     ensures proper { Proper (given result) }
     ensures places { result.places ≡ 2 }
 {
@@ -25,14 +25,18 @@ fn calm(alloc: Global) -> Setup
     }
 }
 
-// A keeper of such a setup.
-fn opened(alloc: Global) -> Result<(Keeper<TreeLedger>, Ticket<Live>), NoMemory>
+// A keeper of such a setup, or of one with kills.
+pub(crate) fn opened(
+    alloc: Global,
+    setup: &Setup,
+) -> Result<(Keeper<TreeLedger>, Ticket<Live>), NoMemory>
+    requires proper { Proper (given setup.now) }
+    requires places { setup.now.places ≡ 2 }
     ensures empty { IfOk result (λ r. (r.0.entries ≡ []) × (r.0.setup.places ≡ 2)) }
     ensures ticket { IfOk result (λ r. r.1 ≡ record { task = record { 0 = 0 }; scope = the_root; inner = the_root; place = Stays (record { 0 = 0 }) }) }
 {
-    let setup = calm(alloc);
     let ledger = TreeLedger::open(alloc, 2)?;
-    match Keeper::open(alloc, ledger, &setup) {
+    match Keeper::open(alloc, ledger, setup) {
         Ok(both) => Ok(both),
         Err(_) => Err(NoMemory),
     }
@@ -47,7 +51,7 @@ fn moved<T: Send>(x: T) -> T
 
 #[test]
 fn a_keeper_opens_without_entries(rt: HostRuntime) -> Result<(), Fail> {
-    let (keeper, ticket) = opened(rt.alloc())?;
+    let (keeper, ticket) = opened(rt.alloc(), &calm(rt.alloc()))?;
     let task = ticket.caller().task;
     ticket.spent();
     assert_eq!(rt; task, TaskId(0));
@@ -60,7 +64,7 @@ fn a_keeper_opens_without_entries(rt: HostRuntime) -> Result<(), Fail> {
 
 #[test]
 fn requests_and_replies_may_be_moved(rt: HostRuntime) -> Result<(), Fail> {
-    let (_keeper, ticket) = opened(rt.alloc())?;
+    let (_keeper, ticket) = opened(rt.alloc(), &calm(rt.alloc()))?;
     let request = moved(Request {
         ticket: AnyTicket::Running(ticket),
         ask: Ask::Open,
@@ -80,7 +84,7 @@ fn requests_and_replies_may_be_moved(rt: HostRuntime) -> Result<(), Fail> {
 
 // Lets the main activity print, and then asks for the root's release, which has to wait for it.
 fn prints_and_waits(alloc: Global) -> Result<(u32, u32), NoMemory> {
-    let (mut keeper, ticket) = opened(alloc)?;
+    let (mut keeper, ticket) = opened(alloc, &calm(alloc))?;
     let printed = keeper.apply(Request {
         ticket: AnyTicket::Running(ticket),
         ask: Ask::Print { value: 4 },
@@ -112,7 +116,7 @@ fn the_root_waits_for_the_main_activity(rt: HostRuntime) -> Result<(), Fail> {
 }
 
 // Ends what a reply holds.
-fn finish(reply: Reply) {
+pub(crate) fn finish(reply: Reply) {
     match reply {
         Reply::Opened { ticket, scope: _ } => ticket.spent(),
         Reply::Called { ticket, callee } => {
@@ -136,7 +140,7 @@ fn finish(reply: Reply) {
 }
 
 // Ends the ticket of a task that was started.
-fn finish_child(child: Option<AnyTicket>) {
+pub(crate) fn finish_child(child: Option<AnyTicket>) {
     match child {
         Some(ticket) => lost(ticket),
         None => {}
@@ -144,7 +148,7 @@ fn finish_child(child: Option<AnyTicket>) {
 }
 
 // Ends a request.
-fn end(request: Request) {
+pub(crate) fn end(request: Request) {
     let Request {
         ticket,
         ask: _,

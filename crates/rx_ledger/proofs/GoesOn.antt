@@ -1,22 +1,20 @@
 -- The ticket of a reply serves the next request.
-use Rattle.std.specs.Prelude.{◌≡◌, ◌≢◌, ℕ, ◌<◌, ◌==◌, Bool, true, false, cond, not, ◌&&◌, filter, is_some, List, [], ◌∷◌, ◌++◌, Option, Some, None, refl}
+use Rattle.std.specs.Prelude.{◌≡◌, ℕ, ◌<◌, ◌==◌, Bool, true, false, cond, not, ◌&&◌, is_some, List, [], ◌∷◌, Option, Some, None, refl}
 use Rattle.std.specs.List.{find}
 use Rattle.std.proofs.Common.{ap, ◌∙◌, sym, subst, arith, inl, inr}
-use Rattle.std.proofs.lemmas.Bool.{eq-eqb, eqb-true, ne_eqb}
-use Rattle.rx_rules.specs.declared.tasks.Where.{Where}
+use Rattle.std.proofs.lemmas.Bool.{eq-eqb, ne_eqb}
 use Rattle.rx_rules.specs.declared.tasks.Where.TheVariants.{At, Travel}
 use Rattle.rx_rules.specs.Reached.{Reached}
-use Rattle.rx_sound.specs.Chains.{Opened as OpenedAll, HasOpener}
 use Rattle.rx_sound.proofs.Waiting.{waiter_owns}
 use Rattle.rx_tree.specs.Calls.{landing}
 use Rattle.rx_base.specs.declared.ids.PlaceId.{PlaceId}
 use Rattle.rx_base.specs.declared.ids.TaskId.{TaskId}
 use Rattle.rx_base.specs.declared.ids.ScopeId.{ScopeId}
 use Rattle.rx_rules.specs.declared.entries.Act.{Act}
-use Rattle.rx_rules.specs.declared.entries.Act.TheVariants.{Open, At as Calls, Spawn, Arrive, Wait, Release, End, Print}
+use Rattle.rx_rules.specs.declared.entries.Act.TheVariants.{Open, At as Calls, Spawn, Arrive, Wait, Release, Print}
 use Rattle.rx_rules.specs.declared.entries.Entry.{Entry}
 use Rattle.rx_rules.specs.declared.entries.Entry.TheVariants.{Step}
-use Rattle.rx_rules.specs.declared.tasks.Kind.TheVariants.{Finish, Call}
+use Rattle.rx_rules.specs.declared.tasks.Kind.TheVariants.{Call}
 use Rattle.rx_rules.specs.declared.tasks.Task.{Task}
 use Rattle.rx_rules.specs.declared.tasks.Scope.{Scope}
 use Rattle.rx_rules.specs.Tree.{Tree, task_of, is_task, is_scope, inner, own_scope, opened_by, is_under}
@@ -25,19 +23,19 @@ use Rattle.rx_rules.specs.Fold.{tree_of}
 use Rattle.rx_rules.specs.Run.{Given, Folds}
 use Rattle.rx_sound.specs.Sound.{Sound}
 use Rattle.rx_sound.proofs.Reached.{sound}
+use Rattle.rx_sound.proofs.Opening.{own_place}
+use Rattle.rx_sound.proofs.Stay.{find_filter}
+use Rattle.rx_sound.proofs.Staying.{id_is}
 use Rattle.rx_sound.proofs.Reach.{task_below}
 use Rattle.rx_sound.proofs.Lookups.{number_of}
 use Rattle.rx_sound.proofs.Histories.{fold_reached}
 use Rattle.rx_runs.proofs.Append.{tree-push}
 use Rattle.rx_tree.specs.declared.ledger.Caller.{Caller}
 use Rattle.rx_base.specs.declared.values.Fault.{Fault}
-use Rattle.rx_tree.specs.Callers.{Says, Stands, MayAsk, MayAskMoving, MayAskTo, MayAskWait, MayAskRelease, MayAskArrive, HasFinish, WaitsInside, IsMoving, Travels, HasNumbers}
+use Rattle.rx_tree.specs.Callers.{Says, MayAsk, MayAskMoving, MayAskWait, MayAskRelease, MayAskArrive, HasFinish, WaitsInside, IsMoving, Travels, HasNumbers}
 use Rattle.rx_base.specs.declared.place_set.PlaceSet.{PlaceSet}
 use Rattle.rx_rules.specs.declared.tasks.Blow.{Blow}
 use Rattle.rx_ledger.proofs.Uncovers.{uncovers}
-use Rattle.rx_ticket.specs.declared.tickets.AnyTicket.{AnyTicket}
-use Rattle.rx_ticket.specs.declared.tickets.AnyTicket.TheVariants.{Running}
-use Rattle.rx_trace.specs.declared.asks.Ask.TheVariants.{Open as AskOpen, Spawn as AskSpawn, Print as AskPrint}
 use Rattle.rx_ledger.specs.declared.asks.Request.{Request}
 use Rattle.rx_ledger.specs.declared.asks.Reply.TheVariants.{Opened, Called, Spawned, Landed, Waits, Released, Ended, Printed, RootDone, NotYet, Lost, NoMemory}
 use Rattle.rx_ledger.specs.Asking.{MayApply}
@@ -55,9 +53,6 @@ so_says T who P x h found =
       | inl s ↦ (let same : Some s.task ≡ Some x = sym s.stands ∙ found in let it : s.task ≡ x = cc in subst (λ (y : Task). So T who y) it (record { says = s.says; inner_is = s.inner_is }))
       | inr s ↦ absurd (let none : None ≡ Some x = sym s.none ∙ found in let v : ⊥ = cc in v)
     ]
-
-id_is : (a b : TaskId) → a.0 ≡ b.0 → a ≡ b
-id_is a b e = ap (λ (k : ℕ). (let t : TaskId = record { 0 = k } in t)) e
 
 -- who was changed is found changed
 found_changed : (f : Task → Task) (t : TaskId) (xs : List Task) (x : Task) → ((y : Task) → (f y).number ≡ y.number) → find (is_task t) xs ≡ Some x → find (is_task t) (change_first (is_task t) f xs) ≡ Some (f x)
@@ -95,31 +90,13 @@ found_faulted p q f (k ∷ ks) g same keeps e =
           ]
     ]) refl e
 
--- the opener of a scope is at the scope's home
-own_here : (ts : List Task) (g : Scope) (gs : List Scope) (t : TaskId) (x : Task) (o : Option TaskId) → g.opener ≡ o → opened_by t g ≡ true → find (is_task t) ts ≡ Some x → HasOpener ts g gs o → x.place ≡ At g.home
-own_here ts g gs t x None e mine found k = absurd (let v : false ≡ true = sym (rw (e, opened_by) refl) ∙ mine in let w : ⊥ = cc in w)
-own_here ts g gs t x (Some o) e mine found k =
-    let it : (o.0 == t.0) ≡ true = sym (rw (e, opened_by) refl) ∙ mine in
-    let ot : o ≡ t = id_is o t (eqb-true o.0 t.0 it) in
-    let same : Some k.task ≡ Some x = sym k.stands ∙ (ap (λ (v : TaskId). find (is_task v) ts) ot ∙ found) in
-    let kx : k.task ≡ x = cc in
-    sym (ap (λ (z : Task). z.place) kx) ∙ k.at_home
-
-own_at : (ts : List Task) (gs : List Scope) (t : TaskId) (x : Task) (g : Scope) → OpenedAll ts gs → find (is_task t) ts ≡ Some x → find (opened_by t) gs ≡ Some g → x.place ≡ At g.home
-own_at ts [] t x g o found e = absurd (let v : ⊥ = cc in v)
-own_at ts (k ∷ gs) t x g o found e =
-    (elim (opened_by t k) as (λ b. opened_by t k ≡ b → cond b (Some k) (find (opened_by t) gs) ≡ Some g → x.place ≡ At g.home) [
-      | true ↦ λ mine j. (let same : k ≡ g = cc in ap (λ (p : Where). p) (own_here ts k gs t x k.opener refl mine found o.0) ∙ ap (λ (z : Scope). At z.home) same)
-      | false ↦ λ other j. own_at ts gs t x g o.1 found j
-    ]) refl e
-
 -- who travels does not wait
 traveller_moves : (T : Tree) (t : TaskId) (x : Task) (from to : PlaceId) → Reached T → task_of T t ≡ Some x → x.struck ≡ None → x.place ≡ Travel from to → x.waits ≡ false
 traveller_moves T t x from to r found free travels =
     (elim x.waits as (λ b. x.waits ≡ b → b ≡ false) [
       | true ↦ λ e.
           let own = waiter_owns T t x r found free e in
-          let place : x.place ≡ At own.0.home = own_at T.tasks T.scopes t x own.0 (sound r).opened found own.1 in
+          let place : x.place ≡ At own.0.home = own_place T.tasks T.scopes t x own.0 (sound r).opened found own.1 in
           let both : Travel from to ≡ At own.0.home = sym travels ∙ place in
           absurd (let v : ⊥ = cc in v)
       | false ↦ λ e. refl
@@ -141,22 +118,6 @@ landed_on T who r may act few =
       numbers = few;
     }
 
--- who is kept is found among those that are kept
-found_kept : (p q : Task → Bool) (xs : List Task) (z : Task) → q z ≡ true → find p xs ≡ Some z → find p (filter q xs) ≡ Some z
-found_kept p q [] z keep e = absurd (let v : ⊥ = cc in v)
-found_kept p q (x ∷ xs) z keep e =
-    (elim (p x) as (λ b. p x ≡ b → cond b (Some x) (find p xs) ≡ Some z → find p (cond (q x) (x ∷ filter q xs) (filter q xs)) ≡ Some z) [
-      | true ↦ λ w k.
-          let same : x ≡ z = cc in
-          let kept : q x ≡ true = ap q same ∙ keep in
-          ap (λ (c : Bool). find p (cond c (x ∷ filter q xs) (filter q xs))) kept ∙ (ap (λ (c : Bool). cond c (Some x) (find p (filter q xs))) w ∙ ap (λ (y : Task). Some y) same)
-      | false ↦ λ w k.
-          elim (q x) as (λ c. find p (cond c (x ∷ filter q xs) (filter q xs)) ≡ Some z) [
-            | true ↦ ap (λ (c : Bool). cond c (Some x) (find p (filter q xs))) w ∙ found_kept p q xs z keep k
-            | false ↦ found_kept p q xs z keep k
-          ]
-    ]) refl e
-
 free_stays : (b : Bool) (o : Option Blow) → o ≡ None → not (b && is_some o) ≡ true
 free_stays true o e = ap (λ (v : Option Blow). not (true && is_some v)) e
 free_stays false o e = refl
@@ -169,7 +130,7 @@ released_on U es who lost thrown folds may act few =
     let z = m.task in
     let h = sound (fold_reached U.places es folds.some folds.few folds.allowed) in
     let so = so_says T who (WaitsInside T who) z may m.acts.stands in
-    let left : find (is_task who.task) (without T who.inner).tasks ≡ Some z = found_kept (is_task who.task) (λ x. not (is_under T who.inner x && is_some x.struck)) T.tasks z (free_stays (is_under T who.inner z) z.struck m.acts.unstruck) m.acts.stands in
+    let left : find (is_task who.task) (without T who.inner).tasks ≡ Some z = find_filter (is_task who.task) (λ x. not (is_under T who.inner x && is_some x.struck)) T.tasks z m.acts.stands (free_stays (is_under T who.inner z) z.struck m.acts.unstruck) in
     let found = found_changed resumed who.task (without T who.inner).tasks z (λ y. refl) left in
     record {
       caller = inl (record {
@@ -177,7 +138,7 @@ released_on U es who lost thrown folds may act few =
         stands = found;
         says = record { under = so.says.under; place = so.says.place };
         inner_is = uncovers U es who.task who.inner lost thrown (resumed z) folds act found;
-        allowed = record { place = m.scope.home; is_at = own_at T.tasks T.scopes who.task z m.scope h.opened m.acts.stands m.own; moves = refl };
+        allowed = record { place = m.scope.home; is_at = own_place T.tasks T.scopes who.task z m.scope h.opened m.acts.stands m.own; moves = refl };
       });
       numbers = few;
     }

@@ -26,10 +26,10 @@ use Rattle.rx_sound.specs.Sound.{TasksFall}
 use Rattle.rx_sound.proofs.Reached.{sound}
 use Rattle.rx_sound.proofs.Reach.{task_below}
 use Rattle.rx_sound.proofs.Lookups.{number_of}
-use Rattle.rx_sound.proofs.Staying.{find_unfiltered}
+use Rattle.rx_sound.proofs.Staying.{find_unfiltered, id_is}
 use Rattle.rx_sound.proofs.Owning.{release_keeps, release_pops}
 use Rattle.rx_sound.proofs.Histories.{reached_now, dead-now}
-use Rattle.rx_ledger.proofs.Ended.{root_empties}
+use Rattle.rx_runs.proofs.Endings.{root_empties}
 use Rattle.rx_ledger.proofs.Striking.{find-hit}
 
 -- what links a scope to others: its number, its parent and its kind
@@ -64,9 +64,6 @@ found_top p (g ∷ gs) u =
 
 pub inner_top : (T : Tree) (x : Task) → inner T x ≡ top (links T x.number) x.under
 inner_top T x = found_top (opened_by x.number) T.scopes x.under
-
-pub id_is : (a b : TaskId) → a.0 ≡ b.0 → a ≡ b
-id_is a b e = ap (λ (k : ℕ). (let t : TaskId = record { 0 = k } in t)) e
 
 -- Tasks.
 

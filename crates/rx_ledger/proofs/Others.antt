@@ -1,5 +1,5 @@
 -- What an entry leaves of a task that does not make it.
-use Rattle.std.specs.Prelude.{◌≡◌, ◌≢◌, ℕ, suc, ◌<◌, ◌==◌, Bool, true, false, cond, not, ◌&&◌, filter, map, List, [], ◌∷◌, ◌++◌, Option, Some, None, is_some, is_none, option_map, refl}
+use Rattle.std.specs.Prelude.{◌≡◌, ◌≢◌, ℕ, ◌<◌, ◌==◌, Bool, true, false, cond, not, ◌&&◌, filter, map, List, [], ◌∷◌, ◌++◌, Option, Some, None, is_some, is_none, option_map, refl}
 use Rattle.std.specs.List.{find, list_any}
 use Rattle.std.proofs.Common.{ap, ◌∙◌, sym, subst, arith, ◌⊎◌, inl, inr}
 use Rattle.std.proofs.lemmas.Bool.{eqb-true, ne_eqb, true≢false, false_from_ne_true, not-true}
@@ -19,7 +19,7 @@ use Rattle.rx_rules.specs.Entries.{Allowed, AllowedAct, made, made_act, after_en
 use Rattle.rx_rules.specs.Reached.{Reached, opens, acts, ends, dies}
 use Rattle.rx_sound.specs.Sound.{Each, TasksFall, Sound}
 use Rattle.rx_sound.specs.Chains.{meets}
-use Rattle.rx_sound.proofs.Blows.{hit_number, hit_under, hit_place}
+use Rattle.rx_sound.proofs.Blows.{hit_under, hit_place}
 use Rattle.rx_sound.proofs.Waiting.{hit_waits}
 use Rattle.rx_sound.proofs.Changes.{each_found, each_more}
 use Rattle.rx_sound.proofs.Releasing.{leaves, each_none, none_is_not, on_meets}
@@ -30,6 +30,7 @@ use Rattle.rx_sound.proofs.Reached.{sound}
 use Rattle.rx_sound.proofs.Lookups.{find_passes, number_of}
 use Rattle.rx_sound.proofs.Stay.{find_change, find_filter}
 use Rattle.rx_sound.proofs.Staying.{find_unfiltered}
+use Rattle.rx_runs.proofs.Endings.{struck_if}
 use Rattle.rx_tree.specs.Callers.{gone_of}
 use Rattle.rx_ledger.specs.Staying.{NotBy}
 use Rattle.rx_ledger.proofs.Striking.{find-hit}
@@ -221,18 +222,10 @@ Lasts T V t x = Stays T V t x ⊎ Left V t x
 same_kept : (V : Tree) (t : TaskId) (x : Task) → task_of V t ≡ Some x → Kept V t x
 same_kept V t x e = record { task = x; stands = e; under = refl; place = refl; waits = refl }
 
--- a struck task under a scope that is released leaves
-struck_leaves : (u n s : Bool) → u ≡ true → u && n ≡ false → n ≡ not s → u && s ≡ true
-struck_leaves true true true a b e = refl
-struck_leaves true false true a b e = refl
-struck_leaves true true false a b e = absurd (true≢false b)
-struck_leaves true false false a b e = absurd (true≢false (sym e))
-struck_leaves false n s a b e = absurd (true≢false (sym a))
-
 under_leaves : (T : Tree) (s : ScopeId) (t : TaskId) (x : Task) → quiet T s ≡ true → task_of T t ≡ Some x → is_under T s x ≡ true → leaves T s x ≡ true
 under_leaves T s t x still found below =
     let all : Each (λ y. is_under T s y && is_none y.struck ≡ false) T.tasks = each_none (λ y. is_under T s y && is_none y.struck) T.tasks (not-true _ still) in
-    struck_leaves (is_under T s x) (is_none x.struck) (is_some x.struck) below
+    struck_if (is_under T s x) (is_none x.struck) (is_some x.struck) below
     (each_found (λ y. is_under T s y && is_none y.struck ≡ false) (is_task t) T.tasks x all found) (none_is_not x.struck)
 
 left_now : (T : Tree) (s : ScopeId) (t : TaskId) (x : Task) → Reached T → task_of T t ≡ Some x → leaves T s x ≡ true → Left (without T s) t x

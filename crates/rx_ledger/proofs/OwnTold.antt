@@ -1,12 +1,11 @@
 -- The scopes of a task are those that its own entries tell.
-use Rattle.std.specs.Prelude.{◌≡◌, ◌≢◌, ℕ, suc, ◌+◌, ◌<◌, ◌≤◌, ◌^◌, ◌==◌, Bool, true, false, cond, not, filter, map, drop, length, List, [], ◌∷◌, ◌++◌, Option, Some, None, option_map, All, refl}
+use Rattle.std.specs.Prelude.{◌≡◌, ℕ, suc, ◌+◌, ◌<◌, ◌≤◌, ◌==◌, Bool, true, false, cond, not, filter, map, drop, length, List, [], ◌∷◌, ◌++◌, Option, Some, None, option_map, All, refl}
 use Rattle.std.specs.List.{find}
 use Rattle.std.proofs.Common.{ap, ◌∙◌, sym, subst, arith, inl, inr}
 use Rattle.std.proofs.lemmas.Bool.{eqb-true, eqb-false, eq-eqb, ne_eqb, true≢false, not-true}
 use Rattle.std.proofs.lemmas.Bool.Decides.{leb_tells}
 use Rattle.rx_base.specs.declared.ids.TaskId.{TaskId}
 use Rattle.rx_base.specs.declared.ids.ScopeId.{ScopeId}
-use Rattle.rx_base.specs.declared.values.Fault.{Fault}
 use Rattle.rx_rules.specs.declared.entries.Act.{Act}
 use Rattle.rx_rules.specs.declared.entries.Act.TheVariants.{Open, At as Calls, Spawn, Arrive, Wait, Release, End, Print}
 use Rattle.rx_rules.specs.declared.entries.Entry.{Entry}
@@ -16,8 +15,8 @@ use Rattle.rx_rules.specs.declared.tasks.Kind.TheVariants.{Finish}
 use Rattle.rx_rules.specs.declared.tasks.Blow.{Blow}
 use Rattle.rx_rules.specs.declared.tasks.Task.{Task}
 use Rattle.rx_rules.specs.declared.tasks.Scope.{Scope}
-use Rattle.rx_rules.specs.Tree.{Tree, task_of, is_task, is_scope, opened_by, own_scope}
-use Rattle.rx_rules.specs.Entries.{Allowed, AllowedAct, made, made_act, after_end, change_scope, hit}
+use Rattle.rx_rules.specs.Tree.{Tree, task_of, is_task, is_scope, opened_by}
+use Rattle.rx_rules.specs.Entries.{Allowed, AllowedAct, made, made_act, change_scope, hit}
 use Rattle.rx_rules.specs.Fold.{AllAllowed, fold_from, opening, tree_of}
 use Rattle.rx_rules.specs.Reached.{Reached, IsOlder, opens}
 use Rattle.rx_sound.proofs.Lookups.{find_passes}
@@ -25,13 +24,13 @@ use Rattle.rx_sound.proofs.Reach.{task_below}
 use Rattle.rx_sound.proofs.Reached.{sound}
 use Rattle.rx_sound.proofs.Histories.{reached_now, dead-now, none_yet}
 use Rattle.rx_sound.proofs.Owning.{release_pops}
-use Rattle.rx_tree.specs.declared.ledger.Caller.{Caller}
-use Rattle.rx_tree.specs.Callers.{Stands, MayAsk, HasNumbers, HasFinish, IsBare, IsMoving}
-use Rattle.rx_ledger.specs.Owned.{Owned, sort_of, own_after, own_from, own_told, owned, OwnedAsTold, MayWaitNext, MayEndNext, NumbersAreLeft}
-use Rattle.rx_ledger.proofs.Ended.{root_empties, who_stands}
+use Rattle.rx_ledger.specs.Owned.{Owned, sort_of, own_after, own_from, owned, OwnedAsTold, MayWaitNext, MayEndNext, NumbersAreLeft}
+use Rattle.rx_runs.proofs.Endings.{root_empties}
+use Rattle.rx_ledger.proofs.Ended.{who_stands}
 use Rattle.rx_ledger.proofs.Striking.{find-hit}
-use Rattle.rx_ledger.proofs.Linking.{Link, link, links, links_faulted, none_opened, id_is}
-use Rattle.rx_ledger.proofs.Others.{Apart, Stays, none_act, passes_filter, ended, entry_lasts}
+use Rattle.rx_ledger.proofs.Linking.{Link, link, links, links_faulted, none_opened}
+use Rattle.rx_sound.proofs.Staying.{id_is}
+use Rattle.rx_ledger.proofs.Others.{none_act, passes_filter, ended, entry_lasts}
 
 -- Links tell numbers and kinds.
 

@@ -52,23 +52,11 @@ tree-places places es = fold-places 0 (opening places) es
 
 -- The kills that are left.
 
-pub left-step : (ks : List Kill) (es : List Entry) (t : TaskId) (act : Act) (batch : List (List ℕ)) → kills_left ks (es ++ Step t act batch ∷ []) ≡ kills_left ks es
-left-step ks [] t act batch = refl
-left-step ks (Step u a b ∷ es) t act batch = left-step ks es t act batch
-left-step ks (Root l f ∷ es) t act batch = left-step ks es t act batch
-left-step ks (Death d ∷ es) t act batch = left-step (rest_of ks) es t act batch
-
 pub left-root : (ks : List Kill) (es : List Entry) (lost : PlaceSet) (thrown : List Fault) → kills_left ks (es ++ Root lost thrown ∷ []) ≡ kills_left ks es
 left-root ks [] lost thrown = refl
 left-root ks (Step u a b ∷ es) lost thrown = left-root ks es lost thrown
 left-root ks (Root l f ∷ es) lost thrown = left-root ks es lost thrown
 left-root ks (Death d ∷ es) lost thrown = left-root (rest_of ks) es lost thrown
-
-pub left-death : (ks : List Kill) (es : List Entry) (d : PlaceId) → kills_left ks (es ++ Death d ∷ []) ≡ rest_of (kills_left ks es)
-left-death ks [] d = refl
-left-death ks (Step u a b ∷ es) d = left-death ks es d
-left-death ks (Root l f ∷ es) d = left-death ks es d
-left-death ks (Death c ∷ es) d = left-death (rest_of ks) es d
 
 -- The root.
 

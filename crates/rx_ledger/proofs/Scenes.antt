@@ -1,11 +1,7 @@
 -- What the worked calls take from a reply.
-use Rattle.std.specs.Prelude.{◌≡◌, ◌≢◌, ℕ, ◌<◌, ◌==◌, Bool, true, false, cond, List, [], ◌∷◌, ◌++◌, Option, Some, None, is_some, refl}
-use Rattle.std.proofs.Common.{ap, ◌∙◌, sym, subst, arith}
-use Rattle.rx_base.specs.declared.ids.PlaceId.{PlaceId}
-use Rattle.rx_base.specs.declared.ids.TaskId.{TaskId}
+use Rattle.std.specs.Prelude.{◌≡◌, ◌≢◌, ◌<◌, Bool, true, false, cond, [], ◌++◌, Option, Some, None, is_some, refl}
+use Rattle.std.proofs.Common.{ap, ◌∙◌, sym, arith}
 use Rattle.rx_base.specs.declared.ids.ScopeId.{ScopeId}
-use Rattle.rx_base.specs.declared.values.Fault.{Fault}
-use Rattle.rx_rules.specs.declared.entries.Entry.{Entry}
 use Rattle.rx_rules.specs.Tree.{death_of}
 use Rattle.rx_rules.specs.Fold.{tree_of}
 use Rattle.rx_sound.proofs.Reach.{task_below}
@@ -14,7 +10,6 @@ use Rattle.rx_sound.proofs.Histories.{fold_reached}
 use Rattle.rx_tree.specs.declared.ledger.Caller.{Caller}
 use Rattle.rx_ticket.specs.declared.tickets.AnyTicket.{AnyTicket}
 use Rattle.rx_ticket.specs.declared.tickets.AnyTicket.TheVariants.{Moving, Running}
-use Rattle.rx_trace.specs.declared.asks.Ask.TheVariants.{Open, Spawn, Wait}
 use Rattle.rx_ledger.specs.declared.asks.Request.{Request}
 use Rattle.rx_ledger.specs.declared.asks.Reply.TheVariants.{Opened, Spawned, Waits}
 use Rattle.rx_ledger.specs.Told.{deaths}

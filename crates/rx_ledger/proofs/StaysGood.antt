@@ -1,14 +1,13 @@
 -- What may be asked of a tree may be asked of it after entries of other tasks.
-use Rattle.std.specs.Prelude.{◌≡◌, ℕ, suc, ◌<◌, Bool, true, false, cond, List, [], ◌∷◌, ◌++◌, map, filter, length, Option, Some, None, option_map, All, refl}
+use Rattle.std.specs.Prelude.{◌≡◌, ℕ, suc, ◌<◌, Bool, true, false, cond, List, [], ◌∷◌, ◌++◌, map, filter, Option, Some, None, option_map, All, refl}
 use Rattle.std.specs.List.{find}
-use Rattle.std.proofs.Common.{ap, ◌∙◌, sym, subst, arith, ◌⊎◌, inl, inr}
+use Rattle.std.proofs.Common.{ap, ◌∙◌, sym, subst, ◌⊎◌, inl, inr}
 use Rattle.rx_base.specs.declared.ids.PlaceId.{PlaceId}
 use Rattle.rx_base.specs.declared.ids.TaskId.{TaskId}
 use Rattle.rx_base.specs.declared.ids.ScopeId.{ScopeId}
 use Rattle.rx_rules.specs.declared.entries.Entry.{Entry}
 use Rattle.rx_rules.specs.declared.tasks.Task.{Task}
 use Rattle.rx_rules.specs.declared.tasks.Scope.{Scope}
-use Rattle.rx_rules.specs.declared.tasks.Kind.{Kind}
 use Rattle.rx_rules.specs.Tree.{Tree, task_of, opened_by, own_scope, inner}
 use Rattle.rx_rules.specs.Entries.{Allowed, made}
 use Rattle.rx_rules.specs.Fold.{AllAllowed, fold_from, opening, tree_of}
@@ -17,7 +16,7 @@ use Rattle.rx_sound.specs.Sound.{Each}
 use Rattle.rx_sound.proofs.Lookups.{number_of}
 use Rattle.rx_sound.proofs.Histories.{reached_now, dead-now, none_yet}
 use Rattle.rx_tree.specs.declared.ledger.Caller.{Caller}
-use Rattle.rx_tree.specs.Callers.{Stands, HasLeft, HasNumbers, MayAsk, MayAskTo, IsMoving, Travels, HasFinish, WaitsInside, IsBare, does_travel}
+use Rattle.rx_tree.specs.Callers.{Stands, HasLeft, HasNumbers, MayAskTo, IsMoving, Travels, HasFinish, WaitsInside, IsBare, does_travel}
 use Rattle.rx_ticket.specs.declared.tickets.AnyTicket.{AnyTicket}
 use Rattle.rx_ticket.specs.declared.tickets.AnyTicket.TheVariants.{Moving, Running, Held, Host}
 use Rattle.rx_trace.specs.declared.asks.Ask.{Ask}
@@ -25,8 +24,9 @@ use Rattle.rx_trace.specs.declared.asks.Ask.TheVariants.{Open, At as Calls, Spaw
 use Rattle.rx_ledger.specs.Asking.{MayAskFor, IsMoving as Moves, IsRunning, IsHeld}
 use Rattle.rx_ledger.specs.Staying.{NotBy, NotOf, EntryKeepsTicket, TicketsStayGood}
 use Rattle.rx_ledger.proofs.Pushing.{made-places, tree-places}
-use Rattle.rx_ledger.proofs.Linking.{Link, link, links, top, inner_top, id_is}
-use Rattle.rx_ledger.proofs.Others.{Stays, Lasts, entry_lasts, left_lasts}
+use Rattle.rx_ledger.proofs.Linking.{Link, link, links, top, inner_top}
+use Rattle.rx_sound.proofs.Staying.{id_is}
+use Rattle.rx_ledger.proofs.Others.{Stays, entry_lasts, left_lasts}
 
 -- The newest own scope, as its link.
 

@@ -1,5 +1,5 @@
 -- What may be asked of a tree may be asked of it after a death.
-use Rattle.std.specs.Prelude.{◌≡◌, ℕ, suc, ◌&&◌, ◌==◌, Bool, true, false, cond, is_none, List, [], ◌∷◌, map, Option, Some, None, option_map, refl}
+use Rattle.std.specs.Prelude.{◌≡◌, ℕ, suc, ◌==◌, Bool, true, false, cond, List, [], ◌∷◌, map, Option, Some, None, option_map, refl}
 use Rattle.std.specs.List.{find}
 use Rattle.std.proofs.Common.{ap, ◌∙◌, inl, inr}
 use Rattle.rx_base.specs.declared.ids.PlaceId.{PlaceId}
@@ -8,8 +8,10 @@ use Rattle.rx_base.specs.declared.ids.ScopeId.{ScopeId}
 use Rattle.rx_rules.specs.declared.tasks.Task.{Task}
 use Rattle.rx_rules.specs.declared.tasks.Blow.{Blow}
 use Rattle.rx_rules.specs.Tree.{Tree, is_task, inner, own_scope}
-use Rattle.rx_rules.specs.Entries.{strike, hit, is_hit}
+use Rattle.rx_rules.specs.Entries.{strike, hit}
 use Rattle.rx_rules.specs.Fold.{fold_from}
+use Rattle.rx_sound.proofs.Blows.{hit_number, hit_under, hit_place}
+use Rattle.rx_sound.proofs.Waiting.{hit_waits}
 use Rattle.rx_tree.specs.declared.ledger.Caller.{Caller}
 use Rattle.rx_tree.specs.Callers.{MayAsk, MayAskTo, IsMoving, Travels, HasFinish, WaitsInside, IsBare, does_travel}
 use Rattle.rx_ticket.specs.declared.tickets.AnyTicket.{AnyTicket}
@@ -18,36 +20,6 @@ use Rattle.rx_trace.specs.declared.asks.Ask.{Ask}
 use Rattle.rx_trace.specs.declared.asks.Ask.TheVariants.{Open, At as Calls, Spawn, Arrive, Wait, Release, End, Print, Root}
 use Rattle.rx_ledger.specs.Asking.{MayAskFor, IsMoving as Moves, IsRunning, IsHeld}
 use Rattle.rx_ledger.specs.Told.{deaths}
-
--- A blow changes nothing of a task but whether it is struck.
-
-hit_number : (b : Blow) (x : Task) → (hit b x).number ≡ x.number
-hit_number b x = if_hit (is_none x.struck && is_hit b.place x.place)
-  where
-    if_hit : (c : Bool) → (cond c (record x { struck = Some b }) x).number ≡ x.number
-    if_hit true = refl
-    if_hit false = refl
-
-pub hit_under : (b : Blow) (x : Task) → (hit b x).under ≡ x.under
-hit_under b x = if_hit (is_none x.struck && is_hit b.place x.place)
-  where
-    if_hit : (c : Bool) → (cond c (record x { struck = Some b }) x).under ≡ x.under
-    if_hit true = refl
-    if_hit false = refl
-
-hit_place : (b : Blow) (x : Task) → (hit b x).place ≡ x.place
-hit_place b x = if_hit (is_none x.struck && is_hit b.place x.place)
-  where
-    if_hit : (c : Bool) → (cond c (record x { struck = Some b }) x).place ≡ x.place
-    if_hit true = refl
-    if_hit false = refl
-
-hit_waits : (b : Blow) (x : Task) → (hit b x).waits ≡ x.waits
-hit_waits b x = if_hit (is_none x.struck && is_hit b.place x.place)
-  where
-    if_hit : (c : Bool) → (cond c (record x { struck = Some b }) x).waits ≡ x.waits
-    if_hit true = refl
-    if_hit false = refl
 
 -- who stands there stands there still, and who does not does not
 found-hit : (b : Blow) (x : Task) (r o : Option Task) (c : Bool) → r ≡ option_map (hit b) o → cond c (Some (hit b x)) r ≡ option_map (hit b) (cond c (Some x) o)

@@ -1,6 +1,5 @@
 -- What a keeper's call leaves to its caller and to the other tasks, said of what is seen before and after it.
-use Rattle.std.specs.Prelude.{◌≡◌, ◌≢◌, drop, List, [], ◌∷◌, Some}
-use Rattle.rx_base.specs.declared.ids.TaskId.{TaskId}
+use Rattle.std.specs.Prelude.{◌≡◌, ◌≢◌, drop, ◌∷◌, Some}
 use Rattle.rx_rules.specs.declared.tasks.Kind.TheVariants.{Finish, Call}
 use Rattle.rx_rules.specs.Tree.{Tree}
 use Rattle.rx_rules.specs.Fold.{tree_of}

@@ -19,5 +19,5 @@ returns-clause-owns g c =
     let h = c.in-Opened.ensures.applied in (
       s,
       ap (λ (t : TaskId). own_told k'.entries t) (opened_task k k' q w c.in-Opened.ticket s refl h)
-      ∙ (c.calls_own.ensures k k' q (Opened c.in-Opened.ticket s) w refl h ∙ ap (λ (o : Owned). (s, Finish) ∷ o) c.requires.bare),
+          ∙ (c.calls_own.ensures k k' q (Opened c.in-Opened.ticket s) w refl h ∙ ap (λ (o : Owned). (s, Finish) ∷ o) c.requires.bare),
     )

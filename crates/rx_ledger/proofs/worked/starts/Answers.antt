@@ -24,5 +24,5 @@ returns-clause-owns g c =
     let h = c.in-Spawned.ensures.applied in (
       c.requires.owns.0,
       ap (λ (n : TaskId). own_told k'.entries n) (spawned_task k k' q w t c.in-Spawned.child refl h)
-      ∙ (c.calls_own.ensures k k' q (Spawned t c.in-Spawned.child) w refl h ∙ c.requires.owns.1),
+          ∙ (c.calls_own.ensures k k' q (Spawned t c.in-Spawned.child) w refl h ∙ c.requires.owns.1),
     )

@@ -14,4 +14,4 @@ mod taking;
 #[cfg(test)]
 mod tests;
 
-pub use command::{Command, PickWords, WordFault, read_words};
+pub use command::{Command, LiveWords, PickWords, WordFault, read_live, read_words};

@@ -2,7 +2,7 @@
 use Rattle.std.proofs.Common.{◌≡◌, ℕ, suc, ◌≤◌, ◌^◌, ◌-◌, List, [], ◌∷◌, Option, Some, None, refl, arith}
 use Rattle.std.specs.Prelude.{IfSome, Bool, true, false, bytes_eq, codes, if◌then◌else◌}
 use Rattle.rx_rules.specs.Run.{Proper}
-use Rattle.rx_words.specs.Words.{number_of, kill_of, picks_of, Wants, nothing_yet, Choice, NoOption, SizeOption, PlacesOption, HeapOption, KillOption, PickOption, SeedOption, Taken, NotAnOption, BadValue, Takes, good, taken, choice, or_else, bad_kill, setup_of, source, Step, Gen, Check, BadWord, unless_bad, generated, settled, cut_off, options, alone}
+use Rattle.rx_words.specs.Words.{number_of, kill_of, picks_of, Wants, nothing_yet, Choice, NoOption, SizeOption, PlacesOption, HeapOption, KillOption, PickOption, SeedOption, WorkersOption, Taken, NotAnOption, BadValue, Takes, good, taken, choice, or_else, bad_kill, setup_of, source, Step, Gen, Check, Live, BadWord, unless_bad, generated, settled, cut_off, options, alone, asked, asked_any}
 use Rattle.rx_words.specs.declared.options.Verb.{Verb}
 use Rattle.rx_words.specs.declared.options.Verb.TheVariants as verbs
 use Rattle.rx_words.specs.Proper.{HasProper, SetupsAreProper}
@@ -32,6 +32,7 @@ taken-ranged HeapOption w k value r = good-ranged (number_of 1 4096 value) _ (λ
 taken-ranged KillOption w k value r = good-ranged (kill_of value) _ (λ kill e. record { places = r.places; heap = r.heap })
 taken-ranged PickOption w k value r = good-ranged (picks_of value) _ (λ list e. record { places = r.places; heap = r.heap })
 taken-ranged SeedOption w k value r = good-ranged (number_of 0 (2 ^ 64 - 1) value) _ (λ n e. record { places = r.places; heap = r.heap })
+taken-ranged WorkersOption w k value r = good-ranged (number_of 1 8 value) _ (λ n e. record { places = r.places; heap = r.heap })
 
 -- what options say, or what stands for it, is in range
 within : (least most usual : ℕ) (o : Option ℕ) → (least ≤ usual) × (usual ≤ most) → IfSome o (λ n. (least ≤ n) × (n ≤ most)) → (least ≤ or_else o usual) × (or_else o usual ≤ most)
@@ -59,6 +60,11 @@ settled-proper verbs.Gen w k r = sized w.size
     sized : (o : Option ℕ) → HasProper (generated o w k)
     sized (Some n) = by n (bad_kill (or_else w.places 2) [] w.kills) refl
     sized None = tt
+settled-proper verbs.Live w k r = by (bad_kill (or_else w.places 2) [] w.kills) refl
+  where
+    by : (o : Option ℕ) → bad_kill (or_else w.places 2) [] w.kills ≡ o → HasProper (unless_bad o (Live (setup_of w) (or_else w.workers 2)))
+    by (Some n) e = tt
+    by None e = setup-proper w r e
 
 cut-proper : (c : Choice) (k : ℕ) → HasProper (cut_off c k)
 cut-proper NoOption k = tt
@@ -68,6 +74,7 @@ cut-proper HeapOption k = tt
 cut-proper KillOption k = tt
 cut-proper PickOption k = tt
 cut-proper SeedOption k = tt
+cut-proper WorkersOption k = tt
 
 pub options-proper : (verb : Verb) (w : Wants) (k : ℕ) (words : List (List ℕ)) → IsRanged w → HasProper (options verb w k words)
 options-proper verb w k [] r = settled-proper verb w k r
@@ -86,12 +93,19 @@ alone-proper : (words : List (List ℕ)) → HasProper (alone Check words)
 alone-proper [] = tt
 alone-proper (word ∷ words) = tt
 
-pub setups-are-proper : SetupsAreProper
-setups-are-proper [] = tt
-setups-are-proper (word ∷ words) = by (bytes_eq word (codes "step")) (bytes_eq word (codes "gen")) (bytes_eq word (codes "check"))
+asked-proper : (word : List ℕ) (words : List (List ℕ)) → HasProper (asked (word ∷ words))
+asked-proper word words = by (bytes_eq word (codes "step")) (bytes_eq word (codes "gen")) (bytes_eq word (codes "check"))
   where
     by : (a b c : Bool) → HasProper (if a then options verbs.Step nothing_yet 1 words else (if b then options verbs.Gen nothing_yet 1 words else (if c then alone Check words else BadWord 0)))
     by true b c = options-proper verbs.Step nothing_yet 1 words none-ranged
     by false true c = options-proper verbs.Gen nothing_yet 1 words none-ranged
     by false false true = alone-proper words
     by false false false = tt
+
+pub setups-are-proper : SetupsAreProper
+setups-are-proper [] = tt
+setups-are-proper (word ∷ words) = by (bytes_eq word (codes "live"))
+  where
+    by : (b : Bool) → HasProper (if b then options verbs.Live nothing_yet 1 words else asked (word ∷ words))
+    by true = options-proper verbs.Live nothing_yet 1 words none-ranged
+    by false = asked-proper word words

@@ -1,0 +1,34 @@
+// That the call can succeed, and that its workers come by the gate at one time.
+use crate::run_live;
+use rx_base::MeetGate;
+use rx_check::check;
+use rx_tree::TreeLedger;
+use rx_script::read_script;
+use rx_trace::{KillList, Setup};
+use std::test::Fail;
+
+#[test]
+fn two_workers_meet_and_end_a_run(rt: HostRuntime) -> Result<(), Fail> {
+    let alloc = rt.alloc();
+    let Ok(script) = read_script(alloc, b"finish { at 1 async { print 7; } } print 8;") else {
+        panic!(rt; "no script")
+    };
+    let Ok(program) = check(alloc, script) else {
+        panic!(rt; "no program")
+    };
+    let setup = Setup {
+        places: 2,
+        heap: 256,
+        kills: KillList::open(alloc),
+    };
+    let Ok(ledger) = TreeLedger::open(alloc, 2) else {
+        panic!(rt; "no memory")
+    };
+    let gate = MeetGate::open(100_000_000);
+    let Ok((history, _, _)) = run_live(&rt, alloc, &program, &setup, 2, ledger, &gate) else {
+        panic!(rt; "no memory")
+    };
+    assert!(rt; gate.met());
+    assert_eq!(rt; history.len(), 10);
+    Ok(())
+}

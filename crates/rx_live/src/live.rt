@@ -11,7 +11,7 @@ ghost use Rattle.rx_live.specs.Rounds.{Keeps};
 use crate::round::Round;
 use rx_base::{Gate, NoMemory};
 use rx_check::{Program, checked};
-use rx_tree::TreeLedger;
+use rx_counts::CountLedger;
 use rx_lock::{Fact, Lock};
 use rx_machine::Machine;
 use rx_trace::{History, Journals, Setup};
@@ -51,15 +51,15 @@ pub fn run_live<G: Gate + Sync, R: Threads + Wait + Sync>(
     p: &Program,
     setup: &Setup,
     workers: u32,
-    ledger: TreeLedger,
+    ledger: CountLedger,
     gate: &G,
-) -> Result<(History, Journals, TreeLedger), NoMemory>
+) -> Result<(History, Journals, CountLedger), NoMemory>
     requires proper { Proper (given setup.now) }
     requires workers { (1 ≤ workers) × (workers ≤ 8) }
-    requires opened { ⟦<TreeLedger as FinishLedger>⟧.stands ledger (opening setup.now.places) }
+    requires opened { ⟦<CountLedger as FinishLedger>⟧.stands ledger (opening setup.now.places) }
     ensures run { IfOk result (λ r. (code : Block) → Stands p.now.script code → IsRun code (given setup.now) r.0.entries (events_of r.1)) }
     ensures setup { IfOk result (λ r. given r.0.setup ≡ given setup.now) }
-    ensures ledger { IfOk result (λ r. ⟦<TreeLedger as FinishLedger>⟧.stands r.2 (tree_of setup.now.places r.0.entries)) }
+    ensures ledger { IfOk result (λ r. ⟦<CountLedger as FinishLedger>⟧.stands r.2 (tree_of setup.now.places r.0.entries)) }
 {
     run_over(rt, alloc, p, setup, workers, ledger, gate)
 }

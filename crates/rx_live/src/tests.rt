@@ -2,7 +2,7 @@
 use crate::run_live;
 use rx_base::MeetGate;
 use rx_check::check;
-use rx_tree::TreeLedger;
+use rx_counts::CountLedger;
 use rx_script::read_script;
 use rx_trace::{KillList, Setup};
 use std::test::Fail;
@@ -21,7 +21,7 @@ fn two_workers_meet_and_end_a_run(rt: HostRuntime) -> Result<(), Fail> {
         heap: 256,
         kills: KillList::open(alloc),
     };
-    let Ok(ledger) = TreeLedger::open(alloc, 2) else {
+    let Ok(ledger) = CountLedger::open(alloc, 2) else {
         panic!(rt; "no memory")
     };
     let gate = MeetGate::open(100_000_000);

@@ -30,7 +30,7 @@ use Rattle.rx_gen.specs.Numbers.{has_some, starts_by, starts, prints_by, prints,
 use Rattle.rx_gen.specs.Lines.{lines}
 use Rattle.rx_script.specs.Faults.{OneScript}
 use Rattle.rx_script.specs.Grammar.{IsScriptOf}
-use Rattle.rx_words.specs.Words.{Asked, Step, Gen, Check, BadWord, Source, source, asked}
+use Rattle.rx_words.specs.Words.{Asked, Step, Gen, Check, Live, BadWord, Source, source, asked_any}
 use Rattle.rx_words.specs.Proper.{HasProper, SetupsAreProper}
 use Rattle.rx10.specs.declared.status.Status.{Status}
 use Rattle.rx10.specs.declared.status.Status.TheVariants.{Done, Faulted}
@@ -221,10 +221,12 @@ module _ (single : OnePickedRun) (proper : SetupsAreProper) where
       p.tells ∙ texts-tell U es fs js ks p.run.ends q.run.ends (sym e ∙ f) ∙ sym q.tells
   status-told (Gen size U seed) old new older newer text s t ok h k = (counts-agree size U (source None seed) text text s t ok h.1 k.1).1
   status-told Check old new older newer text s t ok (code, was, e, done) (other, were, f, over) = done ∙ sym over
+  status-told (Live U n) old new older newer text s t ok (code, was, es, js, p, told, e) (other, were, fs, ks, q, tells, f) =
+      told ∙ texts-tell U es fs js ks p.run.ends q.run.ends (sym e ∙ f) ∙ sym tells
   status-told (BadWord k) old new older newer text s t ok h i = absurd h
 
   pub text-tells-status : TextTellsStatus
-  text-tells-status words old new older newer text s t h k = status-told (asked words) old new older newer text s t (proper words) h k
+  text-tells-status words old new older newer text s t h k = status-told (asked_any words) old new older newer text s t (proper words) h k
 
   module _ (script : OneScript) where
     same-code : (old new newer : Option (List ℕ)) (bytes : List ℕ) (code other : Block) → old ≡ Some bytes → WasScript old new code → WasScript old newer other → code ≡ other
@@ -240,7 +242,8 @@ module _ (single : OnePickedRun) (proper : SetupsAreProper) where
     outcome-once (Gen size U seed) old new newer text written s t ok known h k = counts-agree size U (source None seed) text written s t ok h.1 k.1
     outcome-once Check old new newer text written s t ok (bytes, is) (code, was, e, done) (other, were, f, over) =
         (e ∙ ap work_line (same-code old new newer bytes code other is was were) ∙ sym f, done ∙ sym over)
+    outcome-once (Live U n) old new newer text written s t ok known h i = absurd known
     outcome-once (BadWord k) old new newer text written s t ok known h i = absurd h
 
     pub one-outcome : OneOutcome
-    one-outcome words old new newer text written s t known h k = outcome-once (asked words) old new newer text written s t (proper words) known h k
+    one-outcome words old new newer text written s t known h k = outcome-once (asked_any words) old new newer text written s t (proper words) known h k

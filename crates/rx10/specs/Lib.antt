@@ -1,3 +1,4 @@
+pub mod Live
 pub mod Seeds
 pub mod Top
 pub mod Outcomes

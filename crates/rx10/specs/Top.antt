@@ -16,8 +16,9 @@ use Rattle.rx_rules.specs.Order.{OrderKept}
 use Rattle.rx_script.specs.Grammar.{IsScript}
 use Rattle.rx_check.specs.Checked.{Meets}
 use Rattle.rx_trace.specs.Text.{trace_text}
-use Rattle.rx_words.specs.Words.{Asked, Step, Gen, Check, BadWord, Source, Zeros, Listed, Seeded, source}
+use Rattle.rx_words.specs.Words.{Asked, Step, Gen, Check, Live, BadWord, Source, Zeros, Listed, Seeded, source}
 use Rattle.rx10.specs.Seeds.{seed_word}
+use Rattle.rx10.specs.Live.{IsLawful}
 use Rattle.rx_gen.specs.Lines.{lines}
 use Rattle.rx_gen.specs.Numbers.{numbers, counts_text}
 use Rattle.rx10.specs.declared.status.Status.{Status}
@@ -58,6 +59,12 @@ abbrev pub IsTrace : Block → Given → Source → List ℕ → Status → Type
 IsTrace code U source text status =
     (entries : List Entry) × (journals : List (List PlaceEvent)) × HasRun code U source entries journals status × (text ≡ trace_text U entries journals)
 
+-- the bytes are the trace of some whole run of the script under a setup, and the status is that of its end
+abbrev pub IsLiveTrace : Block → Given → List ℕ → Status → Type 0
+IsLiveTrace code U text status =
+    (entries : List Entry) × (journals : List (List PlaceEvent)) × IsLawful code U entries journals × (status ≡ status_of entries)
+    × (text ≡ trace_text U entries journals)
+
 -- the bytes are the numbers of such a run of the generated script
 abbrev pub IsCount : ℕ → Given → Source → List ℕ → Status → Type 0
 IsCount size U source text status =
@@ -89,6 +96,7 @@ abbrev pub IsOutcome : Asked → Option (List ℕ) → Option (List ℕ) → Lis
 IsOutcome (Step U source) old new text status = (code : Block) × WasScript old new code × IsTrace code U source text status
 IsOutcome (Gen size U seed) old new text status = (new ≡ old) × IsCount size U (source None seed) text status
 IsOutcome Check old new text status = (code : Block) × WasScript old new code × (text ≡ work_line code) × (status ≡ Done)
+IsOutcome (Live U workers) old new text status = (code : Block) × WasScript old new code × IsLiveTrace code U text status
 IsOutcome (BadWord k) old new text status = ⊥
 
 -- These bytes are a script that meets the rules.
@@ -103,6 +111,7 @@ abbrev pub CanDo : Asked → Option (List ℕ) → Type 0
 CanDo (Step U source) left = (bytes : List ℕ) × (left ≡ Some bytes) × IsGood bytes
 CanDo (Gen size U seed) left = Unit {0}
 CanDo Check left = (bytes : List ℕ) × (left ≡ Some bytes) × IsGood bytes
+CanDo (Live U workers) left = (bytes : List ℕ) × (left ≡ Some bytes) × IsGood bytes
 CanDo (BadWord k) left = ⊥
 
 -- a status of a source from which no text was made

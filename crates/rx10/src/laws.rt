@@ -14,7 +14,7 @@ pub fn text_tells_status()
     setups_are_proper();
 }
 
-/// The same words and the same bytes of the source have one outcome: one text and one status.
+/// The same words and the same bytes of the source have one outcome, one text and one status, where no threads are started.
 pub fn one_outcome()
     ensures { OneOutcome }
 {

@@ -1,13 +1,16 @@
 //! The program: it runs the script that standard input gives and writes the trace to standard output, makes and runs a script of its
-//! own and writes the numbers of its history, or tells a script's work. `rx10_step` is the whole of it over any source and sink, and
-//! its contract is the theorem: a status `Done` or `Faulted` of `step` says that the bytes were a script that meets the rules, that
-//! what was written is the trace of a run of it, that nothing was released early in it, that its losses are exact and that the order
-//! of statements was kept. `laws` says that outcomes are determined. `main` makes the words, the source and the sink of what the system
-//! gives, and says the status. It stands on rx_words, rx_script, rx_check, rx_machine, rx_gen, rx_tree and rx_trace, and on the laws of
-//! rx_runs and rx_laws.
+//! own and writes the numbers of its history, or tells a script's work. `rx10` is the whole of it over any source, sink, runtime and
+//! gate, and its contract is the theorem: a status `Done` or `Faulted` of `step` and `live` says that the bytes were a script that meets
+//! the rules, that what was written is the trace of a run of it, that nothing was released early in it, that its losses are exact and
+//! that the order of statements was kept. `rx10_step` has the commands that start no thread, takes no runtime and always returns. `laws`
+//! says that outcomes are determined. `main` makes the words, the source and the sink of what the system gives, and says the status. It
+//! stands on rx_words, rx_script, rx_check, rx_machine, rx_live, rx_gen, rx_counts and rx_trace, and on the laws of rx_runs and rx_laws.
 #![tactic(auto)]
 
 pub mod laws;
+mod live;
+#[cfg(test)]
+mod live_tests;
 mod outside;
 mod run;
 mod seeds;
@@ -19,7 +22,8 @@ mod texts;
 mod top;
 mod words;
 
-use rx_base::{StdSink, StdSource};
+pub use live::rx10;
+use rx_base::{NoGate, StdSink, StdSource};
 pub use status::Status;
 use std::io;
 use std::process::ExitCode;
@@ -30,7 +34,7 @@ fn main(rt: HostRuntime) -> ExitCode {
         Ok(words) => {
             let mut input = StdSource::over(rt.reader());
             let mut out = StdSink::over(io::writer(&rt));
-            rx10_step(rt.alloc(), &words, &mut input, &mut out)
+            rx10(&rt, rt.alloc(), &words, &mut input, &mut out, &NoGate)
         }
         Err(_) => Status::NoMemory,
     };

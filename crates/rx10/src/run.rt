@@ -8,20 +8,23 @@ ghost use Rattle.rx_trace.specs.Events.{events_of};
 ghost use Rattle.rx_trace.specs.Setups.{given};
 ghost use Rattle.rx_words.specs.Commands.{source_of};
 ghost use Rattle.rx10.specs.declared.status.Status.TheVariants.{Done};
-ghost use Rattle.rx10.specs.Top.{is_clean as clean, status_by, status_of, work_line, picks_of, IsTrace, IsCount};
+ghost use Rattle.rx10.specs.Top.{is_clean as clean, status_by, status_of, work_line, picks_of, IsTrace, IsLiveTrace, IsCount};
 
 use crate::seeds::SeedPicks;
-use rx_base::{Faults, NoMemory, PlaceSet, members_make_the_set};
+use rx_base::{Faults, Gate, NoMemory, PlaceSet, members_make_the_set};
 use rx_check::{Program, checked};
+use rx_counts::CountLedger;
 use rx_gen::{counts, generate, put_counts};
 use rx_laws::{run_is_exact, run_is_not_early, run_is_ordered};
+use rx_live::run_live;
 use rx_machine::{ListPicks, Machine, Picks};
 use rx_runs::{entries_are_bounded, few_picks_are_used, picked_run_is_run};
 use rx_text::put_natural;
 use rx_trace::{Entry, History, Journals, Setup, write_trace};
-use rx_tree::TreeLedger;
-use rx_words::PickWords;
+use rx_words::{LiveWords, PickWords};
 use std::alloc::Global;
+use std::sync::Wait;
+use std::thread::Threads;
 
 // The line that tells a program's work.
 pub(crate) fn tell_work(alloc: Global, program: &Program) -> Result<(Vec<u8>, bool), NoMemory>
@@ -54,6 +57,38 @@ pub(crate) fn make_trace(
     write_trace(&history, &journals, &mut text)?;
     let clean = ends_clean(&history);
     Ok((text, clean))
+}
+
+// The text of the trace of a run with several workers, and whether nothing was lost and nothing thrown at the root.
+pub(crate) fn make_live<G: Gate + Sync, R: Threads + Wait + Sync>(
+    rt: &R,
+    alloc: Global,
+    program: &Program,
+    live: &LiveWords,
+    gate: &G,
+) -> Result<(Vec<u8>, bool), NoMemory>
+    requires proper { Proper (given live.now.setup) }
+    requires workers { (1 ≤ live.now.workers) × (live.now.workers ≤ 8) }
+    ensures { IfOk result (λ r. (code : Block) → Stands program.now.script code →
+        IsLiveTrace code (given live.now.setup) r.0.items (status_by r.1)) }
+{
+    checked(program);
+    let ledger = CountLedger::open(alloc, live.setup.places)?;
+    let (history, journals, _) = run_live(
+        rt,
+        alloc,
+        program,
+        &live.setup,
+        live.workers,
+        ledger,
+        gate,
+    )?;
+    run_is_not_early();
+    run_is_exact();
+    run_is_ordered();
+    let mut text = Vec::new(alloc);
+    write_trace(&history, &journals, &mut text)?;
+    Ok((text, ends_clean(&history)))
 }
 
 // The numbers of the run of the generated script, and whether nothing was lost and nothing thrown at the root.
@@ -115,7 +150,7 @@ fn run_program<P: Picks>(
 {
     checked(program);
     entries_are_bounded();
-    let ledger = TreeLedger::open(alloc, setup.places)?;
+    let ledger = CountLedger::open(alloc, setup.places)?;
     let machine = Machine::open(alloc, program, setup, ledger)?;
     few_picks_are_used();
     let (history, journals, _) = machine.run(program, picks)?;

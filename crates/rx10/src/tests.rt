@@ -55,11 +55,11 @@ fn gives(
     Ok(answer == status && written.as_slice() == text)
 }
 
-const STEP: &[&[u8]] = &[b"step"];
+pub(crate) const STEP: &[&[u8]] = &[b"step"];
 
 const CHECK: &[&[u8]] = &[b"check"];
 
-const SCRIPT: &[u8] = b"finish { at 1 async { print 7; } } print 8;";
+pub(crate) const SCRIPT: &[u8] = b"finish { at 1 async { print 7; } } print 8;";
 
 #[test]
 fn runs_with_deaths(rt: HostRuntime) -> Result<(), NoMemory> {
@@ -225,7 +225,7 @@ fn the_second_of_two_enabled_tasks_moves(rt: HostRuntime) -> Result<(), NoMemory
 }
 
 // The values that a trace prints, a blank behind each.
-fn printed(alloc: Global, trace: &[u8]) -> Result<Vec<u8>, NoMemory> {
+pub(crate) fn printed(alloc: Global, trace: &[u8]) -> Result<Vec<u8>, NoMemory> {
     let mut values = Vec::new(alloc);
     for line in trace.split(|b| *b == b'\n') {
         let mut parts = line.split(|b| *b == b' ');

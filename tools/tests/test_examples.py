@@ -1,4 +1,4 @@
-"""Each example gives the trace that stands beside it, by the words that it names."""
+"""Each example gives the trace that stands beside it, by the words that it names. One of `live` has none: its traces differ."""
 
 import pathlib
 import re
@@ -10,6 +10,7 @@ from places import EXAMPLES, PICTURES, PROGRAM, TOP
 import trace_text
 
 RUN = re.compile(r"Run it with: \./rx10 (step.*) (examples/\S+)$", re.M)
+LIVE = re.compile(r"Run it with: \./rx10 (live.*) (examples/\S+)$", re.M)
 
 
 class Examples(unittest.TestCase):
@@ -29,7 +30,22 @@ class Examples(unittest.TestCase):
         self.assertEqual(done.stderr, b"")
 
     def test_each_has_a_trace(self):
-        self.assertEqual({it.stem for it in EXAMPLES.glob("*.rx")}, {it.stem for it in EXAMPLES.glob("*.trace")})
+        self.assertEqual({it.stem for it in SCRIPTS}, {it.stem for it in EXAMPLES.glob("*.trace")})
+
+    def test_workers_differ_in_nothing_that_the_example_names(self):
+        path = EXAMPLES / "workers.rx"
+        words = LIVE.search(path.read_text())[1].split()
+        for _ in range(20):
+            with open(path, "rb") as source:
+                done = subprocess.run([PROGRAM, *words], stdin=source, capture_output=True, timeout=60, check=False)
+            self.assertEqual(done.returncode, 0)
+            acts = [line.split()[1:] for line in done.stdout.decode().splitlines()]
+            printed = [act[2] for act in acts if act[:1] == ["print"]]
+            self.assertEqual(sorted(printed), ["1", "2", "3", "6"])
+            self.assertEqual(printed[-1], "6")
+            # three activities and their three calls
+            before = acts[: acts.index(["release", "t0", "s1"])]
+            self.assertEqual(sum(act[:1] == ["end"] for act in before), 6)
 
     def test_pictures_are_of_the_traces(self):
         for picture in PICTURES.glob("*.svg"):
@@ -44,5 +60,7 @@ def add(path):
     setattr(Examples, "test_" + path.stem, lambda self: self.try_example(path))
 
 
-for it in sorted(EXAMPLES.glob("*.rx")):
+SCRIPTS = [it for it in sorted(EXAMPLES.glob("*.rx")) if not LIVE.search(it.read_text())]
+
+for it in SCRIPTS:
     add(pathlib.Path(it))

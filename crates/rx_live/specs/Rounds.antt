@@ -26,7 +26,8 @@ pub record IsMade (code : Block) (U : Given) (ks : List ℕ) (G : Game) : Type 0
   pub used : picks_in G.entries ≡ length ks
 
 -- the machine stands for a game that the picks of the list have made
-pub record PlaysOn {L : Type 0} (stands : L → Tree → Type 0) (shape : Shape) (code : Block) (U : Given) (ks : List ℕ) (m : Machine L) : Type 0 where
+pub record PlaysOn {L : Type 0} (stands : L → Tree → Type 0) (shape : Shape) (code : Block) (U : Given)
+    (ks : List ℕ) (m : Machine L) : Type 0 where
   pub game : Game
   pub made : IsMade code U ks game
   pub holds : Holds stands shape code U m game
@@ -40,7 +41,8 @@ pub record HasEnded {L : Type 0} (stands : L → Tree → Type 0) (code : Block)
 -- As long as no turn was refused, the turns so far are those of the picked run for the picks of the list. After a refused turn it is
 -- known only that the machine has failed.
 pub record Keeps {L : Type 0} (stands : L → Tree → Type 0) (shape : Shape) (U : Given) (r : Round L) : Type 0 where
-  pub going : r.machine.failed ≡ false → r.ended ≡ false → (code : Block) → Stands shape code → PlaysOn stands shape code U r.picks.items r.machine
+  pub going : r.machine.failed ≡ false → r.ended ≡ false → (code : Block) → Stands shape code
+      → PlaysOn stands shape code U r.picks.items r.machine
   pub over : r.ended ≡ true → (code : Block) → Stands shape code → HasEnded stands code U r.picks.items r.machine
 
 -- a whole run of the script under the setup, and a ledger that stands for the tree to which its history folds

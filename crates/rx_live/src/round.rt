@@ -83,7 +83,8 @@ impl<L: FinishLedger> Round<L> {
         p: &Program,
     ) -> Result<(History, Journals, L), NoMemory>
         requires { (code : Block) × (U : Given) × Stands p.now.script code × Keeps L.stands p.now.script U self }
-        ensures { IfOk result (λ r. (code : Block) (U : Given) → Stands p.now.script code → Proper U → Keeps L.stands p.now.script U self → IsOver L.stands code U r) }
+        ensures { IfOk result (λ r. (code : Block) (U : Given) → Stands p.now.script code → Proper U →
+            Keeps L.stands p.now.script U self → IsOver L.stands code U r) }
     {
         for _turn in rt.forever() {
             if !self.go_on(p, 0) {
@@ -95,7 +96,8 @@ impl<L: FinishLedger> Round<L> {
 
     // The run, where it has ended.
     fn into_run(self, p: &Program) -> Result<(History, Journals, L), NoMemory>
-        ensures { IfOk result (λ r. (code : Block) (U : Given) → Stands p.now.script code → Proper U → Keeps L.stands p.now.script U self → IsOver L.stands code U r) }
+        ensures { IfOk result (λ r. (code : Block) (U : Given) → Stands p.now.script code → Proper U →
+            Keeps L.stands p.now.script U self → IsOver L.stands code U r) }
     {
         let _ = p;
         picked_run_is_run();

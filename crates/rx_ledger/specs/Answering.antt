@@ -1,10 +1,11 @@
 -- What a keeper answers, where no death is due.
-use Rattle.std.specs.Prelude.{◌≡◌, ◌⊎◌, ℕ, ℤ, cond, ◌==◌, List, [], ◌∷◌, ◌++◌, Option, Some, None, is_some, slice_index_or}
+use Rattle.std.specs.Prelude.{◌≡◌, ◌⊎◌, ℕ, ℤ, Bool, cond, ◌==◌, List, [], ◌∷◌, ◌++◌, Option, Some, None, is_some, slice_index_or}
 use Rattle.rx_base.specs.declared.ids.PlaceId.{PlaceId}
 use Rattle.rx_base.specs.declared.ids.TaskId.{TaskId}
 use Rattle.rx_base.specs.declared.ids.ScopeId.{ScopeId}
 use Rattle.rx_base.specs.declared.place_set.PlaceSet.{PlaceSet}
 use Rattle.rx_base.specs.declared.values.Fault.{Fault}
+use Rattle.rx_rules.specs.declared.tasks.Where.{Where}
 use Rattle.rx_rules.specs.declared.tasks.Where.TheVariants.{At, Travel}
 use Rattle.rx_rules.specs.declared.entries.Act.{Act}
 use Rattle.rx_rules.specs.declared.entries.Act.TheVariants.{Open, At as Calls, Spawn, Arrive, Wait, Release, End, Print}
@@ -18,33 +19,48 @@ use Rattle.rx_tree.specs.Calls.{landing, IsUnstruck, WasLost, IsHindered}
 use Rattle.rx_ticket.specs.declared.tickets.AnyTicket.{AnyTicket}
 use Rattle.rx_ticket.specs.declared.tickets.AnyTicket.TheVariants.{Moving, Running, Held, Host}
 use Rattle.rx_trace.specs.declared.asks.Ask.{Ask}
-use Rattle.rx_trace.specs.declared.asks.Ask.TheVariants.{Open as AskOpen, At as AskCall, Spawn as AskSpawn, Arrive as AskArrive, Wait as AskWait, Release as AskRelease, End as AskEnd, Print as AskPrint, Root as AskRoot}
+use Rattle.rx_trace.specs.declared.asks.Ask.TheVariants.{Open as AskOpen, At as AskCall, Spawn as AskSpawn, Arrive as AskArrive}
+use Rattle.rx_trace.specs.declared.asks.Ask.TheVariants.{Wait as AskWait, Release as AskRelease, End as AskEnd}
+use Rattle.rx_trace.specs.declared.asks.Ask.TheVariants.{Print as AskPrint, Root as AskRoot}
 use Rattle.rx_ledger.specs.declared.asks.Request.{Request}
 use Rattle.rx_ledger.specs.declared.asks.Reply.{Reply}
-use Rattle.rx_ledger.specs.declared.asks.Reply.TheVariants.{Opened, Called, Spawned, Landed, Waits, Released, Ended, Printed, RootDone, NotYet, Lost, NoMemory}
+use Rattle.rx_ledger.specs.declared.asks.Reply.TheVariants.{Opened, Called, Spawned, Landed, Waits, Released, Ended, Printed}
+use Rattle.rx_ledger.specs.declared.asks.Reply.TheVariants.{RootDone, NotYet, Lost, NoMemory}
 use Rattle.rx_ledger.specs.Told.{parents_told}
 
 -- the request is this one
 abbrev pub Asks : Request → AnyTicket → Ask → Option (List ℕ) → Type 0
 Asks q ticket ask path = q ≡ record { ticket = ticket; ask = ask; batch = q.batch; path = path }
 
+-- a caller that hangs under the scope and has opened none
+abbrev pub fresh : TaskId → ScopeId → Where → Caller
+fresh task s place = record { task = task; scope = s; inner = s; place = place }
+
+-- the main activity, before its first entry
+abbrev pub main_caller : Caller
+main_caller = fresh (record { 0 = 0 }) the_root (At (record { 0 = 0 }))
+
 -- one entry is appended, which is allowed
 pub record Appends (T : Tree) (es : List Entry) (who : Caller) (act : Act) (batch : List (List ℕ)) (es' : List Entry) : Type 0 where
   pub allowed : AllowedAct T who.task act
   pub added : es' ≡ es ++ Step who.task act batch ∷ []
 
--- the ticket of a task that is started under the scope at `from` for `to`: none where that place is dead
+-- the ticket of a task that is started under the scope at `from` for `to`, unless it is lost
+abbrev pub ticket_at : Bool → TaskId → ScopeId → PlaceId → PlaceId → Option AnyTicket
+ticket_at lost task s from to =
+    cond lost None (Some (cond (from.0 == to.0) (Running (fresh task s (At to))) (Moving (fresh task s (Travel from to)))))
+
+-- it is lost where that place is dead
 abbrev pub ticket_of : Tree → TaskId → ScopeId → PlaceId → PlaceId → Option AnyTicket
-ticket_of T child s from to =
-    cond (is_some (death_of T to)) None
-    (Some (cond (from.0 == to.0) (Running (record { task = child; scope = s; inner = s; place = At to })) (Moving (record { task = child; scope = s; inner = s; place = Travel from to }))))
+ticket_of T child s from to = ticket_at (is_some (death_of T to)) child s from to
 
 -- the parent of the scope, as the entries tell it
 abbrev pub parent_told : List Entry → ScopeId → ScopeId
 parent_told es s = slice_index_or (parents_told es) s.0 the_root
 
 -- a finish is opened
-pub record OpensFinish (T : Tree) (es : List Entry) (q : Request) (ticket : Caller) (scope : ScopeId) (es' : List Entry) : Type 0 where
+pub record OpensFinish (T : Tree) (es : List Entry) (q : Request) (ticket : Caller) (scope : ScopeId)
+    (es' : List Entry) : Type 0 where
   pub who : Caller
   pub path : List ℕ
   pub asked : Asks q (Running who) AskOpen (Some path)
@@ -52,7 +68,8 @@ pub record OpensFinish (T : Tree) (es : List Entry) (q : Request) (ticket : Call
   pub ticket_is : ticket ≡ record who { inner = scope }
 
 -- an at is opened, and its callee starts
-pub record OpensAt (T : Tree) (es : List Entry) (q : Request) (ticket : Caller) (callee : Option AnyTicket) (es' : List Entry) : Type 0 where
+pub record OpensAt (T : Tree) (es : List Entry) (q : Request) (ticket : Caller) (callee : Option AnyTicket)
+    (es' : List Entry) : Type 0 where
   pub who : Caller
   pub to : PlaceId
   pub path : List ℕ
@@ -91,7 +108,8 @@ pub record WaitsThere (T : Tree) (es : List Entry) (q : Request) (ticket : Calle
   pub ticket_is : ticket ≡ who
 
 -- a task releases the scope at which it waited, and works in that scope's parent
-pub record Releases (T : Tree) (es : List Entry) (q : Request) (ticket : Caller) (lost : PlaceSet) (thrown : List Fault) (es' : List Entry) : Type 0 where
+pub record Releases (T : Tree) (es : List Entry) (q : Request) (ticket : Caller) (lost : PlaceSet) (thrown : List Fault)
+    (es' : List Entry) : Type 0 where
   pub who : Caller
   pub asked : Asks q (Held who) AskRelease None
   pub entry : Appends T es who (Release who.inner lost thrown) q.batch es'

@@ -7,7 +7,8 @@ use Rattle.rx_tree.specs.declared.ledger.Caller.{Caller}
 use Rattle.rx_tree.specs.Callers.{HasNumbers}
 use Rattle.rx_ledger.specs.declared.asks.Request.{Request}
 use Rattle.rx_ledger.specs.declared.asks.Reply.{Reply}
-use Rattle.rx_ledger.specs.declared.asks.Reply.TheVariants.{Opened, Called, Spawned, Landed, Waits, Released, Ended, Printed, RootDone, NotYet, Lost, NoMemory}
+use Rattle.rx_ledger.specs.declared.asks.Reply.TheVariants.{Opened, Called, Spawned, Landed, Waits, Released, Ended, Printed}
+use Rattle.rx_ledger.specs.declared.asks.Reply.TheVariants.{RootDone, NotYet, Lost, NoMemory}
 use Rattle.rx_ledger.specs.Asking.{MayApply}
 use Rattle.rx_ledger.specs.Answering.{asker}
 use Rattle.rx_ledger.specs.Kept.{Kept, Applied, IsHistory}

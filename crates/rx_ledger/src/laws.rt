@@ -11,8 +11,9 @@ pub fn release_uncovers_parent()
     ensures { UncoversParent }
 {}
 
-/// A law: the ticket that comes with `Opened`, `Spawned`, `Landed`, `Released` or `Printed` is of a task that may go on, and the one that comes with
-/// `Called` or `Waits` of a task that may ask for its release, as long as numbers of tasks and scopes suffice.
+/// A law: the ticket that comes with `Opened`, `Spawned`, `Landed`, `Released` or `Printed` is of a task that may go on, and the one
+/// that comes with `Called` or `Waits` of a task that may ask for its release, as long as numbers of tasks and scopes suffice. A
+/// request that comes back may be made again.
 pub fn tickets_go_on()
     ensures { TicketsGoOn }
 {}

@@ -3,7 +3,7 @@ ghost use Rattle.std.specs.Prelude.{◌≡◌, ◌<◌, Some, None};
 ghost use Rattle.rx_tree.specs.Callers.{MayAskMoving, MayAskArrive};
 ghost use Rattle.rx_ticket.specs.declared.tickets.AnyTicket.TheVariants.{Running, Moving};
 ghost use Rattle.rx_trace.specs.declared.asks.Ask.TheVariants.{Arrive, Print};
-ghost use Rattle.rx_ledger.specs.Doing.{tree_in, Calm, Did};
+ghost use Rattle.rx_ledger.specs.Doing.{request_of, tree_in, Calm, Did};
 
 use crate::asks::Reply;
 use crate::books::Books;
@@ -19,7 +19,7 @@ impl<L: FinishLedger> Books<L> {
         requires room { 0 < self.old.history.spare }
         requires calm { Calm L.stands self.old }
         requires asks { MayAskArrive (tree_in self.old) ticket }
-        ensures { Did L.stands self.old (record { ticket = Moving ticket; ask = Arrive; batch = batch; path = None }) result self.new }
+        ensures { Did L.stands self.old (request_of (Moving ticket) Arrive batch None) result self.new }
     {
         let who = ticket.caller();
         match self.ledger.arrive(who) {
@@ -55,7 +55,7 @@ impl<L: FinishLedger> Books<L> {
         requires room { 0 < self.old.history.spare }
         requires calm { Calm L.stands self.old }
         requires asks { MayAskMoving (tree_in self.old) ticket }
-        ensures { Did L.stands self.old (record { ticket = Running ticket; ask = Print value; batch = batch; path = Some path }) result self.new }
+        ensures { Did L.stands self.old (request_of (Running ticket) (Print value) batch (Some path)) result self.new }
     {
         let who = ticket.caller();
         match self.ledger.print(who) {

@@ -3,7 +3,7 @@ ghost use Rattle.std.specs.Prelude.{◌≡◌, ◌<◌, false, Some};
 ghost use Rattle.rx_tree.specs.Callers.{MayAskMoving, MayAskTo};
 ghost use Rattle.rx_ticket.specs.declared.tickets.AnyTicket.TheVariants.{Running};
 ghost use Rattle.rx_trace.specs.declared.asks.Ask.TheVariants.{Open, At, Spawn};
-ghost use Rattle.rx_ledger.specs.Doing.{tree_in, Calm, Did};
+ghost use Rattle.rx_ledger.specs.Doing.{request_of, tree_in, Calm, Did};
 
 use crate::asks::{Reply, Request};
 use crate::books::{Books, Note};
@@ -20,7 +20,7 @@ impl<L: FinishLedger> Books<L> {
         requires room { 0 < self.old.history.spare }
         requires calm { Calm L.stands self.old }
         requires asks { MayAskMoving (tree_in self.old) ticket }
-        ensures { Did L.stands self.old (record { ticket = Running ticket; ask = Open; batch = batch; path = Some path }) result self.new }
+        ensures { Did L.stands self.old (request_of (Running ticket) Open batch (Some path)) result self.new }
     {
         if self.scopes.reserve(1).is_err() {
             return Reply::NoMemory {
@@ -80,7 +80,7 @@ impl<L: FinishLedger> Books<L> {
         requires room { 0 < self.old.history.spare }
         requires calm { Calm L.stands self.old }
         requires asks { MayAskTo (tree_in self.old) ticket to }
-        ensures { Did L.stands self.old (record { ticket = Running ticket; ask = At to; batch = batch; path = Some path }) result self.new }
+        ensures { Did L.stands self.old (request_of (Running ticket) (At to) batch (Some path)) result self.new }
     {
         if self.scopes.reserve(1).is_err() {
             return Reply::NoMemory {
@@ -144,7 +144,7 @@ impl<L: FinishLedger> Books<L> {
         requires room { 0 < self.old.history.spare }
         requires calm { Calm L.stands self.old }
         requires asks { MayAskTo (tree_in self.old) ticket to }
-        ensures { Did L.stands self.old (record { ticket = Running ticket; ask = Spawn to; batch = batch; path = Some path }) result self.new }
+        ensures { Did L.stands self.old (request_of (Running ticket) (Spawn to) batch (Some path)) result self.new }
     {
         let who = ticket.caller();
         let from = place_of(who.place);

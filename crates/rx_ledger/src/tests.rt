@@ -1,9 +1,8 @@
 // A keeper over the plain ledger, before its first entry.
 ghost use Rattle.std.specs.Prelude.{◌≡◌, [], IfOk};
-ghost use Rattle.rx_rules.specs.declared.tasks.Where.TheVariants.{At as Stays};
-ghost use Rattle.rx_rules.specs.Tree.{the_root};
 ghost use Rattle.rx_rules.specs.Run.{Proper};
 ghost use Rattle.rx_trace.specs.Setups.{given};
+ghost use Rattle.rx_ledger.specs.Answering.{main_caller};
 
 use crate::{Keeper, Reply, Request};
 use rx_base::{Batch, NoMemory, Path, PlaceId, PlaceSet, TaskId};
@@ -33,7 +32,7 @@ pub(crate) fn opened(
     requires proper { Proper (given setup.now) }
     requires places { setup.now.places ≡ 2 }
     ensures empty { IfOk result (λ r. (r.0.entries ≡ []) × (r.0.setup.places ≡ 2)) }
-    ensures ticket { IfOk result (λ r. r.1 ≡ record { task = record { 0 = 0 }; scope = the_root; inner = the_root; place = Stays (record { 0 = 0 }) }) }
+    ensures ticket { IfOk result (λ r. r.1 ≡ main_caller) }
 {
     let ledger = TreeLedger::open(alloc, 2)?;
     match Keeper::open(alloc, ledger, setup) {

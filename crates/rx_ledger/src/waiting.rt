@@ -3,7 +3,7 @@ ghost use Rattle.std.specs.Prelude.{◌≡◌, ◌<◌, Some, None};
 ghost use Rattle.rx_tree.specs.Callers.{MayAskWait, MayAskEnd};
 ghost use Rattle.rx_ticket.specs.declared.tickets.AnyTicket.TheVariants.{Running};
 ghost use Rattle.rx_trace.specs.declared.asks.Ask.TheVariants.{Wait, End};
-ghost use Rattle.rx_ledger.specs.Doing.{tree_in, Calm, Did};
+ghost use Rattle.rx_ledger.specs.Doing.{request_of, tree_in, Calm, Did};
 
 use crate::asks::{Reply, Request};
 use crate::books::Books;
@@ -20,7 +20,7 @@ impl<L: FinishLedger> Books<L> {
         requires room { 0 < self.old.history.spare }
         requires calm { Calm L.stands self.old }
         requires asks { MayAskWait (tree_in self.old) ticket }
-        ensures { Did L.stands self.old (record { ticket = Running ticket; ask = Wait thrown; batch = batch; path = None }) result self.new }
+        ensures { Did L.stands self.old (request_of (Running ticket) (Wait thrown) batch None) result self.new }
     {
         let who = ticket.caller();
         let (Ok(told), Ok(faults)) = (
@@ -72,7 +72,7 @@ impl<L: FinishLedger> Books<L> {
         requires room { 0 < self.old.history.spare }
         requires calm { Calm L.stands self.old }
         requires asks { MayAskEnd (tree_in self.old) ticket }
-        ensures { Did L.stands self.old (record { ticket = Running ticket; ask = End thrown; batch = batch; path = None }) result self.new }
+        ensures { Did L.stands self.old (request_of (Running ticket) (End thrown) batch None) result self.new }
     {
         let who = ticket.caller();
         let (Ok(told), Ok(faults)) = (

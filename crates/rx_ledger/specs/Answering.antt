@@ -81,7 +81,8 @@ pub record OpensAt (T : Tree) (es : List Entry) (q : Request) (ticket : Caller) 
   pub callee_is : callee ≡ ticket_of T child scope (place_number who.place) to
 
 -- a task starts
-pub record Starts (T : Tree) (es : List Entry) (q : Request) (ticket : Caller) (started : Option AnyTicket) (es' : List Entry) : Type 0 where
+pub record Starts (T : Tree) (es : List Entry) (q : Request) (ticket : Caller) (started : Option AnyTicket)
+    (es' : List Entry) : Type 0 where
   pub who : Caller
   pub to : PlaceId
   pub path : List ℕ

@@ -22,3 +22,4 @@ mod worked;
 
 pub use asks::{Reply, Request};
 pub use keeper::Keeper;
+pub use rx_counts::CountLedger;

@@ -221,7 +221,7 @@ module _ (single : OnePickedRun) (proper : SetupsAreProper) where
       p.tells ∙ texts-tell U es fs js ks p.run.ends q.run.ends (sym e ∙ f) ∙ sym q.tells
   status-told (Gen size U seed) old new older newer text s t ok h k = (counts-agree size U (source None seed) text text s t ok h.1 k.1).1
   status-told Check old new older newer text s t ok (code, was, e, done) (other, were, f, over) = done ∙ sym over
-  status-told (Live U n) old new older newer text s t ok (code, was, es, js, p, told, e) (other, were, fs, ks, q, tells, f) =
+  status-told (Live U n) old new older newer text s t ok (code, was, (es, js, p, told, e)) (other, were, (fs, ks, q, tells, f)) =
       told ∙ texts-tell U es fs js ks p.run.ends q.run.ends (sym e ∙ f) ∙ sym tells
   status-told (BadWord k) old new older newer text s t ok h i = absurd h
 

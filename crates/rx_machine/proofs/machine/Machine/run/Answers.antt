@@ -1,9 +1,5 @@
 use Rattle.std.proofs.Common.{◌≡◌, ◌+◌, ◌≤◌, ℕ, Ok, ap, ◌∙◌, arith}
-use Rattle.rx_rules.specs.Code.{Block}
-use Rattle.rx_rules.specs.Run.{Given}
-use Rattle.rx_rules.specs.Picked.{Game, used_after, start_game}
-use Rattle.rx_machine.specs.Holds.{Holds}
-use Rattle.rx_machine.specs.Runs.{RanFrom}
+use Rattle.rx_rules.specs.Picked.{used_after, start_game}
 use Rattle.rx_machine.proofs.Whole.{run-begins, run-goes, run-stops, run-ends, run-picked, picks-left}
 use Rattle.rx_machine.proofs.machine.Machine.run.Goals as goal
 

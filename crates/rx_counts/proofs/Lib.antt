@@ -18,6 +18,7 @@ pub mod Waiting
 pub mod Ending
 pub mod Hindering
 pub mod Released
+pub mod Stopping
 pub mod Sweeping
 pub mod Outgoing
 pub mod Clearing

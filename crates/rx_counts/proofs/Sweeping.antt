@@ -1,5 +1,5 @@
 -- A scope goes where its parent went.
-use Rattle.std.specs.Prelude.{◌≡◌, ℕ, ◌<◌, ◌≤◌, ◌+◌, Bool, true, false, cond, ◌||◌, ◌&&◌, ◌==◌, not, List, [], ◌∷◌, Option, Some, None, is_none, is_some, length, Err, refl}
+use Rattle.std.specs.Prelude.{◌≡◌, ℕ, ◌<◌, ◌≤◌, ◌+◌, Bool, true, false, cond, ◌||◌, ◌&&◌, ◌==◌, List, [], ◌∷◌, Option, Some, None, is_none, is_some, length, Err, refl}
 use Rattle.std.specs.List.{find}
 use Rattle.std.specs.Global.{Box}
 use Rattle.std.proofs.Common.{sym, ap, ◌∙◌, subst, arith, ⊎_elim}
@@ -14,25 +14,20 @@ use Rattle.rx_rules.specs.declared.tasks.Scope.{Scope}
 use Rattle.rx_rules.specs.Tree.{Tree, is_scope, wants, the_root, quiet}
 use Rattle.rx_rules.specs.Entries.{without}
 use Rattle.rx_sound.specs.Chains.{meets, Falls, HasOpener, Opened}
-use Rattle.rx_sound.specs.Sound.{Sound}
-use Rattle.rx_sound.proofs.Changes.{each_found}
 use Rattle.rx_sound.proofs.Below.{met_newer}
 use Rattle.rx_sound.proofs.Lookups.{find_passes}
 use Rattle.rx_sound.proofs.Reached.{sound}
 use Rattle.rx_counts.specs.declared.record.Record.{Record}
 use Rattle.rx_counts.specs.declared.ledger.CountLedger.{CountLedger}
-use Rattle.rx_counts.specs.Keeping.{stands_home, keeper, is_number, is_orphan, orphans_of}
+use Rattle.rx_counts.specs.Keeping.{keeper, is_number}
 use Rattle.rx_rules.specs.Counts.{has_number}
-use Rattle.rx_counts.specs.Stands.{ShapeOf, RecordOf, Both, Fit, StandsFor, IsShaped, record_at}
+use Rattle.rx_counts.specs.Stands.{ShapeOf, Fit, StandsFor, IsShaped, record_at}
 use Rattle.rx_counts.specs.Freeing.{IsLast, parent_gone, OutcomeReply, FreeReply}
 use Rattle.rx_tree.specs.declared.ledger.LedgerFault.{LedgerFault}
 use Rattle.rx_tree.specs.declared.ledger.LedgerFault.TheVariants.{NotYet, Lost, NoMemory}
-use Rattle.rx_counts.proofs.Counting.{none_counted}
 use Rattle.rx_counts.proofs.Walks.{keeper_step, OlderThan}
 use Rattle.rx_counts.proofs.Shapes.{both_found, shape_in, walk_older}
-use Rattle.rx_counts.proofs.Lasting.{kept_here}
-use Rattle.rx_counts.proofs.Asking.{shaped}
-use Rattle.rx_counts.proofs.Released.{all_released, met_own}
+use Rattle.rx_counts.proofs.Released.{all_released}
 
 -- the walk that meets s is one that s alone keeps
 meets_keeper : (s : ScopeId) (gs : List Scope) (want : Option ScopeId) → meets s gs want ≡ is_number s.0 (keeper (is_scope s) gs want)
@@ -134,45 +129,6 @@ swept_above rs ps qs i goes above dropped n le = swept_other qs ps i n goes (λ 
 pub none_before : (T : Tree) (rs : List (Option (Box Record))) (s u : ScopeId) → IsShaped T rs → u.0 < s.0 → meets s T.scopes (Some u) ≡ false
 none_before T rs s u h lt = false_from_ne_true (meets s T.scopes (Some u)) (λ m. let a : s.0 ≤ u.0 = met_newer s T.next_scope T.scopes u h.falls m in absurd (omega arith))
 
--- where s has adopted none, it goes alone
-pub goes_alone : (l : CountLedger) (T : Tree) (s u : ScopeId) → StandsFor l T → (i : IsLast T s) → quiet T s ≡ true → orphans_of (stands_home T.dead) T.scopes s.0 ≡ 0 → cond (u.0 == s.0) None (record_at l.scopes.items u.0) ≡ cond (meets s T.scopes (Some u)) None (record_at l.scopes.items u.0)
-goes_alone l T s u st i still none =
-    let h : Sound T = sound st.reached in
-    let keeps : Scope → Bool = stands_home T.dead in
-    (elim (u.0 == s.0) as (λ b. u.0 == s.0 ≡ b → cond b None (record_at l.scopes.items u.0) ≡ cond (meets s T.scopes (Some u)) None (record_at l.scopes.items u.0)) [
-      | true ↦ λ e.
-          let same : u ≡ s = ap (λ (n : ℕ). let q : ScopeId = record { 0 = n } in q) (eqb-true u.0 s.0 e) in
-          sym (ap (λ b. cond b None (record_at l.scopes.items u.0)) (ap (λ (v : ScopeId). meets s T.scopes (Some v)) same ∙ met_own T s i))
-      | false ↦ λ e.
-          (elim (meets s T.scopes (Some u)) as (λ m. meets s T.scopes (Some u) ≡ m → record_at l.scopes.items u.0 ≡ cond m None (record_at l.scopes.items u.0)) [
-            | true ↦ λ m.
-                both_none_of (find (has_number u.0) T.scopes) refl e m
-            | false ↦ λ m. refl
-          ]) refl
-    ]) refl
-  where
-    adopted : (g : Scope) → find (has_number u.0) T.scopes ≡ Some g → u.0 == s.0 ≡ false → meets s T.scopes (Some u) ≡ true → ⊥
-    adopted g found e m =
-        let h : Sound T = sound st.reached in
-        let keeps : Scope → Bool = stands_home T.dead in
-        let num : g.number.0 ≡ u.0 = eqb-true g.number.0 u.0 (find_passes (has_number u.0) T.scopes g found) in
-        let is_u : g.number ≡ u = ap (λ (n : ℕ). let q : ScopeId = record { 0 = n } in q) num in
-        let here : is_number s.0 (keeper keeps T.scopes (Some u)) ≡ true = kept_here T s h i still u m in
-        let step = keeper_step T.tasks keeps T.next_scope T.scopes u g h.falls h.opened found in
-        let one : is_orphan keeps T.scopes s.0 g ≡ false = each_found (λ k. is_orphan keeps T.scopes s.0 k ≡ false) (has_number u.0) T.scopes g (none_counted (is_orphan keeps T.scopes s.0) T.scopes none) found in
-        (elim (keeps g) as (λ b. keeps g ≡ b → ⊥) [
-          | true ↦ λ k. true≢false (sym here ∙ ap (is_number s.0) (step ∙ ap (λ b. cond b (Some u.0) (keeper keeps T.scopes g.parent)) k) ∙ e)
-          | false ↦ λ k. true≢false (sym here ∙ ap (λ (v : ScopeId). is_number s.0 (keeper keeps T.scopes (Some v))) (sym is_u) ∙ ap (λ b. not b && is_number s.0 (keeper keeps T.scopes (Some g.number))) (sym k) ∙ one)
-        ]) refl
-
-    both_none_of : (o : Option Scope) → find (has_number u.0) T.scopes ≡ o → u.0 == s.0 ≡ false → meets s T.scopes (Some u) ≡ true → record_at l.scopes.items u.0 ≡ None
-    both_none_of (Some g) found e m = absurd (adopted g found e m)
-    both_none_of None found e m = none_record (record_at l.scopes.items u.0) (subst (λ o. Both (RecordOf (stands_home T.dead) T.scopes T.tasks) (record_at l.scopes.items u.0) o) found (st.fit.scopes u.0))
-      where
-        none_record : (o : Option Record) → Both (RecordOf (stands_home T.dead) T.scopes T.tasks) o None → o ≡ None
-        none_record (Some r) h = absurd h
-        none_record None h = refl
-
 -- The ledger afterwards.
 
 pub freed : (l m : CountLedger) (T : Tree) (s : ScopeId) → StandsFor l T → IsLast T s → quiet T s ≡ true → m.places ≡ l.places → m.dead ≡ l.dead → m.next_task ≡ l.next_task → m.next_scope ≡ l.next_scope → length m.scopes.items ≡ length l.scopes.items → ((u : ScopeId) → record_at m.scopes.items u.0 ≡ cond (meets s T.scopes (Some u)) None (record_at l.scopes.items u.0)) → Fit m (without T s)
@@ -190,11 +146,3 @@ pub free_refused : (l : CountLedger) (T : Tree) (s : ScopeId) (f : LedgerFault) 
 free_refused l T s NoMemory st h = (h, st)
 free_refused l T s (Lost p a) st h = absurd h
 free_refused l T s (NotYet p) st h = (h, st)
-
--- both ways of removing
-pub gone_all : (l : CountLedger) (T : Tree) (s : ScopeId) (n : ℕ) (qs : List (Option (Box Record))) → StandsFor l T → IsLast T s → quiet T s ≡ true → n ≡ orphans_of (stands_home T.dead) T.scopes s.0 → (n ≡ 0 → (u : ScopeId) → record_at qs u.0 ≡ cond (u.0 == s.0) None (record_at l.scopes.items u.0)) → ((n ≡ 0 → ⊥) → (U : Tree) → IsShaped U l.scopes.items → (u : ScopeId) → record_at qs u.0 ≡ cond (meets s U.scopes (Some u)) None (record_at l.scopes.items u.0)) → (u : ScopeId) → record_at qs u.0 ≡ cond (meets s T.scopes (Some u)) None (record_at l.scopes.items u.0)
-gone_all l T s n qs st i still e alone below u =
-    ⊎_elim
-    (λ (z : n ≡ 0). alone z u ∙ goes_alone l T s u st i still (sym e ∙ z))
-    (λ (z : n ≡ 0 → ⊥). below z T (shaped l T st) u)
-    (cases_eq n 0)

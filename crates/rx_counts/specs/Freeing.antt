@@ -1,5 +1,5 @@
 -- A release, by a caller or by the host.
-use Rattle.std.specs.Prelude.{◌≡◌, ℕ, ◌<◌, ◌≤◌, ◌-◌, ◌/◌, ◌%◌, Bool, true, false, cond, ltb, ◌&&◌, not, List, Option, Some, None, is_none, slice_index_or, Result, Ok, Err}
+use Rattle.std.specs.Prelude.{◌≡◌, ℕ, ◌<◌, ◌≤◌, ◌-◌, ◌/◌, ◌%◌, Bool, true, false, cond, ltb, ◌&&◌, not, List, Option, Some, None, is_none, slice_index_or, count_by, ◌+◌, Result, Ok, Err}
 use Rattle.std.specs.Global.{Box}
 use Rattle.std.specs.List.{find, list_any}
 use Rattle.rx_base.specs.declared.ids.TaskId.{TaskId}
@@ -7,6 +7,7 @@ use Rattle.rx_base.specs.declared.ids.ScopeId.{ScopeId}
 use Rattle.rx_rules.specs.declared.tasks.Scope.{Scope}
 use Rattle.rx_rules.specs.Tree.{Tree, is_scope, scope_of, opened_by, quiet}
 use Rattle.rx_rules.specs.Entries.{Names, without}
+use Rattle.rx_sound.specs.Chains.{meets}
 use Rattle.rx_tree.specs.declared.ledger.LedgerFault.{LedgerFault}
 use Rattle.rx_tree.specs.declared.ledger.LedgerFault.TheVariants.{NotYet, Lost, NoMemory}
 use Rattle.rx_tree.specs.declared.ledger.Outcome.{Outcome}
@@ -17,7 +18,7 @@ use Rattle.rx_rules.specs.declared.tasks.Where.TheVariants.{At, Travel}
 use Rattle.rx_counts.specs.declared.record.Record.{Record}
 use Rattle.rx_counts.specs.declared.ledger.CountLedger.{CountLedger}
 use Rattle.rx_counts.specs.Keeping.{stands_home, orphans_of}
-use Rattle.rx_counts.specs.Stands.{Fit, StandsFor, record_at}
+use Rattle.rx_counts.specs.Stands.{Fit, StandsFor, IsShaped, record_at}
 
 -- the scope stands, its home lives, and its opener, if it has one, has no later scope
 pub record IsLast (T : Tree) (s : ScopeId) : Type 0 where
@@ -44,6 +45,12 @@ FreeReply T s (Err (NotYet place)) l = IsHindered T s place × StandsFor l T
 abbrev pub parent_gone : List (Option (Box Record)) → Option Record → Bool
 parent_gone rs None = false
 parent_gone rs (Some r) = elim r.parent [ Some p ↦ is_none (record_at rs p.0) | None ↦ false ]
+
+-- The records are those of a tree in which the scope stands, and n scopes are below it.
+pub record Takes (T : Tree) (s : ScopeId) (n : ℕ) (rs : List (Option (Box Record))) : Type 0 where
+  pub shaped : IsShaped T rs
+  pub stands : meets s T.scopes (Some s) ≡ true
+  pub many : count_by (λ g. meets s T.scopes (Some g.number)) T.scopes ≡ n + 1
 
 -- the place or the pair of a cell
 abbrev pub unslot : ℕ → Where

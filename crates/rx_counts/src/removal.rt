@@ -3,8 +3,8 @@ ghost use Rattle.std.specs.Prelude.{◌≡◌, ◌<◌, ◌+◌, ◌==◌, ◌||
 ghost use Rattle.rx_rules.specs.Tree.{Tree};
 ghost use Rattle.rx_tree.specs.Calls.{landing};
 ghost use Rattle.rx_sound.specs.Chains.{meets};
-ghost use Rattle.rx_counts.specs.Stands.{record_at, IsShaped};
-ghost use Rattle.rx_counts.specs.Freeing.{Hides, parent_gone, unslot};
+ghost use Rattle.rx_counts.specs.Stands.{record_at};
+ghost use Rattle.rx_counts.specs.Freeing.{Hides, Takes, parent_gone, unslot};
 
 use crate::record::Record;
 use rx_base::{PlaceId, ScopeId};
@@ -34,26 +34,18 @@ fn stands(scopes: &[Option<Box<Record>>], s: ScopeId) -> bool
     }
 }
 
-/// Removes the record of a number, where it goes.
-fn drop_if(scopes: &mut Vec<Option<Box<Record>>>, i: usize, goes: bool)
+/// Removes the record of a number, where it goes, and answers how many went.
+fn drop_if(scopes: &mut Vec<Option<Box<Record>>>, i: usize, goes: bool) -> usize
     requires { i < length scopes.old.items }
     ensures len { length scopes.new.items ≡ length scopes.old.items }
     ensures goes { (n : ℕ) → record_at scopes.new.items n ≡ cond (goes && (n == i)) None (record_at scopes.old.items n) }
+    ensures many { result ≡ cond goes 1 0 }
 {
     if goes {
         scopes[i] = None;
-    }
-}
-
-/// Removes the record of a scope and those of the scopes below it: a scope goes where its parent went.
-pub fn remove_below(scopes: &mut Vec<Option<Box<Record>>>, s: ScopeId)
-    requires { s.0 < length scopes.old.items }
-    ensures len { length scopes.new.items ≡ length scopes.old.items }
-    ensures below { (T : Tree) → IsShaped T scopes.old.items → (u : ScopeId) → record_at scopes.new.items u.0 ≡ cond (meets s T.scopes (Some u)) None (record_at scopes.old.items u.0) }
-{
-    for i in s.0 as usize..scopes.len() {
-        let goes = is_below(scopes, i, s);
-        drop_if(scopes, i, goes);
+        1
+    } else {
+        0
     }
 }
 
@@ -82,16 +74,19 @@ pub fn hindrance(counts: &[u32]) -> PlaceId
     PlaceId(0)
 }
 
-/// Removes the record of a scope and, where it has adopted any, those of the scopes below it.
+/// Removes the record of a scope and those of the scopes below it, which are as many as it has adopted. A scope goes where its parent
+/// went, and who is older stays; so the numbers are visited upward from the scope's own, until as many have gone.
 pub fn remove(scopes: &mut Vec<Option<Box<Record>>>, s: ScopeId, orphans: u32)
     requires { s.0 < length scopes.old.items }
     ensures len { length scopes.new.items ≡ length scopes.old.items }
-    ensures alone { orphans ≡ 0 → (u : ScopeId) → record_at scopes.new.items u.0 ≡ cond (u.0 == s.0) None (record_at scopes.old.items u.0) }
-    ensures below { (orphans ≡ 0 → ⊥) → (T : Tree) → IsShaped T scopes.old.items → (u : ScopeId) → record_at scopes.new.items u.0 ≡ cond (meets s T.scopes (Some u)) None (record_at scopes.old.items u.0) }
+    ensures taken { (T : Tree) → Takes T s orphans scopes.old.items → (u : ScopeId) → record_at scopes.new.items u.0 ≡ cond (meets s T.scopes (Some u)) None (record_at scopes.old.items u.0) }
 {
-    if orphans == 0 {
-        drop_if(scopes, s.0 as usize, true);
-    } else {
-        remove_below(scopes, s);
+    let mut left = orphans as usize + 1;
+    for i in s.0 as usize..scopes.len() {
+        if left == 0 {
+            return;
+        }
+        let goes = is_below(scopes, i, s);
+        left -= drop_if(scopes, i, goes);
     }
 }

@@ -1,6 +1,7 @@
 use Rattle.std.proofs.Common.{refl}
 use Rattle.rx_counts.proofs.Readying.{last_kept}
-use Rattle.rx_counts.proofs.Sweeping.{freed, free_refused, gone_all}
+use Rattle.rx_counts.proofs.Sweeping.{freed, free_refused}
+use Rattle.rx_counts.proofs.Stopping.{takes}
 use Rattle.rx_counts.proofs.ledger.CountLedger.free.Goals as goal
 
 pub returns-in-Err : goal.returns-in-Err
@@ -12,4 +13,4 @@ remove-requires c = (last_kept c.args.self.now c.requires.0 c.args.s c.requires.
 pub returns-in-Ok : goal.returns-in-Ok
 returns-in-Ok c = λ T s i.
     let o = c.in-Ok.ensures T s i in
-    (o.0, o.1, freed c.args.self.now _ T c.args.s s i o.0 refl refl refl refl c.remove.ensures.len (gone_all c.args.self.now T c.args.s c.in-Ok.orphans c.remove.new.scopes.items s i o.0 o.2 c.remove.ensures.alone c.remove.ensures.below))
+    (o.0, o.1, freed c.args.self.now _ T c.args.s s i o.0 refl refl refl refl c.remove.ensures.len (c.remove.ensures.taken T (takes c.args.self.now T c.args.s c.in-Ok.orphans s i o.0 o.2)))

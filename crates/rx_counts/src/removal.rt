@@ -79,7 +79,8 @@ pub fn hindrance(counts: &[u32]) -> PlaceId
 pub fn remove(scopes: &mut Vec<Option<Box<Record>>>, s: ScopeId, orphans: u32)
     requires { s.0 < length scopes.old.items }
     ensures len { length scopes.new.items ≡ length scopes.old.items }
-    ensures taken { (T : Tree) → Takes T s orphans scopes.old.items → (u : ScopeId) → record_at scopes.new.items u.0 ≡ cond (meets s T.scopes (Some u)) None (record_at scopes.old.items u.0) }
+    ensures taken { (T : Tree) → Takes T s orphans scopes.old.items → (u : ScopeId) →
+        record_at scopes.new.items u.0 ≡ cond (meets s T.scopes (Some u)) None (record_at scopes.old.items u.0) }
 {
     let mut left = orphans as usize + 1;
     for i in s.0 as usize..scopes.len() {

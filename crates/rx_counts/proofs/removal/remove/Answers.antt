@@ -10,7 +10,8 @@ pub loop-i-init : goal.loop-i-init
 loop-i-init c =
     record {
       len = refl;
-      below = λ T h u low. sym (ap (λ b. cond b None (record_at c.args.scopes.now.items u.0)) (none_before T c.args.scopes.now.items c.args.s u h low));
+      below = λ T h u low. sym (ap (λ b. cond b None (record_at c.args.scopes.now.items u.0))
+          (none_before T c.args.scopes.now.items c.args.s u h low));
       above = λ n le. refl;
       left = λ T h. left_first T c.args.scopes.now.items c.args.s c.args.orphans h;
     }
@@ -20,13 +21,19 @@ loop-i-preserved c =
     let rs = c.args.scopes.now.items in
     let ps = c.loop-i.scopes.items in
     let qs = c.drop_if-left.new.scopes.items in
-    let goes = c.is_below-goes.ensures ∙ ap (λ xs. c.loop-i.i == c.args.s.0 || parent_gone xs (record_at xs c.loop-i.i)) c.deref.ensures.value in
+    let goes = c.is_below-goes.ensures
+    ∙ ap (λ xs. c.loop-i.i == c.args.s.0 || parent_gone xs (record_at xs c.loop-i.i)) c.deref.ensures.value in
     record {
       len = c.drop_if-left.ensures.len ∙ c.loop-i.invariant.len;
-      below = λ T h. swept_below T rs ps qs c.args.s c.loop-i.i c.is_below-goes.result h goes (c.loop-i.invariant.below T h) c.loop-i.invariant.above c.drop_if-left.ensures.goes;
+      below = λ T h. swept_below T rs ps qs c.args.s c.loop-i.i c.is_below-goes.result h goes
+          (c.loop-i.invariant.below T h) c.loop-i.invariant.above c.drop_if-left.ensures.goes;
       above = swept_above rs ps qs c.loop-i.i c.is_below-goes.result c.loop-i.invariant.above c.drop_if-left.ensures.goes;
-      left = λ T h. left_on T rs ps c.args.s c.loop-i.i c.args.orphans c.loop-i.left c.drop_if-left.result c.is_below-goes.result h goes (c.loop-i.invariant.below T h.shaped) c.loop-i.invariant.above c.drop_if-left.ensures.many c.if-left-eq0.false (c.loop-i.invariant.left T h);
+      left = λ T h. left_on T rs ps c.args.s c.loop-i.i c.args.orphans c.loop-i.left c.drop_if-left.result
+          c.is_below-goes.result h goes (c.loop-i.invariant.below T h.shaped) c.loop-i.invariant.above
+          c.drop_if-left.ensures.many c.if-left-eq0.false (c.loop-i.invariant.left T h);
     }
 
 pub returns-then-left-eq0-clause-taken : goal.returns-then-left-eq0-clause-taken
-returns-then-left-eq0-clause-taken c = λ T h. none_left T c.args.scopes.now.items c.loop-i.scopes.items c.args.s c.loop-i.i c.args.orphans c.loop-i.left h (c.loop-i.invariant.below T h.shaped) c.loop-i.invariant.above c.if-left-eq0.true (c.loop-i.invariant.left T h)
+returns-then-left-eq0-clause-taken c = λ T h.
+    none_left T c.args.scopes.now.items c.loop-i.scopes.items c.args.s c.loop-i.i c.args.orphans c.loop-i.left h
+    (c.loop-i.invariant.below T h.shaped) c.loop-i.invariant.above c.if-left-eq0.true (c.loop-i.invariant.left T h)

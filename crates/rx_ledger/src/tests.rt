@@ -24,8 +24,8 @@ pub(crate) fn calm(alloc: Global) -> Setup
     }
 }
 
-// A keeper of such a setup.
-fn opened(
+// A keeper of such a setup, or of one with kills.
+pub(crate) fn opened(
     alloc: Global,
     setup: &Setup,
 ) -> Result<(Keeper<TreeLedger>, Ticket<Live>), NoMemory>

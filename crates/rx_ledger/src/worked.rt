@@ -1,28 +1,28 @@
-// The worked calls of a keeper over the ledger of counts: a release that a death frees, and one that a traveller hinders.
+// The worked calls of a keeper over the plain ledger: a release that a death frees, and one that a traveller hinders.
 ghost use Rattle.std.specs.Prelude.{◌≡◌, ◌≢◌, ◌<◌, [], ◌∷◌, IfOk};
 ghost use Rattle.rx_base.specs.declared.ids.ScopeId.{ScopeId as Scope};
 ghost use Rattle.rx_rules.specs.declared.tasks.Kind.TheVariants.{Finish};
 ghost use Rattle.rx_rules.specs.Run.{Proper};
 ghost use Rattle.rx_trace.specs.Setups.{given};
 ghost use Rattle.rx_tree.specs.Callers.{HasNumbers, MayAskArrive, MayAskMoving, MayAskRelease};
-ghost use Rattle.rx_ledger.specs.Answering.{main_caller};
 ghost use Rattle.rx_ledger.specs.Asking.{MayApply};
 ghost use Rattle.rx_ledger.specs.Calling.{tree_seen};
 ghost use Rattle.rx_ledger.specs.GoingOn.{MayBegin, MayGoOn};
 ghost use Rattle.rx_ledger.specs.Kept.{Applied, IsHistory};
 ghost use Rattle.rx_ledger.specs.Owned.{own_told};
 
-use crate::tests::{calm, end, finish, finish_child};
-use crate::{CountLedger, Keeper, Reply, Request, laws};
+use crate::tests::{calm, end, finish, finish_child, opened};
+use crate::{Keeper, Reply, Request, laws};
 use rx_base::{Batch, Faults, Kill, NoMemory, Path, PlaceId, PlaceSet};
 use rx_ticket::{AnyTicket, InTransit, Live, Ticket, Waiting};
 use rx_trace::{Ask, KillList, Setup};
+use rx_tree::TreeLedger;
 use std::alloc::Global;
 use std::process::Abort;
 use std::test::Fail;
 
 // Makes a call, after which few entries are seen.
-fn ask<R: Abort>(rt: &R, keeper: &mut Keeper<CountLedger>, op: Request) -> Reply
+fn ask<R: Abort>(rt: &R, keeper: &mut Keeper<TreeLedger>, op: Request) -> Reply
     requires { MayApply (tree_seen keeper.old) op }
     ensures applied { Applied keeper.old op result keeper.new }
     ensures history { IsHistory keeper.new }
@@ -44,7 +44,7 @@ fn ask<R: Abort>(rt: &R, keeper: &mut Keeper<CountLedger>, op: Request) -> Reply
 fn opens<R: Abort>(
     rt: &R,
     alloc: Global,
-    keeper: &mut Keeper<CountLedger>,
+    keeper: &mut Keeper<TreeLedger>,
     ticket: Ticket<Live>,
 ) -> Ticket<Live>
     requires asks { MayAskMoving (tree_seen keeper.old) ticket }
@@ -79,7 +79,7 @@ fn opens<R: Abort>(
 fn starts<R: Abort>(
     rt: &R,
     alloc: Global,
-    keeper: &mut Keeper<CountLedger>,
+    keeper: &mut Keeper<TreeLedger>,
     ticket: Ticket<Live>,
 ) -> (Ticket<Live>, Ticket<InTransit>)
     requires asks { MayAskMoving (tree_seen keeper.old) ticket }
@@ -120,7 +120,7 @@ fn starts<R: Abort>(
 fn waits<R: Abort>(
     rt: &R,
     alloc: Global,
-    keeper: &mut Keeper<CountLedger>,
+    keeper: &mut Keeper<TreeLedger>,
     ticket: Ticket<Live>,
     child: &Ticket<InTransit>,
 ) -> Ticket<Waiting>
@@ -158,7 +158,7 @@ fn waits<R: Abort>(
 fn releases<R: Abort>(
     rt: &R,
     alloc: Global,
-    keeper: &mut Keeper<CountLedger>,
+    keeper: &mut Keeper<TreeLedger>,
     ticket: Ticket<Waiting>,
     child: &Ticket<InTransit>,
 ) -> Reply
@@ -202,25 +202,11 @@ fn doomed(alloc: Global) -> Result<Setup, NoMemory>
     })
 }
 
-// A keeper of such a setup, or of one without kills.
-fn counted(alloc: Global, setup: &Setup) -> Result<(Keeper<CountLedger>, Ticket<Live>), NoMemory>
-    requires proper { Proper (given setup.now) }
-    requires places { setup.now.places ≡ 2 }
-    ensures empty { IfOk result (λ r. (r.0.entries ≡ []) × (r.0.setup.places ≡ 2)) }
-    ensures ticket { IfOk result (λ r. r.1 ≡ main_caller) }
-{
-    let ledger = CountLedger::open(alloc, 2)?;
-    match Keeper::open(alloc, ledger, setup) {
-        Ok(both) => Ok(both),
-        Err(_) => Err(NoMemory),
-    }
-}
-
 // What the child hears when it wants to arrive.
 fn arrives<R: Abort>(
     rt: &R,
     alloc: Global,
-    keeper: &mut Keeper<CountLedger>,
+    keeper: &mut Keeper<TreeLedger>,
     child: Ticket<InTransit>,
 ) -> Reply
     requires { MayAskArrive (tree_seen keeper.old) child }
@@ -240,7 +226,7 @@ fn arrives<R: Abort>(
 #[test]
 fn a_death_frees_the_scope(rt: HostRuntime) -> Result<(), Fail> {
     let alloc = rt.alloc();
-    let (mut keeper, ticket) = counted(alloc, &doomed(alloc)?)?;
+    let (mut keeper, ticket) = opened(alloc, &doomed(alloc)?)?;
     let ticket = opens(&rt, alloc, &mut keeper, ticket);
     let (ticket, child) = starts(&rt, alloc, &mut keeper, ticket);
     let held = waits(&rt, alloc, &mut keeper, ticket, &child);
@@ -266,7 +252,7 @@ fn a_death_frees_the_scope(rt: HostRuntime) -> Result<(), Fail> {
 #[test]
 fn a_traveller_hinders_the_release(rt: HostRuntime) -> Result<(), Fail> {
     let alloc = rt.alloc();
-    let (mut keeper, ticket) = counted(alloc, &calm(alloc))?;
+    let (mut keeper, ticket) = opened(alloc, &calm(alloc))?;
     let ticket = opens(&rt, alloc, &mut keeper, ticket);
     let (ticket, child) = starts(&rt, alloc, &mut keeper, ticket);
     let held = waits(&rt, alloc, &mut keeper, ticket, &child);

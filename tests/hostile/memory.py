@@ -1,0 +1,71 @@
+"""Refused memory: each allocation of a run is refused in turn, and threads can't be started.
+
+Each run then gives its own answer, or `no memory` with nothing written; and the program has given back what it took (not asked of `live`,
+whose threads' own blocks libc keeps).
+"""
+
+from program import NO_MEMORY, complaint
+from tables import answer_of, live_answers, script
+
+LONGEST = b"print 7;".ljust(65536)
+
+# The runs, and at which allocations each is tried: every one, or every 50th of a long run.
+RUNS = [
+    ("ordinary_case", "step", 1),
+    ("ordinary_case", "step --kill 1@3", 1),
+    ("at_waits_for_orphans", "step --places 3 --kill 1@6", 1),
+    ("stale_reference", "step", 1),
+    ("nearest_living_scope_adopts", "step --places 4 --kill 2@12", 1),
+    ("realistic_script", "step --places 8 --kill 3@5 --seed 5", 5),
+    ("ordinary_case", "check", 1),
+    ("realistic_script", "check", 5),
+    ("none", "gen --size 2 --kill 1@5", 1),
+    ("none", "gen --size 20 --places 4 --kill 2@30 --seed 7", 5),
+    ("none", "gen --size 400", 50),
+]
+LIVE = [("ordinary_case", "live"), ("ordinary_case", "live --kill 1@3"), ("at_waits_for_orphans", "live --places 3 --kill 1@6"),
+        ("stale_reference", "live"), ("two_places_store", "live")]
+
+
+def refused(program, words, stdin, wanted, refusal):
+    """What is wrong where this refusal comes (ALLOC, ALLOC_FROM or THREAD, and a number)."""
+    answer, counts = program.counted(words, stdin, **refusal)
+    wrong = complaint(answer, wanted, [NO_MEMORY])
+    if wrong is None and words[0] != "live":
+        if counts is None:
+            return "the library has counted nothing"
+        if counts[5] != 0:
+            return "%d blocks are not given back" % counts[5]
+    return wrong
+
+
+def add(program, cases, name, words, stdin, wanted, step):
+    """The cases of one run: each allocation by itself, and from each tenth one on all of them."""
+    answer, counts = program.counted(words, stdin)
+    total = counts[0] if counts else 0
+    label = "%s of %s" % (" ".join(words), name)
+    cases.append((label + ", undisturbed", program, words, stdin, wanted, {"alloc": 0}))
+    assert total > 0, "no allocation is seen: " + label
+    for n in range(1, total + 1, step):
+        cases.append(("%s, allocation %d refused" % (label, n), program, words, stdin, wanted, {"alloc": n}))
+    for n in range(1, total + 1, 10 * step):
+        cases.append(("%s, all refused from allocation %d on" % (label, n), program, words, stdin, wanted, {"alloc_from": n}))
+
+
+def run(program, tally):
+    cases = []
+    for name, words, step in RUNS:
+        add(program, cases, name, words.split(" "), script(name), [answer_of(name, words)], step)
+    longest = program.run(["step"], LONGEST)
+    tally.tell("the longest script", None if longest.status == 0 else str(longest.status))
+    add(program, cases, "the longest script", ["step"], LONGEST, [longest], 1)
+    if program.has_live:
+        for name, words in LIVE:
+            for workers in ("1", "4"):
+                line = [*words.split(" "), "--workers", workers]
+                wanted = live_answers(name, words)
+                add(program, cases, name, line, script(name), wanted, 1)
+                for n in range(1, 6):
+                    cases.append(("%s of %s, thread %d can't be started" % (" ".join(line), name, n), program, line, script(name), wanted,
+                                  {"thread": n}))
+    tally.each(cases, refused)

@@ -1,0 +1,67 @@
+"""The tables of expected answers, and the cases that they tell.
+
+A table is a text of cases. Each begins with `case SCRIPT WORDS`, SCRIPT being the name of a file of scripts/ or `none`; `cut N` says that the
+input is the first N bytes of it; `status N` is the exit status, `says LINE` the line on standard error, and `writes N` stands before the N
+lines of standard output. Cases of one script and one list of words stand for one run with several right answers.
+"""
+
+import collections
+import pathlib
+
+from program import Answer, complaint
+
+HERE = pathlib.Path(__file__).resolve().parent
+Case = collections.namedtuple("Case", "script words cut answer")
+
+
+def script(name):
+    return b"" if name == "none" else (HERE / "scripts" / (name + ".rx")).read_bytes()
+
+
+def read_table(name):
+    """The cases of a table, in order."""
+    lines = iter((HERE / "tables" / name).read_text().split("\n")[:-1])
+    cases = []
+    for line in lines:
+        word, _, rest = line.partition(" ")
+        if word == "case":
+            source, _, words = rest.partition(" ")
+            cases.append({"script": source, "words": words.split(" "), "cut": None, "status": None, "says": b"", "writes": b""})
+        elif word in ("cut", "status"):
+            cases[-1][word] = int(rest)
+        elif word == "says":
+            cases[-1]["says"] = rest.encode() + b"\n"
+        elif word == "writes":
+            cases[-1]["writes"] = "".join(next(lines) + "\n" for _ in range(int(rest))).encode()
+        else:
+            raise ValueError("%s: %s" % (name, line))
+    return [Case(it["script"], it["words"], it["cut"], Answer(it["status"], it["writes"], it["says"])) for it in cases]
+
+
+def answer_of(name, words):
+    """The one answer that the tables have for this script and these words (as one text)."""
+    found = [case.answer for case in read_table("answers.txt") if (case.script, " ".join(case.words)) == (name, words)]
+    assert len(found) == 1, (name, words)
+    return found[0]
+
+
+def live_answers(name, words):
+    """The answers that `live` may give to this script and these words, whatever the workers do."""
+    found = [case.answer for case in read_table("live.txt") if (case.script, " ".join(case.words)) == (name, words)]
+    assert found, (name, words)
+    return found
+
+
+def run(program, tally):
+    """Every case of the tables with one answer, and each of `live` with one, two and eight workers."""
+    cases = [case for table in ("answers.txt", "deaths.txt", "prefixes.txt") for case in read_table(table)]
+    named = [("%s of %s %s" % (" ".join(case.words), case.script, "" if case.cut is None else "cut at %d" % case.cut), case)
+             for case in cases]
+    tally.each(named, lambda case: complaint(program.run(case.words, script(case.script)[:case.cut]), [case.answer]))
+    if not program.has_live:
+        return
+    pairs = sorted({(case.script, " ".join(case.words)) for case in read_table("live.txt")})
+    named = [("%s of %s with %d workers" % (words, name, workers), name, words, workers)
+             for name, words in pairs for workers in (1, 2, 8) for _ in range(10)]
+    tally.each(named, lambda name, words, workers: complaint(
+        program.run([*words.split(" "), "--workers", str(workers)], script(name)), live_answers(name, words)))

@@ -6,7 +6,7 @@ import subprocess
 from program import shape_complaint
 
 HERE = pathlib.Path(__file__).resolve().parent
-WORDS = 40      # those that storm.c asks for
+WORDS = 44      # those that storm.c asks for
 
 
 def storm(program, seed, told, seconds):

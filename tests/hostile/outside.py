@@ -58,7 +58,8 @@ def failing_calls(program, tally):
             step = 1 if len(stdin) < 100 or most == 0 else 13
             for n in range(1, counts[1] + 1, step):
                 error = ERRORS[n % len(ERRORS)]
-                cases.append(("%s, read %d of %d bytes fails with %d" % (label, n, most, error), program, words, stdin, wanted, n, most, error))
+                cases.append(("%s, read %d of %d bytes fails with %d" % (label, n, most, error), program, words, stdin, wanted, n, most,
+                              error))
         for most in (1, 64, 0):
             answer, counts = program.counted(words, stdin, write_max=most)
             tally.tell("%s, writes of %d bytes" % (label, most), complaint(answer, wanted))
@@ -159,11 +160,11 @@ def full_disks(program, tally):
     place.mkdir(exist_ok=True)
     source = program.folder / "source"
     source.write_bytes(script(name))
-    order = 'mount -t tmpfs -o size=4096 none "$1" 2>/dev/null || exit 99; shift; exec <"$1"; shift; "$@" >"$0/out"; s=$?; cat "$0/out"; exit $s'
+    order = 'mount -t tmpfs -o size=4096 none "$0" 2>/dev/null || exit 99; "$@" <"$SOURCE" >"$0/out"; s=$?; cat "$0/out"; exit $s'
     line_, environment = program.words(line.split(" "))
-    environment["PATH"] = os.environ.get("PATH", os.defpath)
+    environment.update({"PATH": os.environ.get("PATH", os.defpath), "SOURCE": str(source)})
     try:
-        done = subprocess.run(["unshare", "-m", "bash", "-c", order, str(place), str(place), str(source), *line_], env=environment,
+        done = subprocess.run(["unshare", "-m", "bash", "-c", order, str(place), *line_], env=environment,
                               capture_output=True, timeout=SECONDS, check=False)
         answer = Answer(done.returncode, done.stdout, done.stderr)
     except FileNotFoundError:

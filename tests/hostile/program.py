@@ -100,7 +100,7 @@ def short(answer):
 
 
 def complaint(answer, wanted, others=(), write_fault=False):
-    """None where the answer is one of those wanted, one of the others, or (where that may come) a write fault with a front of one wanted."""
+    """None where the answer is one of those wanted, one of the others, or (where it may come) a write fault with a front of one wanted."""
     if answer in wanted or answer in others:
         return None
     if write_fault and (answer.status, answer.err) == WRITE_FAULT and is_front(answer.out, wanted):

@@ -2,8 +2,8 @@
 //
 // A case is fixed by the seed and its number: the words, and the input, which is a made script or one of those that were given, mutated.
 // The program is run on it twice, and has to answer the same; once as `check`, which has to refuse the same scripts by the same line; and
-// once disturbed: an allocation is refused, a read or a write fails, or reads and writes are short. Each answer has to be of the right form,
-// a text whole with status 0 and 1 alone, and all memory given back. Another answer, a crash or a hang is told with the number of the case.
+// once disturbed: an allocation is refused, a read or a write fails, or reads and writes are short. Each answer has to be of its form, a
+// text whole with status 0 and 1 alone, and all memory given back. Another answer, a crash or a hang is told with the number of the case.
 //
 //   STORM_SEED=n  STORM_FIRST=n (the number of the first case)  STORM_CASES=n  STORM_SECONDS=n  STORM_SCRIPTS=PATH:PATH..
 //   STORM_SHOW=1  writes the words and the input of the first case and ends
@@ -13,18 +13,21 @@
 #include <dlfcn.h>
 #include <errno.h>
 #include <fcntl.h>
+#include <setjmp.h>
 #include <signal.h>
 #include <stdarg.h>
+#include <stdatomic.h>
 #include <stdint.h>
 #include <stdio.h>
 #include <stdlib.h>
 #include <string.h>
 #include <sys/mman.h>
+#include <sys/syscall.h>
 #include <sys/time.h>
 #include <time.h>
 #include <unistd.h>
 
-#define WORDS 40
+#define WORDS 44
 #define ROOM (1L << 30)         // of addresses for a text; pages are taken as they are written
 #define LIMIT 65536             // bytes of a script
 #define HANG 100                // seconds of processor time that a run may take; the longest takes less than one
@@ -48,7 +51,8 @@ typedef struct {                // what disturbs a run; numbers count from 1
 static int running;             // whether the program runs now, and calls are ours
 static Answer *answer;
 static Trouble trouble;
-static long allocs, reads, writes, held;
+static long reads, writes;
+static atomic_long allocs, held;
 static char input[LIMIT + 4096];
 static size_t input_len, input_at;
 static char *list[WORDS + 1];   // the words of the case, the program's own name at the front
@@ -62,8 +66,8 @@ static uint64_t state;
 
 static int refuses(void) {
     if (!running) return 0;
-    allocs++;
-    return allocs == trouble.alloc || (trouble.alloc_from && allocs >= trouble.alloc_from);
+    long n = atomic_fetch_add(&allocs, 1) + 1;
+    return n == trouble.alloc || (trouble.alloc_from && n >= trouble.alloc_from);
 }
 
 void *malloc(size_t n) {
@@ -118,6 +122,19 @@ ssize_t write(int fd, const void *buf, size_t n) {
     return (ssize_t)n;
 }
 
+// A program that may start threads ends by this call.
+
+static jmp_buf ended;
+static int end_status;
+
+void _exit(int status) {
+    if (running) {
+        end_status = status;
+        longjmp(ended, 1);
+    }
+    for (;;) syscall(SYS_exit_group, status);
+}
+
 // What is told, and the end.
 
 static void tell(const char *form, ...) {
@@ -168,13 +185,14 @@ static void put(const char *form, ...) {
     input_len = least(input_len + (size_t)n, sizeof input - 1);
 }
 
+// (the order in which a call's arguments are made is the compiler's, so no call has two of them by chance)
 static void expression(int depth) {
     static const char *signs[] = {"+", "-", "*", "<", "=="};
     switch (depth > 4 ? below(3) : below(6)) {
     case 0: put("%ld", one_in(40) ? 9223372036854775807 - below(3) : below(6)); break;
     case 1: put("n%ld", below(3)); break;
-    case 2: put(one_in(2) ? "here" : "%ld", below(4)); break;
-    case 3: put("n%ld", below(one_in(30) ? 6 : 3)); break;
+    case 2: if (one_in(2)) put("here"); else put("%ld", below(4)); break;
+    case 3: put("n%ld", one_in(30) ? below(6) : below(3)); break;
     case 4: put("%ld", below(3)); break;
     default:
         put("(");
@@ -192,8 +210,8 @@ static void statement(int depth) {
     int deep = depth > 7 && !one_in(100);
     switch (deep ? below(8) : below(20)) {
     case 0: case 1: put("set n%ld = ", below(4)); expression(0); put("; "); break;
-    case 2: put("new r%ld = %ld; ", below(3), 1 + below(5)); break;
-    case 3: put("get n%ld = r%ld[", below(3), below(2)); expression(3); put("]; "); break;
+    case 2: put("new r%ld = ", below(3)); put("%ld; ", 1 + below(5)); break;
+    case 3: put("get n%ld = ", below(3)); put("r%ld[", below(2)); expression(3); put("]; "); break;
     case 4: put("put r%ld[", below(2)); expression(3); put("] = "); expression(2); put("; "); break;
     case 5: put("forget r%ld; ", below(2)); break;
     case 6: put("print "); expression(0); put("; "); break;
@@ -216,7 +234,11 @@ static void block(int depth) {
 
 static void make_script(void) {
     input_len = 0;
-    if (!one_in(10)) put("set n0 = %ld; set n1 = %ld; set n2 = here; new r0 = %ld; new r1 = %ld; ", below(5), below(5), 1 + below(4), 1 + below(4));
+    if (!one_in(10)) {
+        for (int k = 0; k < 2; k++) put("set n%d = %ld; ", k, below(5));
+        for (int k = 0; k < 2; k++) put("new r%d = %ld; ", k, 1 + below(4));
+        put("set n2 = here; ");
+    }
     for (left = 2 + below(30); left > 0;) statement(0);
 }
 
@@ -230,8 +252,8 @@ static void replace(size_t from, size_t to, const char *bytes, size_t n) {
 
 static void mutate(void) {
     static const char *tokens[] = {"{", "}", "(", ")", "[", "]", "=", ";", "+", "==", "<", ",", "set ", "new ", "get ", "put ", "forget ",
-        "print ", "throw ", "async ", "at ", "finish ", "if ", "else ", "repeat ", "try ", "catch ", "dead ", "here ", "census ", " 0", " 1",
-        " 9223372036854775808", " 00", "#", "\n", "n0", "r0", "x", "finish {", "at 1 async {", "try {", "} catch dead {", "} catch {",
+        "print ", "throw ", "async ", "at ", "finish ", "if ", "else ", "repeat ", "try ", "catch ", "dead ", "here ", "census ", " 0",
+        " 1", " 9223372036854775808", " 00", "#", "\n", "n0", "r0", "x", "finish {", "at 1 async {", "try {", "} catch dead {", "} catch {",
         "abcdefghijklmnopq", "\xff", "\x01"};
     char piece[4096];
     size_t at = (size_t)below((long)input_len + 1);
@@ -246,7 +268,8 @@ static void mutate(void) {
     case 5: if (one_in(4)) input_len = at; break;
     case 6: case 7: {
         const char *token = tokens[below(sizeof tokens / sizeof *tokens)];
-        replace(at, one_in(2) ? at : to, token, strlen(token));
+        if (one_in(2)) to = at;
+        replace(at, to, token, strlen(token));
         break;
     }
     default:
@@ -300,7 +323,8 @@ static void make_words(void) {
         long place = first + below(places - first);
         first = place + 1;
         word("--kill");
-        word("%ld@%ld", place, one_in(10) ? below(1000) : below(25));
+        long moment = one_in(10) ? below(1000) : below(25);
+        word("%ld@%ld", place, moment);
     }
     if (one_in(3)) {
         word("--seed");
@@ -316,11 +340,17 @@ static void make_words(void) {
     switch (below(5)) {             // words that are most likely wrong
     case 0: list[1 + below(count)] = "--places"; break;
     case 1: count = (int)below(count + 1); break;
-    case 2: word("--kill"); word("%ld@%ld", below(18), below(2) ? below(9) : 1000001); break;
+    case 2: {
+        long place = below(18);
+        word("--kill");
+        word("%ld@%ld", place, one_in(2) ? below(9) : 1000001);
+        break;
+    }
     case 3: word("%s", one_in(2) ? "--seed" : "x"); word("%ld", below(100) - 3); break;
     default: {
         char *it = list[1 + below(count)];
-        if (*it) it[below((long)strlen(it))] = (char)(1 + below(255));
+        char byte = (char)(1 + below(255));
+        if (*it) it[below((long)strlen(it))] = byte;
     }
     }
 }
@@ -356,10 +386,11 @@ static void run(Answer *to, Trouble with) {
     to->out_len = to->err_len = 0;
     answer = to;
     running = 1;
-    int status = program(count + 1, argv_, envp_);
+    if (!setjmp(ended)) end_status = program(count + 1, argv_, envp_);
     running = 0;
-    to->status = status & 255;
-    if (held) fail("memory is not given back");
+    to->status = end_status & 255;
+    // (the blocks that libc has for threads are its own)
+    if (held && strcmp(list[1], "live")) fail("memory is not given back");
 }
 
 static int is_same(const Answer *a, const Answer *b) {
@@ -392,7 +423,7 @@ static void hold(const Answer *a) {
         return;
     }
     if (a->err_len) fail("a line on standard error beside a text");
-    if (!strcmp(list[1], "step")) hold_trace(a);
+    if (!strcmp(list[1], "step") || !strcmp(list[1], "live")) hold_trace(a);
     else if (!a->out_len || a->out[a->out_len - 1] != '\n') fail("a text is not whole");
 }
 
@@ -400,7 +431,8 @@ static void hold_disturbed(const Answer *a, const Answer *own, const Trouble *wi
     if (is_same(a, own)) return;
     if ((with->alloc || with->alloc_from) && is_no_memory(a)) return;
     if (with->read && a->status == 6 && says(a, "read fault\n") && !a->out_len) return;
-    if (with->write && a->status == 7 && says(a, "write fault\n") && a->out_len < own->out_len && !memcmp(a->out, own->out, a->out_len)) return;
+    int is_front = a->out_len < own->out_len && !memcmp(a->out, own->out, a->out_len);
+    if (with->write && a->status == 7 && says(a, "write fault\n") && is_front) return;
     fail("a wrong answer to a disturbed run");
 }
 
@@ -415,6 +447,33 @@ static Trouble some_trouble(long total, long total_reads, size_t text) {
         with.write = one_in(3) ? 0 : 1 + below((long)text / with.write_max + 2);
     }
     return with;
+}
+
+static int has_live;
+static volatile sig_atomic_t stopped;
+
+static void stop(int signal) { stopped = signal; }
+
+// The same by threads, without picks: a run, and the same refusals; it may be disturbed by a refused allocation.
+static void try_live(const Answer *step, Answer *other) {
+    int kept = count;
+    count = 1;
+    for (int k = 2; k + 1 <= kept; k += 2) {
+        if (!strcmp(list[k], "--pick") || !strcmp(list[k], "--seed")) continue;
+        char *option = list[k], *value = list[k + 1];
+        list[++count] = option;
+        list[++count] = value;
+    }
+    list[1] = "live";
+    if (count + 2 > WORDS) return;
+    word("--workers");
+    word("%ld", 1 + below(4));
+    Trouble with = {0};
+    if (one_in(2)) with.alloc = 1 + below(200);
+    run(other, with);
+    if (with.alloc && is_no_memory(other)) return;
+    if (step->status > 1 ? !is_same(step, other) : other->status > 1) fail("`live` and `step` differ in what they refuse");
+    hold(other);
 }
 
 static long statuses[6];
@@ -442,6 +501,7 @@ static void try_case(Answer *first, Answer *second) {
     if (first->status > 1 ? !is_same(first, second) : second->status != 0) fail("`check` and `step` differ in what they refuse");
     list[1] = kept;
     count = kept_count;
+    if (has_live && one_in(8)) try_live(first, second);
 }
 
 static void load(const char *path) {
@@ -476,9 +536,16 @@ static int storm(int argc, char **argv, char **envp) {
         both[k].out = mmap(NULL, ROOM, PROT_READ | PROT_WRITE, MAP_PRIVATE | MAP_ANONYMOUS | MAP_NORESERVE, -1, 0);
         if (both[k].out == MAP_FAILED) fail("there is no room for texts");
     }
+    struct sigaction gently = {.sa_handler = stop};
+    sigaction(SIGTERM, &gently, NULL);
+    sigaction(SIGINT, &gently, NULL);
+    count = 1;
+    list[1] = "live";
+    run(&both[0], (Trouble){0});
+    has_live = both[0].status != 2;
     long seed = told("STORM_SEED", 1), from = told("STORM_FIRST", 0), most = told("STORM_CASES", 1L << 60);
     time_t end = time(NULL) + told("STORM_SECONDS", 1L << 40);
-    for (number = from; number - from < most && (number % 64 || time(NULL) < end); number++) {
+    for (number = from; number - from < most && !stopped && (number % 64 || time(NULL) < end); number++) {
         make_case(seed);
         if (getenv("STORM_SHOW")) {
             for (int k = 1; k <= count; k++) tell("%s\n", list[k]);

@@ -1,8 +1,8 @@
 """The tables of expected answers, and the cases that they tell.
 
-A table is a text of cases. Each begins with `case SCRIPT WORDS`, SCRIPT being the name of a file of scripts/ or `none`; `cut N` says that the
-input is the first N bytes of it; `status N` is the exit status, `says LINE` the line on standard error, and `writes N` stands before the N
-lines of standard output. Cases of one script and one list of words stand for one run with several right answers.
+A table is a text of cases. Each begins with `case SCRIPT WORDS`, SCRIPT being the name of a file of scripts/ or `none`; `cut N` says that
+the input is the first N bytes of it; `status N` is the exit status, `says LINE` the line on standard error, and `writes N` stands before
+the N lines of standard output. In live.txt cases of one script and one list of words are one run with several right answers.
 """
 
 import collections

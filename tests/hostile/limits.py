@@ -8,7 +8,7 @@ import signal
 import subprocess
 import time
 
-from program import NO_MEMORY, SECONDS, Answer, complaint, is_front, short
+from program import NO_MEMORY, Answer, complaint, is_front, short
 from tables import answer_of, live_answers, script
 
 KIB = 1024
@@ -97,7 +97,7 @@ def address_space(program, tally):
     tried = rows(program)
     for k, row in enumerate([*tried, *large(program)]):
         label, words, stdin, wanted = row
-        sizes = [*range(1536, 4096, 128), *range(4096, 65537, 4096)] if k < len(tried) else [*range(4096, 32768, 2048), 65536]
+        sizes = [*range(1536, 4096, 128), *range(4096, 65537, 4096)] if k < len(tried) else [*range(4096, 32768, 4096), 65536]
         for size in sizes:
             # (the loader needs room of its own, and takes none of the program's words)
             cases.append(("%s in %d KiB" % (label, size), program, words, stdin, wanted, "as=%d" % (size * KIB), NOT_STARTED))
@@ -175,8 +175,9 @@ def at_moment(program, words, stdin, wanted, raised, delay):
             else:
                 started.send_signal(raised)
             try:
-                out, err = started.communicate(timeout=SECONDS)
+                out, err = started.communicate(timeout=program.patience())
             except subprocess.TimeoutExpired:
+                program.hangs += 1
                 started.kill()
                 return "hangs after %s" % raised.name
     answer = Answer(started.returncode, out, err)
@@ -193,7 +194,7 @@ def signals_at_moments(program, tally):
     for words in lines:
         stdin = b"" if words[0] == "gen" else source
         wanted = [program.run(words, stdin)]
-        for k in range(40):
+        for _ in range(25):
             raised = dice.choice([*DEADLY, *DEADLY, *HARMLESS, signal.SIGSTOP])
             delay = dice.random() * 0.08
             cases.append(("%s, %s after %.4f s" % (" ".join(words), raised.name, delay), program, words, stdin, wanted, raised, delay))

@@ -127,7 +127,7 @@ def closed_outputs(program, tally):
 
 def written_to(program, words, stdin, out, limits=()):
     line, environment = program.words(words, limits)
-    done = subprocess.run(line, input=stdin, stdout=out, stderr=subprocess.PIPE, env=environment, timeout=SECONDS, check=False)
+    done = subprocess.run(line, input=stdin, stdout=out, stderr=subprocess.PIPE, env=environment, timeout=program.patience(), check=False)
     return Answer(done.returncode, b"", done.stderr)
 
 
@@ -198,9 +198,14 @@ def readers(program, tally):
 
 def closing_reader(program, wanted, words, stdin, count):
     reads, writes = os.pipe()
-    room = fcntl.fcntl(writes, fcntl.F_SETPIPE_SZ, 4096)
+    try:
+        room = fcntl.fcntl(writes, fcntl.F_SETPIPE_SZ, 4096)
+    except OSError:
+        room = 65536
     line, environment = program.words(words)
     with subprocess.Popen(line, stdin=subprocess.PIPE, stdout=writes, stderr=subprocess.PIPE, env=environment) as started:
+        brake = threading.Timer(program.patience(), started.kill)
+        brake.start()
         os.close(writes)
         started.stdin.write(stdin)
         started.stdin.close()
@@ -212,7 +217,8 @@ def closing_reader(program, wanted, words, stdin, count):
             got += piece
         os.close(reads)
         said = started.stderr.read()
-        status = started.wait(SECONDS)
+        status = started.wait()
+        brake.cancel()
     if got != wanted.out[:count]:
         return "the reader got %r" % got[-60:]
     # (where the text fits into the pipe it may be handed on before the reader closes)

@@ -32,6 +32,7 @@ class Program:
         self.refuse = self.built("refuse.c", "refuse.so", library)
         self.storm = self.built("storm.c", "storm.so", library)
         self.start = self.built("start.c", "start", [])
+        self.hangs = 0
         self.has_live = self.run(["live"], b"").status != 2
 
     def built(self, source, name, flags):
@@ -45,13 +46,18 @@ class Program:
         preload = ["preload=" + self.refuse] if told else []
         return [self.start, *preload, *limits, "--", self.path, *words], environment
 
-    def run(self, words, stdin, limits=(), seconds=SECONDS, **told):
+    def patience(self):
+        """The seconds that a run may take: few where the program has hung some times, so that the end comes all the same."""
+        return SECONDS if self.hangs < 3 else 2
+
+    def run(self, words, stdin, limits=(), **told):
         """The answer to these words and this input (bytes, or an open file); its status is None where it hangs."""
         line, environment = self.words(words, limits, **told)
         given = {"input": stdin} if isinstance(stdin, bytes) else {"stdin": stdin}
         try:
-            done = subprocess.run(line, env=environment, capture_output=True, timeout=seconds, check=False, **given)
+            done = subprocess.run(line, env=environment, capture_output=True, timeout=self.patience(), check=False, **given)
         except subprocess.TimeoutExpired as hung:
+            self.hangs += 1
             return Answer(None, hung.stdout or b"", hung.stderr or b"")
         return Answer(done.returncode, done.stdout, done.stderr)
 

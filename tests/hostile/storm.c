@@ -28,7 +28,7 @@
 #include <unistd.h>
 
 #define WORDS 44
-#define ROOM (1L << 30)         // of addresses for a text; pages are taken as they are written
+#define ROOM (1L << 29)         // of addresses for a text; pages are taken as they are written
 #define LIMIT 65536             // bytes of a script
 #define HANG 100                // seconds of processor time that a run may take; the longest takes less than one
 
@@ -61,6 +61,8 @@ static size_t words_len;
 static int count;
 static long number;
 static uint64_t state;
+
+static void too_long(void);
 
 // The calls of the program.
 
@@ -117,6 +119,7 @@ ssize_t write(int fd, const void *buf, size_t n) {
         return -1;
     }
     if (trouble.write_max) n = least(n, (size_t)trouble.write_max);
+    if (n > ROOM - answer->out_len) too_long();
     memcpy(answer->out + answer->out_len, buf, n);
     answer->out_len += n;
     return (ssize_t)n;
@@ -151,6 +154,8 @@ static void fail(const char *what) {
     tell("FAILED case %ld: %s\n", number, what);
     _exit(4);
 }
+
+static void too_long(void) { fail("a text that no script has"); }
 
 static void fault(int signal) {
     running = 0;

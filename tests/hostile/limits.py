@@ -8,7 +8,7 @@ import signal
 import subprocess
 import time
 
-from program import NO_MEMORY, Answer, complaint, is_front, short
+from program import NO_MEMORY, Answer, complaint, is_front, shape_complaint, short
 from tables import answer_of, live_answers, script
 
 KIB = 1024
@@ -137,7 +137,12 @@ def at_call(program, words, stdin, wanted, raised, call):
 
 
 def ended(answer, wanted, raised):
-    """None for a right answer, or an end by this signal with a text or a front of one written."""
+    """None for a right answer, or an end by this signal with a text or a front of one written.
+
+    Where no answers are given, as of a long run with threads, a right one is one of the right form.
+    """
+    if wanted is None:
+        return None if answer.status == -raised and not answer.err else shape_complaint(answer, ["live"])
     if answer in wanted:
         return None
     if answer.status == -raised and not answer.err and (is_front(answer.out, wanted) or answer.out in [each.out for each in wanted]):
@@ -182,7 +187,9 @@ def at_moment(program, words, stdin, wanted, raised, delay):
                 return "hangs after %s" % raised.name
     answer = Answer(started.returncode, out, err)
     # (a closed pipe is harmless from the start of `main` on, and ends the program before it)
-    return ended(answer, wanted, raised) if raised in (*DEADLY, signal.SIGPIPE) else complaint(answer, wanted)
+    if wanted is None or raised in (*DEADLY, signal.SIGPIPE):
+        return ended(answer, wanted, raised)
+    return complaint(answer, wanted)
 
 
 def signals_at_moments(program, tally):
@@ -191,9 +198,11 @@ def signals_at_moments(program, tally):
     source = DEEP[5]
     (program.folder / "moment").write_bytes(source)
     lines = [["step"], ["step", "--places", "4", "--kill", "1@2000"], ["gen", "--size", "1000"]]
+    if program.has_live:
+        lines.append(["live", "--places", "4", "--kill", "1@2000", "--workers", "4"])
     for words in lines:
         stdin = b"" if words[0] == "gen" else source
-        wanted = [program.run(words, stdin)]
+        wanted = None if words[0] == "live" else [program.run(words, stdin)]
         for _ in range(25):
             raised = dice.choice([*DEADLY, *DEADLY, *HARMLESS, signal.SIGSTOP])
             delay = dice.random() * 0.08

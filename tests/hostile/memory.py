@@ -5,7 +5,7 @@ whose threads' own blocks libc keeps).
 """
 
 from program import NO_MEMORY, complaint
-from tables import answer_of, live_answers, script
+from tables import LONG_LIVE, answer_of, live_answers, long_live_complaint, script
 
 LONGEST = b"print 7;".ljust(65536)
 
@@ -30,6 +30,8 @@ LIVE = [("ordinary_case", "live"), ("ordinary_case", "live --kill 1@3"), ("at_wa
 def refused(program, words, stdin, wanted, refusal):
     """What is wrong where this refusal comes (ALLOC, ALLOC_FROM or THREAD, and a number)."""
     answer, counts = program.counted(words, stdin, **refusal)
+    if wanted is LONG_LIVE:
+        return None if answer == NO_MEMORY else long_live_complaint(answer)
     wrong = complaint(answer, wanted, [NO_MEMORY])
     if wrong is None and words[0] != "live":
         if counts is None:
@@ -68,4 +70,6 @@ def run(program, tally):
                 for n in range(1, 6):
                     cases.append(("%s of %s, thread %d can't be started" % (" ".join(line), name, n), program, line, script(name), wanted,
                                   {"thread": n}))
+        for workers in ("1", "4"):
+            add(program, cases, "realistic_script", [*LONG_LIVE, "--workers", workers], script("realistic_script"), LONG_LIVE, 50)
     tally.each(cases, refused)

@@ -97,7 +97,7 @@ def address_space(program, tally):
     tried = rows(program)
     for k, row in enumerate([*tried, *large(program)]):
         label, words, stdin, wanted = row
-        sizes = [*range(1536, 4096, 128), *range(4096, 65537, 4096)] if k < len(tried) else [*range(4096, 32768, 4096), 65536]
+        sizes = [*range(1536, 4096, 256), *range(4096, 65537, 4096)] if k < len(tried) else [*range(4096, 32768, 4096), 65536]
         for size in sizes:
             # (the loader needs room of its own, and takes none of the program's words)
             cases.append(("%s in %d KiB" % (label, size), program, words, stdin, wanted, "as=%d" % (size * KIB), NOT_STARTED))
@@ -158,7 +158,7 @@ def signals_at_calls(program, tally):
     cases = []
     for label, words, stdin, wanted in rows(program):
         _, counts = program.counted(words, stdin)
-        step = 1 if counts[4] < 120 else counts[4] // 25 + 1
+        step = 1 if label == "step of ordinary_case" else counts[4] // 25 + 1
         for call in range(1, counts[4] + 1, step):
             for raised in (DEADLY[call % len(DEADLY)], HARMLESS[call % len(HARMLESS)]):
                 cases.append(("%s, %s at call %d" % (label, raised.name, call), program, words, stdin, wanted, raised, call))

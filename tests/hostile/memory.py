@@ -16,7 +16,7 @@ RUNS = [
     ("at_waits_for_orphans", "step --places 3 --kill 1@6", 1),
     ("stale_reference", "step", 1),
     ("nearest_living_scope_adopts", "step --places 4 --kill 2@12", 1),
-    ("realistic_script", "step --places 8 --kill 3@5 --seed 5", 5),
+    ("realistic_script", "step --places 8 --kill 3@5 --seed 5", 10),
     ("ordinary_case", "check", 1),
     ("realistic_script", "check", 5),
     ("none", "gen --size 2 --kill 1@5", 1),
@@ -48,6 +48,8 @@ def add(program, cases, name, words, stdin, wanted, step):
     label = "%s of %s" % (" ".join(words), name)
     cases.append((label + ", undisturbed", program, words, stdin, wanted, {"alloc": 0}))
     assert total > 0, "no allocation is seen: " + label
+    # (of `live` one worker is tried at each allocation, and several at each third)
+    step = 3 if step == 1 and words[-1] == "4" else step
     for n in range(1, total + 1, step):
         cases.append(("%s, allocation %d refused" % (label, n), program, words, stdin, wanted, {"alloc": n}))
     for n in range(1, total + 1, 10 * step):

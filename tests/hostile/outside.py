@@ -51,19 +51,18 @@ def failing_calls(program, tally):
     writes = []
     for name, words, stdin, wanted in rows(program):
         label = "%s of %s" % (" ".join(words), name)
-        few = len(wanted[0].out) < 1000
-        for most in (1, 7, 0):
+        for most in (1, 0):
             answer, counts = program.counted(words, stdin, read_max=most)
             tally.tell("%s, reads of %d bytes" % (label, most), complaint(answer, wanted))
-            step = 1 if len(stdin) < 100 or most == 0 else 13
+            step = 1 if name == "ordinary_case" or most == 0 else 13
             for n in range(1, counts[1] + 1, step):
                 error = ERRORS[n % len(ERRORS)]
                 cases.append(("%s, read %d of %d bytes fails with %d" % (label, n, most, error), program, words, stdin, wanted, n, most,
                               error))
-        for most in (1, 64, 0):
+        for most in (1, 64, 0) if (name, words) == ("ordinary_case", ["step"]) else (64, 0):
             answer, counts = program.counted(words, stdin, write_max=most)
             tally.tell("%s, writes of %d bytes" % (label, most), complaint(answer, wanted))
-            for n in range(1, counts[2] + 1, 1 if few or most == 0 else 61):
+            for n in range(1, counts[2] + 1, 1 if counts[2] < 300 else 61):
                 # (of `live` texts of several lengths are right, so there may be no such call)
                 if words[0] == "live" and most and n > min(len(each.out) for each in wanted) // most:
                     continue

@@ -70,7 +70,7 @@ class Program:
 
 
 class Tally:
-    """What passed and what failed. Cases run two at a time."""
+    """What passed and what failed. Cases run four at a time, since most of each is waiting for a process to start."""
 
     def __init__(self):
         self.passed = self.failed = 0
@@ -86,7 +86,7 @@ class Tally:
 
     def each(self, cases, judge):
         """Tells of each case what the judge says of it: a complaint, or None. A case is a name and what the judge is given."""
-        with concurrent.futures.ThreadPoolExecutor(2) as pool:
+        with concurrent.futures.ThreadPoolExecutor(4) as pool:
             for (name, *_), complaint in zip(cases, pool.map(lambda case: judged(judge, case[1:]), cases)):
                 self.tell(name, complaint)
 

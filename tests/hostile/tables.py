@@ -78,9 +78,9 @@ def run(program, tally):
         return
     pairs = sorted({(case.script, " ".join(case.words)) for case in read_table("live.txt")})
     named = [("%s of %s with %d workers" % (words, name, workers), name, words, workers)
-             for name, words in pairs for workers in (1, 2, 8) for _ in range(10)]
+             for name, words in pairs for workers in (1, 2, 8) for _ in range(5)]
     tally.each(named, lambda name, words, workers: complaint(
         program.run([*words.split(" "), "--workers", str(workers)], script(name)), live_answers(name, words)))
-    named = [("the realistic script with %d workers" % workers, workers) for workers in (1, 2, 4, 8) for _ in range(10)]
+    named = [("the realistic script with %d workers" % workers, workers) for workers in (1, 2, 4, 8) for _ in range(5)]
     tally.each(named, lambda workers: long_live_complaint(
         program.run([*LONG_LIVE, "--workers", str(workers)], script("realistic_script"))))

@@ -1,5 +1,4 @@
 pub mod Known
-pub mod Settings
 pub mod Ends
 pub mod Told
 pub mod Asking

@@ -1,4 +1,3 @@
 pub mod Live
-pub mod Seeds
 pub mod Top
 pub mod Outcomes

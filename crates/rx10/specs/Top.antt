@@ -17,7 +17,7 @@ use Rattle.rx_script.specs.Grammar.{IsScript}
 use Rattle.rx_check.specs.Checked.{Meets}
 use Rattle.rx_trace.specs.Text.{trace_text}
 use Rattle.rx_words.specs.Words.{Asked, Step, Gen, Check, Live, BadWord, Source, Zeros, Listed, Seeded, source}
-use Rattle.rx10.specs.Seeds.{seed_word}
+use Rattle.rx_picks.specs.Seeds.{seed_word}
 use Rattle.rx10.specs.Live.{IsLawful}
 use Rattle.rx_gen.specs.Lines.{lines}
 use Rattle.rx_gen.specs.Numbers.{numbers, counts_text}

@@ -13,7 +13,6 @@ mod live;
 mod live_tests;
 mod outside;
 mod run;
-mod seeds;
 mod status;
 #[cfg(test)]
 mod tests;

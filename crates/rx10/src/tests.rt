@@ -1,5 +1,4 @@
 // What no clause says: that scripts run to their end, with their whole text, and what faults and bad words give.
-use crate::seeds::SeedPicks;
 use crate::texts::{
     ADOPTION, AT_AND_ASYNC, AT_WAITS, BORN_STRUCK, EMPTY, ENDED_FIRST, FAULTS_IN_ORDER, FULL_HEAP,
     LOST_IN_TRANSIT, NO_PLACE, ORDINARY, OVERFLOW, PICKED, REALISTIC, SOURCE_DIES, STALE,
@@ -7,7 +6,6 @@ use crate::texts::{
 };
 use crate::{Status, rx10_step};
 use rx_base::{MemSink, MemSource, NoMemory, RxWord};
-use rx_machine::Picks;
 use rx_text::put_natural;
 use std::alloc::Global;
 
@@ -293,16 +291,6 @@ fn generated_scripts(rt: HostRuntime) -> Result<(), NoMemory> {
     ] {
         assert!(rt; gives(rt.alloc(), &plain(words, b"no script"), Status::Done, text)?);
     }
-    Ok(())
-}
-
-// The picks of a seed are the words of its generator, from the first one on.
-#[test]
-fn seeds_give_their_words(rt: HostRuntime) -> Result<(), NoMemory> {
-    let mut picks = SeedPicks::open(5);
-    assert_eq!(rt; picks.next(), 257_813_417);
-    assert_eq!(rt; picks.next(), 4_216_695_592);
-    assert_eq!(rt; picks.next(), 1_501_603_199);
     Ok(())
 }
 

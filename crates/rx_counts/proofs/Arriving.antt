@@ -16,10 +16,10 @@ use Rattle.rx_rules.specs.Reached.{acts}
 use Rattle.rx_sound.specs.Sound.{Sound}
 use Rattle.rx_sound.proofs.Reached.{sound}
 use Rattle.rx_sound.proofs.Stay.{fall_filter}
-use Rattle.rx_tree.specs.declared.ledger.Caller.{Caller}
-use Rattle.rx_tree.specs.Callers.{MayAskArrive, Travels}
-use Rattle.rx_tree.specs.Calls.{ArriveReply, landing}
-use Rattle.rx_tree.proofs.Allowed.{Free, arrive_allowed}
+use Rattle.rx_finish.specs.declared.ledger.Caller.{Caller}
+use Rattle.rx_finish.specs.Callers.{MayAskArrive, Travels}
+use Rattle.rx_finish.specs.Calls.{ArriveReply, landing}
+use Rattle.rx_finish.proofs.Allowed.{Free, arrive_allowed}
 use Rattle.rx_counts.specs.declared.record.Record.{Record}
 use Rattle.rx_counts.specs.declared.ledger.CountLedger.{CountLedger}
 use Rattle.rx_counts.specs.Keeping.{stands_home, keeper, is_number, kept_at}

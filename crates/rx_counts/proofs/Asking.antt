@@ -7,7 +7,7 @@ use Rattle.std.proofs.lemmas.Bool.{true≢false, cases_lt}
 use Rattle.std.proofs.lemmas.List.{get_or_past}
 use Rattle.std.proofs.lemmas.List.Sums.{count_by-le-length}
 use Rattle.rx_sound.proofs.Parents.{met_found}
-use Rattle.rx_tree.proofs.Gone.{blow_known}
+use Rattle.rx_finish.proofs.Gone.{blow_known}
 use Rattle.rx_base.specs.declared.ids.PlaceId.{PlaceId}
 use Rattle.rx_base.specs.declared.ids.ScopeId.{ScopeId}
 use Rattle.rx_rules.specs.declared.tasks.Where.{Where}
@@ -20,12 +20,12 @@ use Rattle.rx_sound.specs.Chains.{meets}
 use Rattle.rx_sound.specs.Sound.{Sound, TasksFall}
 use Rattle.rx_sound.proofs.Reach.{fits_of}
 use Rattle.rx_sound.proofs.Reached.{sound}
-use Rattle.rx_tree.specs.declared.ledger.Caller.{Caller}
-use Rattle.rx_tree.specs.Callers.{MayAsk}
-use Rattle.rx_tree.specs.declared.ledger.LedgerFault.{LedgerFault}
-use Rattle.rx_tree.specs.declared.ledger.LedgerFault.TheVariants.{NoMemory}
-use Rattle.rx_tree.specs.Calls.{IsUnstruck, WasLost, OpenReply, CallReply, blow_of}
-use Rattle.rx_tree.proofs.Allowed.{Free, free}
+use Rattle.rx_finish.specs.declared.ledger.Caller.{Caller}
+use Rattle.rx_finish.specs.Callers.{MayAsk}
+use Rattle.rx_finish.specs.declared.ledger.LedgerFault.{LedgerFault}
+use Rattle.rx_finish.specs.declared.ledger.LedgerFault.TheVariants.{NoMemory}
+use Rattle.rx_finish.specs.Calls.{IsUnstruck, WasLost, OpenReply, CallReply, blow_of}
+use Rattle.rx_finish.proofs.Allowed.{Free, free}
 use Rattle.rx_counts.specs.declared.record.Sums.{Sums}
 use Rattle.rx_counts.specs.declared.record.Record.{Record}
 use Rattle.rx_counts.specs.declared.ledger.CountLedger.{CountLedger}

@@ -22,10 +22,10 @@ use Rattle.rx_sound.proofs.Changes.{each_more}
 use Rattle.rx_sound.proofs.Chains.{met_start}
 use Rattle.rx_sound.proofs.Opening.{inner_fits}
 use Rattle.rx_sound.proofs.Reached.{sound}
-use Rattle.rx_tree.specs.declared.ledger.Caller.{Caller}
-use Rattle.rx_tree.specs.Callers.{MayAskMoving, IsMoving}
-use Rattle.rx_tree.specs.Calls.{OpenReply}
-use Rattle.rx_tree.proofs.Allowed.{Free, open_allowed}
+use Rattle.rx_finish.specs.declared.ledger.Caller.{Caller}
+use Rattle.rx_finish.specs.Callers.{MayAskMoving, IsMoving}
+use Rattle.rx_finish.specs.Calls.{OpenReply}
+use Rattle.rx_finish.proofs.Allowed.{Free, open_allowed}
 use Rattle.rx_counts.proofs.Shapes.{scope_is}
 use Rattle.rx_counts.specs.declared.record.Record.{Record}
 use Rattle.rx_counts.specs.declared.ledger.CountLedger.{CountLedger}

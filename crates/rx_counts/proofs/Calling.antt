@@ -18,10 +18,10 @@ use Rattle.rx_sound.specs.Blows.{death_blow, blow_at}
 use Rattle.rx_sound.specs.Chains.{Falls}
 use Rattle.rx_sound.specs.Sound.{Sound, Each}
 use Rattle.rx_sound.proofs.Reached.{sound}
-use Rattle.rx_tree.specs.declared.ledger.Caller.{Caller}
-use Rattle.rx_tree.specs.Callers.{MayAskTo, IsMoving}
-use Rattle.rx_tree.specs.Calls.{CallReply}
-use Rattle.rx_tree.proofs.Allowed.{Free, call_allowed}
+use Rattle.rx_finish.specs.declared.ledger.Caller.{Caller}
+use Rattle.rx_finish.specs.Callers.{MayAskTo, IsMoving}
+use Rattle.rx_finish.specs.Calls.{CallReply}
+use Rattle.rx_finish.proofs.Allowed.{Free, call_allowed}
 use Rattle.rx_counts.specs.declared.record.Sums.{Sums}
 use Rattle.rx_counts.specs.declared.record.Record.{Record}
 use Rattle.rx_counts.specs.declared.ledger.CountLedger.{CountLedger}

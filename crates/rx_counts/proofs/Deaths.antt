@@ -19,7 +19,7 @@ use Rattle.rx_sound.proofs.Changes.{each_found, each_more}
 use Rattle.rx_sound.specs.Chains.{Falls}
 use Rattle.rx_sound.proofs.Releasing.{each_below}
 use Rattle.rx_sound.proofs.Reached.{sound}
-use Rattle.rx_tree.specs.Callers.{MayStrike}
+use Rattle.rx_finish.specs.Callers.{MayStrike}
 use Rattle.rx_counts.specs.declared.record.Record.{Record}
 use Rattle.rx_counts.specs.declared.ledger.CountLedger.{CountLedger}
 use Rattle.rx_counts.specs.Keeping.{stands_home}

@@ -14,11 +14,11 @@ use Rattle.rx_rules.specs.Reached.{acts}
 use Rattle.rx_sound.specs.Sound.{Sound}
 use Rattle.rx_sound.proofs.Reached.{sound}
 use Rattle.rx_sound.proofs.Stay.{faulted}
-use Rattle.rx_tree.specs.declared.ledger.Caller.{Caller}
-use Rattle.rx_tree.specs.Callers.{MayAskEnd, IsBare}
-use Rattle.rx_tree.specs.Calls.{EndReply}
-use Rattle.rx_tree.proofs.Allowed.{Free, end_allowed}
-use Rattle.rx_tree.proofs.Replies.{ended_is}
+use Rattle.rx_finish.specs.declared.ledger.Caller.{Caller}
+use Rattle.rx_finish.specs.Callers.{MayAskEnd, IsBare}
+use Rattle.rx_finish.specs.Calls.{EndReply}
+use Rattle.rx_finish.proofs.Allowed.{Free, end_allowed}
+use Rattle.rx_finish.proofs.Unstruck.{ended_is}
 use Rattle.rx_counts.specs.declared.record.Sums.{Sums}
 use Rattle.rx_counts.specs.declared.record.Record.{Record}
 use Rattle.rx_counts.specs.declared.ledger.CountLedger.{CountLedger}

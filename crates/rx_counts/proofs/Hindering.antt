@@ -19,7 +19,7 @@ use Rattle.rx_sound.proofs.Below.{found_any}
 use Rattle.rx_sound.proofs.Lookups.{find_passes}
 use Rattle.rx_sound.proofs.Reached.{sound}
 use Rattle.rx_sound.proofs.Releasing.{on_meets, each_all}
-use Rattle.rx_tree.specs.Calls.{IsHindered, landing}
+use Rattle.rx_finish.specs.Calls.{IsHindered, landing}
 use Rattle.rx_counts.specs.declared.record.Record.{Record}
 use Rattle.rx_counts.specs.declared.ledger.CountLedger.{CountLedger}
 use Rattle.rx_counts.specs.Keeping.{stands_home, kept_at, same_where, count_of, total_of, orphans_of}

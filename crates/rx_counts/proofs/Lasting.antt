@@ -13,7 +13,7 @@ use Rattle.rx_rules.specs.declared.tasks.Where.TheVariants.{At}
 use Rattle.rx_rules.specs.declared.tasks.Task.{Task}
 use Rattle.rx_rules.specs.declared.tasks.Scope.{Scope}
 use Rattle.rx_rules.specs.Tree.{Tree, is_task, task_of, is_scope, opened_by, own_scope, is_under, quiet, the_root}
-use Rattle.rx_tree.specs.Callers.{HasRoot}
+use Rattle.rx_finish.specs.Callers.{HasRoot}
 use Rattle.rx_sound.specs.Blows.{blow_at}
 use Rattle.rx_sound.specs.Chains.{meets, HasOpener, Opened}
 use Rattle.rx_sound.specs.Sound.{TaskFits, Sound}

@@ -10,14 +10,14 @@ use Rattle.rx_rules.specs.Tree.{Tree, governs}
 use Rattle.rx_rules.specs.Entries.{made_act, strike}
 use Rattle.rx_rules.specs.Fold.{opening}
 use Rattle.rx_rules.specs.Reached.{IsOlder}
-use Rattle.rx_tree.specs.declared.ledger.Caller.{Caller}
-use Rattle.rx_tree.specs.declared.ledger.LedgerFault.{LedgerFault}
-use Rattle.rx_tree.specs.declared.ledger.LedgerFault.TheVariants.{NotYet, Lost, NoMemory}
-use Rattle.rx_tree.specs.declared.ledger.Born.{Born}
-use Rattle.rx_tree.specs.declared.ledger.Outcome.{Outcome}
-use Rattle.rx_tree.specs.Callers.{MayAskTo, MayAskArrive, MayAskEnd, MayAskRelease, HasRoot, MayStrike, IsMoving, Travels, HasFinish, IsBare, WaitsInside}
-use Rattle.rx_tree.specs.Calls.{Did, CallReply, ArriveReply, ReleaseReply, landing}
-use Rattle.rx_tree.proofs.Worked.{asks, called_next, none_dead, spawned_next}
+use Rattle.rx_finish.specs.declared.ledger.Caller.{Caller}
+use Rattle.rx_finish.specs.declared.ledger.LedgerFault.{LedgerFault}
+use Rattle.rx_finish.specs.declared.ledger.LedgerFault.TheVariants.{NotYet, Lost, NoMemory}
+use Rattle.rx_finish.specs.declared.ledger.Born.{Born}
+use Rattle.rx_finish.specs.declared.ledger.Outcome.{Outcome}
+use Rattle.rx_finish.specs.Callers.{MayAskTo, MayAskArrive, MayAskEnd, MayAskRelease, HasRoot, MayStrike, IsMoving, Travels, HasFinish, IsBare, WaitsInside}
+use Rattle.rx_finish.specs.Calls.{Did, CallReply, ArriveReply, ReleaseReply, landing}
+use Rattle.rx_finish.proofs.Worked.{asks, called_next, none_dead, spawned_next}
 use Rattle.rx_counts.specs.Nesting.{CanNest, HasThree, task, scope, place, caller, opens, starts, nested, landed, three_deep}
 
 pub opened_nest : (T : Tree) (n : ℕ) → CanNest T n → (s : ScopeId) (S : Tree → Type 0) → Did T (caller n n (At (place n))) (Open s (scope n) []) S → S (opens T n)

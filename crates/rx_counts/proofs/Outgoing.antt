@@ -4,13 +4,13 @@ use Rattle.rx_rules.specs.declared.entries.Act.TheVariants.{Release}
 use Rattle.rx_rules.specs.Tree.{Tree, the_root}
 use Rattle.rx_rules.specs.Entries.{without, MayReleaseRoot}
 use Rattle.rx_rules.specs.Reached.{acts, ends}
-use Rattle.rx_tree.specs.declared.ledger.Caller.{Caller}
-use Rattle.rx_tree.specs.declared.ledger.Outcome.{Outcome}
-use Rattle.rx_tree.specs.declared.ledger.LedgerFault.{LedgerFault}
-use Rattle.rx_tree.specs.declared.ledger.LedgerFault.TheVariants.{NotYet, Lost, NoMemory}
-use Rattle.rx_tree.specs.Callers.{MayAskRelease, WaitsInside, HasRoot}
-use Rattle.rx_tree.specs.Calls.{ReleaseReply, RootReply}
-use Rattle.rx_tree.proofs.Allowed.{Free, release_allowed}
+use Rattle.rx_finish.specs.declared.ledger.Caller.{Caller}
+use Rattle.rx_finish.specs.declared.ledger.Outcome.{Outcome}
+use Rattle.rx_finish.specs.declared.ledger.LedgerFault.{LedgerFault}
+use Rattle.rx_finish.specs.declared.ledger.LedgerFault.TheVariants.{NotYet, Lost, NoMemory}
+use Rattle.rx_finish.specs.Callers.{MayAskRelease, WaitsInside, HasRoot}
+use Rattle.rx_finish.specs.Calls.{ReleaseReply, RootReply}
+use Rattle.rx_finish.proofs.Allowed.{Free, release_allowed}
 use Rattle.rx_counts.specs.declared.ledger.CountLedger.{CountLedger}
 use Rattle.rx_counts.specs.Keeping.{stands_home}
 use Rattle.rx_counts.specs.Stands.{Fit, StandsFor}

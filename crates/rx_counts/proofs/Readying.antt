@@ -7,10 +7,10 @@ use Rattle.rx_rules.specs.declared.tasks.Blow.{Blow}
 use Rattle.rx_rules.specs.Tree.{Tree, quiet}
 use Rattle.rx_sound.specs.Blows.{blow_at}
 use Rattle.rx_sound.proofs.Reached.{sound}
-use Rattle.rx_tree.specs.declared.ledger.Caller.{Caller}
-use Rattle.rx_tree.specs.Callers.{MayAskRelease, WaitsInside}
-use Rattle.rx_tree.specs.Calls.{is_ready, blow_of}
-use Rattle.rx_tree.proofs.Allowed.{Free, own_is}
+use Rattle.rx_finish.specs.declared.ledger.Caller.{Caller}
+use Rattle.rx_finish.specs.Callers.{MayAskRelease, WaitsInside}
+use Rattle.rx_finish.specs.Calls.{is_ready, blow_of}
+use Rattle.rx_finish.proofs.Allowed.{Free, own_is}
 use Rattle.rx_counts.specs.declared.record.Record.{Record}
 use Rattle.rx_counts.specs.declared.ledger.CountLedger.{CountLedger}
 use Rattle.rx_counts.specs.Keeping.{stands_home, total_of}

@@ -20,10 +20,10 @@ use Rattle.rx_sound.specs.Chains.{meets}
 use Rattle.rx_sound.specs.Sound.{Sound}
 use Rattle.rx_sound.proofs.Opening.{governs_rooted}
 use Rattle.rx_sound.proofs.Reached.{sound}
-use Rattle.rx_tree.specs.declared.ledger.Caller.{Caller}
-use Rattle.rx_tree.specs.Callers.{MayAskTo, IsMoving}
-use Rattle.rx_tree.specs.Calls.{SpawnReply}
-use Rattle.rx_tree.proofs.Allowed.{Free, spawn_allowed}
+use Rattle.rx_finish.specs.declared.ledger.Caller.{Caller}
+use Rattle.rx_finish.specs.Callers.{MayAskTo, IsMoving}
+use Rattle.rx_finish.specs.Calls.{SpawnReply}
+use Rattle.rx_finish.proofs.Allowed.{Free, spawn_allowed}
 use Rattle.rx_counts.specs.declared.record.Record.{Record}
 use Rattle.rx_counts.specs.declared.ledger.CountLedger.{CountLedger}
 use Rattle.rx_counts.specs.Keeping.{stands_home, keeper, finishes}

@@ -5,10 +5,10 @@ use Rattle.rx_base.specs.declared.values.Fault.{Fault}
 use Rattle.rx_rules.specs.declared.entries.Act.TheVariants.{Wait}
 use Rattle.rx_rules.specs.Tree.{Tree}
 use Rattle.rx_rules.specs.Reached.{acts}
-use Rattle.rx_tree.specs.declared.ledger.Caller.{Caller}
-use Rattle.rx_tree.specs.Callers.{MayAskWait, HasFinish}
-use Rattle.rx_tree.specs.Calls.{WaitReply}
-use Rattle.rx_tree.proofs.Allowed.{Free, wait_allowed}
+use Rattle.rx_finish.specs.declared.ledger.Caller.{Caller}
+use Rattle.rx_finish.specs.Callers.{MayAskWait, HasFinish}
+use Rattle.rx_finish.specs.Calls.{WaitReply}
+use Rattle.rx_finish.proofs.Allowed.{Free, wait_allowed}
 use Rattle.rx_counts.specs.declared.ledger.CountLedger.{CountLedger}
 use Rattle.rx_counts.specs.Keeping.{stands_home}
 use Rattle.rx_counts.specs.Stands.{StandsFor, Changed, with_body}

@@ -8,10 +8,10 @@ use Rattle.rx_rules.specs.declared.tasks.Scope.{Scope}
 use Rattle.rx_rules.specs.Tree.{Tree, is_scope, scope_of, opened_by, quiet}
 use Rattle.rx_rules.specs.Entries.{Names, without}
 use Rattle.rx_sound.specs.Chains.{meets}
-use Rattle.rx_tree.specs.declared.ledger.LedgerFault.{LedgerFault}
-use Rattle.rx_tree.specs.declared.ledger.LedgerFault.TheVariants.{NotYet, Lost, NoMemory}
-use Rattle.rx_tree.specs.declared.ledger.Outcome.{Outcome}
-use Rattle.rx_tree.specs.Calls.{IsHindered, landing}
+use Rattle.rx_finish.specs.declared.ledger.LedgerFault.{LedgerFault}
+use Rattle.rx_finish.specs.declared.ledger.LedgerFault.TheVariants.{NotYet, Lost, NoMemory}
+use Rattle.rx_finish.specs.declared.ledger.Outcome.{Outcome}
+use Rattle.rx_finish.specs.Calls.{IsHindered, landing}
 use Rattle.rx_base.specs.declared.ids.PlaceId.{PlaceId}
 use Rattle.rx_rules.specs.declared.tasks.Where.{Where}
 use Rattle.rx_rules.specs.declared.tasks.Where.TheVariants.{At, Travel}

@@ -10,9 +10,9 @@ use Rattle.rx_rules.specs.declared.entries.Act.TheVariants.{Open, Spawn, Arrive,
 use Rattle.rx_rules.specs.Tree.{Tree, task_of, governs}
 use Rattle.rx_rules.specs.Entries.{made_act}
 use Rattle.rx_rules.specs.Fold.{opening}
-use Rattle.rx_tree.specs.declared.ledger.Caller.{Caller}
+use Rattle.rx_finish.specs.declared.ledger.Caller.{Caller}
 use Rattle.rx_counts.specs.Stands.{HasScope}
-use Rattle.rx_tree.specs.Callers.{MayAskMoving, MayAskTo, MayAskArrive, MayAskWait}
+use Rattle.rx_finish.specs.Callers.{MayAskMoving, MayAskTo, MayAskArrive, MayAskWait}
 
 abbrev pub task : ℕ → TaskId
 task n = record { 0 = n }

@@ -4,8 +4,8 @@ ghost use Rattle.rx_rules.specs.Tree.{Tree};
 ghost use Rattle.rx_rules.specs.Fold.{opening};
 ghost use Rattle.rx_base.specs.Sets.{members};
 ghost use Rattle.rx_rules.specs.Counts.{live_count, transit_count, lost_at, adopter};
-ghost use Rattle.rx_tree.specs.Callers.{MayAskTo};
-ghost use Rattle.rx_tree.specs.Calls.{SpawnReply};
+ghost use Rattle.rx_finish.specs.Callers.{MayAskTo};
+ghost use Rattle.rx_finish.specs.Calls.{SpawnReply};
 ghost use Rattle.rx_counts.specs.Stands.{StandsFor, HasScope};
 ghost use Rattle.rx_counts.specs.Meaning.{CountsStand};
 ghost use Rattle.rx_counts.specs.Freeing.{IsLast, OutcomeReply, FreeReply};
@@ -18,8 +18,8 @@ use crate::table::{
     bear, count_at, finish_of, join, keeper_of, leave, look, note_body, note_ends, push,
 };
 use rx_base::{Faults, NoMemory, PlaceId, PlaceSet, ScopeId, TaskId};
+use rx_finish::{Born, Caller, FinishLedger, LedgerFault, Outcome};
 use rx_rules::{Kind, Where};
-use rx_tree::{Born, Caller, FinishLedger, LedgerFault, Outcome};
 use std::alloc::Global;
 
 /// A ledger that keeps counts and no task: the records of the scopes that stand, by number.

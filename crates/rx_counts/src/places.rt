@@ -2,12 +2,12 @@
 ghost use Rattle.std.specs.Prelude.{◌≡◌, is_none, cond, ◌==◌};
 ghost use Rattle.rx_rules.specs.Entries.{place_number};
 ghost use Rattle.rx_sound.specs.Blows.{death_blow, earlier, blow_at};
-ghost use Rattle.rx_tree.specs.Calls.{landing};
+ghost use Rattle.rx_finish.specs.Calls.{landing};
 ghost use Rattle.rx_counts.specs.Stands.{slot};
 
 use rx_base::PlaceId;
+use rx_finish::LedgerFault;
 use rx_rules::{Blow, Where};
-use rx_tree::LedgerFault;
 
 /// The death of a place, as a blow.
 pub fn death_at(dead: &[Option<u32>], place: PlaceId) -> Option<Blow>

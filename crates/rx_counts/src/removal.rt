@@ -1,7 +1,7 @@
 // What a release takes out of the records.
 ghost use Rattle.std.specs.Prelude.{◌≡◌, ◌<◌, ◌+◌, ◌==◌, ◌||◌, ◌&&◌, ℕ, cond, length, None, Some, is_some};
 ghost use Rattle.rx_rules.specs.Tree.{Tree};
-ghost use Rattle.rx_tree.specs.Calls.{landing};
+ghost use Rattle.rx_finish.specs.Calls.{landing};
 ghost use Rattle.rx_sound.specs.Chains.{meets};
 ghost use Rattle.rx_counts.specs.Stands.{record_at};
 ghost use Rattle.rx_counts.specs.Freeing.{Hides, Takes, parent_gone, unslot};

@@ -7,7 +7,7 @@ ghost use Rattle.rx_counts.specs.Stands.{record_at, more, less, in_sums, count_i
 use crate::places::lives;
 use crate::record::Record;
 use rx_base::{Faults, PlaceId, ScopeId};
-use rx_tree::LedgerFault;
+use rx_finish::LedgerFault;
 use std::alloc::Global;
 
 /// The record of a number.

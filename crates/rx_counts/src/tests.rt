@@ -7,7 +7,7 @@ ghost use Rattle.rx_counts.specs.Nesting.{CanNest, HasThree, nested, three_deep}
 
 use crate::CountLedger;
 use rx_base::{Faults, PlaceId, PlaceSet, ScopeId, TaskId};
-use rx_tree::{Born, Caller, FinishLedger, LedgerFault, Outcome, Where};
+use rx_finish::{Born, Caller, FinishLedger, LedgerFault, Outcome, Where};
 use std::alloc::Global;
 use std::test::Fail;
 

@@ -6,7 +6,7 @@ ghost use Rattle.rx_gen.specs.Numbers.{has_some, starts_by, starts, prints_by, p
 use crate::Counts;
 use rx_base::{NoMemory, PlaceSet};
 use rx_text::put_natural;
-use rx_trace::{Act, Entry, History};
+use rx_history::{Act, Entry, History};
 
 /// The numbers of a history of fewer than 4,294,967,295 entries. It goes through the entries once.
 pub fn counts(history: &History) -> Counts

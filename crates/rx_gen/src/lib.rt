@@ -1,4 +1,4 @@
-//! The generated script of so many lines, and the numbers of a history. It stands on rx_check and rx_trace. The layer above uses
+//! The generated script of so many lines, and the numbers of a history. It stands on rx_check and rx_history. The layer above uses
 //! that `generate` gives the program of exactly the tree `lines`, and that `counts` and `put_counts` give `numbers` and their text.
 #![tactic(auto)]
 

@@ -1,7 +1,7 @@
 // What no clause says: that programs are generated and numbers are written at all.
 use crate::{counts, generate, put_counts};
 use rx_base::{Batch, Faults, Path, PlaceId, PlaceSet, ScopeId, TaskId};
-use rx_trace::{Act, Entry, History, KillList, Setup};
+use rx_history::{Act, Entry, History, KillList, Setup};
 use std::test::Fail;
 
 #[test]

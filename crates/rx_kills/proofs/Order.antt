@@ -5,7 +5,7 @@ use Rattle.std.specs.List.{AllByRecursion}
 use Rattle.std.proofs.lemmas.List.Elements.{All-from_recursion}
 use Rattle.rx_base.specs.declared.ids.Kill.{Kill}
 use Rattle.rx_rules.specs.Run.{ComesAfter, Ascends}
-use Rattle.rx_trace.specs.KillOrder.{IsAscending}
+use Rattle.rx_history.specs.KillOrder.{IsAscending}
 use Rattle.rx_kills.specs.Least.{DueIsLeast, NoneIsReached}
 
 -- what comes after a later kill comes after the earlier one

@@ -3,7 +3,7 @@ use Rattle.std.specs.Prelude.{◌≡◌, ◌⊎◌, ℕ, ◌<◌, ◌≤◌, Lis
 use Rattle.rx_base.specs.declared.ids.PlaceId.{PlaceId}
 use Rattle.rx_base.specs.declared.ids.Kill.{Kill}
 use Rattle.rx_rules.specs.Run.{ComesAfter, IsDue, NoneDue}
-use Rattle.rx_trace.specs.KillOrder.{IsAscending}
+use Rattle.rx_history.specs.KillOrder.{IsAscending}
 
 -- the kill stands in the list, and each other one comes after it
 pub record IsLeast (kill : Kill) (kills : List Kill) : Type 0 where

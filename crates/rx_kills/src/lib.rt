@@ -1,5 +1,5 @@
 //! The planned deaths of a run: how one is written as a word, and which of them are still to be done. It stands on rx_base,
-//! rx_text, rx_rules and rx_trace. The layers above use that `read_kill` gives exactly the kill whose text a word is, that
+//! rx_text, rx_rules and rx_history. The layers above use that `read_kill` gives exactly the kill whose text a word is, that
 //! `Kills` is seen as the list of the kills that are not done, in ascending order, of which `due` tells the least one where it is
 //! reached, and none exactly where none is.
 #![tactic(auto)]

@@ -2,11 +2,11 @@
 ghost use Rattle.std.specs.Prelude.{◌≡◌, ◌<◌, length, IfOk, IfSome, IfNone};
 ghost use Rattle.rx_rules.specs.Run.{IsDue, NoneDue, rest_of};
 ghost use Rattle.rx_kills.specs.Least.{IsLeastDue, NoneReached};
-ghost use Rattle.rx_trace.specs.KillOrder.{IsAscending};
+ghost use Rattle.rx_history.specs.KillOrder.{IsAscending};
 
 use crate::laws::{due_is_least, none_is_reached};
 use rx_base::{NoMemory, PlaceId};
-use rx_trace::{KillList, kills_ascend};
+use rx_history::{KillList, kills_ascend};
 use std::alloc::Global;
 use std::marker::Model;
 

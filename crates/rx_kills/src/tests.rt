@@ -3,7 +3,7 @@ ghost use Rattle.std.specs.Prelude.{◌≡◌};
 
 use crate::{Kills, read_kill};
 use rx_base::{Kill, PlaceId};
-use rx_trace::KillList;
+use rx_history::KillList;
 use std::test::Fail;
 
 fn planned(place: u8, moment: u32) -> Kill

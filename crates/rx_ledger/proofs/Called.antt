@@ -13,10 +13,10 @@ use Rattle.rx_rules.specs.Entries.{made}
 use Rattle.rx_rules.specs.Fold.{AllAllowed, opening, tree_of}
 use Rattle.rx_rules.specs.Run.{Given, Folds, KillsInOrder, rest_of}
 use Rattle.rx_sound.specs.Sound.{Each}
-use Rattle.rx_trace.specs.Setups.{given}
-use Rattle.rx_trace.specs.declared.setup.Setup.{Setup}
-use Rattle.rx_tree.specs.declared.ledger.Caller.{Caller}
-use Rattle.rx_tree.specs.Callers.{HasNumbers}
+use Rattle.rx_history.specs.Setups.{given}
+use Rattle.rx_history.specs.declared.setup.Setup.{Setup}
+use Rattle.rx_finish.specs.declared.ledger.Caller.{Caller}
+use Rattle.rx_finish.specs.Callers.{HasNumbers}
 use Rattle.rx_ticket.specs.declared.tickets.AnyTicket.{AnyTicket}
 use Rattle.rx_ticket.specs.declared.tickets.AnyTicket.TheVariants.{Moving, Running, Held, Host}
 use Rattle.rx_ledger.specs.declared.asks.Request.{Request}

@@ -6,7 +6,7 @@ use Rattle.std.proofs.lemmas.Bool.{eq-eqb, ne_eqb}
 use Rattle.rx_rules.specs.declared.tasks.Where.TheVariants.{At, Travel}
 use Rattle.rx_rules.specs.Reached.{Reached}
 use Rattle.rx_sound.proofs.Waiting.{waiter_owns}
-use Rattle.rx_tree.specs.Calls.{landing}
+use Rattle.rx_finish.specs.Calls.{landing}
 use Rattle.rx_base.specs.declared.ids.PlaceId.{PlaceId}
 use Rattle.rx_base.specs.declared.ids.TaskId.{TaskId}
 use Rattle.rx_base.specs.declared.ids.ScopeId.{ScopeId}
@@ -30,9 +30,9 @@ use Rattle.rx_sound.proofs.Reach.{task_below}
 use Rattle.rx_sound.proofs.Lookups.{number_of}
 use Rattle.rx_sound.proofs.Histories.{fold_reached}
 use Rattle.rx_runs.proofs.Append.{tree-push}
-use Rattle.rx_tree.specs.declared.ledger.Caller.{Caller}
+use Rattle.rx_finish.specs.declared.ledger.Caller.{Caller}
 use Rattle.rx_base.specs.declared.values.Fault.{Fault}
-use Rattle.rx_tree.specs.Callers.{Says, MayAsk, MayAskMoving, MayAskWait, MayAskRelease, MayAskArrive, HasFinish, WaitsInside, IsMoving, Travels, HasNumbers}
+use Rattle.rx_finish.specs.Callers.{Says, MayAsk, MayAskMoving, MayAskWait, MayAskRelease, MayAskArrive, HasFinish, WaitsInside, IsMoving, Travels, HasNumbers}
 use Rattle.rx_base.specs.declared.place_set.PlaceSet.{PlaceSet}
 use Rattle.rx_rules.specs.declared.tasks.Blow.{Blow}
 use Rattle.rx_ledger.proofs.Uncovers.{uncovers}

@@ -31,7 +31,7 @@ use Rattle.rx_sound.proofs.Lookups.{find_passes, number_of}
 use Rattle.rx_sound.proofs.Stay.{find_change, find_filter}
 use Rattle.rx_sound.proofs.Staying.{find_unfiltered}
 use Rattle.rx_runs.proofs.Endings.{struck_if}
-use Rattle.rx_tree.specs.Callers.{gone_of}
+use Rattle.rx_finish.specs.Callers.{gone_of}
 use Rattle.rx_ledger.specs.Staying.{NotBy}
 use Rattle.rx_ledger.proofs.Striking.{find-hit}
 use Rattle.rx_ledger.proofs.Linking.{links, link, links_faulted}

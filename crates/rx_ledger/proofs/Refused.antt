@@ -3,10 +3,10 @@ use Rattle.std.specs.Prelude.{◌≡◌, ℕ, List, None, refl}
 use Rattle.std.proofs.Common.{sym, subst}
 use Rattle.rx_base.specs.declared.ids.PlaceId.{PlaceId}
 use Rattle.rx_rules.specs.Tree.{Tree, the_root}
-use Rattle.rx_tree.specs.declared.ledger.Caller.{Caller}
-use Rattle.rx_tree.specs.Calls.{IsUnstruck, IsHindered}
+use Rattle.rx_finish.specs.declared.ledger.Caller.{Caller}
+use Rattle.rx_finish.specs.Calls.{IsUnstruck, IsHindered}
 use Rattle.rx_ticket.specs.declared.tickets.AnyTicket.TheVariants.{Held, Host}
-use Rattle.rx_trace.specs.declared.asks.Ask.TheVariants.{Release, Root}
+use Rattle.rx_history.specs.declared.asks.Ask.TheVariants.{Release, Root}
 use Rattle.rx_ledger.specs.declared.asks.Request.{Request}
 use Rattle.rx_ledger.specs.declared.asks.Reply.TheVariants.{NotYet, NoMemory}
 use Rattle.rx_ledger.specs.declared.books.Books.{Books}

@@ -7,7 +7,7 @@ use Rattle.rx_rules.specs.Fold.{tree_of}
 use Rattle.rx_sound.proofs.Reach.{task_below}
 use Rattle.rx_sound.proofs.Reached.{sound}
 use Rattle.rx_sound.proofs.Histories.{fold_reached}
-use Rattle.rx_tree.specs.declared.ledger.Caller.{Caller}
+use Rattle.rx_finish.specs.declared.ledger.Caller.{Caller}
 use Rattle.rx_ticket.specs.declared.tickets.AnyTicket.{AnyTicket}
 use Rattle.rx_ticket.specs.declared.tickets.AnyTicket.TheVariants.{Moving, Running}
 use Rattle.rx_ledger.specs.declared.asks.Request.{Request}
@@ -15,8 +15,8 @@ use Rattle.rx_ledger.specs.declared.asks.Reply.TheVariants.{Opened, Spawned, Wai
 use Rattle.rx_ledger.specs.Told.{deaths}
 use Rattle.rx_ledger.specs.Answering.{asker}
 use Rattle.rx_ledger.specs.Kept.{Kept, Applied, IsHistory}
-use Rattle.rx_tree.specs.Callers.{MayAskArrive, HasNumbers}
-use Rattle.rx_trace.specs.declared.asks.Ask.TheVariants.{Arrive}
+use Rattle.rx_finish.specs.Callers.{MayAskArrive, HasNumbers}
+use Rattle.rx_history.specs.declared.asks.Ask.TheVariants.{Arrive}
 use Rattle.rx_ledger.specs.declared.asks.Reply.{Reply}
 use Rattle.rx_ledger.specs.Calling.{tree_seen}
 use Rattle.rx_ledger.proofs.Called.{folds_between, calls_keep_others}

@@ -12,12 +12,12 @@ use Rattle.rx_rules.specs.Entries.{strike, hit}
 use Rattle.rx_rules.specs.Fold.{fold_from}
 use Rattle.rx_sound.proofs.Blows.{hit_number, hit_under, hit_place}
 use Rattle.rx_sound.proofs.Waiting.{hit_waits}
-use Rattle.rx_tree.specs.declared.ledger.Caller.{Caller}
-use Rattle.rx_tree.specs.Callers.{MayAsk, MayAskTo, IsMoving, Travels, HasFinish, WaitsInside, IsBare, does_travel}
+use Rattle.rx_finish.specs.declared.ledger.Caller.{Caller}
+use Rattle.rx_finish.specs.Callers.{MayAsk, MayAskTo, IsMoving, Travels, HasFinish, WaitsInside, IsBare, does_travel}
 use Rattle.rx_ticket.specs.declared.tickets.AnyTicket.{AnyTicket}
 use Rattle.rx_ticket.specs.declared.tickets.AnyTicket.TheVariants.{Moving, Running, Held, Host}
-use Rattle.rx_trace.specs.declared.asks.Ask.{Ask}
-use Rattle.rx_trace.specs.declared.asks.Ask.TheVariants.{Open, At as Calls, Spawn, Arrive, Wait, Release, End, Print, Root}
+use Rattle.rx_history.specs.declared.asks.Ask.{Ask}
+use Rattle.rx_history.specs.declared.asks.Ask.TheVariants.{Open, At as Calls, Spawn, Arrive, Wait, Release, End, Print, Root}
 use Rattle.rx_ledger.specs.Asking.{MayAskFor, IsMoving as Moves, IsRunning, IsHeld}
 use Rattle.rx_ledger.specs.Told.{deaths}
 

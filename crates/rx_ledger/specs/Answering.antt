@@ -14,14 +14,14 @@ use Rattle.rx_rules.specs.declared.entries.Entry.TheVariants.{Step, Root}
 use Rattle.rx_rules.specs.Tree.{Tree, death_of, the_root}
 use Rattle.rx_rules.specs.Entries.{place_number, AllowedAct, Allowed}
 use Rattle.rx_rules.specs.Run.{EndsWithRoot}
-use Rattle.rx_tree.specs.declared.ledger.Caller.{Caller}
-use Rattle.rx_tree.specs.Calls.{landing, IsUnstruck, WasLost, IsHindered}
+use Rattle.rx_finish.specs.declared.ledger.Caller.{Caller}
+use Rattle.rx_finish.specs.Calls.{landing, IsUnstruck, WasLost, IsHindered}
 use Rattle.rx_ticket.specs.declared.tickets.AnyTicket.{AnyTicket}
 use Rattle.rx_ticket.specs.declared.tickets.AnyTicket.TheVariants.{Moving, Running, Held, Host}
-use Rattle.rx_trace.specs.declared.asks.Ask.{Ask}
-use Rattle.rx_trace.specs.declared.asks.Ask.TheVariants.{Open as AskOpen, At as AskCall, Spawn as AskSpawn, Arrive as AskArrive}
-use Rattle.rx_trace.specs.declared.asks.Ask.TheVariants.{Wait as AskWait, Release as AskRelease, End as AskEnd}
-use Rattle.rx_trace.specs.declared.asks.Ask.TheVariants.{Print as AskPrint, Root as AskRoot}
+use Rattle.rx_history.specs.declared.asks.Ask.{Ask}
+use Rattle.rx_history.specs.declared.asks.Ask.TheVariants.{Open as AskOpen, At as AskCall, Spawn as AskSpawn, Arrive as AskArrive}
+use Rattle.rx_history.specs.declared.asks.Ask.TheVariants.{Wait as AskWait, Release as AskRelease, End as AskEnd}
+use Rattle.rx_history.specs.declared.asks.Ask.TheVariants.{Print as AskPrint, Root as AskRoot}
 use Rattle.rx_ledger.specs.declared.asks.Request.{Request}
 use Rattle.rx_ledger.specs.declared.asks.Reply.{Reply}
 use Rattle.rx_ledger.specs.declared.asks.Reply.TheVariants.{Opened, Called, Spawned, Landed, Waits, Released, Ended, Printed}

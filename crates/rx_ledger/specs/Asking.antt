@@ -1,12 +1,12 @@
 -- What a request to a keeper asks of the tree to which its history folds.
 use Rattle.std.specs.Prelude.{ℕ, List, Option, Some, None}
 use Rattle.rx_rules.specs.Tree.{Tree}
-use Rattle.rx_tree.specs.declared.ledger.Caller.{Caller}
-use Rattle.rx_tree.specs.Callers.{MayAskMoving, MayAskTo, MayAskArrive, MayAskWait, MayAskRelease, MayAskEnd}
+use Rattle.rx_finish.specs.declared.ledger.Caller.{Caller}
+use Rattle.rx_finish.specs.Callers.{MayAskMoving, MayAskTo, MayAskArrive, MayAskWait, MayAskRelease, MayAskEnd}
 use Rattle.rx_ticket.specs.declared.tickets.AnyTicket.{AnyTicket}
 use Rattle.rx_ticket.specs.declared.tickets.AnyTicket.TheVariants.{Moving, Running, Held, Host}
-use Rattle.rx_trace.specs.declared.asks.Ask.{Ask}
-use Rattle.rx_trace.specs.declared.asks.Ask.TheVariants.{Open, At as Calls, Spawn, Arrive, Wait, Release, End, Print, Root}
+use Rattle.rx_history.specs.declared.asks.Ask.{Ask}
+use Rattle.rx_history.specs.declared.asks.Ask.TheVariants.{Open, At as Calls, Spawn, Arrive, Wait, Release, End, Print, Root}
 use Rattle.rx_ledger.specs.declared.asks.Request.{Request}
 
 -- the ticket is of a task that travels, and P holds of the caller

@@ -13,8 +13,8 @@ use Rattle.rx_rules.specs.declared.tasks.Task.{Task}
 use Rattle.rx_rules.specs.Tree.{Tree, task_of, opened_by}
 use Rattle.rx_rules.specs.Fold.{tree_of}
 use Rattle.rx_rules.specs.Run.{Given, Folds}
-use Rattle.rx_tree.specs.declared.ledger.Caller.{Caller}
-use Rattle.rx_tree.specs.Callers.{MayAskMoving, MayAskWait, MayAskEnd, HasNumbers}
+use Rattle.rx_finish.specs.declared.ledger.Caller.{Caller}
+use Rattle.rx_finish.specs.Callers.{MayAskMoving, MayAskWait, MayAskEnd, HasNumbers}
 
 -- number and kind of each scope, the newest first
 abbrev pub Owned : Type 0

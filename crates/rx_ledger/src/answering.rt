@@ -8,8 +8,8 @@ use crate::asks::{Reply, Request};
 use crate::books::Books;
 use rx_base::Path;
 use rx_ticket::{AnyTicket, InTransit, Live, Ticket, Waiting};
-use rx_trace::Ask;
-use rx_tree::FinishLedger;
+use rx_history::Ask;
+use rx_finish::FinishLedger;
 
 impl<L: FinishLedger> Books<L> {
     /// Answers a request.

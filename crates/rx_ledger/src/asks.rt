@@ -2,8 +2,8 @@
 
 use rx_base::{Batch, Path, PlaceId, ScopeId};
 use rx_ticket::{AnyTicket, Live, Ticket, Waiting};
-use rx_trace::Ask;
-use rx_tree::Outcome;
+use rx_history::Ask;
+use rx_finish::Outcome;
 
 /// A request: who asks for what, the statements begun since the task's previous entry, and the path of the entry's own statement,
 /// where it has one.

@@ -1,5 +1,5 @@
 //! The keeper of a ledger: it answers the requests of tasks, and keeps with its ledger the history of all that was granted and the
-//! kills that are not done. It stands on rx_tree and is generic in the ledger. The layers above use that the history of a keeper
+//! kills that are not done. It stands on rx_finish and is generic in the ledger. The layers above use that the history of a keeper
 //! has `Folds`, that its ledger stands for the tree to which the history folds, and that `apply` appends the deaths that are due
 //! first and then at most one entry more.
 #![tactic(auto)]

@@ -1,8 +1,8 @@
 // The requests that take no memory of the ledger.
 ghost use Rattle.std.specs.Prelude.{◌≡◌, ◌<◌, Some, None};
-ghost use Rattle.rx_tree.specs.Callers.{MayAskMoving, MayAskArrive};
+ghost use Rattle.rx_finish.specs.Callers.{MayAskMoving, MayAskArrive};
 ghost use Rattle.rx_ticket.specs.declared.tickets.AnyTicket.TheVariants.{Running, Moving};
-ghost use Rattle.rx_trace.specs.declared.asks.Ask.TheVariants.{Arrive, Print};
+ghost use Rattle.rx_history.specs.declared.asks.Ask.TheVariants.{Arrive, Print};
 ghost use Rattle.rx_ledger.specs.Doing.{request_of, tree_in, Calm, Did};
 
 use crate::asks::Reply;
@@ -11,7 +11,7 @@ use crate::parts::target_of;
 use rx_base::{Batch, Path};
 use rx_rules::{Act, Entry};
 use rx_ticket::{InTransit, Live, Ticket};
-use rx_tree::{FinishLedger, LedgerFault};
+use rx_finish::{FinishLedger, LedgerFault};
 
 impl<L: FinishLedger> Books<L> {
     /// Makes a travelling task live. It takes no memory.

@@ -1,8 +1,8 @@
 // The releases.
 ghost use Rattle.std.specs.Prelude.{◌≡◌, ◌<◌, Some, None};
-ghost use Rattle.rx_tree.specs.Callers.{MayAskRelease};
+ghost use Rattle.rx_finish.specs.Callers.{MayAskRelease};
 ghost use Rattle.rx_ticket.specs.declared.tickets.AnyTicket.TheVariants.{Held, Host};
-ghost use Rattle.rx_trace.specs.declared.asks.Ask.TheVariants.{Release, Root};
+ghost use Rattle.rx_history.specs.declared.asks.Ask.TheVariants.{Release, Root};
 ghost use Rattle.rx_ledger.specs.Doing.{request_of, tree_in, Calm, Did};
 
 use crate::asks::{Reply, Request};
@@ -11,8 +11,8 @@ use crate::parts::{copy_into, faults_of, parent_of};
 use rx_base::Batch;
 use rx_rules::{Act, Entry};
 use rx_ticket::{AnyTicket, Ticket, Waiting};
-use rx_trace::Ask;
-use rx_tree::{FinishLedger, LedgerFault};
+use rx_history::Ask;
+use rx_finish::{FinishLedger, LedgerFault};
 
 impl<L: FinishLedger> Books<L> {
     /// Releases the scope at which the caller waits.

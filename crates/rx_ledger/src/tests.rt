@@ -1,14 +1,14 @@
-// A keeper over the plain ledger, before its first entry.
+// A keeper over the ledger of counts, before its first entry.
 ghost use Rattle.std.specs.Prelude.{◌≡◌, [], IfOk};
 ghost use Rattle.rx_rules.specs.Run.{Proper};
-ghost use Rattle.rx_trace.specs.Setups.{given};
+ghost use Rattle.rx_history.specs.Setups.{given};
 ghost use Rattle.rx_ledger.specs.Answering.{main_caller};
 
 use crate::{Keeper, Reply, Request};
 use rx_base::{Batch, NoMemory, Path, PlaceId, PlaceSet, TaskId};
 use rx_ticket::{AnyTicket, Live, Ticket};
-use rx_trace::{Ask, KillList, Setup};
-use rx_tree::TreeLedger;
+use rx_history::{Ask, KillList, Setup};
+use rx_counts::CountLedger;
 use std::alloc::Global;
 use std::test::Fail;
 
@@ -28,13 +28,13 @@ pub(crate) fn calm(alloc: Global) -> Setup
 pub(crate) fn opened(
     alloc: Global,
     setup: &Setup,
-) -> Result<(Keeper<TreeLedger>, Ticket<Live>), NoMemory>
+) -> Result<(Keeper<CountLedger>, Ticket<Live>), NoMemory>
     requires proper { Proper (given setup.now) }
     requires places { setup.now.places ≡ 2 }
     ensures empty { IfOk result (λ r. (r.0.entries ≡ []) × (r.0.setup.places ≡ 2)) }
     ensures ticket { IfOk result (λ r. r.1 ≡ main_caller) }
 {
-    let ledger = TreeLedger::open(alloc, 2)?;
+    let ledger = CountLedger::open(alloc, 2)?;
     match Keeper::open(alloc, ledger, setup) {
         Ok(both) => Ok(both),
         Err(_) => Err(NoMemory),

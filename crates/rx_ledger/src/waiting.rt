@@ -1,8 +1,8 @@
 // The requests that hand faults to the ledger.
 ghost use Rattle.std.specs.Prelude.{◌≡◌, ◌<◌, Some, None};
-ghost use Rattle.rx_tree.specs.Callers.{MayAskWait, MayAskEnd};
+ghost use Rattle.rx_finish.specs.Callers.{MayAskWait, MayAskEnd};
 ghost use Rattle.rx_ticket.specs.declared.tickets.AnyTicket.TheVariants.{Running};
-ghost use Rattle.rx_trace.specs.declared.asks.Ask.TheVariants.{Wait, End};
+ghost use Rattle.rx_history.specs.declared.asks.Ask.TheVariants.{Wait, End};
 ghost use Rattle.rx_ledger.specs.Doing.{request_of, tree_in, Calm, Did};
 
 use crate::asks::{Reply, Request};
@@ -11,8 +11,8 @@ use crate::parts::{raised, set_faults};
 use rx_base::{Batch, Faults};
 use rx_rules::{Act, Entry};
 use rx_ticket::{AnyTicket, Live, Ticket};
-use rx_trace::Ask;
-use rx_tree::{FinishLedger, LedgerFault};
+use rx_history::Ask;
+use rx_finish::{FinishLedger, LedgerFault};
 
 impl<L: FinishLedger> Books<L> {
     /// Records the faults of the body of the caller's finish, and that the caller waits there.

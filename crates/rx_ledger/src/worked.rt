@@ -1,10 +1,10 @@
-// The worked calls of a keeper over the plain ledger: a release that a death frees, and one that a traveller hinders.
+// The worked calls of a keeper over the ledger of counts: a release that a death frees, and one that a traveller hinders.
 ghost use Rattle.std.specs.Prelude.{◌≡◌, ◌≢◌, ◌<◌, [], ◌∷◌, IfOk};
 ghost use Rattle.rx_base.specs.declared.ids.ScopeId.{ScopeId as Scope};
 ghost use Rattle.rx_rules.specs.declared.tasks.Kind.TheVariants.{Finish};
 ghost use Rattle.rx_rules.specs.Run.{Proper};
-ghost use Rattle.rx_trace.specs.Setups.{given};
-ghost use Rattle.rx_tree.specs.Callers.{HasNumbers, MayAskArrive, MayAskMoving, MayAskRelease};
+ghost use Rattle.rx_history.specs.Setups.{given};
+ghost use Rattle.rx_finish.specs.Callers.{HasNumbers, MayAskArrive, MayAskMoving, MayAskRelease};
 ghost use Rattle.rx_ledger.specs.Asking.{MayApply};
 ghost use Rattle.rx_ledger.specs.Calling.{tree_seen};
 ghost use Rattle.rx_ledger.specs.GoingOn.{MayBegin, MayGoOn};
@@ -15,14 +15,14 @@ use crate::tests::{calm, end, finish, finish_child, opened};
 use crate::{Keeper, Reply, Request, laws};
 use rx_base::{Batch, Faults, Kill, NoMemory, Path, PlaceId, PlaceSet};
 use rx_ticket::{AnyTicket, InTransit, Live, Ticket, Waiting};
-use rx_trace::{Ask, KillList, Setup};
-use rx_tree::TreeLedger;
+use rx_history::{Ask, KillList, Setup};
+use rx_counts::CountLedger;
 use std::alloc::Global;
 use std::process::Abort;
 use std::test::Fail;
 
 // Makes a call, after which few entries are seen.
-fn ask<R: Abort>(rt: &R, keeper: &mut Keeper<TreeLedger>, op: Request) -> Reply
+fn ask<R: Abort>(rt: &R, keeper: &mut Keeper<CountLedger>, op: Request) -> Reply
     requires { MayApply (tree_seen keeper.old) op }
     ensures applied { Applied keeper.old op result keeper.new }
     ensures history { IsHistory keeper.new }
@@ -44,7 +44,7 @@ fn ask<R: Abort>(rt: &R, keeper: &mut Keeper<TreeLedger>, op: Request) -> Reply
 fn opens<R: Abort>(
     rt: &R,
     alloc: Global,
-    keeper: &mut Keeper<TreeLedger>,
+    keeper: &mut Keeper<CountLedger>,
     ticket: Ticket<Live>,
 ) -> Ticket<Live>
     requires asks { MayAskMoving (tree_seen keeper.old) ticket }
@@ -79,7 +79,7 @@ fn opens<R: Abort>(
 fn starts<R: Abort>(
     rt: &R,
     alloc: Global,
-    keeper: &mut Keeper<TreeLedger>,
+    keeper: &mut Keeper<CountLedger>,
     ticket: Ticket<Live>,
 ) -> (Ticket<Live>, Ticket<InTransit>)
     requires asks { MayAskMoving (tree_seen keeper.old) ticket }
@@ -120,7 +120,7 @@ fn starts<R: Abort>(
 fn waits<R: Abort>(
     rt: &R,
     alloc: Global,
-    keeper: &mut Keeper<TreeLedger>,
+    keeper: &mut Keeper<CountLedger>,
     ticket: Ticket<Live>,
     child: &Ticket<InTransit>,
 ) -> Ticket<Waiting>
@@ -158,7 +158,7 @@ fn waits<R: Abort>(
 fn releases<R: Abort>(
     rt: &R,
     alloc: Global,
-    keeper: &mut Keeper<TreeLedger>,
+    keeper: &mut Keeper<CountLedger>,
     ticket: Ticket<Waiting>,
     child: &Ticket<InTransit>,
 ) -> Reply
@@ -206,7 +206,7 @@ fn doomed(alloc: Global) -> Result<Setup, NoMemory>
 fn arrives<R: Abort>(
     rt: &R,
     alloc: Global,
-    keeper: &mut Keeper<TreeLedger>,
+    keeper: &mut Keeper<CountLedger>,
     child: Ticket<InTransit>,
 ) -> Reply
     requires { MayAskArrive (tree_seen keeper.old) child }

@@ -12,8 +12,8 @@ use Rattle.rx_rules.specs.Fold.{tree_of}
 use Rattle.rx_rules.specs.Run.{Given, Proper, NoRoot}
 use Rattle.rx_rules.specs.Picked.{Game, Turn, dies, arrives, moves, ends, root, Turns, none, more, start_game, used_after}
 use Rattle.rx_runs.specs.PickedRuns.{PickedIsRun}
-use Rattle.rx_trace.specs.Logs.{Log}
-use Rattle.rx_trace.specs.Events.{AllEvents}
+use Rattle.rx_history.specs.Logs.{Log}
+use Rattle.rx_history.specs.Events.{AllEvents}
 use Rattle.rx_script.specs.Shape.{Shape, Stands}
 use Rattle.rx_machine.specs.declared.machine.Machine.{Machine}
 use Rattle.rx_machine.specs.Holds.{Holds, Finished, Makes}
@@ -24,8 +24,8 @@ use Rattle.rx_live.specs.Rounds.{Begins, IsMade, PlaysOn, HasEnded, Keeps, IsOve
 use Rattle.rx_live.specs.declared.round.Round.{Round}
 use Rattle.rx_live.specs.declared.live.Job.{Job}
 use Rattle.rx_check.specs.Checked.{Checked}
-use Rattle.rx_trace.specs.Setups.{given}
-use Rattle.rx_trace.specs.declared.setup.Setup.{Setup}
+use Rattle.rx_history.specs.Setups.{given}
+use Rattle.rx_history.specs.declared.setup.Setup.{Setup}
 
 -- a turn that uses no pick is made whatever the pick
 any-pick : (U : Given) (k i : ℕ) (G G' : Game) → Turn U k G false G' → Turn U i G false G'

@@ -4,9 +4,9 @@ use Rattle.rx_rules.specs.Code.{Block}
 use Rattle.rx_rules.specs.Tree.{Tree}
 use Rattle.rx_rules.specs.Fold.{tree_of}
 use Rattle.rx_rules.specs.Run.{Given, IsRun}
-use Rattle.rx_trace.specs.Logs.{Log}
-use Rattle.rx_trace.specs.Events.{AllEvents, events_of}
-use Rattle.rx_trace.specs.Setups.{given}
+use Rattle.rx_history.specs.Logs.{Log}
+use Rattle.rx_history.specs.Events.{AllEvents, events_of}
+use Rattle.rx_history.specs.Setups.{given}
 use Rattle.rx_rules.specs.Picked.{Game, Turns, start_game}
 use Rattle.rx_script.specs.Shape.{Shape, Stands}
 use Rattle.rx_machine.specs.declared.machine.Machine.{Machine}

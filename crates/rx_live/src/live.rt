@@ -4,8 +4,8 @@ ghost use Rattle.rx_rules.specs.Code.{Block};
 ghost use Rattle.rx_rules.specs.Fold.{opening, tree_of};
 ghost use Rattle.rx_rules.specs.Run.{Proper, IsRun};
 ghost use Rattle.rx_script.specs.Shape.{Stands};
-ghost use Rattle.rx_trace.specs.Events.{events_of};
-ghost use Rattle.rx_trace.specs.Setups.{given};
+ghost use Rattle.rx_history.specs.Events.{events_of};
+ghost use Rattle.rx_history.specs.Setups.{given};
 ghost use Rattle.rx_live.specs.Rounds.{Keeps};
 
 use crate::round::Round;
@@ -14,8 +14,8 @@ use rx_check::{Program, checked};
 use rx_counts::CountLedger;
 use rx_lock::{Fact, Lock};
 use rx_machine::Machine;
-use rx_trace::{History, Journals, Setup};
-use rx_tree::FinishLedger;
+use rx_history::{History, Journals, Setup};
+use rx_finish::FinishLedger;
 use std::alloc::Global;
 use std::snapshot::Snapshot;
 use std::sync::Wait;
@@ -33,7 +33,7 @@ pub(crate) struct Job {
 pub(crate) struct IsOfJob;
 
 impl<L: FinishLedger> Fact<Round<L>, Job> for IsOfJob {
-    ghost use Rattle.rx_trace.specs.Setups.{given};
+    ghost use Rattle.rx_history.specs.Setups.{given};
     ghost use Rattle.rx_live.specs.Rounds.{Keeps};
 
     ghost holds = { λ job. Keeps L.stands job.program.value.script (given job.setup.value) };

@@ -4,7 +4,7 @@ use rx_base::MeetGate;
 use rx_check::check;
 use rx_counts::CountLedger;
 use rx_script::read_script;
-use rx_trace::{KillList, Setup};
+use rx_history::{KillList, Setup};
 use std::test::Fail;
 
 #[test]

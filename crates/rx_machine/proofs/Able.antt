@@ -7,8 +7,8 @@ use Rattle.rx_rules.specs.Tree.{Tree, task_of, inner, quiet}
 use Rattle.rx_rules.specs.Reached.{Reached}
 use Rattle.rx_rules.specs.Picked.{is_enabled, Player}
 use Rattle.rx_sound.specs.Owning.{WaiterOwns}
-use Rattle.rx_tree.specs.Callers.{MayAskRelease, WaitsInside, HasNumbers}
-use Rattle.rx_tree.specs.Calls.{is_ready, blow_of}
+use Rattle.rx_finish.specs.Callers.{MayAskRelease, WaitsInside, HasNumbers}
+use Rattle.rx_finish.specs.Calls.{is_ready, blow_of}
 use Rattle.rx_script.specs.Shape.{Shape}
 use Rattle.rx_machine.specs.declared.seat.Seat.{Seat}
 use Rattle.rx_machine.specs.Callers.{caller}

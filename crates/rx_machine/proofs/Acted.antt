@@ -17,7 +17,7 @@ use Rattle.rx_rules.specs.Store.{State}
 use Rattle.rx_rules.specs.Plays.{Fits, brought, started_by}
 use Rattle.rx_rules.specs.Run.{Given}
 use Rattle.rx_rules.specs.Picked.{Game, Player, Turn, moves, turns, tree_in, child_of}
-use Rattle.rx_trace.specs.Setups.{given}
+use Rattle.rx_history.specs.Setups.{given}
 use Rattle.rx_store.specs.Kept.{Kept}
 use Rattle.rx_script.specs.Shape.{Shape}
 use Rattle.rx_machine.specs.declared.machine.Machine.{Machine}

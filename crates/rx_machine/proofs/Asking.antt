@@ -11,8 +11,8 @@ use Rattle.rx_rules.specs.declared.tasks.Blow.{Blow}
 use Rattle.rx_rules.specs.declared.tasks.Where.TheVariants.{At}
 use Rattle.rx_rules.specs.Tree.{Tree, task_of, opened_by, inner}
 use Rattle.rx_rules.specs.Picked.{Player}
-use Rattle.rx_tree.specs.Callers.{MayAsk, HasNumbers, IsMoving}
-use Rattle.rx_tree.specs.Calls.{blow_of}
+use Rattle.rx_finish.specs.Callers.{MayAsk, HasNumbers, IsMoving}
+use Rattle.rx_finish.specs.Calls.{blow_of}
 use Rattle.rx_script.specs.Shape.{Shape}
 use Rattle.rx_machine.specs.declared.seat.Seat.{Seat}
 use Rattle.rx_machine.specs.Callers.{caller, first_scope}

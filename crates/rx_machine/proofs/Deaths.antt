@@ -23,8 +23,8 @@ use Rattle.rx_runs.specs.Coming.{CameTo, GamesCome}
 use Rattle.rx_runs.specs.Games.{JournalSo, Leads}
 use Rattle.rx_runs.specs.Ties.{MayCome}
 use Rattle.rx_runs.proofs.Pairs.{pairs-get, journal_got}
-use Rattle.rx_tree.specs.Callers.{MayStrike}
-use Rattle.rx_trace.specs.Setups.{given}
+use Rattle.rx_finish.specs.Callers.{MayStrike}
+use Rattle.rx_history.specs.Setups.{given}
 use Rattle.rx_store.specs.Kept.{Kept, ends_closed, last_stamp}
 use Rattle.rx_script.specs.Shape.{Shape}
 use Rattle.rx_machine.specs.declared.machine.Machine.{Machine}

@@ -18,12 +18,12 @@ use Rattle.rx_rules.specs.Tree.{Tree, task_of, own_scope, opened_by}
 use Rattle.rx_rules.specs.Entries.{MayEnd, made_act, after_end}
 use Rattle.rx_rules.specs.Run.{Given}
 use Rattle.rx_rules.specs.Picked.{Game, Player, Turn, ends, turns, tree_in}
-use Rattle.rx_tree.specs.declared.ledger.Caller.{Caller}
-use Rattle.rx_tree.specs.declared.ledger.LedgerFault.{LedgerFault}
-use Rattle.rx_tree.specs.declared.ledger.LedgerFault.TheVariants.{NotYet, Lost, NoMemory}
-use Rattle.rx_tree.specs.Callers.{HasNumbers, IsBare, MayAskEnd}
-use Rattle.rx_tree.specs.Calls.{EndReply, blow_of}
-use Rattle.rx_trace.specs.Setups.{given}
+use Rattle.rx_finish.specs.declared.ledger.Caller.{Caller}
+use Rattle.rx_finish.specs.declared.ledger.LedgerFault.{LedgerFault}
+use Rattle.rx_finish.specs.declared.ledger.LedgerFault.TheVariants.{NotYet, Lost, NoMemory}
+use Rattle.rx_finish.specs.Callers.{HasNumbers, IsBare, MayAskEnd}
+use Rattle.rx_finish.specs.Calls.{EndReply, blow_of}
+use Rattle.rx_history.specs.Setups.{given}
 use Rattle.rx_store.specs.Kept.{Kept}
 use Rattle.rx_script.specs.Shape.{Shape}
 use Rattle.rx_machine.specs.declared.machine.Machine.{Machine}

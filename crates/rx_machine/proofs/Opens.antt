@@ -11,7 +11,7 @@ use Rattle.rx_rules.specs.Tree.{Tree, the_root}
 use Rattle.rx_rules.specs.Fold.{opening}
 use Rattle.rx_rules.specs.Run.{Given}
 use Rattle.rx_rules.specs.Picked.{Comes, start_game, tree_in}
-use Rattle.rx_trace.specs.Setups.{given}
+use Rattle.rx_history.specs.Setups.{given}
 use Rattle.rx_store.specs.Kept.{Kept}
 use Rattle.rx_script.specs.Shape.{Shape}
 use Rattle.rx_control.specs.Stands.{StandsFor}

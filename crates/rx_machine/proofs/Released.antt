@@ -20,11 +20,11 @@ use Rattle.rx_rules.specs.Run.{Given}
 use Rattle.rx_rules.specs.Picked.{Game, Player, Turn, tree_in, is_enabled}
 use Rattle.rx_sound.specs.Sound.{ReachedSound, TasksFall}
 use Rattle.rx_sound.specs.Owning.{ReleaseKeeps, ReleasePops}
-use Rattle.rx_tree.specs.declared.ledger.Caller.{Caller}
-use Rattle.rx_tree.specs.declared.ledger.LedgerFault.{LedgerFault}
-use Rattle.rx_tree.specs.declared.ledger.LedgerFault.TheVariants.{NotYet, Lost, NoMemory}
-use Rattle.rx_tree.specs.Callers.{HasNumbers, WaitsInside, MayAskRelease}
-use Rattle.rx_tree.specs.Calls.{ReleaseReply, blow_of}
+use Rattle.rx_finish.specs.declared.ledger.Caller.{Caller}
+use Rattle.rx_finish.specs.declared.ledger.LedgerFault.{LedgerFault}
+use Rattle.rx_finish.specs.declared.ledger.LedgerFault.TheVariants.{NotYet, Lost, NoMemory}
+use Rattle.rx_finish.specs.Callers.{HasNumbers, WaitsInside, MayAskRelease}
+use Rattle.rx_finish.specs.Calls.{ReleaseReply, blow_of}
 use Rattle.rx_script.specs.Shape.{Shape}
 use Rattle.rx_control.specs.Stands.{StandsFor}
 use Rattle.rx_machine.specs.declared.machine.Machine.{Machine}

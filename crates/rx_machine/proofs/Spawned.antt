@@ -23,8 +23,8 @@ use Rattle.rx_sound.specs.Sound.{Sound}
 use Rattle.rx_script.specs.Shape.{Shape}
 use Rattle.rx_control.specs.declared.control.Control.{Control}
 use Rattle.rx_control.specs.Stands.{StandsFor}
-use Rattle.rx_tree.specs.declared.ledger.Born.{Born}
-use Rattle.rx_tree.specs.Calls.{SpawnReply, CallReply}
+use Rattle.rx_finish.specs.declared.ledger.Born.{Born}
+use Rattle.rx_finish.specs.Calls.{SpawnReply, CallReply}
 use Rattle.rx_machine.specs.declared.machine.Machine.{Machine}
 use Rattle.rx_machine.specs.declared.seat.Seat.{Seat}
 use Rattle.rx_machine.specs.Callers.{caller}

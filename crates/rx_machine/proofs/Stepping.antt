@@ -16,7 +16,7 @@ use Rattle.rx_rules.specs.Run.{Given}
 use Rattle.rx_rules.specs.Picked.{Game, Player, Goes, stays, local, stores, tree_in}
 use Rattle.rx_runs.specs.Steps.{steps, Sinks, TermSinks}
 use Rattle.rx_runs.specs.Left.{FewLeft, GoingSinks}
-use Rattle.rx_trace.specs.Setups.{given}
+use Rattle.rx_history.specs.Setups.{given}
 use Rattle.rx_script.specs.Shape.{Shape}
 use Rattle.rx_control.specs.declared.step.Next.TheVariants.{Local as LocalStep, Book, Done as Ended}
 use Rattle.rx_control.specs.declared.step.Want.{Want}

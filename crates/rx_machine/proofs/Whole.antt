@@ -14,9 +14,9 @@ use Rattle.rx_rules.specs.Tree.{Tree}
 use Rattle.rx_rules.specs.Run.{Given, NoRoot}
 use Rattle.rx_rules.specs.Picked.{Game, Turn, dies, arrives, moves, ends, root, Turns, none, more, IsPicked, start_game, tree_in, used_after}
 use Rattle.rx_runs.specs.Coming.{GamesCome}
-use Rattle.rx_trace.specs.Logs.{Log}
-use Rattle.rx_trace.specs.Events.{Events, AllEvents, events_of}
-use Rattle.rx_trace.specs.Setups.{given}
+use Rattle.rx_history.specs.Logs.{Log}
+use Rattle.rx_history.specs.Events.{Events, AllEvents, events_of}
+use Rattle.rx_history.specs.Setups.{given}
 use Rattle.rx_store.specs.Kept.{Kept}
 use Rattle.rx_script.specs.Shape.{Shape}
 use Rattle.rx_machine.specs.declared.machine.Machine.{Machine}

@@ -2,7 +2,7 @@
 use Rattle.std.specs.Prelude.{List, [], ◌∷◌, reverse}
 use Rattle.rx_base.specs.declared.ids.ScopeId.{ScopeId}
 use Rattle.rx_rules.specs.declared.tasks.Task.{Task}
-use Rattle.rx_tree.specs.declared.ledger.Caller.{Caller}
+use Rattle.rx_finish.specs.declared.ledger.Caller.{Caller}
 
 -- the first of these scopes, or else the one that the task hangs under
 abbrev pub first_scope : ScopeId → List ScopeId → ScopeId

@@ -10,9 +10,9 @@ use Rattle.rx_rules.specs.Tree.{Tree, task_of}
 use Rattle.rx_rules.specs.Run.{Given, NoneDue, IsDue, NoRoot, EndsWithRoot}
 use Rattle.rx_rules.specs.Reached.{Reached}
 use Rattle.rx_rules.specs.Picked.{Game, Turn, Turns, enabled, tree_in}
-use Rattle.rx_trace.specs.Logs.{Log}
-use Rattle.rx_trace.specs.Events.{AllEvents, events_of}
-use Rattle.rx_trace.specs.Setups.{given}
+use Rattle.rx_history.specs.Logs.{Log}
+use Rattle.rx_history.specs.Events.{AllEvents, events_of}
+use Rattle.rx_history.specs.Setups.{given}
 use Rattle.rx_script.specs.Shape.{Shape}
 use Rattle.rx_machine.specs.declared.machine.Machine.{Machine}
 use Rattle.rx_machine.specs.declared.seat.Seat.{Seat}

@@ -11,7 +11,7 @@ use crate::seat::Seat;
 use rx_base::{Batch, NoMemory, PlaceId};
 use rx_check::Program;
 use rx_rules::{Act, Entry, Where};
-use rx_tree::{FinishLedger, LedgerFault};
+use rx_finish::{FinishLedger, LedgerFault};
 
 impl<L: FinishLedger> Machine<L> {
     /// Ends a turn by an arrival.

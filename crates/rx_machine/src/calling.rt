@@ -21,7 +21,7 @@ use rx_base::{Fault, GlobalRef, NoMemory, Path, PlaceId, Value};
 use rx_check::Program;
 use rx_control::CellOp;
 use rx_store::{Mark, Store, StoreFault};
-use rx_tree::FinishLedger;
+use rx_finish::FinishLedger;
 use std::alloc::Global;
 
 impl<L: FinishLedger> Machine<L> {

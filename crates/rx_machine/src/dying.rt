@@ -11,7 +11,7 @@ use crate::seat::Seat;
 use rx_base::PlaceId;
 use rx_check::Program;
 use rx_rules::{Entry, Where};
-use rx_tree::FinishLedger;
+use rx_finish::FinishLedger;
 
 impl<L: FinishLedger> Machine<L> {
     /// Makes the death of a place that is due. It takes no memory.

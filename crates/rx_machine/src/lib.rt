@@ -12,7 +12,6 @@ mod machine;
 mod moving;
 mod opening;
 mod picked;
-mod picks;
 mod printing;
 mod ready;
 mod releasing;
@@ -20,12 +19,10 @@ mod running;
 mod seat;
 mod starting;
 mod stores;
-#[cfg(test)]
-mod tests;
 mod turn;
 mod turning;
 mod waiting;
 
 pub use machine::Machine;
-pub use picks::{ListPicks, Picks};
+pub use rx_picks::{ListPicks, Picks};
 pub use turn::Turn;

@@ -7,7 +7,7 @@ ghost use Rattle.rx_rules.specs.Tree.{the_root};
 ghost use Rattle.rx_rules.specs.Fold.{opening};
 ghost use Rattle.rx_rules.specs.Run.{Proper};
 ghost use Rattle.rx_rules.specs.Picked.{start_game};
-ghost use Rattle.rx_trace.specs.Setups.{given};
+ghost use Rattle.rx_history.specs.Setups.{given};
 ghost use Rattle.rx_script.specs.Shape.{Stands};
 ghost use Rattle.rx_control.specs.Stands.{StandsFor};
 ghost use Rattle.rx_machine.specs.Holds.{Holds};
@@ -21,8 +21,8 @@ use rx_control::Control;
 use rx_kills::Kills;
 use rx_rank::Ranks;
 use rx_rules::{Task, Where};
-use rx_trace::{History, Setup};
-use rx_tree::FinishLedger;
+use rx_history::{History, Setup};
+use rx_finish::FinishLedger;
 use std::alloc::Global;
 
 /// A run with its ledger.

@@ -14,7 +14,7 @@ use rx_base::{NoMemory, PlaceId};
 use rx_check::Program;
 use rx_control::{Next, Want};
 use rx_rules::Where;
-use rx_tree::FinishLedger;
+use rx_finish::FinishLedger;
 
 impl<L: FinishLedger> Machine<L> {
     // Moves the task of a slot, which the pick moves, up to its next entry.

@@ -13,7 +13,7 @@ use crate::seat::Seat;
 use rx_base::{Batch, Faults, NoMemory, PlaceId};
 use rx_check::Program;
 use rx_rules::{Act, Entry};
-use rx_tree::{FinishLedger, LedgerFault};
+use rx_finish::{FinishLedger, LedgerFault};
 
 impl<L: FinishLedger> Machine<L> {
     /// Ends a turn by the opening of a finish.

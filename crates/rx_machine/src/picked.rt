@@ -3,18 +3,18 @@ ghost use Rattle.std.specs.Prelude.{◌≡◌, ℕ, true, false, map, IfOk, OnOk
 ghost use Rattle.rx_rules.specs.Code.{Block};
 ghost use Rattle.rx_rules.specs.Run.{Given};
 ghost use Rattle.rx_rules.specs.Picked.{Game, IsPicked, start_game};
-ghost use Rattle.rx_trace.specs.Events.{events_of};
+ghost use Rattle.rx_history.specs.Events.{events_of};
 ghost use Rattle.rx_machine.specs.Holds.{Holds, Finished};
 ghost use Rattle.rx_machine.specs.Refusals.{HasBegun, HasFailed};
 ghost use Rattle.rx_machine.specs.Runs.{RanFrom, Gives};
 ghost use Rattle.rx_script.specs.Shape.{Shape};
 
 use crate::machine::Machine;
-use crate::picks::Picks;
 use rx_base::NoMemory;
 use rx_check::Program;
-use rx_trace::{History, Journals};
-use rx_tree::FinishLedger;
+use rx_picks::Picks;
+use rx_history::{History, Journals};
+use rx_finish::FinishLedger;
 
 // More turns than a run can make of a script whose work is at most 100,000.
 const LIMIT: u32 = 400_041;

@@ -14,7 +14,7 @@ use rx_base::{Batch, Faults, NoMemory, Path, PlaceId};
 use rx_check::Program;
 use rx_control::Control;
 use rx_rules::{Act, Entry};
-use rx_tree::FinishLedger;
+use rx_finish::FinishLedger;
 use std::alloc::Global;
 
 impl<L: FinishLedger> Machine<L> {

@@ -15,7 +15,7 @@ use crate::waiting::no_memory;
 use rx_base::{Batch, Fault, Faults, NoMemory, PlaceId, PlaceSet, ScopeId};
 use rx_check::Program;
 use rx_rules::{Act, Entry};
-use rx_tree::FinishLedger;
+use rx_finish::FinishLedger;
 use std::alloc::Global;
 
 impl<L: FinishLedger> Machine<L> {

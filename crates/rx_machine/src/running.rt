@@ -15,7 +15,7 @@ use crate::seat::Seat;
 use rx_base::{NoMemory, PlaceId};
 use rx_check::Program;
 use rx_control::Next;
-use rx_tree::FinishLedger;
+use rx_finish::FinishLedger;
 use std::alloc::Global;
 
 // More steps than a term can make of a script whose work is at most 100,000.

@@ -5,7 +5,7 @@ ghost use Rattle.rx_machine.specs.Callers.{caller};
 use rx_base::{Batch, ScopeId};
 use rx_control::Control;
 use rx_rules::Task;
-use rx_tree::Caller;
+use rx_finish::Caller;
 
 /// A task with its scopes, what it has still to run, and the statements that it has begun since its last entry.
 #[derive(Drop)]

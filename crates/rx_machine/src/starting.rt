@@ -16,7 +16,7 @@ use rx_base::{Batch, Faults, NoMemory, PlaceId, ScopeId, TaskId};
 use rx_check::Program;
 use rx_control::Control;
 use rx_rules::{Act, Entry, Task, Where};
-use rx_tree::{FinishLedger, LedgerFault};
+use rx_finish::{FinishLedger, LedgerFault};
 use std::alloc::Global;
 
 impl<L: FinishLedger> Machine<L> {

@@ -2,7 +2,7 @@
 ghost use Rattle.std.specs.Prelude.{◌≡◌, ◌+◌, ◌<◌, ◌≤◌, ◌^◌, false, map, replicate, length, slice_get, slice_set, [], ◌∷◌, ◌++◌, Some, Option, Result, IfOk, OnErr};
 ghost use Rattle.rx_rules.specs.declared.events.PlaceEvent.TheVariants.{Close};
 ghost use Rattle.rx_store.specs.Kept.{Kept, ends_closed, last_stamp};
-ghost use Rattle.rx_trace.specs.Events.{events_of};
+ghost use Rattle.rx_history.specs.Events.{events_of};
 ghost use Rattle.rx_machine.specs.Holds.{StoresAre};
 ghost use Rattle.rx_machine.specs.Asked.{Asked, MayAskStore};
 
@@ -10,7 +10,7 @@ use crate::calling::call_store;
 use rx_base::{Fault, NoMemory, PlaceId, Value};
 use rx_control::CellOp;
 use rx_store::{Mark, Store};
-use rx_trace::Journals;
+use rx_history::Journals;
 use std::alloc::Global;
 use std::marker::Model;
 

@@ -10,12 +10,12 @@ ghost use Rattle.rx_machine.specs.Refusals.{HasBegun, HasFailed};
 ghost use Rattle.rx_machine.specs.Runs.{Calm, Dying, WentOn};
 
 use crate::machine::Machine;
-use crate::picks::Picks;
 use crate::turning::under_of;
 use rx_base::{NoMemory, PlaceId};
 use rx_check::Program;
+use rx_picks::Picks;
 use rx_rank::Ranks;
-use rx_tree::FinishLedger;
+use rx_finish::FinishLedger;
 
 /// Whether a turn went on with the run or ended it.
 #[derive(Clone, Copy, Debug, PartialEq, Eq)]

@@ -20,7 +20,7 @@ use crate::seat::Seat;
 use rx_base::{ScopeId, TaskId};
 use rx_rank::Ranks;
 use rx_rules::{Act, Entry};
-use rx_tree::FinishLedger;
+use rx_finish::FinishLedger;
 
 impl<L: FinishLedger> Machine<L> {
     /// Whether the task of a slot is enabled.

@@ -7,14 +7,14 @@ ghost use Rattle.rx_rules.specs.Picked.{Game, Player, Turn};
 ghost use Rattle.rx_machine.specs.Refusals.{NothingTold};
 ghost use Rattle.rx_machine.specs.Holds.{Seated, Acting, Makes};
 ghost use Rattle.rx_base.specs.declared.values.Fault.{Fault};
-ghost use Rattle.rx_tree.specs.declared.ledger.LedgerFault.{LedgerFault};
+ghost use Rattle.rx_finish.specs.declared.ledger.LedgerFault.{LedgerFault};
 
 use crate::machine::{Machine, put_back};
 use crate::seat::Seat;
 use rx_base::{Batch, Faults, NoMemory, PlaceId};
 use rx_check::Program;
 use rx_rules::{Act, Entry};
-use rx_tree::{FinishLedger, LedgerFault};
+use rx_finish::{FinishLedger, LedgerFault};
 
 impl<L: FinishLedger> Machine<L> {
     /// Ends a turn by the wait for a finish whose body has ended.

@@ -5,10 +5,10 @@ use Rattle.std.specs.Int.{w64}
 use Rattle.std.proofs.lemmas.Bool.{eqb-true}
 use Rattle.rx_base.specs.declared.ids.Kill.{Kill}
 use Rattle.rx_text.proofs.Lists.{left-more}
-use Rattle.rx_trace.specs.Events.{AllEvents, events_of}
-use Rattle.rx_trace.specs.KillOrder.{ComesLast}
-use Rattle.rx_trace.specs.Logs.{Log}
-use Rattle.rx_trace.specs.Setups.{given}
+use Rattle.rx_history.specs.Events.{AllEvents, events_of}
+use Rattle.rx_history.specs.KillOrder.{ComesLast}
+use Rattle.rx_history.specs.Logs.{Log}
+use Rattle.rx_history.specs.Setups.{given}
 use Rattle.rx_trace.specs.Text.{trace_text}
 use Rattle.rx_reading.specs.FieldWords.{number_of, number_at}
 use Rattle.rx_reading.specs.Machine.{State, is_after, may_follow, read_line}

@@ -1,7 +1,7 @@
 -- The state that a stage of the reader is.
 use Rattle.std.specs.Prelude.{◌≤◌, ◌<◌, length}
-use Rattle.rx_trace.specs.Events.{events_of}
-use Rattle.rx_trace.specs.Setups.{given}
+use Rattle.rx_history.specs.Events.{events_of}
+use Rattle.rx_history.specs.Setups.{given}
 use Rattle.rx_reading.specs.declared.stage.Stage.{Stage}
 use Rattle.rx_reading.specs.declared.stage.Stage.TheVariants as stages
 use Rattle.rx_reading.specs.Machine.{State, Untitled, Titled, Sized, Planned, Entering, Logging, Over}

@@ -8,7 +8,7 @@ use crate::parts::{
 };
 use crate::words::Words;
 use rx_base::NoMemory;
-use rx_trace::Act;
+use rx_history::Act;
 use std::alloc::Global;
 
 // The kinds of acts.

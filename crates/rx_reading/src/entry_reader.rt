@@ -7,7 +7,7 @@ use crate::acts::{Kind, act};
 use crate::parts::{batch_part, keyword, lost_part, place_field, task_field, thrown_part};
 use crate::words::Words;
 use rx_base::NoMemory;
-use rx_trace::Entry;
+use rx_history::Entry;
 use std::alloc::Global;
 
 // The words after the number.

@@ -9,7 +9,7 @@ use crate::items::task;
 use crate::parts::{block_field, keyword, natural_field, number_field, path_field};
 use crate::words::Words;
 use rx_base::{GlobalRef, NoMemory, TaskId};
-use rx_trace::{Cell, PlaceEvent};
+use rx_history::{Cell, PlaceEvent};
 use std::alloc::Global;
 
 // The words after the number.

@@ -1,6 +1,6 @@
 // The lines of the setup.
 ghost use Rattle.std.specs.Prelude.{◌≡◌, ◌<◌, ◌==◌, ◌&&◌, not, IfOk};
-ghost use Rattle.rx_trace.specs.KillOrder.{ComesLast};
+ghost use Rattle.rx_history.specs.KillOrder.{ComesLast};
 ghost use Rattle.rx_reading.specs.Words.{answered, pieces};
 ghost use Rattle.rx_reading.specs.Readers.{word, all_read};
 ghost use Rattle.rx_reading.specs.Machine.{count_of, sizes_at, is_after, may_follow, kills_line_of};
@@ -10,7 +10,7 @@ use crate::numbers::below;
 use crate::parts::keyword;
 use crate::words::{Words, split_words};
 use rx_base::{Kill, NoMemory};
-use rx_trace::KillList;
+use rx_history::KillList;
 use std::alloc::Global;
 
 // A number from 1 to a limit.

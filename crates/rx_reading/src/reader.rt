@@ -1,7 +1,7 @@
 // The text of a trace is read.
 ghost use Rattle.std.specs.Prelude.{◌≡◌, ◌<◌, ◌^◌, length, IfOk, IfErr};
-ghost use Rattle.rx_trace.specs.Events.{events_of};
-ghost use Rattle.rx_trace.specs.Setups.{given};
+ghost use Rattle.rx_history.specs.Events.{events_of};
+ghost use Rattle.rx_history.specs.Setups.{given};
 ghost use Rattle.rx_trace.specs.Text.{trace_text};
 ghost use Rattle.rx_reading.specs.Limits.{IsWithin};
 ghost use Rattle.rx_reading.specs.Faults.{IfBadLine};
@@ -9,7 +9,7 @@ ghost use Rattle.rx_reading.specs.Reading.{IsBadLine};
 
 use crate::stage::{Stage, next_stage};
 use crate::words::cut;
-use rx_trace::{History, Journals};
+use rx_history::{History, Journals};
 use std::alloc::Global;
 
 /// Why bytes were not read as a trace.

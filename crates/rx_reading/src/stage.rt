@@ -2,8 +2,8 @@
 ghost use Rattle.std.specs.Prelude.{◌≡◌, ◌≤◌, ◌<◌, ◌&&◌, ◌==◌, nat_lt, ◌++◌, ◌∷◌, [], Some, codes, option_map, IfOk, length};
 ghost use Rattle.std.specs.Str.{bytes_eq};
 ghost use Rattle.rx_reading.specs.Words.{answered, pieces};
-ghost use Rattle.rx_trace.specs.Events.{events_of};
-ghost use Rattle.rx_trace.specs.Setups.{given};
+ghost use Rattle.rx_history.specs.Events.{events_of};
+ghost use Rattle.rx_history.specs.Setups.{given};
 ghost use Rattle.rx_reading.specs.Machine.{Untitled, Titled, Sized, Planned, Entering, Logging, Over, begins_journal, entry_of, event_of, read_line};
 ghost use Rattle.rx_reading.specs.Stages.{state_of, IsReady};
 
@@ -14,7 +14,7 @@ use crate::numbers::is_number;
 use crate::plan_lines::{read_kills, sizes};
 use crate::words::split_words;
 use rx_base::NoMemory;
-use rx_trace::{Entry, History, Journal, Journals, PlaceEvent, Setup};
+use rx_history::{Entry, History, Journal, Journals, PlaceEvent, Setup};
 use std::alloc::Global;
 
 // What has been read.

@@ -7,7 +7,7 @@ use Rattle.rx_rules.specs.declared.events.Cell.{Cell}
 use Rattle.rx_rules.specs.declared.events.PlaceEvent.{PlaceEvent}
 use Rattle.rx_rules.specs.declared.events.PlaceEvent.TheVariants.{Done, Close}
 use Rattle.rx_rules.specs.Store.{State, opening_state, MayCell, after_cell, IsStoreRun}
-use Rattle.rx_trace.specs.Events.{Events}
+use Rattle.rx_history.specs.Events.{Events}
 use Rattle.rx_store.specs.declared.calls.Mark.{Mark}
 use Rattle.rx_store.specs.declared.table.Held.{Held}
 use Rattle.rx_store.specs.Kept.{Kept, state_of, ends_closed}

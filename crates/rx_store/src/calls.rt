@@ -3,8 +3,8 @@ ghost use Rattle.std.specs.Prelude.{◌≡◌, ◌-◌, ◌<◌, [], ◌∷◌, 
 ghost use Rattle.rx_rules.specs.declared.events.PlaceEvent.TheVariants.{Done};
 
 use rx_base::{Path, TaskId};
+use rx_history::Journal;
 use rx_rules::{Cell, PlaceEvent};
-use rx_trace::Journal;
 
 /// Who asks: the task, the length of the history, and the statement.
 #[derive(Drop)]

@@ -1,4 +1,4 @@
-//! The store of a place: blocks by reference, and a journal of all that was asked of it. It stands on rx_heap, rx_trace and the
+//! The store of a place: blocks by reference, and a journal of all that was asked of it. It stands on rx_heap, rx_history and the
 //! rules. The layer above uses that the journal is a run of the store's law, that each answer is the event that tells it, and
 //! that a call takes one of the spare number and no memory.
 #![tactic(auto)]

@@ -10,8 +10,8 @@ use crate::table::{Held, empty_table, find, give_all, index_in, keep, take_out};
 use crate::{Mark, StoreFault};
 use rx_base::{GlobalRef, NoMemory, PlaceId};
 use rx_heap::{Full, Heap};
+use rx_history::Journal;
 use rx_rules::{Cell, PlaceEvent};
-use rx_trace::Journal;
 use std::alloc::Global;
 use std::marker::Model;
 

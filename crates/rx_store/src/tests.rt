@@ -1,8 +1,8 @@
 // A store by hand: a stale reference, a full heap, a closed store. And that stores may be moved between threads.
 use crate::{Mark, Store, StoreFault};
 use rx_base::{GlobalRef, Path, PlaceId, TaskId};
+use rx_history::Journal;
 use rx_rules::{Cell, PlaceEvent};
-use rx_trace::Journal;
 use std::process::Abort;
 use std::test::Fail;
 

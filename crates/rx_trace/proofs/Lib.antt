@@ -1,3 +1,2 @@
-pub mod Ascending
 pub mod Lines
 pub mod Places

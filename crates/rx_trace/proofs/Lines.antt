@@ -5,7 +5,7 @@ use Rattle.std.specs.List.{flat_map}
 use Rattle.rx_rules.specs.declared.entries.Entry.{Entry}
 use Rattle.rx_rules.specs.declared.events.PlaceEvent.{PlaceEvent}
 use Rattle.rx_text.proofs.Lists.{left-more}
-use Rattle.rx_trace.specs.Events.{Events}
+use Rattle.rx_history.specs.Events.{Events}
 use Rattle.rx_trace.specs.EntryLines.{entry_line, entry_lines}
 use Rattle.rx_trace.specs.EventLines.{event_line, event_lines, journal_lines, journals_lines}
 use Rattle.rx_trace.specs.Parts.{part_text}

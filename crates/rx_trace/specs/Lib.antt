@@ -1,7 +1,3 @@
-pub mod KillOrder
-pub mod Setups
-pub mod Logs
-pub mod Events
 pub mod Fields
 pub mod Parts
 pub mod EntryLines

@@ -1,6 +1,6 @@
 // The lines of journals and of their events.
 ghost use Rattle.std.specs.Prelude.{◌≡◌, ◌++◌, OnOk};
-ghost use Rattle.rx_trace.specs.Events.{events_of};
+ghost use Rattle.rx_history.specs.Events.{events_of};
 ghost use Rattle.rx_trace.specs.EventLines.{reading_text, writing_text, call_text, cause_text, answer_text, event_text, event_line, event_lines, journal_lines, journals_lines};
 
 use crate::fields::{

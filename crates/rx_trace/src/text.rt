@@ -1,9 +1,9 @@
 // The text of a trace.
 ghost use Rattle.std.specs.Prelude.{◌≡◌, ◌++◌, OnOk, OnErr};
 ghost use Rattle.std.specs.List.{flat_map};
-ghost use Rattle.rx_trace.specs.Events.{events_of};
+ghost use Rattle.rx_history.specs.Events.{events_of};
 ghost use Rattle.rx_trace.specs.Fields.{kill_field};
-ghost use Rattle.rx_trace.specs.Setups.{given};
+ghost use Rattle.rx_history.specs.Setups.{given};
 ghost use Rattle.rx_trace.specs.Text.{setup_lines, trace_text};
 
 use crate::entry_lines::put_entries;

@@ -1,10 +1,7 @@
-pub mod Allowed
 pub mod Falling
 pub mod Firsts
-pub mod Gone
 pub mod Inside
 pub mod Leaves
 pub mod Places
 pub mod Replies
 pub mod Strikes
-pub mod Worked

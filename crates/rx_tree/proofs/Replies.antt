@@ -10,14 +10,14 @@ use Rattle.rx_rules.specs.declared.entries.Act.TheVariants.{Release}
 use Rattle.rx_rules.specs.Tree.{Tree, is_task, the_root}
 use Rattle.rx_rules.specs.Entries.{AllowedAct, MayReleaseRoot, made_act, home_for, place_number, after_end, change_scope, change_task, resumed, strike}
 use Rattle.rx_rules.specs.Reached.{Reached, acts, ends, dies}
-use Rattle.rx_tree.specs.declared.ledger.Caller.{Caller}
-use Rattle.rx_tree.specs.declared.ledger.Outcome.{Outcome}
-use Rattle.rx_tree.specs.declared.ledger.LedgerFault.{LedgerFault}
-use Rattle.rx_tree.specs.declared.ledger.LedgerFault.TheVariants.{NotYet, Lost, NoMemory}
-use Rattle.rx_tree.specs.Callers.{MayAsk, MayAskRelease, HasRoot, MayStrike}
-use Rattle.rx_tree.specs.Calls.{Did, IsUnstruck, RootReply}
+use Rattle.rx_finish.specs.declared.ledger.Caller.{Caller}
+use Rattle.rx_finish.specs.declared.ledger.Outcome.{Outcome}
+use Rattle.rx_finish.specs.declared.ledger.LedgerFault.{LedgerFault}
+use Rattle.rx_finish.specs.declared.ledger.LedgerFault.TheVariants.{NotYet, Lost, NoMemory}
+use Rattle.rx_finish.specs.Callers.{MayAsk, MayAskRelease, HasRoot, MayStrike}
+use Rattle.rx_finish.specs.Calls.{Did, IsUnstruck, RootReply}
 use Rattle.rx_tree.specs.Removal.{LeaveReply}
-use Rattle.rx_tree.proofs.Allowed.{Free, free, release_allowed}
+use Rattle.rx_finish.proofs.Allowed.{Free, free, release_allowed}
 
 pub at_kept : (K : Tree) (M P : Tree → Type 0) → (Reached K → M K → P K) → (T : Tree) → (K ≡ T) × Reached T → M T → P T
 at_kept K M P f T s may = subst P s.0 (f (subst Reached (sym s.0) s.1) (subst M (sym s.0) may))
@@ -25,20 +25,6 @@ at_kept K M P f T s may = subst P s.0 (f (subst Reached (sym s.0) s.1) (subst M 
 -- the act of an allowed entry was done where the tree that is kept is what the entry makes
 pub did : (K N : Tree) (who : Caller) (act : Act) → Reached K → AllowedAct K who.task act → N ≡ made_act K who.task act → Did K who act (λ T. (N ≡ T) × Reached T)
 did K N who act r a e = record { allowed = a; made = (e, acts who.task act r a) }
-
--- the home of the scopes that an unstruck caller opens
-pub home_is : (T : Tree) (who : Caller) (P : Task → Type 0) → Reached T → MayAsk T who P → IsUnstruck T who → home_for T who.task ≡ place_number who.place
-home_is T who P r may u =
-    let f : Free T who P = free T who P r may u in
-    let e : home_for T who.task ≡ place_number f.at.task.place = rw (f.at.stands, home_for) in
-    e ∙ ap place_number f.at.says.place
-
--- an unstruck caller's end, by the scope that it names
-pub ended_is : (T : Tree) (who : Caller) (P : Task → Type 0) (thrown : List Fault) → Reached T → MayAsk T who P → IsUnstruck T who → after_end T who.task thrown ≡ change_scope (λ g. record g { ends = g.ends ++ thrown }) who.scope (record T { tasks = filter (λ y. not (is_task who.task y)) T.tasks })
-ended_is T who P thrown r may u =
-    let f : Free T who P = free T who P r may u in
-    let e : after_end T who.task thrown ≡ change_scope (λ g. record g { ends = g.ends ++ thrown }) f.at.task.under (record T { tasks = filter (λ y. not (is_task who.task y)) T.tasks }) = rw (f.at.stands, after_end) in
-    e ∙ ap (λ s. change_scope (λ g. record g { ends = g.ends ++ thrown }) s (record T { tasks = filter (λ y. not (is_task who.task y)) T.tasks })) f.at.says.under
 
 -- a release that the plain ledger made for an unstruck caller
 pub released : (K L N : Tree) (who : Caller) (o : Outcome) → Reached K → MayAskRelease K who → IsUnstruck K who → LeaveReply K who.inner (Ok o) L → N ≡ change_task resumed who.task L → Did K who (Release who.inner o.lost o.thrown) (λ T. (N ≡ T) × Reached T)

@@ -1,5 +1,3 @@
-pub mod Callers
-pub mod Calls
 pub mod Kept
 pub mod Positions
 pub mod Removal

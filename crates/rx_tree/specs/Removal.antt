@@ -4,10 +4,10 @@ use Rattle.std.specs.List.{list_any}
 use Rattle.rx_base.specs.declared.ids.ScopeId.{ScopeId}
 use Rattle.rx_rules.specs.Tree.{Tree, quiet}
 use Rattle.rx_rules.specs.Entries.{Names, without}
-use Rattle.rx_tree.specs.declared.ledger.LedgerFault.{LedgerFault}
-use Rattle.rx_tree.specs.declared.ledger.LedgerFault.TheVariants.{NotYet, Lost, NoMemory}
-use Rattle.rx_tree.specs.declared.ledger.Outcome.{Outcome}
-use Rattle.rx_tree.specs.Calls.{IsHindered}
+use Rattle.rx_finish.specs.declared.ledger.LedgerFault.{LedgerFault}
+use Rattle.rx_finish.specs.declared.ledger.LedgerFault.TheVariants.{NotYet, Lost, NoMemory}
+use Rattle.rx_finish.specs.declared.ledger.Outcome.{Outcome}
+use Rattle.rx_finish.specs.Calls.{IsHindered}
 
 -- what it answers of the scope s in the tree T, and the tree afterwards
 abbrev pub LeaveReply : Tree → ScopeId → Result Outcome LedgerFault → Tree → Type 0

@@ -4,7 +4,7 @@ ghost use Rattle.rx_rules.specs.Tree.{Tree, is_under, quiet};
 ghost use Rattle.rx_rules.specs.Entries.{thrown_of};
 ghost use Rattle.rx_rules.specs.Fold.{opening};
 ghost use Rattle.rx_rules.specs.Reached.{Reached};
-ghost use Rattle.rx_tree.specs.Calls.{blow_of, landing};
+ghost use Rattle.rx_finish.specs.Calls.{blow_of, landing};
 ghost use Rattle.rx_tree.specs.Kept.{kept};
 ghost use Rattle.rx_tree.specs.Positions.{InOrder};
 ghost use Rattle.rx_tree.specs.Removal.{LeaveReply};
@@ -13,10 +13,10 @@ use crate::changes::{
     blow_at, insert_both, insert_scope, insert_task, land, landing_of, lost_by, note_body,
     note_ends, place_of, remove_task, set_waits, strike_all, travel,
 };
-use crate::ledger::{Born, Caller, FinishLedger, LedgerFault, Outcome};
 use crate::lookups::{death_at, find_gone, find_governing, find_task, reaches, scope_row};
 use crate::removal::{keep_gone, lost_places, remove_lost, remove_scopes, scopes_under};
 use rx_base::{Faults, NoMemory, PlaceId, ScopeId, TaskId};
+use rx_finish::{Born, Caller, FinishLedger, LedgerFault, Outcome};
 use rx_rules::{Blow, Kind, Scope, Task, Where};
 use std::alloc::Global;
 

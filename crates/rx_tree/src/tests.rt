@@ -4,7 +4,7 @@ ghost use Rattle.rx_rules.specs.declared.entries.Act.TheVariants.{Open, Spawn, W
 ghost use Rattle.rx_rules.specs.Tree.{Tree};
 ghost use Rattle.rx_rules.specs.Entries.{made_act};
 ghost use Rattle.rx_rules.specs.Fold.{opening};
-ghost use Rattle.rx_tree.specs.Callers.{MayAskEnd};
+ghost use Rattle.rx_finish.specs.Callers.{MayAskEnd};
 
 use crate::{Born, Caller, FinishLedger, LedgerFault, Outcome, TreeLedger, Where};
 use rx_base::{Faults, PlaceId, PlaceSet, ScopeId, TaskId};

@@ -5,7 +5,7 @@ use Rattle.std.proofs.lemmas.Bool.Decides.{nat_tests}
 use Rattle.rx_base.specs.declared.ids.Kill.{Kill}
 use Rattle.rx_base.specs.declared.ids.PlaceId.{PlaceId}
 use Rattle.rx_rules.specs.Run.{AreKills, Spares, Ascends, ComesAfter}
-use Rattle.rx_trace.specs.KillOrder.{IsAscending, ComesLast}
+use Rattle.rx_history.specs.KillOrder.{IsAscending, ComesLast}
 use Rattle.rx_words.specs.Words.{has, bad_kill, is_sooner, inserted, sorted}
 use Rattle.rx_words.specs.Commands.{kill_in}
 

@@ -1,4 +1,4 @@
-//! The words of a command: what they ask for, or which of them is the first bad one. It stands on rx_text, rx_trace and rx_kills.
+//! The words of a command: what they ask for, or which of them is the first bad one. It stands on rx_text, rx_history and rx_kills.
 //! docs/commands.md states the words. The layer above uses that `read_words` answers exactly what the words ask for, `asked`, and
 //! that a setup that it answers is proper.
 #![tactic(auto)]

@@ -1,7 +1,7 @@
 // The setup where all options were read: the kills are of places that can die, and stand in their order.
 ghost use Rattle.std.specs.Prelude.{◌≡◌, ℕ, [], Some, None, IfOk, OnOk, IsErrOf, map};
 ghost use Rattle.rx_rules.specs.Run.{AreKills, Proper};
-ghost use Rattle.rx_trace.specs.Setups.{given};
+ghost use Rattle.rx_history.specs.Setups.{given};
 ghost use Rattle.rx_words.specs.Words.{setup_of, or_else, bad_kill, has, is_sooner, inserted, sorted, told};
 ghost use Rattle.rx_words.specs.declared.command.WordFault.TheVariants.{Bad};
 ghost use Rattle.rx_words.specs.Commands.{IsInRange, wants_of, place_of, kill_in};
@@ -9,7 +9,7 @@ ghost use Rattle.rx_words.specs.Commands.{IsInRange, wants_of, place_of, kill_in
 use crate::command::WordFault;
 use crate::options::{Said, bad};
 use rx_base::{Kill, NoMemory};
-use rx_trace::{KillList, Setup};
+use rx_history::{KillList, Setup};
 use std::alloc::Global;
 
 // Whether one of the kills is of this place.

@@ -1,7 +1,7 @@
 use Rattle.std.proofs.Common.{ℕ, List, ◌++◌, ap, ◌∙◌, arith}
 use Rattle.rx_rules.specs.Run.{Given, IsRun}
-use Rattle.rx_trace.specs.Events.{events_of}
-use Rattle.rx_trace.specs.Setups.{given}
+use Rattle.rx_history.specs.Events.{events_of}
+use Rattle.rx_history.specs.Setups.{given}
 use Rattle.rx_words.specs.Commands.{source_of}
 use Rattle.rx_gen.specs.Lines.{lines}
 use Rattle.rx_gen.specs.Numbers.{counts_text}

@@ -1,7 +1,7 @@
 use Rattle.std.proofs.Common.{ℕ, List, ◌++◌, ap, ◌∙◌}
 use Rattle.rx_rules.specs.Run.{Given, IsRun}
-use Rattle.rx_trace.specs.Events.{events_of}
-use Rattle.rx_trace.specs.Setups.{given}
+use Rattle.rx_history.specs.Events.{events_of}
+use Rattle.rx_history.specs.Setups.{given}
 use Rattle.rx_trace.specs.Text.{trace_text}
 use Rattle.rx10.specs.Live.{IsLawful}
 use Rattle.rx10.proofs.run.make_live.Goals as goal

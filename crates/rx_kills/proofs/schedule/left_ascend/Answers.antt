@@ -1,5 +1,5 @@
 use Rattle.std.proofs.Common.{subst}
-use Rattle.rx_trace.specs.KillOrder.{IsAscending}
+use Rattle.rx_history.specs.KillOrder.{IsAscending}
 use Rattle.rx_kills.proofs.Order.{ascending-left}
 use Rattle.rx_kills.proofs.schedule.left_ascend.Goals as goal
 

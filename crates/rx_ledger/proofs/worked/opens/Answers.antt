@@ -2,7 +2,7 @@ use Rattle.std.proofs.Common.{ap, ◌∙◌, refl, Some, ◌∷◌}
 use Rattle.rx_base.specs.declared.ids.TaskId.{TaskId}
 use Rattle.rx_rules.specs.declared.tasks.Kind.TheVariants.{Finish}
 use Rattle.rx_ticket.specs.declared.tickets.AnyTicket.TheVariants.{Running}
-use Rattle.rx_trace.specs.declared.asks.Ask.TheVariants.{Open}
+use Rattle.rx_history.specs.declared.asks.Ask.TheVariants.{Open}
 use Rattle.rx_ledger.specs.declared.asks.Request.{Request}
 use Rattle.rx_ledger.specs.declared.asks.Reply.TheVariants.{Opened}
 use Rattle.rx_ledger.specs.Owned.{Owned, own_told}

@@ -1,6 +1,6 @@
 use Rattle.std.proofs.Common.{refl, None}
 use Rattle.rx_ticket.specs.declared.tickets.AnyTicket.TheVariants.{Held}
-use Rattle.rx_trace.specs.declared.asks.Ask.TheVariants.{Release}
+use Rattle.rx_history.specs.declared.asks.Ask.TheVariants.{Release}
 use Rattle.rx_ledger.specs.declared.asks.Request.{Request}
 use Rattle.rx_ledger.proofs.Scenes.{still_travels}
 use Rattle.rx_ledger.proofs.worked.releases.Goals as goal

@@ -1,7 +1,7 @@
 use Rattle.std.proofs.Common.{ap, ◌∙◌, ◌<◌, refl, subst, sym, Some, ℕ}
 use Rattle.rx_base.specs.declared.ids.TaskId.{TaskId}
 use Rattle.rx_ticket.specs.declared.tickets.AnyTicket.TheVariants.{Running}
-use Rattle.rx_trace.specs.declared.asks.Ask.TheVariants.{Spawn}
+use Rattle.rx_history.specs.declared.asks.Ask.TheVariants.{Spawn}
 use Rattle.rx_ledger.specs.declared.asks.Request.{Request}
 use Rattle.rx_ledger.specs.declared.asks.Reply.TheVariants.{Spawned}
 use Rattle.rx_ledger.specs.Owned.{own_told}

@@ -1,7 +1,7 @@
 use Rattle.std.proofs.Common.{refl, None}
-use Rattle.rx_trace.specs.Setups.{given}
+use Rattle.rx_history.specs.Setups.{given}
 use Rattle.rx_ticket.specs.declared.tickets.AnyTicket.TheVariants.{Running}
-use Rattle.rx_trace.specs.declared.asks.Ask.TheVariants.{Wait}
+use Rattle.rx_history.specs.declared.asks.Ask.TheVariants.{Wait}
 use Rattle.rx_ledger.specs.declared.asks.Request.{Request}
 use Rattle.rx_ledger.specs.declared.asks.Reply.TheVariants.{Waits}
 use Rattle.rx_ledger.proofs.Called.{front_folds}

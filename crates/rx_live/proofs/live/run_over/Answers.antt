@@ -1,8 +1,8 @@
 use Rattle.std.proofs.Common.{subst}
 use Rattle.rx_rules.specs.Code.{Block}
 use Rattle.rx_rules.specs.Run.{Given}
-use Rattle.rx_trace.specs.Setups.{given}
-use Rattle.rx_trace.specs.declared.setup.Setup.{Setup}
+use Rattle.rx_history.specs.Setups.{given}
+use Rattle.rx_history.specs.declared.setup.Setup.{Setup}
 use Rattle.rx_live.specs.declared.live.Job.{Job}
 use Rattle.rx_live.specs.Rounds.{Keeps}
 use Rattle.rx_live.proofs.Rounding.{keeps-begin, keeps-named, keeps-of, carried}

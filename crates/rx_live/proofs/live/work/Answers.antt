@@ -1,5 +1,5 @@
 use Rattle.std.proofs.Common.{refl}
-use Rattle.rx_trace.specs.Setups.{given}
+use Rattle.rx_history.specs.Setups.{given}
 use Rattle.rx_live.proofs.Rounding.{keeps-named, keeps-of}
 use Rattle.rx_live.proofs.live.work.Goals as goal
 

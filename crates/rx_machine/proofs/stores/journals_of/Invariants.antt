@@ -1,5 +1,5 @@
 use Rattle.std.proofs.Common.{◌≡◌, ◌≤◌, ◌++◌, reverse, length}
-use Rattle.rx_trace.specs.Events.{events_of}
+use Rattle.rx_history.specs.Events.{events_of}
 use Rattle.rx_machine.proofs.Whole.{told_by}
 use Rattle.rx_machine.proofs.stores.journals_of.Given as goal
 

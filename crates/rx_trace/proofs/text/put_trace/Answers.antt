@@ -1,12 +1,12 @@
 use Rattle.std.proofs.Common.{◌≡◌, ◌++◌, ap, ◌∙◌}
 use Rattle.std.specs.Prelude.{codes}
 use Rattle.std.proofs.lemmas.Result.{on_ok_weaker}
-use Rattle.rx_trace.specs.declared.setup.Setup.{Setup}
-use Rattle.rx_trace.specs.Events.{events_of}
+use Rattle.rx_history.specs.declared.setup.Setup.{Setup}
+use Rattle.rx_history.specs.Events.{events_of}
 use Rattle.rx_trace.specs.EntryLines.{entry_lines}
 use Rattle.rx_trace.specs.EventLines.{journals_lines}
-use Rattle.rx_trace.specs.Logs.{Log}
-use Rattle.rx_trace.specs.Setups.{given}
+use Rattle.rx_history.specs.Logs.{Log}
+use Rattle.rx_history.specs.Setups.{given}
 use Rattle.rx_trace.specs.Text.{setup_lines, trace_text}
 use Rattle.rx_trace.proofs.Lines.{six-texts}
 use Rattle.rx_trace.proofs.text.put_trace.Goals as goal

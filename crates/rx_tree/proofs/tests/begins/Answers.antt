@@ -6,8 +6,8 @@ use Rattle.rx_rules.specs.declared.entries.Act.TheVariants.{Open, Spawn, Wait}
 use Rattle.rx_rules.specs.Tree.{Tree}
 use Rattle.rx_rules.specs.Entries.{made_act}
 use Rattle.rx_rules.specs.Fold.{opening}
-use Rattle.rx_tree.specs.Callers.{MayAsk, MayAskMoving, MayAskTo, IsMoving, HasFinish}
-use Rattle.rx_tree.proofs.Worked.{who, tk, sc, pl, asks, opened_next, spawned_next}
+use Rattle.rx_finish.specs.Callers.{MayAsk, MayAskMoving, MayAskTo, IsMoving, HasFinish}
+use Rattle.rx_finish.proofs.Worked.{who, tk, sc, pl, asks, opened_next, spawned_next}
 use Rattle.rx_tree.proofs.tests.begins.Goals as goal
 
 pub open_finish-requires : goal.open_finish-requires

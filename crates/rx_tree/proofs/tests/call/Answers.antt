@@ -5,8 +5,8 @@ use Rattle.rx_rules.specs.declared.entries.Act.TheVariants.{At as Calls}
 use Rattle.rx_rules.specs.Tree.{Tree}
 use Rattle.rx_rules.specs.Entries.{made_act}
 use Rattle.rx_rules.specs.Fold.{opening}
-use Rattle.rx_tree.specs.Callers.{MayAskTo, IsMoving, Travels}
-use Rattle.rx_tree.proofs.Worked.{who, tk, sc, pl, asks, called_next}
+use Rattle.rx_finish.specs.Callers.{MayAskTo, IsMoving, Travels}
+use Rattle.rx_finish.proofs.Worked.{who, tk, sc, pl, asks, called_next}
 use Rattle.rx_tree.proofs.tests.call.Goals as goal
 
 pub open_at-requires : goal.open_at-requires

@@ -5,8 +5,8 @@ use Rattle.rx_rules.specs.declared.entries.Act.TheVariants.{Open, Spawn, Wait}
 use Rattle.rx_rules.specs.Tree.{Tree}
 use Rattle.rx_rules.specs.Entries.{made_act}
 use Rattle.rx_rules.specs.Fold.{opening}
-use Rattle.rx_tree.specs.Callers.{WaitsInside}
-use Rattle.rx_tree.proofs.Worked.{who, tk, sc, pl, asks}
+use Rattle.rx_finish.specs.Callers.{WaitsInside}
+use Rattle.rx_finish.proofs.Worked.{who, tk, sc, pl, asks}
 use Rattle.rx_tree.proofs.tests.early.Goals as goal
 
 pub begins-requires-clause-enough : goal.begins-requires-clause-enough

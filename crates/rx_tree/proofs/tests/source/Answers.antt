@@ -5,8 +5,8 @@ use Rattle.rx_rules.specs.declared.entries.Act.TheVariants.{Open, Spawn, Arrive,
 use Rattle.rx_rules.specs.Tree.{Tree}
 use Rattle.rx_rules.specs.Entries.{made_act, strike}
 use Rattle.rx_rules.specs.Fold.{opening}
-use Rattle.rx_tree.specs.Callers.{MayAsk, MayAskTo, IsMoving, Travels, IsBare, MayStrike}
-use Rattle.rx_tree.proofs.Worked.{who, tk, sc, pl, asks, spawned_next, none_dead}
+use Rattle.rx_finish.specs.Callers.{MayAsk, MayAskTo, IsMoving, Travels, IsBare, MayStrike}
+use Rattle.rx_finish.proofs.Worked.{who, tk, sc, pl, asks, spawned_next, none_dead}
 use Rattle.rx_tree.proofs.tests.source.Goals as goal
 
 pub begins-requires-clause-enough : goal.begins-requires-clause-enough

@@ -2,7 +2,7 @@ use Rattle.std.proofs.Common.{◌≡◌, ◌∙◌, ℕ, ◌+◌, List, [], ◌�
 use Rattle.std.proofs.lemmas.List.{drop_all, at_drop_more}
 use Rattle.rx_base.specs.declared.ids.Kill.{Kill}
 use Rattle.rx_rules.specs.Run.{AreKills}
-use Rattle.rx_trace.specs.KillOrder.{IsAscending}
+use Rattle.rx_history.specs.KillOrder.{IsAscending}
 use Rattle.rx_words.specs.Words.{sorted}
 use Rattle.rx_words.specs.Commands.{kill_in}
 use Rattle.rx_words.proofs.Sorting.{sorted-kills, kills-ascend, comes-last}

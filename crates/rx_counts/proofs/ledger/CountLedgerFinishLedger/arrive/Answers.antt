@@ -4,10 +4,10 @@ use Rattle.std.proofs.lemmas.Bool.{true≢false}
 use Rattle.rx_rules.specs.Tree.{Tree}
 use Rattle.rx_rules.specs.declared.tasks.Where.TheVariants.{At}
 use Rattle.rx_sound.proofs.Reached.{sound}
-use Rattle.rx_tree.specs.declared.ledger.LedgerFault.{LedgerFault}
-use Rattle.rx_tree.specs.Callers.{Travels}
-use Rattle.rx_tree.specs.Calls.{ArriveReply}
-use Rattle.rx_tree.proofs.Allowed.{Free}
+use Rattle.rx_finish.specs.declared.ledger.LedgerFault.{LedgerFault}
+use Rattle.rx_finish.specs.Callers.{Travels}
+use Rattle.rx_finish.specs.Calls.{ArriveReply}
+use Rattle.rx_finish.proofs.Allowed.{Free}
 use Rattle.rx_counts.specs.Stands.{Changed, StandsFor, in_sums, less, more, slot}
 use Rattle.rx_counts.proofs.Asking.{was_lost, caller, keeper_found, keeper_some, keeper_known, scope_rooted, none_kept}
 use Rattle.rx_counts.proofs.Arriving.{take_ok, add_ok, arrived}

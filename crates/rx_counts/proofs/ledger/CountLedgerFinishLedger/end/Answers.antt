@@ -3,10 +3,10 @@ use Rattle.std.proofs.Common.{◌∙◌, sym, subst, refl}
 use Rattle.std.proofs.lemmas.Bool.{true≢false}
 use Rattle.rx_sound.proofs.Reached.{sound}
 use Rattle.rx_rules.specs.Tree.{Tree}
-use Rattle.rx_tree.specs.declared.ledger.LedgerFault.{LedgerFault}
-use Rattle.rx_tree.specs.Callers.{IsBare}
-use Rattle.rx_tree.specs.Calls.{EndReply}
-use Rattle.rx_tree.proofs.Allowed.{Free}
+use Rattle.rx_finish.specs.declared.ledger.LedgerFault.{LedgerFault}
+use Rattle.rx_finish.specs.Callers.{IsBare}
+use Rattle.rx_finish.specs.Calls.{EndReply}
+use Rattle.rx_finish.proofs.Allowed.{Free}
 use Rattle.rx_counts.specs.Stands.{StandsFor, Changed, in_sums, less, slot, count_in, ends_if}
 use Rattle.rx_counts.proofs.Asking.{was_lost, unstruck, caller, keeper_some, keeper_found, keeper_known, scope_rooted, scope_kept, none_kept}
 use Rattle.rx_counts.proofs.Arriving.{take_ok}

@@ -4,10 +4,10 @@ use Rattle.rx_base.specs.declared.ids.PlaceId.{PlaceId}
 use Rattle.rx_base.specs.declared.ids.ScopeId.{ScopeId}
 use Rattle.rx_sound.proofs.Reached.{sound}
 use Rattle.rx_rules.specs.Tree.{Tree}
-use Rattle.rx_tree.specs.declared.ledger.LedgerFault.{LedgerFault}
-use Rattle.rx_tree.specs.Callers.{IsMoving}
-use Rattle.rx_tree.specs.Calls.{CallReply}
-use Rattle.rx_tree.proofs.Allowed.{Free}
+use Rattle.rx_finish.specs.declared.ledger.LedgerFault.{LedgerFault}
+use Rattle.rx_finish.specs.Callers.{IsMoving}
+use Rattle.rx_finish.specs.Calls.{CallReply}
+use Rattle.rx_finish.proofs.Allowed.{Free}
 use Rattle.rx_counts.specs.Stands.{StandsFor, record_at, more, slot}
 use Rattle.rx_counts.proofs.Asking.{was_lost, caller, unstruck, call_refused, same_records}
 use Rattle.rx_counts.proofs.Born.{finish_known}

@@ -1,8 +1,8 @@
 use Rattle.std.specs.Prelude.{Err}
 use Rattle.std.proofs.Common.{◌∙◌, sym, subst, refl}
-use Rattle.rx_tree.specs.declared.ledger.LedgerFault.{LedgerFault}
-use Rattle.rx_tree.specs.Callers.{IsMoving}
-use Rattle.rx_tree.specs.Calls.{OpenReply}
+use Rattle.rx_finish.specs.declared.ledger.LedgerFault.{LedgerFault}
+use Rattle.rx_finish.specs.Callers.{IsMoving}
+use Rattle.rx_finish.specs.Calls.{OpenReply}
 use Rattle.rx_counts.specs.Stands.{StandsFor}
 use Rattle.rx_counts.proofs.Asking.{was_lost, caller, unstruck, same_records, open_refused}
 use Rattle.rx_counts.proofs.Born.{opened_stands}

@@ -1,9 +1,9 @@
 use Rattle.std.specs.Prelude.{Err}
 use Rattle.std.proofs.Common.{◌∙◌, sym, subst}
-use Rattle.rx_tree.specs.declared.ledger.LedgerFault.{LedgerFault}
-use Rattle.rx_tree.specs.Callers.{IsMoving}
-use Rattle.rx_tree.specs.Calls.{PrintReply}
-use Rattle.rx_tree.proofs.Allowed.{print_allowed}
+use Rattle.rx_finish.specs.declared.ledger.LedgerFault.{LedgerFault}
+use Rattle.rx_finish.specs.Callers.{IsMoving}
+use Rattle.rx_finish.specs.Calls.{PrintReply}
+use Rattle.rx_finish.proofs.Allowed.{print_allowed}
 use Rattle.rx_counts.proofs.Asking.{was_lost, unstruck}
 use Rattle.rx_counts.proofs.ledger.CountLedgerFinishLedger.print.Goals as goal
 

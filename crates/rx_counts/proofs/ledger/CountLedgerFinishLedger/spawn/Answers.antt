@@ -5,10 +5,10 @@ use Rattle.std.proofs.lemmas.Bool.{true≢false}
 use Rattle.rx_base.specs.declared.ids.PlaceId.{PlaceId}
 use Rattle.rx_sound.proofs.Reached.{sound}
 use Rattle.rx_rules.specs.Tree.{Tree}
-use Rattle.rx_tree.specs.declared.ledger.LedgerFault.{LedgerFault}
-use Rattle.rx_tree.specs.Callers.{IsMoving}
-use Rattle.rx_tree.specs.Calls.{SpawnReply}
-use Rattle.rx_tree.proofs.Allowed.{Free}
+use Rattle.rx_finish.specs.declared.ledger.LedgerFault.{LedgerFault}
+use Rattle.rx_finish.specs.Callers.{IsMoving}
+use Rattle.rx_finish.specs.Calls.{SpawnReply}
+use Rattle.rx_finish.proofs.Allowed.{Free}
 use Rattle.rx_counts.specs.Stands.{StandsFor, record_at, Changed, in_sums, more, slot}
 use Rattle.rx_counts.proofs.Asking.{was_lost, caller, keeper_some, keeper_found, keeper_known, none_kept}
 use Rattle.rx_counts.proofs.Born.{finish_known}

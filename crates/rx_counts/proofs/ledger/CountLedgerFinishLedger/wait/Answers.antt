@@ -1,10 +1,10 @@
 use Rattle.std.specs.Prelude.{Err}
 use Rattle.std.proofs.Common.{◌∙◌, sym, subst, refl}
 use Rattle.rx_rules.specs.Tree.{Tree}
-use Rattle.rx_tree.specs.declared.ledger.LedgerFault.{LedgerFault}
-use Rattle.rx_tree.specs.Callers.{HasFinish}
-use Rattle.rx_tree.specs.Calls.{WaitReply}
-use Rattle.rx_tree.proofs.Allowed.{Free}
+use Rattle.rx_finish.specs.declared.ledger.LedgerFault.{LedgerFault}
+use Rattle.rx_finish.specs.Callers.{HasFinish}
+use Rattle.rx_finish.specs.Calls.{WaitReply}
+use Rattle.rx_finish.proofs.Allowed.{Free}
 use Rattle.rx_counts.specs.Stands.{StandsFor}
 use Rattle.rx_counts.proofs.Asking.{was_lost, caller}
 use Rattle.rx_counts.proofs.Born.{inner_kept}

@@ -5,10 +5,10 @@ use Rattle.rx_rules.specs.declared.entries.Act.TheVariants.{Arrive}
 use Rattle.rx_rules.specs.declared.entries.Entry.TheVariants.{Step}
 use Rattle.rx_rules.specs.Entries.{AllowedAct, made_act}
 use Rattle.rx_rules.specs.Picked.{tree_in}
-use Rattle.rx_tree.specs.declared.ledger.Caller.{Caller}
-use Rattle.rx_tree.specs.Callers.{MayAsk, Travels, does_travel}
+use Rattle.rx_finish.specs.declared.ledger.Caller.{Caller}
+use Rattle.rx_finish.specs.Callers.{MayAsk, Travels, does_travel}
 use Rattle.rx_base.specs.declared.ids.PlaceId.{PlaceId}
-use Rattle.rx_tree.specs.Calls.{blow_of, landing}
+use Rattle.rx_finish.specs.Calls.{blow_of, landing}
 use Rattle.rx_machine.proofs.Asking.{seat_asks, seat_unstruck, not_lost}
 use Rattle.rx_machine.proofs.Landed.{landed}
 use Rattle.rx_machine.proofs.machine.Machine.arrive.Goals as goal

@@ -3,7 +3,7 @@ use Rattle.rx_rules.specs.declared.events.PlaceEvent.TheVariants.{Close}
 use Rattle.rx_rules.specs.Entries.{strike}
 use Rattle.rx_rules.specs.Picked.{tree_in}
 use Rattle.rx_store.specs.Kept.{last_stamp}
-use Rattle.rx_tree.specs.Callers.{MayStrike}
+use Rattle.rx_finish.specs.Callers.{MayStrike}
 use Rattle.rx_machine.proofs.Deaths.{may-strike, store-open, fallen}
 use Rattle.rx_machine.proofs.machine.Machine.die.Goals as goal
 

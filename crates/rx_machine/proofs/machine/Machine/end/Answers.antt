@@ -6,9 +6,9 @@ use Rattle.rx_rules.specs.declared.entries.Entry.TheVariants.{Step}
 use Rattle.rx_rules.specs.Terms.{does}
 use Rattle.rx_rules.specs.Entries.{MayEnd, made_act}
 use Rattle.rx_rules.specs.Picked.{tree_in}
-use Rattle.rx_tree.specs.declared.ledger.Caller.{Caller}
-use Rattle.rx_tree.specs.Callers.{MayAskEnd}
-use Rattle.rx_tree.specs.Calls.{blow_of}
+use Rattle.rx_finish.specs.declared.ledger.Caller.{Caller}
+use Rattle.rx_finish.specs.Callers.{MayAskEnd}
+use Rattle.rx_finish.specs.Calls.{blow_of}
 use Rattle.rx_control.specs.Next.{carried}
 use Rattle.rx_machine.proofs.Asking.{seat_unstruck}
 use Rattle.rx_machine.proofs.Ended.{end-asks, end-refused, ended}

@@ -1,8 +1,8 @@
 use Rattle.std.proofs.Common.{ap, ◌∙◌, sym, subst}
 use Rattle.rx_rules.specs.Picked.{tree_in}
-use Rattle.rx_tree.specs.declared.ledger.Caller.{Caller}
-use Rattle.rx_tree.specs.Callers.{MayAskRelease}
-use Rattle.rx_tree.specs.Calls.{is_ready}
+use Rattle.rx_finish.specs.declared.ledger.Caller.{Caller}
+use Rattle.rx_finish.specs.Callers.{MayAskRelease}
+use Rattle.rx_finish.specs.Calls.{is_ready}
 use Rattle.rx_machine.specs.Picking.{slot_able}
 use Rattle.rx_machine.proofs.Able.{seat_here, slot_here, waiter_asks, ready_enabled}
 use Rattle.rx_machine.proofs.machine.Machine.is_able.Goals as goal

@@ -1,7 +1,7 @@
 use Rattle.std.proofs.Common.{◌≡◌, refl, ap, subst}
 use Rattle.rx_rules.specs.Code.{Block}
 use Rattle.rx_check.proofs.OneTree.{one-tree}
-use Rattle.rx_trace.specs.Setups.{given}
+use Rattle.rx_history.specs.Setups.{given}
 use Rattle.rx_machine.specs.Holds.{RunsOn}
 use Rattle.rx_machine.proofs.Programs.{runs-on}
 use Rattle.rx_machine.proofs.Opens.{opens-so, opens-ready, opens-told}

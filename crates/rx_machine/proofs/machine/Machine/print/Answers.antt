@@ -7,9 +7,9 @@ use Rattle.rx_rules.specs.declared.entries.Entry.TheVariants.{Step}
 use Rattle.rx_rules.specs.Terms.{granted, begins}
 use Rattle.rx_rules.specs.Entries.{MayPrint}
 use Rattle.rx_rules.specs.Picked.{tree_in}
-use Rattle.rx_tree.specs.declared.ledger.Caller.{Caller}
-use Rattle.rx_tree.specs.Callers.{MayAsk, IsMoving}
-use Rattle.rx_tree.specs.Calls.{blow_of}
+use Rattle.rx_finish.specs.declared.ledger.Caller.{Caller}
+use Rattle.rx_finish.specs.Callers.{MayAsk, IsMoving}
+use Rattle.rx_finish.specs.Calls.{blow_of}
 use Rattle.rx_control.specs.Stands.{StandsFor}
 use Rattle.rx_machine.proofs.Asking.{seat_asks, seat_unstruck, moving}
 use Rattle.rx_machine.proofs.Printed.{print-begins, print-free, print-granted, printed}

@@ -7,9 +7,9 @@ use Rattle.rx_rules.specs.Terms.{granted}
 use Rattle.rx_rules.specs.Tree.{quiet}
 use Rattle.rx_rules.specs.Entries.{AllowedAct, made_act}
 use Rattle.rx_rules.specs.Picked.{tree_in}
-use Rattle.rx_tree.specs.declared.ledger.Caller.{Caller}
-use Rattle.rx_tree.specs.Callers.{MayAskRelease}
-use Rattle.rx_tree.specs.Calls.{blow_of}
+use Rattle.rx_finish.specs.declared.ledger.Caller.{Caller}
+use Rattle.rx_finish.specs.Callers.{MayAskRelease}
+use Rattle.rx_finish.specs.Calls.{blow_of}
 use Rattle.rx_control.specs.Stands.{StandsFor}
 use Rattle.rx_machine.proofs.Asking.{seat_unstruck}
 use Rattle.rx_machine.proofs.Released.{release-asks, release-quiet, release-refused, released}

@@ -6,10 +6,10 @@ use Rattle.rx_rules.specs.declared.entries.Act.TheVariants.{Spawn}
 use Rattle.rx_rules.specs.declared.entries.Entry.TheVariants.{Step}
 use Rattle.rx_rules.specs.Terms.{granted, begins}
 use Rattle.rx_rules.specs.Picked.{tree_in}
-use Rattle.rx_tree.specs.declared.ledger.Caller.{Caller}
-use Rattle.rx_tree.specs.declared.ledger.LedgerFault.{LedgerFault}
-use Rattle.rx_tree.specs.Callers.{MayAsk, MayAskTo, IsMoving}
-use Rattle.rx_tree.specs.Calls.{blow_of, SpawnReply}
+use Rattle.rx_finish.specs.declared.ledger.Caller.{Caller}
+use Rattle.rx_finish.specs.declared.ledger.LedgerFault.{LedgerFault}
+use Rattle.rx_finish.specs.Callers.{MayAsk, MayAskTo, IsMoving}
+use Rattle.rx_finish.specs.Calls.{blow_of, SpawnReply}
 use Rattle.rx_control.specs.Stands.{StandsFor}
 use Rattle.rx_machine.specs.declared.seat.Seat.{Seat}
 use Rattle.rx_machine.specs.Callers.{caller}

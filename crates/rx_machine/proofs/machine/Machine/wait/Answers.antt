@@ -6,9 +6,9 @@ use Rattle.rx_rules.specs.declared.entries.Entry.TheVariants.{Step}
 use Rattle.rx_rules.specs.Terms.{Term, Empty, does, granted, replaced}
 use Rattle.rx_rules.specs.Entries.{MayWait, made_act}
 use Rattle.rx_rules.specs.Picked.{tree_in}
-use Rattle.rx_tree.specs.declared.ledger.Caller.{Caller}
-use Rattle.rx_tree.specs.Callers.{MayAskWait}
-use Rattle.rx_tree.specs.Calls.{blow_of}
+use Rattle.rx_finish.specs.declared.ledger.Caller.{Caller}
+use Rattle.rx_finish.specs.Callers.{MayAskWait}
+use Rattle.rx_finish.specs.Calls.{blow_of}
 use Rattle.rx_control.specs.Stands.{StandsFor}
 use Rattle.rx_control.specs.Next.{carried}
 use Rattle.rx_machine.proofs.Asking.{seat_unstruck}

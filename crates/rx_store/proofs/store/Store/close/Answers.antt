@@ -1,7 +1,7 @@
 use Rattle.std.proofs.Common.{◌≡◌, true, false, List, [], length, sym, subst, ap, ◌∙◌}
 use Rattle.std.specs.Prelude.{Option}
 use Rattle.rx_rules.specs.Store.{IsStoreRun, opening_state}
-use Rattle.rx_trace.specs.Events.{Events}
+use Rattle.rx_history.specs.Events.{Events}
 use Rattle.rx_store.specs.declared.table.Held.{Held}
 use Rattle.rx_store.specs.Kept.{Kept, ends_closed}
 use Rattle.rx_store.specs.Table.{IsSteady}

@@ -5,12 +5,12 @@ use Rattle.std.proofs.Common.{ap, ◌∙◌, rules, sym, subst}
 use Rattle.rx_rules.specs.declared.tasks.Task.{Task}
 use Rattle.rx_rules.specs.Tree.{Tree, is_task}
 use Rattle.rx_rules.specs.Entries.{change_first}
-use Rattle.rx_tree.specs.Calls.{IsUnstruck}
+use Rattle.rx_finish.specs.Calls.{IsUnstruck}
 use Rattle.rx_tree.specs.Kept.{kept}
 use Rattle.rx_base.specs.declared.ids.PlaceId.{PlaceId}
 use Rattle.rx_rules.specs.declared.tasks.Where.TheVariants.{At}
-use Rattle.rx_tree.specs.Calls.{landing}
-use Rattle.rx_tree.proofs.Allowed.{arrive_allowed}
+use Rattle.rx_finish.specs.Calls.{landing}
+use Rattle.rx_finish.proofs.Allowed.{arrive_allowed}
 use Rattle.rx_tree.proofs.Replies.{at_kept, did, by_tasks}
 use Rattle.rx_tree.proofs.Falling.{in_order}
 use Rattle.rx_tree.specs.Positions.{TasksFallIn}

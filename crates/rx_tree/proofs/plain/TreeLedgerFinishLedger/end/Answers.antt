@@ -5,11 +5,12 @@ use Rattle.std.proofs.Common.{sym, ap, ◌∙◌, rules, subst}
 use Rattle.rx_rules.specs.declared.tasks.Scope.{Scope}
 use Rattle.rx_rules.specs.Tree.{Tree, is_scope}
 use Rattle.rx_rules.specs.Entries.{change_first}
-use Rattle.rx_tree.specs.Calls.{IsUnstruck}
+use Rattle.rx_finish.specs.Calls.{IsUnstruck}
 use Rattle.rx_tree.specs.Kept.{kept}
-use Rattle.rx_tree.specs.Callers.{IsBare}
-use Rattle.rx_tree.proofs.Allowed.{end_allowed}
-use Rattle.rx_tree.proofs.Replies.{at_kept, did, ended_is, by_rows}
+use Rattle.rx_finish.specs.Callers.{IsBare}
+use Rattle.rx_finish.proofs.Allowed.{end_allowed}
+use Rattle.rx_finish.proofs.Unstruck.{ended_is}
+use Rattle.rx_tree.proofs.Replies.{at_kept, did, by_rows}
 use Rattle.rx_tree.proofs.Falling.{in_order}
 use Rattle.rx_tree.specs.Positions.{ScopesFallIn}
 use Rattle.rx_tree.proofs.plain.TreeLedgerFinishLedger.end.Goals as goal

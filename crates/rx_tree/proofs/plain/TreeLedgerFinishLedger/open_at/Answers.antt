@@ -5,13 +5,14 @@ use Rattle.std.proofs.Common.{ap, ◌∙◌, rules, arith}
 use Rattle.rx_rules.specs.declared.tasks.Task.{Task}
 use Rattle.rx_rules.specs.Tree.{Tree, is_task}
 use Rattle.rx_rules.specs.Entries.{change_first}
-use Rattle.rx_tree.specs.Calls.{IsUnstruck}
+use Rattle.rx_finish.specs.Calls.{IsUnstruck}
 use Rattle.rx_tree.specs.Kept.{kept}
 use Rattle.rx_rules.specs.declared.tasks.Kind.TheVariants.{Call}
 use Rattle.rx_rules.specs.Entries.{home_for, place_number, born, opened, waiting}
-use Rattle.rx_tree.specs.Callers.{IsMoving}
-use Rattle.rx_tree.proofs.Allowed.{call_allowed}
-use Rattle.rx_tree.proofs.Replies.{at_kept, did, home_is, by_births}
+use Rattle.rx_finish.specs.Callers.{IsMoving}
+use Rattle.rx_finish.proofs.Allowed.{call_allowed}
+use Rattle.rx_finish.proofs.Unstruck.{home_is}
+use Rattle.rx_tree.proofs.Replies.{at_kept, did, by_births}
 use Rattle.rx_tree.proofs.Falling.{in_order, kept_sound, born_first}
 use Rattle.rx_tree.proofs.plain.TreeLedgerFinishLedger.open_at.Goals as goal
 

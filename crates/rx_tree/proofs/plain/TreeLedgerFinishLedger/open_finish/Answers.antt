@@ -2,11 +2,12 @@ use Rattle.std.specs.Prelude.{◌≡◌, refl}
 use Rattle.std.proofs.Common.{rules}
 use Rattle.rx_rules.specs.Tree.{Tree}
 use Rattle.rx_rules.specs.Entries.{home_for, place_number}
-use Rattle.rx_tree.specs.Callers.{IsMoving}
-use Rattle.rx_tree.specs.Calls.{IsUnstruck}
+use Rattle.rx_finish.specs.Callers.{IsMoving}
+use Rattle.rx_finish.specs.Calls.{IsUnstruck}
 use Rattle.rx_tree.specs.Kept.{kept}
-use Rattle.rx_tree.proofs.Allowed.{open_allowed}
-use Rattle.rx_tree.proofs.Replies.{at_kept, did, home_is}
+use Rattle.rx_finish.proofs.Allowed.{open_allowed}
+use Rattle.rx_finish.proofs.Unstruck.{home_is}
+use Rattle.rx_tree.proofs.Replies.{at_kept, did}
 use Rattle.rx_tree.proofs.Falling.{in_order}
 use Rattle.rx_tree.proofs.plain.TreeLedgerFinishLedger.open_finish.Goals as goal
 

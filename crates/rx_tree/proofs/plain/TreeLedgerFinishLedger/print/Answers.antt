@@ -1,6 +1,6 @@
 use Rattle.std.proofs.Common.{sym, ◌∙◌}
 use Rattle.rx_tree.specs.Kept.{kept}
-use Rattle.rx_tree.proofs.Allowed.{print_allowed}
+use Rattle.rx_finish.proofs.Allowed.{print_allowed}
 use Rattle.rx_tree.proofs.Replies.{at_kept}
 use Rattle.rx_tree.proofs.Falling.{in_order}
 use Rattle.rx_tree.proofs.plain.TreeLedgerFinishLedger.print.Goals as goal

@@ -4,7 +4,7 @@ use Rattle.std.proofs.lemmas.List.{with_items_is}
 use Rattle.std.proofs.Common.{ap, ◌∙◌, rules, sym, subst}
 use Rattle.rx_rules.specs.Tree.{Tree, is_task}
 use Rattle.rx_rules.specs.Entries.{change_first}
-use Rattle.rx_tree.specs.Calls.{IsUnstruck}
+use Rattle.rx_finish.specs.Calls.{IsUnstruck}
 use Rattle.rx_tree.specs.Kept.{kept}
 use Rattle.std.specs.Prelude.{Ok}
 use Rattle.rx_rules.specs.Entries.{resumed}

@@ -1,9 +1,9 @@
 use Rattle.std.specs.Prelude.{refl}
 use Rattle.std.proofs.Common.{rules, sym, subst}
 use Rattle.rx_rules.specs.Tree.{Tree}
-use Rattle.rx_tree.specs.Calls.{IsUnstruck}
+use Rattle.rx_finish.specs.Calls.{IsUnstruck}
 use Rattle.rx_tree.specs.Kept.{kept}
-use Rattle.rx_tree.proofs.Allowed.{spawn_allowed}
+use Rattle.rx_finish.proofs.Allowed.{spawn_allowed}
 use Rattle.rx_tree.proofs.Replies.{at_kept, did}
 use Rattle.rx_tree.proofs.Falling.{in_order}
 use Rattle.rx_tree.specs.Positions.{ScopesFallIn}

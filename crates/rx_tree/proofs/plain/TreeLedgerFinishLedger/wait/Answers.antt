@@ -5,10 +5,10 @@ use Rattle.std.proofs.Common.{ap, ◌∙◌, rules, sym, subst}
 use Rattle.rx_rules.specs.declared.tasks.Scope.{Scope}
 use Rattle.rx_rules.specs.Tree.{Tree, is_task, is_scope}
 use Rattle.rx_rules.specs.Entries.{change_first}
-use Rattle.rx_tree.specs.Calls.{IsUnstruck}
+use Rattle.rx_finish.specs.Calls.{IsUnstruck}
 use Rattle.rx_tree.specs.Kept.{kept}
 use Rattle.rx_rules.specs.Entries.{waiting}
-use Rattle.rx_tree.proofs.Allowed.{wait_allowed}
+use Rattle.rx_finish.proofs.Allowed.{wait_allowed}
 use Rattle.rx_tree.proofs.Replies.{at_kept, did, by_rows}
 use Rattle.rx_tree.proofs.Falling.{in_order}
 use Rattle.rx_tree.specs.Positions.{TasksFallIn, ScopesFallIn}

@@ -1,0 +1,4 @@
+pub mod Gone
+pub mod Allowed
+pub mod Unstruck
+pub mod Worked

@@ -1,0 +1,4 @@
+pub mod KillOrder
+pub mod Setups
+pub mod Logs
+pub mod Events

@@ -5,7 +5,7 @@ use Rattle.rx_script.specs.Shape.{Shape, StmtIs, BlockStands}
 use Rattle.rx_script.specs.declared.nodes.Stmt.{Stmt as Node}
 use Rattle.rx_script.specs.declared.nodes.Stmt.TheVariants.{Set as SetNode, New as NewNode, Get as GetNode, Put as PutNode, Forget as ForgetNode, Print as PrintNode, Throw as ThrowNode, Async as AsyncNode, AtAsync as AtAsyncNode, At as AtNode, Finish as FinishNode, If as IfNode, Repeat as RepeatNode, Try as TryNode}
 use Rattle.rx_check.specs.Rules.{inside, sights}
-use Rattle.rx_check.specs.Walk.{bodies_of, work_with}
+use Rattle.rx_check.specs.Inside.Walk.{bodies_of, work_with}
 use Rattle.rx_check.specs.declared.parts.Bodies.{Bodies}
 use Rattle.rx_check.specs.declared.parts.Bodies.TheVariants.{No as NoBody, One as OneBody, Two as TwoBodies}
 

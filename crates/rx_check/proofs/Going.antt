@@ -11,7 +11,7 @@ use Rattle.rx_script.specs.declared.nodes.BlockId.{BlockId}
 use Rattle.rx_script.specs.declared.nodes.NameId.{NameId}
 use Rattle.rx_script.specs.declared.nodes.Stmt.{Stmt as Node}
 use Rattle.rx_check.specs.Rules.{Kind, Sight, assigned, fails_depth, fails_known, has, inside, learned, sights}
-use Rattle.rx_check.specs.Walk.{Sofar, and_on, cap, is_in, is_one_more, mistakes_kind, known_with, noted, rule_with, run, seen_as, sofar_of, stepped, Extends, Knows}
+use Rattle.rx_check.specs.Inside.Walk.{Sofar, and_on, cap, is_in, is_one_more, mistakes_kind, known_with, noted, rule_with, run, seen_as, sofar_of, stepped, Extends, Knows}
 use Rattle.rx_check.specs.declared.names.Seen.{Seen}
 use Rattle.rx_check.specs.declared.walk.Walk.{Walk}
 use Rattle.rx_check.proofs.Statements.{least}

@@ -5,7 +5,7 @@ use Rattle.rx_rules.specs.Code.{Expr, Num, Name, Here, Bin}
 use Rattle.rx_script.specs.declared.nodes.Expr.{Expr as Part}
 use Rattle.rx_script.specs.Shape.{ExprStands}
 use Rattle.rx_check.specs.Rules.{pairs_in}
-use Rattle.rx_check.specs.Walk.{join, no_uses, uses_in, name_uses, pair_uses, Yields, weight, weights}
+use Rattle.rx_check.specs.Inside.Walk.{join, no_uses, uses_in, name_uses, pair_uses, Yields, weight, weights}
 use Rattle.rx_check.specs.declared.uses.Uses.{Uses}
 use Rattle.rx_check.specs.declared.uses.Part.{Part as Waiting}
 use Rattle.rx_check.specs.declared.walk.Walk.{Walk}

@@ -1,4 +1,4 @@
 pub mod Rules
 pub mod Checked
 pub mod Defined
-pub mod Walk
+pub mod Inside

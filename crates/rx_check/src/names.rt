@@ -1,6 +1,6 @@
 // Names and what they hold.
 ghost use Rattle.std.specs.Prelude.{◌≡◌, option_map};
-ghost use Rattle.rx_check.specs.Walk.{is_in, kind_as, kind_in, seen_all};
+ghost use Rattle.rx_check.specs.Inside.Walk.{is_in, kind_as, kind_in, seen_all};
 
 use rx_script::NameId;
 

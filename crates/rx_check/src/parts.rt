@@ -1,6 +1,6 @@
 // The parts of a statement that the rules speak of.
 ghost use Rattle.std.specs.Prelude.{◌≡◌, ◌≤◌, Some, None};
-ghost use Rattle.rx_check.specs.Walk.{bodies_of, cap, parts_of, work_with};
+ghost use Rattle.rx_check.specs.Inside.Walk.{bodies_of, cap, parts_of, work_with};
 
 use crate::names::{Kind, Seen};
 use rx_script::{BlockId, ExprId, NameId, Stmt};

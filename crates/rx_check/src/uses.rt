@@ -2,7 +2,7 @@
 ghost use Rattle.std.specs.Prelude.{◌≡◌, ◌<◌, List, [], ◌∷◌, ◌++◌, IfOk, IfErr, OnOk};
 ghost use Rattle.rx_rules.specs.Code.{Expr as TheExpr};
 ghost use Rattle.rx_script.specs.Shape.{ExprStands};
-ghost use Rattle.rx_check.specs.Walk.{join, no_uses, uses_in, uses_all, OptionStands, Yields, name_uses, pair_uses, weights};
+ghost use Rattle.rx_check.specs.Inside.Walk.{join, no_uses, uses_in, uses_all, OptionStands, Yields, name_uses, pair_uses, weights};
 ghost use Rattle.rx_check.specs.declared.uses.Uses.{Uses as TheUses};
 ghost use Rattle.rx_check.specs.declared.checker.CheckCause.TheVariants.{NoMemory};
 

@@ -9,8 +9,8 @@ use Rattle.rx_script.specs.declared.nodes.ExprId.{ExprId}
 use Rattle.rx_script.specs.declared.nodes.BlockId.{BlockId}
 use Rattle.rx_script.specs.declared.nodes.Stmt.TheVariants.{Finish as FinishNode, At as AtNode}
 use Rattle.rx_script.specs.Shape.{Shape, StmtIs, BlockStands}
-use Rattle.rx_control.specs.Levels.{Level, More, Again, Tried, Inside, Waiting, seq, wrap, term_of}
-use Rattle.rx_control.specs.Front.{opened}
+use Rattle.rx_control.specs.Inside.Levels.{Level, More, Again, Tried, Inside, Waiting, seq, wrap, term_of}
+use Rattle.rx_control.specs.Inside.Front.{opened}
 use Rattle.rx_control.proofs.Wrapping.{replaced-wrap, after-wrap, receives-wrap, granted-wrap}
 
 pub finish-is : (s : Shape) (body : BlockId) (t : Stmt) → StmtIs s (FinishNode body) t → (b : Block) × (t ≡ Finish b) × BlockStands s body b

@@ -7,14 +7,14 @@ use Rattle.rx_base.specs.declared.values.Fault.TheVariants.{Thrown, WrongPlace}
 use Rattle.rx_rules.specs.Code.{Block, Stmt, SetTo, New, Get, Put, Forget, Print, Throw, Async, AtAsync, At, Finish, If, Repeat, Try, Nothing, Then}
 use Rattle.rx_rules.specs.Terms.{Vars, Term, Empty, Run, Raise, Turns as TurnsTerm, Trying, Body as BodyTerm, Held as HeldTerm, Does, Local, Makes, Gets, Puts, Forgets, Opens, Calls, Spawns, Waits, Releases, Prints, Done, does, stmt_does, begins, granted, within, replaced, with_number, with_place, eval, target_of, ref_in, value_of, raise, at, bound, items, is_zero}
 use Rattle.rx_control.specs.Next.{carried}
-use Rattle.rx_control.specs.Levels.{Level, More, Again, Tried, Inside, Waiting, Settled, seq, term_of}
+use Rattle.rx_control.specs.Inside.Levels.{Level, More, Again, Tried, Inside, Waiting, Settled, seq, term_of}
 use Rattle.rx_script.specs.declared.nodes.BlockId.{BlockId}
 use Rattle.rx_script.specs.Shape.{Shape}
 use Rattle.rx_control.specs.declared.frame.Frame.{Frame}
 use Rattle.rx_control.specs.declared.frame.Frame.TheVariants.{Turns, Try as TryFrame, Body, Held}
 use Rattle.rx_control.specs.declared.control.Control.{Control}
 use Rattle.rx_control.specs.Stands.{path_of, StandsFor, FramesStand}
-use Rattle.rx_control.specs.Front.{lifted, AtStatement}
+use Rattle.rx_control.specs.Inside.Front.{lifted, AtStatement}
 use Rattle.rx_control.proofs.Standing.{at-top, at-end, at-turns, at-tried, at-inside, at-waiting}
 use Rattle.rx_control.proofs.Wrapping.{begins-wrap, replaced-wrap}
 use Rattle.rx_control.proofs.Front.{does-statement, does-turns, does-tried, does-inside, does-waiting, does-raised-tried, does-raised-inside}

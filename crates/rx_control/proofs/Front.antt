@@ -10,12 +10,12 @@ use Rattle.rx_script.specs.declared.nodes.StmtId.{StmtId}
 use Rattle.rx_script.specs.declared.nodes.BlockId.{BlockId}
 use Rattle.rx_script.specs.declared.nodes.Stmt.{Stmt as Node}
 use Rattle.rx_script.specs.Shape.{Shape, ListStands, StmtIs}
-use Rattle.rx_control.specs.Levels.{Level, More, Again, Tried, Inside, Waiting, Settled, seq, wrap, term_of}
+use Rattle.rx_control.specs.Inside.Levels.{Level, More, Again, Tried, Inside, Waiting, Settled, seq, wrap, term_of}
 use Rattle.rx_control.specs.declared.frame.Frame.{Frame}
 use Rattle.rx_control.specs.declared.frame.Frame.TheVariants.{Seq}
 use Rattle.rx_control.specs.Stands.{path_of, FramesStand}
 use Rattle.rx_control.specs.Next.{next_of}
-use Rattle.rx_control.specs.Front.{lifted, Awaits}
+use Rattle.rx_control.specs.Inside.Front.{lifted, Awaits}
 use Rattle.rx_control.proofs.Wrapping.{does-wrap}
 use Rattle.rx_control.proofs.Moves.{top-stands, path-snoc}
 

@@ -15,7 +15,7 @@ use Rattle.rx_control.specs.declared.plan.Plan.TheVariants.{Assign, Raise, Choos
 use Rattle.rx_control.specs.declared.step.Next.{Next}
 use Rattle.rx_control.specs.declared.step.Next.TheVariants.{Local as LocalStep}
 use Rattle.rx_control.specs.Next.{next_of}
-use Rattle.rx_control.specs.Plans.{Plans, IsPlan}
+use Rattle.rx_control.specs.Inside.Plans.{Plans, IsPlan}
 
 -- an expression has the value z
 abbrev pub HasValue : Shape → Vars → ℕ → ExprId → Option ℤ → Type 0

@@ -4,14 +4,14 @@ use Rattle.std.specs.Prelude.{slice_get, option_to_list, IfSome, nat_le}
 use Rattle.std.proofs.lemmas.Bool.Decides.{nat_tests}
 use Rattle.rx_base.specs.declared.values.Fault.{Fault}
 use Rattle.rx_rules.specs.Code.{Block, Nothing, Then}
-use Rattle.rx_control.specs.Levels.{Level, More, Again, Tried, Inside, Waiting, Settled, term_of}
+use Rattle.rx_control.specs.Inside.Levels.{Level, More, Again, Tried, Inside, Waiting, Settled, term_of}
 use Rattle.rx_script.specs.Shape.{Shape, ListStands}
 use Rattle.rx_script.specs.declared.nodes.StmtId.{StmtId}
 use Rattle.rx_script.specs.declared.nodes.BlockId.{BlockId}
 use Rattle.rx_control.specs.declared.frame.Frame.{Frame}
 use Rattle.rx_control.specs.declared.frame.Frame.TheVariants.{Seq}
 use Rattle.rx_control.specs.Stands.{FrameStands, FramesStand}
-use Rattle.rx_control.specs.Front.{IsOver, IsCatch, SettlesTo}
+use Rattle.rx_control.specs.Inside.Front.{IsOver, IsCatch, SettlesTo}
 use Rattle.rx_control.proofs.Moves.{top-stands, empty-stands}
 
 pub popped : {A : Type 0} (old new below : List A) (f : A) → new ≡ take (length old - 1) old → old ≡ below ++ f ∷ [] → new ≡ below

@@ -6,12 +6,12 @@ use Rattle.rx_rules.specs.Code.{Block}
 use Rattle.rx_rules.specs.Terms.{Term}
 use Rattle.rx_script.specs.declared.nodes.BlockId.{BlockId}
 use Rattle.rx_script.specs.Shape.{Shape}
-use Rattle.rx_control.specs.Levels.{Level, More, Again, Tried, Inside, Waiting, Settled, term_of}
+use Rattle.rx_control.specs.Inside.Levels.{Level, More, Again, Tried, Inside, Waiting, Settled, term_of}
 use Rattle.rx_control.specs.declared.frame.Frame.{Frame}
 use Rattle.rx_control.specs.declared.frame.Frame.TheVariants.{Seq, Turns, Try, Body, Held}
 use Rattle.rx_control.specs.declared.control.Control.{Control}
 use Rattle.rx_control.specs.Stands.{path_of, FrameStands, FramesStand, StandsFor, IsSame}
-use Rattle.rx_control.specs.Front.{AtStatement, SettlesTo}
+use Rattle.rx_control.specs.Inside.Front.{AtStatement, SettlesTo}
 use Rattle.rx_control.proofs.Moves.{top-stands, empty-stands}
 use Rattle.rx_control.proofs.Front.{statement}
 

@@ -4,12 +4,12 @@ use Rattle.rx_rules.specs.Code.{Block}
 use Rattle.rx_rules.specs.Terms.{Empty, items}
 use Rattle.rx_script.specs.declared.nodes.BlockId.{BlockId}
 use Rattle.rx_script.specs.Shape.{Shape, BlockStands}
-use Rattle.rx_control.specs.Levels.{More}
+use Rattle.rx_control.specs.Inside.Levels.{More}
 use Rattle.rx_control.specs.declared.frame.Frame.{Frame}
 use Rattle.rx_control.specs.declared.frame.Frame.TheVariants.{Seq}
 use Rattle.rx_control.specs.declared.control.Control.{Control}
 use Rattle.rx_control.specs.Stands.{path_of, FramesStand, StandsFor}
-use Rattle.rx_control.specs.Front.{SettlesTo}
+use Rattle.rx_control.specs.Inside.Front.{SettlesTo}
 use Rattle.rx_control.proofs.Standing.{settled-stands}
 
 pub front-path : (base : List ℕ) → path_of base [] ++ [] ≡ base

@@ -7,12 +7,12 @@ use Rattle.rx_rules.specs.Code.{Block, Then}
 use Rattle.rx_rules.specs.Terms.{Vars, Term, Does, Local, at}
 use Rattle.rx_script.specs.declared.nodes.BlockId.{BlockId}
 use Rattle.rx_script.specs.Shape.{Shape, BlockStands}
-use Rattle.rx_control.specs.Levels.{Level, More, Again, Tried, wrap, term_of}
+use Rattle.rx_control.specs.Inside.Levels.{Level, More, Again, Tried, wrap, term_of}
 use Rattle.rx_control.specs.declared.frame.Frame.{Frame}
 use Rattle.rx_control.specs.declared.frame.Frame.TheVariants.{Seq, Turns, Try, Body}
 use Rattle.rx_control.specs.declared.control.Control.{Control}
 use Rattle.rx_control.specs.Stands.{path_of, FramesStand, Leaves}
-use Rattle.rx_control.specs.Front.{lifted, SettlesTo, AtStatement}
+use Rattle.rx_control.specs.Inside.Front.{lifted, SettlesTo, AtStatement}
 use Rattle.rx_control.proofs.Moves.{path-snoc}
 use Rattle.rx_control.proofs.Front.{gone-on, begun-path}
 use Rattle.rx_control.proofs.Standing.{settled-stands}

@@ -9,8 +9,8 @@ ghost use Rattle.rx_control.specs.declared.frame.Frame.{Frame};
 ghost use Rattle.rx_control.specs.Stands.{StandsFor, path_of, Leaves, IsSame};
 ghost use Rattle.rx_control.specs.Bound.{steps, Falls};
 ghost use Rattle.rx_control.specs.Next.{next_of, carried};
-ghost use Rattle.rx_control.specs.Front.{lifted};
-ghost use Rattle.rx_control.specs.Plans.{Due, FaultsFit};
+ghost use Rattle.rx_control.specs.Inside.Front.{lifted};
+ghost use Rattle.rx_control.specs.Inside.Plans.{Due, FaultsFit};
 
 use crate::birth::{born, start};
 use crate::faults::{faults_of, is_caught, one_fault};

@@ -2,7 +2,7 @@
 ghost use Rattle.std.specs.Prelude.{◌≡◌, [], ◌∷◌, IfOk};
 ghost use Rattle.std.specs.List.{list_all};
 ghost use Rattle.rx_rules.specs.Terms.{catches, is_dead};
-ghost use Rattle.rx_control.specs.Plans.{FaultsFit};
+ghost use Rattle.rx_control.specs.Inside.Plans.{FaultsFit};
 
 use crate::plan::Plan;
 use rx_base::{Fault, Faults, NoMemory};

@@ -5,10 +5,10 @@ ghost use Rattle.rx_rules.specs.Terms.{Term, begins, stmt_receives, vars_after, 
 ghost use Rattle.rx_script.specs.Shape.{Shape, StmtIs};
 ghost use Rattle.rx_control.specs.declared.frame.Frame.{Frame};
 ghost use Rattle.rx_control.specs.declared.control.Control.{Control};
-ghost use Rattle.rx_control.specs.Levels.{Level};
+ghost use Rattle.rx_control.specs.Inside.Levels.{Level};
 ghost use Rattle.rx_control.specs.Stands.{StandsFor, FramesStand, path_of};
-ghost use Rattle.rx_control.specs.Front.{Awaits, SettlesTo, opened};
-ghost use Rattle.rx_control.specs.Plans.{name_in};
+ghost use Rattle.rx_control.specs.Inside.Front.{Awaits, SettlesTo, opened};
+ghost use Rattle.rx_control.specs.Inside.Plans.{name_in};
 
 use crate::Variables;
 use crate::frame::{Frame, settle};

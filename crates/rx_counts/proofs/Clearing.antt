@@ -6,7 +6,7 @@ use Rattle.std.proofs.lemmas.List.{get_or-replicate, length-replicate}
 use Rattle.std.proofs.Math.Bool.{and-false, and-true}
 use Rattle.rx_base.proofs.Bits.{no_bit}
 use Rattle.rx_counts.specs.declared.record.Sums.{Sums}
-use Rattle.rx_counts.specs.Dying.{hits_cell, hit_sum, hits, IsNothing}
+use Rattle.rx_counts.specs.Inside.Dying.{hits_cell, hit_sum, hits, IsNothing}
 
 pub sum_rises : (d : ℕ) (xs : List ℕ) (n m : ℕ) → n ≤ m → hit_sum d xs n ≤ hit_sum d xs m
 sum_rises d xs n zero le = let e : n ≡ 0 = omega arith in subst (λ (i : ℕ). hit_sum d xs i ≤ 0) (sym e) (omega arith)

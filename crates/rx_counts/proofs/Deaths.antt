@@ -25,7 +25,7 @@ use Rattle.rx_counts.specs.declared.ledger.CountLedger.{CountLedger}
 use Rattle.rx_counts.specs.Keeping.{stands_home}
 use Rattle.rx_rules.specs.Counts.{has_number}
 use Rattle.rx_counts.specs.Stands.{in_range, AllFit, StandsFor, Pairs, record_at}
-use Rattle.rx_counts.specs.Dying.{StrikesRecord, MayHit, Passing, until}
+use Rattle.rx_counts.specs.Inside.Dying.{StrikesRecord, MayHit, Passing, until}
 use Rattle.rx_counts.proofs.Striking.{all_strike, may_hit}
 use Rattle.rx_counts.proofs.Handing.{all_keeps}
 use Rattle.rx_counts.proofs.Telling.{within_range}

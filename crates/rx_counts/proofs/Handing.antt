@@ -21,7 +21,7 @@ use Rattle.rx_counts.specs.declared.record.Record.{Record}
 use Rattle.rx_counts.specs.Keeping.{keeper, is_number, kept_at, same_where, is_orphan, orphans_of}
 use Rattle.rx_rules.specs.Counts.{has_number}
 use Rattle.rx_counts.specs.Stands.{slot, ShapeOf, SumsOf, RecordOf, Both, AllFit, Pairs, ChangedBy, record_at, in_sums}
-use Rattle.rx_counts.specs.Dying.{Gains, IsNothing, Emptied, Gained}
+use Rattle.rx_counts.specs.Inside.Dying.{Gains, IsNothing, Emptied, Gained}
 use Rattle.rx_counts.proofs.Counting.{one, count_cons, count_same, count_none, any_counted}
 use Rattle.rx_counts.proofs.HandOver.{but, heir, keeper_but, never_but, moved, count_heir, count_other, count_left, keeper_same}
 use Rattle.rx_counts.proofs.Joining.{slot_below, both_more, number_is}

@@ -24,7 +24,7 @@ use Rattle.rx_counts.specs.declared.record.Record.{Record}
 use Rattle.rx_counts.specs.declared.ledger.CountLedger.{CountLedger}
 use Rattle.rx_counts.specs.Keeping.{stands_home, kept_at, same_where, count_of, total_of, orphans_of}
 use Rattle.rx_counts.specs.Stands.{slot, in_range, SumsOf, StandsFor, record_at, count_in}
-use Rattle.rx_counts.specs.Freeing.{IsLast, Hides, unslot}
+use Rattle.rx_counts.specs.Inside.Freeing.{IsLast, Hides, unslot}
 use Rattle.rx_counts.proofs.Counting.{one, count_cons, any_counted}
 use Rattle.rx_counts.proofs.Telling.{keeper_meets, same_self, slot_of_unslot, unslot_in, within_range, one_number}
 use Rattle.rx_counts.proofs.Lasting.{kept_here}

@@ -20,7 +20,7 @@ use Rattle.rx_sound.specs.Sound.{TaskFits, Sound}
 use Rattle.rx_sound.proofs.Changes.{each_found, each_more}
 use Rattle.rx_sound.proofs.Releasing.{on_meets, each_none}
 use Rattle.rx_sound.proofs.Lookups.{find_passes}
-use Rattle.rx_counts.specs.Freeing.{IsLast}
+use Rattle.rx_counts.specs.Inside.Freeing.{IsLast}
 use Rattle.rx_counts.specs.Keeping.{stands_home, keeper, is_number, total_of}
 use Rattle.rx_counts.proofs.Below.{Empty, under_none_at, all_kept_here}
 use Rattle.rx_counts.proofs.Telling.{homes_live, none_blow, last_number, one_number, same_opener, none_from, none_at, quiet_total}

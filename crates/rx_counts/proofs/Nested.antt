@@ -18,7 +18,7 @@ use Rattle.rx_finish.specs.declared.ledger.Outcome.{Outcome}
 use Rattle.rx_finish.specs.Callers.{MayAskTo, MayAskArrive, MayAskEnd, MayAskRelease, HasRoot, MayStrike, IsMoving, Travels, HasFinish, IsBare, WaitsInside}
 use Rattle.rx_finish.specs.Calls.{Did, CallReply, ArriveReply, ReleaseReply, landing}
 use Rattle.rx_finish.proofs.Worked.{asks, called_next, none_dead, spawned_next}
-use Rattle.rx_counts.specs.Nesting.{CanNest, HasThree, task, scope, place, caller, opens, starts, nested, landed, three_deep}
+use Rattle.rx_counts.specs.Inside.Nesting.{CanNest, HasThree, task, scope, place, caller, opens, starts, nested, landed, three_deep}
 
 pub opened_nest : (T : Tree) (n : ℕ) → CanNest T n → (s : ScopeId) (S : Tree → Type 0) → Did T (caller n n (At (place n))) (Open s (scope n) []) S → S (opens T n)
 opened_nest T n c s S d =

@@ -14,7 +14,7 @@ use Rattle.rx_finish.proofs.Allowed.{Free, release_allowed}
 use Rattle.rx_counts.specs.declared.ledger.CountLedger.{CountLedger}
 use Rattle.rx_counts.specs.Keeping.{stands_home}
 use Rattle.rx_counts.specs.Stands.{Fit, StandsFor}
-use Rattle.rx_counts.specs.Freeing.{FreeReply}
+use Rattle.rx_counts.specs.Inside.Freeing.{FreeReply}
 use Rattle.rx_counts.proofs.Asking.{unstruck_of}
 use Rattle.rx_counts.proofs.Joining.{all_waits}
 

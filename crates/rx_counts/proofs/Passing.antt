@@ -20,8 +20,8 @@ use Rattle.rx_counts.specs.declared.record.Record.{Record}
 use Rattle.rx_counts.specs.Keeping.{stands_home, keeper, is_number, kept_at, same_where, is_orphan}
 use Rattle.rx_rules.specs.Counts.{has_number}
 use Rattle.rx_counts.specs.Stands.{ShapeOf, SumsOf, RecordOf, AllFit, ChangedBy, IsShaped, record_at}
-use Rattle.rx_counts.specs.Freeing.{unslot}
-use Rattle.rx_counts.specs.Dying.{Emptied, Gained, MayGain, until, Passing, parent_there}
+use Rattle.rx_counts.specs.Inside.Freeing.{unslot}
+use Rattle.rx_counts.specs.Inside.Dying.{Emptied, Gained, MayGain, until, Passing, parent_there}
 use Rattle.rx_counts.proofs.HandOver.{but, heir, never_but, count_heir}
 use Rattle.rx_counts.proofs.Handing.{all_hand, all_keeps, orphans_heir}
 use Rattle.rx_counts.proofs.Walks.{keeper_step, keeper_low, keeper_stands, keeper_exists, OlderThan}

@@ -15,7 +15,7 @@ use Rattle.rx_counts.specs.declared.record.Record.{Record}
 use Rattle.rx_counts.specs.declared.ledger.CountLedger.{CountLedger}
 use Rattle.rx_counts.specs.Keeping.{stands_home, total_of}
 use Rattle.rx_counts.specs.Stands.{StandsFor, record_at}
-use Rattle.rx_counts.specs.Freeing.{IsLast}
+use Rattle.rx_counts.specs.Inside.Freeing.{IsLast}
 use Rattle.rx_counts.proofs.Lasting.{own_last, zero_is_quiet}
 use Rattle.rx_counts.proofs.Asking.{blow_is, unstruck, caller, Kept, kept_found}
 

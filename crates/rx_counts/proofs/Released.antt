@@ -17,7 +17,7 @@ use Rattle.rx_counts.specs.declared.record.Record.{Record}
 use Rattle.rx_counts.specs.Keeping.{stands_home, keeper, finishes, is_number, kept_at, same_where, is_orphan, held}
 use Rattle.rx_rules.specs.Counts.{has_number}
 use Rattle.rx_counts.specs.Stands.{RecordOf, Both, AllFit, record_at}
-use Rattle.rx_counts.specs.Freeing.{IsLast}
+use Rattle.rx_counts.specs.Inside.Freeing.{IsLast}
 use Rattle.rx_counts.proofs.Counting.{count_same, count_filter, any_counted, sum_same, sum_filter}
 use Rattle.rx_counts.proofs.Walks.{keeper_filter}
 use Rattle.rx_counts.proofs.Lasting.{kept_here}

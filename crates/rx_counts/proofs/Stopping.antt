@@ -21,7 +21,7 @@ use Rattle.rx_counts.specs.declared.record.Record.{Record}
 use Rattle.rx_counts.specs.declared.ledger.CountLedger.{CountLedger}
 use Rattle.rx_counts.specs.Keeping.{stands_home, keeper, is_number, is_orphan, orphans_of}
 use Rattle.rx_counts.specs.Stands.{ShapeOf, StandsFor, record_at}
-use Rattle.rx_counts.specs.Freeing.{IsLast, Takes, parent_gone}
+use Rattle.rx_counts.specs.Inside.Freeing.{IsLast, Takes, parent_gone}
 use Rattle.rx_counts.proofs.Counting.{one, count_cons, count_split, count_none, none_counted}
 use Rattle.rx_counts.proofs.Walks.{keeper_step}
 use Rattle.rx_counts.proofs.Shapes.{scope_is, both_none, shape_in}

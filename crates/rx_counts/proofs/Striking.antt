@@ -23,8 +23,8 @@ use Rattle.rx_counts.specs.declared.record.Record.{Record}
 use Rattle.rx_counts.specs.Keeping.{keeper, is_number, kept_at, same_where, count_of, total_of}
 use Rattle.rx_rules.specs.Counts.{has_number}
 use Rattle.rx_counts.specs.Stands.{slot, in_range, ShapeOf, SumsOf, RecordOf, Both, AllFit, Pairs, record_at, count_in, in_sums}
-use Rattle.rx_counts.specs.Dying.{hits_cell, hit_sum, hits, Strikes, StrikesRecord, MayHit}
-use Rattle.rx_counts.specs.Freeing.{unslot}
+use Rattle.rx_counts.specs.Inside.Dying.{hits_cell, hit_sum, hits, Strikes, StrikesRecord, MayHit}
+use Rattle.rx_counts.specs.Inside.Freeing.{unslot}
 use Rattle.rx_counts.proofs.Counting.{one, count_same, count_none, count_split, count_map, any_map, any_counted}
 use Rattle.rx_counts.proofs.Telling.{slot_of_unslot, unslot_in}
 use Rattle.rx_counts.proofs.Joining.{slot_below, slot_same, same_slot, both_pairs}

@@ -22,7 +22,7 @@ use Rattle.rx_counts.specs.declared.ledger.CountLedger.{CountLedger}
 use Rattle.rx_counts.specs.Keeping.{keeper, is_number}
 use Rattle.rx_rules.specs.Counts.{has_number}
 use Rattle.rx_counts.specs.Stands.{ShapeOf, Fit, StandsFor, IsShaped, record_at}
-use Rattle.rx_counts.specs.Freeing.{IsLast, parent_gone, OutcomeReply, FreeReply}
+use Rattle.rx_counts.specs.Inside.Freeing.{IsLast, parent_gone, OutcomeReply, FreeReply}
 use Rattle.rx_finish.specs.declared.ledger.LedgerFault.{LedgerFault}
 use Rattle.rx_finish.specs.declared.ledger.LedgerFault.TheVariants.{NotYet, Lost, NoMemory}
 use Rattle.rx_counts.proofs.Walks.{keeper_step, OlderThan}

@@ -16,7 +16,7 @@ use Rattle.rx_rules.specs.declared.tasks.Scope.{Scope}
 use Rattle.rx_rules.specs.Tree.{Tree, is_task, is_scope, wants, opened_by, is_under, quiet}
 use Rattle.rx_sound.specs.Blows.{death_blow, blow_at}
 use Rattle.rx_sound.specs.Chains.{meets, Falls}
-use Rattle.rx_counts.specs.Freeing.{unslot}
+use Rattle.rx_counts.specs.Inside.Freeing.{unslot}
 use Rattle.rx_counts.specs.Keeping.{stands_home, keeper, is_number, kept_at, same_where, total_of}
 use Rattle.rx_counts.specs.Stands.{slot, in_range}
 use Rattle.rx_sound.specs.Sound.{Each, TaskFits, Sound, Inside}

@@ -4,7 +4,7 @@ ghost use Rattle.rx_base.specs.Sets.{has_bit};
 ghost use Rattle.rx_rules.specs.Tree.{Tree};
 ghost use Rattle.rx_rules.specs.declared.tasks.Scope.{Scope};
 ghost use Rattle.rx_counts.specs.Stands.{record_at, Pairs, ChangedBy};
-ghost use Rattle.rx_counts.specs.Dying.{hits_cell, hits, Strikes, StrikesRecord, MayHit, Emptied, Gained, MayGain, CanGain, Gains, Passing, parent_there};
+ghost use Rattle.rx_counts.specs.Inside.Dying.{hits_cell, hits, Strikes, StrikesRecord, MayHit, Emptied, Gained, MayGain, CanGain, Gains, Passing, parent_there};
 
 use crate::record::{Record, Sums, nothing};
 use crate::table::keeper_of;

@@ -8,7 +8,7 @@ ghost use Rattle.rx_finish.specs.Callers.{MayAskTo};
 ghost use Rattle.rx_finish.specs.Calls.{SpawnReply};
 ghost use Rattle.rx_counts.specs.Stands.{StandsFor, HasScope};
 ghost use Rattle.rx_counts.specs.Meaning.{CountsStand};
-ghost use Rattle.rx_counts.specs.Freeing.{IsLast, OutcomeReply, FreeReply};
+ghost use Rattle.rx_counts.specs.Inside.Freeing.{IsLast, OutcomeReply, FreeReply};
 
 use crate::dying::{hand_over_all, strike_all};
 use crate::places::{blow_there, landing_of, lives, lost, place_of, slot_of, travel};

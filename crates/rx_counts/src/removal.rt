@@ -4,7 +4,7 @@ ghost use Rattle.rx_rules.specs.Tree.{Tree};
 ghost use Rattle.rx_finish.specs.Calls.{landing};
 ghost use Rattle.rx_sound.specs.Chains.{meets};
 ghost use Rattle.rx_counts.specs.Stands.{record_at};
-ghost use Rattle.rx_counts.specs.Freeing.{Hides, Takes, parent_gone, unslot};
+ghost use Rattle.rx_counts.specs.Inside.Freeing.{Hides, Takes, parent_gone, unslot};
 
 use crate::record::Record;
 use rx_base::{PlaceId, ScopeId};

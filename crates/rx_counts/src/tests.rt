@@ -3,7 +3,7 @@ ghost use Rattle.std.specs.Prelude.{◌<◌, ◌+◌, OnOk};
 ghost use Rattle.rx_rules.specs.Tree.{Tree};
 ghost use Rattle.rx_rules.specs.Fold.{opening};
 ghost use Rattle.rx_counts.specs.Stands.{StandsFor};
-ghost use Rattle.rx_counts.specs.Nesting.{CanNest, HasThree, nested, three_deep};
+ghost use Rattle.rx_counts.specs.Inside.Nesting.{CanNest, HasThree, nested, three_deep};
 
 use crate::CountLedger;
 use rx_base::{Faults, PlaceId, PlaceSet, ScopeId, TaskId};

@@ -5,7 +5,7 @@ use Rattle.std.proofs.lemmas.Bool.{cases_lt}
 use Rattle.std.proofs.lemmas.List.{take-append-drop, drop_more, set_split}
 use Rattle.rx_heap.specs.declared.block.Hole.{Hole}
 use Rattle.rx_heap.specs.Region.{InHole, LieApart}
-use Rattle.rx_heap.specs.HoleEdits.{Cuts}
+use Rattle.rx_heap.specs.Inside.HoleEdits.{Cuts}
 use Rattle.rx_heap.proofs.HoleLists.{past, InHole-append_cases, InHole-append_left, InHole-append_right, LieApart-append_left, LieApart-append_right, LieApart-append, LieApart-earlier, InHole-from, InHole-before_past}
 
 -- what is after the first word of a hole h, in place of h and what follows it

@@ -6,7 +6,7 @@ use Rattle.std.proofs.lemmas.List.{take-append-drop, drop_more, take_more, set_s
 use Rattle.std.proofs.lemmas.List.Edits.{length-insert}
 use Rattle.rx_heap.specs.declared.block.Hole.{Hole}
 use Rattle.rx_heap.specs.Region.{InHole, LieApart}
-use Rattle.rx_heap.specs.HoleEdits.{Joins}
+use Rattle.rx_heap.specs.Inside.HoleEdits.{Joins}
 use Rattle.rx_heap.proofs.HoleLists.{past, InHole-append_cases, InHole-append_left, InHole-append_right, LieApart-append_left, LieApart-append_right, LieApart-append, LieApart-earlier, length_holes}
 use Rattle.rx_heap.proofs.Cutting.{split_at}
 

@@ -4,7 +4,7 @@ use Rattle.std.specs.Prelude.{All, slice_index}
 use Rattle.std.proofs.lemmas.Bool.{cases_lt, cases_eq}
 use Rattle.rx_heap.specs.declared.block.Hole.{Hole}
 use Rattle.rx_heap.specs.Region.{Region, Extent, IsLive, InHole, LieApart, IsLaid, IsFree, IsLeastFree}
-use Rattle.rx_heap.specs.HoleEdits.{Cuts, Joins, HasRoom}
+use Rattle.rx_heap.specs.Inside.HoleEdits.{Cuts, Joins, HasRoom}
 use Rattle.rx_heap.proofs.HoleLists.{InHole-below, run_in_hole, run_not_short, run_begins}
 use Rattle.rx_heap.proofs.Cutting.{split_at}
 

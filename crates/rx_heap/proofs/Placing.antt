@@ -3,7 +3,7 @@ use Rattle.std.proofs.Common.{◌≡◌, ℕ, ◌+◌, ◌<◌, ◌≤◌, ◌�
 use Rattle.std.proofs.lemmas.Bool.{iff_false}
 use Rattle.std.specs.Prelude.{remove, insert, All}
 use Rattle.rx_heap.specs.declared.block.Hole.{Hole}
-use Rattle.rx_heap.specs.HoleEdits.{Joins, HasRoom}
+use Rattle.rx_heap.specs.Inside.HoleEdits.{Joins, HasRoom}
 use Rattle.rx_heap.proofs.Joining.{EndsBefore, BeginsAfter, LieApart-get_or, joins_alone, joins_next, joins_last, joins_between, length-joins}
 
 -- n words from s on come before hole i and after the holes before it

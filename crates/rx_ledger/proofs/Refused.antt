@@ -12,7 +12,7 @@ use Rattle.rx_ledger.specs.declared.asks.Reply.TheVariants.{NotYet, NoMemory}
 use Rattle.rx_ledger.specs.declared.books.Books.{Books}
 use Rattle.rx_ledger.specs.Answering.{MustWait}
 use Rattle.rx_ledger.specs.Keeping.{Keeps}
-use Rattle.rx_ledger.specs.Doing.{tree_in, Calm, Did}
+use Rattle.rx_ledger.specs.Inside.Doing.{tree_in, Calm, Did}
 
 -- a ledger that stands for the same tree
 pub with_ledger : {L : Type 0} (stands : L → Tree → Type 0) (b : Books L) (l : L) → Keeps stands b → stands l (tree_in b) → Keeps stands (record b { ledger = l })

@@ -2,10 +2,10 @@ pub mod Asking
 pub mod Told
 pub mod Answering
 pub mod Keeping
-pub mod Doing
 pub mod Kept
 pub mod Uncovering
 pub mod GoingOn
 pub mod Staying
 pub mod Owned
 pub mod Calling
+pub mod Inside

@@ -2,14 +2,14 @@
 ghost use Rattle.std.specs.Prelude.{◌≡◌, ◌<◌, Some};
 ghost use Rattle.rx_ticket.specs.declared.tickets.AnyTicket.TheVariants.{Moving, Running, Held, Host};
 ghost use Rattle.rx_ledger.specs.Asking.{MayApply, IsMoving, IsRunning, IsHeld, HasPath};
-ghost use Rattle.rx_ledger.specs.Doing.{tree_in, Calm, Did};
+ghost use Rattle.rx_ledger.specs.Inside.Doing.{tree_in, Calm, Did};
 
 use crate::asks::{Reply, Request};
 use crate::books::Books;
 use rx_base::Path;
-use rx_ticket::{AnyTicket, InTransit, Live, Ticket, Waiting};
-use rx_history::Ask;
 use rx_finish::FinishLedger;
+use rx_history::Ask;
+use rx_ticket::{AnyTicket, InTransit, Live, Ticket, Waiting};
 
 impl<L: FinishLedger> Books<L> {
     /// Answers a request.

@@ -1,9 +1,9 @@
 // What a keeper is asked, and what it answers.
 
 use rx_base::{Batch, Path, PlaceId, ScopeId};
-use rx_ticket::{AnyTicket, Live, Ticket, Waiting};
-use rx_history::Ask;
 use rx_finish::Outcome;
+use rx_history::Ask;
+use rx_ticket::{AnyTicket, Live, Ticket, Waiting};
 
 /// A request: who asks for what, the statements begun since the task's previous entry, and the path of the entry's own statement,
 /// where it has one.

@@ -3,15 +3,15 @@ ghost use Rattle.std.specs.Prelude.{◌≡◌, ◌<◌, Some, None};
 ghost use Rattle.rx_finish.specs.Callers.{MayAskMoving, MayAskArrive};
 ghost use Rattle.rx_ticket.specs.declared.tickets.AnyTicket.TheVariants.{Running, Moving};
 ghost use Rattle.rx_history.specs.declared.asks.Ask.TheVariants.{Arrive, Print};
-ghost use Rattle.rx_ledger.specs.Doing.{request_of, tree_in, Calm, Did};
+ghost use Rattle.rx_ledger.specs.Inside.Doing.{request_of, tree_in, Calm, Did};
 
 use crate::asks::Reply;
 use crate::books::Books;
 use crate::parts::target_of;
 use rx_base::{Batch, Path};
+use rx_finish::{FinishLedger, LedgerFault};
 use rx_rules::{Act, Entry};
 use rx_ticket::{InTransit, Live, Ticket};
-use rx_finish::{FinishLedger, LedgerFault};
 
 impl<L: FinishLedger> Books<L> {
     /// Makes a travelling task live. It takes no memory.

@@ -3,16 +3,16 @@ ghost use Rattle.std.specs.Prelude.{◌≡◌, ◌<◌, false, Some};
 ghost use Rattle.rx_finish.specs.Callers.{MayAskMoving, MayAskTo};
 ghost use Rattle.rx_ticket.specs.declared.tickets.AnyTicket.TheVariants.{Running};
 ghost use Rattle.rx_history.specs.declared.asks.Ask.TheVariants.{Open, At, Spawn};
-ghost use Rattle.rx_ledger.specs.Doing.{request_of, tree_in, Calm, Did};
+ghost use Rattle.rx_ledger.specs.Inside.Doing.{request_of, tree_in, Calm, Did};
 
 use crate::asks::{Reply, Request};
 use crate::books::{Books, Note};
 use crate::parts::{place_of, ticket_for};
 use rx_base::{Batch, Path, PlaceId};
+use rx_finish::{FinishLedger, LedgerFault};
+use rx_history::Ask;
 use rx_rules::{Act, Entry};
 use rx_ticket::{AnyTicket, Live, Ticket};
-use rx_history::Ask;
-use rx_finish::{FinishLedger, LedgerFault};
 
 impl<L: FinishLedger> Books<L> {
     /// Opens a finish.

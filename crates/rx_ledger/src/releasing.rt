@@ -3,16 +3,16 @@ ghost use Rattle.std.specs.Prelude.{◌≡◌, ◌<◌, Some, None};
 ghost use Rattle.rx_finish.specs.Callers.{MayAskRelease};
 ghost use Rattle.rx_ticket.specs.declared.tickets.AnyTicket.TheVariants.{Held, Host};
 ghost use Rattle.rx_history.specs.declared.asks.Ask.TheVariants.{Release, Root};
-ghost use Rattle.rx_ledger.specs.Doing.{request_of, tree_in, Calm, Did};
+ghost use Rattle.rx_ledger.specs.Inside.Doing.{request_of, tree_in, Calm, Did};
 
 use crate::asks::{Reply, Request};
 use crate::books::Books;
 use crate::parts::{copy_into, faults_of, parent_of};
 use rx_base::Batch;
+use rx_finish::{FinishLedger, LedgerFault};
+use rx_history::Ask;
 use rx_rules::{Act, Entry};
 use rx_ticket::{AnyTicket, Ticket, Waiting};
-use rx_history::Ask;
-use rx_finish::{FinishLedger, LedgerFault};
 
 impl<L: FinishLedger> Books<L> {
     /// Releases the scope at which the caller waits.

@@ -6,9 +6,9 @@ ghost use Rattle.rx_ledger.specs.Answering.{main_caller};
 
 use crate::{Keeper, Reply, Request};
 use rx_base::{Batch, NoMemory, Path, PlaceId, PlaceSet, TaskId};
-use rx_ticket::{AnyTicket, Live, Ticket};
-use rx_history::{Ask, KillList, Setup};
 use rx_counts::CountLedger;
+use rx_history::{Ask, KillList, Setup};
+use rx_ticket::{AnyTicket, Live, Ticket};
 use std::alloc::Global;
 use std::test::Fail;
 

@@ -3,16 +3,16 @@ ghost use Rattle.std.specs.Prelude.{◌≡◌, ◌<◌, Some, None};
 ghost use Rattle.rx_finish.specs.Callers.{MayAskWait, MayAskEnd};
 ghost use Rattle.rx_ticket.specs.declared.tickets.AnyTicket.TheVariants.{Running};
 ghost use Rattle.rx_history.specs.declared.asks.Ask.TheVariants.{Wait, End};
-ghost use Rattle.rx_ledger.specs.Doing.{request_of, tree_in, Calm, Did};
+ghost use Rattle.rx_ledger.specs.Inside.Doing.{request_of, tree_in, Calm, Did};
 
 use crate::asks::{Reply, Request};
 use crate::books::Books;
 use crate::parts::{raised, set_faults};
 use rx_base::{Batch, Faults};
+use rx_finish::{FinishLedger, LedgerFault};
+use rx_history::Ask;
 use rx_rules::{Act, Entry};
 use rx_ticket::{AnyTicket, Live, Ticket};
-use rx_history::Ask;
-use rx_finish::{FinishLedger, LedgerFault};
 
 impl<L: FinishLedger> Books<L> {
     /// Records the faults of the body of the caller's finish, and that the caller waits there.

@@ -19,7 +19,7 @@ use Rattle.rx_machine.specs.declared.machine.Machine.{Machine}
 use Rattle.rx_machine.specs.Holds.{Holds, Finished, Makes}
 use Rattle.rx_machine.specs.Runs.{WentOn, picks_in, Gives}
 use Rattle.rx_machine.proofs.Whole.{turn-uses}
-use Rattle.rx_live.specs.Picking.{another, number_from}
+use Rattle.rx_live.specs.Inside.Picking.{another, number_from}
 use Rattle.rx_live.specs.Rounds.{Begins, IsMade, PlaysOn, HasEnded, Keeps, IsOver}
 use Rattle.rx_live.specs.declared.round.Round.{Round}
 use Rattle.rx_live.specs.declared.live.Job.{Job}

@@ -6,7 +6,7 @@ use Rattle.rx_rules.specs.Code.{Stmt, Block, SetTo, New, Get, Put, Forget, Print
 use Rattle.rx_rules.specs.Order.{is_before, is_before_in, comes_before}
 use Rattle.rx_script.specs.Shape.{Shape, BlockStands}
 use Rattle.rx_order.specs.declared.parts.Part.{Part}
-use Rattle.rx_order.specs.Parts.{is_kept_along, part_in, is_ordered, IsPart}
+use Rattle.rx_order.specs.Inside.Parts.{is_kept_along, part_in, is_ordered, IsPart}
 use Rattle.rx_order.proofs.Positions.{drop-next}
 
 -- the statements at the positions that the paths tell

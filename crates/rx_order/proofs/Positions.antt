@@ -8,7 +8,7 @@ use Rattle.rx_script.specs.Shape.{Shape, StmtIs, ListStands, BlockStands}
 use Rattle.rx_script.specs.declared.nodes.StmtId.{StmtId}
 use Rattle.rx_script.specs.declared.nodes.BlockId.{BlockId}
 use Rattle.rx_script.specs.declared.nodes.Stmt.{Stmt as Node}
-use Rattle.rx_order.specs.Parts.{item_of}
+use Rattle.rx_order.specs.Inside.Parts.{item_of}
 
 some-is : {A : Type 0} (x y : A) → Some x ≡ Some y → x ≡ y
 some-is x y e = cc

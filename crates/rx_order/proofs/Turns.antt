@@ -7,7 +7,7 @@ use Rattle.rx_script.specs.declared.nodes.ExprId.{ExprId}
 use Rattle.rx_script.specs.declared.nodes.BlockId.{BlockId}
 use Rattle.rx_script.specs.declared.nodes.Stmt.TheVariants.{If as IfNode, Repeat as RepeatNode, Try as TryNode}
 use Rattle.rx_order.specs.declared.parts.Part.{Part}
-use Rattle.rx_order.specs.Parts.{turn_in, one_in, part_in, numbers_of, IsPart}
+use Rattle.rx_order.specs.Inside.Parts.{turn_in, one_in, part_in, numbers_of, IsPart}
 use Rattle.rx_order.proofs.Positions.{drop-next}
 
 -- a turn

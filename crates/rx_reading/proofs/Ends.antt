@@ -10,10 +10,10 @@ use Rattle.rx_history.specs.KillOrder.{ComesLast}
 use Rattle.rx_history.specs.Logs.{Log}
 use Rattle.rx_history.specs.Setups.{given}
 use Rattle.rx_trace.specs.Text.{trace_text}
-use Rattle.rx_reading.specs.FieldWords.{number_of, number_at}
-use Rattle.rx_reading.specs.Machine.{State, is_after, may_follow, read_line}
+use Rattle.rx_reading.specs.Inside.FieldWords.{number_of, number_at}
+use Rattle.rx_reading.specs.Inside.Machine.{State, is_after, may_follow, read_line}
 use Rattle.rx_reading.specs.Reading.{IsBadLine}
-use Rattle.rx_reading.specs.Stages.{state_of}
+use Rattle.rx_reading.specs.Inside.Stages.{state_of}
 use Rattle.rx_reading.specs.Words.{Lacks}
 use Rattle.rx_reading.specs.declared.stage.Stage.{Stage}
 use Rattle.rx_reading.specs.declared.stage.Stage.TheVariants as stages

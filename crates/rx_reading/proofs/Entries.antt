@@ -17,10 +17,10 @@ use Rattle.rx_trace.specs.Fields.{number_field, path_field, place_field, task_fi
 use Rattle.rx_trace.specs.Parts.{lost_part, thrown_part, batch_part}
 use Rattle.rx_reading.specs.Limits.{IsShort, FitsPath, FitsFault, FitsAct, FitsEntry}
 use Rattle.rx_reading.specs.Words.{fields}
-use Rattle.rx_reading.specs.Readers.{Reader, either}
-use Rattle.rx_reading.specs.FieldWords.{number_below, number_of, place_of, task_of, scope_of, path_of, fault_of, number_at, place_at, task_at, scope_at, path_at}
-use Rattle.rx_reading.specs.PartWords.{lost_at, thrown_at, batch_at}
-use Rattle.rx_reading.specs.EntryWords.{open_at, at_at, spawn_at, arrive_at, wait_at, release_at, end_at, print_at, step_at, root_at, death_at, entry_at}
+use Rattle.rx_reading.specs.Inside.Readers.{Reader, either}
+use Rattle.rx_reading.specs.Inside.FieldWords.{number_below, number_of, place_of, task_of, scope_of, path_of, fault_of, number_at, place_at, task_at, scope_at, path_at}
+use Rattle.rx_reading.specs.Inside.PartWords.{lost_at, thrown_at, batch_at}
+use Rattle.rx_reading.specs.Inside.EntryWords.{open_at, at_at, spawn_at, arrive_at, wait_at, release_at, end_at, print_at, step_at, root_at, death_at, entry_at}
 use Rattle.rx_reading.proofs.Cuts.{Plain, all-map}
 use Rattle.rx_reading.proofs.Faults.{plain-word-is, fault-item, fault-takes}
 use Rattle.rx_reading.proofs.Fields.{place-item, place-takes, task-item, task-takes, scope-item, scope-takes, path-item, path-takes, value-item, value-takes, one-word, word-again}

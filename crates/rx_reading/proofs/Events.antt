@@ -15,9 +15,9 @@ use Rattle.rx_trace.specs.EventLines.{call_text, answer_text, event_text}
 use Rattle.rx_trace.specs.Fields.{natural_field, number_field, path_field, task_field, block_field}
 use Rattle.rx_reading.specs.Limits.{IsShort, FitsPath, FitsBlock, FitsCell, FitsEvent}
 use Rattle.rx_reading.specs.Words.{fields}
-use Rattle.rx_reading.specs.Readers.{Reader, after, done, keyed}
-use Rattle.rx_reading.specs.FieldWords.{next, natural_of, task_of, natural_at, number_at, path_at, block_at}
-use Rattle.rx_reading.specs.EventWords.{made_at, make_at, got_at, get_at, written_at, put_at, forgotten_at, forget_at, cell_at, done_at, close_at, event_of, event_at}
+use Rattle.rx_reading.specs.Inside.Readers.{Reader, after, done, keyed}
+use Rattle.rx_reading.specs.Inside.FieldWords.{next, natural_of, task_of, natural_at, number_at, path_at, block_at}
+use Rattle.rx_reading.specs.Inside.EventWords.{made_at, make_at, got_at, get_at, written_at, put_at, forgotten_at, forget_at, cell_at, done_at, close_at, event_of, event_at}
 use Rattle.rx_reading.proofs.Cuts.{Plain, other-byte}
 use Rattle.rx_reading.proofs.Faults.{plain-word-is}
 use Rattle.rx_reading.proofs.Fields.{natural-item, natural-takes, task-item, task-takes, one-word, word-again}

@@ -14,8 +14,8 @@ use Rattle.rx_text.specs.Paths.{path_text, dotted}
 use Rattle.rx_trace.specs.Fields.{natural_field, number_field, path_field, place_field, task_field, scope_field, kill_field}
 use Rattle.rx_reading.specs.Limits.{IsShort, FitsPath}
 use Rattle.rx_reading.specs.Words.{Lacks, pieces, stripped}
-use Rattle.rx_reading.specs.Readers.{word}
-use Rattle.rx_reading.specs.FieldWords.{next, number_below, number_of, natural_of, place_of, task_of, scope_of, naturals_of, path_of, kill_parts, kill_of}
+use Rattle.rx_reading.specs.Inside.Readers.{word}
+use Rattle.rx_reading.specs.Inside.FieldWords.{next, number_below, number_of, natural_of, place_of, task_of, scope_of, naturals_of, path_of, kill_parts, kill_of}
 use Rattle.rx_reading.proofs.Cuts.{IsPlain, Plain, Together, marked, all-append, all-map, pieces-cut, pieces-one, pieces-marked, pieces-together, stripped-is, stripped-again}
 use Rattle.rx_reading.proofs.Figures.{IsFigure, below-takes, below-again, number-takes, number-again, number-plain, natural-plain, natural-figures}
 use Rattle.rx_reading.proofs.Spelt.{some-is, not-none, Takes, takes-word, Again, Any, again-word, again-as, Item}

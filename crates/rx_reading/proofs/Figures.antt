@@ -11,7 +11,7 @@ use Rattle.std.proofs.lemmas.Bool.Decides.{nat_tests}
 use Rattle.std.proofs.lemmas.Fmt.{decimal_is_IsNumeral}
 use Rattle.rx_text.specs.Numbers.{number_text, natural_text}
 use Rattle.rx_text.proofs.Digits.{all-digits, digit-first, some-decimal}
-use Rattle.rx_reading.specs.FieldWords.{next, number_below, negative, number_of}
+use Rattle.rx_reading.specs.Inside.FieldWords.{next, number_below, negative, number_of}
 use Rattle.rx_reading.proofs.Cuts.{IsPlain, Plain, all-map, other-byte, same-bytes, bytes-same}
 use Rattle.rx_reading.proofs.Spelt.{some-is, not-none}
 

@@ -3,7 +3,7 @@ use Rattle.std.proofs.Common.{◌≡◌, ℕ, ◌<◌, ◌≤◌, true, false, c
 use Rattle.std.specs.Prelude.{Option, Some, None, option_map}
 use Rattle.std.proofs.lemmas.Bool.Decides.{nat_tests}
 use Rattle.rx_reading.specs.Words.{Lacks, pieces}
-use Rattle.rx_reading.specs.FieldWords.{next, natural_of, naturals_of, path_of}
+use Rattle.rx_reading.specs.Inside.FieldWords.{next, natural_of, naturals_of, path_of}
 use Rattle.rx_reading.proofs.Cuts.{pieces-cut, pieces-one}
 
 abbrev consed : ℕ → List ℕ → List ℕ

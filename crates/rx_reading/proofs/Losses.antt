@@ -18,9 +18,9 @@ use Rattle.rx_trace.specs.Parts.{lost_part}
 use Rattle.rx_trace.proofs.Lines.{part-some}
 use Rattle.rx_trace.proofs.Places.{some-member}
 use Rattle.rx_reading.specs.Words.{fields}
-use Rattle.rx_reading.specs.FieldWords.{place_of}
-use Rattle.rx_reading.specs.Readers.{done}
-use Rattle.rx_reading.specs.PartWords.{set_of, joined, places_at, some_place, lost_at}
+use Rattle.rx_reading.specs.Inside.FieldWords.{place_of}
+use Rattle.rx_reading.specs.Inside.Readers.{done}
+use Rattle.rx_reading.specs.Inside.PartWords.{set_of, joined, places_at, some_place, lost_at}
 use Rattle.rx_reading.proofs.Cuts.{Plain, bytes-same}
 use Rattle.rx_reading.proofs.Faults.{plain-word-is}
 use Rattle.rx_reading.proofs.Fields.{place-takes, place-again}

@@ -16,7 +16,7 @@ use Rattle.rx_trace.specs.EventLines.{event_text}
 use Rattle.rx_trace.specs.Fields.{kill_field}
 use Rattle.rx_trace.specs.Text.{trace_text}
 use Rattle.rx_reading.specs.Limits.{FitsEntry, FitsEvent, FitJournals, FitsSetup, IsWithin}
-use Rattle.rx_reading.specs.Machine.{State, Untitled, Titled, Sized, Planned, Entering, Logging, Over, begins_journal, entry_of, event_of, state_with_sizes, read_line}
+use Rattle.rx_reading.specs.Inside.Machine.{State, Untitled, Titled, Sized, Planned, Entering, Logging, Over, begins_journal, entry_of, event_of, state_with_sizes, read_line}
 use Rattle.rx_reading.specs.Reading.{IsText, BeginsText, IsLine, AreLines, IsBadLine, TextsTellThePair, TextsHaveNoBadLine}
 use Rattle.rx_reading.specs.Words.{Lacks}
 use Rattle.rx_reading.proofs.Cuts.{IsPlain, same-bytes, bytes-same, all-append, all-map}

@@ -10,9 +10,9 @@ use Rattle.rx_rules.specs.Run.{ComesAfter, Spares, Ascends, AreKills}
 use Rattle.rx_text.specs.Numbers.{natural_text}
 use Rattle.rx_trace.specs.Fields.{natural_field, kill_field}
 use Rattle.rx_reading.specs.Words.{Lacks, pieces, fields}
-use Rattle.rx_reading.specs.Readers.{word, all_read}
-use Rattle.rx_reading.specs.FieldWords.{next, number_below, kill_of}
-use Rattle.rx_reading.specs.Machine.{count_of, sizes_at, is_after, may_follow, planned, kills_of, kills_line_of}
+use Rattle.rx_reading.specs.Inside.Readers.{word, all_read}
+use Rattle.rx_reading.specs.Inside.FieldWords.{next, number_below, kill_of}
+use Rattle.rx_reading.specs.Inside.Machine.{count_of, sizes_at, is_after, may_follow, planned, kills_of, kills_line_of}
 use Rattle.rx_reading.proofs.Cuts.{Plain, other-byte, bytes-same}
 use Rattle.rx_reading.proofs.Faults.{plain-word-is}
 use Rattle.rx_reading.proofs.Fields.{next-is, kill-takes, kill-item, one-word, word-again}

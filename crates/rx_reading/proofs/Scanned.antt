@@ -6,7 +6,7 @@ use mir.Val.{to_z, of_z}
 use Rattle.std.proofs.lemmas.Int.{to_z-of_z}
 use Rattle.std.proofs.lemmas.List.{drop_all}
 use Rattle.rx_text.specs.Numbers.{number_text, natural_text, NoDigitFirst, StandsAt}
-use Rattle.rx_reading.specs.FieldWords.{next, number_of, natural_of, number_below, short_of}
+use Rattle.rx_reading.specs.Inside.FieldWords.{next, number_of, natural_of, number_below, short_of}
 use Rattle.rx_reading.proofs.Figures.{below-takes, below-again, number-takes, number-again, lt-true, not-lt, true-lt}
 use Rattle.rx_reading.proofs.Spelt.{some-is, not-none}
 

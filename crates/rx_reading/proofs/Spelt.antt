@@ -5,7 +5,7 @@ use Rattle.std.specs.List.{AllByRecursion, flat_map}
 use Rattle.std.specs.Str.{bytes_eq}
 use Rattle.rx_trace.specs.Parts.{part_text}
 use Rattle.rx_reading.specs.Words.{fields}
-use Rattle.rx_reading.specs.Readers.{Reader, after, followed, done, word, keyed, either, gathered, many, one_or_more, part, all_read}
+use Rattle.rx_reading.specs.Inside.Readers.{Reader, after, followed, done, word, keyed, either, gathered, many, one_or_more, part, all_read}
 use Rattle.rx_reading.proofs.Cuts.{Plain, all-append, same-bytes, bytes-same}
 
 pub some-is : {A : Type 0} (x y : A) → Some x ≡ Some y → x ≡ y

@@ -14,9 +14,9 @@ use Rattle.rx_trace.specs.EventLines.{event_text, event_line, event_lines, journ
 use Rattle.rx_trace.specs.Fields.{kill_field}
 use Rattle.rx_trace.specs.Text.{setup_lines, trace_text}
 use Rattle.rx_reading.specs.Limits.{FitsEntry, FitsEvent, FitJournals, FitsSetup, IsWithin}
-use Rattle.rx_reading.specs.Readers.{all_read}
+use Rattle.rx_reading.specs.Inside.Readers.{all_read}
 use Rattle.rx_reading.specs.Words.{pieces}
-use Rattle.rx_reading.specs.Machine.{State, Untitled, Titled, Sized, Planned, Entering, Logging, Over, sizes_at, kills_line_of, entry_of, event_of, begins_journal, state_with_sizes, read_line}
+use Rattle.rx_reading.specs.Inside.Machine.{State, Untitled, Titled, Sized, Planned, Entering, Logging, Over, sizes_at, kills_line_of, entry_of, event_of, begins_journal, state_with_sizes, read_line}
 use Rattle.rx_reading.proofs.Cuts.{bytes-same, all-append}
 use Rattle.rx_reading.proofs.Fields.{map-is}
 use Rattle.rx_reading.proofs.Figures.{lt-true}

@@ -6,7 +6,7 @@ use Rattle.rx_base.specs.declared.ids.PlaceId.{PlaceId}
 use Rattle.rx_base.specs.declared.ids.Kill.{Kill}
 use Rattle.rx_text.specs.Numbers.{natural_text}
 use Rattle.rx_reading.specs.Words.{Lacks, pieces, stripped}
-use Rattle.rx_reading.specs.FieldWords.{next, number_below, place_of, kill_parts, kill_of}
+use Rattle.rx_reading.specs.Inside.FieldWords.{next, number_below, place_of, kill_parts, kill_of}
 use Rattle.rx_reading.proofs.Cuts.{Together, pieces-cut, pieces-one, pieces-together, all-map}
 use Rattle.rx_reading.proofs.Figures.{below-takes, IsFigure, natural-figures}
 

@@ -9,10 +9,10 @@ use Rattle.rx_base.specs.Sets.{all_places, has_bit, members}
 use Rattle.rx_base.proofs.Members.{same-sets}
 use Rattle.std.proofs.Math.Nat.{lt-div-mul-add}
 use Rattle.std.proofs.lemmas.Nat.{pow_pos}
-use Rattle.rx_reading.specs.FieldWords.{place_of}
-use Rattle.rx_reading.specs.Readers.{Reader, gathered, many, one_or_more, part}
+use Rattle.rx_reading.specs.Inside.FieldWords.{place_of}
+use Rattle.rx_reading.specs.Inside.Readers.{Reader, gathered, many, one_or_more, part}
 use Rattle.rx_reading.specs.Words.{first_word, next_of}
-use Rattle.rx_reading.specs.PartWords.{set_of, joined, places_at, key_of, left_of, item_of}
+use Rattle.rx_reading.specs.Inside.PartWords.{set_of, joined, places_at, key_of, left_of, item_of}
 use Rattle.rx_reading.proofs.Cuts.{bytes-same}
 use Rattle.rx_reading.proofs.Fields.{place-takes}
 use Rattle.rx_reading.proofs.Figures.{true-lt}

@@ -12,10 +12,10 @@ use Rattle.rx_trace.specs.EntryLines.{entry_text}
 use Rattle.rx_trace.specs.EventLines.{event_text}
 use Rattle.rx_reading.specs.Limits.{FitsEntry, FitsEvent}
 use Rattle.rx_reading.specs.Words.{Lacks, pieces, fields}
-use Rattle.rx_reading.specs.Readers.{Reader, keyed, all_read}
-use Rattle.rx_reading.specs.EntryWords.{entry_at}
-use Rattle.rx_reading.specs.EventWords.{event_at}
-use Rattle.rx_reading.specs.Machine.{entry_of, event_of}
+use Rattle.rx_reading.specs.Inside.Readers.{Reader, keyed, all_read}
+use Rattle.rx_reading.specs.Inside.EntryWords.{entry_at}
+use Rattle.rx_reading.specs.Inside.EventWords.{event_at}
+use Rattle.rx_reading.specs.Inside.Machine.{entry_of, event_of}
 use Rattle.rx_text.proofs.Digits.{digits-all}
 use Rattle.rx_reading.proofs.Cuts.{IsPlain, Plain, all-append, all-map, marked-together, pieces-marked, pieces-together}
 use Rattle.rx_reading.proofs.Entries.{IsEnd, entry-takes, entry-again}

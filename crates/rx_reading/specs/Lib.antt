@@ -1,11 +1,5 @@
 pub mod Limits
 pub mod Reading
 pub mod Words
-pub mod Readers
-pub mod FieldWords
-pub mod PartWords
-pub mod EntryWords
-pub mod EventWords
-pub mod Machine
-pub mod Stages
 pub mod Faults
+pub mod Inside

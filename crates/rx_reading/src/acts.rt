@@ -1,7 +1,7 @@
 // What an entry of a task tells of it, after the task.
 ghost use Rattle.std.specs.Prelude.{◌≡◌, ◌≤◌, codes, IfOk};
 ghost use Rattle.rx_reading.specs.Words.{answered};
-ghost use Rattle.rx_reading.specs.EntryWords.{open_at, at_at, spawn_at, arrive_at, wait_at, release_at, end_at, print_at, act_at};
+ghost use Rattle.rx_reading.specs.Inside.EntryWords.{open_at, at_at, spawn_at, arrive_at, wait_at, release_at, end_at, print_at, act_at};
 
 use crate::parts::{
     keyword, lost_part, number_field, path_field, place_field, scope_field, task_field, thrown_part,

@@ -1,7 +1,7 @@
 // The words of an entry.
 ghost use Rattle.std.specs.Prelude.{◌≡◌, ◌≤◌, codes, IfOk};
 ghost use Rattle.rx_reading.specs.Words.{answered};
-ghost use Rattle.rx_reading.specs.EntryWords.{act_at, step_at, release_or_root_at, root_at, death_at, entry_at};
+ghost use Rattle.rx_reading.specs.Inside.EntryWords.{act_at, step_at, release_or_root_at, root_at, death_at, entry_at};
 
 use crate::acts::{Kind, act};
 use crate::parts::{batch_part, keyword, lost_part, place_field, task_field, thrown_part};

@@ -2,7 +2,7 @@
 ghost use Rattle.std.specs.Prelude.{◌≡◌, ◌≤◌, ◌^◌, IfSome};
 ghost use Rattle.std.specs.Str.{bytes_eq};
 ghost use Rattle.rx_text.specs.Numbers.{natural_text};
-ghost use Rattle.rx_reading.specs.FieldWords.{number_of, natural_of, number_below, short_of};
+ghost use Rattle.rx_reading.specs.Inside.FieldWords.{number_of, natural_of, number_below, short_of};
 
 use itoa::Buffer;
 use rx_text::scan_num;

@@ -2,8 +2,8 @@
 ghost use Rattle.std.specs.Prelude.{◌≡◌, ◌<◌, ◌==◌, ◌&&◌, not, IfOk};
 ghost use Rattle.rx_history.specs.KillOrder.{ComesLast};
 ghost use Rattle.rx_reading.specs.Words.{answered, pieces};
-ghost use Rattle.rx_reading.specs.Readers.{word, all_read};
-ghost use Rattle.rx_reading.specs.Machine.{count_of, sizes_at, is_after, may_follow, kills_line_of};
+ghost use Rattle.rx_reading.specs.Inside.Readers.{word, all_read};
+ghost use Rattle.rx_reading.specs.Inside.Machine.{count_of, sizes_at, is_after, may_follow, kills_line_of};
 
 use crate::items::kill;
 use crate::numbers::below;

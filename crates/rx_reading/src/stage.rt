@@ -4,8 +4,8 @@ ghost use Rattle.std.specs.Str.{bytes_eq};
 ghost use Rattle.rx_reading.specs.Words.{answered, pieces};
 ghost use Rattle.rx_history.specs.Events.{events_of};
 ghost use Rattle.rx_history.specs.Setups.{given};
-ghost use Rattle.rx_reading.specs.Machine.{Untitled, Titled, Sized, Planned, Entering, Logging, Over, begins_journal, entry_of, event_of, read_line};
-ghost use Rattle.rx_reading.specs.Stages.{state_of, IsReady};
+ghost use Rattle.rx_reading.specs.Inside.Machine.{Untitled, Titled, Sized, Planned, Entering, Logging, Over, begins_journal, entry_of, event_of, read_line};
+ghost use Rattle.rx_reading.specs.Inside.Stages.{state_of, IsReady};
 
 use crate::entry_reader::entry;
 use crate::event_reader::event;

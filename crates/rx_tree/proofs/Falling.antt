@@ -14,7 +14,7 @@ use Rattle.rx_rules.specs.Tree.{Tree, is_under, is_scope, wants, is_finish, the_
 use Rattle.rx_sound.specs.Chains.{Falls}
 use Rattle.rx_sound.specs.Sound.{TasksFall, Sound, ReachedSound}
 use Rattle.rx_sound.proofs.Stay.{fall_filter}
-use Rattle.rx_tree.specs.Positions.{IsFirst, PassesNone, FallsIn, TasksFallIn, ScopesFallIn, InOrder, BeginsAt}
+use Rattle.rx_tree.specs.Inside.Positions.{IsFirst, PassesNone, FallsIn, TasksFallIn, ScopesFallIn, InOrder, BeginsAt}
 
 -- the elements above t stand in front
 pub parted : {X : Type 0} (f : X → ℕ) (t : ℕ) (xs : List X) → FallsIn f xs → IsPartitionedBy (λ x. ltb t (f x)) xs

@@ -6,7 +6,7 @@ use Rattle.std.proofs.lemmas.Bool.{eqb-true}
 use Rattle.rx_base.specs.declared.ids.ScopeId.{ScopeId}
 use Rattle.rx_rules.specs.declared.tasks.Scope.{Scope}
 use Rattle.rx_rules.specs.Tree.{is_scope, chain_in}
-use Rattle.rx_tree.specs.Removal.{holds_scope}
+use Rattle.rx_tree.specs.Inside.Removal.{holds_scope}
 
 same_scope : (a b : ScopeId) → (a.0 == b.0) ≡ true → a ≡ b
 same_scope a b h = ap (λ (n : ℕ). record { 0 = n }) (eqb-true a.0 b.0 h)

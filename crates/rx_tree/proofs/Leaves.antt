@@ -13,8 +13,8 @@ use Rattle.rx_rules.specs.declared.tasks.Task.{Task}
 use Rattle.rx_rules.specs.declared.tasks.Scope.{Scope}
 use Rattle.rx_rules.specs.Tree.{Tree, is_scope, is_under, on_chain, chain_in}
 use Rattle.rx_rules.specs.Entries.{Names, without, thrown_of, was_lost_at, change_first}
-use Rattle.rx_tree.specs.Positions.{IsFirst}
-use Rattle.rx_tree.specs.Removal.{holds_scope}
+use Rattle.rx_tree.specs.Inside.Positions.{IsFirst}
+use Rattle.rx_tree.specs.Inside.Removal.{holds_scope}
 use Rattle.rx_tree.proofs.Firsts.{at_first}
 
 -- a walk that found nothing

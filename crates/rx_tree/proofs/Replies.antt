@@ -16,7 +16,7 @@ use Rattle.rx_finish.specs.declared.ledger.LedgerFault.{LedgerFault}
 use Rattle.rx_finish.specs.declared.ledger.LedgerFault.TheVariants.{NotYet, Lost, NoMemory}
 use Rattle.rx_finish.specs.Callers.{MayAsk, MayAskRelease, HasRoot, MayStrike}
 use Rattle.rx_finish.specs.Calls.{Did, IsUnstruck, RootReply}
-use Rattle.rx_tree.specs.Removal.{LeaveReply}
+use Rattle.rx_tree.specs.Inside.Removal.{LeaveReply}
 use Rattle.rx_finish.proofs.Allowed.{Free, free, release_allowed}
 
 pub at_kept : (K : Tree) (M P : Tree → Type 0) → (Reached K → M K → P K) → (T : Tree) → (K ≡ T) × Reached T → M T → P T

@@ -1,5 +1,4 @@
 pub mod Kept
-pub mod Positions
-pub mod Removal
+pub mod Inside
 pub use Rattle.rx_rules.specs.Tree
 pub use Rattle.rx_rules.specs.Entries

@@ -3,7 +3,7 @@ ghost use Rattle.std.specs.Prelude.{◌≡◌, ◌∷◌, ◌++◌, OnOk, IfErr,
 ghost use Rattle.rx_rules.specs.Tree.{is_task, is_scope};
 ghost use Rattle.rx_rules.specs.Entries.{place_number, change_first, hit, is_hit};
 ghost use Rattle.rx_finish.specs.Calls.{landing};
-ghost use Rattle.rx_tree.specs.Positions.{TasksFallIn, ScopesFallIn};
+ghost use Rattle.rx_tree.specs.Inside.Positions.{TasksFallIn, ScopesFallIn};
 
 use crate::LedgerFault;
 use crate::lookups::{row_of, scope_row};

@@ -2,7 +2,7 @@
 ghost use Rattle.std.specs.Prelude.{◌≡◌, find, slice_index_or, drop, [], None, Some, IfSome, IfNone};
 ghost use Rattle.std.specs.List.{list_any};
 ghost use Rattle.rx_rules.specs.Tree.{is_task, is_scope, is_finish, governing_in, chain_in};
-ghost use Rattle.rx_tree.specs.Positions.{IsFirst, PassesNone, TasksFallIn, ScopesFallIn, BeginsAt};
+ghost use Rattle.rx_tree.specs.Inside.Positions.{IsFirst, PassesNone, TasksFallIn, ScopesFallIn, BeginsAt};
 
 use rx_base::{PlaceId, ScopeId, TaskId};
 use rx_rules::{Kind, Scope, Task};

@@ -6,8 +6,8 @@ ghost use Rattle.rx_rules.specs.Fold.{opening};
 ghost use Rattle.rx_rules.specs.Reached.{Reached};
 ghost use Rattle.rx_finish.specs.Calls.{blow_of, landing};
 ghost use Rattle.rx_tree.specs.Kept.{kept};
-ghost use Rattle.rx_tree.specs.Positions.{InOrder};
-ghost use Rattle.rx_tree.specs.Removal.{LeaveReply};
+ghost use Rattle.rx_tree.specs.Inside.Positions.{InOrder};
+ghost use Rattle.rx_tree.specs.Inside.Removal.{LeaveReply};
 
 use crate::changes::{
     blow_at, insert_both, insert_scope, insert_task, land, landing_of, lost_by, note_body,

@@ -4,8 +4,8 @@ ghost use Rattle.std.specs.List.{list_any};
 ghost use Rattle.rx_base.specs.Sets.{members, all_places, has_bit};
 ghost use Rattle.rx_rules.specs.Tree.{is_scope, chain_in};
 ghost use Rattle.rx_rules.specs.Entries.{was_lost_at};
-ghost use Rattle.rx_tree.specs.Positions.{ScopesFallIn};
-ghost use Rattle.rx_tree.specs.Removal.{holds_scope};
+ghost use Rattle.rx_tree.specs.Inside.Positions.{ScopesFallIn};
+ghost use Rattle.rx_tree.specs.Inside.Removal.{holds_scope};
 
 use crate::lookups::reaches;
 use rx_base::{NoMemory, PlaceSet, ScopeId};

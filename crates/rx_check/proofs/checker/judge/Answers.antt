@@ -6,7 +6,7 @@ use Rattle.rx_script.specs.Shape.{BlockStands}
 use Rattle.rx_script.specs.declared.nodes.BlockId.{BlockId}
 use Rattle.rx_script.specs.declared.nodes.NameId.{NameId}
 use Rattle.rx_check.specs.Rules.{nodes}
-use Rattle.rx_check.specs.Walk.{is_in, run, seen_all, Knows}
+use Rattle.rx_check.specs.Inside.Walk.{is_in, run, seen_all, Knows}
 use Rattle.rx_check.specs.declared.checker.CheckCause.{CheckCause}
 use Rattle.rx_check.specs.declared.checker.CheckCause.TheVariants.{Bad}
 use Rattle.rx_check.specs.declared.names.Seen.{Seen}

@@ -1,5 +1,5 @@
 use Rattle.std.proofs.Common.{◌≡◌, drop}
-use Rattle.rx_check.specs.Walk.{kind_in, seen_all}
+use Rattle.rx_check.specs.Inside.Walk.{kind_in, seen_all}
 use Rattle.rx_check.proofs.names.kind_of.Given as goal
 
 -- the names so far are others

@@ -1,6 +1,6 @@
 use Rattle.std.proofs.Common.{◌≡◌, List, [], ◌∷◌, ◌++◌, ap, sym, ◌∙◌, subst, refl, arith}
 use Rattle.std.proofs.lemmas.List.{nil_from_length}
-use Rattle.rx_check.specs.Walk.{join, no_uses, uses_in, Yields}
+use Rattle.rx_check.specs.Inside.Walk.{join, no_uses, uses_in, Yields}
 use Rattle.rx_check.specs.declared.uses.Part.{Part as Waiting}
 use Rattle.rx_check.proofs.Waiting.{join-none, yields-last}
 use Rattle.rx_check.proofs.uses.expr_use.Goals as goal

@@ -1,5 +1,5 @@
 use Rattle.std.proofs.Common.{◌≡◌, ap, sym, ◌∙◌, subst}
-use Rattle.rx_check.specs.Walk.{join, rule_from, uses_all}
+use Rattle.rx_check.specs.Inside.Walk.{join, rule_from, uses_all}
 use Rattle.rx_check.specs.declared.parts.Parts.{Parts}
 use Rattle.rx_check.specs.declared.uses.Uses.{Uses}
 use Rattle.rx_check.proofs.Statements.{PartsStand, parts-stand, rule-same}

@@ -1,8 +1,8 @@
 use Rattle.std.proofs.Common.{rules, ◌≡◌, ℕ, List, None, Bool, true, sym, subst}
-use Rattle.rx_control.specs.Levels.{Level}
+use Rattle.rx_control.specs.Inside.Levels.{Level}
 use Rattle.rx_control.specs.declared.frame.Frame.{Frame}
 use Rattle.rx_control.specs.Stands.{path_of, FrameStands}
-use Rattle.rx_control.specs.Front.{IsOver}
+use Rattle.rx_control.specs.Inside.Front.{IsOver}
 use Rattle.rx_control.proofs.Moves.{top-stands}
 use Rattle.rx_control.proofs.Settling.{Leads, leads-less}
 use Rattle.rx_control.proofs.frame.settle.Goals as goal

@@ -1,8 +1,8 @@
 use Rattle.std.proofs.Common.{ℕ, List, Some, Bool, true, false, sym, subst}
-use Rattle.rx_control.specs.Levels.{Level}
+use Rattle.rx_control.specs.Inside.Levels.{Level}
 use Rattle.rx_control.specs.declared.frame.Frame.{Frame}
 use Rattle.rx_control.specs.Stands.{FrameStands}
-use Rattle.rx_control.specs.Front.{IsCatch, SettlesTo}
+use Rattle.rx_control.specs.Inside.Front.{IsCatch, SettlesTo}
 use Rattle.rx_control.proofs.Settling.{Leads, unwinds-less, unwinds-here, settles-empty}
 use Rattle.rx_control.proofs.frame.unwind.Goals as goal
 

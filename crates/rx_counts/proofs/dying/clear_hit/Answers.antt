@@ -1,5 +1,5 @@
 use Rattle.std.proofs.Common.{◌≡◌, ◌∙◌, sym, ap, subst, ℕ, ◌<◌, ◌+◌, ◌^◌, cond, slice_index_or, arith, rules}
-use Rattle.rx_counts.specs.Dying.{hits_cell, hit_sum}
+use Rattle.rx_counts.specs.Inside.Dying.{hits_cell, hit_sum}
 use Rattle.rx_counts.proofs.Clearing.{sum_fits, sum_on, cleared_below, cleared_above}
 use Rattle.rx_counts.proofs.dying.clear_hit.Goals as goal
 

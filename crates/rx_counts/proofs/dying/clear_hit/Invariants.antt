@@ -1,5 +1,5 @@
 use Rattle.std.proofs.Common.{◌≡◌, ℕ, ◌<◌, ◌≤◌, cond, slice_index_or}
-use Rattle.rx_counts.specs.Dying.{hits_cell, hit_sum}
+use Rattle.rx_counts.specs.Inside.Dying.{hits_cell, hit_sum}
 use Rattle.rx_counts.proofs.dying.clear_hit.Given as goal
 
 abbrev pub invariant-loop-cell : goal.invariant-loop-cell

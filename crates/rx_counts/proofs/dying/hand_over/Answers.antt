@@ -2,7 +2,7 @@ use Rattle.std.proofs.Common.{◌∙◌, sym, ap, subst}
 use Rattle.std.proofs.lemmas.Bool.{true≢false}
 use Rattle.rx_rules.specs.Tree.{Tree}
 use Rattle.rx_counts.specs.Stands.{record_at, IsShaped}
-use Rattle.rx_counts.specs.Dying.{parent_there}
+use Rattle.rx_counts.specs.Inside.Dying.{parent_there}
 use Rattle.rx_counts.proofs.Asking.{none_kept}
 use Rattle.rx_counts.proofs.Passing.{passes_by, passes_hand, heir_exists, pour_ok}
 use Rattle.rx_counts.proofs.dying.hand_over.Goals as goal

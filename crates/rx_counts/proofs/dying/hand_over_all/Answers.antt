@@ -1,5 +1,5 @@
 use Rattle.std.proofs.Common.{◌≡◌, ◌<◌, ◌∙◌, sym, subst, length, rules, ℕ}
-use Rattle.rx_counts.specs.Dying.{Passing}
+use Rattle.rx_counts.specs.Inside.Dying.{Passing}
 use Rattle.rx_counts.proofs.dying.hand_over_all.Goals as goal
 
 pub hand_over-requires : goal.hand_over-requires

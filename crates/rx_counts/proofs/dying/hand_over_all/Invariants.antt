@@ -2,7 +2,7 @@ use Rattle.std.proofs.Common.{◌≡◌, length}
 use Rattle.std.specs.Prelude.{Bool}
 use Rattle.rx_rules.specs.declared.tasks.Scope.{Scope}
 use Rattle.rx_rules.specs.Tree.{Tree}
-use Rattle.rx_counts.specs.Dying.{Passing}
+use Rattle.rx_counts.specs.Inside.Dying.{Passing}
 use Rattle.rx_counts.proofs.dying.hand_over_all.Given as goal
 
 abbrev pub invariant-loop-i : goal.invariant-loop-i

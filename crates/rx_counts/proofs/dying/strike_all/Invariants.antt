@@ -1,6 +1,6 @@
 use Rattle.std.proofs.Common.{◌≡◌, ℕ, ◌<◌, ◌≤◌, length}
 use Rattle.rx_counts.specs.Stands.{record_at, Pairs}
-use Rattle.rx_counts.specs.Dying.{StrikesRecord}
+use Rattle.rx_counts.specs.Inside.Dying.{StrikesRecord}
 use Rattle.rx_counts.proofs.dying.strike_all.Given as goal
 
 abbrev pub invariant-loop-i : goal.invariant-loop-i

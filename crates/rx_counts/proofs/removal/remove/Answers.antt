@@ -1,5 +1,5 @@
 use Rattle.std.proofs.Common.{◌∙◌, sym, ap, refl}
-use Rattle.rx_counts.specs.Freeing.{parent_gone}
+use Rattle.rx_counts.specs.Inside.Freeing.{parent_gone}
 use Rattle.std.specs.Prelude.{◌||◌, ◌==◌, cond, None}
 use Rattle.rx_counts.specs.Stands.{record_at}
 use Rattle.rx_counts.proofs.Sweeping.{none_before, swept_below, swept_above}

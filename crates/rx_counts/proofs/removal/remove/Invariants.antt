@@ -4,7 +4,7 @@ use Rattle.rx_base.specs.declared.ids.ScopeId.{ScopeId}
 use Rattle.rx_rules.specs.Tree.{Tree}
 use Rattle.rx_sound.specs.Chains.{meets}
 use Rattle.rx_counts.specs.Stands.{record_at, IsShaped}
-use Rattle.rx_counts.specs.Freeing.{Takes}
+use Rattle.rx_counts.specs.Inside.Freeing.{Takes}
 use Rattle.rx_counts.proofs.Stopping.{taken_below}
 use Rattle.rx_counts.proofs.removal.remove.Given as goal
 

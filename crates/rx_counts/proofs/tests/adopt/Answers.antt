@@ -4,7 +4,7 @@ use Rattle.rx_base.specs.declared.values.Fault.{Fault}
 use Rattle.rx_rules.specs.declared.entries.Act.TheVariants.{End}
 use Rattle.rx_rules.specs.Entries.{made_act}
 use Rattle.rx_counts.specs.Stands.{StandsFor}
-use Rattle.rx_counts.specs.Nesting.{task, three_deep}
+use Rattle.rx_counts.specs.Inside.Nesting.{task, three_deep}
 use Rattle.rx_counts.proofs.Nested.{lost_home, home_dies, home_lost, last_ends, all_ended, heir_waits}
 use Rattle.rx_counts.proofs.tests.adopt.Goals as goal
 

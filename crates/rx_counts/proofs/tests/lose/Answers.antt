@@ -3,7 +3,7 @@ use Rattle.std.proofs.Common.{sym, ◌∙◌, lit<}
 use Rattle.rx_rules.specs.declared.tasks.Where.TheVariants.{At}
 use Rattle.rx_rules.specs.Fold.{opening}
 use Rattle.rx_counts.specs.Stands.{StandsFor}
-use Rattle.rx_counts.specs.Nesting.{place, caller, nested}
+use Rattle.rx_counts.specs.Inside.Nesting.{place, caller, nested}
 use Rattle.rx_counts.proofs.Nested.{can_first, waits_early, target_dies, target_lost, still_stands}
 use Rattle.rx_counts.proofs.tests.lose.Goals as goal
 

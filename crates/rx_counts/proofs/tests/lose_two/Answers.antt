@@ -1,5 +1,5 @@
 use Rattle.rx_counts.specs.Stands.{StandsFor}
-use Rattle.rx_counts.specs.Nesting.{three_deep}
+use Rattle.rx_counts.specs.Inside.Nesting.{three_deep}
 use Rattle.rx_counts.proofs.Nested.{lost_last, lost_both, last_dies, then_home_dies, both_lost}
 use Rattle.rx_counts.proofs.tests.lose_two.Goals as goal
 

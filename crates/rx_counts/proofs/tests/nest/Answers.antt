@@ -6,7 +6,7 @@ use Rattle.rx_rules.specs.declared.entries.Act.TheVariants.{Wait}
 use Rattle.rx_rules.specs.Tree.{Tree}
 use Rattle.rx_rules.specs.Entries.{made_act}
 use Rattle.rx_counts.specs.Stands.{StandsFor}
-use Rattle.rx_counts.specs.Nesting.{CanNest, task, scope, opens, starts}
+use Rattle.rx_counts.specs.Inside.Nesting.{CanNest, task, scope, opens, starts}
 use Rattle.rx_counts.proofs.Nested.{opened_nest, started_nest}
 use Rattle.rx_counts.proofs.tests.nest.Goals as goal
 

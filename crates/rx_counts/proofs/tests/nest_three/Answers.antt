@@ -1,6 +1,6 @@
 use Rattle.rx_rules.specs.Fold.{opening}
 use Rattle.rx_counts.specs.Stands.{StandsFor}
-use Rattle.rx_counts.specs.Nesting.{nested, landed}
+use Rattle.rx_counts.specs.Inside.Nesting.{nested, landed}
 use Rattle.rx_counts.proofs.Nested.{arrived, can_first, can_second, can_third, first_lands, second_lands, third_lands}
 use Rattle.rx_counts.proofs.tests.nest_three.Goals as goal
 

@@ -5,7 +5,7 @@ use Rattle.rx_rules.specs.declared.entries.Act.TheVariants.{End}
 use Rattle.rx_rules.specs.Entries.{made_act}
 use Rattle.rx_rules.specs.Fold.{opening}
 use Rattle.rx_counts.specs.Stands.{StandsFor}
-use Rattle.rx_counts.specs.Nesting.{task, nested, landed}
+use Rattle.rx_counts.specs.Inside.Nesting.{task, nested, landed}
 use Rattle.rx_counts.proofs.Nested.{can_first, first_lands, first_ends, first_ended, main_waits}
 use Rattle.rx_counts.proofs.tests.pass.Goals as goal
 

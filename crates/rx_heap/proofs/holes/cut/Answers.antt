@@ -1,6 +1,6 @@
 use Rattle.std.proofs.Common.{◌≡◌, ◌+◌, ◌-◌, ◌<◌, List, length, get_or, remove, set, arith, ap, sym, subst, ◌∙◌}
 use Rattle.rx_heap.specs.declared.block.Hole.{Hole}
-use Rattle.rx_heap.specs.HoleEdits.{Cuts}
+use Rattle.rx_heap.specs.Inside.HoleEdits.{Cuts}
 use Rattle.rx_heap.proofs.Cutting.{cuts_whole, cuts_part}
 use Rattle.rx_heap.proofs.holes.cut.Goals as goal
 

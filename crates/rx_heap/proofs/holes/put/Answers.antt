@@ -1,7 +1,7 @@
 use Rattle.std.proofs.Common.{◌≡◌, ◌+◌, ◌-◌, ◌^◌, ◌<◌, ◌≤◌, List, length, get_or, arith, ap, refl, sym, subst, ◌∙◌, vec_capacity}
 use Rattle.std.proofs.lemmas.List.{get_or_read}
 use Rattle.rx_heap.specs.declared.block.Hole.{Hole}
-use Rattle.rx_heap.specs.HoleEdits.{Joins}
+use Rattle.rx_heap.specs.Inside.HoleEdits.{Joins}
 use Rattle.rx_heap.proofs.Placing.{place_from, hole_fits, read_fits, place_alone, place_has_room, place_next, place_last, place_between, ends_there, ends_elsewhere, begins_there, begins_elsewhere, within_there}
 use Rattle.rx_heap.proofs.holes.put.Goals as goal
 

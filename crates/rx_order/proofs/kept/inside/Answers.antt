@@ -1,5 +1,5 @@
 use Rattle.std.proofs.Common.{arith, ◌+◌, drop, length-drop}
-use Rattle.rx_order.specs.Parts.{numbers_of}
+use Rattle.rx_order.specs.Inside.Parts.{numbers_of}
 use Rattle.rx_order.proofs.Keeping.{kept-out, kept-on}
 use Rattle.rx_order.proofs.kept.inside.Goals as goal
 

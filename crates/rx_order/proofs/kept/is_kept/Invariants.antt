@@ -1,7 +1,7 @@
 use Rattle.std.proofs.Common.{◌≡◌, ◌-◌, length, drop}
 use Rattle.rx_rules.specs.Code.{Block}
 use Rattle.rx_script.specs.Shape.{BlockStands}
-use Rattle.rx_order.specs.Parts.{is_kept_along}
+use Rattle.rx_order.specs.Inside.Parts.{is_kept_along}
 use Rattle.rx_order.proofs.kept.is_kept.Given as goal
 
 -- the answer is that of what is left

@@ -1,5 +1,5 @@
 use Rattle.std.proofs.Common.{◌+◌, ◌∙◌, sym, drop, arith}
-use Rattle.rx_order.specs.Parts.{numbers_of}
+use Rattle.rx_order.specs.Inside.Parts.{numbers_of}
 use Rattle.rx_order.proofs.Ordering.{before-out, before-other-out, before-both, both-equal, both-less, both-more, both-unordered}
 use Rattle.rx_order.proofs.order.inside.Goals as goal
 use Rattle.rx_order.proofs.order.inside.Goals.{else-own-other-2-via-then-own-other-2+else-is_ordered, else-own-other-2-via-else-own-other-2}

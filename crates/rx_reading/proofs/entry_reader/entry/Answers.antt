@@ -2,7 +2,7 @@ use Rattle.std.proofs.Common.{◌≡◌, refl, subst, ap, ◌∙◌}
 use Rattle.std.specs.Prelude.{codes, IfOk}
 use Rattle.std.specs.Str.{bytes_eq}
 use Rattle.rx_reading.specs.Words.{answered}
-use Rattle.rx_reading.specs.EntryWords.{arrive_at, end_at, step_at, entry_at}
+use Rattle.rx_reading.specs.Inside.EntryWords.{arrive_at, end_at, step_at, entry_at}
 use Rattle.rx_reading.proofs.Taking.{by-word}
 use Rattle.rx_reading.proofs.entry_reader.entry.Goals as goal
 

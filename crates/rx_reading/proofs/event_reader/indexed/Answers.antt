@@ -2,8 +2,8 @@ use Rattle.std.proofs.Common.{sym, ap, ◌∙◌}
 use Rattle.std.specs.Int.{w64}
 use Rattle.std.proofs.lemmas.Int.{to_z-of_z}
 use Rattle.rx_reading.specs.Words.{answered}
-use Rattle.rx_reading.specs.Readers.{after}
-use Rattle.rx_reading.specs.EventWords.{got_at}
+use Rattle.rx_reading.specs.Inside.Readers.{after}
+use Rattle.rx_reading.specs.Inside.EventWords.{got_at}
 use Rattle.rx_reading.proofs.Ends.{number-fits}
 use Rattle.rx_reading.proofs.event_reader.indexed.Goals as goal
 

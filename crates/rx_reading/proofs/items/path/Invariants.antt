@@ -1,7 +1,7 @@
 use Rattle.std.proofs.Common.{◌≡◌, ◌++◌, length}
 use Rattle.std.specs.Prelude.{option_map}
 use Rattle.rx_reading.specs.Words.{pieces}
-use Rattle.rx_reading.specs.FieldWords.{naturals_of}
+use Rattle.rx_reading.specs.Inside.FieldWords.{naturals_of}
 use Rattle.rx_reading.proofs.items.path.Given as goal
 
 -- the numbers so far and those of what is left are all

@@ -1,5 +1,5 @@
 use Rattle.std.proofs.Common.{sym, ◌∙◌}
-use Rattle.rx_reading.specs.FieldWords.{fault_of}
+use Rattle.rx_reading.specs.Inside.FieldWords.{fault_of}
 use Rattle.rx_reading.proofs.Taking.{item-some, item-none-as}
 use Rattle.rx_reading.proofs.parts.next_fault.Goals as goal
 

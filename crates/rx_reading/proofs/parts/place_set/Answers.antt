@@ -1,5 +1,5 @@
 use Rattle.std.proofs.Common.{rules}
-use Rattle.rx_reading.specs.FieldWords.{place_of}
+use Rattle.rx_reading.specs.Inside.FieldWords.{place_of}
 use Rattle.rx_reading.proofs.Taking.{joined-more, took-as, below-power}
 use Rattle.rx_reading.proofs.parts.place_set.Goals as goal
 

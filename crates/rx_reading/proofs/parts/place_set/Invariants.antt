@@ -1,5 +1,5 @@
 use Rattle.std.proofs.Common.{◌≡◌, length}
-use Rattle.rx_reading.specs.PartWords.{places_at}
+use Rattle.rx_reading.specs.Inside.PartWords.{places_at}
 use Rattle.rx_reading.proofs.parts.place_set.Given as goal
 
 -- the places so far and those that are left are all

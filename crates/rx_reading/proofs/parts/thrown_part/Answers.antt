@@ -1,6 +1,6 @@
 use Rattle.std.proofs.Common.{sym, ◌∙◌}
 use Rattle.std.specs.Prelude.{codes}
-use Rattle.rx_reading.specs.FieldWords.{fault_of}
+use Rattle.rx_reading.specs.Inside.FieldWords.{fault_of}
 use Rattle.rx_reading.proofs.Taking.{took-shorter, took-more, part-none, part-some, took-as, none-as, key-as}
 use Rattle.rx_reading.proofs.parts.thrown_part.Goals as goal
 

@@ -1,6 +1,6 @@
 use Rattle.std.proofs.Common.{◌≡◌, ◌++◌, length}
-use Rattle.rx_reading.specs.FieldWords.{fault_of}
-use Rattle.rx_reading.specs.Readers.{many}
+use Rattle.rx_reading.specs.Inside.FieldWords.{fault_of}
+use Rattle.rx_reading.specs.Inside.Readers.{many}
 use Rattle.rx_reading.proofs.parts.thrown_part.Given as goal
 
 -- the faults so far and those that are left are all

@@ -1,5 +1,5 @@
 use Rattle.std.proofs.Common.{◌≡◌, drop}
-use Rattle.rx_reading.specs.Machine.{may_follow}
+use Rattle.rx_reading.specs.Inside.Machine.{may_follow}
 use Rattle.rx_reading.proofs.plan_lines.follows.Given as goal
 
 -- what is left decides

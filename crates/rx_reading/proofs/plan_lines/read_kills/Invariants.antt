@@ -1,5 +1,5 @@
 use Rattle.std.proofs.Common.{◌≡◌, length, []}
-use Rattle.rx_reading.specs.Machine.{kills_of}
+use Rattle.rx_reading.specs.Inside.Machine.{kills_of}
 use Rattle.rx_reading.proofs.plan_lines.read_kills.Given as goal
 
 -- the kills so far and those of what is left are all

@@ -1,6 +1,6 @@
 use Rattle.std.proofs.Common.{sym, ap, ◌∙◌}
 use Rattle.std.specs.Prelude.{option_map}
-use Rattle.rx_reading.specs.Stages.{state_of}
+use Rattle.rx_reading.specs.Inside.Stages.{state_of}
 use Rattle.rx_reading.proofs.Ends.{at-more, at-bad, at-end, at-all, open-some, open-unless}
 use Rattle.rx_reading.proofs.reader.read_trace.Goals as goal
 

@@ -1,5 +1,5 @@
 use Rattle.std.proofs.Common.{◌≡◌, ◌+◌, ◌≤◌, ℕ, suc, length}
-use Rattle.rx_reading.specs.Stages.{state_of}
+use Rattle.rx_reading.specs.Inside.Stages.{state_of}
 use Rattle.rx_reading.proofs.Places.{HasRead}
 use Rattle.rx_reading.proofs.reader.read_trace.Given as goal
 

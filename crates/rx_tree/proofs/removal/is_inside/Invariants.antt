@@ -1,5 +1,5 @@
 use Rattle.std.proofs.Common.{◌≡◌, drop}
-use Rattle.rx_tree.specs.Removal.{holds_scope}
+use Rattle.rx_tree.specs.Inside.Removal.{holds_scope}
 use Rattle.rx_tree.proofs.removal.is_inside.Given as goal
 
 abbrev pub invariant-loop-s : goal.invariant-loop-s

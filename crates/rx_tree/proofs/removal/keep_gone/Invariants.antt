@@ -1,6 +1,6 @@
 use Rattle.std.proofs.Common.{◌≡◌, ◌++◌, ◌&&◌, take, filter}
 use Rattle.std.specs.Prelude.{is_some}
-use Rattle.rx_tree.specs.Removal.{holds_scope}
+use Rattle.rx_tree.specs.Inside.Removal.{holds_scope}
 use Rattle.rx_tree.proofs.removal.keep_gone.Given as goal
 
 abbrev pub invariant-loop-x : goal.invariant-loop-x

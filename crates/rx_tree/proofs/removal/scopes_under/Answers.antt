@@ -1,6 +1,6 @@
 use Rattle.std.proofs.Common.{◌∙◌, ap, ◌≡◌, take, arith}
 use Rattle.std.proofs.lemmas.Grind.{common_steps}
-use Rattle.rx_tree.specs.Removal.{holds_scope}
+use Rattle.rx_tree.specs.Inside.Removal.{holds_scope}
 use Rattle.rx_tree.proofs.Inside.{holds_under}
 use Rattle.rx_tree.proofs.removal.scopes_under.Goals as goal
 

@@ -5,7 +5,7 @@ use Rattle.std.proofs.lemmas.Result.{err_from_is_err_and}
 use Rattle.rx_rules.specs.Code.{work}
 use Rattle.rx_script.specs.declared.nodes.NameId.{NameId}
 use Rattle.rx_check.specs.Rules.{Kind, Sight, assigned, inside, learned, sights}
-use Rattle.rx_check.specs.Walk.{Sofar, cap, known_with, noted, run, rule_with, seen_all, seen_as, sofar_of, work_with, Knows}
+use Rattle.rx_check.specs.Inside.Walk.{Sofar, cap, known_with, noted, run, rule_with, seen_all, seen_as, sofar_of, work_with, Knows}
 use Rattle.rx_check.specs.declared.checker.CheckCause.{CheckCause}
 use Rattle.rx_check.specs.declared.checker.CheckCause.TheVariants.{Bad}
 use Rattle.rx_check.specs.declared.parts.Bodies.{Bodies}

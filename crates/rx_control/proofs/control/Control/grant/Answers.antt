@@ -1,12 +1,12 @@
 use Rattle.std.proofs.Common.{rules, ◌≡◌, suc, List, ◌∷◌, ◌++◌, length, Some, None, refl, ap, sym, ◌∙◌, subst}
 use Rattle.std.specs.Prelude.{option_to_list}
 use Rattle.rx_rules.specs.Terms.{Term, granted}
-use Rattle.rx_control.specs.Levels.{More, Waiting, seq, wrap, term_of}
+use Rattle.rx_control.specs.Inside.Levels.{More, Waiting, seq, wrap, term_of}
 use Rattle.rx_control.specs.declared.frame.Frame.{Frame}
 use Rattle.rx_control.specs.declared.frame.Frame.TheVariants.{Seq, Turns, Try, Body, Held}
 use Rattle.rx_control.specs.declared.control.Control.{Control}
 use Rattle.rx_control.specs.Stands.{path_of, FramesStand, StandsFor}
-use Rattle.rx_control.specs.Front.{opened, SettlesTo}
+use Rattle.rx_control.specs.Inside.Front.{opened, SettlesTo}
 use Rattle.rx_control.proofs.Standing.{at-top, at-statement, at-turns, at-tried, at-inside, at-waiting, calm-seq, calm-turns, calm-held, settled-stands}
 use Rattle.rx_control.proofs.Steps.{went}
 use Rattle.rx_control.proofs.Answering.{granted-front, granted-inside, granted-waiting, granted-turns, granted-tried, raised-or, calm-or}

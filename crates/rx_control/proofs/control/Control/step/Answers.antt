@@ -1,11 +1,11 @@
 use Rattle.std.proofs.Common.{suc, ◌∷◌, ◌++◌, ap, ◌∙◌}
 use Rattle.std.specs.Prelude.{option_to_list}
 use Rattle.rx_rules.specs.Terms.{Releases, stmt_does, at, does}
-use Rattle.rx_control.specs.Levels.{More, seq}
+use Rattle.rx_control.specs.Inside.Levels.{More, seq}
 use Rattle.rx_control.specs.declared.frame.Frame.TheVariants.{Seq, Turns, Try, Body, Held}
 use Rattle.rx_control.specs.Stands.{path_of}
-use Rattle.rx_control.specs.Front.{lifted}
-use Rattle.rx_control.specs.Plans.{Due}
+use Rattle.rx_control.specs.Inside.Front.{lifted}
+use Rattle.rx_control.specs.Inside.Plans.{Due}
 use Rattle.rx_control.specs.Next.{next_of}
 use Rattle.rx_control.proofs.Front.{next-lifted}
 use Rattle.rx_control.proofs.Plans.{asks}

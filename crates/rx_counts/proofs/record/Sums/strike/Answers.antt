@@ -1,7 +1,7 @@
 use Rattle.std.proofs.Common.{◌≡◌, ◌∙◌, ap, ℕ, ◌≤◌, arith, refl, rules, length}
 use Rattle.std.specs.Prelude.{◌||◌, ◌&&◌, ◌==◌, ltb}
 use Rattle.rx_base.specs.Sets.{has_bit}
-use Rattle.rx_counts.specs.Dying.{hits}
+use Rattle.rx_counts.specs.Inside.Dying.{hits}
 use Rattle.rx_counts.proofs.record.Sums.strike.Goals as goal
 
 pub returns : goal.returns

@@ -2,7 +2,7 @@ use Rattle.std.proofs.Common.{◌≡◌, ℕ, ◌+◌, ◌<◌, ◌≤◌, List,
 use Rattle.std.specs.Prelude.{All}
 use Rattle.rx_heap.specs.declared.block.Hole.{Hole}
 use Rattle.rx_heap.specs.Region.{Region, IsFree, IsLeastFree}
-use Rattle.rx_heap.specs.HoleEdits.{Cuts}
+use Rattle.rx_heap.specs.Inside.HoleEdits.{Cuts}
 use Rattle.rx_heap.proofs.Joining.{LieApart-get_or}
 use Rattle.rx_heap.proofs.Laying.{cut_inside, laid_take, none_free, least_free, length-put_back}
 use Rattle.rx_heap.proofs.heap.Heap.take.Goals as goal

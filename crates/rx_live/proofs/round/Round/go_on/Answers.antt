@@ -1,6 +1,6 @@
 use Rattle.std.proofs.Common.{◌≡◌, ◌++◌, ◌∷◌, [], ℕ, List, false, Ok, refl, ap, ◌∙◌}
 use Rattle.rx_rules.specs.Picked.{used_after}
-use Rattle.rx_live.specs.Picking.{number_from}
+use Rattle.rx_live.specs.Inside.Picking.{number_from}
 use Rattle.rx_live.proofs.Rounding.{keeps-moved, keeps-ended, pick-kept, pick-left, first-pick, next-pick}
 use Rattle.rx_live.proofs.round.Round.go_on.Goals as goal
 

@@ -8,7 +8,7 @@ use Rattle.rx_rules.specs.Tree.{Tree, is_under, is_scope, chain_in}
 use Rattle.rx_rules.specs.Entries.{was_lost_at}
 use Rattle.rx_tree.specs.Kept.{kept}
 use Rattle.rx_finish.specs.Calls.{landing}
-use Rattle.rx_tree.specs.Removal.{holds_scope}
+use Rattle.rx_tree.specs.Inside.Removal.{holds_scope}
 use Rattle.rx_tree.proofs.Leaves.{find_none, find_some, names, leaves, three}
 use Rattle.rx_tree.proofs.plain.TreeLedger.leave.Goals as goal
 

@@ -13,7 +13,7 @@ use Rattle.rx_finish.specs.Calls.{landing}
 use Rattle.rx_finish.proofs.Allowed.{arrive_allowed}
 use Rattle.rx_tree.proofs.Replies.{at_kept, did, by_tasks}
 use Rattle.rx_tree.proofs.Falling.{in_order}
-use Rattle.rx_tree.specs.Positions.{TasksFallIn}
+use Rattle.rx_tree.specs.Inside.Positions.{TasksFallIn}
 use Rattle.rx_tree.proofs.plain.TreeLedgerFinishLedger.arrive.Goals as goal
 
 pub returns : goal.returns

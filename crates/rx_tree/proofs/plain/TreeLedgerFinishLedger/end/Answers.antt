@@ -12,7 +12,7 @@ use Rattle.rx_finish.proofs.Allowed.{end_allowed}
 use Rattle.rx_finish.proofs.Unstruck.{ended_is}
 use Rattle.rx_tree.proofs.Replies.{at_kept, did, by_rows}
 use Rattle.rx_tree.proofs.Falling.{in_order}
-use Rattle.rx_tree.specs.Positions.{ScopesFallIn}
+use Rattle.rx_tree.specs.Inside.Positions.{ScopesFallIn}
 use Rattle.rx_tree.proofs.plain.TreeLedgerFinishLedger.end.Goals as goal
 
 pub returns : goal.returns

@@ -8,10 +8,10 @@ use Rattle.rx_finish.specs.Calls.{IsUnstruck}
 use Rattle.rx_tree.specs.Kept.{kept}
 use Rattle.std.specs.Prelude.{Ok}
 use Rattle.rx_rules.specs.Entries.{resumed}
-use Rattle.rx_tree.specs.Removal.{LeaveReply}
+use Rattle.rx_tree.specs.Inside.Removal.{LeaveReply}
 use Rattle.rx_tree.proofs.Replies.{at_kept, released, by_tasks}
 use Rattle.rx_tree.proofs.Falling.{in_order, kept_sound, left_in_order}
-use Rattle.rx_tree.specs.Positions.{TasksFallIn}
+use Rattle.rx_tree.specs.Inside.Positions.{TasksFallIn}
 use Rattle.rx_tree.proofs.plain.TreeLedgerFinishLedger.release.Goals as goal
 
 pub returns : goal.returns

@@ -6,7 +6,7 @@ use Rattle.rx_tree.specs.Kept.{kept}
 use Rattle.rx_finish.proofs.Allowed.{spawn_allowed}
 use Rattle.rx_tree.proofs.Replies.{at_kept, did}
 use Rattle.rx_tree.proofs.Falling.{in_order}
-use Rattle.rx_tree.specs.Positions.{ScopesFallIn}
+use Rattle.rx_tree.specs.Inside.Positions.{ScopesFallIn}
 use Rattle.rx_tree.proofs.plain.TreeLedgerFinishLedger.spawn.Goals as goal
 
 pub returns : goal.returns

@@ -11,7 +11,7 @@ use Rattle.rx_rules.specs.Entries.{waiting}
 use Rattle.rx_finish.proofs.Allowed.{wait_allowed}
 use Rattle.rx_tree.proofs.Replies.{at_kept, did, by_rows}
 use Rattle.rx_tree.proofs.Falling.{in_order}
-use Rattle.rx_tree.specs.Positions.{TasksFallIn, ScopesFallIn}
+use Rattle.rx_tree.specs.Inside.Positions.{TasksFallIn, ScopesFallIn}
 use Rattle.rx_tree.proofs.plain.TreeLedgerFinishLedger.wait.Goals as goal
 
 pub returns : goal.returns

@@ -6,9 +6,9 @@ use Rattle.rx_rules.specs.declared.entries.Entry.{Entry}
 use Rattle.rx_rules.specs.declared.entries.Entry.TheVariants.{Step, Root, Death}
 use Rattle.rx_reading.specs.declared.acts.Kind.{Kind}
 use Rattle.rx_reading.specs.declared.acts.Kind.TheVariants as kinds
-use Rattle.rx_reading.specs.FieldWords.{number_at, place_at, task_at, scope_at, path_at}
-use Rattle.rx_reading.specs.PartWords.{lost_at, thrown_at, batch_at}
-use Rattle.rx_reading.specs.Readers.{Reader, followed, done, keyed, either}
+use Rattle.rx_reading.specs.Inside.FieldWords.{number_at, place_at, task_at, scope_at, path_at}
+use Rattle.rx_reading.specs.Inside.PartWords.{lost_at, thrown_at, batch_at}
+use Rattle.rx_reading.specs.Inside.Readers.{Reader, followed, done, keyed, either}
 
 abbrev pub open_at : Reader Act
 open_at = followed scope_at (λ scope. keyed (codes "in") (followed scope_at (λ parent. followed path_at (λ path. done (Open scope parent path)))))

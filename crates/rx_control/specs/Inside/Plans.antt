@@ -8,11 +8,11 @@ use Rattle.rx_rules.specs.Terms.{Vars, Term, Empty, Turns, Trying, Does, Local, 
 use Rattle.rx_script.specs.declared.nodes.BlockId.{BlockId}
 use Rattle.rx_script.specs.declared.nodes.NameId.{NameId}
 use Rattle.rx_script.specs.Shape.{Shape, BlockStands}
-use Rattle.rx_control.specs.Levels.{More, seq}
+use Rattle.rx_control.specs.Inside.Levels.{More, seq}
 use Rattle.rx_control.specs.declared.frame.Frame.{Frame}
 use Rattle.rx_control.specs.declared.control.Control.{Control}
 use Rattle.rx_control.specs.Stands.{path_of}
-use Rattle.rx_control.specs.Front.{AtStatement}
+use Rattle.rx_control.specs.Inside.Front.{AtStatement}
 use Rattle.rx_control.specs.Next.{next_of}
 use Rattle.rx_control.specs.declared.step.Next.TheVariants.{Local as LocalStep}
 use Rattle.rx_control.specs.declared.plan.Plan.{Plan}

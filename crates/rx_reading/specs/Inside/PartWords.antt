@@ -4,8 +4,8 @@ use Rattle.std.specs.Str.{bytes_eq}
 use Rattle.rx_base.specs.declared.ids.PlaceId.{PlaceId}
 use Rattle.rx_base.specs.declared.place_set.PlaceSet.{PlaceSet}
 use Rattle.rx_base.specs.declared.values.Fault.{Fault}
-use Rattle.rx_reading.specs.FieldWords.{place_of, path_of, fault_of}
-use Rattle.rx_reading.specs.Readers.{Reader, part}
+use Rattle.rx_reading.specs.Inside.FieldWords.{place_of, path_of, fault_of}
+use Rattle.rx_reading.specs.Inside.Readers.{Reader, part}
 
 -- the set with this number
 abbrev pub set_of : ℕ → PlaceSet

@@ -11,7 +11,7 @@ use Rattle.rx_base.specs.declared.values.Fault.{Fault}
 use Rattle.rx_base.specs.declared.values.Fault.TheVariants.{Dead, Thrown, Overflow, NoPlace, WrongPlace, Stale, Index, HeapFull}
 use Rattle.rx_text.specs.Numbers.{natural_text}
 use Rattle.rx_reading.specs.Words.{pieces, stripped}
-use Rattle.rx_reading.specs.Readers.{Reader, followed, done, word}
+use Rattle.rx_reading.specs.Inside.Readers.{Reader, followed, done, word}
 
 -- an answer and then another
 abbrev pub next : {A B : Type 0} → Option A → (A → Option B) → Option B

@@ -7,10 +7,10 @@ use Rattle.rx_rules.specs.declared.events.PlaceEvent.{PlaceEvent}
 use Rattle.rx_rules.specs.Run.{Given}
 use Rattle.rx_text.specs.Numbers.{natural_text}
 use Rattle.rx_reading.specs.Words.{pieces}
-use Rattle.rx_reading.specs.Readers.{Reader, followed, done, word, keyed, all_read}
-use Rattle.rx_reading.specs.FieldWords.{next, number_below, kill_of}
-use Rattle.rx_reading.specs.EntryWords.{entry_at}
-use Rattle.rx_reading.specs.EventWords.{event_at}
+use Rattle.rx_reading.specs.Inside.Readers.{Reader, followed, done, word, keyed, all_read}
+use Rattle.rx_reading.specs.Inside.FieldWords.{next, number_below, kill_of}
+use Rattle.rx_reading.specs.Inside.EntryWords.{entry_at}
+use Rattle.rx_reading.specs.Inside.EventWords.{event_at}
 
 -- what has been read
 pub data State : Type 0 where

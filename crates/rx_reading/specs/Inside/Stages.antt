@@ -4,7 +4,7 @@ use Rattle.rx_history.specs.Events.{events_of}
 use Rattle.rx_history.specs.Setups.{given}
 use Rattle.rx_reading.specs.declared.stage.Stage.{Stage}
 use Rattle.rx_reading.specs.declared.stage.Stage.TheVariants as stages
-use Rattle.rx_reading.specs.Machine.{State, Untitled, Titled, Sized, Planned, Entering, Logging, Over}
+use Rattle.rx_reading.specs.Inside.Machine.{State, Untitled, Titled, Sized, Planned, Entering, Logging, Over}
 
 abbrev pub state_of : Stage → State
 state_of stages.Untitled = Untitled

@@ -1,5 +1,6 @@
 -- What the statuses of the program mean.
-use Rattle.std.specs.Prelude.{◌≡◌, ◌⊎◌, ℕ, ◌≤◌, ◌==◌, ◌&&◌, Bool, cond, List, [], ◌∷◌, ◌++◌, length, slice_index_or, Option, Some, None, codes}
+use Rattle.std.specs.Prelude.{◌≡◌, ◌⊎◌, ℕ, ◌≤◌, ◌==◌, ◌&&◌, Bool, cond, List, [], ◌∷◌, ◌++◌, length, slice_index_or, Option, Some, None}
+use Rattle.std.specs.Prelude.{codes}
 use Rattle.std.specs.Io.KnownBytes.{Consumes, IsAtEnd}
 use Rattle.rx_base.specs.declared.place_set.PlaceSet.{PlaceSet}
 use Rattle.rx_base.specs.declared.values.Fault.{Fault}
@@ -46,7 +47,8 @@ status_of (e ∷ es) = status_of es
 
 -- The entries and journals are a run of the script under a setup: its picked run. Nothing is released early in it, its losses are
 -- exact, and the order of statements is kept; the status is that of its end.
-pub record HasRun (code : Block) (U : Given) (source : Source) (entries : List Entry) (journals : List (List PlaceEvent)) (status : Status) : Type 0 where
+pub record HasRun (code : Block) (U : Given) (source : Source) (entries : List Entry) (journals : List (List PlaceEvent))
+    (status : Status) : Type 0 where
   pub picked : IsPicked code U (picks_of source) entries journals
   pub run : IsRun code U entries journals
   pub early : NoEarlyRelease entries
@@ -57,7 +59,8 @@ pub record HasRun (code : Block) (U : Given) (source : Source) (entries : List E
 -- the bytes are the trace of such a run
 abbrev pub IsTrace : Block → Given → Source → List ℕ → Status → Type 0
 IsTrace code U source text status =
-    (entries : List Entry) × (journals : List (List PlaceEvent)) × HasRun code U source entries journals status × (text ≡ trace_text U entries journals)
+    (entries : List Entry) × (journals : List (List PlaceEvent)) × HasRun code U source entries journals status
+    × (text ≡ trace_text U entries journals)
 
 -- the bytes are the trace of some whole run of the script under a setup, and the status is that of its end
 abbrev pub IsLiveTrace : Block → Given → List ℕ → Status → Type 0
@@ -68,7 +71,8 @@ IsLiveTrace code U text status =
 -- the bytes are the numbers of such a run of the generated script
 abbrev pub IsCount : ℕ → Given → Source → List ℕ → Status → Type 0
 IsCount size U source text status =
-    (entries : List Entry) × (journals : List (List PlaceEvent)) × HasRun (lines U.places size) U source entries journals status × (text ≡ counts_text (numbers entries))
+    (entries : List Entry) × (journals : List (List PlaceEvent)) × HasRun (lines U.places size) U source entries journals status
+    × (text ≡ counts_text (numbers entries))
 
 -- the line that tells the work of a script
 abbrev pub work_line : Block → List ℕ

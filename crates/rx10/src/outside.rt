@@ -28,8 +28,10 @@ const LIMIT: usize = 65_536;
 
 // All bytes of a source. It takes at most one byte more than a script may have.
 pub(crate) fn read_all<S: Source>(alloc: Global, input: &mut S) -> Result<Vec<u8>, ReadStop>
-    ensures whole { IfOk result (λ v. Consumes (S.left input.old) (S.left input.new) v.items × IsAtEnd (S.left input.new) × (length v.items ≤ 65536)) }
-    ensures too_long { IsErrOf result TooLong → (bytes : List ℕ) × Consumes (S.left input.old) (S.left input.new) bytes × (length bytes ≡ 65537) }
+    ensures whole { IfOk result (λ v. Consumes (S.left input.old) (S.left input.new) v.items × IsAtEnd (S.left input.new)
+        × (length v.items ≤ 65536)) }
+    ensures too_long { IsErrOf result TooLong → (bytes : List ℕ) × Consumes (S.left input.old) (S.left input.new) bytes
+        × (length bytes ≡ 65537) }
     ensures fault { IsErrOf result Fault → Rose (S.faults input.old) (S.faults input.new) }
     ensures taken { (bytes : List ℕ) × Consumes (S.left input.old) (S.left input.new) bytes × (length bytes ≤ 65537) }
     ensures later { S.faults input.old ≤ S.faults input.new }

@@ -14,13 +14,13 @@ use rx_base::{Faults, Gate, NoMemory, PlaceSet, members_make_the_set};
 use rx_check::{Program, checked};
 use rx_counts::CountLedger;
 use rx_gen::{counts, generate, put_counts};
+use rx_history::{Entry, History, Journals, Setup};
 use rx_laws::{run_is_exact, run_is_not_early, run_is_ordered};
 use rx_live::run_live;
 use rx_machine::Machine;
 use rx_picks::{ListPicks, Picks, SeedPicks};
 use rx_runs::{entries_are_bounded, few_picks_are_used, picked_run_is_run};
 use rx_text::put_natural;
-use rx_history::{Entry, History, Journals, Setup};
 use rx_trace::write_trace;
 use rx_words::{LiveWords, PickWords};
 use std::alloc::Global;
@@ -47,7 +47,8 @@ pub(crate) fn make_trace(
     picks: PickWords,
 ) -> Result<(Vec<u8>, bool), NoMemory>
     requires { Proper (given setup) }
-    ensures { IfOk result (λ r. (code : Block) → Stands program.now.script code → IsTrace code (given setup) (source_of picks) r.0.items (status_by r.1)) }
+    ensures { IfOk result (λ r. (code : Block) → Stands program.now.script code
+        → IsTrace code (given setup) (source_of picks) r.0.items (status_by r.1)) }
 {
     let (history, journals) = run_by(alloc, program, setup, picks)?;
     picked_run_is_run();
@@ -124,7 +125,8 @@ fn run_by(
     picks: PickWords,
 ) -> Result<(History, Journals), NoMemory>
     requires { Proper (given setup) }
-    ensures picked { IfOk result (λ r. (code : Block) → Stands program.now.script code → IsPicked code (given setup) (picks_of (source_of picks)) r.0.entries (events_of r.1) × (given r.0.setup ≡ given setup)) }
+    ensures picked { IfOk result (λ r. (code : Block) → Stands program.now.script code
+        → IsPicked code (given setup) (picks_of (source_of picks)) r.0.entries (events_of r.1) × (given r.0.setup ≡ given setup)) }
     ensures ended { IfOk result (λ r. EndsWithRoot r.0.entries) }
     ensures few { IfOk result (λ r. length r.0.entries < 2 ^ 31) }
 {
@@ -145,7 +147,9 @@ fn run_program<P: Picks>(
     picks: &mut P,
 ) -> Result<(History, Journals), NoMemory>
     requires { Proper (given setup) }
-    ensures picked { (numbers : ℕ → ℕ) → ((j : ℕ) → P.number picks.old j ≡ numbers j) → IfOk result (λ r. (code : Block) → Stands program.now.script code → IsPicked code (given setup) numbers r.0.entries (events_of r.1) × (given r.0.setup ≡ given setup)) }
+    ensures picked { (numbers : ℕ → ℕ) → ((j : ℕ) → P.number picks.old j ≡ numbers j)
+        → IfOk result (λ r. (code : Block) → Stands program.now.script code
+        → IsPicked code (given setup) numbers r.0.entries (events_of r.1) × (given r.0.setup ≡ given setup)) }
     ensures ended { IfOk result (λ r. EndsWithRoot r.0.entries) }
     ensures few { IfOk result (λ r. length r.0.entries < 2 ^ 31) }
 {

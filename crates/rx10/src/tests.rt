@@ -109,7 +109,9 @@ fn runs_with_deaths(rt: HostRuntime) -> Result<(), NoMemory> {
         // the nearest scope with a living home waits for the orphans
         (
             [b"step".as_slice(), b"--places", b"4", b"--kill", b"2@12"].as_slice(),
-            b"try { finish { at 1 async { finish { at 2 async { finish { at 3 async { print 1; } } } } } } } catch dead { } print 2;".as_slice(),
+            b"try { finish { at 1 async { finish { at 2 async { finish { at 3 async { print 1;
+                } } } } } } } catch dead { } print 2;"
+                .as_slice(),
             Status::Done,
             ADOPTION,
         ),
@@ -125,7 +127,9 @@ fn runs_with_deaths(rt: HostRuntime) -> Result<(), NoMemory> {
                 b"3@12",
             ]
             .as_slice(),
-            b"try { finish { at 1 async { finish { at 2 async { finish { at 3 async { print 1; } } } } } } } catch dead { } print 2;".as_slice(),
+            b"try { finish { at 1 async { finish { at 2 async { finish { at 3 async { print 1;
+                } } } } } } } catch dead { } print 2;"
+                .as_slice(),
             Status::Done,
             TWO_LOSSES,
         ),

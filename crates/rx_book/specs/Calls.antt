@@ -26,7 +26,8 @@ module _ {I : Type 0} where
 
   -- a call, by a pass with the view v, which has the view w afterwards: it was made at one point of the history, after what the
   -- pass had seen and what others had appended since, and what it appended is the history's end
-  pub record Called {P R : Type 0} (place : I → Option ℕ) (step : List I → P → R → List I → Type 0) (legal : List (Stamped I) → Type 0) (v : View I) (op : P) (reply : R) (w : View I) : Type 0 where
+  pub record Called {P R : Type 0} (place : I → Option ℕ) (step : List I → P → R → List I → Type 0)
+      (legal : List (Stamped I) → Type 0) (v : View I) (op : P) (reply : R) (w : View I) : Type 0 where
     pub between : List (Stamped I)
     pub added : List I
     pub long : v.reach ≤ length (v.seen ++ between)
@@ -64,14 +65,16 @@ module _ {I : Type 0} where
     pub same : (w.seen ≡ v.seen) × (w.mine ≡ v.mine) × (w.number ≡ v.number) × (w.splits ≡ v.splits)
 
   -- the object at the end, with some history that is legal and replays to it
-  pub record Ended {O P R : Type 0} (entries : O → List I) (step : List I → P → R → List I → Type 0) (legal : List (Stamped I) → Type 0) (o : O) : Type 0 where
+  pub record Ended {O P R : Type 0} (entries : O → List I) (step : List I → P → R → List I → Type 0)
+      (legal : List (Stamped I) → Type 0) (o : O) : Type 0 where
     pub history : List (Stamped I)
     pub whole : entries o ≡ items_of history
     pub lawful : legal history
     pub replayed : Replays step history
 
   -- the same, where the history begins with what the view v had seen
-  pub record Closed {O P R : Type 0} (place : I → Option ℕ) (entries : O → List I) (step : List I → P → R → List I → Type 0) (legal : List (Stamped I) → Type 0) (v : View I) (o : O) : Type 0 where
+  pub record Closed {O P R : Type 0} (place : I → Option ℕ) (entries : O → List I) (step : List I → P → R → List I → Type 0)
+      (legal : List (Stamped I) → Type 0) (v : View I) (o : O) : Type 0 where
     pub history : List (Stamped I)
     pub whole : entries o ≡ items_of history
     pub lawful : legal history

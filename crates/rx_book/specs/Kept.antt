@@ -1,6 +1,7 @@
 -- The rule of a book's word, over the views of all seats at it, and what each step on the word makes of a view. The contracts of
 -- a book rest on it; of it they name only the views that a split makes.
-use Rattle.std.specs.Prelude.{◌≡◌, ℕ, ◌+◌, ◌*◌, ◌/◌, ◌%◌, ◌<◌, ◌≤◌, true, false, ◌||◌, Option, List, [], ◌∷◌, ◌++◌, length, take, drop, max, bit_or}
+use Rattle.std.specs.Prelude.{◌≡◌, ℕ, ◌+◌, ◌*◌, ◌/◌, ◌%◌, ◌<◌, ◌≤◌, true, false, ◌||◌, Option, List, [], ◌∷◌, ◌++◌, length, take, drop}
+use Rattle.std.specs.Prelude.{max, bit_or}
 use mathlib.Core.Option.{some}
 use mathlib.Core.List.{IsPrefix}
 use lib.ListN.{get_elem?}
@@ -26,7 +27,18 @@ module _ {I : Type 0} where
 
   -- a seat that has seen nothing; a spent seat is left with it
   abbrev pub blank : View I
-  blank = record { marked = false; numbered = false; number = []; splits = 0; seen = []; mine = []; reach = 0; dead = 0; first = no_past; second = no_past }
+  blank = record {
+    marked = false;
+    numbered = false;
+    number = [];
+    splits = 0;
+    seen = [];
+    mine = [];
+    reach = 0;
+    dead = 0;
+    first = no_past;
+    second = no_past;
+  }
 
   -- the first seat: caller [], with the mark
   abbrev pub opening_view : View I
@@ -40,7 +52,8 @@ module _ {I : Type 0} where
       pub high : p.reach ≤ length log
       pub deaths : p.dead ≡ deaths_of place (take p.reach log)
 
-    -- the view v of the seat id. The seat `holder` has the mark, `owner` is the seat of a number, and `births` is how many numbers were split off from one
+    -- the view v of the seat id. The seat `holder` has the mark, `owner` is the seat of a number, and `births` is how many
+    -- numbers were split off from one
     pub record Fits (log : List (Stamped I)) (holder : ℕ) (owner births : List ℕ → ℕ) (id : ℕ) (v : View I) : Type 0 where
       pub now : Stands log (past_of v)
       pub first : Stands log v.first
@@ -71,12 +84,14 @@ module _ {I : Type 0} where
 
   -- what a load tells: it found no less than had been seen
   abbrev pub Looks : Step (Unit {0}) → Me (Unit {0}) (View I) → ℕ → Me (Unit {0}) (View I) → Type 0
-  Looks st me found me' = (me' ≡ (looked me.0 found, me.1)) × (me.0.reach ≤ found / 65536) × (found / 65536 < 4294967296) × (bit_or me.0.dead (found % 65536) ≡ found % 65536)
+  Looks st me found me' = (me' ≡ (looked me.0 found, me.1)) × (me.0.reach ≤ found / 65536) × (found / 65536 < 4294967296)
+      × (bit_or me.0.dead (found % 65536) ≡ found % 65536)
 
   -- what a load tells of the seat's own view, where it changes nothing: there is one log, which begins with all that was seen
   abbrev pub Told : (I → Option ℕ) → View I → Type 0
   Told place v = (log : List (Stamped I)) × Stands place log (past_of v) × Stands place log v.first × Stands place log v.second
-      × (v.marked ≡ true → v.seen ≡ log) × (v.second.marked ≡ true → v.second.seen ≡ log) × (v.numbered ≡ true → (v.mine ≡ entries_by v.number log) × (v.mine ≡ entries_by v.number v.seen))
+      × (v.marked ≡ true → v.seen ≡ log) × (v.second.marked ≡ true → v.second.seen ≡ log)
+      × (v.numbered ≡ true → (v.mine ≡ entries_by v.number log) × (v.mine ≡ entries_by v.number v.seen))
 
   -- a load that only tells
   abbrev pub Tells : (I → Option ℕ) → Step (Unit {0}) → Me (Unit {0}) (View I) → ℕ → Me (Unit {0}) (View I) → Type 0
@@ -84,7 +99,14 @@ module _ {I : Type 0} where
 
   -- the view after an append of these items
   abbrev pub grown : (I → Option ℕ) → View I → List I → View I
-  grown place v xs = record v { seen = v.seen ++ stamp_all v.number xs; mine = v.mine ++ stamp_all v.number xs; reach = length (v.seen ++ stamp_all v.number xs); dead = deaths_of place (v.seen ++ stamp_all v.number xs); first = no_past; second = no_past }
+  grown place v xs = record v {
+    seen = v.seen ++ stamp_all v.number xs;
+    mine = v.mine ++ stamp_all v.number xs;
+    reach = length (v.seen ++ stamp_all v.number xs);
+    dead = deaths_of place (v.seen ++ stamp_all v.number xs);
+    first = no_past;
+    second = no_past;
+  }
 
   -- an append
   abbrev pub Grows : (I → Option ℕ) → List I → Step (Unit {0}) → Me (Unit {0}) (View I) → ℕ → Me (Unit {0}) (View I) → Type 0
@@ -116,4 +138,11 @@ module _ {I : Type 0} where
 
   -- the view after a join: the longer `seen`, the greater `reach` with its deaths, and the mark
   abbrev pub both : View I → View I → View I
-  both v w = record v { marked = v.marked || w.marked; seen = v.seen ++ drop (length v.seen) w.seen; reach = max v.reach w.reach; dead = bit_or v.dead w.dead; first = past_of v; second = past_of w }
+  both v w = record v {
+    marked = v.marked || w.marked;
+    seen = v.seen ++ drop (length v.seen) w.seen;
+    reach = max v.reach w.reach;
+    dead = bit_or v.dead w.dead;
+    first = past_of v;
+    second = past_of w;
+  }

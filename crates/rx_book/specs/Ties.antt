@@ -11,4 +11,6 @@ use Rattle.rx_book.specs.Replay.{Replays}
 module _ {O I P R : Type 0} (entries : O → List I) (step : List I → P → R → List I → Type 0) (legal : List (Stamped I) → Type 0) where
   -- the marked seat is one of the word that the key names, and it has seen the object's whole history, which is legal and replays
   abbrev pub Tied : Snapshot (Seat (Unit {0}) (View I)) → Locked O I → Type 0
-  Tied k l = (l.mark.table_id ≡ k.value.table_id) × (l.mark.me.1 ≡ []) × (l.mark.me.0.marked ≡ true) × (l.mark.me.0.numbered ≡ false) × (entries l.object ≡ items_of l.mark.me.0.seen) × legal l.mark.me.0.seen × Replays step l.mark.me.0.seen
+  Tied k l = (l.mark.table_id ≡ k.value.table_id) × (l.mark.me.1 ≡ []) × (l.mark.me.0.marked ≡ true)
+      × (l.mark.me.0.numbered ≡ false) × (entries l.object ≡ items_of l.mark.me.0.seen) × legal l.mark.me.0.seen
+      × Replays step l.mark.me.0.seen

@@ -91,8 +91,10 @@ fn grow<O: Object, E: Added<O::Item>>(
     requires mark { (seat.old.me.0.marked ≡ true) × (seat.old.me.0.numbered ≡ true) }
     requires room { length seat.old.me.0.seen + length E.added < 4294967296 }
     requires small { deaths_of O.Item.place (seat.old.me.0.seen ++ stamp_all seat.old.me.0.number E.added) < 65536 }
-    requires by { by + deaths_of O.Item.place seat.old.me.0.seen ≡ 65536 * length E.added + deaths_of O.Item.place (seat.old.me.0.seen ++ stamp_all seat.old.me.0.number E.added) }
-    ensures { (seat.new.table_id ≡ seat.old.table_id) × (seat.new.id ≡ seat.old.id) × (seat.new.me ≡ (grown O.Item.place seat.old.me.0 E.added, seat.old.me.1)) }
+    requires by { by + deaths_of O.Item.place seat.old.me.0.seen
+        ≡ 65536 * length E.added + deaths_of O.Item.place (seat.old.me.0.seen ++ stamp_all seat.old.me.0.number E.added) }
+    ensures { (seat.new.table_id ≡ seat.old.table_id) × (seat.new.id ≡ seat.old.id)
+        × (seat.new.me ≡ (grown O.Item.place seat.old.me.0 E.added, seat.old.me.1)) }
 {
     word.append::<E>(seat, by);
 }
@@ -113,7 +115,8 @@ fn record_new<O: Object>(
     requires len { old.0 ≡ length (O.entries before.now.value) }
     requires deaths { (p : ℕ) → p < 16 → has_bit old.1.0 p ≡ has_death O.Item.place p (O.entries before.now.value) }
     ensures own { (seat.new.table_id ≡ seat.old.table_id) × (seat.new.me.1 ≡ seat.old.me.1) }
-    ensures grown { settled seat.new.me.0 ≡ grown O.Item.place seat.old.me.0 (drop (length (O.entries before.now.value)) (O.entries object.now)) }
+    ensures grown { settled seat.new.me.0 ≡ grown O.Item.place seat.old.me.0 (drop (length (O.entries before.now.value))
+        (O.entries object.now)) }
 {
     let len = object.len();
     if len > old.0 {
@@ -194,7 +197,8 @@ impl<O: Object> Book<O> {
     /// caller's own entries. The book itself takes no memory.
     pub fn call<R: Wait>(&self, rt: &R, pass: &mut Pass<O::Item>, op: O::Op) -> O::Reply
         requires own { word_of pass.old ≡ self.now }
-        requires fits { (h : List (Stamped O.Item)) → O.legal h → Begins O.Item.place (view_of pass.old) h → O.fits h (view_of pass.old).number op }
+        requires fits { (h : List (Stamped O.Item)) → O.legal h → Begins O.Item.place (view_of pass.old) h
+            → O.fits h (view_of pass.old).number op }
         ensures own { word_of pass.new ≡ word_of pass.old }
         ensures called { Called O.Item.place O.step O.legal (view_of pass.old) op result (view_of pass.new) }
     {

@@ -44,7 +44,8 @@ pub trait Object {
     /// Does an operation, which for some caller fits a legal history of the object's entries. It appends and answers by the step,
     /// and changes no earlier entry.
     fn apply<R: Wait>(&mut self, rt: &R, op: Self::Op) -> Self::Reply
-        requires { (log : List (Stamped Self.Item)) × (caller : List ℕ) × legal log × (entries self.old ≡ items_of log) × fits log caller op }
+        requires { (log : List (Stamped Self.Item)) × (caller : List ℕ) × legal log × (entries self.old ≡ items_of log)
+            × fits log caller op }
         ensures { (added : List Self.Item) × (entries self.new ≡ entries self.old ++ added) × step (entries self.old) op result added };
 
     /// The number of entries.
@@ -56,7 +57,8 @@ pub trait Object {
         ensures { (p : ℕ) → p < 16 → has_bit result.0 p ≡ has_death Self.Item.place p (entries self.now) };
 
     // Where an operation fits a legal history for a caller, the history stays legal with what the step appends.
-    ghost stays: { (log : List (Stamped Self.Item)) (caller : List ℕ) (op : Self.Op) (reply : Self.Reply) (added : List Self.Item) → legal log → fits log caller op → step (items_of log) op reply added → legal (log ++ stamp_all caller added) };
+    ghost stays: { (log : List (Stamped Self.Item)) (caller : List ℕ) (op : Self.Op) (reply : Self.Reply) (added : List Self.Item)
+        → legal log → fits log caller op → step (items_of log) op reply added → legal (log ++ stamp_all caller added) };
 }
 
 /// A law of contracts: bit p of the set of the deaths of some items tells whether the death of the place p stands among them.

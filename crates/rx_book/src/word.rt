@@ -139,7 +139,8 @@ impl<I: Dies> Word<I> {
     /// A new caller, who has seen as much.
     pub fn bear(&self, seat: &mut Spot<I>) -> Spot<I>
         requires { (seat.old.table_id ≡ self.now.table.shared.table_id) × (seat.old.me.0.numbered ≡ true) }
-        ensures parent { (seat.new.table_id ≡ seat.old.table_id) × (seat.new.id ≡ seat.old.id) × (seat.new.me ≡ (parent_left seat.old.me.0, seat.old.me.1)) }
+        ensures parent { (seat.new.table_id ≡ seat.old.table_id) × (seat.new.id ≡ seat.old.id)
+            × (seat.new.me ≡ (parent_left seat.old.me.0, seat.old.me.1)) }
         ensures born { (result.table_id ≡ seat.old.table_id) × (result.me ≡ (born seat.old.me.0, [])) }
         ensures low { length result.me.0.seen ≤ result.me.0.reach }
         ensures own { result.me.0.mine ≡ entries_by result.me.0.number result.me.0.seen }
@@ -161,7 +162,8 @@ impl<I: Dies> Word<I> {
     /// Splits the mark off.
     pub fn mark_off(&self, seat: &mut Spot<I>) -> Spot<I>
         requires { (seat.old.table_id ≡ self.now.table.shared.table_id) × (seat.old.me.0.marked ≡ true) }
-        ensures same { (seat.new.table_id ≡ seat.old.table_id) × (seat.new.id ≡ seat.old.id) × (seat.new.me ≡ (unmarked seat.old.me.0, seat.old.me.1)) }
+        ensures same { (seat.new.table_id ≡ seat.old.table_id) × (seat.new.id ≡ seat.old.id)
+            × (seat.new.me ≡ (unmarked seat.old.me.0, seat.old.me.1)) }
         ensures mark { (result.table_id ≡ seat.old.table_id) × (result.me ≡ (mark_only seat.old.me.0, [])) }
     {
         self.table.shared.split_seat::<MarkOff>(seat)
@@ -169,8 +171,10 @@ impl<I: Dies> Word<I> {
 
     /// The seat sees what the other had seen, and has its mark.
     pub fn meet(&self, seat: &mut Spot<I>, other: Spot<I>)
-        requires { (seat.old.table_id ≡ self.now.table.shared.table_id) × (other.table_id ≡ self.now.table.shared.table_id) × (other.me.1 ≡ []) }
-        ensures { (seat.new.table_id ≡ seat.old.table_id) × (seat.new.id ≡ seat.old.id) × (seat.new.me ≡ (both seat.old.me.0 other.me.0, seat.old.me.1)) }
+        requires { (seat.old.table_id ≡ self.now.table.shared.table_id) × (other.table_id ≡ self.now.table.shared.table_id)
+            × (other.me.1 ≡ []) }
+        ensures { (seat.new.table_id ≡ seat.old.table_id) × (seat.new.id ≡ seat.old.id)
+            × (seat.new.me ≡ (both seat.old.me.0 other.me.0, seat.old.me.1)) }
     {
         self.table.shared.join_seat::<Meets>(seat, other);
     }
@@ -183,8 +187,10 @@ impl<I: Dies> Word<I> {
         requires mark { (seat.old.me.0.marked ≡ true) × (seat.old.me.0.numbered ≡ true) }
         requires room { length seat.old.me.0.seen + length E.added < 4294967296 }
         requires small { deaths_of I.place (seat.old.me.0.seen ++ stamp_all seat.old.me.0.number E.added) < 65536 }
-        requires by { by + deaths_of I.place seat.old.me.0.seen ≡ 65536 * length E.added + deaths_of I.place (seat.old.me.0.seen ++ stamp_all seat.old.me.0.number E.added) }
-        ensures { (seat.new.table_id ≡ seat.old.table_id) × (seat.new.id ≡ seat.old.id) × (seat.new.me ≡ (grown I.place seat.old.me.0 E.added, seat.old.me.1)) }
+        requires by { by + deaths_of I.place seat.old.me.0.seen
+            ≡ 65536 * length E.added + deaths_of I.place (seat.old.me.0.seen ++ stamp_all seat.old.me.0.number E.added) }
+        ensures { (seat.new.table_id ≡ seat.old.table_id) × (seat.new.id ≡ seat.old.id)
+            × (seat.new.me ≡ (grown I.place seat.old.me.0 E.added, seat.old.me.1)) }
     {
         self.table.shared.fetch_add::<Grow<E>>(seat, 0, by);
     }

@@ -6,7 +6,8 @@ use Rattle.rx_base.specs.declared.values.Value.TheVariants.{Num as Number, Ref}
 use Rattle.rx_rules.specs.declared.entries.Act.{Act}
 use Rattle.rx_rules.specs.declared.events.Cell.{Cell}
 use Rattle.rx_rules.specs.Code.{Block, Stmt}
-use Rattle.rx_rules.specs.Terms.{Term, Empty, Raise, Run, Turns, Trying, Body, Held, Vars, no_vars, value_of, items, Local, does, Answer, answered, vars_after, granted, child}
+use Rattle.rx_rules.specs.Terms.{Term, Empty, Raise, Run, Turns, Trying, Body, Held, Vars, no_vars, value_of, items, Local, does}
+use Rattle.rx_rules.specs.Terms.{Answer, answered, vars_after, granted, child}
 use Rattle.rx_rules.specs.Plays.{Tells, Fits, brought}
 use Rattle.rx_script.specs.Grammar.{AreNames, spellings}
 use Rattle.rx_check.specs.Rules.{Kind, has, names_of_all, exprs_of, targets_of, assigned}
@@ -32,9 +33,12 @@ beginning (Held rest) = None
 -- the variables and the term to which a task of the script can come, wherever it is and whatever the store and the ledger answer
 pub data Comes (code : Block) : Vars → Term → Type 0 where
   main : Comes code no_vars (items code [] Empty)
-  local : {vars left : Vars} {t after : Term} (here places : ℕ) → Comes code vars t → does vars here places t ≡ Local after left → Comes code left after
-  stores : {vars : Vars} {t : Term} (here : PlaceId) (places : ℕ) (cell : Cell) (a : Answer) → Comes code vars t → Tells (does vars here.0 places t) here cell a → Comes code (vars_after a vars) (answered a t)
-  asks : {vars : Vars} {t : Term} (here : PlaceId) (places : ℕ) (act : Act) → Comes code vars t → Fits here t (does vars here.0 places t) act → Comes code vars (granted (brought act) t)
+  local : {vars left : Vars} {t after : Term} (here places : ℕ) → Comes code vars t → does vars here places t ≡ Local after left
+      → Comes code left after
+  stores : {vars : Vars} {t : Term} (here : PlaceId) (places : ℕ) (cell : Cell) (a : Answer) → Comes code vars t
+      → Tells (does vars here.0 places t) here cell a → Comes code (vars_after a vars) (answered a t)
+  asks : {vars : Vars} {t : Term} (here : PlaceId) (places : ℕ) (act : Act) → Comes code vars t
+      → Fits here t (does vars here.0 places t) act → Comes code vars (granted (brought act) t)
   -- a task that it starts has a copy of its variables
   starts : {vars : Vars} {t : Term} → Comes code vars t → Comes code vars (child t)
 

@@ -40,7 +40,8 @@ pub struct CheckFault {
 pub fn check(alloc: Global, script: Script) -> Result<Program, CheckFault>
     ensures ok { IfOk result (λ p. (p.script ≡ script) × ((t : Block) → Stands script t → Meets t × (p.work ≡ work t))) }
     ensures back { IfErr result (λ f. f.script ≡ script) }
-    ensures bad { IfErr result (λ f. (rule node : ℕ) → f.cause ≡ Bad rule node → (t : Block) → Stands script t → verdict t ≡ Some (rule, node)) }
+    ensures bad { IfErr result (λ f. (rule node : ℕ) → f.cause ≡ Bad rule node → (t : Block) → Stands script t
+        → verdict t ≡ Some (rule, node)) }
 {
     match judge(alloc, &script) {
         Ok(work) => Ok(Program { script, work }),

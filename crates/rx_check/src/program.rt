@@ -43,7 +43,8 @@ impl Program {
 
 /// A law: a checked script stands for statements of the grammar that meet the rules, with its names, and has their work.
 pub fn checked(p: &Program)
-    ensures { (t : Block) × Stands p.now.script t × AllFit t × AreNames p.now.script.names (spellings t) × Meets t × (p.now.work ≡ work t) × (work t ≤ 100000) }
+    ensures { (t : Block) × Stands p.now.script t × AllFit t × AreNames p.now.script.names (spellings t) × Meets t
+        × (p.now.work ≡ work t) × (work t ≤ 100000) }
 {
     whole(&p.script);
 }

@@ -66,7 +66,8 @@ fn take_part(
     so_far: Uses,
 ) -> Result<Uses, CheckCause>
     requires { (e : TheExpr) × ExprStands script.now.exprs part.id e }
-    ensures uses { IfOk result (λ u. (v : TheUses) → Yields walk.now script.now.exprs (waiting.old.items ++ part ∷ []) v → (w : TheUses) × Yields walk.now script.now.exprs waiting.new.items w × (join so_far v ≡ join u w)) }
+    ensures uses { IfOk result (λ u. (v : TheUses) → Yields walk.now script.now.exprs (waiting.old.items ++ part ∷ []) v
+        → (w : TheUses) × Yields walk.now script.now.exprs waiting.new.items w × (join so_far v ≡ join u w)) }
     ensures less { OnOk result (weights waiting.new.items < weights (waiting.old.items ++ part ∷ [])) }
     ensures why { IfErr result (λ e. e ≡ NoMemory) }
 {

@@ -1,7 +1,8 @@
 -- How many steps a term can still make.
 use Rattle.std.specs.Prelude.{ℕ, zero, suc, ◌+◌, ◌-◌, ◌*◌, ◌<◌}
 use Rattle.rx_rules.specs.Code.{work, work_of}
-use Rattle.rx_rules.specs.Terms.{Term, Empty, Run, Raise, Turns, Trying, Body, Held, Does, Local, Makes, Gets, Puts, Forgets, Opens, Calls, Spawns, Waits, Releases, Prints, Done}
+use Rattle.rx_rules.specs.Terms.{Term, Empty, Run, Raise, Turns, Trying, Body, Held, Does, Local, Makes, Gets, Puts, Forgets, Opens}
+use Rattle.rx_rules.specs.Terms.{Calls, Spawns, Waits, Releases, Prints, Done}
 
 -- so many turns, of so many steps each and one to begin it
 abbrev pub turns_cost : ℕ → ℕ → ℕ

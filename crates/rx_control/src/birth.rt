@@ -20,7 +20,8 @@ pub(crate) fn start(
     block: BlockId,
 ) -> Result<Control, NoMemory>
     requires { (b : Block) × BlockStands script.now block b }
-    ensures { IfOk result (λ c. (b : Block) → BlockStands script.now block b → StandsFor script.now c (items b base Empty) × (c.vars ≡ vars)) }
+    ensures { IfOk result (λ c. (b : Block) → BlockStands script.now block b → StandsFor script.now c (items b base Empty)
+        × (c.vars ≡ vars)) }
 {
     let mut frames = Vec::new(alloc);
     if frames
@@ -66,7 +67,9 @@ pub(crate) fn born(
 
 // The block that a new task runs.
 fn body_of(stmt: Stmt) -> Option<BlockId>
-    ensures { MatchOption result ((s : Shape) (t : Tree) (x : List ℕ) → StmtIs s stmt t → stmt_child t x ≡ Empty) (λ k. (s : Shape) (t : Tree) (x : List ℕ) → StmtIs s stmt t → (b : Block) × BlockStands s k b × (stmt_child t x ≡ items b x Empty)) }
+    ensures { MatchOption result ((s : Shape) (t : Tree) (x : List ℕ) → StmtIs s stmt t → stmt_child t x ≡ Empty)
+        (λ k. (s : Shape) (t : Tree) (x : List ℕ) → StmtIs s stmt t → (b : Block) × BlockStands s k b
+        × (stmt_child t x ≡ items b x Empty)) }
 {
     match stmt {
         Stmt::Async { body } => Some(body),

@@ -1,9 +1,11 @@
 // The control of one activity.
-ghost use Rattle.std.specs.Prelude.{◌≡◌, ◌≢◌, ℕ, ◌+◌, ◌*◌, ◌<◌, ◌≤◌, List, [], ◌∷◌, ◌++◌, Option, Some, None, IfOk, OnOk, OnErr, IfErr, MatchOption, option_to_list, vec_len, vec_capacity};
+ghost use Rattle.std.specs.Prelude.{◌≡◌, ◌≢◌, ℕ, ◌+◌, ◌*◌, ◌<◌, ◌≤◌, List, [], ◌∷◌, ◌++◌, Option, Some, None, IfOk, OnOk, OnErr, IfErr};
+ghost use Rattle.std.specs.Prelude.{MatchOption, option_to_list, vec_len, vec_capacity};
 ghost use Rattle.rx_base.specs.declared.ids.PlaceId.{PlaceId};
 ghost use Rattle.rx_base.specs.declared.values.Fault.{Fault};
 ghost use Rattle.rx_rules.specs.Code.{Block, work};
-ghost use Rattle.rx_rules.specs.Terms.{no_vars, Term, at, Empty, Waits, does, begins, child, items, granted, replaced, answered, answer_of, vars_after, receives};
+ghost use Rattle.rx_rules.specs.Terms.{no_vars, Term, at, Empty, Waits, does, begins, child, items, granted, replaced, answered};
+ghost use Rattle.rx_rules.specs.Terms.{answer_of, vars_after, receives};
 ghost use Rattle.rx_script.specs.Shape.{Shape, Stands};
 ghost use Rattle.rx_control.specs.declared.frame.Frame.{Frame};
 ghost use Rattle.rx_control.specs.Stands.{StandsFor, path_of, Leaves, IsSame};
@@ -64,7 +66,8 @@ impl Control {
 
     /// The control of the main activity: it stands at the front of the script, and no name has a value.
     pub fn main(alloc: Global, p: &Program) -> Result<Control, NoMemory>
-        ensures stands { IfOk result (λ c. (b : Block) → Stands p.now.script b → StandsFor p.now.script c (items b [] Empty) × (c.vars ≡ no_vars)) }
+        ensures stands { IfOk result (λ c. (b : Block) → Stands p.now.script b → StandsFor p.now.script c (items b [] Empty)
+            × (c.vars ≡ no_vars)) }
         ensures steps { (b : Block) → steps (items b [] Empty) ≡ 3 * work b }
     {
         let script = p.script();
@@ -80,7 +83,8 @@ impl Control {
 
     // The block, the position and the part of the statement at the front, where there is one.
     fn front(&self) -> Option<(BlockId, u32, Option<u32>)>
-        ensures { MatchOption result ((s : Shape) (t : Term) → StandsFor s self.now t → begins t ≡ None) (λ f. (self.now.raised ≡ None) × ((below : List Frame) × (self.now.frames.items ≡ below ++ Frame.Seq f.0 f.1 f.2 ∷ []))) }
+        ensures { MatchOption result ((s : Shape) (t : Term) → StandsFor s self.now t → begins t ≡ None)
+            (λ f. (self.now.raised ≡ None) × ((below : List Frame) × (self.now.frames.items ≡ below ++ Frame.Seq f.0 f.1 f.2 ∷ []))) }
     {
         match &self.raised {
             Some(_) => None,
@@ -93,7 +97,8 @@ impl Control {
 
     // The path of the statement at the front.
     fn path_here(&self, alloc: Global, next: u32, part: Option<u32>) -> Result<Path, NoMemory>
-        ensures { IfOk result (λ path. (below : List Frame) (f : Frame) → self.now.frames.items ≡ below ++ f ∷ [] → path ≡ at (path_of self.now.base below ++ option_to_list part) next) }
+        ensures { IfOk result (λ path. (below : List Frame) (f : Frame) → self.now.frames.items ≡ below ++ f ∷ []
+            → path ≡ at (path_of self.now.base below ++ option_to_list part) next) }
     {
         let mut path = path_below(alloc, &self.base, &self.frames)?;
         add_part(&mut path, part)?;
@@ -115,7 +120,8 @@ impl Control {
     /// that starts no task, the new control has nothing to run.
     pub fn child(&self, alloc: Global, p: &Program) -> Result<Control, NoMemory>
         requires { (t : Term) × (x : List ℕ) × StandsFor p.now.script self.now t × (begins t ≡ Some x) }
-        ensures stands { IfOk result (λ c. (t : Term) → StandsFor p.now.script self.now t → (x : List ℕ) → begins t ≡ Some x → StandsFor p.now.script c (child t) × (c.vars ≡ self.now.vars)) }
+        ensures stands { IfOk result (λ c. (t : Term) → StandsFor p.now.script self.now t → (x : List ℕ) → begins t ≡ Some x
+            → StandsFor p.now.script c (child t) × (c.vars ≡ self.now.vars)) }
         ensures steps { (t : Term) (x : List ℕ) → begins t ≡ Some x → steps (child t) < steps t }
     {
         let script = p.script();
@@ -144,8 +150,10 @@ impl Control {
         places: u8,
     ) -> Result<(), NoMemory>
         requires { (t : Term) × StandsFor p.now.script self.old t }
-        ensures ok { OnOk result ((t : Term) → StandsFor p.now.script self.old t → Leaves p.now.script self.new (does self.old.vars here.0 places t)) }
-        ensures other { (t : Term) → StandsFor p.now.script self.old t → next_of (does self.old.vars here.0 places t) ≢ Next.Local → IsSame self.new self.old }
+        ensures ok { OnOk result ((t : Term) → StandsFor p.now.script self.old t
+            → Leaves p.now.script self.new (does self.old.vars here.0 places t)) }
+        ensures other { (t : Term) → StandsFor p.now.script self.old t → next_of (does self.old.vars here.0 places t) ≢ Next.Local
+            → IsSame self.new self.old }
         ensures err { OnErr result (IsSame self.new self.old) }
         ensures steps { (t : Term) → Falls (steps t) (does self.old.vars here.0 places t) }
     {
@@ -165,8 +173,10 @@ impl Control {
     ) -> Result<(), NoMemory>
         requires room { vec_len self.old.frames + 2 ≤ vec_capacity self.old.frames }
         requires stands { (t : Term) × StandsFor script.now self.old t }
-        ensures ok { OnOk result ((t : Term) → StandsFor script.now self.old t → Leaves script.now self.new (does self.old.vars here.0 places t)) }
-        ensures other { (t : Term) → StandsFor script.now self.old t → next_of (does self.old.vars here.0 places t) ≢ Next.Local → IsSame self.new self.old }
+        ensures ok { OnOk result ((t : Term) → StandsFor script.now self.old t
+            → Leaves script.now self.new (does self.old.vars here.0 places t)) }
+        ensures other { (t : Term) → StandsFor script.now self.old t → next_of (does self.old.vars here.0 places t) ≢ Next.Local
+            → IsSame self.new self.old }
         ensures err { OnErr result (IsSame self.new self.old) }
     {
         match top(&self.frames) {
@@ -204,7 +214,8 @@ impl Control {
         requires room { vec_len self.old.frames + 2 ≤ vec_capacity self.old.frames }
         requires due { (t : Term) × (below : List Frame) × Due script.now self.old t below block next part plan }
         requires faults { FaultsFit plan faults }
-        ensures done { (t : Term) (below : List Frame) → (h : Due script.now self.old t below block next part plan) → Leaves script.now self.new (lifted h.front.others h.act) }
+        ensures done { (t : Term) (below : List Frame) → (h : Due script.now self.old t below block next part plan)
+            → Leaves script.now self.new (lifted h.front.others h.act) }
         ensures asks { (next : Next) → plan ≡ Plan.Ask next → IsSame self.new self.old }
     {
         let after = following(script, block, next);
@@ -259,8 +270,11 @@ impl Control {
     // Makes the next turn of a `repeat`, or ends it.
     fn take_turn(&mut self, script: &Script, body: BlockId, turn: u32, times: u32)
         requires room { vec_len self.old.frames + 2 ≤ vec_capacity self.old.frames }
-        requires stands { (t : Term) × (below : List Frame) × StandsFor script.now self.old t × (self.old.frames.items ≡ below ++ Frame.Turns body turn times ∷ []) }
-        ensures { (here : PlaceId) (places : ℕ) (t : Term) (below : List Frame) → StandsFor script.now self.old t → self.old.frames.items ≡ below ++ Frame.Turns body turn times ∷ [] → Leaves script.now self.new (does self.old.vars here.0 places t) }
+        requires stands { (t : Term) × (below : List Frame) × StandsFor script.now self.old t
+            × (self.old.frames.items ≡ below ++ Frame.Turns body turn times ∷ []) }
+        ensures { (here : PlaceId) (places : ℕ) (t : Term) (below : List Frame) → StandsFor script.now self.old t
+            → self.old.frames.items ≡ below ++ Frame.Turns body turn times ∷ []
+            → Leaves script.now self.new (does self.old.vars here.0 places t) }
     {
         drop_top(&mut self.frames);
         if times <= turn {
@@ -283,8 +297,11 @@ impl Control {
     // Leaves a `try` whose body is over, or in which faults were raised.
     fn leave_try(&mut self, script: &Script, dead_only: bool, handler: BlockId)
         requires room { vec_len self.old.frames + 2 ≤ vec_capacity self.old.frames }
-        requires stands { (t : Term) × (below : List Frame) × StandsFor script.now self.old t × (self.old.frames.items ≡ below ++ Frame.Try dead_only handler ∷ []) }
-        ensures { (here : PlaceId) (places : ℕ) (t : Term) (below : List Frame) → StandsFor script.now self.old t → self.old.frames.items ≡ below ++ Frame.Try dead_only handler ∷ [] → Leaves script.now self.new (does self.old.vars here.0 places t) }
+        requires stands { (t : Term) × (below : List Frame) × StandsFor script.now self.old t
+            × (self.old.frames.items ≡ below ++ Frame.Try dead_only handler ∷ []) }
+        ensures { (here : PlaceId) (places : ℕ) (t : Term) (below : List Frame) → StandsFor script.now self.old t
+            → self.old.frames.items ≡ below ++ Frame.Try dead_only handler ∷ []
+            → Leaves script.now self.new (does self.old.vars here.0 places t) }
     {
         drop_top(&mut self.frames);
         match self.raised.take() {
@@ -314,7 +331,9 @@ impl Control {
         answer: Result<Option<Value>, Fault>,
     ) -> Result<(), NoMemory>
         requires { (t : Term) × StandsFor p.now.script self.old t }
-        ensures ok { OnOk result ((t : Term) (x : List ℕ) → StandsFor p.now.script self.old t → begins t ≡ Some x → StandsFor p.now.script self.new (answered (answer_of (receives t) answer) t) × (self.new.vars ≡ vars_after (answer_of (receives t) answer) self.old.vars)) }
+        ensures ok { OnOk result ((t : Term) (x : List ℕ) → StandsFor p.now.script self.old t → begins t ≡ Some x
+            → StandsFor p.now.script self.new (answered (answer_of (receives t) answer) t)
+            × (self.new.vars ≡ vars_after (answer_of (receives t) answer) self.old.vars)) }
         ensures other { (t : Term) → StandsFor p.now.script self.old t → begins t ≡ None → IsSame self.new self.old }
         ensures err { OnErr result (IsSame self.new self.old) }
         ensures steps { (t : Term) (x : List ℕ) → begins t ≡ Some x → steps (answered (answer_of (receives t) answer) t) < steps t }
@@ -330,7 +349,9 @@ impl Control {
         answer: Result<Option<Value>, Fault>,
     ) -> Result<(), NoMemory>
         requires { (t : Term) × StandsFor script.now self.old t }
-        ensures ok { OnOk result ((t : Term) (x : List ℕ) → StandsFor script.now self.old t → begins t ≡ Some x → StandsFor script.now self.new (answered (answer_of (receives t) answer) t) × (self.new.vars ≡ vars_after (answer_of (receives t) answer) self.old.vars)) }
+        ensures ok { OnOk result ((t : Term) (x : List ℕ) → StandsFor script.now self.old t → begins t ≡ Some x
+            → StandsFor script.now self.new (answered (answer_of (receives t) answer) t)
+            × (self.new.vars ≡ vars_after (answer_of (receives t) answer) self.old.vars)) }
         ensures other { (t : Term) → StandsFor script.now self.old t → begins t ≡ None → IsSame self.new self.old }
         ensures err { OnErr result (IsSame self.new self.old) }
     {
@@ -409,11 +430,14 @@ impl Control {
     /// Hands out the list that a wait or the end carries, which is empty where nothing was raised; then nothing changes. The
     /// control stands afterwards for the same without that list; a wait grants the same.
     pub fn take_faults(&mut self, alloc: Global) -> Faults
-        ensures list { (s : Shape) (t : Term) (here : PlaceId) (places : ℕ) (faults : List Fault) → StandsFor s self.old t → carried (does self.old.vars here.0 places t) ≡ Some faults → result ≡ faults }
-        ensures after { (s : Shape) (t : Term) (here : PlaceId) (places : ℕ) (faults : List Fault) → StandsFor s self.old t → carried (does self.old.vars here.0 places t) ≡ Some faults → StandsFor s self.new (replaced t Empty) }
+        ensures list { (s : Shape) (t : Term) (here : PlaceId) (places : ℕ) (faults : List Fault) → StandsFor s self.old t
+            → carried (does self.old.vars here.0 places t) ≡ Some faults → result ≡ faults }
+        ensures after { (s : Shape) (t : Term) (here : PlaceId) (places : ℕ) (faults : List Fault) → StandsFor s self.old t
+            → carried (does self.old.vars here.0 places t) ≡ Some faults → StandsFor s self.new (replaced t Empty) }
         ensures vars { self.new.vars ≡ self.old.vars }
         ensures calm { self.old.raised ≡ None → (result ≡ []) × IsSame self.new self.old }
-        ensures wait { (t : Term) (here : PlaceId) (places : ℕ) (faults list : List Fault) → does self.old.vars here.0 places t ≡ Waits faults → granted list (replaced t Empty) ≡ granted list t }
+        ensures wait { (t : Term) (here : PlaceId) (places : ℕ) (faults list : List Fault)
+            → does self.old.vars here.0 places t ≡ Waits faults → granted list (replaced t Empty) ≡ granted list t }
         ensures steps { (t : Term) → steps (replaced t Empty) ≤ steps t }
     {
         match self.raised.take() {

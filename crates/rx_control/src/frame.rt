@@ -60,7 +60,8 @@ pub(crate) fn drop_top(frames: &mut Vec<Frame>)
 pub(crate) fn go_on(frames: &mut Vec<Frame>, block: BlockId, next: u32, part: Option<u32>)
     requires room { vec_len frames.old ≤ vec_capacity frames.old }
     requires some { 0 < vec_len frames.old }
-    ensures items { (below : List Frame) (f : Frame) → frames.old.items ≡ below ++ f ∷ [] → frames.new.items ≡ below ++ Frame.Seq block next part ∷ [] }
+    ensures items { (below : List Frame) (f : Frame) → frames.old.items ≡ below ++ f ∷ []
+        → frames.new.items ≡ below ++ Frame.Seq block next part ∷ [] }
     ensures len { vec_len frames.new ≡ vec_len frames.old }
     ensures capacity { vec_capacity frames.new ≡ vec_capacity frames.old }
 {
@@ -82,7 +83,8 @@ fn is_over(script: &Script, frame: Frame) -> bool
 /// Takes off the blocks without statements left.
 pub(crate) fn settle(script: &Script, frames: &mut Vec<Frame>)
     requires { (base : List ℕ) × (levels : List Level) × FramesStand script.now base frames.old.items levels }
-    ensures { (base : List ℕ) (levels : List Level) → FramesStand script.now base frames.old.items levels → SettlesTo script.now base frames.new.items None levels }
+    ensures { (base : List ℕ) (levels : List Level) → FramesStand script.now base frames.old.items levels
+        → SettlesTo script.now base frames.new.items None levels }
 {
     'frames: while let Some(frame) = top(frames) {
         if !is_over(script, frame) {
@@ -94,7 +96,8 @@ pub(crate) fn settle(script: &Script, frames: &mut Vec<Frame>)
 
 /// Takes off what stands above the innermost try or finish.
 pub(crate) fn unwind(frames: &mut Vec<Frame>)
-    ensures { (s : Shape) (base : List ℕ) (levels : List Level) (faults : List Fault) → FramesStand s base frames.old.items levels → SettlesTo s base frames.new.items (Some faults) levels }
+    ensures { (s : Shape) (base : List ℕ) (levels : List Level) (faults : List Fault) → FramesStand s base frames.old.items levels
+        → SettlesTo s base frames.new.items (Some faults) levels }
 {
     'frames: while let Some(frame) = top(frames) {
         if is_catch(frame) {

@@ -4,7 +4,8 @@ ghost use Rattle.rx_base.specs.declared.values.Value.{Value};
 ghost use Rattle.rx_base.specs.declared.values.Value.TheVariants.{Num as Number};
 ghost use Rattle.rx_base.specs.declared.values.Fault.TheVariants.{Thrown, WrongPlace};
 ghost use Rattle.rx_rules.specs.Code.{Stmt as Tree, Block};
-ghost use Rattle.rx_rules.specs.Terms.{Vars, Term, Does, Local, Gets, Puts, Forgets, Prints, Spawns, Calls, bound, raise, ref_in, target_of, with_number, with_place, is_zero, items, at};
+ghost use Rattle.rx_rules.specs.Terms.{Vars, Term, Does, Local, Gets, Puts, Forgets, Prints, Spawns, Calls, bound, raise, ref_in};
+ghost use Rattle.rx_rules.specs.Terms.{target_of, with_number, with_place, is_zero, items, at};
 ghost use Rattle.rx_script.specs.Shape.{Shape, StmtIs, BlockStands};
 ghost use Rattle.rx_control.specs.Next.{next_of};
 ghost use Rattle.rx_control.specs.Inside.Plans.{Plans, IsPlan, place_in};
@@ -135,7 +136,8 @@ fn place(z: i64, places: u8) -> Result<PlaceId, Fault>
 
 // `set`, its expressions evaluated.
 fn plan_set(name: NameId, z: Option<i64>) -> Plan
-    ensures { (s : Shape) (vars : Vars) (x : List ℕ) (rest : Term) → IsPlan s result vars x rest (with_number vars z (λ z. Local rest (bound name.0 (Number z) vars))) }
+    ensures { (s : Shape) (vars : Vars) (x : List ℕ) (rest : Term)
+        → IsPlan s result vars x rest (with_number vars z (λ z. Local rest (bound name.0 (Number z) vars))) }
 {
     match z {
         Some(value) => Plan::Assign { name, value },
@@ -145,7 +147,9 @@ fn plan_set(name: NameId, z: Option<i64>) -> Plan
 
 // `get`, its expressions evaluated.
 fn plan_get(k: Option<i64>, r: GlobalRef, here: PlaceId) -> Plan
-    ensures { (s : Shape) (vars : Vars) (x : List ℕ) (rest : Term) (name : ℕ) → IsPlan s result vars x rest (with_number vars k (λ k. cond (r.home.0 == here.0) (Gets name r k) (Local (raise WrongPlace) vars))) }
+    ensures { (s : Shape) (vars : Vars) (x : List ℕ) (rest : Term) (name : ℕ)
+        → IsPlan s result vars x rest (with_number vars k (λ k. cond (r.home.0 == here.0) (Gets name r k)
+        (Local (raise WrongPlace) vars))) }
 {
     match k {
         Some(index) => {
@@ -161,7 +165,9 @@ fn plan_get(k: Option<i64>, r: GlobalRef, here: PlaceId) -> Plan
 
 // `put`, its expressions evaluated.
 fn plan_put(k: Option<i64>, z: Option<i64>, r: GlobalRef, here: PlaceId) -> Plan
-    ensures { (s : Shape) (vars : Vars) (x : List ℕ) (rest : Term) → IsPlan s result vars x rest (with_number vars k (λ k. with_number vars z (λ z. cond (r.home.0 == here.0) (Puts r k z) (Local (raise WrongPlace) vars)))) }
+    ensures { (s : Shape) (vars : Vars) (x : List ℕ) (rest : Term)
+        → IsPlan s result vars x rest (with_number vars k (λ k. with_number vars z (λ z. cond (r.home.0 == here.0) (Puts r k z)
+        (Local (raise WrongPlace) vars)))) }
 {
     match k {
         Some(index) => match z {
@@ -184,7 +190,8 @@ fn plan_put(k: Option<i64>, z: Option<i64>, r: GlobalRef, here: PlaceId) -> Plan
 
 // `forget`, its expressions evaluated.
 fn plan_forget(r: GlobalRef, here: PlaceId) -> Plan
-    ensures { (s : Shape) (vars : Vars) (x : List ℕ) (rest : Term) → IsPlan s result vars x rest (cond (r.home.0 == here.0) (Forgets r) (Local (raise WrongPlace) vars)) }
+    ensures { (s : Shape) (vars : Vars) (x : List ℕ) (rest : Term)
+        → IsPlan s result vars x rest (cond (r.home.0 == here.0) (Forgets r) (Local (raise WrongPlace) vars)) }
 {
     if r.home.0 == here.0 {
         Plan::Ask(Next::Cell(CellOp::Forget { target: r }))
@@ -205,7 +212,8 @@ fn plan_print(z: Option<i64>) -> Plan
 
 // `throw`, its expressions evaluated.
 fn plan_throw(z: Option<i64>) -> Plan
-    ensures { (s : Shape) (vars : Vars) (x : List ℕ) (rest : Term) → IsPlan s result vars x rest (with_number vars z (λ z. Local (raise (Thrown z)) vars)) }
+    ensures { (s : Shape) (vars : Vars) (x : List ℕ) (rest : Term)
+        → IsPlan s result vars x rest (with_number vars z (λ z. Local (raise (Thrown z)) vars)) }
 {
     match z {
         Some(value) => Plan::Raise(Fault::Thrown(value)),
@@ -235,7 +243,9 @@ fn plan_at(to: Result<PlaceId, Fault>) -> Plan
 
 // `if`, its expressions evaluated.
 fn choose(z: Option<i64>, first: BlockId, other: BlockId) -> Plan
-    ensures { (s : Shape) (vars : Vars) (x : List ℕ) (rest : Term) (a b : Block) → BlockStands s first a → BlockStands s other b → IsPlan s result vars x rest (with_number vars z (λ z. Local (cond (is_zero z) (items b (at x 1) rest) (items a (at x 0) rest)) vars)) }
+    ensures { (s : Shape) (vars : Vars) (x : List ℕ) (rest : Term) (a b : Block) → BlockStands s first a → BlockStands s other b
+        → IsPlan s result vars x rest (with_number vars z (λ z. Local (cond (is_zero z) (items b (at x 1) rest)
+        (items a (at x 0) rest)) vars)) }
 {
     match z {
         Some(z) => {

@@ -34,7 +34,8 @@ pub(crate) fn following(script: &Script, block: BlockId, next: u32) -> u32
 
 /// The block, the position and the part of a block's frame.
 pub(crate) fn statement_of(frame: Frame) -> Option<(BlockId, u32, Option<u32>)>
-    ensures { MatchOption result ((s : Shape) (c : Control) (t : Term) (below : List Frame) → c.frames.items ≡ below ++ frame ∷ [] → StandsFor s c t → c.raised ≡ None → begins t ≡ None) (λ f. frame ≡ Frame.Seq f.0 f.1 f.2) }
+    ensures { MatchOption result ((s : Shape) (c : Control) (t : Term) (below : List Frame) → c.frames.items ≡ below ++ frame ∷ []
+        → StandsFor s c t → c.raised ≡ None → begins t ≡ None) (λ f. frame ≡ Frame.Seq f.0 f.1 f.2) }
 {
     match frame {
         Frame::Seq { block, next, part } => Some((block, next, part)),
@@ -85,7 +86,8 @@ pub(crate) fn open_after(script: &Script, frames: &mut Vec<Frame>, stmt: Stmt)
     requires room { vec_len frames.old + 2 ≤ vec_capacity frames.old }
     requires stands { (base : List ℕ) × (levels : List Level) × FramesStand script.now base frames.old.items levels }
     requires stmt { (t : Tree) × StmtIs script.now stmt t }
-    ensures { (base : List ℕ) (levels : List Level) (t : Tree) → FramesStand script.now base frames.old.items levels → StmtIs script.now stmt t → SettlesTo script.now base frames.new.items None (opened t (path_of base frames.old.items) levels) }
+    ensures { (base : List ℕ) (levels : List Level) (t : Tree) → FramesStand script.now base frames.old.items levels
+        → StmtIs script.now stmt t → SettlesTo script.now base frames.new.items None (opened t (path_of base frames.old.items) levels) }
 {
     match stmt {
         Stmt::Finish { body } => {

@@ -3,7 +3,8 @@ ghost use Rattle.std.specs.Prelude.{◌≡◌};
 ghost use Rattle.rx_rules.specs.Tree.{Tree};
 ghost use Rattle.rx_rules.specs.Entries.{strike};
 ghost use Rattle.rx_finish.specs.Callers.{MayAskMoving, MayAskTo, MayAskArrive, MayAskWait, MayAskRelease, MayAskEnd, HasRoot, MayStrike};
-ghost use Rattle.rx_finish.specs.Calls.{OpenReply, CallReply, SpawnReply, ArriveReply, WaitReply, is_ready, ReleaseReply, EndReply, PrintReply, RootReply};
+ghost use Rattle.rx_finish.specs.Calls.{OpenReply, CallReply, SpawnReply, ArriveReply, WaitReply, is_ready, ReleaseReply, EndReply};
+ghost use Rattle.rx_finish.specs.Calls.{PrintReply, RootReply};
 
 use rx_base::{Faults, PlaceId, PlaceSet, ScopeId, TaskId};
 use rx_rules::Where;
@@ -111,5 +112,6 @@ pub trait FinishLedger: Drop {
     /// memory.
     fn death(&mut self, place: PlaceId, at: u32)
         requires { (T : Tree) × stands self.old T × MayStrike T place at }
-        ensures { (T : Tree) → stands self.old T → MayStrike T place at → stands self.new (strike (record { place = place; entry = at }) T) };
+        ensures { (T : Tree) → stands self.old T → MayStrike T place at
+            → stands self.new (strike (record { place = place; entry = at }) T) };
 }

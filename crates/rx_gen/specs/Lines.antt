@@ -8,7 +8,8 @@ only t = Then t Nothing
 
 -- line i over q places: `try { finish { at A async { at B async { print I; } } } } catch dead { }`
 abbrev pub line : ℕ → ℕ → Stmt
-line q i = Try (only (Finish (only (AtAsync (Num (pos (i % q))) (only (AtAsync (Num (pos ((i + 1) % q))) (only (Print (Num (pos i)))))))))) true Nothing
+line q i = Try (only (Finish (only (AtAsync (Num (pos (i % q)))
+    (only (AtAsync (Num (pos ((i + 1) % q))) (only (Print (Num (pos i)))))))))) true Nothing
 
 -- the n lines from line i on
 abbrev pub lines_from : ℕ → ℕ → ℕ → Block

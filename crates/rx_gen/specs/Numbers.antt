@@ -51,7 +51,13 @@ loses (Death place) = false
 -- the numbers of a history's entries; the first task is born with none
 abbrev pub numbers : List Entry → Counts
 numbers entries =
-    record { entries = length entries; tasks = 1 + count_by starts entries; prints = count_by prints entries; deaths = count_by dies entries; losses = count_by loses entries }
+    record {
+      entries = length entries;
+      tasks = 1 + count_by starts entries;
+      prints = count_by prints entries;
+      deaths = count_by dies entries;
+      losses = count_by loses entries;
+    }
 
 -- the line of one number
 abbrev pub count_line : List ℕ → ℕ → List ℕ

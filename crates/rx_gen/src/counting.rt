@@ -1,12 +1,13 @@
 // How the numbers of a history are counted and written.
 ghost use Rattle.std.specs.Prelude.{◌≡◌, ◌<◌, ◌≤◌, cond, ◌^◌, ◌-◌, ◌++◌, length, OnOk, OnErr};
 ghost use Rattle.rx_base.specs.Sets.{members};
-ghost use Rattle.rx_gen.specs.Numbers.{has_some, starts_by, starts, prints_by, prints, dies, loses_by, loses, numbers, count_line, counts_text};
+ghost use Rattle.rx_gen.specs.Numbers.{has_some, starts_by, starts, prints_by, prints, dies, loses_by, loses, numbers, count_line};
+ghost use Rattle.rx_gen.specs.Numbers.{counts_text};
 
 use crate::Counts;
 use rx_base::{NoMemory, PlaceSet};
-use rx_text::put_natural;
 use rx_history::{Act, Entry, History};
+use rx_text::put_natural;
 
 /// The numbers of a history of fewer than 4,294,967,295 entries. It goes through the entries once.
 pub fn counts(history: &History) -> Counts

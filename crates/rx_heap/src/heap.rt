@@ -1,5 +1,6 @@
 // The heap.
-ghost use Rattle.std.specs.Prelude.{◌≡◌, ℕ, ◌+◌, ◌<◌, ◌≤◌, ◌++◌, ◌↔◌, pos, [], ◌∷◌, All, IfOk, IsErr, OnErr, length, take, drop, replicate, slice_get, slice_set};
+ghost use Rattle.std.specs.Prelude.{◌≡◌, ℕ, ◌+◌, ◌<◌, ◌≤◌, ◌++◌, ◌↔◌, pos, [], ◌∷◌, All, IfOk, IsErr, OnErr, length, take, drop};
+ghost use Rattle.std.specs.Prelude.{replicate, slice_get, slice_set};
 ghost use Rattle.rx_heap.specs.Region.{IsLive, IsFree, IsLeastFree, IsLaid};
 
 use crate::holes::{cut, fitting, put};
@@ -25,7 +26,8 @@ impl Model for Heap {
 
     ghost view = { λ h. record { words = h.words.items; holes = h.holes.items; lengths = h.lengths.items } };
 
-    ghost invariant = { λ h. IsKept (record { words = h.words.items; holes = h.holes.items; lengths = h.lengths.items }) (vec_capacity h.holes) };
+    ghost invariant = { λ h. IsKept (record { words = h.words.items; holes = h.holes.items; lengths = h.lengths.items })
+        (vec_capacity h.holes) };
 }
 
 impl Heap {

@@ -1,5 +1,6 @@
 // The list of holes: the first that fits, words cut out of a hole, and a hole joined in among the others.
-ghost use Rattle.std.specs.Prelude.{◌≡◌, ℕ, ◌+◌, ◌-◌, ◌*◌, ◌^◌, ◌<◌, ◌≤◌, ◌↔◌, IsTrue, List, length, take, All, IfSome, IfNone, slice_index_or, slice_set, vec_len, vec_capacity, remove};
+ghost use Rattle.std.specs.Prelude.{◌≡◌, ℕ, ◌+◌, ◌-◌, ◌*◌, ◌^◌, ◌<◌, ◌≤◌, ◌↔◌, IsTrue, List, length, take, All, IfSome, IfNone};
+ghost use Rattle.std.specs.Prelude.{slice_index_or, slice_set, vec_len, vec_capacity, remove};
 ghost use Rattle.rx_heap.specs.Inside.HoleEdits.{Cuts, Joins, HasRoom};
 
 use crate::Hole;

@@ -8,7 +8,9 @@ ghost use Rattle.std.specs.Prelude.{[]};
 ghost use Rattle.rx_laws.specs.Releases.{NothingIsEarly, LossesAreExact, RunIsNotEarly, RunIsExact};
 ghost use Rattle.rx_laws.specs.Once.{AllDiffer, EachIsToldOnce};
 ghost use Rattle.rx_laws.specs.Ordered.{HistoryIsOrdered, RunIsOrdered};
-ghost use Rattle.rx_laws.specs.Examples.{script, no_events, ordinary, lost_in_transit, early, early_at_work, early_elsewhere, unnamed, names_finished, named_again, twice_by_one, twice_by_two, twice_in_entry, print_too_soon, batch_too_soon, event_too_soon};
+ghost use Rattle.rx_laws.specs.Examples.{script, no_events, ordinary, lost_in_transit, early, early_at_work, early_elsewhere, unnamed};
+ghost use Rattle.rx_laws.specs.Examples.{names_finished, named_again, twice_by_one, twice_by_two, twice_in_entry, print_too_soon};
+ghost use Rattle.rx_laws.specs.Examples.{batch_too_soon, event_too_soon};
 ghost use Rattle.rx_rules.specs.Laws.{NoEarlyRelease, LossExact};
 ghost use Rattle.rx_rules.specs.Order.{OrderKept, told};
 

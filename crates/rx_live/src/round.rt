@@ -8,11 +8,11 @@ ghost use Rattle.rx_live.specs.Rounds.{Keeps, IsOver};
 use crate::once::Once;
 use rx_base::NoMemory;
 use rx_check::Program;
+use rx_finish::FinishLedger;
+use rx_history::{History, Journals};
 use rx_machine::{Machine, Turn};
 use rx_picks::Picks;
 use rx_runs::picked_run_is_run;
-use rx_history::{History, Journals};
-use rx_finish::FinishLedger;
 use std::alloc::Global;
 use std::sync::Wait;
 

@@ -3,8 +3,8 @@ use crate::run_live;
 use rx_base::MeetGate;
 use rx_check::check;
 use rx_counts::CountLedger;
-use rx_script::read_script;
 use rx_history::{KillList, Setup};
+use rx_script::read_script;
 use std::test::Fail;
 
 #[test]

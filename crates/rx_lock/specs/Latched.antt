@@ -39,11 +39,13 @@ module _ {T K : Type 0} where
 
     -- the rule: the lock is free, taken by a hand that is there, or closed, and each hand knows what is so
     abbrev pub Latched : K → State (Option T) (Hand K) → Type 0
-    Latched k s = (holder : ℕ) × (AtHome k s ⊎ (IsOut k holder s ⊎ Emptied s)) × ((id : ℕ) (h : Hand K) → get_elem? s.views id ≡ some h → Knows k holder s id h)
+    Latched k s = (holder : ℕ) × (AtHome k s ⊎ (IsOut k holder s ⊎ Emptied s))
+        × ((id : ℕ) (h : Hand K) → get_elem? s.views id ≡ some h → Knows k holder s id h)
 
     -- where the word was 0, the value is in the hand
     abbrev pub Took : Step (Option T) → Me (Option T) (Hand K) → ℕ → Me (Option T) (Hand K) → Type 0
-    Took st me found me' = (found ≡ 0 → (me'.0 ≡ holding me.0.key) × ((x : T) × holds me.0.key x × (me'.1 ≡ (0, Some x) ∷ []))) × (found ≢ 0 → me' ≡ me)
+    Took st me found me' = (found ≡ 0 → (me'.0 ≡ holding me.0.key) × ((x : T) × holds me.0.key x × (me'.1 ≡ (0, Some x) ∷ [])))
+        × (found ≢ 0 → me' ≡ me)
 
   -- a new hand knows the key
   abbrev pub Sat : Step (Option T) → Me (Option T) (Hand K) → ℕ → Me (Option T) (Hand K) → Type 0

@@ -10,8 +10,8 @@ use crate::machine::{Machine, put_back};
 use crate::seat::Seat;
 use rx_base::{Batch, NoMemory, PlaceId};
 use rx_check::Program;
-use rx_rules::{Act, Entry, Where};
 use rx_finish::{FinishLedger, LedgerFault};
+use rx_rules::{Act, Entry, Where};
 
 impl<L: FinishLedger> Machine<L> {
     /// Ends a turn by an arrival.

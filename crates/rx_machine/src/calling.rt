@@ -20,8 +20,8 @@ use crate::seat::Seat;
 use rx_base::{Fault, GlobalRef, NoMemory, Path, PlaceId, Value};
 use rx_check::Program;
 use rx_control::CellOp;
-use rx_store::{Mark, Store, StoreFault};
 use rx_finish::FinishLedger;
+use rx_store::{Mark, Store, StoreFault};
 use std::alloc::Global;
 
 impl<L: FinishLedger> Machine<L> {

@@ -10,8 +10,8 @@ use crate::machine::Machine;
 use crate::seat::Seat;
 use rx_base::PlaceId;
 use rx_check::Program;
-use rx_rules::{Entry, Where};
 use rx_finish::FinishLedger;
+use rx_rules::{Entry, Where};
 
 impl<L: FinishLedger> Machine<L> {
     /// Makes the death of a place that is due. It takes no memory.

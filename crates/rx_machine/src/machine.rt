@@ -18,11 +18,11 @@ use crate::stores::Stores;
 use rx_base::{Batch, NoMemory, PlaceId, ScopeId, TaskId};
 use rx_check::{Program, checked};
 use rx_control::Control;
+use rx_finish::FinishLedger;
+use rx_history::{History, Setup};
 use rx_kills::Kills;
 use rx_rank::Ranks;
 use rx_rules::{Task, Where};
-use rx_history::{History, Setup};
-use rx_finish::FinishLedger;
 use std::alloc::Global;
 
 /// A run with its ledger.

@@ -13,8 +13,8 @@ use crate::turning::take_seat;
 use rx_base::{NoMemory, PlaceId};
 use rx_check::Program;
 use rx_control::{Next, Want};
-use rx_rules::Where;
 use rx_finish::FinishLedger;
+use rx_rules::Where;
 
 impl<L: FinishLedger> Machine<L> {
     // Moves the task of a slot, which the pick moves, up to its next entry.

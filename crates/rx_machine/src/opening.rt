@@ -12,8 +12,8 @@ use crate::printing::path_of;
 use crate::seat::Seat;
 use rx_base::{Batch, Faults, NoMemory, PlaceId};
 use rx_check::Program;
-use rx_rules::{Act, Entry};
 use rx_finish::{FinishLedger, LedgerFault};
+use rx_rules::{Act, Entry};
 
 impl<L: FinishLedger> Machine<L> {
     /// Ends a turn by the opening of a finish.

@@ -12,9 +12,9 @@ ghost use Rattle.rx_script.specs.Shape.{Shape};
 use crate::machine::Machine;
 use rx_base::NoMemory;
 use rx_check::Program;
-use rx_picks::Picks;
-use rx_history::{History, Journals};
 use rx_finish::FinishLedger;
+use rx_history::{History, Journals};
+use rx_picks::Picks;
 
 // More turns than a run can make of a script whose work is at most 100,000.
 const LIMIT: u32 = 400_041;

@@ -13,8 +13,8 @@ use crate::seat::Seat;
 use rx_base::{Batch, Faults, NoMemory, Path, PlaceId};
 use rx_check::Program;
 use rx_control::Control;
-use rx_rules::{Act, Entry};
 use rx_finish::FinishLedger;
+use rx_rules::{Act, Entry};
 use std::alloc::Global;
 
 impl<L: FinishLedger> Machine<L> {

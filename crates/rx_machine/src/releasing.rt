@@ -14,8 +14,8 @@ use crate::seat::Seat;
 use crate::waiting::no_memory;
 use rx_base::{Batch, Fault, Faults, NoMemory, PlaceId, PlaceSet, ScopeId};
 use rx_check::Program;
-use rx_rules::{Act, Entry};
 use rx_finish::FinishLedger;
+use rx_rules::{Act, Entry};
 use std::alloc::Global;
 
 impl<L: FinishLedger> Machine<L> {

@@ -4,8 +4,8 @@ ghost use Rattle.rx_machine.specs.Callers.{caller};
 
 use rx_base::{Batch, ScopeId};
 use rx_control::Control;
-use rx_rules::Task;
 use rx_finish::Caller;
+use rx_rules::Task;
 
 /// A task with its scopes, what it has still to run, and the statements that it has begun since its last entry.
 #[derive(Drop)]

@@ -15,8 +15,8 @@ use crate::seat::Seat;
 use rx_base::{Batch, Faults, NoMemory, PlaceId, ScopeId, TaskId};
 use rx_check::Program;
 use rx_control::Control;
-use rx_rules::{Act, Entry, Task, Where};
 use rx_finish::{FinishLedger, LedgerFault};
+use rx_rules::{Act, Entry, Task, Where};
 use std::alloc::Global;
 
 impl<L: FinishLedger> Machine<L> {

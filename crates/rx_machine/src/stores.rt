@@ -9,8 +9,8 @@ ghost use Rattle.rx_machine.specs.Asked.{Asked, MayAskStore};
 use crate::calling::call_store;
 use rx_base::{Fault, NoMemory, PlaceId, Value};
 use rx_control::CellOp;
-use rx_store::{Mark, Store};
 use rx_history::Journals;
+use rx_store::{Mark, Store};
 use std::alloc::Global;
 use std::marker::Model;
 

@@ -13,9 +13,9 @@ use crate::machine::Machine;
 use crate::turning::under_of;
 use rx_base::{NoMemory, PlaceId};
 use rx_check::Program;
+use rx_finish::FinishLedger;
 use rx_picks::Picks;
 use rx_rank::Ranks;
-use rx_finish::FinishLedger;
 
 /// Whether a turn went on with the run or ended it.
 #[derive(Clone, Copy, Debug, PartialEq, Eq)]

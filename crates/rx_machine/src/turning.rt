@@ -18,9 +18,9 @@ use crate::machine::Machine;
 use crate::ready::Origin;
 use crate::seat::Seat;
 use rx_base::{ScopeId, TaskId};
+use rx_finish::FinishLedger;
 use rx_rank::Ranks;
 use rx_rules::{Act, Entry};
-use rx_finish::FinishLedger;
 
 impl<L: FinishLedger> Machine<L> {
     /// Whether the task of a slot is enabled.

@@ -13,8 +13,8 @@ use crate::machine::{Machine, put_back};
 use crate::seat::Seat;
 use rx_base::{Batch, Faults, NoMemory, PlaceId};
 use rx_check::Program;
-use rx_rules::{Act, Entry};
 use rx_finish::{FinishLedger, LedgerFault};
+use rx_rules::{Act, Entry};
 
 impl<L: FinishLedger> Machine<L> {
     /// Ends a turn by the wait for a finish whose body has ended.

@@ -3,9 +3,9 @@ ghost use Rattle.std.specs.Prelude.{◌≡◌, ◌≤◌};
 
 use crate::{Carried, Mail, MailPass};
 use rx_base::{NoMemory, PlaceId, ScopeId, TaskId};
+use rx_finish::Caller;
 use rx_rules::Where;
 use rx_ticket::{InTransit, Ticket};
-use rx_finish::Caller;
 use std::sync::Wait;
 use std::test::Fail;
 use std::thread::join;

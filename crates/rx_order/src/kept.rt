@@ -32,7 +32,8 @@ pub(crate) fn is_kept(script: &Script, top: BlockId, x: &Path, first: usize) -> 
 // From the statement at a position on. The path goes on at `at`.
 fn step(script: &Script, block: BlockId, i: u32, x: &Path, at: usize) -> Walk
     requires { (b : Block) × BlockStands script.now block b }
-    ensures { (b : Block) → BlockStands script.now block b → Goes script.now at result (is_kept_in b i (drop at x.now)) (λ c k. is_kept_along c (drop k x.now)) }
+    ensures { (b : Block) → BlockStands script.now block b → Goes script.now at result (is_kept_in b i (drop at x.now))
+        (λ c k. is_kept_along c (drop k x.now)) }
 {
     match stmt_at(script, block, i) {
         None => Walk::Over(false),
@@ -42,7 +43,8 @@ fn step(script: &Script, block: BlockId, i: u32, x: &Path, at: usize) -> Walk
 
 // From a statement on.
 fn from(stmt: Stmt, x: &Path, at: usize) -> Walk
-    ensures { (s : Shape) (t : Tree) → StmtIs s stmt t → Goes s at result (is_kept t (drop at x.now)) (λ c k. is_kept_along c (drop k x.now)) }
+    ensures { (s : Shape) (t : Tree) → StmtIs s stmt t → Goes s at result (is_kept t (drop at x.now))
+        (λ c k. is_kept_along c (drop k x.now)) }
 {
     match kept_by(stmt) {
         Some(kept) => Walk::Over(kept),
@@ -59,7 +61,8 @@ fn from(stmt: Stmt, x: &Path, at: usize) -> Walk
 // From inside a statement on.
 fn inside(stmt: Stmt, x: &Path, at: usize) -> Walk
     requires { at < length x.now }
-    ensures { (s : Shape) (t : Tree) → StmtIs s stmt t → IsOpen t → Goes s at result (is_kept t (drop at x.now)) (λ c k. is_kept_along c (drop k x.now)) }
+    ensures { (s : Shape) (t : Tree) → StmtIs s stmt t → IsOpen t
+        → Goes s at result (is_kept t (drop at x.now)) (λ c k. is_kept_along c (drop k x.now)) }
 {
     match part_of(stmt, x, at) {
         None => Walk::Over(false),

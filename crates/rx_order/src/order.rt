@@ -36,7 +36,8 @@ pub fn before(p: &Program, x: &Path, y: &Path) -> bool
 fn step(script: &Script, block: BlockId, x: &Path, y: &Path, at: usize) -> Walk
     requires block { (b : Block) × BlockStands script.now block b }
     requires at { at < length x.now }
-    ensures { (b : Block) → BlockStands script.now block b → Goes script.now (at + 1) result (comes_before b (drop at x.now) (drop at y.now)) (λ c k. comes_before c (drop k x.now) (drop k y.now)) }
+    ensures { (b : Block) → BlockStands script.now block b → Goes script.now (at + 1) result (comes_before b (drop at x.now)
+        (drop at y.now)) (λ c k. comes_before c (drop k x.now) (drop k y.now)) }
 {
     if at >= y.len() {
         return Walk::Over(false);
@@ -58,7 +59,8 @@ fn step(script: &Script, block: BlockId, x: &Path, y: &Path, at: usize) -> Walk
 // From inside a statement on, along which both go.
 fn inside(script: &Script, stmt: Stmt, x: &Path, y: &Path, at: usize) -> Walk
     requires { (t : Tree) × StmtIs script.now stmt t }
-    ensures { (t : Tree) → StmtIs script.now stmt t → Goes script.now at result (is_before t (drop at x.now) (drop at y.now)) (λ c k. comes_before c (drop k x.now) (drop k y.now)) }
+    ensures { (t : Tree) → StmtIs script.now stmt t → Goes script.now at result (is_before t (drop at x.now) (drop at y.now))
+        (λ c k. comes_before c (drop k x.now) (drop k y.now)) }
 {
     match part_of(stmt, x, at) {
         None => Walk::Over(false),

@@ -25,7 +25,8 @@ pub(crate) enum Walk {
 /// The statement at a position of a block.
 pub(crate) fn stmt_at(script: &Script, block: BlockId, i: u32) -> Option<Stmt>
     requires { (b : Block) × BlockStands script.now block b }
-    ensures { (b : Block) → BlockStands script.now block b → MatchOption result (item_of b i ≡ None) (λ stmt. (t : Tree) × StmtIs script.now stmt t × (item_of b i ≡ Some t)) }
+    ensures { (b : Block) → BlockStands script.now block b → MatchOption result (item_of b i ≡ None)
+        (λ stmt. (t : Tree) × StmtIs script.now stmt t × (item_of b i ≡ Some t)) }
 {
     if i < script.block_len(block) {
         Some(script.stmt(script.block_item(block, i)))
@@ -51,7 +52,8 @@ fn turn_of(block: BlockId, path: &Path, at: usize) -> Option<Part>
 
 // One of two blocks, by its number.
 fn one_of(zero: BlockId, one: BlockId, path: &Path, at: usize) -> Option<Part>
-    ensures { (s : Shape) (first other : Block) → BlockStands s zero first → BlockStands s one other → IsPart s path.now (at + 1) result (one_in first other (drop at path.now)) }
+    ensures { (s : Shape) (first other : Block) → BlockStands s zero first → BlockStands s one other
+        → IsPart s path.now (at + 1) result (one_in first other (drop at path.now)) }
 {
     match turn_of(zero, path, at) {
         None => None,

@@ -1,5 +1,6 @@
 -- How a list of counts stands for a set of numbers.
-use Rattle.std.specs.Prelude.{◌≡◌, ℕ, zero, suc, ◌+◌, ◌*◌, ◌-◌, ◌^◌, ◌<◌, ◌≤◌, ◌==◌, List, [], ◌∷◌, ◌++◌, if◌then◌else◌, length, take, drop, slice_index}
+use Rattle.std.specs.Prelude.{◌≡◌, ℕ, zero, suc, ◌+◌, ◌*◌, ◌-◌, ◌^◌, ◌<◌, ◌≤◌, ◌==◌, List, [], ◌∷◌, ◌++◌, if◌then◌else◌, length, take}
+use Rattle.std.specs.Prelude.{drop, slice_index}
 
 -- the nodes of the left half and of the right half of a tree of height h + 1
 abbrev pub left_half : ℕ → List ℕ → List ℕ

@@ -90,7 +90,8 @@ fn add_up(nodes: &mut [u32], height: u32, right: usize)
     requires counted_right { IsCounted (height - 1) (right_half (height - 1) nodes.old) }
     ensures counted { IsCounted height nodes.new }
     ensures numbers { (first : ℕ) → numbers height first nodes.new
-        ≡ numbers (height - 1) first (left_half (height - 1) nodes.old) ++ numbers (height - 1) (first + 2 ^ (height - 1)) (right_half (height - 1) nodes.old) }
+        ≡ numbers (height - 1) first (left_half (height - 1) nodes.old) ++ numbers (height - 1) (first + 2 ^ (height - 1))
+        (right_half (height - 1) nodes.old) }
 {
     nodes[0] = nodes[1] + nodes[right];
 }

@@ -1,5 +1,6 @@
 // The set of numbers.
-ghost use Rattle.std.specs.Prelude.{◌≡◌, ℕ, ◌+◌, ◌*◌, ◌/◌, ◌^◌, ◌<◌, ◌≤◌, ◌↔◌, [], Some, IsTrue, IfOk, OnOk, OnErr, Contains, length, slice_get};
+ghost use Rattle.std.specs.Prelude.{◌≡◌, ℕ, ◌+◌, ◌*◌, ◌/◌, ◌^◌, ◌<◌, ◌≤◌, ◌↔◌, [], Some, IsTrue, IfOk, OnOk, OnErr, Contains, length};
+ghost use Rattle.std.specs.Prelude.{slice_get};
 ghost use Rattle.rx_rank.specs.Numbers.{inserted, removed, Ascends};
 ghost use Rattle.rx_rank.specs.Counts.{numbers, IsCounted, IsKept};
 

@@ -9,7 +9,8 @@ use Rattle.rx_reading.specs.Words.{Lacks}
 
 -- the bytes are the text of some pair within the limits
 abbrev pub IsText : List ℕ → Type 0
-IsText bytes = (setup : Given) × (entries : List Entry) × (journals : List (List PlaceEvent)) × IsWithin setup entries journals × (bytes ≡ trace_text setup entries journals)
+IsText bytes = (setup : Given) × (entries : List Entry) × (journals : List (List PlaceEvent)) × IsWithin setup entries journals
+    × (bytes ≡ trace_text setup entries journals)
 
 -- some such text begins with these bytes
 abbrev pub BeginsText : List ℕ → Type 0

@@ -3,7 +3,8 @@ ghost use Rattle.std.specs.Prelude.{◌≡◌, ◌≤◌, codes, IfOk};
 ghost use Rattle.rx_reading.specs.Words.{answered};
 ghost use Rattle.rx_reading.specs.Inside.FieldWords.{task_of};
 ghost use Rattle.rx_reading.specs.Inside.PartWords.{item_of};
-ghost use Rattle.rx_reading.specs.Inside.EventWords.{made_at, make_at, got_at, indexed_at, get_at, written_at, put_at, forgotten_at, forget_at, cell_at, done_at, close_at, event_at};
+ghost use Rattle.rx_reading.specs.Inside.EventWords.{made_at, make_at, got_at, indexed_at, get_at, written_at, put_at, forgotten_at};
+ghost use Rattle.rx_reading.specs.Inside.EventWords.{forget_at, cell_at, done_at, close_at, event_at};
 
 use crate::items::task;
 use crate::parts::{block_field, keyword, natural_field, number_field, path_field};

@@ -1,7 +1,8 @@
 // What a word is as a field of a line.
 ghost use Rattle.std.specs.Prelude.{◌≡◌, ◌≤◌, option_map, IfOk};
 ghost use Rattle.rx_reading.specs.Words.{stripped};
-ghost use Rattle.rx_reading.specs.Inside.FieldWords.{place_of, task_of, scope_of, path_of, plain_fault, dead_of, thrown_of, fault_of, kill_of};
+ghost use Rattle.rx_reading.specs.Inside.FieldWords.{place_of, task_of, scope_of, path_of, plain_fault, dead_of, thrown_of, fault_of};
+ghost use Rattle.rx_reading.specs.Inside.FieldWords.{kill_of};
 
 use crate::numbers::{below, natural, number};
 use crate::words::cut;

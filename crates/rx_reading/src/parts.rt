@@ -1,7 +1,8 @@
 // The fields of a line, and the parts that are there only where their list is not empty.
 ghost use Rattle.std.specs.Prelude.{◌≡◌, ◌≤◌, ◌<◌, ◌^◌, IfOk};
 ghost use Rattle.rx_reading.specs.Words.{answered};
-ghost use Rattle.rx_reading.specs.Inside.FieldWords.{natural_at, number_at, place_at, task_at, scope_at, path_at, block_at, fault_of, path_of, place_of};
+ghost use Rattle.rx_reading.specs.Inside.FieldWords.{natural_at, number_at, place_at, task_at, scope_at, path_at, block_at, fault_of};
+ghost use Rattle.rx_reading.specs.Inside.FieldWords.{path_of, place_of};
 ghost use Rattle.rx_reading.specs.Inside.PartWords.{set_of, places_at, lost_at, thrown_at, batch_at, item_of, key_of, left_of};
 
 use crate::items::{fault, path, place, scope, task};

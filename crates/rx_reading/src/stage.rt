@@ -4,7 +4,8 @@ ghost use Rattle.std.specs.Str.{bytes_eq};
 ghost use Rattle.rx_reading.specs.Words.{answered, pieces};
 ghost use Rattle.rx_history.specs.Events.{events_of};
 ghost use Rattle.rx_history.specs.Setups.{given};
-ghost use Rattle.rx_reading.specs.Inside.Machine.{Untitled, Titled, Sized, Planned, Entering, Logging, Over, begins_journal, entry_of, event_of, read_line};
+ghost use Rattle.rx_reading.specs.Inside.Machine.{Untitled, Titled, Sized, Planned, Entering, Logging, Over, begins_journal, entry_of};
+ghost use Rattle.rx_reading.specs.Inside.Machine.{event_of, read_line};
 ghost use Rattle.rx_reading.specs.Inside.Stages.{state_of, IsReady};
 
 use crate::entry_reader::entry;
@@ -195,7 +196,8 @@ fn logging(
 ) -> Result<Option<Stage>, NoMemory>
     requires few { history.setup.places ≤ 16 }
     requires below { length journals.journals < history.setup.places }
-    ensures { IfOk result (λ next. option_map state_of next ≡ read_line (Logging (given history.setup) history.entries (events_of journals) journal.events) line.now) }
+    ensures { IfOk result (λ next. option_map state_of next ≡ read_line
+        (Logging (given history.setup) history.entries (events_of journals) journal.events) line.now) }
 {
     let home = journals.len();
     let places = usize::from(history.setup.places);
@@ -232,7 +234,8 @@ fn next_journal(
     journals: Journals,
     journal: Journal,
 ) -> Result<Option<Stage>, NoMemory>
-    ensures { IfOk result (λ next. option_map state_of next ≡ Some (Logging (given history.setup) history.entries (events_of journals ++ journal.events ∷ []) [])) }
+    ensures { IfOk result (λ next. option_map state_of next ≡ Some
+        (Logging (given history.setup) history.entries (events_of journals ++ journal.events ∷ []) [])) }
 {
     let mut journals = journals;
     journals.push(journal)?;
@@ -245,7 +248,8 @@ fn next_journal(
 
 // The last journal is whole.
 fn over(history: History, journals: Journals, journal: Journal) -> Result<Option<Stage>, NoMemory>
-    ensures { IfOk result (λ next. option_map state_of next ≡ Some (Over (given history.setup) history.entries (events_of journals ++ journal.events ∷ []))) }
+    ensures { IfOk result (λ next. option_map state_of next ≡ Some (Over (given history.setup) history.entries (events_of journals
+        ++ journal.events ∷ []))) }
 {
     let mut journals = journals;
     journals.push(journal)?;
@@ -259,7 +263,8 @@ fn logged(
     journal: Journal,
     event: PlaceEvent,
 ) -> Result<Option<Stage>, NoMemory>
-    ensures { IfOk result (λ next. option_map state_of next ≡ Some (Logging (given history.setup) history.entries (events_of journals) (journal.events ++ event ∷ []))) }
+    ensures { IfOk result (λ next. option_map state_of next ≡ Some
+        (Logging (given history.setup) history.entries (events_of journals) (journal.events ++ event ∷ []))) }
 {
     let mut journal = journal;
     journal.reserve(1)?;

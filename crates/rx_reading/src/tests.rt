@@ -7,10 +7,15 @@ use std::alloc::Global;
 use std::test::Fail;
 
 const ORDINARY: &[u8] =
-    b"rx10 trace 1\nplaces 2 heap 256\nkills\nhistory\n0 open t0 s1 in s0 0\n1 spawn t0 t1 in s1 0 1 0.0\n2 wait t0 s1\n3 arrive t1 1\n4 print t1 7 0.0.0\n5 end t1\n6 release t0 s1\n7 print t0 8 1\n8 end t0\n9 release host s0\njournal 0\njournal 1\ndone\n";
+    b"rx10 trace 1\nplaces 2 heap 256\nkills\nhistory\n0 open t0 s1 in s0 0\n1 spawn t0 t1 in s1 0 1 0.0\n2 wait t0 s1\n\
+        3 arrive t1 1\n4 print t1 7 0.0.0\n5 end t1\n6 release t0 s1\n7 print t0 8 1\n8 end t0\n9 release host s0\n\
+        journal 0\njournal 1\ndone\n";
 
 const LOSS: &[u8] =
-    b"rx10 trace 1\nplaces 2 heap 256\nkills 1@3\nhistory\n0 open t0 s1 in s0 0\n1 spawn t0 t1 in s1 0 1 0.0\n2 wait t0 s1\n3 death 1\n4 release t0 s1 lost 1\n5 end t0 thrown dead:1 | 0.1 2\n6 release host s0 thrown dead:1 code:-5\njournal 0\n0 t0 1 make 4 at 0 1 0\n1 t0 1 get 0 1 -1 index 0\njournal 1\n0 3 close\ndone\n";
+    b"rx10 trace 1\nplaces 2 heap 256\nkills 1@3\nhistory\n0 open t0 s1 in s0 0\n1 spawn t0 t1 in s1 0 1 0.0\n\
+        2 wait t0 s1\n3 death 1\n4 release t0 s1 lost 1\n5 end t0 thrown dead:1 | 0.1 2\n\
+        6 release host s0 thrown dead:1 code:-5\njournal 0\n0 t0 1 make 4 at 0 1 0\n1 t0 1 get 0 1 -1 index 0\n\
+        journal 1\n0 3 close\ndone\n";
 
 // The number of the bad line, or 0 where there is none.
 fn bad_line(alloc: Global, bytes: &[u8]) -> u32

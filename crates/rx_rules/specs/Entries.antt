@@ -1,5 +1,6 @@
 -- What an entry asks of the tree, and what it makes of it.
-use Rattle.std.specs.Prelude.{◌≡◌, ◌≢◌, ℕ, suc, ◌<◌, Bool, true, false, cond, not, ◌&&◌, ◌||◌, ◌==◌, List, [], ◌∷◌, ◌++◌, map, filter, Some, None, is_some, is_none, option_map, slice_set}
+use Rattle.std.specs.Prelude.{◌≡◌, ◌≢◌, ℕ, suc, ◌<◌, Bool, true, false, cond, not, ◌&&◌, ◌||◌, ◌==◌, List, [], ◌∷◌, ◌++◌, map, filter}
+use Rattle.std.specs.Prelude.{Some, None, is_some, is_none, option_map, slice_set}
 use Rattle.std.specs.List.{list_any}
 use Rattle.rx_base.specs.declared.values.Fault.{Fault}
 use Rattle.rx_base.specs.declared.ids.PlaceId.{PlaceId}
@@ -13,7 +14,8 @@ use Rattle.rx_rules.specs.declared.entries.Act.{Act}
 use Rattle.rx_rules.specs.declared.entries.Act.TheVariants.{Open, At as Calls, Spawn, Arrive, Wait, Release, End, Print}
 use Rattle.rx_rules.specs.declared.entries.Entry.{Entry}
 use Rattle.rx_rules.specs.declared.entries.Entry.TheVariants.{Step, Root, Death}
-use Rattle.rx_rules.specs.Tree.{Tree, Task, Scope, Blow, Kind, Finish, Call, is_task, is_scope, task_of, scope_of, death_of, on_chain, is_under, quiet, own_scope, inner, governs, the_root}
+use Rattle.rx_rules.specs.Tree.{Tree, Task, Scope, Blow, Kind, Finish, Call, is_task, is_scope, task_of, scope_of, death_of, on_chain}
+use Rattle.rx_rules.specs.Tree.{is_under, quiet, own_scope, inner, governs, the_root}
 
 -- Changes of the tree.
 
@@ -227,7 +229,8 @@ Allowed T (Death d) = MayDie T d
 abbrev pub after_end : Tree → TaskId → List Fault → Tree
 after_end T t thrown =
     elim (task_of T t) [
-      | Some x ↦ change_scope (λ g. record g { ends = g.ends ++ thrown }) x.under (record T { tasks = filter (λ y. not (is_task t y)) T.tasks })
+      | Some x ↦ change_scope (λ g. record g { ends = g.ends ++ thrown }) x.under
+          (record T { tasks = filter (λ y. not (is_task t y)) T.tasks })
       | None ↦ T
     ]
 

@@ -30,19 +30,34 @@ m n = record { 0 = n }
 
 -- finish { at 1 async { print 7; } } print 8;
 abbrev pub ordinary_script : Block
-ordinary_script = Then (Finish (Then (AtAsync (Num (pos 1)) (Then (Prints (Num (pos 7))) Nothing)) Nothing)) (Then (Prints (Num (pos 8))) Nothing)
+ordinary_script =
+    Then (Finish (Then (AtAsync (Num (pos 1)) (Then (Prints (Num (pos 7))) Nothing)) Nothing))
+    (Then (Prints (Num (pos 8))) Nothing)
 
 -- try { finish { at 1 async { finish { at 2 async { finish { at 3 async { print 1; } } } } } } } catch dead { } print 2;
 abbrev pub adoption_script : Block
-adoption_script = Then (Try (Then (Finish (Then (AtAsync (Num (pos 1)) (Then (Finish (Then (AtAsync (Num (pos 2)) (Then (Finish (Then (AtAsync (Num (pos 3)) (Then (Prints (Num (pos 1))) Nothing)) Nothing)) Nothing)) Nothing)) Nothing)) Nothing)) Nothing) true Nothing) (Then (Prints (Num (pos 2))) Nothing)
+adoption_script =
+    Then (Try (Then (Finish (Then (AtAsync (Num (pos 1))
+    (Then (Finish (Then (AtAsync (Num (pos 2))
+    (Then (Finish (Then (AtAsync (Num (pos 3)) (Then (Prints (Num (pos 1))) Nothing)) Nothing)) Nothing)) Nothing))
+    Nothing)) Nothing)) Nothing) true Nothing)
+    (Then (Prints (Num (pos 2))) Nothing)
 
 -- try { at 1 { finish { at 2 async { print 1; } } } } catch dead { print 9; } print 2;
 abbrev pub orphan_script : Block
-orphan_script = Then (Try (Then (At (Num (pos 1)) (Then (Finish (Then (AtAsync (Num (pos 2)) (Then (Prints (Num (pos 1))) Nothing)) Nothing)) Nothing)) Nothing) true (Then (Prints (Num (pos 9))) Nothing)) (Then (Prints (Num (pos 2))) Nothing)
+orphan_script =
+    Then (Try (Then (At (Num (pos 1))
+    (Then (Finish (Then (AtAsync (Num (pos 2)) (Then (Prints (Num (pos 1))) Nothing)) Nothing)) Nothing)) Nothing) true
+    (Then (Prints (Num (pos 9))) Nothing))
+    (Then (Prints (Num (pos 2))) Nothing)
 
 -- try { finish { at 1 async { at 2 async { print 1; } } } } catch dead { print 9; }
 abbrev pub source_script : Block
-source_script = Then (Try (Then (Finish (Then (AtAsync (Num (pos 1)) (Then (AtAsync (Num (pos 2)) (Then (Prints (Num (pos 1))) Nothing)) Nothing)) Nothing)) Nothing) true (Then (Prints (Num (pos 9))) Nothing)) Nothing
+source_script =
+    Then (Try (Then (Finish (Then (AtAsync (Num (pos 1))
+    (Then (AtAsync (Num (pos 2)) (Then (Prints (Num (pos 1))) Nothing)) Nothing)) Nothing)) Nothing) true
+    (Then (Prints (Num (pos 9))) Nothing))
+    Nothing
 
 -- new r = 3; forget r; new q = 3; get x = r[0];
 abbrev pub stale_script : Block
@@ -50,7 +65,8 @@ stale_script = Then (New 0 3) (Then (Forget 0) (Then (New 1 3) (Then (Get 2 0 (N
 
 -- new a = 4; new b = 4; forget a; try { new c = 5; } catch { print 1; } new d = 4;
 abbrev pub full_script : Block
-full_script = Then (New 0 4) (Then (New 1 4) (Then (Forget 0) (Then (Try (Then (New 2 5) Nothing) false (Then (Prints (Num (pos 1))) Nothing)) (Then (New 3 4) Nothing))))
+full_script = Then (New 0 4) (Then (New 1 4) (Then (Forget 0)
+    (Then (Try (Then (New 2 5) Nothing) false (Then (Prints (Num (pos 1))) Nothing)) (Then (New 3 4) Nothing))))
 
 -- two places
 abbrev pub ordinary_setup : Given

@@ -12,7 +12,15 @@ abbrev pub opening : ℕ → Tree
 opening places =
     record {
       tasks = record { number = record { 0 = 0 }; under = the_root; place = At (record { 0 = 0 }); waits = false; struck = None } ∷ [];
-      scopes = record { number = the_root; kind = Finish; opener = None; home = record { 0 = 0 }; parent = None; body = []; ends = [] } ∷ [];
+      scopes = record {
+        number = the_root;
+        kind = Finish;
+        opener = None;
+        home = record { 0 = 0 };
+        parent = None;
+        body = [];
+        ends = [];
+      } ∷ [];
       gone = [];
       places = places;
       dead = replicate 16 None;

@@ -19,12 +19,17 @@ use Rattle.rx_rules.specs.Examples.{p, loss_in_transit}
 -- no whole run over so many places begins with these entries, whatever the script, heap, kills, journals and the rest
 abbrev pub BeginsNoRun : ℕ → List Entry → Type 0
 BeginsNoRun places front =
-    (code : Block) (heap : ℕ) (kills : List Kill) (rest : List Entry) (js : List (List PlaceEvent)) → IsRun code (record { places = places; heap = heap; kills = kills }) (front ++ rest) js → ⊥
+    (code : Block) (heap : ℕ) (kills : List Kill) (rest : List Entry) (js : List (List PlaceEvent))
+    → IsRun code (record { places = places; heap = heap; kills = kills }) (front ++ rest) js → ⊥
 
 -- the history of the loss in transit, whose death is entry 3, is no run where that death is due at entry 2
 abbrev pub KillOneEntryLate : Type 0
 KillOneEntryLate =
-    (code : Block) (heap : ℕ) (js : List (List PlaceEvent)) → IsRun code (record { places = 2; heap = heap; kills = record { place = p 1; moment = 2 } ∷ [] }) loss_in_transit js → ⊥
+    (code : Block) (heap : ℕ) (js : List (List PlaceEvent)) → IsRun code (record {
+      places = 2;
+      heap = heap;
+      kills = record { place = p 1; moment = 2 } ∷ [];
+    }) loss_in_transit js → ⊥
 
 -- the entries of task t in a history: number, act and batch
 abbrev pub acts_of : List Entry → ℕ → List (ℕ × Act × List (List ℕ))
@@ -47,17 +52,22 @@ FromOn n (e ∷ es) = (n ≤ e.0) × FromOn n es
 -- nothing of a task stands after its end: no entry, so that it ends at most once, and no event
 abbrev pub EndsLast : Type 0
 EndsLast =
-    (code : Block) (U : Given) (es : List Entry) (js : List (List PlaceEvent)) (t n : ℕ) (thrown : List Fault) (batch : List (List ℕ)) (before after : List (ℕ × Act × List (List ℕ))) → IsRun code U es js → t < 1 + births es → acts_of es t ≡ before ++ (n, End thrown, batch) ∷ after → (after ≡ []) × UpTo n (events_of es js t)
+    (code : Block) (U : Given) (es : List Entry) (js : List (List PlaceEvent)) (t n : ℕ) (thrown : List Fault)
+    (batch : List (List ℕ)) (before after : List (ℕ × Act × List (List ℕ))) → IsRun code U es js → t < 1 + births es
+    → acts_of es t ≡ before ++ (n, End thrown, batch) ∷ after → (after ≡ []) × UpTo n (events_of es js t)
 
 -- of a task that was started for another place the first entry is its arrival, and each event comes after that
 abbrev pub ArrivesFirst : Type 0
 ArrivesFirst =
-    (code : Block) (U : Given) (es : List Entry) (js : List (List PlaceEvent)) (t : ℕ) (first : ℕ × Act × List (List ℕ)) (more : List (ℕ × Act × List (List ℕ))) → IsRun code U es js → t < 1 + births es → travels (birth_of es t) ≡ true → acts_of es t ≡ first ∷ more → (p : PlaceId) × (first.1 ≡ Arrive p) × FromOn (suc first.0) (events_of es js t)
+    (code : Block) (U : Given) (es : List Entry) (js : List (List PlaceEvent)) (t : ℕ) (first : ℕ × Act × List (List ℕ))
+    (more : List (ℕ × Act × List (List ℕ))) → IsRun code U es js → t < 1 + births es → travels (birth_of es t) ≡ true
+    → acts_of es t ≡ first ∷ more → (p : PlaceId) × (first.1 ≡ Arrive p) × FromOn (suc first.0) (events_of es js t)
 
 -- a task that never arrived has no events
 abbrev pub NeverArrived : Type 0
 NeverArrived =
-    (code : Block) (U : Given) (es : List Entry) (js : List (List PlaceEvent)) (t : ℕ) → IsRun code U es js → t < 1 + births es → travels (birth_of es t) ≡ true → acts_of es t ≡ [] → events_of es js t ≡ []
+    (code : Block) (U : Given) (es : List Entry) (js : List (List PlaceEvent)) (t : ℕ) → IsRun code U es js → t < 1 + births es
+    → travels (birth_of es t) ≡ true → acts_of es t ≡ [] → events_of es js t ≡ []
 
 -- the task that an entry brings
 abbrev pub born_in : Entry → Option ℕ
@@ -93,4 +103,5 @@ CountFrom n (k ∷ ks) = (k ≡ n) × CountFrom (suc n) ks
 -- tasks and scopes are numbered in the order of births and openings, from 1, since task 0 and the root are there before
 abbrev pub NumbersInOrder : Type 0
 NumbersInOrder =
-    (places : ℕ) (es : List Entry) → AllAllowed 0 (opening places) es → CountFrom 1 (filter_map born_in es) × CountFrom 1 (filter_map opened_in es)
+    (places : ℕ) (es : List Entry) → AllAllowed 0 (opening places) es → CountFrom 1 (filter_map born_in es)
+    × CountFrom 1 (filter_map opened_in es)

@@ -1,5 +1,6 @@
 -- The run that a schedule gives: which of the enabled tasks moves at each turn is told by a number, its pick.
-use Rattle.std.specs.Prelude.{◌≡◌, ℕ, suc, ◌%◌, Bool, true, false, ◌&&◌, ◌||◌, not, List, [], ◌∷◌, ◌++◌, filter, reverse, length, replicate, slice_get, slice_set, Some, None, is_none}
+use Rattle.std.specs.Prelude.{◌≡◌, ℕ, suc, ◌%◌, Bool, true, false, ◌&&◌, ◌||◌, not, List, [], ◌∷◌, ◌++◌, filter, reverse, length}
+use Rattle.std.specs.Prelude.{replicate, slice_get, slice_set, Some, None, is_none}
 use Rattle.rx_base.specs.declared.ids.PlaceId.{PlaceId}
 use Rattle.rx_base.specs.declared.place_set.PlaceSet.{PlaceSet}
 use Rattle.rx_base.specs.declared.ids.TaskId.{TaskId}
@@ -61,10 +62,19 @@ abbrev pub enabled : Tree → List Task
 enabled T = reverse (filter (is_enabled T) T.tasks)
 
 -- local steps and store calls of a task at a place, in a history of n entries
-pub data Goes (places heap n : ℕ) (t : TaskId) (here : PlaceId) : Player → State → List PlaceEvent → Player → State → List PlaceEvent → Type 0 where
+pub data Goes (places heap n : ℕ) (t : TaskId) (here : PlaceId) : Player → State → List PlaceEvent → Player → State
+    → List PlaceEvent → Type 0 where
   stays : {p : Player} {S : State} {j : List PlaceEvent} → Goes places heap n t here p S j p S j
-  local : {p q : Player} {S Z : State} {j k : List PlaceEvent} {after : Term} {left : Vars} → does p.vars here.0 places p.term ≡ Local after left → Goes places heap n t here (record { term = after; vars = left; batch = begun p.term p.batch }) S j q Z k → Goes places heap n t here p S j q Z k
-  stores : {p q : Player} {S Z : State} {j k : List PlaceEvent} (cell : Cell) (x : List ℕ) (a : Answer) → Tells (does p.vars here.0 places p.term) here cell a → begins p.term ≡ Some x → MayCell heap S cell → Goes places heap n t here (record { term = answered a p.term; vars = vars_after a p.vars; batch = begun p.term p.batch }) (after_cell S cell) (j ++ Did t n cell x ∷ []) q Z k → Goes places heap n t here p S j q Z k
+  local : {p q : Player} {S Z : State} {j k : List PlaceEvent} {after : Term} {left : Vars}
+      → does p.vars here.0 places p.term ≡ Local after left → Goes places heap n t here (record {
+        term = after;
+        vars = left;
+        batch = begun p.term p.batch;
+      }) S j q Z k → Goes places heap n t here p S j q Z k
+  stores : {p q : Player} {S Z : State} {j k : List PlaceEvent} (cell : Cell) (x : List ℕ) (a : Answer)
+      → Tells (does p.vars here.0 places p.term) here cell a → begins p.term ≡ Some x → MayCell heap S cell
+      → Goes places heap n t here (record { term = answered a p.term; vars = vars_after a p.vars; batch = begun p.term p.batch })
+      (after_cell S cell) (j ++ Did t n cell x ∷ []) q Z k → Goes places heap n t here p S j q Z k
 
 -- the player of a task that an act starts
 abbrev pub child_of : Player → Act → List Player
@@ -72,11 +82,45 @@ child_of p act = elim (started_by act) [ Some c ↦ record { term = child p.term
 
 -- one turn, with the pick k where one is used
 pub data Turn (U : Given) (k : ℕ) : Game → Bool → Game → Type 0 where
-  dies : {G : Game} (d : PlaceId) → IsDue (length G.entries) d G.kills → Turn U k G false (record G { entries = G.entries ++ Death d ∷ []; journals = slice_set G.journals d.0 (journal_at G.journals d.0 ++ Close (length G.entries) ∷ []); kills = rest_of G.kills })
-  arrives : {G : Game} (x : Task) (p : PlaceId) → NoneDue (length G.entries) G.kills → slice_get (enabled (tree_in U G)) (k % length (enabled (tree_in U G))) ≡ Some x → Allowed (tree_in U G) (Step x.number (Arrive p) []) → Turn U k G true (record G { entries = G.entries ++ Step x.number (Arrive p) [] ∷ [] })
-  moves : {G : Game} (x : Task) (here : PlaceId) (p q : Player) (S Z : State) (j : List PlaceEvent) (act : Act) → NoneDue (length G.entries) G.kills → slice_get (enabled (tree_in U G)) (k % length (enabled (tree_in U G))) ≡ Some x → x.place ≡ At here → slice_get G.players x.number.0 ≡ Some p → slice_get G.stores here.0 ≡ Some S → Goes U.places U.heap (length G.entries) x.number here p S (journal_at G.journals here.0) q Z j → Fits here q.term (does q.vars here.0 U.places q.term) act → Allowed (tree_in U G) (Step x.number act q.batch) → Turn U k G true (record G { players = slice_set G.players x.number.0 (record { term = granted (brought act) q.term; vars = q.vars; batch = [] }) ++ child_of q act; entries = G.entries ++ Step x.number act q.batch ∷ []; journals = slice_set G.journals here.0 j; stores = slice_set G.stores here.0 Z })
-  ends : {G : Game} (x : Task) (here : PlaceId) (p q : Player) (S Z : State) (j : List PlaceEvent) (faults : List Fault) → NoneDue (length G.entries) G.kills → slice_get (enabled (tree_in U G)) (k % length (enabled (tree_in U G))) ≡ Some x → x.place ≡ At here → slice_get G.players x.number.0 ≡ Some p → slice_get G.stores here.0 ≡ Some S → Goes U.places U.heap (length G.entries) x.number here p S (journal_at G.journals here.0) q Z j → does q.vars here.0 U.places q.term ≡ Done faults → Allowed (tree_in U G) (Step x.number (End faults) q.batch) → Turn U k G true (record G { entries = G.entries ++ Step x.number (End faults) q.batch ∷ []; journals = slice_set G.journals here.0 j; stores = slice_set G.stores here.0 Z })
-  root : {G : Game} (lost : PlaceSet) (thrown : List Fault) → NoneDue (length G.entries) G.kills → enabled (tree_in U G) ≡ [] → Allowed (tree_in U G) (Root lost thrown) → Turn U k G false (record G { entries = G.entries ++ Root lost thrown ∷ [] })
+  dies : {G : Game} (d : PlaceId) → IsDue (length G.entries) d G.kills
+      → Turn U k G false (record G {
+        entries = G.entries ++ Death d ∷ [];
+        journals = slice_set G.journals d.0 (journal_at G.journals d.0 ++ Close (length G.entries) ∷ []);
+        kills = rest_of G.kills;
+      })
+  arrives : {G : Game} (x : Task) (p : PlaceId) → NoneDue (length G.entries) G.kills
+      → slice_get (enabled (tree_in U G)) (k % length (enabled (tree_in U G))) ≡ Some x
+      → Allowed (tree_in U G) (Step x.number (Arrive p) []) → Turn U k G true (record G {
+        entries = G.entries
+            ++ Step x.number (Arrive p) [] ∷ [];
+      })
+  moves : {G : Game} (x : Task) (here : PlaceId) (p q : Player) (S Z : State) (j : List PlaceEvent) (act : Act)
+      → NoneDue (length G.entries) G.kills → slice_get (enabled (tree_in U G)) (k % length (enabled (tree_in U G))) ≡ Some x
+      → x.place ≡ At here → slice_get G.players x.number.0 ≡ Some p → slice_get G.stores here.0 ≡ Some S
+      → Goes U.places U.heap (length G.entries) x.number here p S (journal_at G.journals here.0) q Z j
+      → Fits here q.term (does q.vars here.0 U.places q.term) act → Allowed (tree_in U G) (Step x.number act q.batch)
+      → Turn U k G true (record G {
+        players = slice_set G.players x.number.0 (record {
+          term = granted (brought act) q.term;
+          vars = q.vars;
+          batch = [];
+        }) ++ child_of q act;
+        entries = G.entries ++ Step x.number act q.batch ∷ [];
+        journals = slice_set G.journals here.0 j;
+        stores = slice_set G.stores here.0 Z;
+      })
+  ends : {G : Game} (x : Task) (here : PlaceId) (p q : Player) (S Z : State) (j : List PlaceEvent) (faults : List Fault)
+      → NoneDue (length G.entries) G.kills → slice_get (enabled (tree_in U G)) (k % length (enabled (tree_in U G))) ≡ Some x
+      → x.place ≡ At here → slice_get G.players x.number.0 ≡ Some p → slice_get G.stores here.0 ≡ Some S
+      → Goes U.places U.heap (length G.entries) x.number here p S (journal_at G.journals here.0) q Z j
+      → does q.vars here.0 U.places q.term ≡ Done faults → Allowed (tree_in U G) (Step x.number (End faults) q.batch)
+      → Turn U k G true (record G {
+        entries = G.entries ++ Step x.number (End faults) q.batch ∷ [];
+        journals = slice_set G.journals here.0 j;
+        stores = slice_set G.stores here.0 Z;
+      })
+  root : {G : Game} (lost : PlaceSet) (thrown : List Fault) → NoneDue (length G.entries) G.kills → enabled (tree_in U G) ≡ []
+      → Allowed (tree_in U G) (Root lost thrown) → Turn U k G false (record G { entries = G.entries ++ Root lost thrown ∷ [] })
 
 -- a game that turns have made, whatever the picks
 pub data Comes (code : Block) (U : Given) : Game → Type 0 where
@@ -91,7 +135,8 @@ used_after false j = j
 -- so many turns from one game to another, none after the root's release; j picks were used before
 pub data Turns (U : Given) (picks : ℕ → ℕ) : ℕ → ℕ → Game → Game → Type 0 where
   none : {j : ℕ} {G : Game} → Turns U picks 0 j G G
-  more : {n j : ℕ} {G G' G'' : Game} {used : Bool} → NoRoot G.entries → Turn U (picks j) G used G' → Turns U picks n (used_after used j) G' G'' → Turns U picks (suc n) j G G''
+  more : {n j : ℕ} {G G' G'' : Game} {used : Bool} → NoRoot G.entries → Turn U (picks j) G used G'
+      → Turns U picks n (used_after used j) G' G'' → Turns U picks (suc n) j G G''
 
 -- the picked run of a script under a setup: the turns from the opening to the root's release
 pub record IsPicked (code : Block) (U : Given) (picks : ℕ → ℕ) (es : List Entry) (js : List (List PlaceEvent)) : Type 0 where

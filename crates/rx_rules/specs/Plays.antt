@@ -1,5 +1,6 @@
 -- A task's term, answered by its events and entries, makes exactly these.
-use Rattle.std.specs.Prelude.{◌≡◌, ℕ, suc, ℤ, ◌+◌, ◌≤◌, Bool, true, false, cond, ◌==◌, List, [], ◌∷◌, ◌++◌, Option, Some, None, slice_get, length, map, not}
+use Rattle.std.specs.Prelude.{◌≡◌, ℕ, suc, ℤ, ◌+◌, ◌≤◌, Bool, true, false, cond, ◌==◌, List, [], ◌∷◌, ◌++◌, Option, Some, None}
+use Rattle.std.specs.Prelude.{slice_get, length, map, not}
 use Rattle.std.specs.List.{filter_map, cons_option}
 use Rattle.rx_base.specs.declared.ids.PlaceId.{PlaceId}
 use Rattle.rx_base.specs.declared.ids.TaskId.{TaskId}
@@ -19,7 +20,9 @@ use Rattle.rx_rules.specs.declared.events.PlaceEvent.{PlaceEvent}
 use Rattle.rx_rules.specs.declared.events.PlaceEvent.TheVariants.{Done as Did, Close}
 use Rattle.rx_rules.specs.Code.{Block}
 use Rattle.rx_rules.specs.Fold.{births}
-use Rattle.rx_rules.specs.Terms.{Term, Empty, Vars, no_vars, Answer, Gives, Fine, Fails, answered, vars_after, Does, Local, Makes, Gets, Puts, Forgets, Opens, Calls as Asks, Spawns, Waits, Releases, Prints, Done, does, begins, granted, child, items}
+use Rattle.rx_rules.specs.Terms.{Term, Empty, Vars, no_vars, Answer, Gives, Fine, Fails, answered, vars_after, Does, Local, Makes, Gets}
+use Rattle.rx_rules.specs.Terms.{Puts, Forgets, Opens, Calls as Asks, Spawns, Waits, Releases, Prints, Done, does, begins, granted}
+use Rattle.rx_rules.specs.Terms.{child, items}
 
 -- the faults that a release raises: one for each place, and then those thrown
 abbrev pub raised_by : PlaceSet → List Fault → List Fault
@@ -76,11 +79,22 @@ brought _ = []
 -- A task at `here` whose variables are vars and whose term is t, and which has begun the statements of the batch since its
 -- last entry, makes these events and these moves, each in order. No stamp and no number is below `low`: that is the stamp of
 -- its event before, or one more than the number of the entry before that concerns it.
-pub data Plays (starts : List (Term × Vars)) (here : PlaceId) (places : ℕ) : ℕ → Vars → Term → List (List ℕ) → List (ℕ × Cell × List ℕ) → List (ℕ × Act × List (List ℕ)) → Type 0 where
-  local : {low : ℕ} {vars left : Vars} {t after : Term} {batch : List (List ℕ)} {cells : List (ℕ × Cell × List ℕ)} {moves : List (ℕ × Act × List (List ℕ))} → does vars here.0 places t ≡ Local after left → Plays starts here places low left after (begun t batch) cells moves → Plays starts here places low vars t batch cells moves
-  stores : {low : ℕ} {vars : Vars} {t : Term} {batch : List (List ℕ)} {cells : List (ℕ × Cell × List ℕ)} {moves : List (ℕ × Act × List (List ℕ))} {stamp : ℕ} {cell : Cell} {x : List ℕ} (a : Answer) → low ≤ stamp → Tells (does vars here.0 places t) here cell a → begins t ≡ Some x → Plays starts here places stamp (vars_after a vars) (answered a t) (begun t batch) cells moves → Plays starts here places low vars t batch ((stamp, cell, x) ∷ cells) moves
-  asks : {low : ℕ} {vars : Vars} {t : Term} {batch : List (List ℕ)} {cells : List (ℕ × Cell × List ℕ)} {moves : List (ℕ × Act × List (List ℕ))} {n : ℕ} {act : Act} → low ≤ n → Fits here t (does vars here.0 places t) act → StartsSo starts t vars act → Plays starts here places (suc n) vars (granted (brought act) t) [] cells moves → Plays starts here places low vars t batch cells ((n, act, batch) ∷ moves)
-  ends : {low : ℕ} {vars : Vars} {t : Term} {batch : List (List ℕ)} {n : ℕ} {faults : List Fault} → low ≤ n → does vars here.0 places t ≡ Done faults → Plays starts here places low vars t batch [] ((n, End faults, batch) ∷ [])
+pub data Plays (starts : List (Term × Vars)) (here : PlaceId) (places : ℕ) : ℕ → Vars → Term → List (List ℕ)
+    → List (ℕ × Cell × List ℕ) → List (ℕ × Act × List (List ℕ)) → Type 0 where
+  local : {low : ℕ} {vars left : Vars} {t after : Term} {batch : List (List ℕ)} {cells : List (ℕ × Cell × List ℕ)}
+      {moves : List (ℕ × Act × List (List ℕ))} → does vars here.0 places t ≡ Local after left
+      → Plays starts here places low left after (begun t batch) cells moves → Plays starts here places low vars t batch cells moves
+  stores : {low : ℕ} {vars : Vars} {t : Term} {batch : List (List ℕ)} {cells : List (ℕ × Cell × List ℕ)}
+      {moves : List (ℕ × Act × List (List ℕ))} {stamp : ℕ} {cell : Cell} {x : List ℕ} (a : Answer) → low ≤ stamp
+      → Tells (does vars here.0 places t) here cell a → begins t ≡ Some x
+      → Plays starts here places stamp (vars_after a vars) (answered a t) (begun t batch) cells moves
+      → Plays starts here places low vars t batch ((stamp, cell, x) ∷ cells) moves
+  asks : {low : ℕ} {vars : Vars} {t : Term} {batch : List (List ℕ)} {cells : List (ℕ × Cell × List ℕ)}
+      {moves : List (ℕ × Act × List (List ℕ))} {n : ℕ} {act : Act} → low ≤ n → Fits here t (does vars here.0 places t) act
+      → StartsSo starts t vars act → Plays starts here places (suc n) vars (granted (brought act) t) [] cells moves
+      → Plays starts here places low vars t batch cells ((n, act, batch) ∷ moves)
+  ends : {low : ℕ} {vars : Vars} {t : Term} {batch : List (List ℕ)} {n : ℕ} {faults : List Fault} → low ≤ n
+      → does vars here.0 places t ≡ Done faults → Plays starts here places low vars t batch [] ((n, End faults, batch) ∷ [])
   -- a task stops anywhere; that no other than a struck one does is a law of whole runs
   stops : {low : ℕ} {vars : Vars} {t : Term} {batch : List (List ℕ)} → Plays starts here places low vars t batch [] []
 

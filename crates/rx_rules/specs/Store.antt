@@ -1,5 +1,6 @@
 -- The law of a place's store: what each event of a journal asks of the store, and what it leaves.
-use Rattle.std.specs.Prelude.{◌≡◌, ℕ, suc, ◌+◌, ◌<◌, ℤ, pos, negsuc, Bool, true, false, cond, ◌&&◌, ◌||◌, ◌==◌, not, nat_le, int_le, int_lt, List, [], ◌∷◌, map, filter, replicate, length, slice_index_or, slice_set, Option, Some, None}
+use Rattle.std.specs.Prelude.{◌≡◌, ℕ, suc, ◌+◌, ◌<◌, ℤ, pos, negsuc, Bool, true, false, cond, ◌&&◌, ◌||◌, ◌==◌, not, nat_le, int_le}
+use Rattle.std.specs.Prelude.{int_lt, List, [], ◌∷◌, map, filter, replicate, length, slice_index_or, slice_set, Option, Some, None}
 use Rattle.std.specs.List.{list_all, find}
 use Rattle.rx_base.specs.declared.ids.GlobalRef.{GlobalRef}
 use Rattle.rx_rules.specs.declared.events.Cell.{Cell}

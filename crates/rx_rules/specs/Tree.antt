@@ -56,7 +56,8 @@ abbrev pub wants : Option ScopeId → Scope → Bool
 wants None g = false
 wants (Some s) g = is_scope s g
 
--- The chain of a scope: itself, then its parents up to the root. Scopes stand newest first and a parent is older, so one walk finds them all.
+-- The chain of a scope: itself, then its parents up to the root. Scopes stand newest first and a parent is older, so one walk
+-- finds them all.
 abbrev pub chain_in : List Scope → Option ScopeId → List Scope
 chain_in [] want = []
 chain_in (g ∷ gs) want = cond (wants want g) (g ∷ chain_in gs g.parent) (chain_in gs want)

@@ -2,7 +2,13 @@
 // what no run has.
 ghost use Rattle.std.specs.Prelude.{◌≡◌, ◌+◌, ℕ, List};
 ghost use Rattle.rx_rules.specs.declared.entries.Entry.{Entry};
-ghost use Rattle.rx_rules.specs.Examples.{ordinary_script, adoption_script, orphan_script, source_script, stale_script, full_script, ordinary_setup, kill_setup, adoption_setup, two_kills_setup, orphan_setup, source_setup, full_setup, ordinary_case, ordinary_case_journals, loss_in_transit, loss_in_transit_journals, adoption, adoption_journals, two_losses, two_losses_journals, at_waits, at_waits_journals, source_dies, source_dies_journals, stale_reference, stale_reference_journals, full_heap, full_heap_journals, early_release, runs_struck_message, names_finished_task, drops_adopted_losses};
+ghost use Rattle.rx_rules.specs.Examples.{ordinary_script, adoption_script, orphan_script, source_script, stale_script, full_script};
+ghost use Rattle.rx_rules.specs.Examples.{ordinary_setup, kill_setup, adoption_setup, two_kills_setup, orphan_setup, source_setup};
+ghost use Rattle.rx_rules.specs.Examples.{full_setup, ordinary_case, ordinary_case_journals, loss_in_transit, loss_in_transit_journals};
+ghost use Rattle.rx_rules.specs.Examples.{adoption, adoption_journals, two_losses, two_losses_journals, at_waits, at_waits_journals};
+ghost use Rattle.rx_rules.specs.Examples.{source_dies, source_dies_journals, stale_reference, stale_reference_journals, full_heap};
+ghost use Rattle.rx_rules.specs.Examples.{full_heap_journals, early_release, runs_struck_message, names_finished_task};
+ghost use Rattle.rx_rules.specs.Examples.{drops_adopted_losses};
 ghost use Rattle.rx_rules.specs.Fold.{tree_of, births};
 ghost use Rattle.rx_rules.specs.Run.{IsRun};
 ghost use Rattle.rx_rules.specs.Inversions.{BeginsNoRun, KillOneEntryLate, EndsLast, ArrivesFirst, NeverArrived, NumbersInOrder};

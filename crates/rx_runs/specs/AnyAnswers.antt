@@ -7,7 +7,8 @@ use Rattle.rx_rules.specs.declared.entries.Act.TheVariants.{Open, At as Calls, S
 use Rattle.rx_rules.specs.declared.entries.Entry.{Entry}
 use Rattle.rx_rules.specs.declared.events.PlaceEvent.{PlaceEvent}
 use Rattle.rx_rules.specs.Code.{Block, work}
-use Rattle.rx_rules.specs.Terms.{Term, Empty, Vars, no_vars, items, Answer, answered, vars_after, Does, Local, Makes, Gets, Puts, Forgets, Opens, Calls as Asks, Spawns, Waits, Releases, Prints, Done, does, granted}
+use Rattle.rx_rules.specs.Terms.{Term, Empty, Vars, no_vars, items, Answer, answered, vars_after, Does, Local, Makes, Gets, Puts}
+use Rattle.rx_rules.specs.Terms.{Forgets, Opens, Calls as Asks, Spawns, Waits, Releases, Prints, Done, does, granted}
 use Rattle.rx_rules.specs.Fold.{births}
 use Rattle.rx_rules.specs.Plays.{Starts, Fits, StartsSo, brought, moves_from, birth_of, travels}
 use Rattle.rx_rules.specs.Run.{Given, Proper, Folds, IsRun}
@@ -30,10 +31,15 @@ AsksStore (Done faults) = ⊥
 
 -- so many steps of a term at a place, and the entries that they make: local steps, answers of the store, requests, the end
 pub data Works (starts : Starts) (here : PlaceId) (places : ℕ) : ℕ → Vars → Term → Moves → Type 0 where
-  local : {n : ℕ} {vars left : Vars} {t after : Term} {moves : Moves} → does vars here.0 places t ≡ Local after left → Works starts here places n left after moves → Works starts here places (suc n) vars t moves
-  answers : {n : ℕ} {vars : Vars} {t : Term} {moves : Moves} (a : Answer) → AsksStore (does vars here.0 places t) → Works starts here places n (vars_after a vars) (answered a t) moves → Works starts here places (suc n) vars t moves
-  asks : {n k : ℕ} {vars : Vars} {t : Term} {moves : Moves} {act : Act} {batch : List (List ℕ)} → Fits here t (does vars here.0 places t) act → StartsSo starts t vars act → Works starts here places n vars (granted (brought act) t) moves → Works starts here places (suc n) vars t ((k, act, batch) ∷ moves)
-  ends : {k : ℕ} {vars : Vars} {t : Term} {faults : List Fault} {batch : List (List ℕ)} → does vars here.0 places t ≡ Done faults → Works starts here places 1 vars t ((k, End faults, batch) ∷ [])
+  local : {n : ℕ} {vars left : Vars} {t after : Term} {moves : Moves} → does vars here.0 places t ≡ Local after left
+      → Works starts here places n left after moves → Works starts here places (suc n) vars t moves
+  answers : {n : ℕ} {vars : Vars} {t : Term} {moves : Moves} (a : Answer) → AsksStore (does vars here.0 places t)
+      → Works starts here places n (vars_after a vars) (answered a t) moves → Works starts here places (suc n) vars t moves
+  asks : {n k : ℕ} {vars : Vars} {t : Term} {moves : Moves} {act : Act} {batch : List (List ℕ)}
+      → Fits here t (does vars here.0 places t) act → StartsSo starts t vars act
+      → Works starts here places n vars (granted (brought act) t) moves → Works starts here places (suc n) vars t ((k, act, batch) ∷ moves)
+  ends : {k : ℕ} {vars : Vars} {t : Term} {faults : List Fault} {batch : List (List ℕ)} → does vars here.0 places t ≡ Done faults
+      → Works starts here places 1 vars t ((k, End faults, batch) ∷ [])
   stops : {vars : Vars} {t : Term} → Works starts here places 0 vars t []
 
 -- where a task travels, its arrival comes first; it is no step of the term
@@ -53,7 +59,8 @@ BeginsWork starts here places true n vars t ((k, Print value x, batch) ∷ moves
 abbrev pub EachWorks : Starts → ℕ → List Entry → ℕ → Starts → List ℕ → Type 0
 EachWorks starts places es k [] [] = Unit {0}
 EachWorks starts places es k (s ∷ more) (n ∷ ns) =
-    BeginsWork starts (birth_of es k).to places (travels (birth_of es k)) n s.1 s.0 (moves_from 0 es k) × EachWorks starts places es (suc k) more ns
+    BeginsWork starts (birth_of es k).to places (travels (birth_of es k)) n s.1 s.0 (moves_from 0 es k)
+    × EachWorks starts places es (suc k) more ns
 EachWorks starts places es k (s ∷ more) [] = ⊥
 EachWorks starts places es k [] (n ∷ ns) = ⊥
 
@@ -77,8 +84,10 @@ StepsBounded = (code : Block) (U : Given) (es : List Entry) (n : ℕ) → Folds 
 
 -- the entries of a whole run are made so
 abbrev pub RunIsMade : Type 0
-RunIsMade = (code : Block) (U : Given) (es : List Entry) (js : List (List PlaceEvent)) → IsRun code U es js → (n : ℕ) × MadeIn code U.places es n
+RunIsMade = (code : Block) (U : Given) (es : List Entry) (js : List (List PlaceEvent)) → IsRun code U es js → (n : ℕ)
+    × MadeIn code U.places es n
 
 -- and under a proper setup the list has at most so many entries
 abbrev pub MadeBounded : Type 0
-MadeBounded = (code : Block) (U : Given) (es : List Entry) (n : ℕ) → Proper U → Folds U es → MadeIn code U.places es n → length es ≤ 4 * work code + U.places + 1
+MadeBounded = (code : Block) (U : Given) (es : List Entry) (n : ℕ) → Proper U → Folds U es → MadeIn code U.places es n
+    → length es ≤ 4 * work code + U.places + 1

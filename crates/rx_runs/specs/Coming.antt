@@ -21,4 +21,5 @@ GamesCome = (code : Block) (U : Given) (G : Game) → Proper U → Comes code U 
 
 -- and a turn can be made, whatever the pick
 abbrev pub GoesOn : Type 0
-GoesOn = (code : Block) (U : Given) (G : Game) → Proper U → Comes code U G → NoRoot G.entries → (k : ℕ) → (used : Bool) × (G' : Game) × Turn U k G used G'
+GoesOn = (code : Block) (U : Given) (G : Game) → Proper U → Comes code U G → NoRoot G.entries → (k : ℕ) → (used : Bool)
+    × (G' : Game) × Turn U k G used G'

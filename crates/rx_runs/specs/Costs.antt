@@ -2,7 +2,8 @@
 use Rattle.std.specs.Prelude.{ℕ, ◌+◌, ◌-◌, ◌*◌, ◌≤◌, List, []}
 use Rattle.rx_base.specs.declared.values.Fault.{Fault}
 use Rattle.rx_rules.specs.Code.{work, work_of}
-use Rattle.rx_rules.specs.Terms.{Term, Empty, Raise, Run, Turns, Trying, Body, Held, Does, Local, Makes, Gets, Puts, Forgets, Opens, Calls, Spawns, Waits, Releases, Prints, Done, granted, child, Vars, does}
+use Rattle.rx_rules.specs.Terms.{Term, Empty, Raise, Run, Turns, Trying, Body, Held, Does, Local, Makes, Gets, Puts, Forgets, Opens}
+use Rattle.rx_rules.specs.Terms.{Calls, Spawns, Waits, Releases, Prints, Done, granted, child, Vars, does}
 use Rattle.rx_rules.specs.Terms.{Answer, answered}
 
 -- at most four for each unit of work

@@ -13,8 +13,11 @@ use Rattle.rx_runs.specs.Ties.{has_end}
 
 -- each event but a close costs a step, and each close is an entry; the steps that a task has left are not yet made
 abbrev pub FewEvents : Type 0
-FewEvents = (code : Block) (U : Given) (G : Game) → Proper U → Comes code U G → (i n : ℕ) (p : Player) → slice_get G.players n ≡ Some p → has_end (moves_from 0 G.entries n) ≡ false → length (journal_at G.journals i) + steps p.term ≤ 3 * work code + length G.entries
+FewEvents = (code : Block) (U : Given) (G : Game) → Proper U → Comes code U G → (i n : ℕ) (p : Player)
+    → slice_get G.players n ≡ Some p → has_end (moves_from 0 G.entries n) ≡ false
+    → length (journal_at G.journals i) + steps p.term ≤ 3 * work code + length G.entries
 
 -- so do those of local steps and store calls
 abbrev pub GoingTells : Type 0
-GoingTells = (places heap n : ℕ) (t : TaskId) (here : PlaceId) (p q : Player) (S Z : State) (j k : List PlaceEvent) → Goes places heap n t here p S j q Z k → length k + steps q.term ≤ length j + steps p.term
+GoingTells = (places heap n : ℕ) (t : TaskId) (here : PlaceId) (p q : Player) (S Z : State) (j k : List PlaceEvent)
+    → Goes places heap n t here p S j q Z k → length k + steps q.term ≤ length j + steps p.term

@@ -32,13 +32,18 @@ fresh s = record { term = s.0; vars = s.1; batch = [] }
 
 -- where a task has landed: at birth, or by its first move
 abbrev pub Landed : Birth → List (ℕ × Act × List (List ℕ)) → ℕ → List (ℕ × Act × List (List ℕ)) → Type 0
-Landed b moves low rest = (travels b ≡ false) × (moves ≡ rest) × (low ≡ b.low) ⊎ ((n : ℕ) × (travels b ≡ true) × (moves ≡ (n, Arrive b.to, []) ∷ rest) × (low ≡ suc n))
+Landed b moves low rest = (travels b ≡ false) × (moves ≡ rest) × (low ≡ b.low)
+    ⊎ ((n : ℕ) × (travels b ≡ true) × (moves ≡ (n, Arrive b.to, []) ∷ rest) × (low ≡ suc n))
 
 -- a task that travels still, one that goes on, and one that has ended
-pub data TaskSo (starts : List (Term × Vars)) (places size : ℕ) (b : Birth) (start : Term × Vars) (cells : List (ℕ × Cell × List ℕ)) (moves : List (ℕ × Act × List (List ℕ))) (p : Player) : Type 0 where
+pub data TaskSo (starts : List (Term × Vars)) (places size : ℕ) (b : Birth) (start : Term × Vars)
+    (cells : List (ℕ × Cell × List ℕ)) (moves : List (ℕ × Act × List (List ℕ))) (p : Player) : Type 0 where
   away : travels b ≡ true → moves ≡ [] → cells ≡ [] → p ≡ fresh start → b.low ≤ size → TaskSo starts places size b start cells moves p
-  going : (low now : ℕ) (rest : List (ℕ × Act × List (List ℕ))) → Landed b moves low rest → Goes starts b.to places (stand low (fresh start)) cells rest (stand now p) → now ≤ size → TaskSo starts places size b start cells moves p
-  over : has_end moves ≡ true → Begins starts b.to places (travels b) b.low start.1 start.0 cells moves → TaskSo starts places size b start cells moves p
+  going : (low now : ℕ) (rest : List (ℕ × Act × List (List ℕ))) → Landed b moves low rest
+      → Goes starts b.to places (stand low (fresh start)) cells rest (stand now p) → now ≤ size
+      → TaskSo starts places size b start cells moves p
+  over : has_end moves ≡ true → Begins starts b.to places (travels b) b.low start.1 start.0 cells moves
+      → TaskSo starts places size b start cells moves p
 
 -- the pairs of two lists of one length, from number n on
 abbrev pub Pairs : {A B : Type 0} → (ℕ → A → B → Type 0) → ℕ → List A → List B → Type 0
@@ -55,7 +60,8 @@ PlayerSo starts places es js n s p =
 -- the journal leads the store from S to Z
 pub data Leads (w : ℕ) : State → List PlaceEvent → State → Type 0 where
   rests : {S : State} → Leads w S [] S
-  steps : {S Z : State} {j : List PlaceEvent} (t : TaskId) (n : ℕ) (cell : Cell) (x : List ℕ) → MayCell w S cell → Leads w (after_cell S cell) j Z → Leads w S (Did t n cell x ∷ j) Z
+  steps : {S Z : State} {j : List PlaceEvent} (t : TaskId) (n : ℕ) (cell : Cell) (x : List ℕ) → MayCell w S cell
+      → Leads w (after_cell S cell) j Z → Leads w S (Did t n cell x ∷ j) Z
 
 -- no stamp is above n
 abbrev pub NotAbove : ℕ → List PlaceEvent → Type 0
@@ -93,4 +99,5 @@ StartsOk = (code : Block) (U : Given) → Proper U → GameOk code U (start_game
 
 -- a turn that does not release the root keeps it so
 abbrev pub TurnKeeps : Type 0
-TurnKeeps = (code : Block) (U : Given) (k : ℕ) (used : Bool) (G G' : Game) → GameOk code U G → Turn U k G used G' → NoRoot G'.entries → GameOk code U G'
+TurnKeeps = (code : Block) (U : Given) (k : ℕ) (used : Bool) (G G' : Game) → GameOk code U G → Turn U k G used G'
+    → NoRoot G'.entries → GameOk code U G'

@@ -11,8 +11,10 @@ use Rattle.rx_runs.specs.Steps.{steps}
 
 -- in each game that turns have made from the opening, each task's term has at most three steps left for each unit of work
 abbrev pub FewLeft : Type 0
-FewLeft = (code : Block) (U : Given) (G : Game) → Comes code U G → (n : ℕ) (p : Player) → slice_get G.players n ≡ Some p → steps p.term ≤ 3 * work code
+FewLeft = (code : Block) (U : Given) (G : Game) → Comes code U G → (n : ℕ) (p : Player) → slice_get G.players n ≡ Some p
+    → steps p.term ≤ 3 * work code
 
 -- local steps and store calls leave no more steps than there were
 abbrev pub GoingSinks : Type 0
-GoingSinks = (places heap n : ℕ) (t : TaskId) (here : PlaceId) (p q : Player) (S Z : State) (j k : List PlaceEvent) → Goes places heap n t here p S j q Z k → steps q.term ≤ steps p.term
+GoingSinks = (places heap n : ℕ) (t : TaskId) (here : PlaceId) (p q : Player) (S Z : State) (j k : List PlaceEvent)
+    → Goes places heap n t here p S j q Z k → steps q.term ≤ steps p.term

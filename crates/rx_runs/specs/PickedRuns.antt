@@ -12,7 +12,8 @@ use Rattle.rx_rules.specs.Picked.{Game, Turn, Turns, IsPicked, start_game}
 
 -- under a proper setup a picked run is a run
 abbrev pub PickedIsRun : Type 0
-PickedIsRun = (code : Block) (U : Given) (picks : ℕ → ℕ) (es : List Entry) (js : List (List PlaceEvent)) → Proper U → IsPicked code U picks es js → IsRun code U es js
+PickedIsRun = (code : Block) (U : Given) (picks : ℕ → ℕ) (es : List Entry) (js : List (List PlaceEvent)) → Proper U
+    → IsPicked code U picks es js → IsRun code U es js
 
 -- the set of places of an act has 16 bits, as its type has them
 abbrev pub ActFits : Act → Type 0
@@ -55,12 +56,15 @@ OnePickedRun = (code : Block) (U : Given) (picks : ℕ → ℕ) (es fs : List En
 
 -- a run uses at most as many picks as it has turns: picks after those change nothing
 abbrev pub FewPicks : Type 0
-FewPicks = (U : Given) (picks others : ℕ → ℕ) (n : ℕ) (G G' : Game) → ((i : ℕ) → i < n → picks i ≡ others i) → Turns U picks n 0 G G' → Turns U others n 0 G G'
+FewPicks = (U : Given) (picks others : ℕ → ℕ) (n : ℕ) (G G' : Game) → ((i : ℕ) → i < n → picks i ≡ others i)
+    → Turns U picks n 0 G G' → Turns U others n 0 G G'
 
 -- from each game that turns have made and that has not ended a turn can be made, whatever the pick
 abbrev pub NextTurn : Type 0
-NextTurn = (code : Block) (U : Given) (picks : ℕ → ℕ) (n : ℕ) (G : Game) → Proper U → Turns U picks n 0 (start_game code U) G → NoRoot G.entries → (k : ℕ) → (used : Bool) × (G' : Game) × Turn U k G used G'
+NextTurn = (code : Block) (U : Given) (picks : ℕ → ℕ) (n : ℕ) (G : Game) → Proper U → Turns U picks n 0 (start_game code U) G
+    → NoRoot G.entries → (k : ℕ) → (used : Bool) × (G' : Game) × Turn U k G used G'
 
 -- so for each script, proper setup and list of picks there is a picked run, with sets of places of 16 bits
 abbrev pub HasPickedRun : Type 0
-HasPickedRun = (code : Block) (U : Given) (picks : ℕ → ℕ) → Proper U → (es : List Entry) × (js : List (List PlaceEvent)) × IsPicked code U picks es js × SetsFit es
+HasPickedRun = (code : Block) (U : Given) (picks : ℕ → ℕ) → Proper U → (es : List Entry) × (js : List (List PlaceEvent))
+    × IsPicked code U picks es js × SetsFit es

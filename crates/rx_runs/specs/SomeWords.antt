@@ -3,8 +3,10 @@ use Rattle.std.specs.Prelude.{◌≡◌, ℕ, ◌<◌, List, Some, slice_get}
 use Rattle.rx_base.specs.declared.ids.PlaceId.{PlaceId}
 use Rattle.rx_base.specs.declared.ids.TaskId.{TaskId}
 use Rattle.rx_rules.specs.declared.events.PlaceEvent.{PlaceEvent}
-use Rattle.rx_rules.specs.Code.{Block, Nothing, Then, Stmt, SetTo, New, Get, Put, Forget, Print, Throw, Async, AtAsync, At, Finish, If, Repeat, Try}
-use Rattle.rx_rules.specs.Terms.{Term, Empty, Run, Raise, Turns, Trying, Body, Held, Does, Local, Makes, Gets, Puts, Forgets, Opens, Calls, Spawns, Waits, Releases, Prints, Done, Vars, does}
+use Rattle.rx_rules.specs.Code.{Block, Nothing, Then, Stmt, SetTo, New, Get, Put, Forget, Print, Throw, Async, AtAsync, At, Finish, If}
+use Rattle.rx_rules.specs.Code.{Repeat, Try}
+use Rattle.rx_rules.specs.Terms.{Term, Empty, Run, Raise, Turns, Trying, Body, Held, Does, Local, Makes, Gets, Puts, Forgets, Opens}
+use Rattle.rx_rules.specs.Terms.{Calls, Spawns, Waits, Releases, Prints, Done, Vars, does}
 use Rattle.rx_rules.specs.Store.{State}
 use Rattle.rx_rules.specs.Run.{Given}
 use Rattle.rx_rules.specs.Picked.{Player, Game, Goes, Comes}
@@ -58,8 +60,11 @@ AsksSome (Done faults) = Unit {0}
 
 -- in each game that turns have made from the opening the terms are so, where the script is
 abbrev pub ComesSome : Type 0
-ComesSome = (code : Block) (U : Given) (G : Game) → MakesSome code → Comes code U G → (n : ℕ) (p : Player) → slice_get G.players n ≡ Some p → TermMakesSome p.term
+ComesSome = (code : Block) (U : Given) (G : Game) → MakesSome code → Comes code U G → (n : ℕ) (p : Player)
+    → slice_get G.players n ≡ Some p → TermMakesSome p.term
 
 -- local steps and store calls keep it, and a term that is so asks so
 abbrev pub GoesSome : Type 0
-GoesSome = (places heap n : ℕ) (t : TaskId) (here : PlaceId) (p q : Player) (S Z : State) (j k : List PlaceEvent) → Goes places heap n t here p S j q Z k → TermMakesSome p.term → TermMakesSome q.term × ((vars : Vars) → AsksSome (does vars here.0 places q.term))
+GoesSome = (places heap n : ℕ) (t : TaskId) (here : PlaceId) (p q : Player) (S Z : State) (j k : List PlaceEvent)
+    → Goes places heap n t here p S j q Z k → TermMakesSome p.term → TermMakesSome q.term
+    × ((vars : Vars) → AsksSome (does vars here.0 places q.term))

@@ -1,5 +1,6 @@
 -- How the table of live blocks and the heap stand for the blocks of the store's law.
-use Rattle.std.specs.Prelude.{◌≡◌, ℕ, ◌+◌, ◌<◌, ◌⊎◌, pos, Bool, true, false, List, [], ◌∷◌, length, slice_index, slice_index_or, Option, Some, None}
+use Rattle.std.specs.Prelude.{◌≡◌, ℕ, ◌+◌, ◌<◌, ◌⊎◌, pos, Bool, true, false, List, [], ◌∷◌, length, slice_index, slice_index_or, Option}
+use Rattle.std.specs.Prelude.{Some, None}
 use Rattle.rx_heap.specs.Region.{Region, Extent, IsLive, IsLaid}
 use Rattle.rx_rules.specs.declared.events.PlaceEvent.{PlaceEvent}
 use Rattle.rx_rules.specs.Store.{Live, opening_state, IsStoreRun}
@@ -45,7 +46,8 @@ pub record AllLive (R : Region) (slots : List (Option Held)) : Type 0 where
 
 -- what a store keeps: its journal is a run, its numbers are those of the journal, and while it is open its table and heap stand
 -- for the blocks that the journal leaves and there is room for the close; once it is closed every block was given back
-pub record IsSteady (R : Region) (slots : List (Option Held)) (made : ℕ) (events : List PlaceEvent) (spare last : ℕ) (closed : Bool) : Type 0 where
+pub record IsSteady (R : Region) (slots : List (Option Held)) (made : ℕ) (events : List PlaceEvent) (spare last : ℕ)
+    (closed : Bool) : Type 0 where
   pub run : IsStoreRun (length R.words) opening_state events
   pub closed_is : closed ≡ ends_closed events
   pub last_is : last ≡ last_stamp events

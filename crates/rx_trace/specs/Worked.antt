@@ -1,6 +1,7 @@
 -- Worked texts, line by line.
 use Rattle.std.specs.Prelude.{◌≡◌, ℕ, List, ◌++◌, codes}
-use Rattle.rx_rules.specs.Examples.{ordinary_setup, ordinary_case, ordinary_case_journals, kill_setup, loss_in_transit, loss_in_transit_journals}
+use Rattle.rx_rules.specs.Examples.{ordinary_setup, ordinary_case, ordinary_case_journals, kill_setup, loss_in_transit}
+use Rattle.rx_rules.specs.Examples.{loss_in_transit_journals}
 use Rattle.rx_trace.specs.Text.{trace_text}
 
 -- the text of the ordinary case

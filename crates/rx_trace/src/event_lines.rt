@@ -1,7 +1,8 @@
 // The lines of journals and of their events.
 ghost use Rattle.std.specs.Prelude.{◌≡◌, ◌++◌, OnOk};
 ghost use Rattle.rx_history.specs.Events.{events_of};
-ghost use Rattle.rx_trace.specs.EventLines.{reading_text, writing_text, call_text, cause_text, answer_text, event_text, event_line, event_lines, journal_lines, journals_lines};
+ghost use Rattle.rx_trace.specs.EventLines.{reading_text, writing_text, call_text, cause_text, answer_text, event_text, event_line};
+ghost use Rattle.rx_trace.specs.EventLines.{event_lines, journal_lines, journals_lines};
 
 use crate::fields::{
     put_block_field, put_line_number, put_natural_field, put_number_field, put_path_field,

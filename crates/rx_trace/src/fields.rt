@@ -1,7 +1,8 @@
 // The fields of a line, each after a blank.
 ghost use Rattle.std.specs.Prelude.{◌≡◌, ◌++◌, OnOk};
 ghost use Rattle.rx_text.specs.Numbers.{natural_text};
-ghost use Rattle.rx_trace.specs.Fields.{natural_field, number_field, path_field, place_field, task_field, scope_field, block_field, kill_field, fault_field};
+ghost use Rattle.rx_trace.specs.Fields.{natural_field, number_field, path_field, place_field, task_field, scope_field, block_field};
+ghost use Rattle.rx_trace.specs.Fields.{kill_field, fault_field};
 
 use itoa::Buffer;
 use rx_base::{Fault, GlobalRef, Kill, NoMemory, Path, PlaceId, ScopeId, TaskId};

@@ -63,7 +63,10 @@ fn small_trace_is_written(rt: HostRuntime) -> Result<(), Fail> {
     write_trace(&h, &j, &mut out)?;
     assert_eq!(rt;
         out.as_slice(),
-        b"before\nrx10 trace 1\nplaces 2 heap 256\nkills 1@3\nhistory\n0 death 1\n1 end t0 thrown dead:1 code:-5 | 0.12\n2 release host s0 lost 1 thrown dead:1 code:-5\njournal 0\n0 t0 0 get 3 1 -1 index 0.12\ndone\n".as_slice()
+        b"before\nrx10 trace 1\nplaces 2 heap 256\nkills 1@3\nhistory\n0 death 1\n\
+        1 end t0 thrown dead:1 code:-5 | 0.12\n2 release host s0 lost 1 thrown dead:1 code:-5\njournal 0\n\
+        0 t0 0 get 3 1 -1 index 0.12\ndone\n"
+            .as_slice()
     );
     Ok(())
 }

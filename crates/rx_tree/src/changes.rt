@@ -84,7 +84,8 @@ pub fn insert_both(
     x: Task,
 ) -> Result<(), LedgerFault>
     ensures pushed { OnOk result ((scopes.new.items ≡ g ∷ scopes.old.items) × (tasks.new.items ≡ x ∷ tasks.old.items)) }
-    ensures refused { IfErr result (λ f. (f ≡ LedgerFault.NoMemory) × (scopes.new.items ≡ scopes.old.items) × (tasks.new.items ≡ tasks.old.items)) }
+    ensures refused { IfErr result (λ f. (f ≡ LedgerFault.NoMemory) × (scopes.new.items ≡ scopes.old.items)
+        × (tasks.new.items ≡ tasks.old.items)) }
 {
     insert_task(tasks, x)?;
     match scopes.insert(0, g) {

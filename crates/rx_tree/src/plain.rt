@@ -88,7 +88,8 @@ impl TreeLedger {
     /// Where an unstruck task under the scope is or goes, if there is one. A plain body, as that of `is_quiet`.
     fn hindrance(&self, s: ScopeId) -> Option<PlaceId>
         requires { InOrder (kept self.now) }
-        ensures { result ≡ option_map (λ x. landing x.place) (find (λ x. is_under (kept self.now) s x && is_none x.struck) self.now.tasks.items) }
+        ensures { result ≡ option_map (λ x. landing x.place)
+            (find (λ x. is_under (kept self.now) s x && is_none x.struck) self.now.tasks.items) }
     {
         for x in &self.tasks {
             if x.struck.is_none() && reaches(&self.scopes, x.under, s) {

@@ -65,7 +65,8 @@ pub fn with_loss(lost: PlaceSet, x: Task, inside: &[ScopeId]) -> PlaceSet
 
 /// Keeps the struck tasks under these scopes in mind.
 pub fn keep_gone(tasks: &[Task], inside: &[ScopeId], gone: &mut Vec<Task>) -> Result<(), NoMemory>
-    ensures kept { OnOk result (gone.new.items ≡ gone.old.items ++ filter (λ x. holds_scope inside.now x.under && is_some x.struck) tasks.now) }
+    ensures kept { OnOk result (gone.new.items ≡ gone.old.items ++ filter (λ x. holds_scope inside.now x.under
+        && is_some x.struck) tasks.now) }
     ensures refused { OnErr result (gone.new.items ≡ gone.old.items) }
 {
     let before = gone.len();

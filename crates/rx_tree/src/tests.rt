@@ -30,7 +30,10 @@ fn begins<L: FinishLedger>(
 ) -> Result<(ScopeId, Born), LedgerFault>
     requires fresh { L.stands ledger.old (opening places) }
     requires enough { 1 < places }
-    ensures { OnOk result (L.stands ledger.new (made_act (made_act (made_act (opening places) (record { 0 = 0 }) (Open (record { 0 = 1 }) (record { 0 = 0 }) [])) (record { 0 = 0 }) (Spawn (record { 0 = 1 }) (record { 0 = 1 }) (record { 0 = 0 }) (record { 0 = 1 }) [])) (record { 0 = 0 }) (Wait (record { 0 = 1 }) []))) }
+    ensures { OnOk result (L.stands ledger.new (made_act (made_act (made_act (opening places) (record { 0 = 0 })
+        (Open (record { 0 = 1 }) (record { 0 = 0 }) [])) (record { 0 = 0 })
+        (Spawn (record { 0 = 1 }) (record { 0 = 1 }) (record { 0 = 0 }) (record { 0 = 1 }) [])) (record { 0 = 0 })
+        (Wait (record { 0 = 1 }) []))) }
 {
     let main = Caller {
         task: TaskId(0),

@@ -13,7 +13,8 @@ use Rattle.rx_rules.specs.Examples.{t, s, p, m, loss_in_transit}
 
 -- finish { at 1 { async { print 5; } } print 6; }
 abbrev pub async_inside_script : Block
-async_inside_script = Then (Finish (Then (At (Num (pos 1)) (Then (Async (Then (Prints (Num (pos 5))) Nothing)) Nothing)) (Then (Prints (Num (pos 6))) Nothing))) Nothing
+async_inside_script = Then (Finish (Then (At (Num (pos 1)) (Then (Async (Then (Prints (Num (pos 5))) Nothing)) Nothing))
+    (Then (Prints (Num (pos 6))) Nothing))) Nothing
 
 -- print 1; new d = 4;
 abbrev pub make_script : Block
@@ -119,7 +120,11 @@ at_and_async_journals =
 -- the history of the loss in transit, whose death is entry 3, is no run where that death is due at entry 4
 abbrev pub KillOneEntryEarly : Type 0
 KillOneEntryEarly =
-    (code : Block) (heap : ℕ) (js : List (List PlaceEvent)) → IsRun code (record { places = 2; heap = heap; kills = record { place = p 1; moment = 4 } ∷ [] }) loss_in_transit js → ⊥
+    (code : Block) (heap : ℕ) (js : List (List PlaceEvent)) → IsRun code (record {
+      places = 2;
+      heap = heap;
+      kills = record { place = p 1; moment = 4 } ∷ [];
+    }) loss_in_transit js → ⊥
 
 -- a block is made between two entries
 abbrev pub makes_between : List Entry

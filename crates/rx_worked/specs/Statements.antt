@@ -8,14 +8,16 @@ use Rattle.rx_rules.specs.declared.entries.Entry.TheVariants.{Step, Root, Death}
 use Rattle.rx_rules.specs.declared.events.Cell.TheVariants.{Make, MakeFull, Get as Gets, Put as Puts, Forget as Forgets, GetRefused}
 use Rattle.rx_rules.specs.declared.events.PlaceEvent.{PlaceEvent}
 use Rattle.rx_rules.specs.declared.events.PlaceEvent.TheVariants.{Done}
-use Rattle.rx_rules.specs.Code.{Add, Sub, Mul, Less, Equal, Num, Name, Here, Bin, Block, Nothing, Then, SetTo, New, Get, Put, Print as Prints, Throw, Async, AtAsync, At, Finish, If, Repeat, Try}
+use Rattle.rx_rules.specs.Code.{Add, Sub, Mul, Less, Equal, Num, Name, Here, Bin, Block, Nothing, Then, SetTo, New, Get, Put}
+use Rattle.rx_rules.specs.Code.{Print as Prints, Throw, Async, AtAsync, At, Finish, If, Repeat, Try}
 use Rattle.rx_rules.specs.Run.{Given, IsRun}
 use Rattle.rx_rules.specs.Examples.{t, s, p, m}
 
 -- no whole run over heaps of so many words has a journal of place 0 that begins with these events
 abbrev pub StoresNoRun : ℕ → List PlaceEvent → Type 0
 StoresNoRun heap front =
-    (code : Block) (places : ℕ) (kills : List Kill) (es : List Entry) (more : List PlaceEvent) (js : List (List PlaceEvent)) → IsRun code (record { places = places; heap = heap; kills = kills }) es ((front ++ more) ∷ js) → ⊥
+    (code : Block) (places : ℕ) (kills : List Kill) (es : List Entry) (more : List PlaceEvent) (js : List (List PlaceEvent))
+    → IsRun code (record { places = places; heap = heap; kills = kills }) es ((front ++ more) ∷ js) → ⊥
 
 -- the history is in no whole run of the script under this setup
 abbrev pub IsNoRun : Block → Given → List Entry → Type 0
@@ -24,11 +26,13 @@ IsNoRun code U es =
 
 -- set x = 1; repeat 2 { if x { print x; } else { print 7; } set x = 0; }
 abbrev pub turns_script : Block
-turns_script = Then (SetTo 0 (Num (pos 1))) (Then (Repeat 2 (Then (If (Name 0) (Then (Prints (Name 0)) Nothing) (Then (Prints (Num (pos 7))) Nothing)) (Then (SetTo 0 (Num (pos 0))) Nothing))) Nothing)
+turns_script = Then (SetTo 0 (Num (pos 1))) (Then (Repeat 2 (Then (If (Name 0) (Then (Prints (Name 0)) Nothing)
+    (Then (Prints (Num (pos 7))) Nothing)) (Then (SetTo 0 (Num (pos 0))) Nothing))) Nothing)
 
 -- set x = 3; finish { async { print x; } set x = 4; }
 abbrev pub copied_script : Block
-copied_script = Then (SetTo 0 (Num (pos 3))) (Then (Finish (Then (Async (Then (Prints (Name 0)) Nothing)) (Then (SetTo 0 (Num (pos 4))) Nothing))) Nothing)
+copied_script = Then (SetTo 0 (Num (pos 3))) (Then (Finish (Then (Async (Then (Prints (Name 0)) Nothing))
+    (Then (SetTo 0 (Num (pos 4))) Nothing))) Nothing)
 
 -- try { throw 1; } catch dead { print 2; }
 abbrev pub dead_script : Block
@@ -40,7 +44,9 @@ any_script = Then (Try (Then (Throw (Num (pos 1))) Nothing) false (Then (Prints 
 
 -- try { finish { async { throw 1; } async { throw 2; } throw 3; } } catch { print 4; }
 abbrev pub in_order_script : Block
-in_order_script = Then (Try (Then (Finish (Then (Async (Then (Throw (Num (pos 1))) Nothing)) (Then (Async (Then (Throw (Num (pos 2))) Nothing)) (Then (Throw (Num (pos 3))) Nothing)))) Nothing) false (Then (Prints (Num (pos 4))) Nothing)) Nothing
+in_order_script = Then (Try (Then (Finish (Then (Async (Then (Throw (Num (pos 1))) Nothing))
+    (Then (Async (Then (Throw (Num (pos 2))) Nothing)) (Then (Throw (Num (pos 3))) Nothing)))) Nothing) false
+    (Then (Prints (Num (pos 4))) Nothing)) Nothing
 
 -- print (9223372036854775807 + 1);
 abbrev pub too_large_script : Block
@@ -48,11 +54,15 @@ too_large_script = Then (Prints (Bin Add (Num (pos 9223372036854775807)) (Num (p
 
 -- new r = 1; try { at 1 { get x = r[0]; } } catch { print 5; }
 abbrev pub used_away_script : Block
-used_away_script = Then (New 0 1) (Then (Try (Then (At (Num (pos 1)) (Then (Get 1 0 (Num (pos 0))) Nothing)) Nothing) false (Then (Prints (Num (pos 5))) Nothing)) Nothing)
+used_away_script = Then (New 0 1) (Then (Try (Then (At (Num (pos 1))
+    (Then (Get 1 0 (Num (pos 0))) Nothing)) Nothing) false (Then (Prints (Num (pos 5))) Nothing)) Nothing)
 
 -- print here; print (2 - 5); print (2 * 3); print (1 < 2); print (2 < 2); print (3 == 3); print (3 == 4); print (4 == 3);
 abbrev pub values_block : Block
-values_block = Then (Prints Here) (Then (Prints (Bin Sub (Num (pos 2)) (Num (pos 5)))) (Then (Prints (Bin Mul (Num (pos 2)) (Num (pos 3)))) (Then (Prints (Bin Less (Num (pos 1)) (Num (pos 2)))) (Then (Prints (Bin Less (Num (pos 2)) (Num (pos 2)))) (Then (Prints (Bin Equal (Num (pos 3)) (Num (pos 3)))) (Then (Prints (Bin Equal (Num (pos 3)) (Num (pos 4)))) (Then (Prints (Bin Equal (Num (pos 4)) (Num (pos 3)))) Nothing)))))))
+values_block = Then (Prints Here) (Then (Prints (Bin Sub (Num (pos 2)) (Num (pos 5))))
+    (Then (Prints (Bin Mul (Num (pos 2)) (Num (pos 3)))) (Then (Prints (Bin Less (Num (pos 1)) (Num (pos 2))))
+    (Then (Prints (Bin Less (Num (pos 2)) (Num (pos 2)))) (Then (Prints (Bin Equal (Num (pos 3)) (Num (pos 3))))
+    (Then (Prints (Bin Equal (Num (pos 3)) (Num (pos 4)))) (Then (Prints (Bin Equal (Num (pos 4)) (Num (pos 3)))) Nothing)))))))
 
 -- at 1 { .. } with these statements
 abbrev pub values_script : Block
@@ -60,7 +70,9 @@ values_script = Then (At (Num (pos 1)) values_block) Nothing
 
 -- new r = 2; put r[1] = 5; get x = r[1]; print x; get y = r[0]; print y; get z = r[2];
 abbrev pub kept_script : Block
-kept_script = Then (New 0 2) (Then (Put 0 (Num (pos 1)) (Num (pos 5))) (Then (Get 1 0 (Num (pos 1))) (Then (Prints (Name 1)) (Then (Get 2 0 (Num (pos 0))) (Then (Prints (Name 2)) (Then (Get 3 0 (Num (pos 2))) Nothing))))))
+kept_script = Then (New 0 2) (Then (Put 0 (Num (pos 1)) (Num (pos 5)))
+    (Then (Get 1 0 (Num (pos 1))) (Then (Prints (Name 1)) (Then (Get 2 0 (Num (pos 0)))
+    (Then (Prints (Name 2)) (Then (Get 3 0 (Num (pos 2))) Nothing))))))
 
 -- at 5 async { }
 abbrev pub nowhere_script : Block
@@ -68,7 +80,8 @@ nowhere_script = Then (AtAsync (Num (pos 5)) Nothing) Nothing
 
 -- try { finish { at 1 async { print 7; } throw 3; } } catch dead { print 9; }
 abbrev pub mixed_script : Block
-mixed_script = Then (Try (Then (Finish (Then (AtAsync (Num (pos 1)) (Then (Prints (Num (pos 7))) Nothing)) (Then (Throw (Num (pos 3))) Nothing))) Nothing) true (Then (Prints (Num (pos 9))) Nothing)) Nothing
+mixed_script = Then (Try (Then (Finish (Then (AtAsync (Num (pos 1)) (Then (Prints (Num (pos 7))) Nothing))
+    (Then (Throw (Num (pos 3))) Nothing))) Nothing) true (Then (Prints (Num (pos 9))) Nothing)) Nothing
 
 -- print 7;
 abbrev pub value_script : Block

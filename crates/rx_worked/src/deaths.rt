@@ -2,7 +2,10 @@
 ghost use Rattle.rx_rules.specs.Examples.{ordinary_script, ordinary_setup, ordinary_case, ordinary_case_journals, source_script};
 ghost use Rattle.rx_rules.specs.Inversions.{BeginsNoRun};
 ghost use Rattle.rx_rules.specs.Run.{IsRun};
-ghost use Rattle.rx_worked.specs.Deaths.{leaves_orphan, at_leaves_orphan, first_kill_setup, born_struck, born_struck_journals, arrives_at_dead, async_inside_script, at_and_async, at_and_async_journals, KillOneEntryEarly, make_script, makes_between, stamped, StampIsBetween, both_die_setup, both_die, both_die_journals, late_kill_setup, both_at_once_setup, both_at_once, both_at_once_journals};
+ghost use Rattle.rx_worked.specs.Deaths.{leaves_orphan, at_leaves_orphan, first_kill_setup, born_struck, born_struck_journals};
+ghost use Rattle.rx_worked.specs.Deaths.{arrives_at_dead, async_inside_script, at_and_async, at_and_async_journals, KillOneEntryEarly};
+ghost use Rattle.rx_worked.specs.Deaths.{make_script, makes_between, stamped, StampIsBetween, both_die_setup, both_die};
+ghost use Rattle.rx_worked.specs.Deaths.{both_die_journals, late_kill_setup, both_at_once_setup, both_at_once, both_at_once_journals};
 
 /// A law: no scope is released while a task under a scope below it runs on, whose own finish died.
 pub fn orphans_are_waited_for()

@@ -2,7 +2,11 @@
 ghost use Rattle.rx_rules.specs.Examples.{ordinary_setup, kill_setup, loss_in_transit_journals};
 ghost use Rattle.rx_rules.specs.Inversions.{BeginsNoRun};
 ghost use Rattle.rx_rules.specs.Run.{IsRun};
-ghost use Rattle.rx_worked.specs.Statements.{IsNoRun, StoresNoRun, no_events, turns_script, turns, copied_script, copied, dead_script, not_caught, any_script, caught, in_order_script, in_order, too_large_script, too_large, used_away_script, used_away, used_away_journals, values_script, values, kept_script, kept, kept_journals, nowhere_script, nowhere, full_beside_hole, not_at_least, another_word, mixed_script, mixed, swallows_fault, value_script, other_value, ends_early};
+ghost use Rattle.rx_worked.specs.Statements.{IsNoRun, StoresNoRun, no_events, turns_script, turns, copied_script, copied, dead_script};
+ghost use Rattle.rx_worked.specs.Statements.{not_caught, any_script, caught, in_order_script, in_order, too_large_script, too_large};
+ghost use Rattle.rx_worked.specs.Statements.{used_away_script, used_away, used_away_journals, values_script, values, kept_script, kept};
+ghost use Rattle.rx_worked.specs.Statements.{kept_journals, nowhere_script, nowhere, full_beside_hole, not_at_least, another_word};
+ghost use Rattle.rx_worked.specs.Statements.{mixed_script, mixed, swallows_fault, value_script, other_value, ends_early};
 
 /// A law: a repeat makes its turns, each with the variables of the one before, and an if runs its first block unless it has 0.
 pub fn repeat_and_if_run()

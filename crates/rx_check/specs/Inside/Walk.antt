@@ -1,5 +1,6 @@
 -- How a script is gone through: what a statement fails, by the statements before it.
-use Rattle.std.specs.Prelude.{◌≡◌, ℕ, zero, suc, ◌+◌, ◌*◌, nat_lt, nat_le, ◌==◌, Bool, false, not, ◌&&◌, ◌||◌, List, [], ◌∷◌, ◌++◌, length, map, Option, Some, None, option_map, is_some, Result, Ok, Err, if◌then◌else◌}
+use Rattle.std.specs.Prelude.{◌≡◌, ℕ, zero, suc, ◌+◌, ◌*◌, nat_lt, nat_le, ◌==◌, Bool, false, not, ◌&&◌, ◌||◌, List, [], ◌∷◌, ◌++◌}
+use Rattle.std.specs.Prelude.{length, map, Option, Some, None, option_map, is_some, Result, Ok, Err, if◌then◌else◌}
 use Rattle.std.specs.List.{list_all, list_any}
 use Rattle.std.proofs.Common.{max}
 use Rattle.rx_rules.specs.Code.{Expr, Num, Name, Here, Bin}
@@ -8,8 +9,12 @@ use Rattle.rx_script.specs.declared.nodes.NameId.{NameId}
 use Rattle.rx_script.specs.declared.nodes.ExprId.{ExprId}
 use Rattle.rx_script.specs.declared.nodes.Expr.{Expr as Part}
 use Rattle.rx_script.specs.declared.nodes.Stmt.{Stmt as Node}
-use Rattle.rx_script.specs.declared.nodes.Stmt.TheVariants.{Set as SetNode, New as NewNode, Get as GetNode, Put as PutNode, Forget as ForgetNode, Print as PrintNode, Throw as ThrowNode, Async as AsyncNode, AtAsync as AtAsyncNode, At as AtNode, Finish as FinishNode, If as IfNode, Repeat as RepeatNode, Try as TryNode}
-use Rattle.rx_check.specs.Rules.{Kind, ANumber, AReference, pairs_in, names_of_all, exprs_of, targets_of, assigned, Sight, has, same_kind, is_kind, fails_known, fails_depth}
+use Rattle.rx_script.specs.declared.nodes.Stmt.TheVariants.{Set as SetNode, New as NewNode, Get as GetNode, Put as PutNode}
+use Rattle.rx_script.specs.declared.nodes.Stmt.TheVariants.{Forget as ForgetNode, Print as PrintNode, Throw as ThrowNode}
+use Rattle.rx_script.specs.declared.nodes.Stmt.TheVariants.{Async as AsyncNode, AtAsync as AtAsyncNode, At as AtNode}
+use Rattle.rx_script.specs.declared.nodes.Stmt.TheVariants.{Finish as FinishNode, If as IfNode, Repeat as RepeatNode, Try as TryNode}
+use Rattle.rx_check.specs.Rules.{Kind, ANumber, AReference, pairs_in, names_of_all, exprs_of, targets_of, assigned, Sight, has}
+use Rattle.rx_check.specs.Rules.{same_kind, is_kind, fails_known, fails_depth}
 use Rattle.rx_check.specs.declared.names.Kind.{Kind as Made}
 use Rattle.rx_check.specs.declared.names.Kind.TheVariants.{Number as MadeNumber, Reference as MadeReference}
 use Rattle.rx_check.specs.declared.names.Seen.{Seen}
@@ -101,9 +106,24 @@ Knows ns known = (n : ℕ) → is_in n ns ≡ has n known
 
 -- the parts of a statement
 abbrev pub parts_of : Node → Parts
-parts_of (SetNode name value) = record { first = Some value; second = None; target = None; assigned = Some (record { name = name; kind = MadeNumber }) }
-parts_of (NewNode name words) = record { first = None; second = None; target = None; assigned = Some (record { name = name; kind = MadeReference }) }
-parts_of (GetNode name target index) = record { first = Some index; second = None; target = Some target; assigned = Some (record { name = name; kind = MadeNumber }) }
+parts_of (SetNode name value) = record {
+  first = Some value;
+  second = None;
+  target = None;
+  assigned = Some (record { name = name; kind = MadeNumber });
+}
+parts_of (NewNode name words) = record {
+  first = None;
+  second = None;
+  target = None;
+  assigned = Some (record { name = name; kind = MadeReference });
+}
+parts_of (GetNode name target index) = record {
+  first = Some index;
+  second = None;
+  target = Some target;
+  assigned = Some (record { name = name; kind = MadeNumber });
+}
 parts_of (PutNode target index value) = record { first = Some index; second = Some value; target = Some target; assigned = None }
 parts_of (ForgetNode target) = record { first = None; second = None; target = Some target; assigned = None }
 parts_of (PrintNode value) = record { first = Some value; second = None; target = None; assigned = None }
@@ -182,7 +202,11 @@ pair_uses pairs = record { unknown = false; reference = false; deep = pairs == 0
 
 -- what an expression uses, where it may have so many pairs in one another
 abbrev pub uses_in : Walk → ℕ → Expr → Uses
-uses_in w pairs e = record { unknown = any_name (is_unknown w) e; reference = any_name (is_of_kind AReference w) e; deep = nat_lt pairs (pairs_in e) }
+uses_in w pairs e = record {
+  unknown = any_name (is_unknown w) e;
+  reference = any_name (is_of_kind AReference w) e;
+  deep = nat_lt pairs (pairs_in e);
+}
 
 -- the parts of expressions that wait use this together
 abbrev pub Yields : Walk → List Part → List Waiting → Uses → Type 0
@@ -207,7 +231,8 @@ any_target test (Some n) = test n.0
 abbrev pub rule_from : Walk → Uses → Option NameId → Option Seen → ℕ → Option ℕ
 rule_from w u target a depth =
     if u.unknown || any_target (is_unknown w) target then Some 1 else (
-    if u.reference || any_target (is_of_kind ANumber w) target || gets_other_kind (seen_all w.seen.items) (option_map seen_as a) then Some 2 else (
+    if u.reference || any_target (is_of_kind ANumber w) target
+    || gets_other_kind (seen_all w.seen.items) (option_map seen_as a) then Some 2 else (
     if nat_lt 32 depth || u.deep then Some 3 else (
     if is_one_more (seen_all w.seen.items) (option_map seen_as a) then Some 4 else None)))
 

@@ -1,7 +1,8 @@
 -- What stands at the front of a control: cited by its inner functions alone.
 use Rattle.std.specs.Prelude.{◌≡◌, ℕ, List, [], ◌∷◌, ◌++◌, drop, Option, Some, None, option_to_list, slice_get, Bool, true, false}
 use Rattle.rx_base.specs.declared.values.Fault.{Fault}
-use Rattle.rx_rules.specs.Code.{Block, Nothing, Then, Stmt, SetTo, New, Get, Put, Forget, Print, Throw, Async, AtAsync, At, Finish, If, Repeat, Try}
+use Rattle.rx_rules.specs.Code.{Block, Nothing, Then, Stmt, SetTo, New, Get, Put, Forget, Print, Throw, Async, AtAsync, At, Finish, If}
+use Rattle.rx_rules.specs.Code.{Repeat, Try}
 use Rattle.rx_rules.specs.Terms.{Term, Does, within}
 use Rattle.rx_script.specs.Shape.{Shape, ListStands}
 use Rattle.rx_script.specs.declared.nodes.StmtId.{StmtId}
@@ -64,7 +65,8 @@ pub record Awaits (s : Shape) (block : BlockId) (next : ℕ) (stmt : Stmt) (more
   pub left : ListStands s (drop next ids) (Then stmt more)
 
 -- a control that stands for a statement and what comes after it
-pub record AtStatement (s : Shape) (c : Control) (t : Term) (below : List Frame) (block : BlockId) (next : ℕ) (part : Option ℕ) : Type 0 where
+pub record AtStatement (s : Shape) (c : Control) (t : Term) (below : List Frame) (block : BlockId) (next : ℕ)
+    (part : Option ℕ) : Type 0 where
   pub stmt : Stmt
   pub more : Block
   pub others : List Level

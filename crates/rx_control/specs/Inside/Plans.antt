@@ -40,10 +40,12 @@ place_in (Ok p) = Ok p.0
 place_in (Err fault) = Err fault
 
 -- what the statement at the front of a control does, by a plan
-pub record Due (s : Shape) (c : Control) (t : Term) (below : List Frame) (block : BlockId) (next : ℕ) (part : Option ℕ) (plan : Plan) : Type 0 where
+pub record Due (s : Shape) (c : Control) (t : Term) (below : List Frame) (block : BlockId) (next : ℕ) (part : Option ℕ)
+    (plan : Plan) : Type 0 where
   pub front : AtStatement s c t below block next part
   pub act : Does
-  pub is : IsPlan s plan c.vars (at (path_of c.base below ++ option_to_list part) next) (seq (More front.more (path_of c.base below ++ option_to_list part) (suc next) ∷ front.others)) act
+  pub is : IsPlan s plan c.vars (at (path_of c.base below ++ option_to_list part) next)
+      (seq (More front.more (path_of c.base below ++ option_to_list part) (suc next) ∷ front.others)) act
 
 -- the faults that a plan raises
 abbrev pub FaultsFit : Plan → List Fault → Type 0

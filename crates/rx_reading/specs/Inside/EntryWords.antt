@@ -11,15 +11,18 @@ use Rattle.rx_reading.specs.Inside.PartWords.{lost_at, thrown_at, batch_at}
 use Rattle.rx_reading.specs.Inside.Readers.{Reader, followed, done, keyed, either}
 
 abbrev pub open_at : Reader Act
-open_at = followed scope_at (λ scope. keyed (codes "in") (followed scope_at (λ parent. followed path_at (λ path. done (Open scope parent path)))))
+open_at = followed scope_at (λ scope. keyed (codes "in") (followed scope_at
+    (λ parent. followed path_at (λ path. done (Open scope parent path)))))
 
 abbrev pub at_at : ℕ → Reader Act
 at_at places = followed scope_at (λ scope. keyed (codes "in") (followed scope_at (λ parent. followed task_at (λ callee.
-    followed (place_at places) (λ from. followed (place_at places) (λ to. followed path_at (λ path. done (At scope parent callee from to path))))))))
+    followed (place_at places) (λ from. followed (place_at places)
+    (λ to. followed path_at (λ path. done (At scope parent callee from to path))))))))
 
 abbrev pub spawn_at : ℕ → Reader Act
 spawn_at places = followed task_at (λ child. keyed (codes "in") (followed scope_at (λ scope.
-    followed (place_at places) (λ from. followed (place_at places) (λ to. followed path_at (λ path. done (Spawn child scope from to path)))))))
+    followed (place_at places) (λ from. followed (place_at places)
+    (λ to. followed path_at (λ path. done (Spawn child scope from to path)))))))
 
 abbrev pub arrive_at : ℕ → Reader Act
 arrive_at places = followed (place_at places) (λ place. done (Arrive place))
@@ -28,7 +31,8 @@ abbrev pub wait_at : ℕ → Reader Act
 wait_at places = followed scope_at (λ scope. followed (thrown_at places) (λ thrown. done (Wait scope thrown)))
 
 abbrev pub release_at : ℕ → Reader Act
-release_at places = followed scope_at (λ scope. followed (lost_at places) (λ lost. followed (thrown_at places) (λ thrown. done (Release scope lost thrown))))
+release_at places = followed scope_at (λ scope. followed (lost_at places)
+    (λ lost. followed (thrown_at places) (λ thrown. done (Release scope lost thrown))))
 
 abbrev pub end_at : ℕ → Reader Act
 end_at places = followed (thrown_at places) (λ thrown. done (End thrown))

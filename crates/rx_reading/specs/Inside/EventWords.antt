@@ -58,7 +58,8 @@ cell_at home =
     keyed (codes "forget") (forget_at home))))
 
 abbrev pub done_at : ℕ → TaskId → Reader PlaceEvent
-done_at home task = followed natural_at (λ stamp. followed (cell_at home) (λ cell. followed path_at (λ path. done (Done task stamp cell path))))
+done_at home task = followed natural_at (λ stamp. followed (cell_at home)
+    (λ cell. followed path_at (λ path. done (Done task stamp cell path))))
 
 abbrev pub close_at : Reader PlaceEvent
 close_at = followed natural_at (λ stamp. keyed (codes "close") (done (Close stamp)))

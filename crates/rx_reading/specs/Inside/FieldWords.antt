@@ -1,5 +1,6 @@
 -- What a word is as a field.
-use Rattle.std.specs.Prelude.{ℕ, ◌+◌, ◌^◌, nat_le, nat_lt, ◌==◌, ◌&&◌, List, [], ◌∷◌, length, Option, Some, None, option_map, if◌then◌else◌, codes, ℤ, pos, negsuc, zero, suc}
+use Rattle.std.specs.Prelude.{ℕ, ◌+◌, ◌^◌, nat_le, nat_lt, ◌==◌, ◌&&◌, List, [], ◌∷◌, length, Option, Some, None, option_map}
+use Rattle.std.specs.Prelude.{if◌then◌else◌, codes, ℤ, pos, negsuc, zero, suc}
 use Rattle.std.specs.Str.{bytes_eq}
 use Rattle.std.specs.Str.Parse.{digits_value}
 use Rattle.rx_base.specs.declared.ids.PlaceId.{PlaceId}
@@ -20,7 +21,8 @@ next (Some a) f = f a
 
 -- a number below the limit, in its one spelling
 abbrev pub number_below : ℕ → List ℕ → Option ℕ
-number_below limit w = if bytes_eq w (natural_text (digits_value 10 w)) && nat_lt (digits_value 10 w) limit then Some (digits_value 10 w) else None
+number_below limit w = if bytes_eq w (natural_text (digits_value 10 w))
+    && nat_lt (digits_value 10 w) limit then Some (digits_value 10 w) else None
 
 -- a number after the sign `-`; there is no `-0`
 abbrev pub negative : ℕ → Option ℤ
@@ -85,7 +87,10 @@ fault_of places w = or_else (dead_of places w) (or_else (thrown_of w) (plain_fau
 abbrev pub kill_parts : ℕ → List (List ℕ) → Option Kill
 kill_parts places [] = None
 kill_parts places (p ∷ []) = None
-kill_parts places (p ∷ m ∷ []) = next (place_of places p) (λ place. option_map (λ moment. record { place = place; moment = moment }) (number_below 1000001 m))
+kill_parts places (p ∷ m ∷ []) = next (place_of places p) (λ place. option_map (λ moment. record {
+  place = place;
+  moment = moment;
+}) (number_below 1000001 m))
 kill_parts places (p ∷ m ∷ x ∷ xs) = None
 
 -- a place and a moment, joined by `@` (the code 64)
@@ -112,4 +117,8 @@ path_at = word path_of
 
 -- a block of this place: its start and its generation
 abbrev pub block_at : ℕ → Reader GlobalRef
-block_at home = followed natural_at (λ start. followed natural_at (λ generation. done (record { home = record { 0 = home }; start = start; generation = generation })))
+block_at home = followed natural_at (λ start. followed natural_at (λ generation. done (record {
+  home = record { 0 = home };
+  start = start;
+  generation = generation;
+})))

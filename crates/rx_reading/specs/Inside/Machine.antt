@@ -1,5 +1,6 @@
 -- Reading line by line: what has been read, and which lines may come next.
-use Rattle.std.specs.Prelude.{ℕ, ◌+◌, ◌^◌, Bool, true, ◌&&◌, ◌||◌, not, ◌==◌, nat_lt, List, [], ◌∷◌, ◌++◌, length, Option, Some, None, option_map, if◌then◌else◌, codes}
+use Rattle.std.specs.Prelude.{ℕ, ◌+◌, ◌^◌, Bool, true, ◌&&◌, ◌||◌, not, ◌==◌, nat_lt, List, [], ◌∷◌, ◌++◌, length, Option, Some, None}
+use Rattle.std.specs.Prelude.{option_map, if◌then◌else◌, codes}
 use Rattle.std.specs.Str.{bytes_eq}
 use Rattle.rx_base.specs.declared.ids.Kill.{Kill}
 use Rattle.rx_rules.specs.declared.entries.Entry.{Entry}
@@ -35,7 +36,8 @@ count_of most w = next (number_below (most + 1) w) (λ n. if n == 0 then None el
 
 -- the line of the places and their heaps
 abbrev pub sizes_at : Reader (ℕ × ℕ)
-sizes_at = keyed (codes "places") (followed (word (count_of 16)) (λ places. keyed (codes "heap") (followed (word (count_of 4096)) (λ heap. done (places, heap)))))
+sizes_at = keyed (codes "places") (followed (word (count_of 16))
+    (λ places. keyed (codes "heap") (followed (word (count_of 4096)) (λ heap. done (places, heap)))))
 
 -- whether a kill comes after another: by moment, and by place at one moment
 abbrev pub is_after : Kill → Kill → Bool

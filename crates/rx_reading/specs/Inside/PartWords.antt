@@ -12,7 +12,8 @@ abbrev pub set_of : ℕ → PlaceSet
 set_of set = record { 0 = set }
 
 -- a place joins the set where it is above all that are in it
-abbrev pub joined : Option PlaceId → ℕ → List ℕ → List (List ℕ) → (ℕ → Option (PlaceSet × List (List ℕ))) → Option (PlaceSet × List (List ℕ))
+abbrev pub joined : Option PlaceId → ℕ → List ℕ → List (List ℕ) → (ℕ → Option (PlaceSet × List (List ℕ)))
+    → Option (PlaceSet × List (List ℕ))
 joined None set w ws more = Some (set_of set, w ∷ ws)
 joined (Some p) set w ws more = if nat_lt set (2 ^ p.0) then more (set + 2 ^ p.0) else None
 

@@ -34,4 +34,5 @@ pub record InOrder (T : Tree) : Type 0 where
 -- in the rows from `start` on, the chain of the scope begins at row i and goes on behind it
 abbrev pub BeginsAt : List Scope → ℕ → ScopeId → ℕ → Type 0
 BeginsAt gs start s i =
-    (start ≤ i) × (i < length gs) × ((d : Scope) → chain_in (drop start gs) (Some s) ≡ slice_index_or gs i d ∷ chain_in (drop (i + 1) gs) (slice_index_or gs i d).parent)
+    (start ≤ i) × (i < length gs) × ((d : Scope) → chain_in (drop start gs)
+    (Some s) ≡ slice_index_or gs i d ∷ chain_in (drop (i + 1) gs) (slice_index_or gs i d).parent)

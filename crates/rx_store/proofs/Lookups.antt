@@ -1,12 +1,12 @@
 -- What the law says of a call, from what the code has found.
-use Rattle.std.proofs.Common.{◌≡◌, ℕ, suc, zero, ◌+◌, ◌<◌, true, false, ℤ, pos, List, [], ◌∷◌, length, get_or, arith, rules, subst, sym, ◌∙◌, ap, tests}
+use Rattle.std.proofs.Common.{◌≡◌, ℕ, suc, zero, ◌+◌, ◌<◌, Bool, true, false, ℤ, pos, List, [], ◌∷◌, length, get_or, arith, rules, subst, sym, ◌∙◌, ap, tests}
 use Rattle.std.specs.Prelude.{Option, Some, None, slice_get, int_le, int_lt, ◌&&◌}
 use Rattle.rx_base.specs.declared.ids.GlobalRef.{GlobalRef}
 use Rattle.rx_heap.specs.Region.{Region}
 use Rattle.rx_rules.specs.declared.events.Cell.TheVariants.{Get}
 use Rattle.rx_rules.specs.Store.{Live, State, block_of, is_index, word_at, Reads, Refuses, MayCell}
 use Rattle.rx_store.specs.declared.table.Held.{Held}
-use Rattle.rx_store.specs.Table.{slot_at, Backs, Holds}
+use Rattle.rx_store.specs.Table.{slot_at, Backs, Holds, IsLocated, IsUnlocated}
 use Rattle.rx_store.proofs.Holding.{found, not_found}
 
 some_same : {A : Type 0} (a b : A) → Some a ≡ Some b → a ≡ b
@@ -47,6 +47,16 @@ pub law_index : (R : Region) (slots : List (Option Held)) (S : State) (r : Globa
 law_index R slots S r h i f outside =
     let I : ℕ → Type 0 = λ z. (int_le (pos 0) i && int_lt i (pos z)) ≡ false in
     (f.block, f.is, subst I f.len outside)
+
+-- what the code could not locate the law refuses
+pub law_refused : (R : Region) (slots now : List (Option Held)) (S : State) (r : GlobalRef) (i : ℤ) (stale : Bool) → Holds R slots S.blocks → now ≡ slots → IsUnlocated now r i stale → Refuses S r i stale
+law_refused R slots now S r i true holds e none = law_stale R slots now S r holds e none
+law_refused R slots now S r i false holds e (h, at, same, outside) =
+    law_index R slots S r h i (is_found R slots S r h holds (at_table slots now r.start h e at) same) outside
+
+-- what the code has located is found
+pub located_found : (R : Region) (slots now : List (Option Held)) (S : State) (r : GlobalRef) (i : ℤ) (h : Held) (at : ℕ) → Holds R slots S.blocks → now ≡ slots → IsLocated now r i h at → IsFound R slots S r h
+located_found R slots now S r i h at holds e l = is_found R slots S r h holds (at_table slots now r.start h e l.slot) l.generation
 
 index_true : (k n : ℕ) → k < n → (int_le (pos 0) (pos k) && int_lt (pos k) (pos n)) ≡ true
 index_true k n lt = search (rules, tests)

@@ -1,6 +1,7 @@
 -- How the table of live blocks and the heap stand for the blocks of the store's law.
-use Rattle.std.specs.Prelude.{◌≡◌, ℕ, ◌+◌, ◌<◌, ◌⊎◌, pos, Bool, true, false, List, [], ◌∷◌, length, slice_index, slice_index_or, Option}
+use Rattle.std.specs.Prelude.{◌≡◌, ℕ, ◌+◌, ◌<◌, ◌⊎◌, ℤ, pos, int_le, int_lt, ◌&&◌, Bool, true, false, List, [], ◌∷◌, length, slice_index, slice_index_or, Option}
 use Rattle.std.specs.Prelude.{Some, None}
+use Rattle.rx_base.specs.declared.ids.GlobalRef.{GlobalRef}
 use Rattle.rx_heap.specs.Region.{Region, Extent, IsLive, IsLaid}
 use Rattle.rx_rules.specs.declared.events.PlaceEvent.{PlaceEvent}
 use Rattle.rx_rules.specs.Store.{Live, opening_state, IsStoreRun}
@@ -43,6 +44,20 @@ pub record Holds (R : Region) (slots : List (Option Held)) (blocks : List Live) 
 pub record AllLive (R : Region) (slots : List (Option Held)) : Type 0 where
   pub starts : (k : ℕ) (h : Held) → slot_at slots k ≡ Some h → h.block.start ≡ k
   pub live : (k : ℕ) (h : Held) → slot_at slots k ≡ Some h → IsLive R h.block
+
+-- the block is the reference's, and the index names this word of it
+pub record IsLocated (slots : List (Option Held)) (r : GlobalRef) (i : ℤ) (h : Held) (at : ℕ) : Type 0 where
+  pub slot : slot_at slots r.start ≡ Some h
+  pub generation : h.generation ≡ r.generation
+  pub index : i ≡ pos at
+  pub within : at < h.block.len
+
+-- the reference is stale, or else its block has no such index
+abbrev pub IsUnlocated : List (Option Held) → GlobalRef → ℤ → Bool → Type 0
+IsUnlocated slots r i true = (h : Held) → slot_at slots r.start ≡ Some h → h.generation ≡ r.generation → ⊥
+IsUnlocated slots r i false =
+    (h : Held) × (slot_at slots r.start ≡ Some h) × (h.generation ≡ r.generation)
+    × ((int_le (pos 0) i && int_lt i (pos h.block.len)) ≡ false)
 
 -- what a store keeps: its journal is a run, its numbers are those of the journal, and while it is open its table and heap stand
 -- for the blocks that the journal leaves and there is room for the close; once it is closed every block was given back

@@ -1,5 +1,5 @@
 // Who asks a store, what it may refuse, and how a call is told.
-ghost use Rattle.std.specs.Prelude.{◌≡◌, ◌-◌, ◌<◌, [], ◌∷◌, ◌++◌, max};
+ghost use Rattle.std.specs.Prelude.{◌≡◌, ◌-◌, ◌<◌, [], ◌∷◌, ◌++◌, max, cond};
 ghost use Rattle.rx_rules.specs.declared.events.PlaceEvent.TheVariants.{Done};
 
 use rx_base::{Path, TaskId};
@@ -45,4 +45,15 @@ pub(crate) fn tell(journal: &mut Journal, last: &mut u32, m: Mark, cell: Cell)
         cell,
         path,
     });
+}
+
+// The refusal of a call whose reference is stale, or whose block has no such index.
+pub(crate) fn unlocated(stale: bool) -> StoreFault
+    ensures { result ≡ cond stale StoreFault.Stale StoreFault.Index }
+{
+    if stale {
+        StoreFault::Stale
+    } else {
+        StoreFault::Index
+    }
 }

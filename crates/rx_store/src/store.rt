@@ -5,8 +5,8 @@ ghost use Rattle.rx_rules.specs.Store.{IsStoreRun, opening_state};
 ghost use Rattle.rx_store.specs.Kept.{ends_closed, last_stamp};
 ghost use Rattle.rx_store.specs.Answers.{MakeAnswers, GetAnswers, PutAnswers, ForgetAnswers};
 
-use crate::calls::tell;
-use crate::table::{Held, empty_table, find, give_all, index_in, keep, take_out};
+use crate::calls::{tell, unlocated};
+use crate::table::{Held, empty_table, give_all, keep, located, take_out};
 use crate::{Mark, StoreFault};
 use rx_base::{GlobalRef, NoMemory, PlaceId};
 use rx_heap::{Full, Heap};
@@ -151,44 +151,35 @@ impl Store {
         if self.closed {
             return Err(StoreFault::Closed);
         }
-        let Some(held) = find(&self.slots, r) else {
-            tell(
-                &mut self.journal,
-                &mut self.last,
-                m,
-                Cell::GetRefused {
-                    target: r,
-                    index: i,
-                    stale: true,
-                },
-            );
-            return Err(StoreFault::Stale);
-        };
-        let Some(at) = index_in(i, held.block.len()) else {
-            tell(
-                &mut self.journal,
-                &mut self.last,
-                m,
-                Cell::GetRefused {
-                    target: r,
-                    index: i,
-                    stale: false,
-                },
-            );
-            return Err(StoreFault::Index);
-        };
-        let value = self.heap.read(&held.block, at);
-        tell(
-            &mut self.journal,
-            &mut self.last,
-            m,
-            Cell::Get {
-                target: r,
-                index: i,
-                value,
-            },
-        );
-        Ok(value)
+        match located(&self.slots, r, i) {
+            Ok((held, at)) => {
+                let value = self.heap.read(&held.block, at);
+                tell(
+                    &mut self.journal,
+                    &mut self.last,
+                    m,
+                    Cell::Get {
+                        target: r,
+                        index: i,
+                        value,
+                    },
+                );
+                Ok(value)
+            }
+            Err(stale) => {
+                tell(
+                    &mut self.journal,
+                    &mut self.last,
+                    m,
+                    Cell::GetRefused {
+                        target: r,
+                        index: i,
+                        stale,
+                    },
+                );
+                Err(unlocated(stale))
+            }
+        }
     }
 
     /// Makes a number the word at an index of a block. It refuses by `Closed`, `Stale` and `Index`, and takes no memory.
@@ -202,46 +193,36 @@ impl Store {
         if self.closed {
             return Err(StoreFault::Closed);
         }
-        let Some(held) = find(&self.slots, r) else {
-            tell(
-                &mut self.journal,
-                &mut self.last,
-                m,
-                Cell::PutRefused {
-                    target: r,
-                    index: i,
-                    value: v,
-                    stale: true,
-                },
-            );
-            return Err(StoreFault::Stale);
-        };
-        let Some(word) = index_in(i, held.block.len()) else {
-            tell(
-                &mut self.journal,
-                &mut self.last,
-                m,
-                Cell::PutRefused {
-                    target: r,
-                    index: i,
-                    value: v,
-                    stale: false,
-                },
-            );
-            return Err(StoreFault::Index);
-        };
-        self.heap.write(&held.block, word, v);
-        tell(
-            &mut self.journal,
-            &mut self.last,
-            m,
-            Cell::Put {
-                target: r,
-                index: i,
-                value: v,
-            },
-        );
-        Ok(())
+        match located(&self.slots, r, i) {
+            Ok((held, word)) => {
+                self.heap.write(&held.block, word, v);
+                tell(
+                    &mut self.journal,
+                    &mut self.last,
+                    m,
+                    Cell::Put {
+                        target: r,
+                        index: i,
+                        value: v,
+                    },
+                );
+                Ok(())
+            }
+            Err(stale) => {
+                tell(
+                    &mut self.journal,
+                    &mut self.last,
+                    m,
+                    Cell::PutRefused {
+                        target: r,
+                        index: i,
+                        value: v,
+                        stale,
+                    },
+                );
+                Err(unlocated(stale))
+            }
+        }
     }
 
     /// Forgets a block. It refuses by `Closed` and `Stale`, and takes no memory.

@@ -1,8 +1,8 @@
 // The table of live blocks, by the word at which each begins.
 ghost use Rattle.std.specs.Prelude.{◌≡◌, ℕ, ◌+◌, ◌<◌, ◌≤◌, ◌&&◌, pos, false, Some, None, [], length, slice_set, replicate, vec_len};
-ghost use Rattle.std.specs.Prelude.{int_le, int_lt, IfOk, IfSome, IfNone, MatchOption};
+ghost use Rattle.std.specs.Prelude.{int_le, int_lt, IfOk, IfErr, IfSome, IfNone, MatchOption};
 ghost use Rattle.rx_heap.specs.Region.{IsLive, IsLaid};
-ghost use Rattle.rx_store.specs.Table.{slot_at, AllLive};
+ghost use Rattle.rx_store.specs.Table.{slot_at, AllLive, IsLocated, IsUnlocated};
 
 use rx_base::{GlobalRef, NoMemory};
 use rx_heap::{Block, Heap};
@@ -15,7 +15,7 @@ pub(crate) struct Held {
 }
 
 // The live block of a reference.
-pub(crate) fn find(slots: &[Option<Held>], r: GlobalRef) -> Option<&Held>
+fn find(slots: &[Option<Held>], r: GlobalRef) -> Option<&Held>
     ensures { MatchOption result
         ((h : Held) → slot_at slots.now r.start ≡ Some h → h.generation ≡ r.generation → ⊥)
         (λ h. (slot_at slots.now r.start ≡ Some h.now) × (h.now.generation ≡ r.generation)) }
@@ -36,7 +36,7 @@ pub(crate) fn find(slots: &[Option<Held>], r: GlobalRef) -> Option<&Held>
 }
 
 // An index as a number below the length, where it is one.
-pub(crate) fn index_in(i: i64, len: u32) -> Option<u32>
+fn index_in(i: i64, len: u32) -> Option<u32>
     ensures { MatchOption result
         ((int_le (pos 0) i && int_lt i (pos len)) ≡ false)
         (λ k. (i ≡ pos k) × (k < len)) }
@@ -45,6 +45,20 @@ pub(crate) fn index_in(i: i64, len: u32) -> Option<u32>
         Some(i as u32)
     } else {
         None
+    }
+}
+
+// The live block of a reference, with the word that the index names in it; or whether it is the reference that is stale.
+pub(crate) fn located(slots: &[Option<Held>], r: GlobalRef, i: i64) -> Result<(&Held, u32), bool>
+    ensures found { IfOk result (λ x. IsLocated slots.now r i x.0.now x.1) }
+    ensures refused { IfErr result (λ stale. IsUnlocated slots.now r i stale) }
+{
+    let Some(held) = find(slots, r) else {
+        return Err(true);
+    };
+    match index_in(i, held.block.len()) {
+        Some(at) => Ok((held, at)),
+        None => Err(false),
     }
 }
 

@@ -1,3 +1,4 @@
+pub mod InOrder
 pub mod Ascending
 pub mod Lines
 pub mod Places

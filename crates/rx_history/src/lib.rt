@@ -7,6 +7,7 @@
 mod asks;
 mod history;
 mod journal;
+pub mod laws;
 mod setup;
 
 pub use asks::Ask;

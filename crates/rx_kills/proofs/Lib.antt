@@ -1,3 +1,4 @@
 pub mod Left
 pub mod Marks
 pub mod Order
+pub mod Spelling

@@ -1,19 +1,12 @@
 -- Kills in ascending order.
-use Rattle.std.proofs.Common.{◌≡◌, ◌⊎◌, inl, inr, ℕ, zero, suc, ◌<◌, List, [], ◌∷◌, drop, length, refl, arith}
-use Rattle.std.specs.Prelude.{Contains}
+use Rattle.std.proofs.Common.{◌≡◌, ◌⊎◌, inl, inr, ℕ, zero, suc, ◌<◌, List, [], ◌∷◌, drop, refl, arith}
 use Rattle.std.specs.List.{AllByRecursion}
 use Rattle.std.proofs.lemmas.List.Elements.{All-from_recursion}
 use Rattle.rx_base.specs.declared.ids.Kill.{Kill}
 use Rattle.rx_rules.specs.Run.{ComesAfter, Ascends}
 use Rattle.rx_history.specs.KillOrder.{IsAscending}
+use Rattle.rx_history.proofs.InOrder.{further, contains-first, ascending-rest}
 use Rattle.rx_kills.specs.Least.{DueIsLeast, NoneIsReached}
-
--- what comes after a later kill comes after the earlier one
-further : (a b c : Kill) → ComesAfter a b → ComesAfter b c → ComesAfter a c
-further a b c (inl x) (inl y) = inl (omega arith)
-further a b c (inl x) (inr y) = let e = y.0 in inl (omega arith)
-further a b c (inr x) (inl y) = let e = x.0 in inl (omega arith)
-further a b c (inr x) (inr y) = let e = x.0 in let f = y.0 in let g = x.1 in let h = y.1 in inr (omega arith, omega arith)
 
 onward : (a b : Kill) (ks : List Kill) → ComesAfter a b → Ascends b ks → Ascends a ks
 onward a b [] h rest = tt
@@ -23,13 +16,10 @@ all-after : (a : Kill) (ks : List Kill) → Ascends a ks → AllByRecursion (λ 
 all-after a [] h = tt
 all-after a (k ∷ ks) h = (inr h.0, all-after a ks (onward a k ks h.0 h.1))
 
-stands-first : (k : Kill) (ks : List Kill) → Contains (k ∷ ks) k
-stands-first k ks = (0, (let some : 0 < length (k ∷ ks) = omega arith in some), refl)
-
 pub least : DueIsLeast
 least n place [] order due = absurd due
 least n place (k ∷ ks) order due =
-    (k, due.0, due.1, record { stands = stands-first k ks; least = All-from_recursion (λ j. (j ≡ k) ⊎ ComesAfter k j) (k ∷ ks) (inl refl, all-after k ks order) })
+    (k, due.0, due.1, record { stands = contains-first k ks; least = All-from_recursion (λ j. (j ≡ k) ⊎ ComesAfter k j) (k ∷ ks) (inl refl, all-after k ks order) })
 
 later : (n : ℕ) (a k : Kill) → ComesAfter a k → n < a.moment → n < k.moment
 later n a k (inl x) low = omega arith
@@ -42,10 +32,6 @@ all-later n a (k ∷ ks) h low = let next = later n a k h.0 low in (next, all-la
 pub none : NoneIsReached
 none n [] order due = All-from_recursion (λ k. n < k.moment) [] tt
 none n (k ∷ ks) order due = All-from_recursion (λ j. n < j.moment) (k ∷ ks) (due, all-later n k ks order due)
-
-ascending-rest : (k : Kill) (ks : List Kill) → IsAscending (k ∷ ks) → IsAscending ks
-ascending-rest k [] h = tt
-ascending-rest k (j ∷ ks) h = h.1
 
 -- what is left of a list in ascending order is in ascending order
 pub ascending-left : (n : ℕ) (ks : List Kill) → IsAscending ks → IsAscending (drop n ks)

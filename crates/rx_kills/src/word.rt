@@ -1,9 +1,8 @@
 // A kill is written as its place and its moment.
-ghost use Rattle.std.specs.Prelude.{◌≡◌, ◌++◌, ◌∷◌, ℤ, Some, FitsSigned, IfSome};
+ghost use Rattle.std.specs.Prelude.{◌≡◌, ℤ, Some, FitsSigned, IfSome};
 ghost use Rattle.std.specs.Int.{w64};
 ghost use Rattle.rx_base.specs.declared.ids.Kill.{Kill};
-ghost use Rattle.rx_text.specs.Numbers.{number_text};
-ghost use Rattle.rx_kills.specs.Words.{IsKillWord};
+ghost use Rattle.rx_kills.specs.Words.{IsKillWord, joined};
 
 use rx_base::{Kill, PlaceId};
 use rx_text::scan_num;
@@ -26,8 +25,8 @@ pub fn read_kill(word: &[u8]) -> Option<Kill>
 
 // The two numbers on both sides of the sign `@`.
 fn numbers_of(word: &[u8]) -> Option<(i64, i64)>
-    ensures spelled { IfSome result (λ x. word.now ≡ number_text x.0 ++ 64 ∷ number_text x.1) }
-    ensures exact { (m n : ℤ) → FitsSigned w64 m → FitsSigned w64 n → word.now ≡ number_text m ++ 64 ∷ number_text n → result ≡ Some (m, n) }
+    ensures spelled { IfSome result (λ x. word.now ≡ joined x.0 x.1) }
+    ensures exact { (m n : ℤ) → FitsSigned w64 m → FitsSigned w64 n → word.now ≡ joined m n → result ≡ Some (m, n) }
 {
     let (first, at) = scan_num(word, 0)?;
     if at == word.len() || word[at] != b'@' {

@@ -1,6 +1,5 @@
 pub mod Numbers
-pub mod Kills
-pub mod Sorting
+pub mod KillPlans
 pub mod Onward
 pub mod Parts
 pub mod Proper

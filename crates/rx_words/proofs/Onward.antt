@@ -2,10 +2,10 @@
 use Rattle.std.proofs.Common.{◌≡◌, ◌∙◌, ℕ, suc, ◌+◌, List, ◌∷◌, ap, sym, subst, arith}
 use Rattle.rx_words.specs.Words.{Wants, Taken, NotAnOption, BadValue, Takes, BadWord, taken, choice, options}
 use Rattle.rx_words.specs.Commands.{IsTaken, IsInRange, wants_of}
-use Rattle.rx_words.specs.declared.options.Said.{Said}
-use Rattle.rx_words.specs.declared.options.Verb.{Verb}
-use Rattle.rx_words.specs.declared.options.Took.{Took}
-use Rattle.rx_words.specs.declared.options.Took.TheVariants as tooks
+use Rattle.rx_words.specs.declared.said.Said.{Said}
+use Rattle.rx_words.specs.declared.said.Verb.{Verb}
+use Rattle.rx_words.specs.declared.taking.Took.{Took}
+use Rattle.rx_words.specs.declared.taking.Took.TheVariants as tooks
 
 good-takes : (t : Taken) (new : Said) → IsTaken tooks.Good new t → (t ≡ Takes (wants_of new)) × IsInRange new
 good-takes NotAnOption new h = absurd h

@@ -2,12 +2,14 @@
 use Rattle.std.proofs.Common.{◌≡◌, ℕ, suc, ◌≤◌, ◌^◌, ◌-◌, List, [], ◌∷◌, Option, Some, None, refl, arith}
 use Rattle.std.specs.Prelude.{IfSome, Bool, true, false, bytes_eq, codes, if◌then◌else◌}
 use Rattle.rx_rules.specs.Run.{Proper}
-use Rattle.rx_words.specs.Words.{number_of, kill_of, picks_of, Wants, nothing_yet, Choice, NoOption, SizeOption, PlacesOption, HeapOption, KillOption, PickOption, SeedOption, WorkersOption, Taken, NotAnOption, BadValue, Takes, good, taken, choice, or_else, bad_kill, setup_of, source, Step, Gen, Check, Live, BadWord, unless_bad, generated, settled, cut_off, options, alone, asked, asked_any}
-use Rattle.rx_words.specs.declared.options.Verb.{Verb}
-use Rattle.rx_words.specs.declared.options.Verb.TheVariants as verbs
+use Rattle.rx_words.specs.Words.{number_of, kill_of, picks_of, Wants, nothing_yet, Taken, NotAnOption, BadValue, Takes, good, taken, choice, or_else, bad_kill, setup_of, source, Step, Gen, Check, Live, BadWord, unless_bad, generated, settled, cut_off, options, alone, asked}
+use Rattle.rx_words.specs.declared.said.Verb.{Verb}
+use Rattle.rx_words.specs.declared.said.Verb.TheVariants as verbs
+use Rattle.rx_words.specs.declared.kind.Kind.{Kind}
+use Rattle.rx_words.specs.declared.kind.Kind.TheVariants as kinds
 use Rattle.rx_words.specs.Proper.{HasProper, SetupsAreProper}
 use Rattle.rx_words.proofs.Numbers.{number-spelled}
-use Rattle.rx_words.proofs.Sorting.{sorted-kills}
+use Rattle.rx_words.proofs.KillPlans.{planned-kills}
 
 -- the places and the words of a heap that options have said are in their ranges
 pub record IsRanged (w : Wants) : Type 0 where
@@ -24,15 +26,15 @@ good-ranged : {A : Type 0} (o : Option A) (takes : A → Wants) → ((a : A) →
 good-ranged (Some a) takes h = h a refl
 good-ranged None takes h = tt
 
-taken-ranged : (c : Choice) (w : Wants) (k : ℕ) (value : List ℕ) → IsRanged w → AfterTaking (taken c w k value)
-taken-ranged NoOption w k value r = tt
-taken-ranged SizeOption w k value r = good-ranged (number_of 1 10000 value) _ (λ n e. record { places = r.places; heap = r.heap })
-taken-ranged PlacesOption w k value r = good-ranged (number_of 1 16 value) _ (λ n e. record { places = let t = number-spelled 1 16 n value e in (t.1, t.2); heap = r.heap })
-taken-ranged HeapOption w k value r = good-ranged (number_of 1 4096 value) _ (λ n e. record { places = r.places; heap = let t = number-spelled 1 4096 n value e in (t.1, t.2) })
-taken-ranged KillOption w k value r = good-ranged (kill_of value) _ (λ kill e. record { places = r.places; heap = r.heap })
-taken-ranged PickOption w k value r = good-ranged (picks_of value) _ (λ list e. record { places = r.places; heap = r.heap })
-taken-ranged SeedOption w k value r = good-ranged (number_of 0 (2 ^ 64 - 1) value) _ (λ n e. record { places = r.places; heap = r.heap })
-taken-ranged WorkersOption w k value r = good-ranged (number_of 1 8 value) _ (λ n e. record { places = r.places; heap = r.heap })
+taken-ranged : (c : Kind) (w : Wants) (k : ℕ) (value : List ℕ) → IsRanged w → AfterTaking (taken c w k value)
+taken-ranged kinds.NoOption w k value r = tt
+taken-ranged kinds.Size w k value r = good-ranged (number_of 1 10000 value) _ (λ n e. record { places = r.places; heap = r.heap })
+taken-ranged kinds.Places w k value r = good-ranged (number_of 1 16 value) _ (λ n e. record { places = let t = number-spelled 1 16 n value e in (t.1, t.2); heap = r.heap })
+taken-ranged kinds.Heap w k value r = good-ranged (number_of 1 4096 value) _ (λ n e. record { places = r.places; heap = let t = number-spelled 1 4096 n value e in (t.1, t.2) })
+taken-ranged kinds.Kill w k value r = good-ranged (kill_of value) _ (λ kill e. record { places = r.places; heap = r.heap })
+taken-ranged kinds.Pick w k value r = good-ranged (picks_of value) _ (λ list e. record { places = r.places; heap = r.heap })
+taken-ranged kinds.Seed w k value r = good-ranged (number_of 0 (2 ^ 64 - 1) value) _ (λ n e. record { places = r.places; heap = r.heap })
+taken-ranged kinds.Workers w k value r = good-ranged (number_of 1 8 value) _ (λ n e. record { places = r.places; heap = r.heap })
 
 -- what options say, or what stands for it, is in range
 within : (least most usual : ℕ) (o : Option ℕ) → (least ≤ usual) × (usual ≤ most) → IfSome o (λ n. (least ≤ n) × (n ≤ most)) → (least ≤ or_else o usual) × (or_else o usual ≤ most)
@@ -43,7 +45,7 @@ setup-proper : (w : Wants) → IsRanged w → bad_kill (or_else w.places 2) [] w
 setup-proper w r e =
     let places = within 1 16 2 w.places (omega arith, omega arith) r.places in
     let heap = within 1 4096 256 w.heap (omega arith, omega arith) r.heap in
-    record { some = places.0; few = places.1; words = heap.0; small = heap.1; kills = sorted-kills (or_else w.places 2) w.kills e }
+    record { some = places.0; few = places.1; words = heap.0; small = heap.1; kills = planned-kills (or_else w.places 2) w.kills e }
 
 settled-proper : (verb : Verb) (w : Wants) (k : ℕ) → IsRanged w → HasProper (settled verb w k)
 settled-proper verbs.Step w k r = by (bad_kill (or_else w.places 2) [] w.kills) refl
@@ -66,15 +68,15 @@ settled-proper verbs.Live w k r = by (bad_kill (or_else w.places 2) [] w.kills) 
     by (Some n) e = tt
     by None e = setup-proper w r e
 
-cut-proper : (c : Choice) (k : ℕ) → HasProper (cut_off c k)
-cut-proper NoOption k = tt
-cut-proper SizeOption k = tt
-cut-proper PlacesOption k = tt
-cut-proper HeapOption k = tt
-cut-proper KillOption k = tt
-cut-proper PickOption k = tt
-cut-proper SeedOption k = tt
-cut-proper WorkersOption k = tt
+cut-proper : (c : Kind) (k : ℕ) → HasProper (cut_off c k)
+cut-proper kinds.NoOption k = tt
+cut-proper kinds.Size k = tt
+cut-proper kinds.Places k = tt
+cut-proper kinds.Heap k = tt
+cut-proper kinds.Kill k = tt
+cut-proper kinds.Pick k = tt
+cut-proper kinds.Seed k = tt
+cut-proper kinds.Workers k = tt
 
 pub options-proper : (verb : Verb) (w : Wants) (k : ℕ) (words : List (List ℕ)) → IsRanged w → HasProper (options verb w k words)
 options-proper verb w k [] r = settled-proper verb w k r

@@ -4,14 +4,18 @@
 #![tactic(auto)]
 
 mod command;
+mod kind;
 pub mod laws;
 mod listing;
 mod number;
 mod options;
 mod planned;
+mod reader;
+mod said;
 mod settled;
 mod taking;
 #[cfg(test)]
 mod tests;
 
-pub use command::{Command, LiveWords, PickWords, WordFault, read_live, read_words};
+pub use command::{Command, LiveWords, PickWords, WordFault};
+pub use reader::{read_live, read_words};

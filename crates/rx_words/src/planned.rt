@@ -1,13 +1,15 @@
 // The setup where all options were read: the kills are of places that can die, and stand in their order.
-ghost use Rattle.std.specs.Prelude.{◌≡◌, ℕ, [], Some, None, IfOk, OnOk, IsErrOf, map};
+ghost use Rattle.std.specs.Prelude.{◌≡◌, ℕ, [], Some, None, IfOk, IsErrOf, map};
+ghost use Rattle.std.specs.List.Sorted.{IsPermutation, IsSortedBy};
 ghost use Rattle.rx_rules.specs.Run.{AreKills, Proper};
+ghost use Rattle.rx_history.specs.KillOrder.{is_before};
 ghost use Rattle.rx_history.specs.Setups.{given};
-ghost use Rattle.rx_words.specs.Words.{setup_of, or_else, bad_kill, has, is_sooner, inserted, sorted, told};
+ghost use Rattle.rx_words.specs.Words.{setup_of, bad_kill, first_bad_kill, has, ordered, told};
 ghost use Rattle.rx_words.specs.declared.command.WordFault.TheVariants.{Bad};
 ghost use Rattle.rx_words.specs.Commands.{IsInRange, wants_of, place_of, kill_in};
 
-use crate::command::WordFault;
-use crate::options::{Said, bad};
+use crate::command::{WordFault, bad};
+use crate::said::Said;
 use rx_base::{Kill, NoMemory};
 use rx_history::{KillList, Setup};
 use std::alloc::Global;
@@ -37,48 +39,35 @@ fn first_bad(kills: &[(usize, Kill)], places: u32) -> Option<usize>
     None
 }
 
-// Whether one kill comes before another.
-fn sooner(a: Kill, b: Kill) -> bool
-    ensures { result ≡ is_sooner a b }
-{
-    a.moment < b.moment || (a.moment == b.moment && a.place.0 < b.place.0)
-}
-
-// Puts a kill where it belongs in a list in ascending order.
-fn insert(list: &mut Vec<Kill>, planned: Kill) -> Result<(), NoMemory>
-    ensures { OnOk result (list.new.items ≡ inserted planned list.old.items) }
-{
-    let mut i = 0;
-    'search: while i < list.len() {
-        if sooner(planned, list[i]) {
-            break;
-        }
-        i += 1;
-    }
-    list.insert(i, planned)?;
-    Ok(())
-}
-
-// The kills in ascending order.
-fn sort(alloc: Global, kills: &[(usize, Kill)]) -> Result<Vec<Kill>, NoMemory>
-    ensures { IfOk result (λ list. list.items ≡ sorted [] (map kill_in kills.now)) }
+// The kills in the order of their words.
+fn named(alloc: Global, kills: &[(usize, Kill)]) -> Result<Vec<Kill>, NoMemory>
+    ensures { IfOk result (λ list. list.items ≡ map kill_in kills.now) }
 {
     let mut list = Vec::new(alloc);
     for planned in kills {
-        insert(&mut list, planned.1)?;
+        list.push(planned.1)?;
     }
     Ok(list)
+}
+
+// Sorts kills by their moments, and by their places at one moment.
+fn sort(list: &mut Vec<Kill>)
+    ensures same { IsPermutation list.old.items list.new.items }
+    ensures sorted { IsSortedBy is_before list.new.items }
+{
+    list.sort_unstable_by_key(|kill| (kill.moment, kill.place.0));
 }
 
 // The kills in ascending order, as a setup has them.
 fn planned(alloc: Global, kills: &[(usize, Kill)], places: u32) -> Result<KillList, NoMemory>
     requires { bad_kill places [] kills.now ≡ None }
-    ensures list { IfOk result (λ list. list ≡ sorted [] (map kill_in kills.now)) }
+    ensures list { IfOk result (λ list. list ≡ ordered kills.now) }
     ensures proper { IfOk result (λ list. AreKills places list) }
 {
-    let in_order = sort(alloc, kills)?;
+    let mut sorted = named(alloc, kills)?;
+    sort(&mut sorted);
     let mut list = KillList::open(alloc);
-    for planned in &in_order {
+    for planned in &sorted {
         list.push(*planned)?;
     }
     Ok(list)
@@ -88,8 +77,8 @@ fn planned(alloc: Global, kills: &[(usize, Kill)], places: u32) -> Result<KillLi
 pub(crate) fn setup(alloc: Global, said: &Said) -> Result<Setup, WordFault>
     requires { IsInRange said.now }
     ensures ok { IfOk result (λ s. (given s ≡ setup_of (wants_of said.now)) × Proper (given s)) }
-    ensures none { IfOk result (λ _. bad_kill (or_else said.now.places 2) [] said.now.kills.items ≡ None) }
-    ensures bad { (word : ℕ) → IsErrOf result (Bad word) → (k : ℕ) × (bad_kill (or_else said.now.places 2) [] said.now.kills.items ≡ Some k) × (word ≡ told k) }
+    ensures none { IfOk result (λ _. first_bad_kill (wants_of said.now) ≡ None) }
+    ensures bad { (word : ℕ) → IsErrOf result (Bad word) → (k : ℕ) × (first_bad_kill (wants_of said.now) ≡ Some k) × (word ≡ told k) }
 {
     let places = said.places.unwrap_or(2);
     let heap = said.heap.unwrap_or(256);

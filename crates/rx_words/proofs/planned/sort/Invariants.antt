@@ -1,7 +1,0 @@
-use Rattle.std.proofs.Common.{◌≡◌, [], drop, map}
-use Rattle.rx_words.specs.Words.{sorted}
-use Rattle.rx_words.specs.Commands.{kill_in}
-use Rattle.rx_words.proofs.planned.sort.Given as goal
-
-abbrev pub invariant-loop-planned : goal.invariant-loop-planned
-invariant-loop-planned l = sorted [] (map kill_in l.fn.kills) ≡ sorted l.list.items (map kill_in (drop l.planned-index l.fn.kills))

@@ -14,7 +14,7 @@ use Rattle.rx_rules.specs.Run.{Given, IsRun}
 use Rattle.rx_rules.specs.Picked.{IsPicked}
 use Rattle.rx_rules.specs.Laws.{NoEarlyRelease, LossExact}
 use Rattle.rx_rules.specs.Order.{OrderKept}
-use Rattle.rx_script.specs.Grammar.{IsScript}
+use Rattle.rx_nodes.specs.Grammar.{IsScript}
 use Rattle.rx_check.specs.Checked.{Meets}
 use Rattle.rx_trace.specs.Text.{trace_text}
 use Rattle.rx_words.specs.Words.{Asked, Step, Gen, Check, Live, BadWord, Source, Zeros, Listed, Seeded, source}

@@ -3,7 +3,7 @@ ghost use Rattle.std.specs.Prelude.{◌≡◌, ◌⊎◌, ◌<◌, ◌≤◌, �
 ghost use Rattle.std.specs.Io.KnownBytes.{Consumes, Appends};
 ghost use Rattle.rx_base.specs.Outside.{Rose};
 ghost use Rattle.rx_rules.specs.Code.{Block};
-ghost use Rattle.rx_script.specs.Grammar.{IsScript};
+ghost use Rattle.rx_nodes.specs.Grammar.{IsScript};
 ghost use Rattle.rx_script.specs.Faults.{IsFaultAt};
 ghost use Rattle.rx_check.specs.Rules.{verdict};
 ghost use Rattle.rx_rules.specs.Run.{Given};

@@ -3,7 +3,7 @@ ghost use Rattle.std.specs.Prelude.{◌≡◌, ◌≤◌, ◌<◌, ◌^◌, ℕ,
 ghost use Rattle.rx_rules.specs.Code.{Block};
 ghost use Rattle.rx_rules.specs.Run.{Given, Proper, EndsWithRoot};
 ghost use Rattle.rx_rules.specs.Picked.{IsPicked};
-ghost use Rattle.rx_script.specs.Shape.{Stands};
+ghost use Rattle.rx_nodes.specs.Shape.{Stands};
 ghost use Rattle.rx_history.specs.Events.{events_of};
 ghost use Rattle.rx_history.specs.Setups.{given};
 ghost use Rattle.rx_words.specs.Commands.{source_of};

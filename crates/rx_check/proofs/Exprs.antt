@@ -3,10 +3,10 @@ use Rattle.std.proofs.Common.{◌≡◌, ◌<◌, List, length, Some, refl, ap, 
 use Rattle.std.specs.Prelude.{slice_get}
 use Rattle.std.proofs.lemmas.Option.{slice_get_within}
 use Rattle.rx_rules.specs.Code.{Expr, Num, Name, Here, Bin}
-use Rattle.rx_script.specs.declared.nodes.ExprId.{ExprId}
-use Rattle.rx_script.specs.declared.nodes.Expr.{Expr as Part}
-use Rattle.rx_script.specs.declared.nodes.Expr.TheVariants.{Num as NumPart, Name as NamePart, Here as HerePart, Bin as BinPart}
-use Rattle.rx_script.specs.Shape.{ExprStands, op_of}
+use Rattle.rx_nodes.specs.declared.nodes.ExprId.{ExprId}
+use Rattle.rx_nodes.specs.declared.nodes.Expr.{Expr as Part}
+use Rattle.rx_nodes.specs.declared.nodes.Expr.TheVariants.{Num as NumPart, Name as NamePart, Here as HerePart, Bin as BinPart}
+use Rattle.rx_nodes.specs.Shape.{ExprStands, op_of}
 
 pub expr-within : (es : List Part) (i : ExprId) (e : Expr) → ExprStands es i e → i.0 < length es
 expr-within es i (Num z) h = slice_get_within es i.0 _ h

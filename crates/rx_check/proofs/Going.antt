@@ -5,11 +5,11 @@ use Rattle.std.proofs.lemmas.List.{drop_all}
 use Rattle.std.proofs.lemmas.List.Folds.{list_any-append}
 use Rattle.std.proofs.lemmas.Bool.Decides.{nat_tests}
 use Rattle.rx_rules.specs.Code.{Stmt, Block, Nothing, Then, work, work_of}
-use Rattle.rx_script.specs.Shape.{Shape, StmtIs, ListStands, BlockStands}
-use Rattle.rx_script.specs.declared.nodes.StmtId.{StmtId}
-use Rattle.rx_script.specs.declared.nodes.BlockId.{BlockId}
-use Rattle.rx_script.specs.declared.nodes.NameId.{NameId}
-use Rattle.rx_script.specs.declared.nodes.Stmt.{Stmt as Node}
+use Rattle.rx_nodes.specs.Shape.{Shape, StmtIs, ListStands, BlockStands}
+use Rattle.rx_nodes.specs.declared.nodes.StmtId.{StmtId}
+use Rattle.rx_nodes.specs.declared.nodes.BlockId.{BlockId}
+use Rattle.rx_nodes.specs.declared.nodes.NameId.{NameId}
+use Rattle.rx_nodes.specs.declared.nodes.Stmt.{Stmt as Node}
 use Rattle.rx_check.specs.Rules.{Kind, Sight, assigned, fails_depth, fails_known, has, inside, learned, sights}
 use Rattle.rx_check.specs.Inside.Walk.{Sofar, and_on, cap, is_in, is_one_more, mistakes_kind, known_with, noted, rule_with, run, seen_as, sofar_of, stepped, Extends, Knows}
 use Rattle.rx_check.specs.declared.names.Seen.{Seen}

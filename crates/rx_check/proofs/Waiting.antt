@@ -2,8 +2,8 @@
 use Rattle.std.proofs.Common.{◌≡◌, ℕ, ℤ, zero, suc, ◌+◌, ◌-◌, ◌<◌, ◌≤◌, ◌==◌, nat_lt, Bool, true, false, ◌||◌, List, [], ◌∷◌, ◌++◌, refl, ap, sym, ◌∙◌, arith, max}
 use Rattle.std.proofs.lemmas.Bool.Decides.{nat_tests}
 use Rattle.rx_rules.specs.Code.{Expr, Num, Name, Here, Bin}
-use Rattle.rx_script.specs.declared.nodes.Expr.{Expr as Part}
-use Rattle.rx_script.specs.Shape.{ExprStands}
+use Rattle.rx_nodes.specs.declared.nodes.Expr.{Expr as Part}
+use Rattle.rx_nodes.specs.Shape.{ExprStands}
 use Rattle.rx_check.specs.Rules.{pairs_in}
 use Rattle.rx_check.specs.Inside.Walk.{join, no_uses, uses_in, name_uses, pair_uses, Yields, weight, weights}
 use Rattle.rx_check.specs.declared.uses.Uses.{Uses}

@@ -9,7 +9,8 @@ use Rattle.rx_rules.specs.Code.{Block, Stmt}
 use Rattle.rx_rules.specs.Terms.{Term, Empty, Raise, Run, Turns, Trying, Body, Held, Vars, no_vars, value_of, items, Local, does}
 use Rattle.rx_rules.specs.Terms.{Answer, answered, vars_after, granted, child}
 use Rattle.rx_rules.specs.Plays.{Tells, Fits, brought}
-use Rattle.rx_script.specs.Grammar.{AreNames, spellings}
+use Rattle.rx_token.specs.Tokens.{AreNames}
+use Rattle.rx_nodes.specs.Grammar.{spellings}
 use Rattle.rx_check.specs.Rules.{Kind, has, names_of_all, exprs_of, targets_of, assigned}
 use Rattle.rx_check.specs.Checked.{Meets}
 

@@ -1,7 +1,7 @@
 // The five rules.
 ghost use Rattle.std.specs.Prelude.{◌≡◌, Some, IfOk, IfErr, IsErrOf, ℕ};
 ghost use Rattle.rx_rules.specs.Code.{Block, work};
-ghost use Rattle.rx_script.specs.Shape.{Stands};
+ghost use Rattle.rx_nodes.specs.Shape.{Stands};
 ghost use Rattle.rx_check.specs.Rules.{verdict};
 ghost use Rattle.rx_check.specs.Checked.{Meets};
 ghost use Rattle.rx_check.specs.declared.checker.CheckCause.TheVariants.{Bad, NoMemory};

@@ -1,8 +1,9 @@
 // A script that meets the rules.
 ghost use Rattle.std.specs.Prelude.{◌≡◌, ◌≤◌};
 ghost use Rattle.rx_rules.specs.Code.{Block, work};
-ghost use Rattle.rx_script.specs.Shape.{Stands};
-ghost use Rattle.rx_script.specs.Grammar.{AllFit, AreNames, spellings};
+ghost use Rattle.rx_nodes.specs.Shape.{Stands};
+ghost use Rattle.rx_nodes.specs.Grammar.{AllFit, spellings};
+ghost use Rattle.rx_token.specs.Tokens.{AreNames};
 ghost use Rattle.rx_check.specs.Checked.{Meets};
 
 use rx_script::{Script, whole};

@@ -3,8 +3,8 @@ use Rattle.std.proofs.Common.{◌≡◌, ℕ, suc, List, [], ◌∷◌, ◌++◌
 use Rattle.std.specs.Prelude.{nat_le, option_to_list}
 use Rattle.rx_base.specs.declared.values.Fault.{Fault}
 use Rattle.rx_rules.specs.Terms.{Vars, Term, Raise, Turns as TurnsTerm, Does, Local, Waits, Releases, Done, does, stmt_does, items, at, catches}
-use Rattle.rx_script.specs.declared.nodes.BlockId.{BlockId}
-use Rattle.rx_script.specs.Shape.{Shape}
+use Rattle.rx_nodes.specs.declared.nodes.BlockId.{BlockId}
+use Rattle.rx_nodes.specs.Shape.{Shape}
 use Rattle.rx_control.specs.Inside.Levels.{More, seq, wrap, term_of}
 use Rattle.rx_control.specs.declared.frame.Frame.{Frame}
 use Rattle.rx_control.specs.declared.frame.Frame.TheVariants.{Turns, Try, Body, Held}

@@ -6,10 +6,10 @@ use Rattle.rx_base.specs.declared.ids.PlaceId.{PlaceId}
 use Rattle.rx_base.specs.declared.values.Fault.TheVariants.{WrongPlace}
 use Rattle.rx_rules.specs.Code.{Expr, Stmt, SetTo, Get, Put}
 use Rattle.rx_rules.specs.Terms.{Vars, Term, Does, Local, Gets, Puts, bound, raise, ref_in, value_of, eval, with_number}
-use Rattle.rx_script.specs.declared.nodes.ExprId.{ExprId}
-use Rattle.rx_script.specs.declared.nodes.NameId.{NameId}
-use Rattle.rx_script.specs.declared.nodes.Stmt.TheVariants.{Set as SetNode, Get as GetNode, Put as PutNode}
-use Rattle.rx_script.specs.Shape.{Shape, StmtIs, ExprStands}
+use Rattle.rx_nodes.specs.declared.nodes.ExprId.{ExprId}
+use Rattle.rx_nodes.specs.declared.nodes.NameId.{NameId}
+use Rattle.rx_nodes.specs.declared.nodes.Stmt.TheVariants.{Set as SetNode, Get as GetNode, Put as PutNode}
+use Rattle.rx_nodes.specs.Shape.{Shape, StmtIs, ExprStands}
 use Rattle.rx_control.specs.declared.plan.Plan.{Plan}
 use Rattle.rx_control.specs.declared.plan.Plan.TheVariants.{Assign, Raise, Choose, Loop, Attempt, Ask}
 use Rattle.rx_control.specs.declared.step.Next.{Next}

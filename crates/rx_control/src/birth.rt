@@ -2,7 +2,7 @@
 ghost use Rattle.std.specs.Prelude.{◌≡◌, ℕ, List, IfOk, MatchOption};
 ghost use Rattle.rx_rules.specs.Code.{Stmt as Tree, Block};
 ghost use Rattle.rx_rules.specs.Terms.{Empty, items, stmt_child};
-ghost use Rattle.rx_script.specs.Shape.{Shape, StmtIs, BlockStands};
+ghost use Rattle.rx_nodes.specs.Shape.{Shape, StmtIs, BlockStands};
 ghost use Rattle.rx_control.specs.Stands.{StandsFor};
 
 use crate::frame::{Frame, settle};

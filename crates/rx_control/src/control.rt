@@ -6,7 +6,7 @@ ghost use Rattle.rx_base.specs.declared.values.Fault.{Fault};
 ghost use Rattle.rx_rules.specs.Code.{Block, work};
 ghost use Rattle.rx_rules.specs.Terms.{no_vars, Term, at, Empty, Waits, does, begins, child, items, granted, replaced, answered};
 ghost use Rattle.rx_rules.specs.Terms.{answer_of, vars_after, receives};
-ghost use Rattle.rx_script.specs.Shape.{Shape, Stands};
+ghost use Rattle.rx_nodes.specs.Shape.{Shape, Stands};
 ghost use Rattle.rx_control.specs.declared.frame.Frame.{Frame};
 ghost use Rattle.rx_control.specs.Stands.{StandsFor, path_of, Leaves, IsSame};
 ghost use Rattle.rx_control.specs.Bound.{Falls};

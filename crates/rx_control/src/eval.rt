@@ -2,7 +2,7 @@
 ghost use Rattle.std.specs.Prelude.{◌≡◌, ℕ, ◌<◌, length, Option, Some, None, ℤ};
 ghost use Rattle.rx_rules.specs.Code.{Expr};
 ghost use Rattle.rx_rules.specs.Terms.{applied, both, eval, number_in};
-ghost use Rattle.rx_script.specs.Shape.{ExprStands, op_of};
+ghost use Rattle.rx_nodes.specs.Shape.{ExprStands, op_of};
 
 use crate::Variables;
 use rx_base::{PlaceId, Value};

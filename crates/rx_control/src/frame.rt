@@ -2,7 +2,7 @@
 ghost use Rattle.std.specs.Prelude.{◌≡◌, ℕ, List, [], ◌∷◌, ◌++◌, Option, Some, None, MatchOption, vec_len, vec_capacity, ◌-◌, ◌≤◌, ◌<◌};
 ghost use Rattle.rx_base.specs.declared.values.Fault.{Fault};
 ghost use Rattle.rx_control.specs.Inside.Levels.{Level};
-ghost use Rattle.rx_script.specs.Shape.{Shape};
+ghost use Rattle.rx_nodes.specs.Shape.{Shape};
 ghost use Rattle.rx_control.specs.declared.frame.Frame.{Frame};
 ghost use Rattle.rx_control.specs.Stands.{FrameStands, FramesStand};
 ghost use Rattle.rx_control.specs.Inside.Front.{IsOver, IsCatch, SettlesTo};

@@ -6,7 +6,7 @@ ghost use Rattle.rx_base.specs.declared.values.Fault.TheVariants.{Thrown, WrongP
 ghost use Rattle.rx_rules.specs.Code.{Stmt as Tree, Block};
 ghost use Rattle.rx_rules.specs.Terms.{Vars, Term, Does, Local, Gets, Puts, Forgets, Prints, Spawns, Calls, bound, raise, ref_in};
 ghost use Rattle.rx_rules.specs.Terms.{target_of, with_number, with_place, is_zero, items, at};
-ghost use Rattle.rx_script.specs.Shape.{Shape, StmtIs, BlockStands};
+ghost use Rattle.rx_nodes.specs.Shape.{Shape, StmtIs, BlockStands};
 ghost use Rattle.rx_control.specs.Next.{next_of};
 ghost use Rattle.rx_control.specs.Inside.Plans.{Plans, IsPlan, place_in};
 

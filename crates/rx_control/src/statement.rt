@@ -2,7 +2,7 @@
 ghost use Rattle.std.specs.Prelude.{◌≡◌, ℕ, ◌+◌, ◌≤◌, List, [], ◌∷◌, ◌++◌, Option, None, Ok, MatchOption, vec_len, vec_capacity};
 ghost use Rattle.rx_rules.specs.Code.{Stmt as Tree, Block};
 ghost use Rattle.rx_rules.specs.Terms.{Term, begins, stmt_receives, vars_after, answer_of};
-ghost use Rattle.rx_script.specs.Shape.{Shape, StmtIs};
+ghost use Rattle.rx_nodes.specs.Shape.{Shape, StmtIs};
 ghost use Rattle.rx_control.specs.declared.frame.Frame.{Frame};
 ghost use Rattle.rx_control.specs.declared.control.Control.{Control};
 ghost use Rattle.rx_control.specs.Inside.Levels.{Level};

@@ -2,9 +2,11 @@
 use Rattle.std.specs.Prelude.{◌≡◌, ℕ, ◌+◌, ◌≤◌, zero, suc, List, [], Some, slice_get, refl}
 use Rattle.std.proofs.Common.{arith}
 use Rattle.std.proofs.Math.Nat.{mod-le}
-use Rattle.rx_script.specs.Lexical.{most}
-use Rattle.rx_script.specs.Grammar.{spellings, Fits, AllFit, InOrder, AreNames, IsScriptOf}
-use Rattle.rx_script.specs.Writing.{AreSpelled, script_text, WrittenReadsBack}
+use Rattle.rx_token.specs.Lexical.{most}
+use Rattle.rx_nodes.specs.Grammar.{spellings, Fits, AllFit, IsScriptOf}
+use Rattle.rx_token.specs.Tokens.{InOrder, AreNames}
+use Rattle.rx_token.specs.Texts.{AreSpelled}
+use Rattle.rx_script.specs.Writing.{script_text, WrittenReadsBack}
 use Rattle.rx_gen.specs.Lines.{line, lines_from, lines}
 
 line-fits : (q i : ℕ) → Fits (line q i)

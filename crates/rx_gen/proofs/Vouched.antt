@@ -3,8 +3,8 @@ use Rattle.std.specs.Prelude.{◌≡◌, ℕ, ◌≤◌, List, [], ◌∷◌, �
 use Rattle.std.proofs.Common.{length-drop, ap, sym, ◌∙◌, subst}
 use Rattle.std.proofs.Math.Seq.{take-length}
 use Rattle.rx_rules.specs.Code.{Block}
-use Rattle.rx_script.specs.Shape.{Shape, Stands}
-use Rattle.rx_script.specs.Grammar.{IsScriptOf}
+use Rattle.rx_nodes.specs.Shape.{Shape, Stands}
+use Rattle.rx_nodes.specs.Grammar.{IsScriptOf}
 use Rattle.rx_script.specs.Faults.{IsFaultAt, OneScript, NoFault}
 use Rattle.rx_script.specs.Writing.{WrittenReadsBack}
 use Rattle.rx_gen.specs.Lines.{lines}

@@ -7,8 +7,9 @@ use Rattle.std.proofs.lemmas.List.Concat.{flat_map-append}
 use Rattle.std.proofs.Math.Nat.{mod-le}
 use Rattle.rx_text.specs.Numbers.{natural_text}
 use Rattle.rx_rules.specs.Code.{Block}
-use Rattle.rx_script.specs.Grammar.{spelling, spellings}
-use Rattle.rx_script.specs.Writing.{spaced, script_text}
+use Rattle.rx_nodes.specs.Grammar.{spelling, spellings}
+use Rattle.rx_token.specs.Texts.{spaced}
+use Rattle.rx_script.specs.Writing.{script_text}
 use Rattle.rx_gen.specs.Lines.{line, lines_from, lines}
 
 -- the tokens of statements, each with a blank in front

@@ -1,9 +1,9 @@
 // The program of a generated script. Its text is made and read as any other, so that the reader and the checker vouch for it.
 ghost use Rattle.std.specs.Prelude.{◌≡◌, ◌≤◌, ◌<◌, ◌^◌, ◌*◌, ◌++◌, ◌∷◌, [], length, IfOk, OnOk};
 ghost use Rattle.std.specs.List.{flat_map};
-ghost use Rattle.rx_script.specs.Shape.{Stands};
-ghost use Rattle.rx_script.specs.Grammar.{spelling, spellings};
-ghost use Rattle.rx_script.specs.Writing.{spaced};
+ghost use Rattle.rx_nodes.specs.Shape.{Stands};
+ghost use Rattle.rx_nodes.specs.Grammar.{spelling, spellings};
+ghost use Rattle.rx_token.specs.Texts.{spaced};
 ghost use Rattle.rx_gen.specs.Lines.{line, lines};
 
 use rx_base::NoMemory;

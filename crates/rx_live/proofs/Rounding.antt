@@ -14,7 +14,7 @@ use Rattle.rx_rules.specs.Picked.{Game, Turn, dies, arrives, moves, ends, root, 
 use Rattle.rx_runs.specs.PickedRuns.{PickedIsRun}
 use Rattle.rx_history.specs.Logs.{Log}
 use Rattle.rx_history.specs.Events.{AllEvents}
-use Rattle.rx_script.specs.Shape.{Shape, Stands}
+use Rattle.rx_nodes.specs.Shape.{Shape, Stands}
 use Rattle.rx_machine.specs.declared.machine.Machine.{Machine}
 use Rattle.rx_machine.specs.Holds.{Holds, Finished, Makes}
 use Rattle.rx_machine.specs.Runs.{WentOn, picks_in, Gives}

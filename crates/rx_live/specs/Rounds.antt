@@ -8,7 +8,7 @@ use Rattle.rx_history.specs.Logs.{Log}
 use Rattle.rx_history.specs.Events.{AllEvents, events_of}
 use Rattle.rx_history.specs.Setups.{given}
 use Rattle.rx_rules.specs.Picked.{Game, Turns, start_game}
-use Rattle.rx_script.specs.Shape.{Shape, Stands}
+use Rattle.rx_nodes.specs.Shape.{Shape, Stands}
 use Rattle.rx_machine.specs.declared.machine.Machine.{Machine}
 use Rattle.rx_machine.specs.Holds.{Holds, Finished}
 use Rattle.rx_machine.specs.Runs.{picks_in}

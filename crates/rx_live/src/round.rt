@@ -2,7 +2,7 @@
 ghost use Rattle.std.specs.Prelude.{◌≡◌, ◌||◌, not, true, false, [], IfOk};
 ghost use Rattle.rx_rules.specs.Code.{Block};
 ghost use Rattle.rx_rules.specs.Run.{Given, Proper};
-ghost use Rattle.rx_script.specs.Shape.{Stands};
+ghost use Rattle.rx_nodes.specs.Shape.{Stands};
 ghost use Rattle.rx_live.specs.Rounds.{Keeps, IsOver};
 
 use crate::once::Once;

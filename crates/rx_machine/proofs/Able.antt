@@ -9,7 +9,7 @@ use Rattle.rx_rules.specs.Picked.{is_enabled, Player}
 use Rattle.rx_sound.specs.Owning.{WaiterOwns}
 use Rattle.rx_finish.specs.Callers.{MayAskRelease, WaitsInside, HasNumbers}
 use Rattle.rx_finish.specs.Calls.{is_ready, blow_of}
-use Rattle.rx_script.specs.Shape.{Shape}
+use Rattle.rx_nodes.specs.Shape.{Shape}
 use Rattle.rx_machine.specs.declared.seat.Seat.{Seat}
 use Rattle.rx_machine.specs.Callers.{caller}
 use Rattle.rx_machine.specs.Slots.{IsSeat, SlotIs, seat_at, seat_in}

@@ -13,7 +13,7 @@ use Rattle.rx_rules.specs.Tree.{Tree, task_of, opened_by, inner}
 use Rattle.rx_rules.specs.Picked.{Player}
 use Rattle.rx_finish.specs.Callers.{MayAsk, HasNumbers, IsMoving}
 use Rattle.rx_finish.specs.Calls.{blow_of}
-use Rattle.rx_script.specs.Shape.{Shape}
+use Rattle.rx_nodes.specs.Shape.{Shape}
 use Rattle.rx_machine.specs.declared.seat.Seat.{Seat}
 use Rattle.rx_machine.specs.Callers.{caller, first_scope}
 use Rattle.rx_machine.specs.Slots.{IsSeat}

@@ -25,7 +25,7 @@ use Rattle.rx_rules.specs.Picked.{Game, Player, Turn, tree_in, child_of}
 use Rattle.rx_sound.specs.Chains.{Opened, HasOpener}
 use Rattle.rx_sound.specs.Sound.{Sound, TasksFall}
 use Rattle.rx_store.specs.Kept.{Kept}
-use Rattle.rx_script.specs.Shape.{Shape}
+use Rattle.rx_nodes.specs.Shape.{Shape}
 use Rattle.rx_control.specs.declared.control.Control.{Control}
 use Rattle.rx_control.specs.Stands.{StandsFor}
 use Rattle.rx_machine.specs.declared.machine.Machine.{Machine}

@@ -29,7 +29,7 @@ use Rattle.rx_runs.specs.Events.{FewEvents, GoingTells}
 use Rattle.rx_runs.specs.SomeWords.{MakesSome, TermMakesSome, AsksSome, ComesSome, GoesSome}
 use Rattle.rx_runs.proofs.Pairs.{pairs-get}
 use Rattle.rx_runs.proofs.Rows.{row-found}
-use Rattle.rx_script.specs.Shape.{Shape}
+use Rattle.rx_nodes.specs.Shape.{Shape}
 use Rattle.rx_store.specs.Kept.{Kept, state_from, state_of, closed_from, ends_closed, stamp_from, last_stamp}
 use Rattle.rx_store.specs.Answers.{event_of}
 use Rattle.rx_store.specs.declared.calls.Mark.{Mark}

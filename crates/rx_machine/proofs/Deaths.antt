@@ -26,7 +26,7 @@ use Rattle.rx_runs.proofs.Pairs.{pairs-get, journal_got}
 use Rattle.rx_finish.specs.Callers.{MayStrike}
 use Rattle.rx_history.specs.Setups.{given}
 use Rattle.rx_store.specs.Kept.{Kept, ends_closed, last_stamp}
-use Rattle.rx_script.specs.Shape.{Shape}
+use Rattle.rx_nodes.specs.Shape.{Shape}
 use Rattle.rx_machine.specs.declared.machine.Machine.{Machine}
 use Rattle.rx_machine.specs.declared.seat.Seat.{Seat}
 use Rattle.rx_machine.specs.Slots.{live_task, SlotIs, seat_at, seat_in, left_by}

@@ -9,7 +9,7 @@ use Rattle.rx_rules.specs.declared.tasks.Task.{Task}
 use Rattle.rx_rules.specs.Tree.{Tree, is_task, task_of, quiet, inner}
 use Rattle.rx_rules.specs.Picked.{is_enabled, enabled, Player}
 use Rattle.rx_sound.specs.Sound.{TasksFall}
-use Rattle.rx_script.specs.Shape.{Shape}
+use Rattle.rx_nodes.specs.Shape.{Shape}
 use Rattle.rx_machine.specs.declared.seat.Seat.{Seat}
 use Rattle.rx_machine.specs.Slots.{live_task, live_in, SlotIs, seat_at}
 use Rattle.rx_machine.specs.Picking.{slot_able}

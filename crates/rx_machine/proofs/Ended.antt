@@ -25,7 +25,7 @@ use Rattle.rx_finish.specs.Callers.{HasNumbers, IsBare, MayAskEnd}
 use Rattle.rx_finish.specs.Calls.{EndReply, blow_of}
 use Rattle.rx_history.specs.Setups.{given}
 use Rattle.rx_store.specs.Kept.{Kept}
-use Rattle.rx_script.specs.Shape.{Shape}
+use Rattle.rx_nodes.specs.Shape.{Shape}
 use Rattle.rx_machine.specs.declared.machine.Machine.{Machine}
 use Rattle.rx_machine.specs.declared.seat.Seat.{Seat}
 use Rattle.rx_machine.specs.Callers.{caller}

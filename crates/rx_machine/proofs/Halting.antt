@@ -29,7 +29,7 @@ use Rattle.rx_runs.proofs.Walks.{IsLast, fits_last}
 use Rattle.rx_runs.proofs.Telling.{tell_once}
 use Rattle.rx_store.specs.Kept.{Kept}
 use Rattle.rx_store.specs.declared.calls.Mark.{Mark}
-use Rattle.rx_script.specs.Shape.{Shape}
+use Rattle.rx_nodes.specs.Shape.{Shape}
 use Rattle.rx_control.specs.declared.step.CellOp.{CellOp}
 use Rattle.rx_control.specs.declared.step.Next.TheVariants.{Cell as CellStep}
 use Rattle.rx_control.specs.Next.{next_of}

@@ -18,7 +18,7 @@ use Rattle.rx_rules.specs.Run.{Given, NoRoot, EndsWithRoot}
 use Rattle.rx_rules.specs.Picked.{Game, Turn, arrives, root, turns, is_enabled, enabled, tree_in}
 use Rattle.rx_history.specs.Setups.{given}
 use Rattle.rx_store.specs.Kept.{Kept}
-use Rattle.rx_script.specs.Shape.{Shape}
+use Rattle.rx_nodes.specs.Shape.{Shape}
 use Rattle.rx_control.specs.declared.control.Control.{Control}
 use Rattle.rx_control.specs.Stands.{StandsFor}
 use Rattle.rx_machine.specs.declared.machine.Machine.{Machine}

@@ -22,7 +22,7 @@ use Rattle.rx_sound.specs.Sound.{Sound, ReachedSound}
 use Rattle.rx_sound.specs.Enabling.{able, OthersStay, nearest_opener, FreesOne, WayStays}
 use Rattle.rx_sound.specs.Histories.{FoldReached}
 use Rattle.rx_runs.specs.Coming.{GamesCome}
-use Rattle.rx_script.specs.Shape.{Shape}
+use Rattle.rx_nodes.specs.Shape.{Shape}
 use Rattle.rx_machine.specs.declared.machine.Machine.{Machine}
 use Rattle.rx_machine.specs.declared.ready.Ready.{Ready}
 use Rattle.rx_machine.specs.declared.ready.Origin.{Origin}

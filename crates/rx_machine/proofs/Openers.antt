@@ -22,7 +22,7 @@ use Rattle.rx_sound.specs.Enabling.{unstruck_in, is_left, nearest_opener, GoesUp
 use Rattle.rx_sound.proofs.Changes.{each_more, each_found, each_change, each_filter}
 use Rattle.rx_sound.proofs.Lookups.{find_passes}
 use Rattle.rx_sound.proofs.Reach.{task_below}
-use Rattle.rx_script.specs.Shape.{Shape}
+use Rattle.rx_nodes.specs.Shape.{Shape}
 use Rattle.rx_machine.specs.declared.ready.Origin.{Origin}
 use Rattle.rx_machine.specs.declared.seat.Seat.{Seat}
 use Rattle.rx_machine.specs.Slots.{live_task, live_in, SlotIs, seat_at, seat_in}

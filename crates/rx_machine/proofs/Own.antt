@@ -11,7 +11,7 @@ use Rattle.rx_rules.specs.declared.tasks.Kind.{Kind}
 use Rattle.rx_rules.specs.Tree.{Tree, task_of, opened_by}
 use Rattle.rx_rules.specs.Entries.{change_first, change_scope, opened, after_end}
 use Rattle.rx_rules.specs.Picked.{Player}
-use Rattle.rx_script.specs.Shape.{Shape}
+use Rattle.rx_nodes.specs.Shape.{Shape}
 use Rattle.rx_machine.specs.declared.seat.Seat.{Seat}
 use Rattle.rx_machine.specs.Slots.{live_task, own_scopes, own_kinds, SlotIs}
 use Rattle.rx_machine.specs.Spine.{Spine}

@@ -15,7 +15,7 @@ use Rattle.rx_finish.specs.declared.ledger.Caller.{Caller}
 use Rattle.rx_finish.specs.declared.ledger.LedgerFault.{LedgerFault}
 use Rattle.rx_finish.specs.declared.ledger.LedgerFault.TheVariants.{NotYet, Lost, NoMemory}
 use Rattle.rx_finish.specs.Calls.{PrintReply, blow_of}
-use Rattle.rx_script.specs.Shape.{Shape}
+use Rattle.rx_nodes.specs.Shape.{Shape}
 use Rattle.rx_control.specs.Stands.{StandsFor}
 use Rattle.rx_machine.specs.declared.machine.Machine.{Machine}
 use Rattle.rx_machine.specs.declared.seat.Seat.{Seat}

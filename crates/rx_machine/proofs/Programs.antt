@@ -4,7 +4,7 @@ use Rattle.std.specs.Prelude.{nat_lt, ◌&&◌}
 use Rattle.std.proofs.lemmas.Bool.Decides.{nat_tests}
 use Rattle.rx_rules.specs.Code.{Stmt, SetTo, New, Get, Put, Forget, Print, Throw, Async, AtAsync, At, Finish, If, Repeat, Try, Block, Nothing, Then, work}
 use Rattle.rx_rules.specs.Run.{Given, Proper}
-use Rattle.rx_script.specs.Grammar.{Fits, AllFit, may_hold}
+use Rattle.rx_nodes.specs.Grammar.{Fits, AllFit, may_hold}
 use Rattle.rx_runs.specs.SomeWords.{MakesSome, StmtMakesSome}
 use Rattle.rx_machine.specs.Holds.{RunsOn}
 

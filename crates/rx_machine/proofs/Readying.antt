@@ -9,7 +9,7 @@ use Rattle.rx_rank.specs.Numbers.{Ascends, inserted, removed, marked}
 use Rattle.rx_sound.specs.Sound.{Sound}
 use Rattle.rx_sound.specs.Enabling.{able, able_in}
 use Rattle.rx_sound.proofs.Reach.{task_below}
-use Rattle.rx_script.specs.Shape.{Shape}
+use Rattle.rx_nodes.specs.Shape.{Shape}
 use Rattle.rx_machine.specs.declared.seat.Seat.{Seat}
 use Rattle.rx_machine.specs.Slots.{live_in, SlotIs, seat_at}
 use Rattle.rx_machine.specs.Picking.{slot_able, has, IsReady}

@@ -17,7 +17,7 @@ use Rattle.rx_rules.specs.Picked.{Game, Player, Goes, stays, local, stores, tree
 use Rattle.rx_runs.specs.Steps.{steps, Sinks, TermSinks}
 use Rattle.rx_runs.specs.Left.{FewLeft, GoingSinks}
 use Rattle.rx_history.specs.Setups.{given}
-use Rattle.rx_script.specs.Shape.{Shape}
+use Rattle.rx_nodes.specs.Shape.{Shape}
 use Rattle.rx_control.specs.declared.step.Next.TheVariants.{Local as LocalStep, Book, Done as Ended}
 use Rattle.rx_control.specs.declared.step.Want.{Want}
 use Rattle.rx_control.specs.declared.step.Next.{Next}

@@ -17,7 +17,7 @@ use Rattle.rx_sound.proofs.Reach.{fits_of}
 use Rattle.rx_runs.specs.Coming.{CameTo, GamesCome}
 use Rattle.rx_runs.proofs.Pairs.{pairs-get, journal_got, set_same}
 use Rattle.rx_history.specs.Setups.{given}
-use Rattle.rx_script.specs.Shape.{Shape}
+use Rattle.rx_nodes.specs.Shape.{Shape}
 use Rattle.rx_machine.specs.declared.machine.Machine.{Machine}
 use Rattle.rx_machine.specs.declared.seat.Seat.{Seat}
 use Rattle.rx_machine.specs.Slots.{IsSeat, SlotIs, seat_at, seat_in}

@@ -15,7 +15,7 @@ use Rattle.rx_runs.specs.Coming.{CameTo, GamesCome}
 use Rattle.rx_runs.proofs.Endings.{root_empties}
 use Rattle.rx_history.specs.Logs.{Log}
 use Rattle.rx_history.specs.Setups.{given}
-use Rattle.rx_script.specs.Shape.{Shape}
+use Rattle.rx_nodes.specs.Shape.{Shape}
 use Rattle.rx_machine.specs.declared.machine.Machine.{Machine}
 use Rattle.rx_machine.specs.declared.seat.Seat.{Seat}
 use Rattle.rx_machine.specs.Slots.{seat_at}

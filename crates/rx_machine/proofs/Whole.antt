@@ -18,7 +18,7 @@ use Rattle.rx_history.specs.Logs.{Log}
 use Rattle.rx_history.specs.Events.{Events, AllEvents, events_of}
 use Rattle.rx_history.specs.Setups.{given}
 use Rattle.rx_store.specs.Kept.{Kept}
-use Rattle.rx_script.specs.Shape.{Shape}
+use Rattle.rx_nodes.specs.Shape.{Shape}
 use Rattle.rx_machine.specs.declared.machine.Machine.{Machine}
 use Rattle.rx_machine.specs.Holds.{Holds, StoresAre, Finished, Makes}
 use Rattle.rx_machine.specs.Runs.{WentOn, picks_in, RanFrom, Gives}

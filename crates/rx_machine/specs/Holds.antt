@@ -14,7 +14,7 @@ use Rattle.rx_rules.specs.Picked.{Game, Player, Goes, Comes, tree_in, enabled}
 use Rattle.rx_runs.specs.SomeWords.{MakesSome}
 use Rattle.rx_history.specs.Setups.{given}
 use Rattle.rx_store.specs.Kept.{Kept}
-use Rattle.rx_script.specs.Shape.{Shape}
+use Rattle.rx_nodes.specs.Shape.{Shape}
 use Rattle.rx_finish.specs.Callers.{HasNumbers, HasRoot}
 use Rattle.rx_machine.specs.declared.machine.Machine.{Machine}
 use Rattle.rx_machine.specs.declared.seat.Seat.{Seat}

@@ -13,7 +13,7 @@ use Rattle.rx_rules.specs.Picked.{Game, Turn, Turns, enabled, tree_in}
 use Rattle.rx_history.specs.Logs.{Log}
 use Rattle.rx_history.specs.Events.{AllEvents, events_of}
 use Rattle.rx_history.specs.Setups.{given}
-use Rattle.rx_script.specs.Shape.{Shape}
+use Rattle.rx_nodes.specs.Shape.{Shape}
 use Rattle.rx_machine.specs.declared.machine.Machine.{Machine}
 use Rattle.rx_machine.specs.declared.seat.Seat.{Seat}
 use Rattle.rx_machine.specs.Slots.{seat_at}

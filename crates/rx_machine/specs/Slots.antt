@@ -7,7 +7,7 @@ use Rattle.rx_rules.specs.declared.tasks.Kind.{Kind}
 use Rattle.rx_rules.specs.Tree.{Tree, task_of, opened_by}
 use Rattle.rx_rules.specs.Entries.{is_hit}
 use Rattle.rx_rules.specs.Picked.{Player}
-use Rattle.rx_script.specs.Shape.{Shape}
+use Rattle.rx_nodes.specs.Shape.{Shape}
 use Rattle.rx_control.specs.Stands.{StandsFor}
 use Rattle.rx_machine.specs.declared.seat.Seat.{Seat}
 use Rattle.rx_machine.specs.Held.{is_held, HeldInFront}

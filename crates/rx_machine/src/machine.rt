@@ -8,7 +8,7 @@ ghost use Rattle.rx_rules.specs.Fold.{opening};
 ghost use Rattle.rx_rules.specs.Run.{Proper};
 ghost use Rattle.rx_rules.specs.Picked.{start_game};
 ghost use Rattle.rx_history.specs.Setups.{given};
-ghost use Rattle.rx_script.specs.Shape.{Stands};
+ghost use Rattle.rx_nodes.specs.Shape.{Stands};
 ghost use Rattle.rx_control.specs.Stands.{StandsFor};
 ghost use Rattle.rx_machine.specs.Holds.{Holds};
 

@@ -7,7 +7,7 @@ ghost use Rattle.rx_history.specs.Events.{events_of};
 ghost use Rattle.rx_machine.specs.Holds.{Holds, Finished};
 ghost use Rattle.rx_machine.specs.Refusals.{HasBegun, HasFailed};
 ghost use Rattle.rx_machine.specs.Runs.{RanFrom, Gives};
-ghost use Rattle.rx_script.specs.Shape.{Shape};
+ghost use Rattle.rx_nodes.specs.Shape.{Shape};
 
 use crate::machine::Machine;
 use rx_base::NoMemory;

@@ -3,7 +3,7 @@ use Rattle.std.proofs.Common.{◌≡◌, ℕ, zero, suc, ◌+◌, ◌<◌, Bool,
 use Rattle.std.specs.Prelude.{Some, None, slice_get}
 use Rattle.rx_rules.specs.Code.{Stmt, Block, At, If, Repeat, Try}
 use Rattle.rx_rules.specs.Order.{is_kept, is_kept_in}
-use Rattle.rx_script.specs.Shape.{Shape, BlockStands}
+use Rattle.rx_nodes.specs.Shape.{Shape, BlockStands}
 use Rattle.rx_order.specs.declared.parts.Part.{Part}
 use Rattle.rx_order.specs.Inside.Parts.{is_kept_along, part_in, IsPart, IsOpen}
 use Rattle.rx_order.proofs.Positions.{drop-next}

@@ -2,7 +2,7 @@
 ghost use Rattle.std.specs.Prelude.{◌≡◌, ◌<◌, ℕ, List, MatchOption, drop, length};
 ghost use Rattle.rx_rules.specs.Code.{Stmt as Tree, Block};
 ghost use Rattle.rx_rules.specs.Order.{is_kept, is_kept_in};
-ghost use Rattle.rx_script.specs.Shape.{Shape, StmtIs, BlockStands};
+ghost use Rattle.rx_nodes.specs.Shape.{Shape, StmtIs, BlockStands};
 ghost use Rattle.rx_order.specs.Inside.Parts.{is_kept_along, Goes, IsOpen};
 
 use crate::parts::{Walk, part_of, stmt_at};

@@ -2,7 +2,7 @@
 ghost use Rattle.std.specs.Prelude.{◌≡◌, ◌<◌, ◌+◌, drop, length};
 ghost use Rattle.rx_rules.specs.Code.{Stmt as Tree, Block};
 ghost use Rattle.rx_rules.specs.Order.{comes_before, is_before};
-ghost use Rattle.rx_script.specs.Shape.{Shape, Stands, StmtIs, BlockStands};
+ghost use Rattle.rx_nodes.specs.Shape.{Shape, Stands, StmtIs, BlockStands};
 ghost use Rattle.rx_order.specs.Inside.Parts.{Goes, is_ordered};
 
 use crate::kept::is_kept;

@@ -1,7 +1,7 @@
 // Where a path goes on inside a statement.
 ghost use Rattle.std.specs.Prelude.{◌≡◌, ◌+◌, MatchOption, drop};
 ghost use Rattle.rx_rules.specs.Code.{Stmt as Tree, Block};
-ghost use Rattle.rx_script.specs.Shape.{Shape, StmtIs, BlockStands};
+ghost use Rattle.rx_nodes.specs.Shape.{Shape, StmtIs, BlockStands};
 ghost use Rattle.rx_order.specs.Inside.Parts.{item_of, turn_in, one_in, part_in, numbers_of, IsPart};
 
 use rx_base::Path;

@@ -5,7 +5,7 @@ use Rattle.std.proofs.lemmas.List.{get_or_append_left, same_from_push, length-dr
 use Rattle.std.proofs.lemmas.Option.{slice_get-get_or, slice_get_within, get_or_from_slice_get}
 use Rattle.std.proofs.Math.Seq.{get_or-append_seam, take-append_seam, drop-append_seam}
 use Rattle.rx_rules.specs.Code.{Expr, Num, Name, Here, Bin, Stmt, SetTo, New, Get, Put, Forget, Print, Throw, Async, AtAsync, At, Finish, If, Repeat, Try, Block, Nothing, Then}
-use Rattle.rx_script.specs.Shape.{Shape, IsSmall, ExprStands, StmtIs, ListStands, BlockStands}
+use Rattle.rx_nodes.specs.Shape.{Shape, IsSmall, ExprStands, StmtIs, ListStands, BlockStands}
 use Rattle.rx_script.specs.Items.{Opener, ByAsync, ByAtAsync, ByAt, ByFinish, ByIf, ByRepeat, ByTry, Whole, Close}
 use Rattle.rx_script.specs.Machine.{added, Frame, Fore, Other, Handler, Waits, Free, ForElse, ForCatch, State, free, ended, stepped}
 use Rattle.rx_script.specs.Pieces.{Grows, only, OpenerStands}
@@ -13,12 +13,12 @@ use Rattle.rx_script.specs.Arena.{OwnerStands, WaitingStands, Framed, Holds, Tak
 use Rattle.rx_script.specs.declared.items.Opener.{Opener as Front}
 use Rattle.rx_script.specs.declared.items.Opener.TheVariants as fronts
 use Rattle.rx_script.specs.declared.items.Item.TheVariants as pieces
-use Rattle.rx_script.specs.declared.nodes.StmtId.{StmtId}
-use Rattle.rx_script.specs.declared.nodes.ExprId.{ExprId}
-use Rattle.rx_script.specs.declared.nodes.BlockId.{BlockId}
-use Rattle.rx_script.specs.declared.nodes.Expr.{Expr as Part}
-use Rattle.rx_script.specs.declared.nodes.Stmt.{Stmt as Node}
-use Rattle.rx_script.specs.declared.nodes.Stmt.TheVariants.{Set as SetNode, New as NewNode, Get as GetNode, Put as PutNode, Forget as ForgetNode, Print as PrintNode, Throw as ThrowNode, Async as AsyncNode, AtAsync as AtAsyncNode, At as AtNode, Finish as FinishNode, If as IfNode, Repeat as RepeatNode, Try as TryNode}
+use Rattle.rx_nodes.specs.declared.nodes.StmtId.{StmtId}
+use Rattle.rx_nodes.specs.declared.nodes.ExprId.{ExprId}
+use Rattle.rx_nodes.specs.declared.nodes.BlockId.{BlockId}
+use Rattle.rx_nodes.specs.declared.nodes.Expr.{Expr as Part}
+use Rattle.rx_nodes.specs.declared.nodes.Stmt.{Stmt as Node}
+use Rattle.rx_nodes.specs.declared.nodes.Stmt.TheVariants.{Set as SetNode, New as NewNode, Get as GetNode, Put as PutNode, Forget as ForgetNode, Print as PrintNode, Throw as ThrowNode, Async as AsyncNode, AtAsync as AtAsyncNode, At as AtNode, Finish as FinishNode, If as IfNode, Repeat as RepeatNode, Try as TryNode}
 use Rattle.rx_script.specs.declared.reader.Owner.{Owner}
 use Rattle.rx_script.specs.declared.reader.Owner.TheVariants as owners
 use Rattle.rx_script.specs.declared.reader.Opened.{Opened}

@@ -5,13 +5,13 @@ use Rattle.std.proofs.lemmas.List.{get_or_append_left}
 use Rattle.std.proofs.lemmas.Option.{slice_get-get_or, slice_get_within, get_or_from_slice_get}
 use Rattle.std.proofs.Math.Seq.{get_or-append_seam}
 use Rattle.rx_rules.specs.Code.{Expr, Num, Name, Here, Bin, Stmt, SetTo, New, Get, Put, Forget, Print, Throw, Async, AtAsync, At, Finish, If, Repeat, Try, Block, Nothing, Then}
-use Rattle.rx_script.specs.Shape.{Shape, ExprStands, StmtIs, ListStands}
+use Rattle.rx_nodes.specs.Shape.{Shape, ExprStands, StmtIs, ListStands}
 use Rattle.rx_script.specs.Pieces.{Grows}
-use Rattle.rx_script.specs.declared.nodes.StmtId.{StmtId}
-use Rattle.rx_script.specs.declared.nodes.ExprId.{ExprId}
-use Rattle.rx_script.specs.declared.nodes.Expr.{Expr as Part}
-use Rattle.rx_script.specs.declared.nodes.Stmt.{Stmt as Node}
-use Rattle.rx_script.specs.declared.nodes.Stmt.TheVariants.{Set as SetNode, New as NewNode, Get as GetNode, Put as PutNode, Forget as ForgetNode, Print as PrintNode, Throw as ThrowNode, Async as AsyncNode, AtAsync as AtAsyncNode, At as AtNode, Finish as FinishNode, If as IfNode, Repeat as RepeatNode, Try as TryNode}
+use Rattle.rx_nodes.specs.declared.nodes.StmtId.{StmtId}
+use Rattle.rx_nodes.specs.declared.nodes.ExprId.{ExprId}
+use Rattle.rx_nodes.specs.declared.nodes.Expr.{Expr as Part}
+use Rattle.rx_nodes.specs.declared.nodes.Stmt.{Stmt as Node}
+use Rattle.rx_nodes.specs.declared.nodes.Stmt.TheVariants.{Set as SetNode, New as NewNode, Get as GetNode, Put as PutNode, Forget as ForgetNode, Print as PrintNode, Throw as ThrowNode, Async as AsyncNode, AtAsync as AtAsyncNode, At as AtNode, Finish as FinishNode, If as IfNode, Repeat as RepeatNode, Try as TryNode}
 
 -- what a longer list has at a place that a shorter one has
 pub get-more : {A : Type 0} (xs ys : List A) (i : ℕ) (x : A) → slice_get xs i ≡ Some x → slice_get (xs ++ ys) i ≡ Some x

@@ -2,19 +2,19 @@
 use Rattle.std.proofs.Common.{◌≡◌, ◌+◌, ◌<◌, ◌≤◌, ◌^◌, List, [], ◌∷◌, ◌++◌, length, vec_len, refl, ap, sym, ◌∙◌, subst, arith, append-nil, length-append, Vec, Global, true, false}
 use Rattle.std.specs.Prelude.{Some, Result, Ok, Err, IfOk, option_and_then, slice_get}
 use Rattle.rx_rules.specs.Code.{Stmt, SetTo, New, Get, Put, Forget, Print, Throw, Async, AtAsync, At, Finish, If, Repeat, Try, Block}
-use Rattle.rx_script.specs.Shape.{Shape, IsSmall, ListStands, BlockStands}
-use Rattle.rx_script.specs.Grammar.{spelling}
-use Rattle.rx_script.specs.Items.{Opener, ByAsync, ByAtAsync, ByAt, ByFinish, ByIf, ByRepeat, ByTry, Item, Whole, Open, Close, Else, Catch, item_words, opener_words, item_at, Mode, Outermost, Inside, AfterFirst, AfterBody}
+use Rattle.rx_nodes.specs.Shape.{Shape, IsSmall, ListStands, BlockStands}
+use Rattle.rx_nodes.specs.Grammar.{spelling}
+use Rattle.rx_script.specs.Items.{Opener, ByAsync, ByAtAsync, ByAt, ByFinish, ByIf, ByRepeat, ByTry, Item, Whole, Open, Close, Else, Catch, item_words, opener_words, item_at, Mode, Outermost}
 use Rattle.rx_script.specs.Machine.{Frame, Waits, Free, ForElse, ForCatch, State, free, step, run, mode_in, mode}
 use Rattle.rx_script.specs.Pieces.{mode_of, Grows, ItemStands, IsItemAnswer}
 use Rattle.rx_script.specs.Places.{IsPlace}
 use Rattle.rx_script.specs.Arena.{Holds, MayTake, Takes, Counts, IsRead, blocks_of}
-use Rattle.rx_script.specs.declared.token.Token.{Token}
+use Rattle.rx_token.specs.declared.token.Token.{Token}
 use Rattle.rx_script.specs.declared.items.Item.{Item as Piece}
 use Rattle.rx_script.specs.declared.items.Mode.{Mode as Stand}
 use Rattle.rx_script.specs.declared.items.Mode.TheVariants as stands
-use Rattle.rx_script.specs.declared.nodes.Expr.{Expr as Part}
-use Rattle.rx_script.specs.declared.nodes.StmtId.{StmtId}
+use Rattle.rx_nodes.specs.declared.nodes.Expr.{Expr as Part}
+use Rattle.rx_nodes.specs.declared.nodes.StmtId.{StmtId}
 use Rattle.rx_script.specs.declared.reader.Reader.{Reader}
 use Rattle.rx_script.proofs.Runs.{words, some-and, start, run-append}
 use Rattle.rx_script.proofs.Spelt.{takes}

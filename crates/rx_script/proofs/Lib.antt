@@ -1,4 +1,3 @@
-pub mod Lists
 pub mod Local
 pub mod LocalExprs
 pub mod LocalItems
@@ -6,16 +5,12 @@ pub mod Spelt
 pub mod Runs
 pub mod Sound
 pub mod Places
-pub mod Naming
-pub mod Scanning
-pub mod OneScan
+pub mod ScriptTokens
+pub mod OneScript
 pub mod Growing
 pub mod OneToken
 pub mod Reading
-pub mod Mentioned
 pub mod Arena
 pub mod HasRead
 pub mod WholeRead
 pub mod Written
-pub mod ReadBack
-pub mod Spelling

@@ -1,16 +1,17 @@
 -- The first token that can't go on: the tokens before it begin a script, and no script begins with them and it.
 use Rattle.std.proofs.Common.{◌≡◌, List, [], ◌∷◌, ◌++◌, false, refl, ap, sym, ◌∙◌, subst, append_assoc, append-nil, ◌⊎◌, inl, inr}
 use Rattle.std.specs.Prelude.{Some, Result, Ok, Err, option_and_then}
-use Rattle.rx_script.specs.declared.token.Token.{Token}
+use Rattle.rx_token.specs.declared.token.Token.{Token}
 use Rattle.rx_rules.specs.Code.{Block, Nothing, Async, AtAsync, At, Finish, If, Repeat, Try}
-use Rattle.rx_script.specs.Grammar.{spellings, AllFit}
+use Rattle.rx_nodes.specs.Grammar.{spellings, AllFit}
 use Rattle.rx_script.specs.Items.{ByAsync, ByAtAsync, ByAt, ByFinish, ByIf, ByRepeat, ByTry, Item, Whole, Open, Close, Else, Catch, IsItem, item_words, Outermost, Stands, item_at}
 use Rattle.rx_script.specs.Places.{BeginsScript, IsPlace}
 use Rattle.rx_script.specs.Machine.{added, Frame, Fore, Other, Handler, Waits, Free, ForElse, ForCatch, State, free, stepped, step, run, mode_in, mode}
 use Rattle.rx_script.proofs.Local.{Completes, Refuses, Judged}
 use Rattle.rx_script.proofs.LocalItems.{local-item}
 use Rattle.rx_script.proofs.Spelt.{again, takes}
-use Rattle.rx_script.proofs.Runs.{words, words-append, words-all, all_items, some-and, some-is, start, run-whole, run-on}
+use Rattle.rx_script.proofs.Runs.{words, words-append, words-all, all_items, some-and, start, run-whole, run-on}
+use Rattle.rx_token.proofs.Naming.{some-is}
 use Rattle.rx_script.proofs.Sound.{AllItems, sound, all-append, fit-items, items-fit}
 
 -- an item that the machine takes may stand here

@@ -1,11 +1,11 @@
 -- What a run over items says of the trees that the items spell, and of the tokens.
 use Rattle.std.proofs.Common.{◌≡◌, List, [], ◌∷◌, ◌++◌, refl, ap, sym, ◌∙◌, append_assoc, append-nil}
 use Rattle.std.specs.Prelude.{Option, Some, None, option_and_then}
-use Rattle.rx_script.specs.declared.token.Token.{Token}
-use Rattle.rx_script.specs.declared.token.Token.TheVariants.{Mark}
-use Rattle.rx_script.specs.declared.token.Sign.TheVariants.{CloseBrace as RBrace}
+use Rattle.rx_token.specs.declared.token.Token.{Token}
+use Rattle.rx_token.specs.declared.token.Token.TheVariants.{Mark}
+use Rattle.rx_token.specs.declared.token.Sign.TheVariants.{CloseBrace as RBrace}
 use Rattle.rx_rules.specs.Code.{Stmt, Block, Nothing, Then, SetTo, New, Get, Put, Forget, Print, Throw, Async, AtAsync, At, Finish, If, Repeat, Try}
-use Rattle.rx_script.specs.Grammar.{spelling, spellings}
+use Rattle.rx_nodes.specs.Grammar.{spelling, spellings}
 use Rattle.rx_script.specs.Items.{Opener, ByAsync, ByAtAsync, ByAt, ByFinish, ByIf, ByRepeat, ByTry, Item, Whole, Open, Close, Else, Catch, item_words, opener_words}
 use Rattle.rx_script.specs.Machine.{added, Frame, Fore, Other, Handler, State, free, step, run}
 
@@ -77,12 +77,6 @@ mutual
 pub some-and : {A B : Type 0} (o : Option A) (f : A → Option B) (y : B) → option_and_then f o ≡ Some y → (x : A) × (o ≡ Some x) × (f x ≡ Some y)
 some-and None f y e = cc
 some-and (Some x) f y e = (x, refl, e)
-
-pub some-is : {A : Type 0} (x y : A) → Some x ≡ Some y → x ≡ y
-some-is x y e = cc
-
-pub some-none : {A : Type 0} (x : A) → Some x ≡ None → ⊥
-some-none x e = cc
 
 -- lists of statements, one after the other
 abbrev joined : Block → Block → Block

@@ -6,24 +6,24 @@ use Rattle.std.specs.List.{flat_map}
 use Rattle.std.proofs.lemmas.List.{reverse-append, reverse-reverse, drop_all}
 use Rattle.std.proofs.lemmas.Option.{slice_get_within}
 use Rattle.rx_rules.specs.Code.{Expr as Tree, Num, Name, Here, Bin, Block, Nothing, Then, Stmt, SetTo, New, Get, Put, Forget, Print, Throw, Async, AtAsync, At, Finish, If, Repeat, Try}
-use Rattle.rx_script.specs.declared.nodes.StmtId.{StmtId}
-use Rattle.rx_script.specs.declared.nodes.ExprId.{ExprId}
-use Rattle.rx_script.specs.declared.nodes.BlockId.{BlockId}
-use Rattle.rx_script.specs.declared.nodes.Stmt.{Stmt as Node}
-use Rattle.rx_script.specs.declared.nodes.Stmt.TheVariants as nodes
-use Rattle.rx_script.specs.declared.nodes.Expr.{Expr as Leaf}
-use Rattle.rx_script.specs.declared.nodes.Expr.TheVariants as leaves
-use Rattle.rx_script.specs.declared.nodes.Op.{Op as Sign}
-use Rattle.rx_script.specs.declared.nodes.Op.TheVariants as signs
-use Rattle.rx_script.specs.declared.token.Keyword.TheVariants.{Async as KAsync, At as KAt, If as KIf, Else as KElse, Catch as KCatch, Dead as KDead}
-use Rattle.rx_script.specs.declared.token.Sign.TheVariants.{OpenBrace as LBrace, CloseBrace as RBrace, OpenParen as LParen, CloseParen as RParen, OpenSquare as LSquare, CloseSquare as RSquare, Equals, Semicolon}
-use Rattle.rx_script.specs.declared.token.Token.{Token}
-use Rattle.rx_script.specs.declared.token.Token.TheVariants.{Key, Called, Number, Oper, Mark}
+use Rattle.rx_nodes.specs.declared.nodes.StmtId.{StmtId}
+use Rattle.rx_nodes.specs.declared.nodes.ExprId.{ExprId}
+use Rattle.rx_nodes.specs.declared.nodes.BlockId.{BlockId}
+use Rattle.rx_nodes.specs.declared.nodes.Stmt.{Stmt as Node}
+use Rattle.rx_nodes.specs.declared.nodes.Stmt.TheVariants as nodes
+use Rattle.rx_nodes.specs.declared.nodes.Expr.{Expr as Leaf}
+use Rattle.rx_nodes.specs.declared.nodes.Expr.TheVariants as leaves
+use Rattle.rx_token.specs.declared.token.Op.{Op as Sign}
+use Rattle.rx_token.specs.declared.token.Op.TheVariants as signs
+use Rattle.rx_token.specs.declared.token.Keyword.TheVariants.{Async as KAsync, At as KAt, If as KIf, Else as KElse, Catch as KCatch, Dead as KDead}
+use Rattle.rx_token.specs.declared.token.Sign.TheVariants.{OpenBrace as LBrace, CloseBrace as RBrace, OpenParen as LParen, CloseParen as RParen, OpenSquare as LSquare, CloseSquare as RSquare, Equals, Semicolon}
+use Rattle.rx_token.specs.declared.token.Token.{Token}
+use Rattle.rx_token.specs.declared.token.Token.TheVariants.{Key, Called, Number, Oper, Mark}
 use Rattle.rx_script.specs.declared.writer.Part.{Part}
 use Rattle.rx_script.specs.declared.writer.Part.TheVariants.{One, Value, From}
-use Rattle.rx_script.specs.Shape.{Shape, op_of, ExprStands, StmtIs, ListStands, Stands}
-use Rattle.rx_script.specs.Grammar.{sign_of, spell, catch_words, spelling, spellings}
-use Rattle.rx_script.specs.Writing.{spaced}
+use Rattle.rx_nodes.specs.Shape.{Shape, op_of, ExprStands, StmtIs, ListStands, Stands}
+use Rattle.rx_nodes.specs.Grammar.{sign_of, spell, catch_words, spelling, spellings}
+use Rattle.rx_token.specs.Texts.{spaced}
 use Rattle.rx_script.specs.Unwritten.{PartStands, PartsStand, front_of, rest_of, block_parts, catch_parts, expr_front, expr_rest, Wrote}
 
 -- parts one after another stand for their tokens one after another

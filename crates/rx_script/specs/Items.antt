@@ -1,11 +1,15 @@
 -- The items that the tokens of a script fall into, and how the one in front is read.
 use Rattle.std.specs.Prelude.{◌≡◌, List, [], ◌∷◌, ◌++◌, Option, Some, None, ℕ, pos, Bool, true, false}
-use Rattle.rx_script.specs.declared.token.Token.{Token}
-use Rattle.rx_script.specs.declared.token.Token.TheVariants.{Key, Called, Number, Mark}
+use Rattle.rx_token.specs.declared.token.Token.{Token}
+use Rattle.rx_token.specs.declared.token.Token.TheVariants.{Key, Called, Number, Mark}
 use Rattle.rx_rules.specs.Code.{Expr, Stmt, SetTo, New, Get, Put, Forget, Print, Throw, Async, AtAsync, At, Finish, If, Repeat, Try}
-use Rattle.rx_script.specs.Grammar.{catch_words, spelling, may_hold, may_turn, spell}
-use Rattle.rx_script.specs.declared.token.Keyword.TheVariants.{Set as KSet, New as KNew, Get as KGet, Put as KPut, Forget as KForget, Print as KPrint, Throw as KThrow, Async as KAsync, At as KAt, Finish as KFinish, If as KIf, Else as KElse, Repeat as KRepeat, Try as KTry, Catch as KCatch, Dead as KDead}
-use Rattle.rx_script.specs.declared.token.Sign.TheVariants.{OpenBrace as LBrace, CloseBrace as RBrace, OpenSquare as LSquare, CloseSquare as RSquare, Equals, Semicolon}
+use Rattle.rx_nodes.specs.Grammar.{catch_words, spelling, may_hold, may_turn, spell}
+use Rattle.rx_token.specs.declared.token.Keyword.TheVariants.{Set as KSet, New as KNew, Get as KGet, Put as KPut, Forget as KForget}
+use Rattle.rx_token.specs.declared.token.Keyword.TheVariants.{Print as KPrint, Throw as KThrow, Async as KAsync, At as KAt}
+use Rattle.rx_token.specs.declared.token.Keyword.TheVariants.{Finish as KFinish, If as KIf, Else as KElse, Repeat as KRepeat}
+use Rattle.rx_token.specs.declared.token.Keyword.TheVariants.{Try as KTry, Catch as KCatch, Dead as KDead}
+use Rattle.rx_token.specs.declared.token.Sign.TheVariants.{OpenBrace as LBrace, CloseBrace as RBrace, OpenSquare as LSquare}
+use Rattle.rx_token.specs.declared.token.Sign.TheVariants.{CloseSquare as RSquare, Equals, Semicolon}
 use Rattle.rx_script.specs.Readers.{Reader, then, done, choose}
 use Rattle.rx_script.specs.Exprs.{expr}
 
@@ -124,10 +128,14 @@ abbrev pub new_at : Reader Item
 new_at = then (choose called) (λ n. choose (equals (then (choose (counted may_hold)) (λ k. ends (Whole (New n k))))))
 
 abbrev pub get_at : Reader Item
-get_at = then (choose called) (λ n. choose (equals (then (choose called) (λ t. choose (square (then expr (λ e. choose (end_square (ends (Whole (Get n t e)))))))))))
+get_at =
+    then (choose called) (λ n. choose (equals (then (choose called) (λ t.
+    choose (square (then expr (λ e. choose (end_square (ends (Whole (Get n t e)))))))))))
 
 abbrev pub put_at : Reader Item
-put_at = then (choose called) (λ t. choose (square (then expr (λ i. choose (end_square (choose (equals (then expr (λ e. ends (Whole (Put t i e)))))))))))
+put_at =
+    then (choose called) (λ t. choose (square (then expr (λ i.
+    choose (end_square (choose (equals (then expr (λ e. ends (Whole (Put t i e)))))))))))
 
 abbrev pub forget_at : Reader Item
 forget_at = then (choose called) (λ t. ends (Whole (Forget t)))

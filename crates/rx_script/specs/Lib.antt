@@ -1,6 +1,3 @@
-pub mod Shape
-pub mod Lexical
-pub mod Grammar
 pub mod Readers
 pub mod Exprs
 pub mod Items
@@ -8,12 +5,8 @@ pub mod Machine
 pub mod Places
 pub mod Pieces
 pub mod Faults
-pub mod Tables
-pub mod Names
-pub mod Whole
 pub mod Turns
 pub mod Parts
-pub mod Named
 pub mod Arena
 pub mod Writing
 pub mod Unwritten

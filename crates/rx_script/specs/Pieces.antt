@@ -1,11 +1,12 @@
 -- What the code's items stand for, whose expressions are told by number.
 use Rattle.std.specs.Prelude.{◌≡◌, List, [], ◌++◌, Result, Ok, Err}
 use Rattle.rx_rules.specs.Code.{Expr}
-use Rattle.rx_script.specs.Shape.{Shape, ExprStands, StmtIs}
-use Rattle.rx_script.specs.Items.{Opener, ByAsync, ByAtAsync, ByAt, ByFinish, ByIf, ByRepeat, ByTry, Item, Whole, Open, Close, Else, Catch, Mode, Outermost, Inside, AfterFirst, AfterBody}
-use Rattle.rx_script.specs.declared.nodes.ExprId.{ExprId}
-use Rattle.rx_script.specs.declared.nodes.Expr.{Expr as Part}
-use Rattle.rx_script.specs.declared.token.Token.{Token}
+use Rattle.rx_nodes.specs.Shape.{Shape, ExprStands, StmtIs}
+use Rattle.rx_script.specs.Items.{Opener, ByAsync, ByAtAsync, ByAt, ByFinish, ByIf, ByRepeat, ByTry, Item, Whole, Open, Close, Else}
+use Rattle.rx_script.specs.Items.{Catch, Mode, Outermost, Inside, AfterFirst, AfterBody}
+use Rattle.rx_nodes.specs.declared.nodes.ExprId.{ExprId}
+use Rattle.rx_nodes.specs.declared.nodes.Expr.{Expr as Part}
+use Rattle.rx_token.specs.declared.token.Token.{Token}
 use Rattle.rx_script.specs.declared.items.Opener.{Opener as Front}
 use Rattle.rx_script.specs.declared.items.Opener.TheVariants as fronts
 use Rattle.rx_script.specs.declared.items.Item.{Item as Piece}
@@ -46,11 +47,13 @@ ItemStands es (pieces.Catch dead_only) (Catch d) = d ≡ dead_only
 ItemStands es _ _ = ⊥
 
 -- an expression was read, or what is left begins with the token that can't go on
-abbrev pub IsExprAnswer : {S : Type 0} → List Part → Result (ExprId × S) S → (S → List Token) → Result (Expr × List Token) (List Token) → Type 0
+abbrev pub IsExprAnswer :
+    {S : Type 0} → List Part → Result (ExprId × S) S → (S → List Token) → Result (Expr × List Token) (List Token) → Type 0
 IsExprAnswer es (Ok x) left o = (e : Expr) × ExprStands es x.0 e × (o ≡ Ok (e, left x.1))
 IsExprAnswer es (Err bad) left o = o ≡ Err (left bad)
 
 -- an item was read, or what is left begins with the token that can't go on
-abbrev pub IsItemAnswer : {S : Type 0} → List Part → Result (Piece × S) S → (S → List Token) → Result (Item × List Token) (List Token) → Type 0
+abbrev pub IsItemAnswer :
+    {S : Type 0} → List Part → Result (Piece × S) S → (S → List Token) → Result (Item × List Token) (List Token) → Type 0
 IsItemAnswer es (Ok x) left o = (item : Item) × ItemStands es x.0 item × (o ≡ Ok (item, left x.1))
 IsItemAnswer es (Err bad) left o = o ≡ Err (left bad)

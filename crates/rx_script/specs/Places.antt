@@ -1,8 +1,8 @@
 -- The first token that can't go on.
 use Rattle.std.specs.Prelude.{◌≡◌, List, [], ◌∷◌, ◌++◌}
-use Rattle.rx_script.specs.declared.token.Token.{Token}
+use Rattle.rx_token.specs.declared.token.Token.{Token}
 use Rattle.rx_rules.specs.Code.{Block}
-use Rattle.rx_script.specs.Grammar.{spellings, AllFit}
+use Rattle.rx_nodes.specs.Grammar.{spellings, AllFit}
 
 -- the tokens begin a script
 pub record BeginsScript (front : List Token) : Type 0 where
@@ -11,7 +11,8 @@ pub record BeginsScript (front : List Token) : Type 0 where
   pub fits : AllFit script
   pub whole : front ++ rest ≡ spellings script
 
--- What is left from the first token that can't go on: the tokens before it begin a script, and no script begins with them and it. Where none is left, the tokens are no script.
+-- What is left from the first token that can't go on: the tokens before it begin a script, and no script begins with them and it.
+-- Where none is left, the tokens are no script.
 pub record IsPlace (tokens bad : List Token) : Type 0 where
   pub front : List Token
   pub whole : tokens ≡ front ++ bad

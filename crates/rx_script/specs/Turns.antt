@@ -1,12 +1,12 @@
 -- How a list of parts and a list of open pairs stand for what has been read of an expression.
 use Rattle.std.specs.Prelude.{◌≡◌, List, [], ◌∷◌, ◌++◌, Option, Some, None, Result, Err}
 use Rattle.rx_rules.specs.Code.{Expr}
-use Rattle.rx_script.specs.Shape.{ExprStands, op_of}
+use Rattle.rx_nodes.specs.Shape.{ExprStands, op_of}
 use Rattle.rx_script.specs.Exprs.{Pair, First, Second, operand, whole}
-use Rattle.rx_script.specs.declared.nodes.ExprId.{ExprId}
-use Rattle.rx_script.specs.declared.nodes.Op.{Op as Sign}
-use Rattle.rx_script.specs.declared.nodes.Expr.{Expr as Part}
-use Rattle.rx_script.specs.declared.token.Token.{Token}
+use Rattle.rx_nodes.specs.declared.nodes.ExprId.{ExprId}
+use Rattle.rx_token.specs.declared.token.Op.{Op as Sign}
+use Rattle.rx_nodes.specs.declared.nodes.Expr.{Expr as Part}
+use Rattle.rx_token.specs.declared.token.Token.{Token}
 use Rattle.rx_script.specs.declared.exprs.OpenPair.{OpenPair}
 use Rattle.rx_script.specs.declared.exprs.OpenPair.TheVariants as pairs
 use Rattle.rx_script.specs.declared.exprs.Turn.{Turn}
@@ -19,7 +19,8 @@ PairStands es p (Second a o) = (left : ExprId) × (sign : Sign) × (p ≡ pairs.
 -- the innermost pair is the last of the list
 abbrev pub PairsStand : List Part → List OpenPair → List Pair → Type 0
 PairsStand es ps [] = ps ≡ []
-PairsStand es ps (q ∷ qs) = (front : List OpenPair) × (last : OpenPair) × (ps ≡ front ++ last ∷ []) × PairStands es last q × PairsStand es front qs
+PairsStand es ps (q ∷ qs) =
+    (front : List OpenPair) × (last : OpenPair) × (ps ≡ front ++ last ∷ []) × PairStands es last q × PairsStand es front qs
 
 -- what is left is read to this answer
 abbrev pub Reads : List Part → List OpenPair → Turn → List Token → Result (Expr × List Token) (List Token) → Type 0

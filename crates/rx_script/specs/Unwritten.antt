@@ -1,29 +1,36 @@
 -- What is still to be written of a script, and the tokens that it stands for.
 use Rattle.std.specs.Prelude.{◌≡◌, ℕ, ◌+◌, ◌*◌, ◌-◌, ◌^◌, length, List, [], ◌∷◌, ◌++◌, Some, slice_get, drop, pos, Bool, true, false}
 use Rattle.rx_rules.specs.Code.{Expr as Tree, Block}
-use Rattle.rx_script.specs.declared.nodes.StmtId.{StmtId}
-use Rattle.rx_script.specs.declared.nodes.BlockId.{BlockId}
-use Rattle.rx_script.specs.declared.nodes.NameId.{NameId}
-use Rattle.rx_script.specs.declared.nodes.Stmt.{Stmt}
-use Rattle.rx_script.specs.declared.nodes.Stmt.TheVariants.{Set, New, Get, Put, Forget, Print, Throw, Async, AtAsync, At, Finish, If, Repeat, Try}
-use Rattle.rx_script.specs.declared.nodes.Expr.{Expr}
-use Rattle.rx_script.specs.declared.nodes.Expr.TheVariants.{Num, Name, Here, Bin}
-use Rattle.rx_script.specs.declared.token.Keyword.TheVariants.{Set as KSet, New as KNew, Get as KGet, Put as KPut, Forget as KForget, Print as KPrint, Throw as KThrow, Async as KAsync, At as KAt, Finish as KFinish, If as KIf, Else as KElse, Repeat as KRepeat, Try as KTry, Catch as KCatch, Dead as KDead, Here as KHere}
-use Rattle.rx_script.specs.declared.token.Sign.TheVariants.{OpenBrace as LBrace, CloseBrace as RBrace, OpenParen as LParen, CloseParen as RParen, OpenSquare as LSquare, CloseSquare as RSquare, Equals, Semicolon}
-use Rattle.rx_script.specs.declared.token.Token.{Token}
-use Rattle.rx_script.specs.declared.token.Token.TheVariants.{Key, Called, Number, Oper, Mark}
+use Rattle.rx_nodes.specs.declared.nodes.StmtId.{StmtId}
+use Rattle.rx_nodes.specs.declared.nodes.BlockId.{BlockId}
+use Rattle.rx_nodes.specs.declared.nodes.NameId.{NameId}
+use Rattle.rx_nodes.specs.declared.nodes.Stmt.{Stmt}
+use Rattle.rx_nodes.specs.declared.nodes.Stmt.TheVariants.{Set, New, Get, Put, Forget, Print, Throw, Async, AtAsync, At, Finish, If}
+use Rattle.rx_nodes.specs.declared.nodes.Stmt.TheVariants.{Repeat, Try}
+use Rattle.rx_nodes.specs.declared.nodes.Expr.{Expr}
+use Rattle.rx_nodes.specs.declared.nodes.Expr.TheVariants.{Num, Name, Here, Bin}
+use Rattle.rx_token.specs.declared.token.Keyword.TheVariants.{Set as KSet, New as KNew, Get as KGet, Put as KPut, Forget as KForget}
+use Rattle.rx_token.specs.declared.token.Keyword.TheVariants.{Print as KPrint, Throw as KThrow, Async as KAsync, At as KAt}
+use Rattle.rx_token.specs.declared.token.Keyword.TheVariants.{Finish as KFinish, If as KIf, Else as KElse, Repeat as KRepeat}
+use Rattle.rx_token.specs.declared.token.Keyword.TheVariants.{Try as KTry, Catch as KCatch, Dead as KDead, Here as KHere}
+use Rattle.rx_token.specs.declared.token.Sign.TheVariants.{OpenBrace as LBrace, CloseBrace as RBrace, OpenParen as LParen}
+use Rattle.rx_token.specs.declared.token.Sign.TheVariants.{CloseParen as RParen, OpenSquare as LSquare, CloseSquare as RSquare}
+use Rattle.rx_token.specs.declared.token.Sign.TheVariants.{Equals, Semicolon}
+use Rattle.rx_token.specs.declared.token.Token.{Token}
+use Rattle.rx_token.specs.declared.token.Token.TheVariants.{Key, Called, Number, Oper, Mark}
 use Rattle.rx_script.specs.declared.writer.Part.{Part}
 use Rattle.rx_script.specs.declared.writer.Part.TheVariants.{One, Value, From}
-use Rattle.rx_script.specs.Shape.{Shape, ExprStands, ListStands}
-use Rattle.rx_script.specs.Grammar.{spell, spellings}
-use Rattle.rx_script.specs.Writing.{spaced}
+use Rattle.rx_nodes.specs.Shape.{Shape, ExprStands, ListStands}
+use Rattle.rx_nodes.specs.Grammar.{spell, spellings}
+use Rattle.rx_token.specs.Texts.{spaced}
 use Rattle.std.specs.List.{flat_map}
 
 -- a part stands for tokens
 abbrev pub PartStands : Shape → Part → List Token → Type 0
 PartStands s (One t) ts = ts ≡ t ∷ []
 PartStands s (Value id) ts = (e : Tree) × ExprStands s.exprs id e × (ts ≡ spell e)
-PartStands s (From block i) ts = (ids : List StmtId) × (b : Block) × (slice_get s.blocks block.0 ≡ Some ids) × ListStands s (drop i ids) b × (ts ≡ spellings b)
+PartStands s (From block i) ts =
+    (ids : List StmtId) × (b : Block) × (slice_get s.blocks block.0 ≡ Some ids) × ListStands s (drop i ids) b × (ts ≡ spellings b)
 
 -- parts, the first one first, stand for tokens
 abbrev pub PartsStand : Shape → List Part → List Token → Type 0
@@ -64,8 +71,10 @@ catch_parts true = One (Key KCatch) ∷ One (Key KDead) ∷ []
 abbrev pub rest_of : Stmt → List Part
 rest_of (Set name value) = named name ∷ One (Mark Equals) ∷ Value value ∷ One (Mark Semicolon) ∷ []
 rest_of (New name words) = named name ∷ One (Mark Equals) ∷ One (Number (pos words)) ∷ One (Mark Semicolon) ∷ []
-rest_of (Get name target index) = named name ∷ One (Mark Equals) ∷ named target ∷ One (Mark LSquare) ∷ Value index ∷ One (Mark RSquare) ∷ One (Mark Semicolon) ∷ []
-rest_of (Put target index value) = named target ∷ One (Mark LSquare) ∷ Value index ∷ One (Mark RSquare) ∷ One (Mark Equals) ∷ Value value ∷ One (Mark Semicolon) ∷ []
+rest_of (Get name target index) =
+    named name ∷ One (Mark Equals) ∷ named target ∷ One (Mark LSquare) ∷ Value index ∷ One (Mark RSquare) ∷ One (Mark Semicolon) ∷ []
+rest_of (Put target index value) =
+    named target ∷ One (Mark LSquare) ∷ Value index ∷ One (Mark RSquare) ∷ One (Mark Equals) ∷ Value value ∷ One (Mark Semicolon) ∷ []
 rest_of (Forget target) = named target ∷ One (Mark Semicolon) ∷ []
 rest_of (Print value) = Value value ∷ One (Mark Semicolon) ∷ []
 rest_of (Throw value) = Value value ∷ One (Mark Semicolon) ∷ []

@@ -6,9 +6,9 @@ ghost use Rattle.rx_script.specs.Pieces.{Grows, IsExprAnswer};
 ghost use Rattle.rx_script.specs.Turns.{Reads, Steps};
 ghost use Rattle.rx_script.specs.declared.exprs.Turn.TheVariants as turns;
 
-use crate::token::{Keyword, Sign, Token};
-use crate::{Expr, ExprId, NameId, Op};
 use rx_base::NoMemory;
+use rx_nodes::{Expr, ExprId, NameId};
+use rx_token::{Keyword, Op, Sign, Token};
 
 // A pair of parentheses that is open: before its first operand is whole, or after its operator.
 #[derive(Clone, Copy, Debug, PartialEq, Eq)]
@@ -26,7 +26,8 @@ pub(crate) enum Turn {
 
 fn add(exprs: &mut Vec<Expr>, expr: Expr) -> Result<Turn, NoMemory>
     requires { vec_len exprs.old < 2 ^ 32 }
-    ensures { IfOk result (λ t. (exprs.new.items ≡ exprs.old.items ++ expr ∷ []) × (t ≡ turns.After (record { 0 = length exprs.old.items }))) }
+    ensures { IfOk result (λ t. (exprs.new.items ≡ exprs.old.items ++ expr ∷ [])
+        × (t ≡ turns.After (record { 0 = length exprs.old.items }))) }
 {
     let id = ExprId(exprs.len() as u32);
     exprs.push(expr)?;
@@ -41,7 +42,9 @@ fn operand_step(
 ) -> Result<Option<Turn>, NoMemory>
     requires { vec_len exprs.old < 2 ^ 32 }
     ensures grows { OnOk result (Grows exprs.old.items exprs.new.items) }
-    ensures step { IfOk result (λ went. (ts : List Token) (o : Result (Tree × List Token) (List Token)) → Reads exprs.old.items pairs.old.items turns.Operand (token ∷ ts) o → Steps exprs.new.items pairs.new.items went token ts o) }
+    ensures step { IfOk result (λ went. (ts : List Token) (o : Result (Tree × List Token) (List Token))
+        → Reads exprs.old.items pairs.old.items turns.Operand (token ∷ ts) o
+        → Steps exprs.new.items pairs.new.items went token ts o) }
     ensures few { OnOk result (vec_len exprs.new ≤ vec_len exprs.old + 1) }
 {
     match token {
@@ -66,7 +69,9 @@ fn whole_step(
 ) -> Result<Option<Turn>, NoMemory>
     requires { vec_len exprs.old < 2 ^ 32 }
     ensures grows { OnOk result (Grows exprs.old.items exprs.new.items) }
-    ensures step { IfOk result (λ went. (ts : List Token) (o : Result (Tree × List Token) (List Token)) → Reads exprs.old.items (pairs.old.items ++ pair ∷ []) (turns.After id) (token ∷ ts) o → Steps exprs.new.items pairs.new.items went token ts o) }
+    ensures step { IfOk result (λ went. (ts : List Token) (o : Result (Tree × List Token) (List Token))
+        → Reads exprs.old.items (pairs.old.items ++ pair ∷ []) (turns.After id) (token ∷ ts) o
+        → Steps exprs.new.items pairs.new.items went token ts o) }
     ensures few { OnOk result (vec_len exprs.new ≤ vec_len exprs.old + 1) }
 {
     match pair {

@@ -2,21 +2,21 @@
 // a block, or what begins a second block.
 ghost use Rattle.std.specs.Prelude.{◌≡◌, ◌+◌, ◌^◌, ◌<◌, ◌≤◌, List, option_map, length, vec_len, IfOk, OnOk};
 ghost use Rattle.rx_rules.specs.Code.{Expr as Tree, Get, Put};
-ghost use Rattle.rx_script.specs.Grammar.{may_hold, may_turn};
-ghost use Rattle.rx_script.specs.Shape.{ExprStands};
+ghost use Rattle.rx_nodes.specs.Grammar.{may_hold, may_turn};
+ghost use Rattle.rx_nodes.specs.Shape.{ExprStands};
 ghost use Rattle.rx_script.specs.Readers.{then, done, choose};
 ghost use Rattle.rx_script.specs.Exprs.{expr};
 ghost use Rattle.rx_script.specs.Items as read;
 ghost use Rattle.rx_script.specs.Items.{item_at};
 ghost use Rattle.rx_script.specs.Pieces.{mode_of, Grows, ItemStands, IsItemAnswer};
 ghost use Rattle.rx_script.specs.Parts.{Passes, Leads, LeadsExpr};
-ghost use Rattle.rx_script.specs.declared.nodes.Expr.{Expr as Part};
-ghost use Rattle.rx_script.specs.declared.token.Token.TheVariants.{Number};
+ghost use Rattle.rx_nodes.specs.declared.nodes.Expr.{Expr as Part};
+ghost use Rattle.rx_token.specs.declared.token.Token.TheVariants.{Number};
 
 use crate::exprs::expression;
-use crate::token::{Keyword, Sign, Token};
-use crate::{Expr, ExprId, NameId, Stmt};
 use rx_base::NoMemory;
+use rx_nodes::{Expr, ExprId, NameId, Stmt};
+use rx_token::{Keyword, Sign, Token};
 
 // The front of a statement that has a block.
 #[derive(Clone, Copy, Debug, PartialEq, Eq)]
@@ -162,7 +162,8 @@ fn end_square(tokens: &[Token]) -> Result<&[Token], &[Token]>
 
 // The semicolon that ends an item.
 fn ends(item: Item, tokens: &[Token]) -> Read<'_, Item>
-    ensures answer { (es : List Part) (x : read.Item) → ItemStands es item x → IsItemAnswer es result (λ s. s.now) (read.ends x tokens.now) }
+    ensures answer { (es : List Part) (x : read.Item) → ItemStands es item x
+        → IsItemAnswer es result (λ s. s.now) (read.ends x tokens.now) }
     ensures shorter { IfOk result (λ x. length x.1.now ≤ length tokens.now) }
 {
     match semicolon(tokens) {
@@ -173,7 +174,8 @@ fn ends(item: Item, tokens: &[Token]) -> Read<'_, Item>
 
 // The brace that ends an item.
 fn opens(item: Item, tokens: &[Token]) -> Read<'_, Item>
-    ensures answer { (es : List Part) (x : read.Item) → ItemStands es item x → IsItemAnswer es result (λ s. s.now) (read.opens x tokens.now) }
+    ensures answer { (es : List Part) (x : read.Item) → ItemStands es item x
+        → IsItemAnswer es result (λ s. s.now) (read.opens x tokens.now) }
     ensures shorter { IfOk result (λ x. length x.1.now ≤ length tokens.now) }
 {
     match brace(tokens) {
@@ -200,7 +202,8 @@ fn assigned(tokens: &[Token]) -> Read<'_, NameId>
 fn value<'a>(exprs: &mut Vec<Expr>, tokens: &'a [Token]) -> Result<Read<'a, ExprId>, NoMemory>
     requires { vec_len exprs.old + length tokens.now < 2 ^ 32 }
     ensures grows { OnOk result (Grows exprs.old.items exprs.new.items) }
-    ensures answer { IfOk result (λ r. LeadsExpr exprs.new.items r (λ s. s.now) (λ f. then expr (λ e. choose (read.semicolon (f e))) tokens.now)) }
+    ensures answer { IfOk result (λ r. LeadsExpr exprs.new.items r (λ s. s.now)
+        (λ f. then expr (λ e. choose (read.semicolon (f e))) tokens.now)) }
     ensures few { IfOk result (λ r. IfOk r (λ x. vec_len exprs.new + length x.1.now ≤ vec_len exprs.old + length tokens.now)) }
 {
     match expression(exprs, tokens)? {
@@ -216,7 +219,8 @@ fn value<'a>(exprs: &mut Vec<Expr>, tokens: &'a [Token]) -> Result<Read<'a, Expr
 fn index<'a>(exprs: &mut Vec<Expr>, tokens: &'a [Token]) -> Result<Read<'a, ExprId>, NoMemory>
     requires { vec_len exprs.old + length tokens.now < 2 ^ 32 }
     ensures grows { OnOk result (Grows exprs.old.items exprs.new.items) }
-    ensures answer { IfOk result (λ r. LeadsExpr exprs.new.items r (λ s. s.now) (λ f. choose (read.square (then expr (λ e. choose (read.end_square (f e))))) tokens.now)) }
+    ensures answer { IfOk result (λ r. LeadsExpr exprs.new.items r (λ s. s.now)
+        (λ f. choose (read.square (then expr (λ e. choose (read.end_square (f e))))) tokens.now)) }
     ensures few { IfOk result (λ r. IfOk r (λ x. vec_len exprs.new + length x.1.now ≤ vec_len exprs.old + length tokens.now)) }
 {
     match square(tokens) {
@@ -268,7 +272,9 @@ fn get_index<'a>(
 ) -> Result<Read<'a, Item>, NoMemory>
     requires { vec_len exprs.old + length tokens.now < 2 ^ 32 }
     ensures grows { OnOk result (Grows exprs.old.items exprs.new.items) }
-    ensures answer { IfOk result (λ r. IsItemAnswer exprs.new.items r (λ s. s.now) (choose (read.square (then expr (λ e. choose (read.end_square (read.ends (read.Whole (Get name.0 target.0 e))))))) tokens.now)) }
+    ensures answer { IfOk result (λ r. IsItemAnswer exprs.new.items r (λ s. s.now)
+        (choose (read.square (then expr (λ e. choose (read.end_square (read.ends (read.Whole (Get name.0 target.0 e)))))))
+        tokens.now)) }
     ensures few { IfOk result (λ r. IfOk r (λ x. vec_len exprs.new + length x.1.now ≤ vec_len exprs.old + length tokens.now)) }
 {
     match index(exprs, tokens)? {
@@ -308,7 +314,9 @@ fn put_value<'a>(
 ) -> Result<Read<'a, Item>, NoMemory>
     requires { vec_len exprs.old + length tokens.now < 2 ^ 32 }
     ensures grows { OnOk result (Grows exprs.old.items exprs.new.items) }
-    ensures answer { (i : Tree) → ExprStands exprs.old.items index i → IfOk result (λ r. IsItemAnswer exprs.new.items r (λ s. s.now) (choose (read.equals (then expr (λ e. read.ends (read.Whole (Put target.0 i e))))) tokens.now)) }
+    ensures answer { (i : Tree) → ExprStands exprs.old.items index i
+        → IfOk result (λ r. IsItemAnswer exprs.new.items r (λ s. s.now)
+        (choose (read.equals (then expr (λ e. read.ends (read.Whole (Put target.0 i e))))) tokens.now)) }
     ensures few { IfOk result (λ r. IfOk r (λ x. vec_len exprs.new + length x.1.now ≤ vec_len exprs.old + length tokens.now)) }
 {
     match equals(tokens) {
@@ -378,7 +386,8 @@ fn throw_item<'a>(exprs: &mut Vec<Expr>, tokens: &'a [Token]) -> Result<Read<'a,
 
 // What follows the place of an `at`.
 fn at_body(place: ExprId, tokens: &[Token]) -> Read<'_, Item>
-    ensures answer { (es : List Part) (e : Tree) → ExprStands es place e → IsItemAnswer es result (λ s. s.now) (choose (read.at_body e) tokens.now) }
+    ensures answer { (es : List Part) (e : Tree) → ExprStands es place e
+        → IsItemAnswer es result (λ s. s.now) (choose (read.at_body e) tokens.now) }
     ensures shorter { IfOk result (λ x. length x.1.now ≤ length tokens.now) }
 {
     match tokens.split_first() {

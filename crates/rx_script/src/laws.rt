@@ -1,12 +1,6 @@
 // Laws of the grammar, each the contract of a function that does nothing.
 ghost use Rattle.rx_script.specs.Faults.{OneScript, OneFault, NoFault};
-ghost use Rattle.rx_script.specs.Named.{NamesAreNumbered};
 ghost use Rattle.rx_script.specs.Writing.{WrittenReadsBack, ScriptsAreSpelled};
-
-/// A law: a script mentions exactly the numbers below the count of its names.
-pub fn names_are_numbered()
-    ensures { NamesAreNumbered }
-{}
 
 /// A law: bytes are one script at most, with one list of names.
 pub fn one_script()

@@ -5,20 +5,20 @@ ghost use Rattle.rx_script.specs.declared.items.Item.TheVariants.{Close, Else, C
 ghost use Rattle.rx_script.specs.declared.items.Mode.TheVariants.{Outermost};
 ghost use Rattle.rx_script.specs.declared.reader.Owner.TheVariants.{Front};
 ghost use Rattle.rx_rules.specs.Code.{Block};
-ghost use Rattle.rx_script.specs.Grammar.{IsScriptOf, AllFit, AreNames, spellings};
+ghost use Rattle.rx_nodes.specs.Grammar.{IsScriptOf, AllFit, spellings};
+ghost use Rattle.rx_token.specs.Tokens.{AreNames};
 ghost use Rattle.rx_script.specs.Faults.{IsFaultAt};
-ghost use Rattle.rx_script.specs.Writing.{AreSpelled};
-ghost use Rattle.rx_script.specs.Shape.{Stands, ListStands, IsSmall};
-ghost use Rattle.rx_script.specs.Tables.{names_of};
+ghost use Rattle.rx_token.specs.Texts.{AreSpelled};
+ghost use Rattle.rx_nodes.specs.Shape.{Stands, ListStands, IsSmall};
+ghost use Rattle.rx_token.specs.Tables.{names_of};
 ghost use Rattle.rx_script.specs.Machine.{State, mode};
 ghost use Rattle.rx_script.specs.Pieces.{mode_of};
 ghost use Rattle.rx_script.specs.Arena.{Holds, MayTake, Takes, Adds, Opens, Shuts, Makes, Counts, IsParsed, blocks_of, shape_of};
 
 use crate::items::{Item, Mode, Opener, next_item};
-use crate::scan::{Scanned, scan};
-use crate::token::Token;
-use crate::{BlockId, Expr, ExprId, Script, Stmt, StmtId};
 use rx_base::NoMemory;
+use rx_nodes::{BlockId, Expr, ExprId, Script, Stmt, StmtId};
+use rx_token::{Scanned, Token, scan};
 use std::alloc::{AllocError, AllocFailed, Global};
 
 /// Why bytes were not read as a script.
@@ -294,7 +294,8 @@ fn finish(reader: Reader, names: Vec<Vec<u8>>) -> Result<Script, NoMemory>
     requires blocks { vec_len reader.blocks < 2 ^ 31 }
     requires pending { vec_len reader.pending < 2 ^ 31 }
     requires small { IsSmall (blocks_of reader) }
-    requires stands { (t : Block) × ListStands (shape_of reader) reader.pending.items t × AllFit t × AreNames (names_of names) (spellings t) × AreSpelled (spellings t) }
+    requires stands { (t : Block) × ListStands (shape_of reader) reader.pending.items t × AllFit t
+        × AreNames (names_of names) (spellings t) × AreSpelled (spellings t) }
     ensures ok { IfOk result (λ s. (t : Block) → ListStands (shape_of reader) reader.pending.items t → Stands s t) }
     ensures names { IfOk result (λ s. s.names ≡ names_of names) }
 {
@@ -308,13 +309,7 @@ fn finish(reader: Reader, names: Vec<Vec<u8>>) -> Result<Script, NoMemory>
     } = reader;
     let top = BlockId(blocks.len() as u32);
     blocks.push(pending)?;
-    Ok(Script {
-        stmts,
-        exprs,
-        blocks,
-        names,
-        top,
-    })
+    Ok(Script::new(stmts, exprs, blocks, names, top))
 }
 
 /// Reads a script. `Syntax` comes exactly where the bytes are no script of the grammar, and `at` is the start of the first token that

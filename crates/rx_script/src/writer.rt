@@ -1,19 +1,20 @@
 // From a script to bytes, without recursion: what is still to be written stands on a list.
-ghost use Rattle.std.specs.Prelude.{◌≡◌, ◌<◌, ◌+◌, ◌++◌, ◌∷◌, ℕ, List, pos, map, slice_get, reverse, OnOk, OnErr};
+ghost use Rattle.std.specs.Prelude.{◌≡◌, ◌<◌, ◌+◌, ◌++◌, ◌∷◌, ℕ, List, pos, reverse, OnOk, OnErr};
 ghost use Rattle.std.specs.List.{flat_map};
 ghost use Rattle.rx_rules.specs.Code.{Block};
-ghost use Rattle.rx_script.specs.declared.token.Token.TheVariants.{Key, Number};
+ghost use Rattle.rx_token.specs.declared.token.Token.TheVariants.{Key, Number};
 ghost use Rattle.rx_script.specs.declared.writer.Part.TheVariants.{One as OnePart, From as FromPart};
-ghost use Rattle.rx_script.specs.Shape.{Stands};
-ghost use Rattle.rx_script.specs.Grammar.{spellings, IsScriptOf};
-ghost use Rattle.rx_script.specs.declared.token.Token.{Token};
-ghost use Rattle.rx_script.specs.Writing.{keyword_text, op_text, sign_text, name_text, token_text, spaced, script_text};
-ghost use Rattle.rx_script.specs.Unwritten.{PartStands, PartsStand, front_of, rest_of, named as named_part, block_parts, catch_parts, expr_front, expr_rest, Wrote, turns_left};
+ghost use Rattle.rx_nodes.specs.Shape.{Stands};
+ghost use Rattle.rx_nodes.specs.Grammar.{spellings, IsScriptOf};
+ghost use Rattle.rx_token.specs.declared.token.Token.{Token};
+ghost use Rattle.rx_token.specs.Texts.{spaced};
+ghost use Rattle.rx_script.specs.Writing.{script_text};
+ghost use Rattle.rx_script.specs.Unwritten.{PartStands, PartsStand, front_of, rest_of, named as named_part, block_parts};
+ghost use Rattle.rx_script.specs.Unwritten.{catch_parts, expr_front, expr_rest, Wrote, turns_left};
 
-use crate::token::{Keyword, Sign, Token};
-use crate::{BlockId, Expr, ExprId, NameId, Op, Script, Stmt};
 use rx_base::NoMemory;
-use rx_text::put_num;
+use rx_nodes::{BlockId, Expr, ExprId, NameId, Script, Stmt, whole};
+use rx_token::{Keyword, Sign, Token};
 
 // What is still to be written: a token, an expression, or the statements of a block from a position on.
 #[derive(Clone, Copy, Debug, PartialEq, Eq)]
@@ -23,95 +24,11 @@ pub(crate) enum Part {
     From(BlockId, u32),
 }
 
-fn keyword(word: Keyword) -> &'static [u8]
-    ensures { result.now ≡ keyword_text word }
-{
-    match word {
-        Keyword::Set => b"set",
-        Keyword::New => b"new",
-        Keyword::Get => b"get",
-        Keyword::Put => b"put",
-        Keyword::Forget => b"forget",
-        Keyword::Print => b"print",
-        Keyword::Throw => b"throw",
-        Keyword::Async => b"async",
-        Keyword::At => b"at",
-        Keyword::Finish => b"finish",
-        Keyword::If => b"if",
-        Keyword::Else => b"else",
-        Keyword::Repeat => b"repeat",
-        Keyword::Try => b"try",
-        Keyword::Catch => b"catch",
-        Keyword::Dead => b"dead",
-        Keyword::Here => b"here",
-        Keyword::Census => b"census",
-    }
-}
-
-fn operator(op: Op) -> &'static [u8]
-    ensures { result.now ≡ op_text op }
-{
-    match op {
-        Op::Add => b"+",
-        Op::Sub => b"-",
-        Op::Mul => b"*",
-        Op::Less => b"<",
-        Op::Equal => b"==",
-    }
-}
-
-fn mark(sign: Sign) -> &'static [u8]
-    ensures { result.now ≡ sign_text sign }
-{
-    match sign {
-        Sign::OpenBrace => b"{",
-        Sign::CloseBrace => b"}",
-        Sign::OpenParen => b"(",
-        Sign::CloseParen => b")",
-        Sign::OpenSquare => b"[",
-        Sign::CloseSquare => b"]",
-        Sign::Equals => b"=",
-        Sign::Semicolon => b";",
-        Sign::Comma => b",",
-    }
-}
-
-fn put(text: &mut Vec<u8>, bytes: &[u8]) -> Result<(), NoMemory>
-    ensures { OnOk result (text.new.items ≡ text.old.items ++ bytes.now) }
-{
-    text.extend_from_slice(bytes)?;
-    Ok(())
-}
-
-fn put_name(text: &mut Vec<u8>, names: &[Vec<u8>], number: u32) -> Result<(), NoMemory>
-    ensures { OnOk result (text.new.items ≡ text.old.items ++ name_text (slice_get (map (λ n. n.items) names.now) number)) }
-{
-    match names.get(number as usize) {
-        Some(name) => put(text, name),
-        None => Ok(()),
-    }
-}
-
-// Appends the bytes of a token.
-fn put_bare(text: &mut Vec<u8>, script: &Script, token: Token) -> Result<(), NoMemory>
-    ensures { OnOk result (text.new.items ≡ text.old.items ++ token_text script.now.names token) }
-{
-    match token {
-        Token::Key(word) => put(text, keyword(word)),
-        Token::Called(number) => put_name(text, &script.names, number),
-        Token::Number(value) => put_num(text, value),
-        Token::Oper(op) => put(text, operator(op)),
-        Token::Mark(sign) => put(text, mark(sign)),
-        Token::Bad => Ok(()),
-    }
-}
-
 // Appends a blank and the bytes of a token.
 fn put_token(text: &mut Vec<u8>, script: &Script, token: Token) -> Result<(), NoMemory>
     ensures { OnOk result (text.new.items ≡ text.old.items ++ spaced script.now.names token) }
 {
-    text.push(b' ')?;
-    put_bare(text, script, token)
+    rx_token::put_token(text, script.names(), token)
 }
 
 // Puts parts in front of the others; the last of the list is the one in front.
@@ -305,7 +222,9 @@ fn put_item(
     i: u32,
 ) -> Result<(), NoMemory>
     requires { (ts : List Token) × PartStands script.now (FromPart block i) ts }
-    ensures wrote { OnOk result ((ts : List Token) → PartsStand script.now (FromPart block i ∷ reverse parts.old.items) ts → Wrote script.now text.old.items text.new.items (reverse parts.new.items) ts) }
+    ensures wrote { OnOk result ((ts : List Token)
+        → PartsStand script.now (FromPart block i ∷ reverse parts.old.items) ts
+        → Wrote script.now text.old.items text.new.items (reverse parts.new.items) ts) }
     ensures falls { OnOk result (turns_left text.new.items parts.new.items < turns_left text.old.items parts.old.items + 1) }
 {
     if i < script.block_len(block) {
@@ -326,7 +245,9 @@ fn put_part(
     part: Part,
 ) -> Result<(), NoMemory>
     requires { (ts : List Token) × PartStands script.now part ts }
-    ensures wrote { OnOk result ((ts : List Token) → PartsStand script.now (part ∷ reverse parts.old.items) ts → Wrote script.now text.old.items text.new.items (reverse parts.new.items) ts) }
+    ensures wrote { OnOk result ((ts : List Token)
+        → PartsStand script.now (part ∷ reverse parts.old.items) ts
+        → Wrote script.now text.old.items text.new.items (reverse parts.new.items) ts) }
     ensures falls { OnOk result (turns_left text.new.items parts.new.items < turns_left text.old.items parts.old.items + 1) }
 {
     match part {
@@ -339,7 +260,8 @@ fn put_part(
 // Appends all that is still to be written.
 fn put_all(text: &mut Vec<u8>, mut parts: Vec<Part>, script: &Script) -> Result<(), NoMemory>
     requires { (ts : List Token) × PartsStand script.now (reverse parts.items) ts }
-    ensures { OnOk result ((ts : List Token) → PartsStand script.now (reverse parts.items) ts → text.new.items ≡ text.old.items ++ flat_map (spaced script.now.names) ts) }
+    ensures { OnOk result ((ts : List Token) → PartsStand script.now (reverse parts.items) ts
+        → text.new.items ≡ text.old.items ++ flat_map (spaced script.now.names) ts) }
 {
     'parts: while let Some(part) = parts.pop() {
         put_part(text, &mut parts, script, part)?;
@@ -349,10 +271,12 @@ fn put_all(text: &mut Vec<u8>, mut parts: Vec<Part>, script: &Script) -> Result<
 
 // Appends the tokens of a script, each with a blank in front.
 fn put_script(text: &mut Vec<u8>, script: &Script) -> Result<(), NoMemory>
-    ensures { OnOk result ((t : Block) → Stands script.now t → text.new.items ≡ text.old.items ++ flat_map (spaced script.now.names) (spellings t)) }
+    ensures { OnOk result ((t : Block) → Stands script.now t
+        → text.new.items ≡ text.old.items ++ flat_map (spaced script.now.names) (spellings t)) }
 {
+    whole(script);
     let mut parts = Vec::new(*text.allocator());
-    parts.push(Part::From(script.top, 0))?;
+    parts.push(Part::From(script.top(), 0))?;
     put_all(text, parts, script)
 }
 
@@ -378,8 +302,9 @@ pub fn write_script(script: &Script, out: &mut Vec<u8>) -> Result<(), NoMemory>
     ensures ok { OnOk result ((t : Block) → Stands script.now t → out.new.items ≡ out.old.items ++ script_text script.now.names t) }
     ensures err { OnErr result (out.new.items ≡ out.old.items) }
     // What is appended is a script with the same names and a tree that this one stands for.
-    ensures reads_back { OnOk result ((bytes : List ℕ) × (t : Block) × (out.new.items ≡ out.old.items ++ bytes) × Stands script.now t × IsScriptOf script.now.names bytes t) }
+    ensures reads_back { OnOk result ((bytes : List ℕ) × (t : Block) × (out.new.items ≡ out.old.items ++ bytes)
+        × Stands script.now t × IsScriptOf script.now.names bytes t) }
 {
-    let _ = &script.top;
+    whole(script);
     put_text(script, out)
 }

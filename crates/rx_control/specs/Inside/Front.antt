@@ -4,9 +4,9 @@ use Rattle.rx_base.specs.declared.values.Fault.{Fault}
 use Rattle.rx_rules.specs.Code.{Block, Nothing, Then, Stmt, SetTo, New, Get, Put, Forget, Print, Throw, Async, AtAsync, At, Finish, If}
 use Rattle.rx_rules.specs.Code.{Repeat, Try}
 use Rattle.rx_rules.specs.Terms.{Term, Does, within}
-use Rattle.rx_script.specs.Shape.{Shape, ListStands}
-use Rattle.rx_script.specs.declared.nodes.StmtId.{StmtId}
-use Rattle.rx_script.specs.declared.nodes.BlockId.{BlockId}
+use Rattle.rx_nodes.specs.Shape.{Shape, ListStands}
+use Rattle.rx_nodes.specs.declared.nodes.StmtId.{StmtId}
+use Rattle.rx_nodes.specs.declared.nodes.BlockId.{BlockId}
 use Rattle.rx_control.specs.declared.frame.Frame.{Frame}
 use Rattle.rx_control.specs.declared.frame.Frame.TheVariants.{Seq}
 use Rattle.rx_control.specs.declared.control.Control.{Control}

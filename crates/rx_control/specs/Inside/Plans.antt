@@ -5,9 +5,9 @@ use Rattle.rx_base.specs.declared.values.Value.TheVariants.{Num as Number}
 use Rattle.rx_base.specs.declared.values.Fault.{Fault}
 use Rattle.rx_rules.specs.Code.{Block, Stmt}
 use Rattle.rx_rules.specs.Terms.{Vars, Term, Empty, Turns, Trying, Does, Local, raise, bound, items, at, stmt_does}
-use Rattle.rx_script.specs.declared.nodes.BlockId.{BlockId}
-use Rattle.rx_script.specs.declared.nodes.NameId.{NameId}
-use Rattle.rx_script.specs.Shape.{Shape, BlockStands}
+use Rattle.rx_nodes.specs.declared.nodes.BlockId.{BlockId}
+use Rattle.rx_nodes.specs.declared.nodes.NameId.{NameId}
+use Rattle.rx_nodes.specs.Shape.{Shape, BlockStands}
 use Rattle.rx_control.specs.Inside.Levels.{More, seq}
 use Rattle.rx_control.specs.declared.frame.Frame.{Frame}
 use Rattle.rx_control.specs.declared.control.Control.{Control}

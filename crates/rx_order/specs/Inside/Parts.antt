@@ -3,7 +3,7 @@ use Rattle.std.specs.Prelude.{◌≡◌, ◌≤◌, ℕ, zero, suc, Bool, true, 
 use Rattle.rx_rules.specs.Code.{Stmt, SetTo, New, Get, Put, Forget, Print, Throw, Async, AtAsync, At, Finish, If, Repeat, Try, Block}
 use Rattle.rx_rules.specs.Code.{Nothing, Then}
 use Rattle.rx_rules.specs.Order.{is_kept_in}
-use Rattle.rx_script.specs.Shape.{Shape, BlockStands}
+use Rattle.rx_nodes.specs.Shape.{Shape, BlockStands}
 use Rattle.rx_order.specs.declared.parts.Part.{Part}
 use Rattle.rx_order.specs.declared.parts.Walk.{Walk}
 use Rattle.rx_order.specs.declared.parts.Walk.TheVariants.{Over, On}

@@ -1,5 +1,5 @@
 use Rattle.std.proofs.Common.{◌≡◌, ℕ, List, Some, sym, ap, ◌∙◌, subst}
-use Rattle.rx_script.specs.Grammar.{IsScript, IsScriptOf}
+use Rattle.rx_nodes.specs.Grammar.{IsScript, IsScriptOf}
 use Rattle.rx_script.specs.Faults.{IsFaultAt}
 use Rattle.rx_check.specs.Rules.{verdict}
 use Rattle.rx10.proofs.Known.{all-read}

@@ -2,7 +2,7 @@ use Rattle.std.proofs.Common.{rules, ◌≡◌, ◌<◌, Some, ap, sym, ◌∙�
 use Rattle.std.proofs.lemmas.Int.{ints, to_z-of_z}
 use mir.Val.{SFits}
 use Rattle.rx_rules.specs.Terms.{eval, both, number_in}
-use Rattle.rx_script.specs.Shape.{op_of}
+use Rattle.rx_nodes.specs.Shape.{op_of}
 use Rattle.rx_check.proofs.Exprs.{part-is, expr-within}
 use Rattle.rx_control.proofs.eval.+evaluate.Goals as goal
 

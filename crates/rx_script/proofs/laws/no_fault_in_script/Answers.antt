@@ -1,4 +1,4 @@
-use Rattle.rx_script.proofs.OneScan.{no-fault}
+use Rattle.rx_script.proofs.OneScript.{no-fault}
 use Rattle.rx_script.proofs.laws.no_fault_in_script.Goals as goal
 
 pub returns : goal.returns

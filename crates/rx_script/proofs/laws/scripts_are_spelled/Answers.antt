@@ -1,4 +1,4 @@
-use Rattle.rx_script.proofs.Spelling.{scripts-are-spelled}
+use Rattle.rx_script.proofs.OneScript.{scripts-are-spelled}
 use Rattle.rx_script.proofs.laws.scripts_are_spelled.Goals as goal
 
 pub returns : goal.returns

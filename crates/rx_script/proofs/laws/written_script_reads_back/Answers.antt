@@ -1,4 +1,4 @@
-use Rattle.rx_script.proofs.ReadBack.{written-reads-back}
+use Rattle.rx_script.proofs.OneScript.{written-reads-back}
 use Rattle.rx_script.proofs.laws.written_script_reads_back.Goals as goal
 
 pub returns : goal.returns

@@ -1,6 +1,6 @@
 use Rattle.std.proofs.Common.{◌++◌, sym, ap, ◌∙◌}
-use Rattle.rx_script.specs.declared.token.Token.{Token}
-use Rattle.rx_script.specs.Writing.{spaced}
+use Rattle.rx_token.specs.declared.token.Token.{Token}
+use Rattle.rx_token.specs.Texts.{spaced}
 use Rattle.rx_script.proofs.Written.{ok-then, item-known, item-wrote}
 use Rattle.rx_script.proofs.writer.put_item.Goals as goal
 

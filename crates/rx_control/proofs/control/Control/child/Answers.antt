@@ -2,7 +2,7 @@ use Rattle.std.proofs.Common.{◌≡◌, ℕ, suc, List, ◌∷◌, ◌++◌, So
 use Rattle.std.specs.Prelude.{option_to_list}
 use Rattle.rx_rules.specs.Code.{Stmt}
 use Rattle.rx_rules.specs.Terms.{Term, Run, stmt_child, child, begins, at}
-use Rattle.rx_script.specs.Shape.{Shape, StmtIs}
+use Rattle.rx_nodes.specs.Shape.{Shape, StmtIs}
 use Rattle.rx_control.specs.Inside.Levels.{More, seq}
 use Rattle.rx_control.specs.declared.frame.Frame.TheVariants.{Seq}
 use Rattle.rx_control.specs.declared.control.Control.{Control}

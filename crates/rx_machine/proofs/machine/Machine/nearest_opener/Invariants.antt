@@ -3,7 +3,7 @@ use Rattle.rx_rules.specs.Code.{Block}
 use Rattle.rx_rules.specs.Tree.{on_chain, the_root}
 use Rattle.rx_rules.specs.Run.{Given}
 use Rattle.rx_rules.specs.Picked.{Game, tree_in}
-use Rattle.rx_script.specs.Shape.{Shape}
+use Rattle.rx_nodes.specs.Shape.{Shape}
 use Rattle.rx_machine.specs.Holds.{CanTurn}
 use Rattle.rx_machine.specs.Origins.{TellsOrigins}
 use Rattle.rx_machine.proofs.Openers.{IsOnWay}

@@ -2,7 +2,7 @@ use Rattle.std.proofs.Common.{rules, arith, ◌≡◌, ◌≤◌, ℕ, List, Boo
 use Rattle.rx_rules.specs.Code.{Block}
 use Rattle.rx_rules.specs.Run.{Given}
 use Rattle.rx_rules.specs.Picked.{Game, tree_in}
-use Rattle.rx_script.specs.Shape.{Shape}
+use Rattle.rx_nodes.specs.Shape.{Shape}
 use Rattle.rx_rank.specs.Numbers.{Ascends, marked}
 use Rattle.rx_machine.specs.declared.machine.Machine.{Machine}
 use Rattle.rx_machine.specs.Slots.{seat_at}

@@ -1,0 +1,5 @@
+pub mod Shape
+pub mod Grammar
+pub mod Arenas
+pub mod Whole
+pub mod Named

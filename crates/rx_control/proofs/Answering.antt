@@ -9,7 +9,7 @@ use Rattle.rx_nodes.specs.declared.nodes.ExprId.{ExprId}
 use Rattle.rx_nodes.specs.declared.nodes.BlockId.{BlockId}
 use Rattle.rx_nodes.specs.declared.nodes.Stmt.TheVariants.{Finish as FinishNode, At as AtNode}
 use Rattle.rx_nodes.specs.Shape.{Shape, StmtIs, BlockStands}
-use Rattle.rx_control.specs.Inside.Levels.{Level, More, Again, Tried, Inside, Waiting, seq, wrap, term_of}
+use Rattle.rx_control.specs.Levels.{Level, More, Again, Tried, Inside, Waiting, seq, wrap, term_of}
 use Rattle.rx_control.specs.Inside.Front.{opened}
 use Rattle.rx_control.proofs.Wrapping.{replaced-wrap, after-wrap, receives-wrap, granted-wrap}
 

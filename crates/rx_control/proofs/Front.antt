@@ -10,7 +10,7 @@ use Rattle.rx_nodes.specs.declared.nodes.StmtId.{StmtId}
 use Rattle.rx_nodes.specs.declared.nodes.BlockId.{BlockId}
 use Rattle.rx_nodes.specs.declared.nodes.Stmt.{Stmt as Node}
 use Rattle.rx_nodes.specs.Shape.{Shape, ListStands, StmtIs}
-use Rattle.rx_control.specs.Inside.Levels.{Level, More, Again, Tried, Inside, Waiting, Settled, seq, wrap, term_of}
+use Rattle.rx_control.specs.Levels.{Level, More, Again, Tried, Inside, Waiting, Settled, seq, wrap, term_of}
 use Rattle.rx_control.specs.declared.frame.Frame.{Frame}
 use Rattle.rx_control.specs.declared.frame.Frame.TheVariants.{Seq}
 use Rattle.rx_control.specs.Stands.{path_of, FramesStand}

@@ -5,7 +5,7 @@ use Rattle.rx_base.specs.declared.values.Fault.{Fault}
 use Rattle.rx_rules.specs.Terms.{Vars, Term, Raise, Turns as TurnsTerm, Does, Local, Waits, Releases, Done, does, stmt_does, items, at, catches}
 use Rattle.rx_nodes.specs.declared.nodes.BlockId.{BlockId}
 use Rattle.rx_nodes.specs.Shape.{Shape}
-use Rattle.rx_control.specs.Inside.Levels.{More, seq, wrap, term_of}
+use Rattle.rx_control.specs.Levels.{More, seq, wrap, term_of}
 use Rattle.rx_control.specs.declared.frame.Frame.{Frame}
 use Rattle.rx_control.specs.declared.frame.Frame.TheVariants.{Turns, Try, Body, Held}
 use Rattle.rx_control.specs.declared.control.Control.{Control}

@@ -4,7 +4,7 @@ use Rattle.std.specs.Prelude.{slice_get, option_to_list, IfSome, nat_le}
 use Rattle.std.proofs.lemmas.Bool.Decides.{nat_tests}
 use Rattle.rx_base.specs.declared.values.Fault.{Fault}
 use Rattle.rx_rules.specs.Code.{Block, Nothing, Then}
-use Rattle.rx_control.specs.Inside.Levels.{Level, More, Again, Tried, Inside, Waiting, Settled, term_of}
+use Rattle.rx_control.specs.Levels.{Level, More, Again, Tried, Inside, Waiting, Settled, term_of}
 use Rattle.rx_nodes.specs.Shape.{Shape, ListStands}
 use Rattle.rx_nodes.specs.declared.nodes.StmtId.{StmtId}
 use Rattle.rx_nodes.specs.declared.nodes.BlockId.{BlockId}

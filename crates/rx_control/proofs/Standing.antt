@@ -6,7 +6,7 @@ use Rattle.rx_rules.specs.Code.{Block}
 use Rattle.rx_rules.specs.Terms.{Term}
 use Rattle.rx_nodes.specs.declared.nodes.BlockId.{BlockId}
 use Rattle.rx_nodes.specs.Shape.{Shape}
-use Rattle.rx_control.specs.Inside.Levels.{Level, More, Again, Tried, Inside, Waiting, Settled, term_of}
+use Rattle.rx_control.specs.Levels.{Level, More, Again, Tried, Inside, Waiting, Settled, term_of}
 use Rattle.rx_control.specs.declared.frame.Frame.{Frame}
 use Rattle.rx_control.specs.declared.frame.Frame.TheVariants.{Seq, Turns, Try, Body, Held}
 use Rattle.rx_control.specs.declared.control.Control.{Control}

@@ -3,7 +3,7 @@ use Rattle.std.proofs.Common.{◌≡◌, ℕ, List, [], ◌∷◌, Bool, refl, a
 use Rattle.rx_base.specs.declared.values.Fault.{Fault}
 use Rattle.rx_rules.specs.Code.{Block}
 use Rattle.rx_rules.specs.Terms.{Vars, Term, Empty, Run, Raise, Turns, Trying, Body, Held, Does, Local, Makes, Gets, Puts, Forgets, Opens, Calls, Spawns, Waits, Releases, Prints, Done, does, within, begins, granted, child, replaced, after_it, receives, trying_does, body_does, body_granted}
-use Rattle.rx_control.specs.Inside.Levels.{Level, More, Again, Tried, Inside, Waiting, seq, wrap}
+use Rattle.rx_control.specs.Levels.{Level, More, Again, Tried, Inside, Waiting, seq, wrap}
 use Rattle.rx_control.specs.Inside.Front.{lifted}
 
 -- a term that is neither empty nor raised

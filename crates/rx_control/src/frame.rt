@@ -1,7 +1,7 @@
 // What stands on the stack of a control.
 ghost use Rattle.std.specs.Prelude.{◌≡◌, ℕ, List, [], ◌∷◌, ◌++◌, Option, Some, None, MatchOption, vec_len, vec_capacity, ◌-◌, ◌≤◌, ◌<◌};
 ghost use Rattle.rx_base.specs.declared.values.Fault.{Fault};
-ghost use Rattle.rx_control.specs.Inside.Levels.{Level};
+ghost use Rattle.rx_control.specs.Levels.{Level};
 ghost use Rattle.rx_nodes.specs.Shape.{Shape};
 ghost use Rattle.rx_control.specs.declared.frame.Frame.{Frame};
 ghost use Rattle.rx_control.specs.Stands.{FrameStands, FramesStand};

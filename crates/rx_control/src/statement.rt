@@ -5,7 +5,7 @@ ghost use Rattle.rx_rules.specs.Terms.{Term, begins, stmt_receives, vars_after, 
 ghost use Rattle.rx_nodes.specs.Shape.{Shape, StmtIs};
 ghost use Rattle.rx_control.specs.declared.frame.Frame.{Frame};
 ghost use Rattle.rx_control.specs.declared.control.Control.{Control};
-ghost use Rattle.rx_control.specs.Inside.Levels.{Level};
+ghost use Rattle.rx_control.specs.Levels.{Level};
 ghost use Rattle.rx_control.specs.Stands.{StandsFor, FramesStand, path_of};
 ghost use Rattle.rx_control.specs.Inside.Front.{Awaits, SettlesTo, opened};
 ghost use Rattle.rx_control.specs.Inside.Plans.{name_in};

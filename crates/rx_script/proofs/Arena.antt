@@ -6,10 +6,10 @@ use Rattle.std.proofs.lemmas.Option.{slice_get-get_or, slice_get_within, get_or_
 use Rattle.std.proofs.Math.Seq.{get_or-append_seam, take-append_seam, drop-append_seam}
 use Rattle.rx_rules.specs.Code.{Expr, Num, Name, Here, Bin, Stmt, SetTo, New, Get, Put, Forget, Print, Throw, Async, AtAsync, At, Finish, If, Repeat, Try, Block, Nothing, Then}
 use Rattle.rx_nodes.specs.Shape.{Shape, IsSmall, ExprStands, StmtIs, ListStands, BlockStands}
-use Rattle.rx_script.specs.Items.{Opener, ByAsync, ByAtAsync, ByAt, ByFinish, ByIf, ByRepeat, ByTry, Whole, Close}
-use Rattle.rx_script.specs.Machine.{added, Frame, Fore, Other, Handler, Waits, Free, ForElse, ForCatch, State, free, ended, stepped}
-use Rattle.rx_script.specs.Pieces.{Grows, only, OpenerStands}
-use Rattle.rx_script.specs.Arena.{OwnerStands, WaitingStands, Framed, Holds, Takes, Adds, Opens, Shuts, BeginsWait, Makes, Counts, blocks_of, shape_of}
+use Rattle.rx_script.specs.Inside.Items.{Opener, ByAsync, ByAtAsync, ByAt, ByFinish, ByIf, ByRepeat, ByTry, Whole, Close}
+use Rattle.rx_script.specs.Inside.Machine.{added, Frame, Fore, Other, Handler, Waits, Free, ForElse, ForCatch, State, free, ended, stepped}
+use Rattle.rx_script.specs.Inside.Pieces.{Grows, only, OpenerStands}
+use Rattle.rx_script.specs.Inside.Arena.{OwnerStands, WaitingStands, Framed, Holds, Takes, Adds, Opens, Shuts, BeginsWait, Makes, Counts, blocks_of, shape_of}
 use Rattle.rx_script.specs.declared.items.Opener.{Opener as Front}
 use Rattle.rx_script.specs.declared.items.Opener.TheVariants as fronts
 use Rattle.rx_script.specs.declared.items.Item.TheVariants as pieces

@@ -4,11 +4,11 @@ use Rattle.std.specs.Prelude.{Some, Result, Ok, Err, IfOk, option_and_then, slic
 use Rattle.rx_rules.specs.Code.{Stmt, SetTo, New, Get, Put, Forget, Print, Throw, Async, AtAsync, At, Finish, If, Repeat, Try, Block}
 use Rattle.rx_nodes.specs.Shape.{Shape, IsSmall, ListStands, BlockStands}
 use Rattle.rx_nodes.specs.Grammar.{spelling}
-use Rattle.rx_script.specs.Items.{Opener, ByAsync, ByAtAsync, ByAt, ByFinish, ByIf, ByRepeat, ByTry, Item, Whole, Open, Close, Else, Catch, item_words, opener_words, item_at, Mode, Outermost}
-use Rattle.rx_script.specs.Machine.{Frame, Waits, Free, ForElse, ForCatch, State, free, step, run, mode_in, mode}
-use Rattle.rx_script.specs.Pieces.{mode_of, Grows, ItemStands, IsItemAnswer}
+use Rattle.rx_script.specs.Inside.Items.{Opener, ByAsync, ByAtAsync, ByAt, ByFinish, ByIf, ByRepeat, ByTry, Item, Whole, Open, Close, Else, Catch, item_words, opener_words, item_at, Mode, Outermost}
+use Rattle.rx_script.specs.Inside.Machine.{Frame, Waits, Free, ForElse, ForCatch, State, free, step, run, mode_in, mode}
+use Rattle.rx_script.specs.Inside.Pieces.{mode_of, Grows, ItemStands, IsItemAnswer}
 use Rattle.rx_script.specs.Places.{IsPlace}
-use Rattle.rx_script.specs.Arena.{Holds, MayTake, Takes, Counts, IsRead, blocks_of}
+use Rattle.rx_script.specs.Inside.Arena.{Holds, MayTake, Takes, Counts, IsRead, blocks_of}
 use Rattle.rx_token.specs.declared.token.Token.{Token}
 use Rattle.rx_script.specs.declared.items.Item.{Item as Piece}
 use Rattle.rx_script.specs.declared.items.Mode.{Mode as Stand}

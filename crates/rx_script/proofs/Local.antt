@@ -2,7 +2,7 @@
 use Rattle.std.proofs.Common.{◌≡◌, List, [], ◌∷◌, ◌++◌, refl, ap, sym, ◌∙◌, subst, append_assoc}
 use Rattle.std.specs.Prelude.{Result, Ok, Err, Option, Some, None}
 use Rattle.rx_token.specs.declared.token.Token.{Token}
-use Rattle.rx_script.specs.Readers.{Reader, after, then, done, picked, choose}
+use Rattle.rx_script.specs.Inside.Readers.{Reader, after, then, done, picked, choose}
 
 -- what is taken is taken whatever follows
 pub record Takes {A : Type 0} (r : Reader A) (ts : List Token) (x : A × List Token) : Type 0 where

@@ -8,7 +8,7 @@ use Rattle.rx_token.specs.declared.token.Keyword.TheVariants.{Here as KHere}
 use Rattle.rx_token.specs.declared.token.Sign.TheVariants.{OpenParen as LParen, CloseParen as RParen}
 use Rattle.rx_token.specs.declared.token.Op.TheVariants.{Add as AddSign}
 use Rattle.rx_nodes.specs.Shape.{op_of}
-use Rattle.rx_script.specs.Exprs.{Pair, First, Second, operand, whole, expr}
+use Rattle.rx_script.specs.Inside.Exprs.{Pair, First, Second, operand, whole, expr}
 use Rattle.rx_script.proofs.Local.{Completes, Judged, IsLocal, judged-more, refused-here, refused-end}
 
 -- tokens that end the open pairs

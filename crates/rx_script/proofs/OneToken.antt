@@ -4,9 +4,9 @@ use Rattle.std.specs.Prelude.{Result}
 use Rattle.std.proofs.lemmas.List.{same_from_push}
 use Rattle.rx_rules.specs.Code.{Expr, Num, Name, Here, Bin}
 use Rattle.rx_nodes.specs.Shape.{ExprStands, op_of}
-use Rattle.rx_script.specs.Exprs.{Pair, First, Second, whole}
-use Rattle.rx_script.specs.Pieces.{Grows}
-use Rattle.rx_script.specs.Turns.{PairStands, PairsStand, Reads}
+use Rattle.rx_script.specs.Inside.Exprs.{Pair, First, Second, whole}
+use Rattle.rx_script.specs.Inside.Pieces.{Grows}
+use Rattle.rx_script.specs.Inside.Turns.{PairStands, PairsStand, Reads}
 use Rattle.rx_nodes.specs.declared.nodes.ExprId.{ExprId}
 use Rattle.rx_nodes.specs.declared.nodes.NameId.{NameId}
 use Rattle.rx_token.specs.declared.token.Op.{Op as Sign}

@@ -4,9 +4,9 @@ use Rattle.std.specs.Prelude.{Some, Result, Ok, Err, option_and_then}
 use Rattle.rx_token.specs.declared.token.Token.{Token}
 use Rattle.rx_rules.specs.Code.{Block, Nothing, Async, AtAsync, At, Finish, If, Repeat, Try}
 use Rattle.rx_nodes.specs.Grammar.{spellings, AllFit}
-use Rattle.rx_script.specs.Items.{ByAsync, ByAtAsync, ByAt, ByFinish, ByIf, ByRepeat, ByTry, Item, Whole, Open, Close, Else, Catch, IsItem, item_words, Outermost, Stands, item_at}
+use Rattle.rx_script.specs.Inside.Items.{ByAsync, ByAtAsync, ByAt, ByFinish, ByIf, ByRepeat, ByTry, Item, Whole, Open, Close, Else, Catch, IsItem, item_words, Outermost, Stands, item_at}
 use Rattle.rx_script.specs.Places.{BeginsScript, IsPlace}
-use Rattle.rx_script.specs.Machine.{added, Frame, Fore, Other, Handler, Waits, Free, ForElse, ForCatch, State, free, stepped, step, run, mode_in, mode}
+use Rattle.rx_script.specs.Inside.Machine.{added, Frame, Fore, Other, Handler, Waits, Free, ForElse, ForCatch, State, free, stepped, step, run, mode_in, mode}
 use Rattle.rx_script.proofs.Local.{Completes, Refuses, Judged}
 use Rattle.rx_script.proofs.LocalItems.{local-item}
 use Rattle.rx_script.proofs.Spelt.{again, takes}

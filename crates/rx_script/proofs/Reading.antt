@@ -3,11 +3,11 @@ use Rattle.std.proofs.Common.{◌≡◌, List, sym, ap, subst}
 use Rattle.std.specs.Prelude.{Result, Ok, Err, IfOk}
 use Rattle.rx_rules.specs.Code.{Expr}
 use Rattle.rx_nodes.specs.Shape.{ExprStands}
-use Rattle.rx_script.specs.Readers.{Reader, after, then}
-use Rattle.rx_script.specs.Exprs.{expr}
-use Rattle.rx_script.specs.Items.{Item}
-use Rattle.rx_script.specs.Pieces.{IsExprAnswer, IsItemAnswer}
-use Rattle.rx_script.specs.Parts.{LeadsExpr}
+use Rattle.rx_script.specs.Inside.Readers.{Reader, after, then}
+use Rattle.rx_script.specs.Inside.Exprs.{expr}
+use Rattle.rx_script.specs.Inside.Items.{Item}
+use Rattle.rx_script.specs.Inside.Pieces.{IsExprAnswer, IsItemAnswer}
+use Rattle.rx_script.specs.Inside.Parts.{LeadsExpr}
 use Rattle.rx_nodes.specs.declared.nodes.ExprId.{ExprId}
 use Rattle.rx_nodes.specs.declared.nodes.Expr.{Expr as Part}
 use Rattle.rx_script.specs.declared.items.Item.{Item as Piece}

@@ -6,8 +6,8 @@ use Rattle.rx_token.specs.declared.token.Token.TheVariants.{Mark}
 use Rattle.rx_token.specs.declared.token.Sign.TheVariants.{CloseBrace as RBrace}
 use Rattle.rx_rules.specs.Code.{Stmt, Block, Nothing, Then, SetTo, New, Get, Put, Forget, Print, Throw, Async, AtAsync, At, Finish, If, Repeat, Try}
 use Rattle.rx_nodes.specs.Grammar.{spelling, spellings}
-use Rattle.rx_script.specs.Items.{Opener, ByAsync, ByAtAsync, ByAt, ByFinish, ByIf, ByRepeat, ByTry, Item, Whole, Open, Close, Else, Catch, item_words, opener_words}
-use Rattle.rx_script.specs.Machine.{added, Frame, Fore, Other, Handler, State, free, step, run}
+use Rattle.rx_script.specs.Inside.Items.{Opener, ByAsync, ByAtAsync, ByAt, ByFinish, ByIf, ByRepeat, ByTry, Item, Whole, Open, Close, Else, Catch, item_words, opener_words}
+use Rattle.rx_script.specs.Inside.Machine.{added, Frame, Fore, Other, Handler, State, free, step, run}
 
 -- the items of a statement with one block
 abbrev pub block_items : Opener → List Item → List Item

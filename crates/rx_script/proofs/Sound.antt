@@ -3,8 +3,8 @@ use Rattle.std.proofs.Common.{◌≡◌, List, [], ◌∷◌, ◌++◌, refl, ap
 use Rattle.std.specs.Prelude.{Some}
 use Rattle.rx_rules.specs.Code.{Stmt, Block, Nothing, Then, SetTo, New, Get, Put, Forget, Print, Throw, Async, AtAsync, At, Finish, If, Repeat, Try}
 use Rattle.rx_nodes.specs.Grammar.{Fits, AllFit}
-use Rattle.rx_script.specs.Items.{ByAsync, ByAtAsync, ByAt, ByFinish, ByIf, ByRepeat, ByTry, Item, Whole, Open, Close, Else, Catch, IsItem, IsSimple}
-use Rattle.rx_script.specs.Machine.{added, Frame, Fore, Other, Handler, Waits, Free, ForElse, ForCatch, State, free, ended, closed, stepped, step, run}
+use Rattle.rx_script.specs.Inside.Items.{ByAsync, ByAtAsync, ByAt, ByFinish, ByIf, ByRepeat, ByTry, Item, Whole, Open, Close, Else, Catch, IsItem, IsSimple}
+use Rattle.rx_script.specs.Inside.Machine.{added, Frame, Fore, Other, Handler, Waits, Free, ForElse, ForCatch, State, free, ended, closed, stepped, step, run}
 use Rattle.rx_script.proofs.Runs.{items_of, all_items, some-and, start}
 use Rattle.rx_token.proofs.Naming.{some-is}
 

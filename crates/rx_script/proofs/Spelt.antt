@@ -12,9 +12,9 @@ use Rattle.rx_token.specs.declared.token.Op.{Op as Operation}
 use Rattle.rx_token.specs.declared.token.Op.TheVariants as signs
 use Rattle.rx_nodes.specs.Shape.{op_of}
 use Rattle.rx_nodes.specs.Grammar.{sign_of}
-use Rattle.rx_script.specs.Readers.{Reader, after, then, done, picked, choose}
-use Rattle.rx_script.specs.Exprs.{Pair, First, Second, operand, whole, expr}
-use Rattle.rx_script.specs.Items.{Opener, ByAsync, ByAtAsync, ByAt, ByFinish, ByIf, ByRepeat, ByTry, Item, Whole, Open, Close, Else, Catch, IsItem, IsSimple, IsOpener, item_words, called, in_range, counted, brace, semicolon, equals, square, end_square, ends, opens, at_body, statement, statement_or_end, else_word, dead_word, catch_word, Mode, Outermost, Inside, AfterFirst, AfterBody, item_at, Stands}
+use Rattle.rx_script.specs.Inside.Readers.{Reader, after, then, done, picked, choose}
+use Rattle.rx_script.specs.Inside.Exprs.{Pair, First, Second, operand, whole, expr}
+use Rattle.rx_script.specs.Inside.Items.{Opener, ByAsync, ByAtAsync, ByAt, ByFinish, ByIf, ByRepeat, ByTry, Item, Whole, Open, Close, Else, Catch, IsItem, IsSimple, IsOpener, item_words, called, in_range, counted, brace, semicolon, equals, square, end_square, ends, opens, at_body, statement, statement_or_end, else_word, dead_word, catch_word, Mode, Outermost, Inside, AfterFirst, AfterBody, item_at, Stands}
 
 op-of-sign : (o : Op) → op_of (sign_of o) ≡ o
 op-of-sign Add = refl

@@ -6,7 +6,7 @@ use Rattle.rx_script.specs.Faults.{IsFaultAt}
 use Rattle.rx_token.specs.Tokens.{AreNames}
 use Rattle.rx_nodes.specs.Grammar.{IsScriptOf}
 use Rattle.rx_script.specs.Places.{IsPlace}
-use Rattle.rx_script.specs.Arena.{IsRead, IsParsed}
+use Rattle.rx_script.specs.Inside.Arena.{IsRead, IsParsed}
 use Rattle.rx_token.specs.declared.token.Token.{Token}
 use Rattle.rx_script.specs.declared.reader.Reader.{Reader}
 use Rattle.rx_script.proofs.ScriptTokens.{scanned-script}

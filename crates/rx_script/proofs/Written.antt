@@ -24,7 +24,7 @@ use Rattle.rx_script.specs.declared.writer.Part.TheVariants.{One, Value, From}
 use Rattle.rx_nodes.specs.Shape.{Shape, op_of, ExprStands, StmtIs, ListStands, Stands}
 use Rattle.rx_nodes.specs.Grammar.{sign_of, spell, catch_words, spelling, spellings}
 use Rattle.rx_token.specs.Texts.{spaced}
-use Rattle.rx_script.specs.Unwritten.{PartStands, PartsStand, front_of, rest_of, block_parts, catch_parts, expr_front, expr_rest, Wrote}
+use Rattle.rx_script.specs.Inside.Unwritten.{PartStands, PartsStand, front_of, rest_of, block_parts, catch_parts, expr_front, expr_rest, Wrote}
 
 -- parts one after another stand for their tokens one after another
 pub parts-append : (s : Shape) (ps qs : List Part) (us vs : List Token) → PartsStand s ps us → PartsStand s qs vs → PartsStand s (ps ++ qs) (us ++ vs)

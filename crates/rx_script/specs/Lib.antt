@@ -1,12 +1,4 @@
-pub mod Readers
-pub mod Exprs
-pub mod Items
-pub mod Machine
 pub mod Places
-pub mod Pieces
 pub mod Faults
-pub mod Turns
-pub mod Parts
-pub mod Arena
 pub mod Writing
-pub mod Unwritten
+pub mod Inside

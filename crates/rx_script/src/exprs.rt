@@ -1,9 +1,9 @@
 // Reads an expression with the open pairs of parentheses on a list, without recursion.
 ghost use Rattle.std.specs.Prelude.{◌≡◌, ◌+◌, ◌^◌, ◌<◌, ◌≤◌, List, [], ◌∷◌, ◌++◌, Result, length, vec_len, IfOk, OnOk};
 ghost use Rattle.rx_rules.specs.Code.{Expr as Tree};
-ghost use Rattle.rx_script.specs.Exprs.{expr};
-ghost use Rattle.rx_script.specs.Pieces.{Grows, IsExprAnswer};
-ghost use Rattle.rx_script.specs.Turns.{Reads, Steps};
+ghost use Rattle.rx_script.specs.Inside.Exprs.{expr};
+ghost use Rattle.rx_script.specs.Inside.Pieces.{Grows, IsExprAnswer};
+ghost use Rattle.rx_script.specs.Inside.Turns.{Reads, Steps};
 ghost use Rattle.rx_script.specs.declared.exprs.Turn.TheVariants as turns;
 
 use rx_base::NoMemory;

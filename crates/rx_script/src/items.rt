@@ -4,12 +4,12 @@ ghost use Rattle.std.specs.Prelude.{◌≡◌, ◌+◌, ◌^◌, ◌<◌, ◌≤
 ghost use Rattle.rx_rules.specs.Code.{Expr as Tree, Get, Put};
 ghost use Rattle.rx_nodes.specs.Grammar.{may_hold, may_turn};
 ghost use Rattle.rx_nodes.specs.Shape.{ExprStands};
-ghost use Rattle.rx_script.specs.Readers.{then, done, choose};
-ghost use Rattle.rx_script.specs.Exprs.{expr};
-ghost use Rattle.rx_script.specs.Items as read;
-ghost use Rattle.rx_script.specs.Items.{item_at};
-ghost use Rattle.rx_script.specs.Pieces.{mode_of, Grows, ItemStands, IsItemAnswer};
-ghost use Rattle.rx_script.specs.Parts.{Passes, Leads, LeadsExpr};
+ghost use Rattle.rx_script.specs.Inside.Readers.{then, done, choose};
+ghost use Rattle.rx_script.specs.Inside.Exprs.{expr};
+ghost use Rattle.rx_script.specs.Inside.Items as read;
+ghost use Rattle.rx_script.specs.Inside.Items.{item_at};
+ghost use Rattle.rx_script.specs.Inside.Pieces.{mode_of, Grows, ItemStands, IsItemAnswer};
+ghost use Rattle.rx_script.specs.Inside.Parts.{Passes, Leads, LeadsExpr};
 ghost use Rattle.rx_nodes.specs.declared.nodes.Expr.{Expr as Part};
 ghost use Rattle.rx_token.specs.declared.token.Token.TheVariants.{Number};
 

@@ -11,9 +11,9 @@ ghost use Rattle.rx_script.specs.Faults.{IsFaultAt};
 ghost use Rattle.rx_token.specs.Texts.{AreSpelled};
 ghost use Rattle.rx_nodes.specs.Shape.{Stands, ListStands, IsSmall};
 ghost use Rattle.rx_token.specs.Tables.{names_of};
-ghost use Rattle.rx_script.specs.Machine.{State, mode};
-ghost use Rattle.rx_script.specs.Pieces.{mode_of};
-ghost use Rattle.rx_script.specs.Arena.{Holds, MayTake, Takes, Adds, Opens, Shuts, Makes, Counts, IsParsed, blocks_of, shape_of};
+ghost use Rattle.rx_script.specs.Inside.Machine.{State, mode};
+ghost use Rattle.rx_script.specs.Inside.Pieces.{mode_of};
+ghost use Rattle.rx_script.specs.Inside.Arena.{Holds, MayTake, Takes, Adds, Opens, Shuts, Makes, Counts, IsParsed, blocks_of, shape_of};
 
 use crate::items::{Item, Mode, Opener, next_item};
 use rx_base::NoMemory;

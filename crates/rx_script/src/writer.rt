@@ -9,8 +9,8 @@ ghost use Rattle.rx_nodes.specs.Grammar.{spellings, IsScriptOf};
 ghost use Rattle.rx_token.specs.declared.token.Token.{Token};
 ghost use Rattle.rx_token.specs.Texts.{spaced};
 ghost use Rattle.rx_script.specs.Writing.{script_text};
-ghost use Rattle.rx_script.specs.Unwritten.{PartStands, PartsStand, front_of, rest_of, named as named_part, block_parts};
-ghost use Rattle.rx_script.specs.Unwritten.{catch_parts, expr_front, expr_rest, Wrote, turns_left};
+ghost use Rattle.rx_script.specs.Inside.Unwritten.{PartStands, PartsStand, front_of, rest_of, named as named_part, block_parts};
+ghost use Rattle.rx_script.specs.Inside.Unwritten.{catch_parts, expr_front, expr_rest, Wrote, turns_left};
 
 use rx_base::NoMemory;
 use rx_nodes::{BlockId, Expr, ExprId, NameId, Script, Stmt, whole};

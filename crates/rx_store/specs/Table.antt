@@ -1,5 +1,6 @@
 -- How the table of live blocks and the heap stand for the blocks of the store's law.
-use Rattle.std.specs.Prelude.{◌≡◌, ℕ, ◌+◌, ◌<◌, ◌⊎◌, ℤ, pos, int_le, int_lt, ◌&&◌, Bool, true, false, List, [], ◌∷◌, length, slice_index, slice_index_or, Option}
+use Rattle.std.specs.Prelude.{◌≡◌, ℕ, ◌+◌, ◌<◌, ◌⊎◌, ℤ, pos, int_le, int_lt, ◌&&◌, Bool, true, false, List, [], ◌∷◌, length}
+use Rattle.std.specs.Prelude.{slice_index, slice_index_or, Option}
 use Rattle.std.specs.Prelude.{Some, None}
 use Rattle.rx_base.specs.declared.ids.GlobalRef.{GlobalRef}
 use Rattle.rx_heap.specs.Region.{Region, Extent, IsLive, IsLaid}

@@ -10,7 +10,7 @@ use Rattle.rx_nodes.specs.declared.nodes.BlockId.{BlockId}
 use Rattle.rx_control.specs.declared.frame.Frame.{Frame}
 use Rattle.rx_control.specs.declared.frame.Frame.TheVariants.{Seq}
 use Rattle.rx_control.specs.declared.control.Control.{Control}
-use Rattle.rx_control.specs.Inside.Levels.{Level, More, Again, Tried, Inside, Waiting, Settled, term_of, wrap}
+use Rattle.rx_control.specs.Levels.{Level, More, Again, Tried, Inside, Waiting, Settled, term_of, wrap}
 use Rattle.rx_control.specs.Stands.{path_of, FramesStand}
 
 -- a step of an inner term, seen from outside

@@ -1,6 +1,6 @@
 use Rattle.std.proofs.Common.{rules, ◌≡◌, [], ◌∷◌, ◌++◌, None, refl}
 use Rattle.rx_control.specs.declared.frame.Frame.TheVariants.{Seq}
-use Rattle.rx_control.specs.Inside.Levels.{More}
+use Rattle.rx_control.specs.Levels.{More}
 use Rattle.rx_control.specs.Stands.{path_of}
 use Rattle.rx_control.proofs.Starting.{first-frame, started}
 use Rattle.rx_control.proofs.birth.start.Goals as goal

@@ -1,5 +1,5 @@
 use Rattle.std.proofs.Common.{rules, ◌≡◌, ℕ, List, None, Bool, true, sym, subst}
-use Rattle.rx_control.specs.Inside.Levels.{Level}
+use Rattle.rx_control.specs.Levels.{Level}
 use Rattle.rx_control.specs.declared.frame.Frame.{Frame}
 use Rattle.rx_control.specs.Stands.{path_of, FrameStands}
 use Rattle.rx_control.specs.Inside.Front.{IsOver}

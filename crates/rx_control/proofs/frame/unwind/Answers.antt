@@ -1,5 +1,5 @@
 use Rattle.std.proofs.Common.{ℕ, List, Some, Bool, true, false, sym, subst}
-use Rattle.rx_control.specs.Inside.Levels.{Level}
+use Rattle.rx_control.specs.Levels.{Level}
 use Rattle.rx_control.specs.declared.frame.Frame.{Frame}
 use Rattle.rx_control.specs.Stands.{FrameStands}
 use Rattle.rx_control.specs.Inside.Front.{IsCatch, SettlesTo}

@@ -1,6 +1,6 @@
 use Rattle.std.proofs.Common.{◌∷◌, None, refl, sym, subst}
 use Rattle.rx_rules.specs.Code.{Stmt}
-use Rattle.rx_control.specs.Inside.Levels.{More, Inside, Waiting}
+use Rattle.rx_control.specs.Levels.{More, Inside, Waiting}
 use Rattle.rx_control.specs.declared.frame.Frame.TheVariants.{Body, Held}
 use Rattle.rx_control.specs.Stands.{path_of, FramesStand}
 use Rattle.rx_control.specs.Inside.Front.{opened, SettlesTo}

@@ -1,8 +1,8 @@
 use Rattle.std.proofs.Common.{◌≡◌, List, ◌∷◌, subst, sym, ◌∙◌, ap, refl, arith, length}
 use Rattle.std.specs.Prelude.{Option, Some, None, Result, Err}
 use Rattle.rx_rules.specs.Code.{Expr}
-use Rattle.rx_script.specs.Exprs.{expr}
-use Rattle.rx_script.specs.Turns.{Reads, Steps}
+use Rattle.rx_script.specs.Inside.Exprs.{expr}
+use Rattle.rx_script.specs.Inside.Turns.{Reads, Steps}
 use Rattle.rx_nodes.specs.declared.nodes.Expr.{Expr as Part}
 use Rattle.rx_token.specs.declared.token.Token.{Token}
 use Rattle.rx_script.specs.declared.exprs.OpenPair.{OpenPair}

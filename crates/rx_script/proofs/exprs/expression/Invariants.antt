@@ -1,7 +1,7 @@
 use Rattle.std.proofs.Common.{◌+◌, ◌≤◌, length}
-use Rattle.rx_script.specs.Exprs.{expr}
-use Rattle.rx_script.specs.Pieces.{Grows}
-use Rattle.rx_script.specs.Turns.{Reads}
+use Rattle.rx_script.specs.Inside.Exprs.{expr}
+use Rattle.rx_script.specs.Inside.Pieces.{Grows}
+use Rattle.rx_script.specs.Inside.Turns.{Reads}
 use Rattle.rx_script.proofs.exprs.expression.Given as goal
 
 abbrev pub invariant-tokens : goal.invariant-tokens

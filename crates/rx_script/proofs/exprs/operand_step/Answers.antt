@@ -1,7 +1,7 @@
 use Rattle.std.proofs.Common.{◌∷◌, subst, rules, w64}
 use Rattle.std.proofs.lemmas.Int.{ints, to_z-of_z}
 use mir.Val.{SFits}
-use Rattle.rx_script.specs.Turns.{Reads}
+use Rattle.rx_script.specs.Inside.Turns.{Reads}
 use Rattle.rx_token.specs.declared.token.Token.{Token}
 use Rattle.rx_token.specs.declared.token.Token.TheVariants.{Key}
 use Rattle.rx_token.specs.declared.token.Keyword.{Keyword}

@@ -1,5 +1,5 @@
 use Rattle.std.proofs.Common.{[], ◌∷◌, ◌++◌, subst}
-use Rattle.rx_script.specs.Turns.{Reads}
+use Rattle.rx_script.specs.Inside.Turns.{Reads}
 use Rattle.rx_token.specs.declared.token.Token.{Token}
 use Rattle.rx_token.specs.declared.token.Token.TheVariants.{Mark}
 use Rattle.rx_token.specs.declared.token.Sign.{Sign}

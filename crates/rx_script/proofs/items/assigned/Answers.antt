@@ -1,6 +1,6 @@
 use Rattle.std.proofs.Common.{◌∙◌}
-use Rattle.rx_script.specs.Readers.{choose}
-use Rattle.rx_script.specs.Items as read
+use Rattle.rx_script.specs.Inside.Readers.{choose}
+use Rattle.rx_script.specs.Inside.Items as read
 use Rattle.rx_script.proofs.items.assigned.Goals as goal
 
 pub returns-in-Ok-equals-clause-answer : goal.returns-in-Ok-equals-clause-answer

@@ -1,6 +1,6 @@
 use Rattle.std.proofs.Common.{◌≡◌, rules}
-use Rattle.rx_script.specs.Readers.{choose}
-use Rattle.rx_script.specs.Items as read
+use Rattle.rx_script.specs.Inside.Readers.{choose}
+use Rattle.rx_script.specs.Inside.Items as read
 use Rattle.rx_script.proofs.Reading.{moved}
 use Rattle.rx_script.proofs.items.at_body.Goals as goal
 

@@ -1,6 +1,6 @@
 use Rattle.std.proofs.Common.{◌≡◌, refl, true, false, rules}
-use Rattle.rx_script.specs.Readers.{choose}
-use Rattle.rx_script.specs.Items as read
+use Rattle.rx_script.specs.Inside.Readers.{choose}
+use Rattle.rx_script.specs.Inside.Items as read
 use Rattle.rx_script.proofs.Reading.{moved}
 use Rattle.rx_script.proofs.items.dead_word.Goals as goal
 

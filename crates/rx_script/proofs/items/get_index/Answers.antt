@@ -1,8 +1,8 @@
 use Rattle.std.proofs.Common.{refl}
 use Rattle.rx_rules.specs.Code.{Get}
-use Rattle.rx_script.specs.Readers.{then, choose}
-use Rattle.rx_script.specs.Exprs.{expr}
-use Rattle.rx_script.specs.Items as read
+use Rattle.rx_script.specs.Inside.Readers.{then, choose}
+use Rattle.rx_script.specs.Inside.Exprs.{expr}
+use Rattle.rx_script.specs.Inside.Items as read
 use Rattle.rx_script.proofs.Reading.{moved, took-part, missed-part}
 use Rattle.rx_script.proofs.items.get_index.Goals as goal
 

@@ -1,5 +1,5 @@
-use Rattle.rx_script.specs.Exprs.{expr}
-use Rattle.rx_script.specs.Items as read
+use Rattle.rx_script.specs.Inside.Exprs.{expr}
+use Rattle.rx_script.specs.Inside.Items as read
 use Rattle.rx_script.proofs.Reading.{moved, took-expr, expr-then}
 use Rattle.rx_script.proofs.items.if_item.Goals as goal
 

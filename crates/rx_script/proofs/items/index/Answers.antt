@@ -1,8 +1,8 @@
 use Rattle.std.proofs.Common.{◌∙◌}
 use Rattle.rx_rules.specs.Code.{Expr as Tree}
-use Rattle.rx_script.specs.Readers.{Reader, then, choose}
-use Rattle.rx_script.specs.Exprs.{expr}
-use Rattle.rx_script.specs.Items as read
+use Rattle.rx_script.specs.Inside.Readers.{Reader, then, choose}
+use Rattle.rx_script.specs.Inside.Exprs.{expr}
+use Rattle.rx_script.specs.Inside.Items as read
 use Rattle.rx_script.proofs.Reading.{took-expr, missed-expr, expr-then, expr-stops}
 use Rattle.rx_script.proofs.items.index.Goals as goal
 

@@ -1,8 +1,8 @@
 use Rattle.std.proofs.Common.{ℕ, refl, ◌∙◌}
 use Rattle.rx_rules.specs.Code.{New}
 use Rattle.rx_nodes.specs.Grammar.{may_hold}
-use Rattle.rx_script.specs.Readers.{Reader, then, choose}
-use Rattle.rx_script.specs.Items as read
+use Rattle.rx_script.specs.Inside.Readers.{Reader, then, choose}
+use Rattle.rx_script.specs.Inside.Items as read
 use Rattle.rx_script.proofs.Reading.{moved}
 use Rattle.rx_script.proofs.items.new_item.Goals as goal
 

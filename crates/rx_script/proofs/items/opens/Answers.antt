@@ -1,4 +1,4 @@
-use Rattle.rx_script.specs.Readers.{done}
+use Rattle.rx_script.specs.Inside.Readers.{done}
 use Rattle.rx_script.proofs.items.opens.Goals as goal
 
 pub returns-in-Ok-clause-answer : goal.returns-in-Ok-clause-answer

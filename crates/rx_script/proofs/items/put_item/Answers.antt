@@ -1,8 +1,8 @@
 use Rattle.std.proofs.Common.{ℕ, ◌∙◌}
 use Rattle.rx_rules.specs.Code.{Expr as Tree, Put}
-use Rattle.rx_script.specs.Readers.{Reader, then, choose}
-use Rattle.rx_script.specs.Exprs.{expr}
-use Rattle.rx_script.specs.Items as read
+use Rattle.rx_script.specs.Inside.Readers.{Reader, then, choose}
+use Rattle.rx_script.specs.Inside.Exprs.{expr}
+use Rattle.rx_script.specs.Inside.Items as read
 use Rattle.rx_script.proofs.Reading.{moved-ok, took-part, missed-part}
 use Rattle.rx_script.proofs.items.put_item.Goals as goal
 

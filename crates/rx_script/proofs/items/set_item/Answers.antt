@@ -1,8 +1,8 @@
 use Rattle.std.proofs.Common.{ℕ, refl, ◌∙◌}
 use Rattle.rx_rules.specs.Code.{SetTo}
-use Rattle.rx_script.specs.Readers.{Reader, done, then, choose}
-use Rattle.rx_script.specs.Exprs.{expr}
-use Rattle.rx_script.specs.Items as read
+use Rattle.rx_script.specs.Inside.Readers.{Reader, done, then, choose}
+use Rattle.rx_script.specs.Inside.Exprs.{expr}
+use Rattle.rx_script.specs.Inside.Items as read
 use Rattle.rx_script.proofs.Reading.{took-part, missed-part}
 use Rattle.rx_script.proofs.items.set_item.Goals as goal
 

@@ -1,7 +1,7 @@
 use Rattle.rx_rules.specs.Code.{Throw}
-use Rattle.rx_script.specs.Readers.{done, then, choose}
-use Rattle.rx_script.specs.Exprs.{expr}
-use Rattle.rx_script.specs.Items as read
+use Rattle.rx_script.specs.Inside.Readers.{done, then, choose}
+use Rattle.rx_script.specs.Inside.Exprs.{expr}
+use Rattle.rx_script.specs.Inside.Items as read
 use Rattle.rx_script.proofs.Reading.{took-part, missed-part}
 use Rattle.rx_script.proofs.items.throw_item.Goals as goal
 

@@ -1,7 +1,7 @@
 use Rattle.std.proofs.Common.{◌∙◌}
-use Rattle.rx_script.specs.Readers.{choose}
-use Rattle.rx_script.specs.Exprs.{expr}
-use Rattle.rx_script.specs.Items as read
+use Rattle.rx_script.specs.Inside.Readers.{choose}
+use Rattle.rx_script.specs.Inside.Exprs.{expr}
+use Rattle.rx_script.specs.Inside.Items as read
 use Rattle.rx_script.proofs.Reading.{took-expr, expr-then}
 use Rattle.rx_script.proofs.items.value.Goals as goal
 

@@ -1,7 +1,7 @@
 use Rattle.std.proofs.Common.{◌≡◌, true, false, [], length, refl, sym, ap, ◌∙◌, arith}
 use Rattle.rx_rules.specs.Code.{Nothing}
-use Rattle.rx_script.specs.Machine.{free, mode}
-use Rattle.rx_script.specs.Pieces.{mode_of}
+use Rattle.rx_script.specs.Inside.Machine.{free, mode}
+use Rattle.rx_script.specs.Inside.Pieces.{mode_of}
 use Rattle.rx_script.proofs.Arena.{small-none}
 use Rattle.rx_script.proofs.HasRead.{reads-of, refused-of, ok-at, may-take, reads-more, stops-at, all-read, mode-outermost, shorter}
 use Rattle.rx_script.proofs.reader.parse.Goals as goal

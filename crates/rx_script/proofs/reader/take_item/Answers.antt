@@ -1,6 +1,6 @@
 use Rattle.rx_script.specs.declared.items.Item.{Item as Piece}
 use Rattle.std.proofs.Common.{sym, subst}
-use Rattle.rx_script.specs.Arena.{Takes}
+use Rattle.rx_script.specs.Inside.Arena.{Takes}
 use Rattle.rx_script.proofs.Arena.{takes-whole, counts-add, counts-open, on-ok}
 use Rattle.rx_script.proofs.reader.take_item.Goals as goal
 

@@ -1,7 +1,7 @@
 use Rattle.std.proofs.Common.{List, subst}
 use Rattle.std.specs.Prelude.{reverse}
 use Rattle.rx_script.specs.declared.writer.Part.{Part}
-use Rattle.rx_script.specs.Unwritten.{Wrote}
+use Rattle.rx_script.specs.Inside.Unwritten.{Wrote}
 use Rattle.rx_script.proofs.Written.{last-first, wrote-more}
 use Rattle.rx_script.proofs.writer.put_all.Goals as goal
 

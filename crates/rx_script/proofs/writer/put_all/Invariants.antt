@@ -1,7 +1,7 @@
 use Rattle.std.proofs.Common.{List}
 use Rattle.std.specs.Prelude.{reverse}
 use Rattle.rx_token.specs.declared.token.Token.{Token}
-use Rattle.rx_script.specs.Unwritten.{PartsStand, Wrote, turns_left}
+use Rattle.rx_script.specs.Inside.Unwritten.{PartsStand, Wrote, turns_left}
 use Rattle.rx_script.proofs.writer.put_all.Given as goal
 
 -- each list of tokens that the parts stood for is written in part, and the parts at hand stand for the others

@@ -5,7 +5,7 @@ use Rattle.std.specs.Prelude.{option_to_list}
 use Rattle.rx_base.specs.declared.values.Value.TheVariants.{Num as Number}
 use Rattle.rx_rules.specs.Code.{Then}
 use Rattle.rx_rules.specs.Terms.{Empty, Raise as RaiseTerm, Turns as TurnsTerm, Trying, bound, items, at, raise}
-use Rattle.rx_control.specs.Inside.Levels.{More, Again, Tried, seq, wrap}
+use Rattle.rx_control.specs.Levels.{More, Again, Tried, seq, wrap}
 use Rattle.rx_control.specs.declared.frame.Frame.TheVariants.{Seq, Try}
 use Rattle.rx_control.specs.declared.plan.Plan.{Plan}
 use Rattle.rx_control.specs.declared.control.Control.{Control}

@@ -3,7 +3,7 @@ use Rattle.std.specs.Prelude.{option_to_list}
 use Rattle.rx_rules.specs.Code.{Stmt}
 use Rattle.rx_rules.specs.Terms.{Term, Run, stmt_child, child, begins, at}
 use Rattle.rx_nodes.specs.Shape.{Shape, StmtIs}
-use Rattle.rx_control.specs.Inside.Levels.{More, seq}
+use Rattle.rx_control.specs.Levels.{More, seq}
 use Rattle.rx_control.specs.declared.frame.Frame.TheVariants.{Seq}
 use Rattle.rx_control.specs.declared.control.Control.{Control}
 use Rattle.rx_control.specs.Stands.{StandsFor, path_of}

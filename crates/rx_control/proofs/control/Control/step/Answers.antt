@@ -1,7 +1,7 @@
 use Rattle.std.proofs.Common.{suc, ◌∷◌, ◌++◌, ap, ◌∙◌}
 use Rattle.std.specs.Prelude.{option_to_list}
 use Rattle.rx_rules.specs.Terms.{Releases, stmt_does, at, does}
-use Rattle.rx_control.specs.Inside.Levels.{More, seq}
+use Rattle.rx_control.specs.Levels.{More, seq}
 use Rattle.rx_control.specs.declared.frame.Frame.TheVariants.{Seq, Turns, Try, Body, Held}
 use Rattle.rx_control.specs.Stands.{path_of}
 use Rattle.rx_control.specs.Inside.Front.{lifted}

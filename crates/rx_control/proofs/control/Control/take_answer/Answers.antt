@@ -4,7 +4,7 @@ use Rattle.rx_base.specs.declared.values.Fault.{Fault}
 use Rattle.rx_base.specs.declared.values.Value.{Value}
 use Rattle.rx_rules.specs.Code.{Then}
 use Rattle.rx_rules.specs.Terms.{Fails, answered, answer_of, receives, vars_after}
-use Rattle.rx_control.specs.Inside.Levels.{More, term_of}
+use Rattle.rx_control.specs.Levels.{More, term_of}
 use Rattle.rx_control.specs.declared.frame.Frame.TheVariants.{Seq}
 use Rattle.rx_control.specs.declared.control.Control.{Control}
 use Rattle.rx_control.specs.Stands.{path_of, StandsFor}

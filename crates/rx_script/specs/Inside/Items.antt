@@ -10,8 +10,8 @@ use Rattle.rx_token.specs.declared.token.Keyword.TheVariants.{Finish as KFinish,
 use Rattle.rx_token.specs.declared.token.Keyword.TheVariants.{Try as KTry, Catch as KCatch, Dead as KDead}
 use Rattle.rx_token.specs.declared.token.Sign.TheVariants.{OpenBrace as LBrace, CloseBrace as RBrace, OpenSquare as LSquare}
 use Rattle.rx_token.specs.declared.token.Sign.TheVariants.{CloseSquare as RSquare, Equals, Semicolon}
-use Rattle.rx_script.specs.Readers.{Reader, then, done, choose}
-use Rattle.rx_script.specs.Exprs.{expr}
+use Rattle.rx_script.specs.Inside.Readers.{Reader, then, done, choose}
+use Rattle.rx_script.specs.Inside.Exprs.{expr}
 
 -- the front of a statement that has a block
 pub data Opener : Type 0 where

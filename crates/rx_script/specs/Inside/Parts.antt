@@ -2,8 +2,8 @@
 use Rattle.std.specs.Prelude.{◌≡◌, List, Result, Ok, Err}
 use Rattle.rx_rules.specs.Code.{Expr}
 use Rattle.rx_nodes.specs.Shape.{ExprStands}
-use Rattle.rx_script.specs.Items.{Item}
-use Rattle.rx_script.specs.Readers.{Reader}
+use Rattle.rx_script.specs.Inside.Items.{Item}
+use Rattle.rx_script.specs.Inside.Readers.{Reader}
 use Rattle.rx_nodes.specs.declared.nodes.ExprId.{ExprId}
 use Rattle.rx_nodes.specs.declared.nodes.Expr.{Expr as Part}
 use Rattle.rx_token.specs.declared.token.Token.{Token}

@@ -1,8 +1,8 @@
 -- The open blocks of a script that is being read, and how one item more changes them.
 use Rattle.std.specs.Prelude.{List, [], ◌∷◌, Bool, Option, Some, None, option_and_then}
 use Rattle.rx_rules.specs.Code.{Expr, Stmt, Block, Nothing, Then, Async, AtAsync, At, Finish, If, Repeat, Try}
-use Rattle.rx_script.specs.Items.{Opener, ByAsync, ByAtAsync, ByAt, ByFinish, ByIf, ByRepeat, ByTry, Item, Whole, Open, Close, Else}
-use Rattle.rx_script.specs.Items.{Catch, Mode, Outermost, Inside, AfterFirst, AfterBody}
+use Rattle.rx_script.specs.Inside.Items.{Opener, ByAsync, ByAtAsync, ByAt, ByFinish, ByIf, ByRepeat, ByTry, Item, Whole, Open, Close, Else}
+use Rattle.rx_script.specs.Inside.Items.{Catch, Mode, Outermost, Inside, AfterFirst, AfterBody}
 
 -- one statement more at the end
 abbrev pub added : Block → Stmt → Block

@@ -6,7 +6,7 @@ use Rattle.rx_token.specs.declared.token.Token.TheVariants.{Key, Called, Number,
 use Rattle.rx_token.specs.declared.token.Keyword.TheVariants.{Here as KHere}
 use Rattle.rx_token.specs.declared.token.Sign.TheVariants.{OpenParen as LParen, CloseParen as RParen}
 use Rattle.rx_nodes.specs.Shape.{op_of}
-use Rattle.rx_script.specs.Readers.{Reader}
+use Rattle.rx_script.specs.Inside.Readers.{Reader}
 
 -- a pair that is open: before its first operand is whole, or after its operator
 pub data Pair : Type 0 where

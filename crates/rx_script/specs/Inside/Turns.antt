@@ -2,7 +2,7 @@
 use Rattle.std.specs.Prelude.{◌≡◌, List, [], ◌∷◌, ◌++◌, Option, Some, None, Result, Err}
 use Rattle.rx_rules.specs.Code.{Expr}
 use Rattle.rx_nodes.specs.Shape.{ExprStands, op_of}
-use Rattle.rx_script.specs.Exprs.{Pair, First, Second, operand, whole}
+use Rattle.rx_script.specs.Inside.Exprs.{Pair, First, Second, operand, whole}
 use Rattle.rx_nodes.specs.declared.nodes.ExprId.{ExprId}
 use Rattle.rx_token.specs.declared.token.Op.{Op as Sign}
 use Rattle.rx_nodes.specs.declared.nodes.Expr.{Expr as Part}

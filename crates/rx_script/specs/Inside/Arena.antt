@@ -3,9 +3,9 @@ use Rattle.std.specs.Prelude.{◌≡◌, ℕ, ◌+◌, ◌≤◌, ◌<◌, ◌^�
 use Rattle.rx_rules.specs.Code.{Block}
 use Rattle.rx_nodes.specs.Shape.{Shape, IsSmall, ExprStands, ListStands, BlockStands}
 use Rattle.rx_nodes.specs.Grammar.{AllFit, spellings}
-use Rattle.rx_script.specs.Items.{Item}
-use Rattle.rx_script.specs.Machine.{Frame, Fore, Other, Handler, Waits, Free, ForElse, ForCatch, State, step}
-use Rattle.rx_script.specs.Pieces.{OpenerStands, ItemStands}
+use Rattle.rx_script.specs.Inside.Items.{Item}
+use Rattle.rx_script.specs.Inside.Machine.{Frame, Fore, Other, Handler, Waits, Free, ForElse, ForCatch, State, step}
+use Rattle.rx_script.specs.Inside.Pieces.{OpenerStands, ItemStands}
 use Rattle.rx_script.specs.Places.{IsPlace}
 use Rattle.rx_script.specs.declared.items.Opener.TheVariants as fronts
 use Rattle.rx_script.specs.declared.items.Item.{Item as Piece}

@@ -1,6 +1,6 @@
 -- The kill that a word spells.
 use Rattle.std.proofs.Common.{◌≡◌, ℕ, suc, ◌+◌, ◌<◌, ◌≤◌, ◌^◌, Bool, true, false, cond, nat_lt, List, [], ◌∷◌, ◌++◌, Some, None, refl, ap, sym, ◌∙◌, subst, arith, length, take, drop, length-append, append_assoc}
-use Rattle.std.specs.Prelude.{not, ◌==◌, nat_le}
+use Rattle.std.specs.Prelude.{not, ◌==◌, nat_le, Option, IfSome}
 use Rattle.std.specs.List.{prefix_len}
 use Rattle.std.specs.Str.{bytes_eq}
 use Rattle.std.specs.Str.Parse.{AllDigits, digits_value}
@@ -88,3 +88,12 @@ tried word k one = by (bytes_eq word (kill_text k)) (nat_lt k.place.0 16) (nat_l
 
 pub spelling : (word : List ℕ) → Spelling word
 spelling word = tried word (candidate word) (is-candidate word)
+
+-- an answer that tells the kill of a word is the one
+pub spelling-told : (r : Option Kill) (word : List ℕ) → IfSome r (λ k. IsKillWord word k) → ((k : Kill) → IsKillWord word k → r ≡ Some k) → r ≡ (spelling word).kill
+spelling-told (Some k) word spelled exact = sym ((spelling word).exact k spelled)
+spelling-told None word spelled exact = by (spelling word).kill (spelling word).spelled
+  where
+    by : (o : Option Kill) → IfSome o (IsKillWord word) → None ≡ o
+    by None is = refl
+    by (Some k) is = exact k is

@@ -11,7 +11,8 @@ use Rattle.rx_history.specs.Logs.{Log}
 use Rattle.rx_history.specs.Setups.{given}
 use Rattle.rx_trace.specs.Text.{trace_text}
 use Rattle.rx_reading.specs.Inside.FieldWords.{number_of, number_at}
-use Rattle.rx_reading.specs.Inside.Machine.{State, is_after, may_follow, read_line}
+use Rattle.rx_history.specs.KillOrder.{is_before}
+use Rattle.rx_reading.specs.Inside.Machine.{State, may_follow, read_line}
 use Rattle.rx_reading.specs.Reading.{IsBadLine}
 use Rattle.rx_reading.specs.Inside.Stages.{state_of}
 use Rattle.rx_reading.specs.Words.{Lacks}
@@ -36,7 +37,7 @@ number-fits (w ∷ ws) new z e = by (number_of w) refl e
     by (Some y) is f = (number-takes w z (is ∙ ap (λ p. Some p.0) (some-is (y, ws) (z, new) f))).1
 
 abbrev comes : Kill → Kill → Bool
-comes k kill = is_after k kill && not (k.place.0 == kill.place.0)
+comes k kill = is_before k kill && not (k.place.0 == kill.place.0)
 
 follow-here : (ks : List Kill) (i : ℕ) (k kill : Kill) → slice_get ks i ≡ Some k → may_follow (drop i ks) kill ≡ (comes k kill && may_follow (drop (i + 1) ks) kill)
 follow-here ks i k kill here = left-more (λ xs. may_follow xs kill) ks i k here
@@ -51,7 +52,7 @@ follow-none ks i k kill here no_one left = sym (follow-here ks i k kill here ∙
 -- a kill that follows those of a list comes after the last
 pub comes-last : (ks : List Kill) (kill : Kill) → may_follow ks kill ≡ true → ComesLast ks kill
 comes-last [] kill e = tt
-comes-last (k ∷ []) kill e = after-is k kill (and-parts (is_after k kill) (not (k.place.0 == kill.place.0)) (and-parts (comes k kill) true e).0).0
+comes-last (k ∷ []) kill e = after-is k kill (and-parts (is_before k kill) (not (k.place.0 == kill.place.0)) (and-parts (comes k kill) true e).0).0
 comes-last (k ∷ j ∷ ks) kill e = comes-last (j ∷ ks) kill (and-parts (comes k kill) (may_follow (j ∷ ks) kill) e).1
 
 -- the lines before the line of this number have been read

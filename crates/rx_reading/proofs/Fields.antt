@@ -15,7 +15,9 @@ use Rattle.rx_trace.specs.Fields.{natural_field, number_field, path_field, place
 use Rattle.rx_reading.specs.Limits.{IsShort, FitsPath}
 use Rattle.rx_reading.specs.Words.{Lacks, pieces, stripped}
 use Rattle.rx_reading.specs.Inside.Readers.{word}
-use Rattle.rx_reading.specs.Inside.FieldWords.{next, number_below, number_of, natural_of, place_of, task_of, scope_of, naturals_of, path_of, kill_parts, kill_of}
+use Rattle.rx_kills.specs.Words.{IsKillWord}
+use Rattle.rx_kills.proofs.Spelling.{spelling}
+use Rattle.rx_reading.specs.Inside.FieldWords.{next, number_below, number_of, natural_of, place_of, task_of, scope_of, naturals_of, path_of, kill_of}
 use Rattle.rx_reading.proofs.Cuts.{IsPlain, Plain, Together, marked, all-append, all-map, pieces-cut, pieces-one, pieces-marked, pieces-together, stripped-is, stripped-again}
 use Rattle.rx_reading.proofs.Figures.{IsFigure, below-takes, below-again, number-takes, number-again, number-plain, natural-plain, natural-figures}
 use Rattle.rx_reading.proofs.Spelt.{some-is, not-none, Takes, takes-word, Again, Any, again-word, again-as, Item}
@@ -197,10 +199,6 @@ path-item (n ∷ ns) fits =
       reads = ap (λ ws. next (naturals_of ws) short_path) cut ∙ ap (λ o. next o short_path) (texts-read (n ∷ ns) all) ∙ ap (λ b. cond b (Some (n ∷ ns)) None) (le-true (length (n ∷ ns)) 65 fits.1);
     }
 
--- a place and a moment
-abbrev planned : PlaceId → ℕ → Kill
-planned place moment = record { place = place; moment = moment }
-
 sign-text : (front back : List ℕ) → front ++ 64 ∷ back ≡ front ++ codes "@" ++ back
 sign-text front back = sym (append_assoc front (codes "@") back)
 
@@ -210,39 +208,31 @@ kill-text kill = sign-text (natural_field kill.place.0) (natural_text kill.momen
 abbrev pub IsKill : ℕ → Kill → Type 0
 IsKill places kill = (kill.place.0 < places) × (kill.moment ≤ 1000000)
 
-two-parts : (places : ℕ) (ws : List (List ℕ)) (bytes : List ℕ) (kill : Kill) → Together 64 bytes ws → kill_parts places ws ≡ Some kill → (32 ∷ bytes ≡ kill_field kill) × IsKill places kill
-two-parts places [] bytes kill t e = absurd t
-two-parts places (p ∷ []) bytes kill t e = absurd (not-none kill e)
-two-parts places (p ∷ m ∷ []) bytes kill t e =
-    let two = next-is (place_of places p) (λ place. option_map (planned place) (number_below 1000001 m)) kill e in
-    let made = map-is (planned two.first) (number_below 1000001 m) kill two.then_was in
-    let place = place-takes places p two.first two.was in
-    let moment = below-takes 1000001 m made.value made.was in
-    let low : made.value < 1000001 = moment.1 in
-    subst (λ (k : Kill). (32 ∷ bytes ≡ kill_field k) × IsKill places k) made.is
-    (ap (λ b. 32 ∷ b) t ∙ ap (λ v. v ++ (64 ∷ (m ++ []))) place.0 ∙ ap (λ v. place_field two.first ++ (64 ∷ v)) (append-nil m ∙ moment.0) ∙ sign-text (place_field two.first) (natural_text made.value), (place.1, omega arith))
-two-parts places (p ∷ m ∷ x ∷ xs) bytes kill t e = absurd (not-none kill e)
-
 pub kill-takes : (places : ℕ) (w : List ℕ) (kill : Kill) → kill_of places w ≡ Some kill → (32 ∷ w ≡ kill_field kill) × IsKill places kill
-kill-takes places w kill e = two-parts places (pieces 64 w) w kill (pieces-together 64 w) e
+kill-takes places w kill e = by (spelling w).kill (spelling w).spelled e
+  where
+    low : (k : Kill) → IsKillWord w k → (b : Bool) → nat_lt k.place.0 places ≡ b → cond b (Some k) None ≡ Some kill → (32 ∷ w ≡ kill_field kill) × IsKill places kill
+    low k s false h f = absurd (not-none kill f)
+    low k s true h f =
+        subst (λ (j : Kill). (32 ∷ w ≡ kill_field j) × IsKill places j) (some-is k kill f)
+        (ap (λ v. 32 ∷ v) s.spelled ∙ kill-text k, (let p : k.place.0 < places = grind (arith, nat_tests) in p, s.moment))
 
-no-sign : (n : ℕ) → n < 2 ^ 64 → Lacks 64 (natural_text n)
-no-sign n small = all-map IsFigure (λ b. b ≢ 64) (λ b f. f.3) (natural_text n) (natural-figures n small)
+    by : (o : Option Kill) → IfSome o (IsKillWord w) → next o (λ k. cond (nat_lt k.place.0 places) (Some k) None) ≡ Some kill → (32 ∷ w ≡ kill_field kill) × IsKill places kill
+    by None s f = absurd (not-none kill f)
+    by (Some k) s f = low k s (nat_lt k.place.0 places) refl f
 
 pub kill-item : (places : ℕ) (kill : Kill) → places ≤ 16 → IsKill places kill → Item (kill_of places) kill_field kill
 kill-item places kill few fits =
     let place : kill.place.0 < places = fits.0 in
     let moment : kill.moment ≤ 1000000 = fits.1 in
-    let cut : pieces 64 (natural_text kill.place.0 ++ 64 ∷ natural_text kill.moment) ≡ natural_text kill.place.0 ∷ natural_text kill.moment ∷ [] =
-    pieces-cut 64 (natural_text kill.place.0) (natural_text kill.moment) (no-sign kill.place.0 (omega arith))
-    ∙ ap (λ ws. natural_text kill.place.0 ∷ ws) (pieces-one 64 (natural_text kill.moment) (no-sign kill.moment (omega arith))) in
+    let text = natural_text kill.place.0 ++ 64 ∷ natural_text kill.moment in
+    let is : IsKillWord text kill = record { place = omega (arith, place, few); moment = moment; spelled = refl } in
+    let below : nat_lt kill.place.0 places ≡ true = grind (arith, nat_tests) in
     record {
-      text = natural_text kill.place.0 ++ 64 ∷ natural_text kill.moment;
+      text = text;
       spelled = kill-text kill;
       plain = all-append IsPlain (natural_text kill.place.0) (64 ∷ natural_text kill.moment) (natural-plain kill.place.0 (omega arith)) ((differs 64 32 refl, differs 64 10 refl), natural-plain kill.moment (omega arith));
-      reads = ap (kill_parts places) cut
-          ∙ ap (λ o. next o (λ place. option_map (planned place) (number_below 1000001 (natural_text kill.moment)))) (place-again places kill.place few place)
-          ∙ ap (option_map (planned kill.place)) (below-again 1000001 kill.moment (omega arith) (omega arith));
+      reads = ap (λ o. next o (λ k. cond (nat_lt k.place.0 places) (Some k) None)) ((spelling text).exact kill is) ∙ ap (λ b. cond b (Some kill) None) below;
     }
 
 -- the readers of one word

@@ -11,8 +11,10 @@ use Rattle.rx_text.specs.Numbers.{natural_text}
 use Rattle.rx_trace.specs.Fields.{natural_field, kill_field}
 use Rattle.rx_reading.specs.Words.{Lacks, pieces, fields}
 use Rattle.rx_reading.specs.Inside.Readers.{word, all_read}
+use Rattle.rx_history.specs.KillOrder.{is_before}
+use Rattle.rx_history.proofs.InOrder.{before-Decides}
 use Rattle.rx_reading.specs.Inside.FieldWords.{next, number_below, kill_of}
-use Rattle.rx_reading.specs.Inside.Machine.{count_of, sizes_at, is_after, may_follow, planned, kills_of, kills_line_of}
+use Rattle.rx_reading.specs.Inside.Machine.{count_of, sizes_at, may_follow, planned, kills_of, kills_line_of}
 use Rattle.rx_reading.proofs.Cuts.{Plain, other-byte, bytes-same}
 use Rattle.rx_reading.proofs.Faults.{plain-word-is}
 use Rattle.rx_reading.proofs.Fields.{next-is, kill-takes, kill-item, one-word, word-again}
@@ -102,28 +104,15 @@ or-parts : (a b : Bool) → (a || b) ≡ true → (a ≡ true) ⊎ (b ≡ true)
 or-parts true b e = inl refl
 or-parts false b e = inr e
 
-or-left : (a b : Bool) → a ≡ true → (a || b) ≡ true
-or-left true b e = refl
-or-left false b e = cc
-
-or-right : (a b : Bool) → b ≡ true → (a || b) ≡ true
-or-right true b e = refl
-or-right false b e = e
-
 not-parts : (a : Bool) → not a ≡ true → a ≡ false
 not-parts true e = cc
 not-parts false e = refl
 
-pub after-is : (a b : Kill) → is_after a b ≡ true → ComesAfter a b
-after-is a b e = by (or-parts (nat_lt a.moment b.moment) (a.moment == b.moment && nat_lt a.place.0 b.place.0) e)
-  where
-    by : (nat_lt a.moment b.moment ≡ true) ⊎ ((a.moment == b.moment && nat_lt a.place.0 b.place.0) ≡ true) → ComesAfter a b
-    by (inl h) = inl (lt-true a.moment b.moment h)
-    by (inr h) = let both = and-parts (a.moment == b.moment) (nat_lt a.place.0 b.place.0) h in inr (eqb-true a.moment b.moment both.0, lt-true a.place.0 b.place.0 both.1)
+pub after-is : (a b : Kill) → is_before a b ≡ true → ComesAfter a b
+after-is a b e = (before-Decides a b).0 e
 
-is-after : (a b : Kill) → ComesAfter a b → is_after a b ≡ true
-is-after a b (inl h) = or-left (nat_lt a.moment b.moment) (a.moment == b.moment && nat_lt a.place.0 b.place.0) (true-lt a.moment b.moment h)
-is-after a b (inr h) = or-right (nat_lt a.moment b.moment) (a.moment == b.moment && nat_lt a.place.0 b.place.0) (and-true (a.moment == b.moment) (nat_lt a.place.0 b.place.0) (eq-eqb a.moment b.moment h.0) (true-lt a.place.0 b.place.0 h.1))
+is-after : (a b : Kill) → ComesAfter a b → is_before a b ≡ true
+is-after a b h = (before-Decides a b).1 h
 
 -- the kill comes after each of the list, and has a place of its own
 abbrev Follows : List Kill → Kill → Type 0
@@ -136,15 +125,15 @@ eq-apart a b e h = let t : (a == b) ≡ true = eq-eqb a b h in cc
 follows-is : (ks : List Kill) (kill : Kill) → may_follow ks kill ≡ true → Follows ks kill
 follows-is [] kill e = tt
 follows-is (k ∷ ks) kill e =
-    let one = and-parts (is_after k kill && not (k.place.0 == kill.place.0)) (may_follow ks kill) e in
-    let two = and-parts (is_after k kill) (not (k.place.0 == kill.place.0)) one.0 in
+    let one = and-parts (is_before k kill && not (k.place.0 == kill.place.0)) (may_follow ks kill) e in
+    let two = and-parts (is_before k kill) (not (k.place.0 == kill.place.0)) one.0 in
     (after-is k kill two.0, eq-apart k.place.0 kill.place.0 (not-parts (k.place.0 == kill.place.0) two.1), follows-is ks kill one.1)
 
 is-followed : (ks : List Kill) (kill : Kill) → Follows ks kill → may_follow ks kill ≡ true
 is-followed [] kill f = refl
 is-followed (k ∷ ks) kill f =
-    and-true (is_after k kill && not (k.place.0 == kill.place.0)) (may_follow ks kill)
-    (and-true (is_after k kill) (not (k.place.0 == kill.place.0)) (is-after k kill f.0) (ap not (other-byte k.place.0 kill.place.0 f.1)))
+    and-true (is_before k kill && not (k.place.0 == kill.place.0)) (may_follow ks kill)
+    (and-true (is_before k kill) (not (k.place.0 == kill.place.0)) (is-after k kill f.0) (ap not (other-byte k.place.0 kill.place.0 f.1)))
     (is-followed ks kill f.2)
 
 spares-push : (p : PlaceId) (ks : List Kill) (kill : Kill) → Spares p ks → p.0 ≢ kill.place.0 → Spares p (ks ++ kill ∷ [])

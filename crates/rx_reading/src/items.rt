@@ -7,6 +7,7 @@ ghost use Rattle.rx_reading.specs.Inside.FieldWords.{kill_of};
 use crate::numbers::{below, natural, number};
 use crate::words::cut;
 use rx_base::{Fault, Kill, NoMemory, Path, PlaceId, ScopeId, TaskId};
+use rx_kills::read_kill;
 use std::alloc::Global;
 
 // What follows these bytes in front.
@@ -108,13 +109,18 @@ fn plain(word: &[u8]) -> Option<Fault>
     }
 }
 
-// A place and a moment, joined by `@`.
-#[tactic(auto, using(crate::proofs::Stripped::kill_cut, crate::proofs::Stripped::kill_uncut))]
+// The kill that a word spells, where its place is one of so many.
 pub(crate) fn kill(word: &[u8], places: u8) -> Option<Kill>
     ensures { result ≡ kill_of places word.now }
 {
-    let (front, tail) = cut(word, b'@')?;
-    let place = place(front, places)?;
-    let moment = below(tail, 1_000_001)?;
-    Some(Kill { place, moment })
+    match read_kill(word) {
+        Some(kill) => {
+            if kill.place.0 < places {
+                Some(kill)
+            } else {
+                None
+            }
+        }
+        None => None,
+    }
 }

@@ -3,7 +3,8 @@ ghost use Rattle.std.specs.Prelude.{◌≡◌, ◌<◌, ◌==◌, ◌&&◌, not,
 ghost use Rattle.rx_history.specs.KillOrder.{ComesLast};
 ghost use Rattle.rx_reading.specs.Words.{answered, pieces};
 ghost use Rattle.rx_reading.specs.Inside.Readers.{word, all_read};
-ghost use Rattle.rx_reading.specs.Inside.Machine.{count_of, sizes_at, is_after, may_follow, kills_line_of};
+ghost use Rattle.rx_history.specs.KillOrder.{is_before};
+ghost use Rattle.rx_reading.specs.Inside.Machine.{count_of, sizes_at, may_follow, kills_line_of};
 
 use crate::items::kill;
 use crate::numbers::below;
@@ -91,7 +92,7 @@ fn follows(kills: &KillList, kill: Kill) -> bool
 
 // Whether the second kill comes after the first, and has another place.
 fn comes_after(first: Kill, second: Kill) -> bool
-    ensures { result ≡ (is_after first second && not (first.place.0 == second.place.0)) }
+    ensures { result ≡ (is_before first second && not (first.place.0 == second.place.0)) }
 {
     (first.moment < second.moment
         || (first.moment == second.moment && first.place.0 < second.place.0))

@@ -11,6 +11,8 @@ use Rattle.rx_base.specs.declared.ids.Kill.{Kill}
 use Rattle.rx_base.specs.declared.values.Fault.{Fault}
 use Rattle.rx_base.specs.declared.values.Fault.TheVariants.{Dead, Thrown, Overflow, NoPlace, WrongPlace, Stale, Index, HeapFull}
 use Rattle.rx_text.specs.Numbers.{natural_text}
+use Rattle.rx_kills.specs.Words.{Spelling}
+use Rattle.rx_kills.proofs.Spelling.{spelling}
 use Rattle.rx_reading.specs.Words.{pieces, stripped}
 use Rattle.rx_reading.specs.Inside.Readers.{Reader, followed, done, word}
 
@@ -84,18 +86,9 @@ thrown_of w = option_map (λ n. Thrown n) (next (stripped (codes "code:") w) num
 abbrev pub fault_of : ℕ → List ℕ → Option Fault
 fault_of places w = or_else (dead_of places w) (or_else (thrown_of w) (plain_fault w))
 
-abbrev pub kill_parts : ℕ → List (List ℕ) → Option Kill
-kill_parts places [] = None
-kill_parts places (p ∷ []) = None
-kill_parts places (p ∷ m ∷ []) = next (place_of places p) (λ place. option_map (λ moment. record {
-  place = place;
-  moment = moment;
-}) (number_below 1000001 m))
-kill_parts places (p ∷ m ∷ x ∷ xs) = None
-
--- a place and a moment, joined by `@` (the code 64)
+-- the kill that a word spells, where its place is one of so many
 abbrev pub kill_of : ℕ → List ℕ → Option Kill
-kill_of places w = kill_parts places (pieces 64 w)
+kill_of places w = next (spelling w).kill (λ kill. if nat_lt kill.place.0 places then Some kill else None)
 
 abbrev pub natural_at : Reader ℕ
 natural_at = word natural_of

@@ -9,6 +9,7 @@ use Rattle.rx_rules.specs.Run.{Given}
 use Rattle.rx_text.specs.Numbers.{natural_text}
 use Rattle.rx_reading.specs.Words.{pieces}
 use Rattle.rx_reading.specs.Inside.Readers.{Reader, followed, done, word, keyed, all_read}
+use Rattle.rx_history.specs.KillOrder.{is_before}
 use Rattle.rx_reading.specs.Inside.FieldWords.{next, number_below, kill_of}
 use Rattle.rx_reading.specs.Inside.EntryWords.{entry_at}
 use Rattle.rx_reading.specs.Inside.EventWords.{event_at}
@@ -39,14 +40,10 @@ abbrev pub sizes_at : Reader (ℕ × ℕ)
 sizes_at = keyed (codes "places") (followed (word (count_of 16))
     (λ places. keyed (codes "heap") (followed (word (count_of 4096)) (λ heap. done (places, heap)))))
 
--- whether a kill comes after another: by moment, and by place at one moment
-abbrev pub is_after : Kill → Kill → Bool
-is_after a b = nat_lt a.moment b.moment || (a.moment == b.moment && nat_lt a.place.0 b.place.0)
-
 -- whether a kill comes after those of a list and names none of their places
 abbrev pub may_follow : List Kill → Kill → Bool
 may_follow [] kill = true
-may_follow (k ∷ ks) kill = is_after k kill && not (k.place.0 == kill.place.0) && may_follow ks kill
+may_follow (k ∷ ks) kill = is_before k kill && not (k.place.0 == kill.place.0) && may_follow ks kill
 
 abbrev pub planned : Option Kill → List Kill → (List Kill → Option (List Kill)) → Option (List Kill)
 planned None kills more = None

@@ -23,7 +23,9 @@ use Rattle.rx_nodes.specs.Shape.{Shape}
 use Rattle.rx_machine.specs.declared.machine.Machine.{Machine}
 use Rattle.rx_machine.specs.declared.seat.Seat.{Seat}
 use Rattle.rx_machine.specs.Slots.{live_task, SlotIs, IsSeat, seat_at, seat_in}
-use Rattle.rx_machine.specs.Holds.{Shares, StoresAre, Seated, HoldsBut, IsPick, HasGone, Makes}
+use Rattle.rx_stores.specs.Kepts.{StoresAre}
+use Rattle.rx_machine.specs.Holds.{Shares, Seated, HoldsBut, IsPick, HasGone, Makes}
+use Rattle.rx_machine.specs.Acts.{HasClosed}
 use Rattle.rx_machine.proofs.Finding.{same_or_not, get_same, get_other, get_within}
 use Rattle.rx_machine.proofs.Own.{SameOwn, slot-on}
 use Rattle.rx_machine.proofs.Pushed.{tree-push}
@@ -51,6 +53,19 @@ pub record Went {L : Type 0} (stands : L → Tree → Type 0) (m m' : Machine L)
   pub failed : m'.failed ≡ m.failed
   pub stores : m'.stores ≡ m.stores
   pub ledger : stands m'.ledger T'
+
+-- what a machine m has whose ledger has made the act, and of which the turn was then closed
+pub closed : {L : Type 0} (stands : L → Tree → Type 0) (m n m' : Machine L) (i : ℕ) (seat : Seat) (act : Act) (T' : Tree) → n ≡ record m { ledger = n.ledger; seats = n.seats } → HasClosed n m' i seat act → stands n.ledger T' → Went stands m m' T' (Step seat.row.number act seat.batch)
+closed {L = L} stands m n m' i seat act T' on c ledger =
+    record {
+      places = ap (λ (x : Machine L). x.places) c.same ∙ ap (λ (x : Machine L). x.places) on;
+      setup = c.setup ∙ ap (λ (x : Machine L). x.history.setup) on;
+      entries = c.entries ∙ ap (λ (x : Machine L). x.history.entries ++ Step seat.row.number act seat.batch ∷ []) on;
+      kills = ap (λ (x : Machine L). x.kills) c.same ∙ ap (λ (x : Machine L). x.kills) on;
+      failed = ap (λ (x : Machine L). x.failed) c.same ∙ ap (λ (x : Machine L). x.failed) on;
+      stores = ap (λ (x : Machine L). x.stores) c.same ∙ ap (λ (x : Machine L). x.stores) on;
+      ledger = subst (λ (x : Machine L). stands x.ledger T') (sym c.same) ledger;
+    }
 
 -- the tree of the game after it
 pub tree-after : (U : Given) (G : Game) (t : TaskId) (here : PlaceId) (q : Player) (Z : State) (j : List PlaceEvent) (act : Act) → tree_in U (game_after G t here q Z j act) ≡ made_act (tree_in U G) t act

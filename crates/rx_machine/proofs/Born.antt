@@ -33,7 +33,8 @@ use Rattle.rx_machine.specs.declared.seat.Seat.{Seat}
 use Rattle.rx_machine.specs.Held.{is_held, HeldInFront}
 use Rattle.rx_machine.specs.Spine.{Spine}
 use Rattle.rx_machine.specs.Slots.{live_task, if_unstruck, own_scopes, own_kinds, SlotIs, IsSeat, seat_at, seat_in}
-use Rattle.rx_machine.specs.Holds.{StoresAre, Seated, HoldsBut, IsPick, HasGone, Makes}
+use Rattle.rx_stores.specs.Kepts.{StoresAre}
+use Rattle.rx_machine.specs.Holds.{Seated, HoldsBut, IsPick, HasGone, Makes}
 use Rattle.rx_machine.proofs.Acted.{Went, granted_player, game_after, tree-after, turned, shared}
 use Rattle.rx_machine.proofs.Finding.{same_or_not, get_same, get_other, get_within, get_pushed, get_before}
 use Rattle.rx_machine.proofs.Granting.{unheld-child}

@@ -44,9 +44,10 @@ use Rattle.rx_machine.specs.declared.seat.Seat.{Seat}
 use Rattle.rx_machine.specs.Held.{is_held, HeldInFront}
 use Rattle.rx_machine.specs.Spine.{Flat, Spine}
 use Rattle.rx_machine.specs.Slots.{IsSeat, live_task, own_kinds}
-use Rattle.rx_machine.specs.Holds.{StoresAre, Acting}
+use Rattle.rx_stores.specs.Kepts.{StoresAre}
+use Rattle.rx_machine.specs.Holds.{Acting}
 use Rattle.rx_machine.specs.Requests.{OnlyStores, AfterStep}
-use Rattle.rx_machine.specs.Asked.{MayAskStore, Receives, Asked}
+use Rattle.rx_stores.specs.Asked.{MayAskStore, Receives, Asked}
 use Rattle.rx_machine.proofs.Finding.{get_same}
 use Rattle.rx_machine.proofs.Live.{live_stands}
 use Rattle.rx_machine.proofs.Beginning.{Begins, begins-so}

@@ -30,7 +30,7 @@ use Rattle.rx_nodes.specs.Shape.{Shape}
 use Rattle.rx_machine.specs.declared.machine.Machine.{Machine}
 use Rattle.rx_machine.specs.declared.seat.Seat.{Seat}
 use Rattle.rx_machine.specs.Slots.{live_task, SlotIs, seat_at, seat_in, left_by}
-use Rattle.rx_machine.specs.Holds.{StoresAre}
+use Rattle.rx_stores.specs.Kepts.{StoresAre}
 use Rattle.rx_machine.specs.Runs.{Dying, HasDied}
 use Rattle.rx_machine.proofs.Finding.{same_or_not, get_same}
 use Rattle.rx_machine.proofs.Acted.{seat_other}

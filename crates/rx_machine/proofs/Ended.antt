@@ -31,7 +31,8 @@ use Rattle.rx_machine.specs.declared.seat.Seat.{Seat}
 use Rattle.rx_machine.specs.Callers.{caller}
 use Rattle.rx_machine.specs.Slots.{IsSeat, SlotIs, live_task, own_kinds, seat_at}
 use Rattle.rx_machine.specs.Held.{is_held}
-use Rattle.rx_machine.specs.Holds.{StoresAre, Seated, Acting, Makes}
+use Rattle.rx_stores.specs.Kepts.{StoresAre}
+use Rattle.rx_machine.specs.Holds.{Seated, Acting, Makes}
 use Rattle.rx_machine.proofs.Finding.{same_or_not}
 use Rattle.rx_machine.proofs.Live.{live_number, live_stands, less-same, less-other, without_task}
 use Rattle.rx_machine.proofs.Own.{end-tasks, end-own, slot-on}

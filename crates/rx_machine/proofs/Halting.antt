@@ -35,13 +35,14 @@ use Rattle.rx_control.specs.declared.step.Next.TheVariants.{Cell as CellStep}
 use Rattle.rx_control.specs.Next.{next_of}
 use Rattle.rx_machine.specs.declared.machine.Machine.{Machine}
 use Rattle.rx_machine.specs.declared.seat.Seat.{Seat}
-use Rattle.rx_machine.specs.Holds.{Seated, Acting, StoresAre}
+use Rattle.rx_stores.specs.Kepts.{StoresAre}
+use Rattle.rx_machine.specs.Holds.{Seated, Acting}
 use Rattle.rx_machine.specs.Refusals.{BeginEach, HasBegun, HasTold}
-use Rattle.rx_machine.specs.Asked.{Asked}
+use Rattle.rx_stores.specs.Asked.{Asked}
 use Rattle.rx_machine.proofs.Called.{IsCall, StoreIs, call-told}
 use Rattle.rx_machine.proofs.Asking.{id_of}
 use Rattle.rx_machine.proofs.Live.{live_stands}
-use Rattle.rx_machine.proofs.Whole.{journals_are}
+use Rattle.rx_stores.proofs.Journals.{journals_are}
 
 -- Walks.
 

@@ -1,5 +1,5 @@
 -- The turn of an arrival, and the root's release.
-use Rattle.std.specs.Prelude.{◌≡◌, ℕ, true, false, List, [], ◌∷◌, ◌++◌, length, filter, reverse, Option, Some, slice_set, refl}
+use Rattle.std.specs.Prelude.{◌≡◌, ℕ, true, false, List, [], ◌∷◌, ◌++◌, length, filter, reverse, Option, Some, None, Err, slice_set, refl}
 use Rattle.std.proofs.Common.{ap, ◌∙◌, sym, subst, inl, inr}
 use Rattle.std.proofs.lemmas.List.{length-set}
 use Rattle.rx_base.specs.declared.ids.PlaceId.{PlaceId}
@@ -12,25 +12,43 @@ use Rattle.rx_rules.specs.declared.entries.Act.TheVariants.{Arrive}
 use Rattle.rx_rules.specs.declared.entries.Entry.{Entry}
 use Rattle.rx_rules.specs.declared.entries.Entry.TheVariants.{Step, Root, Death}
 use Rattle.rx_rules.specs.Code.{Block}
-use Rattle.rx_rules.specs.Tree.{Tree, the_root}
+use Rattle.rx_rules.specs.Tree.{Tree, the_root, quiet}
 use Rattle.rx_rules.specs.Entries.{AllowedAct, Allowed, made_act, without}
 use Rattle.rx_rules.specs.Run.{Given, NoRoot, EndsWithRoot}
 use Rattle.rx_rules.specs.Picked.{Game, Turn, arrives, root, turns, is_enabled, enabled, tree_in}
+use Rattle.rx_finish.specs.declared.ledger.Caller.{Caller}
+use Rattle.rx_finish.specs.declared.ledger.LedgerFault.{LedgerFault}
+use Rattle.rx_finish.specs.declared.ledger.LedgerFault.TheVariants.{NotYet, Lost, NoMemory}
+use Rattle.rx_finish.specs.Calls.{ArriveReply, RootReply, blow_of}
 use Rattle.rx_history.specs.Setups.{given}
 use Rattle.rx_store.specs.Kept.{Kept}
 use Rattle.rx_nodes.specs.Shape.{Shape}
 use Rattle.rx_control.specs.declared.control.Control.{Control}
 use Rattle.rx_control.specs.Stands.{StandsFor}
 use Rattle.rx_machine.specs.declared.machine.Machine.{Machine}
-use Rattle.rx_machine.specs.declared.ready.Ready.{Ready}
+use Rattle.rx_machine.specs.declared.enabled.Ready.{Ready}
 use Rattle.rx_machine.specs.declared.seat.Seat.{Seat}
 use Rattle.rx_machine.specs.Slots.{live_task, SlotIs, IsSeat, seat_at}
-use Rattle.rx_machine.specs.Holds.{StoresAre, Seated, Landing, Finished, Releasing, Makes}
+use Rattle.rx_stores.specs.Kepts.{StoresAre}
+use Rattle.rx_machine.specs.Holds.{Seated, Landing, Finished, Releasing, Makes}
+use Rattle.rx_machine.proofs.Asking.{not_lost}
 use Rattle.rx_machine.proofs.Finding.{same_or_not}
 use Rattle.rx_machine.proofs.Live.{change-other, change-same, live_stands}
 use Rattle.rx_machine.proofs.Own.{slot-on}
 use Rattle.rx_machine.proofs.Pushed.{tree-push}
 use Rattle.rx_machine.proofs.Acted.{Went, seat_back, seat_other}
+
+-- the ledger does not refuse an arrival
+pub arrival-granted : (T : Tree) (who : Caller) (e : LedgerFault) (S : Tree → Type 0) → blow_of T who.task ≡ None → ArriveReply T who (Err e) S → ⊥
+arrival-granted T who NoMemory S free h = h
+arrival-granted T who (Lost place at) S free h = not_lost T who.task (record { place = place; entry = at }) free h.0
+arrival-granted T who (NotYet place) S free h = h
+
+-- and a release of the root that is quiet for want of memory alone
+pub root-refused : (T : Tree) (e : LedgerFault) (S : Tree → Type 0) → quiet T the_root ≡ true → RootReply T (Err e) S → e ≡ NoMemory
+root-refused T NoMemory S calm h = refl
+root-refused T (Lost place at) S calm h = absurd h
+root-refused T (NotYet place) S calm h = absurd (let f : true ≡ false = sym calm ∙ h.0.busy in let g : ⊥ = cc in g)
 
 -- where the task lands
 abbrev there : PlaceId → Task → Task

@@ -10,11 +10,11 @@ pub mod SpineGrants
 pub mod Beginning
 pub mod Asking
 pub mod Printed
-pub mod Opened
-pub mod Openers
-pub mod Opens
+pub mod FinishBegun
+pub mod OriginsKept
+pub mod FirstGame
 pub mod Landed
-pub mod Enabled
+pub mod EnabledTasks
 pub mod Readying
 pub mod Able
 pub mod Targets
@@ -28,8 +28,8 @@ pub mod Stepping
 pub mod Whole
 pub mod Called
 pub mod Requested
-pub mod Taking
-pub mod Turned
+pub mod SeatTaken
+pub mod BeforeTurn
 pub mod Deaths
 pub mod Halting
 pub mod Noting

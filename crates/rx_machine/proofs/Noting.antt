@@ -24,8 +24,8 @@ use Rattle.rx_sound.specs.Histories.{FoldReached}
 use Rattle.rx_runs.specs.Coming.{GamesCome}
 use Rattle.rx_nodes.specs.Shape.{Shape}
 use Rattle.rx_machine.specs.declared.machine.Machine.{Machine}
-use Rattle.rx_machine.specs.declared.ready.Ready.{Ready}
-use Rattle.rx_machine.specs.declared.ready.Origin.{Origin}
+use Rattle.rx_machine.specs.declared.enabled.Ready.{Ready}
+use Rattle.rx_machine.specs.declared.enabled.Origin.{Origin}
 use Rattle.rx_machine.specs.declared.seat.Seat.{Seat}
 use Rattle.rx_machine.specs.Slots.{live_task, SlotIs, seat_at}
 use Rattle.rx_machine.specs.Picking.{slot_able, has, IsReady}
@@ -36,8 +36,8 @@ use Rattle.rx_machine.proofs.Finding.{same_or_not, get_pushed}
 use Rattle.rx_machine.proofs.Live.{live_stands, live_number}
 use Rattle.rx_machine.proofs.Pushed.{tree-push}
 use Rattle.rx_machine.proofs.Whole.{stays_open}
-use Rattle.rx_machine.proofs.Turned.{roomier, can-turn}
-use Rattle.rx_machine.proofs.Openers.{length_more, with_row, tells_act, tells_without, acts_on}
+use Rattle.rx_machine.proofs.BeforeTurn.{roomier, can-turn}
+use Rattle.rx_machine.proofs.OriginsKept.{length_more, with_row, tells_act, tells_without, acts_on}
 use Rattle.rx_machine.proofs.Readying.{marked_same, marked_other, ascends_marked, slot_task, able_high}
 
 -- nothing but the set is another

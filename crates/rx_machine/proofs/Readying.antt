@@ -14,7 +14,7 @@ use Rattle.rx_machine.specs.declared.seat.Seat.{Seat}
 use Rattle.rx_machine.specs.Slots.{live_in, SlotIs, seat_at}
 use Rattle.rx_machine.specs.Picking.{slot_able, has, IsReady}
 use Rattle.rx_machine.proofs.Live.{live_stands}
-use Rattle.rx_machine.proofs.Enabled.{able_from}
+use Rattle.rx_machine.proofs.EnabledTasks.{able_from}
 
 -- A number put in or taken out.
 

@@ -1,5 +1,5 @@
 -- The turns that start a task.
-use Rattle.std.specs.Prelude.{◌≡◌, ◌≢◌, ℕ, ◌<◌, true, false, is_none, is_some, IfSome, reverse, List, [], ◌∷◌, ◌++◌, Option, Some, None, Ok, slice_set, refl}
+use Rattle.std.specs.Prelude.{◌≡◌, ◌≢◌, ℕ, ◌<◌, true, false, is_none, is_some, IfSome, reverse, List, [], ◌∷◌, ◌++◌, Option, Some, None, Ok, Err, slice_set, refl}
 use Rattle.std.proofs.Common.{ap, ◌∙◌, sym, subst, arith}
 use Rattle.std.proofs.lemmas.List.{reverse-append}
 use Rattle.rx_base.specs.declared.ids.PlaceId.{PlaceId}
@@ -24,7 +24,10 @@ use Rattle.rx_nodes.specs.Shape.{Shape}
 use Rattle.rx_control.specs.declared.control.Control.{Control}
 use Rattle.rx_control.specs.Stands.{StandsFor}
 use Rattle.rx_finish.specs.declared.ledger.Born.{Born}
-use Rattle.rx_finish.specs.Calls.{SpawnReply, CallReply}
+use Rattle.rx_finish.specs.declared.ledger.Caller.{Caller}
+use Rattle.rx_finish.specs.declared.ledger.LedgerFault.{LedgerFault}
+use Rattle.rx_finish.specs.declared.ledger.LedgerFault.TheVariants.{NotYet, Lost, NoMemory}
+use Rattle.rx_finish.specs.Calls.{SpawnReply, CallReply, blow_of}
 use Rattle.rx_machine.specs.declared.machine.Machine.{Machine}
 use Rattle.rx_machine.specs.declared.seat.Seat.{Seat}
 use Rattle.rx_machine.specs.Callers.{caller}
@@ -33,6 +36,7 @@ use Rattle.rx_machine.specs.Spine.{Spine}
 use Rattle.rx_machine.specs.Held.{is_held}
 use Rattle.rx_machine.specs.Holds.{Seated, Acting, Makes}
 use Rattle.rx_machine.proofs.Acted.{Went}
+use Rattle.rx_machine.proofs.Asking.{not_lost}
 use Rattle.rx_machine.proofs.Beginning.{Begins, begins-so}
 use Rattle.rx_machine.proofs.Born.{NewSeat, none-own, new-slot, started}
 use Rattle.rx_machine.proofs.Granting.{AfterGrant, after-grant, held-releases}
@@ -79,6 +83,17 @@ call-target U G q here to inside asks =
 pub call-did : (T : Tree) (row : Task) (scopes : List ScopeId) (here to : PlaceId) (b : Born) (S : Tree → Type 0) → row.place ≡ At here → CallReply T (caller row scopes) to (Ok b) S → MayCall T row.number b.scope (caller row scopes).inner b.child here to × S (made_act T row.number (CallsAt b.scope (caller row scopes).inner b.child here to [])) × (b.lost ≡ is_some (death_of T to))
 call-did T row scopes here to b S at h =
     (subst (λ (w : Where). MayCall T row.number b.scope (caller row scopes).inner b.child (place_number w) to) at h.0.allowed, subst (λ (w : Where). S (made_act T row.number (CallsAt b.scope (caller row scopes).inner b.child (place_number w) to []))) at h.0.made, h.1)
+
+-- the ledger refuses for want of memory alone
+pub spawn-refused : (T : Tree) (who : Caller) (to : PlaceId) (e : LedgerFault) (S : Tree → Type 0) → blow_of T who.task ≡ None → SpawnReply T who to (Err e) S → e ≡ NoMemory
+spawn-refused T who to NoMemory S free h = refl
+spawn-refused T who to (Lost place at) S free h = absurd (not_lost T who.task (record { place = place; entry = at }) free h.0)
+spawn-refused T who to (NotYet place) S free h = absurd h
+
+pub call-refused : (T : Tree) (who : Caller) (to : PlaceId) (e : LedgerFault) (S : Tree → Type 0) → blow_of T who.task ≡ None → CallReply T who to (Err e) S → e ≡ NoMemory
+call-refused T who to NoMemory S free h = refl
+call-refused T who to (Lost place at) S free h = absurd (not_lost T who.task (record { place = place; entry = at }) free h.0)
+call-refused T who to (NotYet place) S free h = absurd h
 
 -- the slot of a new task, as it was made
 pub record IsBorn (T : Tree) (number : TaskId) (under : ScopeId) (from to : PlaceId) (control : Control) (slot : Option Seat) : Type 0 where

@@ -28,7 +28,8 @@ use Rattle.rx_machine.specs.declared.machine.Machine.{Machine}
 use Rattle.rx_machine.specs.declared.seat.Seat.{Seat}
 use Rattle.rx_machine.specs.Held.{is_held}
 use Rattle.rx_machine.specs.Slots.{IsSeat, own_kinds}
-use Rattle.rx_machine.specs.Holds.{Shares, StoresAre, Acting}
+use Rattle.rx_stores.specs.Kepts.{StoresAre}
+use Rattle.rx_machine.specs.Holds.{Shares, Acting}
 use Rattle.rx_machine.specs.Requests.{IsAsked, OnlyStores, AfterStep}
 use Rattle.rx_machine.proofs.Holding.{AfterLocal, after-local}
 use Rattle.rx_machine.proofs.Granting.{held-releases}

@@ -1,26 +1,25 @@
--- A picked run, turn by turn, and what its stores leave.
-use Rattle.std.specs.Prelude.{length, ◌≡◌, ℕ, suc, ◌+◌, ◌*◌, ◌≤◌, Bool, true, false, List, [], ◌∷◌, ◌++◌, map, reverse, refl}
+-- A picked run, turn by turn.
+use Rattle.std.specs.Prelude.{length, ◌≡◌, ℕ, suc, ◌+◌, ◌*◌, ◌≤◌, Bool, true, false, List, [], ◌∷◌, ◌++◌, map, refl}
 use Rattle.std.proofs.Common.{ap, ◌∙◌, sym, subst, arith}
-use Rattle.std.proofs.lemmas.List.{reverse-append, map-append, append_assoc, append-nil}
+use Rattle.std.proofs.lemmas.List.{append_assoc, append-nil}
 use Rattle.std.proofs.Common.{length-append}
 use Rattle.rx_base.specs.declared.ids.TaskId.{TaskId}
 use Rattle.rx_rules.specs.declared.entries.Act.{Act}
 use Rattle.rx_rules.specs.declared.entries.Act.TheVariants.{Arrive, End}
 use Rattle.rx_rules.specs.declared.entries.Entry.{Entry}
 use Rattle.rx_rules.specs.declared.entries.Entry.TheVariants.{Step, Root, Death}
-use Rattle.rx_rules.specs.declared.events.PlaceEvent.{PlaceEvent}
 use Rattle.rx_rules.specs.Code.{Block, work}
 use Rattle.rx_rules.specs.Tree.{Tree}
 use Rattle.rx_rules.specs.Run.{Given, NoRoot}
 use Rattle.rx_rules.specs.Picked.{Game, Turn, dies, arrives, moves, ends, root, Turns, none, more, IsPicked, start_game, tree_in, used_after}
 use Rattle.rx_runs.specs.Coming.{GamesCome}
 use Rattle.rx_history.specs.Logs.{Log}
-use Rattle.rx_history.specs.Events.{Events, AllEvents, events_of}
+use Rattle.rx_history.specs.Events.{AllEvents, events_of}
 use Rattle.rx_history.specs.Setups.{given}
-use Rattle.rx_store.specs.Kept.{Kept}
 use Rattle.rx_nodes.specs.Shape.{Shape}
 use Rattle.rx_machine.specs.declared.machine.Machine.{Machine}
-use Rattle.rx_machine.specs.Holds.{Holds, StoresAre, Finished, Makes}
+use Rattle.rx_stores.proofs.Journals.{journals_are}
+use Rattle.rx_machine.specs.Holds.{Holds, Finished, Makes}
 use Rattle.rx_machine.specs.Runs.{WentOn, picks_in, RanFrom, Gives}
 
 -- Turns that move tasks.
@@ -134,12 +133,6 @@ run-stops stands shape code U picks G m i j come r =
 
 -- The end.
 
-pub journals_are : (heap p : ℕ) (ss : List Kept) (js : List (List PlaceEvent)) → StoresAre heap p ss js → map (λ s. s.events) ss ≡ js
-journals_are heap p [] [] h = refl
-journals_are heap p (s ∷ ss) (j ∷ js) h = ap (λ e. e ∷ map (λ (k : Kept). k.events) ss) h.2 ∙ ap (λ es. j ∷ es) (journals_are heap (suc p) ss js h.3)
-journals_are heap p [] (j ∷ js) h = absurd h
-journals_are heap p (s ∷ ss) [] h = absurd h
-
 -- what the machine gives out is that of the game
 pub gives-holds : {L : Type 0} (stands : L → Tree → Type 0) (shape : Shape) (code : Block) (U : Given) (m : Machine L) (G : Game) (r : Log × AllEvents × L) → r.0 ≡ m.history → events_of r.1 ≡ map (λ s. s.events) m.stores.items → r.2 ≡ m.ledger → Holds stands shape code U m G → Gives stands U G r
 gives-holds stands shape code U m G r history events ledger h =
@@ -181,21 +174,3 @@ run-ends stands shape code U picks G m m' i j k left come r e are a parts gives 
 pub run-picked : {L : Type 0} (stands : L → Tree → Type 0) (code : Block) (U : Given) (picks left : ℕ → ℕ) (parts : Log × AllEvents × L) → RanFrom stands code U picks left (start_game code U) parts → IsPicked code U picks parts.0.entries (events_of parts.1)
 run-picked stands code U picks left parts r =
     record { turns = r.turns; game = r.game; made = r.made; ended = r.ended; entries = r.gives.entries; journals = r.gives.journals }
-
--- One journal more.
-
-abbrev pub told_by : List Kept → List (List PlaceEvent)
-told_by ss = map (λ s. s.events) ss
-
-pub journal-more : (js js' : AllEvents) (j : Events) (left left' : List Kept) (s : Kept) (all : List (List PlaceEvent)) → js'.journals ≡ js.journals ++ j ∷ [] → j.events ≡ s.events → left ≡ left' ++ s ∷ [] → events_of js ++ told_by (reverse left) ≡ all → events_of js' ++ told_by (reverse left') ≡ all
-journal-more js js' j left left' s all e1 e2 e3 h =
-    let f : Events → List PlaceEvent = λ x. x.events in
-    let a : events_of js' ≡ events_of js ++ s.events ∷ [] = ap (map f) e1 ∙ (map-append f js.journals (j ∷ []) ∙ ap (λ e. events_of js ++ e ∷ []) e2) in
-    let b : reverse left ≡ s ∷ reverse left' = ap reverse e3 ∙ reverse-append left' (s ∷ []) in
-    let c : told_by (reverse left) ≡ s.events ∷ told_by (reverse left') = ap told_by b in
-    ap (λ es. es ++ told_by (reverse left')) a ∙ (append_assoc (events_of js) (s.events ∷ []) (told_by (reverse left')) ∙ (ap (λ es. events_of js ++ es) (sym c) ∙ h))
-
--- when no store is left
-pub journals-all : (js : AllEvents) (left : List Kept) (all : List (List PlaceEvent)) → length left ≡ 0 → events_of js ++ told_by (reverse left) ≡ all → events_of js ≡ all
-journals-all js [] all e h = sym (append-nil (events_of js)) ∙ h
-journals-all js (s ∷ ss) all e h = absurd (omega (arith, e))

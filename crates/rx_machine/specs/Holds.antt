@@ -1,5 +1,5 @@
 -- A machine stands for a game that turns have made.
-use Rattle.std.specs.Prelude.{◌≡◌, ◌≢◌, ℕ, suc, ◌<◌, ◌≤◌, ◌%◌, true, false, List, [], ◌∷◌, slice_set, length, Some, None, slice_get}
+use Rattle.std.specs.Prelude.{◌≡◌, ◌≢◌, ℕ, ◌<◌, ◌≤◌, ◌%◌, true, false, List, [], slice_set, length, Some, None, slice_get}
 use Rattle.rx_base.specs.declared.ids.PlaceId.{PlaceId}
 use Rattle.rx_rules.specs.declared.tasks.Where.TheVariants.{At, Travel}
 use Rattle.rx_rules.specs.declared.events.PlaceEvent.{PlaceEvent}
@@ -13,7 +13,7 @@ use Rattle.rx_rules.specs.Run.{Given, Proper, NoRoot, NoneDue, EndsWithRoot}
 use Rattle.rx_rules.specs.Picked.{Game, Player, Goes, Comes, tree_in, enabled}
 use Rattle.rx_runs.specs.SomeWords.{MakesSome}
 use Rattle.rx_history.specs.Setups.{given}
-use Rattle.rx_store.specs.Kept.{Kept}
+use Rattle.rx_stores.specs.Kepts.{StoresAre}
 use Rattle.rx_nodes.specs.Shape.{Shape}
 use Rattle.rx_finish.specs.Callers.{HasNumbers, HasRoot}
 use Rattle.rx_machine.specs.declared.machine.Machine.{Machine}
@@ -28,13 +28,6 @@ pub record RunsOn (code : Block) (U : Given) : Type 0 where
   pub few : work code ≤ 100000
   pub makes : MakesSome code
 
--- the stores of places p, p + 1, ..: each with its place, so many words, and its journal
-abbrev pub StoresAre : ℕ → ℕ → List Kept → List (List PlaceEvent) → Type 0
-StoresAre heap p [] [] = Unit {0}
-StoresAre heap p (s ∷ ss) (j ∷ js) = (s.place.0 ≡ p) × (s.words ≡ heap) × (s.events ≡ j) × StoresAre heap (suc p) ss js
-StoresAre heap p [] (j ∷ js) = ⊥
-StoresAre heap p (s ∷ ss) [] = ⊥
-
 -- what a machine and a game share beside the seats: `stands` says for which trees a ledger stands
 pub record Shares {L : Type 0} (stands : L → Tree → Type 0) (code : Block) (U : Given) (m : Machine L) (G : Game) : Type 0 where
   pub on : RunsOn code U
@@ -48,20 +41,23 @@ pub record Shares {L : Type 0} (stands : L → Tree → Type 0) (code : Block) (
   pub failed : m.failed ≡ false
 
 -- the machine stands for the game, but for what tells which tasks are enabled
-pub record Seated {L : Type 0} (stands : L → Tree → Type 0) (shape : Shape) (code : Block) (U : Given) (m : Machine L) (G : Game) : Type 0 where
+pub record Seated {L : Type 0} (stands : L → Tree → Type 0) (shape : Shape) (code : Block) (U : Given) (m : Machine L) (G : Game)
+    : Type 0 where
   pub shares : Shares stands code U m G
   pub stores : StoresAre U.heap 0 m.stores.items G.journals
   pub seats : (n : ℕ) → SlotIs shape (tree_in U G) G.players n (seat_at m.seats.items n)
 
 -- the machine stands for the game, in which the root stands
-pub record Holds {L : Type 0} (stands : L → Tree → Type 0) (shape : Shape) (code : Block) (U : Given) (m : Machine L) (G : Game) : Type 0 where
+pub record Holds {L : Type 0} (stands : L → Tree → Type 0) (shape : Shape) (code : Block) (U : Given) (m : Machine L) (G : Game)
+    : Type 0 where
   pub seated : Seated stands shape code U m G
   pub unreleased : NoRoot G.entries
   pub ready : IsReady (tree_in U G) m.ready.tasks.members
   pub origins : TellsOrigins (tree_in U G) m.ready.origins.items
 
 -- it stands for the game, but for that and for the seat of task i, which has been taken out to make a turn
-pub record HoldsBut {L : Type 0} (stands : L → Tree → Type 0) (shape : Shape) (code : Block) (U : Given) (m : Machine L) (i : ℕ) (G : Game) : Type 0 where
+pub record HoldsBut {L : Type 0} (stands : L → Tree → Type 0) (shape : Shape) (code : Block) (U : Given) (m : Machine L) (i : ℕ)
+    (G : Game) : Type 0 where
   pub shares : Shares stands code U m G
   pub empty : seat_at m.seats.items i ≡ None
   pub others : (n : ℕ) → n ≢ i → SlotIs shape (tree_in U G) G.players n (seat_at m.seats.items n)
@@ -74,7 +70,8 @@ pub record IsPick (U : Given) (k i : ℕ) (seat : Seat) (G : Game) : Type 0 wher
   pub number : seat.row.number.0 ≡ i
 
 -- the task of the seat, at a place, began its turn as the player p and has come to the player q
-pub record HasGone (shape : Shape) (U : Given) (i : ℕ) (here : PlaceId) (p q : Player) (S Z : State) (j : List PlaceEvent) (seat : Seat) (G : Game) : Type 0 where
+pub record HasGone (shape : Shape) (U : Given) (i : ℕ) (here : PlaceId) (p q : Player) (S Z : State)
+    (j : List PlaceEvent) (seat : Seat) (G : Game) : Type 0 where
   pub player : slice_get G.players i ≡ Some p
   pub store : slice_get G.stores here.0 ≡ Some S
   pub is_at : seat.row.place ≡ At here
@@ -86,7 +83,8 @@ abbrev pub Makes : (Game → Type 0) → (Game → Type 0) → Type 0
 Makes Turned P = (G : Game) × Turned G × P G
 
 -- task i, which the pick k moves and which was taken out of its slot, has come to the player q
-pub record Acting {L : Type 0} (stands : L → Tree → Type 0) (shape : Shape) (code : Block) (U : Given) (m : Machine L) (k i : ℕ) (here : PlaceId) (q : Player) (seat : Seat) (G : Game) : Type 0 where
+pub record Acting {L : Type 0} (stands : L → Tree → Type 0) (shape : Shape) (code : Block) (U : Given) (m : Machine L) (k i : ℕ)
+    (here : PlaceId) (q : Player) (seat : Seat) (G : Game) : Type 0 where
   pub but : HoldsBut stands shape code U m i G
   pub pick : IsPick U k i seat G
   pub began : Player
@@ -102,7 +100,8 @@ pub record Acting {L : Type 0} (stands : L → Tree → Type 0) (shape : Shape) 
   pub players : length G.players ≡ (tree_in U G).next_task
 
 -- task i, which the pick k moves and which was taken out of its slot, travels to a place
-pub record Landing {L : Type 0} (stands : L → Tree → Type 0) (shape : Shape) (code : Block) (U : Given) (m : Machine L) (k i : ℕ) (to : PlaceId) (seat : Seat) (G : Game) : Type 0 where
+pub record Landing {L : Type 0} (stands : L → Tree → Type 0) (shape : Shape) (code : Block) (U : Given) (m : Machine L) (k i : ℕ)
+    (to : PlaceId) (seat : Seat) (G : Game) : Type 0 where
   pub but : HoldsBut stands shape code U m i G
   pub pick : IsPick U k i seat G
   pub player : Player
@@ -126,7 +125,8 @@ pub record Finished {L : Type 0} (stands : L → Tree → Type 0) (U : Given) (m
   pub none_ready : m.ready.tasks.members ≡ []
 
 -- no task is enabled, and the root may be released, which leaves no task
-pub record Releasing {L : Type 0} (stands : L → Tree → Type 0) (shape : Shape) (code : Block) (U : Given) (m : Machine L) (G : Game) : Type 0 where
+pub record Releasing {L : Type 0} (stands : L → Tree → Type 0) (shape : Shape) (code : Block) (U : Given) (m : Machine L) (G : Game)
+    : Type 0 where
   pub holds : Seated stands shape code U m G
   pub unreleased : NoRoot G.entries
   pub none_due : NoneDue (length G.entries) G.kills
@@ -137,7 +137,8 @@ pub record Releasing {L : Type 0} (stands : L → Tree → Type 0) (shape : Shap
   pub none_left : (without (tree_in U G) the_root).tasks ≡ []
 
 -- the machine stands for a game in which the root stands, and what holds of such a game
-pub record CanTurn {L : Type 0} (stands : L → Tree → Type 0) (shape : Shape) (code : Block) (U : Given) (m : Machine L) (G : Game) : Type 0 where
+pub record CanTurn {L : Type 0} (stands : L → Tree → Type 0) (shape : Shape) (code : Block) (U : Given) (m : Machine L) (G : Game)
+    : Type 0 where
   pub holds : Seated stands shape code U m G
   pub unreleased : NoRoot G.entries
   pub numbers : HasNumbers (tree_in U G)

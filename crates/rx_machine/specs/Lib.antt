@@ -1,4 +1,3 @@
-pub mod Kepts
 pub mod Callers
 pub mod Held
 pub mod Spine
@@ -7,6 +6,7 @@ pub mod Picking
 pub mod Origins
 pub mod Holds
 pub mod Requests
-pub mod Asked
-pub mod Runs
 pub mod Refusals
+pub mod Runs
+pub mod Games
+pub mod Acts

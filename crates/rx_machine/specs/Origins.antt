@@ -9,11 +9,13 @@ use Rattle.rx_rules.specs.declared.entries.Entry.{Entry}
 use Rattle.rx_rules.specs.declared.entries.Entry.TheVariants.{Step, Root, Death}
 use Rattle.rx_rules.specs.Tree.{Tree}
 use Rattle.rx_sound.specs.Sound.{Each}
-use Rattle.rx_machine.specs.declared.ready.Origin.{Origin}
+use Rattle.rx_machine.specs.declared.enabled.Origin.{Origin}
 
 -- the table tells of a scope who opened it, and inside which scope
 abbrev pub IsTold : List Origin → Scope → Type 0
-IsTold origins g = (o : TaskId) (p : ScopeId) → g.opener ≡ Some o → g.parent ≡ Some p → slice_get origins g.number.0 ≡ Some (record { opener = o; parent = p })
+IsTold origins g =
+    (o : TaskId) (p : ScopeId) → g.opener ≡ Some o → g.parent ≡ Some p
+    → slice_get origins g.number.0 ≡ Some (record { opener = o; parent = p })
 
 -- it has as many rows as there were scopes, and tells of each that stands
 pub record TellsOrigins (T : Tree) (origins : List Origin) : Type 0 where

@@ -13,7 +13,7 @@ use Rattle.rx_rules.specs.Run.{Given, NoneDue}
 use Rattle.rx_rules.specs.Picked.{Game, Player, Turn, Goes, enabled, tree_in}
 use Rattle.rx_store.specs.Kept.{Kept}
 use Rattle.rx_machine.specs.declared.machine.Machine.{Machine}
-use Rattle.rx_machine.specs.Holds.{StoresAre}
+use Rattle.rx_stores.specs.Kepts.{StoresAre}
 
 -- each list begins the one at its place
 abbrev pub BeginEach : List (List PlaceEvent) → List (List PlaceEvent) → Type 0

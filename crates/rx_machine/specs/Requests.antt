@@ -44,7 +44,8 @@ pub record OnlyStores {L : Type 0} (m m' : Machine L) : Type 0 where
   pub failed : m'.failed ≡ m.failed
 
 -- what one step leaves: the task has come further and has fewer steps left, or it has come to a request
-abbrev pub AfterStep : {L : Type 0} → (L → Tree → Type 0) → Shape → Block → Given → Machine L → ℕ → ℕ → PlaceId → Player → Seat → Game → Option Next → Type 0
+abbrev pub AfterStep : {L : Type 0} → (L → Tree → Type 0) → Shape → Block → Given → Machine L → ℕ → ℕ → PlaceId → Player → Seat
+    → Game → Option Next → Type 0
 AfterStep stands shape code U m k i here q seat G None =
     (r : Player) × Acting stands shape code U m k i here r seat G × (steps r.term + 1 ≤ steps q.term)
 AfterStep stands shape code U m k i here q seat G (Some next) =

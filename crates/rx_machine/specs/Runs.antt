@@ -9,7 +9,7 @@ use Rattle.rx_rules.specs.Code.{Block, work}
 use Rattle.rx_rules.specs.Tree.{Tree, task_of}
 use Rattle.rx_rules.specs.Run.{Given, NoneDue, IsDue, NoRoot, EndsWithRoot}
 use Rattle.rx_rules.specs.Reached.{Reached}
-use Rattle.rx_rules.specs.Picked.{Game, Turn, Turns, enabled, tree_in}
+use Rattle.rx_rules.specs.Picked.{Game, Turn, Turns, enabled, tree_in, used_after}
 use Rattle.rx_history.specs.Logs.{Log}
 use Rattle.rx_history.specs.Events.{AllEvents, events_of}
 use Rattle.rx_history.specs.Setups.{given}
@@ -19,22 +19,26 @@ use Rattle.rx_machine.specs.declared.seat.Seat.{Seat}
 use Rattle.rx_machine.specs.Slots.{seat_at}
 use Rattle.rx_machine.specs.Picking.{IsReady}
 use Rattle.rx_machine.specs.Origins.{TellsOrigins}
-use Rattle.rx_machine.specs.Holds.{Seated, Holds, CanTurn, Makes}
+use Rattle.rx_machine.specs.Holds.{Seated, Holds, Finished, CanTurn, Makes}
+use Rattle.rx_machine.specs.Refusals.{HasFailed}
 
 -- a turn can be made, no kill is due, and it is told which tasks are enabled
-pub record Calm {L : Type 0} (stands : L → Tree → Type 0) (shape : Shape) (code : Block) (U : Given) (m : Machine L) (G : Game) : Type 0 where
+pub record Calm {L : Type 0} (stands : L → Tree → Type 0) (shape : Shape) (code : Block) (U : Given) (m : Machine L) (G : Game)
+    : Type 0 where
   pub can : CanTurn stands shape code U m G
   pub none_due : NoneDue (length G.entries) G.kills
   pub ready : IsReady (tree_in U G) m.ready.tasks.members
   pub origins : TellsOrigins (tree_in U G) m.ready.origins.items
 
 -- the death of the place is due
-pub record Dying {L : Type 0} (stands : L → Tree → Type 0) (shape : Shape) (code : Block) (U : Given) (m : Machine L) (d : PlaceId) (G : Game) : Type 0 where
+pub record Dying {L : Type 0} (stands : L → Tree → Type 0) (shape : Shape) (code : Block) (U : Given) (m : Machine L) (d : PlaceId)
+    (G : Game) : Type 0 where
   pub can : CanTurn stands shape code U m G
   pub due : IsDue (length G.entries) d G.kills
 
 -- the pick k moves the task of slot i
-pub record Taken {L : Type 0} (stands : L → Tree → Type 0) (shape : Shape) (code : Block) (U : Given) (m : Machine L) (k i : ℕ) (G : Game) : Type 0 where
+pub record Taken {L : Type 0} (stands : L → Tree → Type 0) (shape : Shape) (code : Block) (U : Given) (m : Machine L) (k i : ℕ)
+    (G : Game) : Type 0 where
   pub can : CanTurn stands shape code U m G
   pub none_due : NoneDue (length G.entries) G.kills
   pub inside : i < length m.seats.items
@@ -44,7 +48,8 @@ pub record Taken {L : Type 0} (stands : L → Tree → Type 0) (shape : Shape) (
 
 -- the pick k has moved the task of slot i, which hung under that scope, there were so many slots before, and the set still has the
 -- tasks that were enabled then
-pub record HasMoved {L : Type 0} (stands : L → Tree → Type 0) (shape : Shape) (code : Block) (U : Given) (m : Machine L) (k i : ℕ) (under : ScopeId) (before : ℕ) (G H : Game) : Type 0 where
+pub record HasMoved {L : Type 0} (stands : L → Tree → Type 0) (shape : Shape) (code : Block) (U : Given) (m : Machine L) (k i : ℕ)
+    (under : ScopeId) (before : ℕ) (G H : Game) : Type 0 where
   pub can : CanTurn stands shape code U m H
   pub turn : Turn U k G true H
   pub reached : Reached (tree_in U G)
@@ -68,6 +73,26 @@ HasDied stands shape code U m k G = Makes (Turn U k G false) (λ G'. Seated stan
 abbrev pub WentOn : {L : Type 0} → (L → Tree → Type 0) → Shape → Block → Given → Machine L → ℕ → Bool → Game → Type 0
 WentOn stands shape code U m k used G = Makes (Turn U k G used) (Holds stands shape code U m)
 
+-- there is a game for which the machine stands
+abbrev pub CanRun : {L : Type 0} → (L → Tree → Type 0) → Shape → Machine L → Type 0
+CanRun stands shape m = (code : Block) × (U : Given) × (G : Game) × Holds stands shape code U m G
+
+-- from each game for which the machine stood, it went on with the first of the picks or without it, and these are left
+abbrev pub HasGoneOn : {L : Type 0} → (L → Tree → Type 0) → Shape → Machine L → Machine L → (ℕ → ℕ) → (ℕ → ℕ) → Type 0
+HasGoneOn stands shape m m' picks left =
+    (used : Bool)
+    × ((code : Block) (U : Given) (G : Game) → Holds stands shape code U m G → WentOn stands shape code U m' (picks 0) used G)
+    × ((j : ℕ) → left j ≡ picks (used_after used j))
+
+-- from each game for which the machine stood, the root was released
+abbrev pub HasEnded : {L : Type 0} → (L → Tree → Type 0) → Shape → Machine L → Machine L → ℕ → Type 0
+HasEnded stands shape m m' k =
+    (code : Block) (U : Given) (G : Game) → Holds stands shape code U m G → Makes (Turn U k G false) (Finished stands U m')
+
+-- from each game for which the machine stood, a turn with the pick k was refused
+abbrev pub WasRefused : {L : Type 0} → (L → Tree → Type 0) → Shape → Machine L → Machine L → ℕ → Type 0
+WasRefused stands shape m m' k = (code : Block) (U : Given) (G : Game) → Holds stands shape code U m G → HasFailed U k m' G
+
 -- the number of picks that the entries used: one for each that is a task's
 abbrev pub picks_in : List Entry → ℕ
 picks_in [] = 0
@@ -84,7 +109,8 @@ pub record Gives {L : Type 0} (stands : L → Tree → Type 0) (U : Given) (G : 
 
 -- What is left of a machine that has made all turns from a game on: the game that they lead to, which ends with the root's release, is
 -- given out, and one pick was used for each entry of a task that they added. They and the turns before them are few.
-pub record RanFrom {L : Type 0} (stands : L → Tree → Type 0) (code : Block) (U : Given) (picks left : ℕ → ℕ) (G : Game) (r : Log × AllEvents × L) : Type 0 where
+pub record RanFrom {L : Type 0} (stands : L → Tree → Type 0) (code : Block) (U : Given) (picks left : ℕ → ℕ)
+    (G : Game) (r : Log × AllEvents × L) : Type 0 where
   pub turns : ℕ
   pub game : Game
   pub made : Turns U picks turns 0 G game

@@ -4,7 +4,8 @@ use Rattle.rx_base.specs.declared.ids.PlaceId.{PlaceId}
 use Rattle.rx_base.specs.declared.ids.ScopeId.{ScopeId}
 use Rattle.rx_rules.specs.declared.tasks.Task.{Task}
 use Rattle.rx_rules.specs.declared.tasks.Kind.{Kind}
-use Rattle.rx_rules.specs.Tree.{Tree, task_of, opened_by}
+use Rattle.rx_rules.specs.declared.tasks.Where.TheVariants.{At}
+use Rattle.rx_rules.specs.Tree.{Tree, task_of, opened_by, the_root}
 use Rattle.rx_rules.specs.Entries.{is_hit}
 use Rattle.rx_rules.specs.Picked.{Player}
 use Rattle.rx_nodes.specs.Shape.{Shape}
@@ -12,6 +13,10 @@ use Rattle.rx_control.specs.Stands.{StandsFor}
 use Rattle.rx_machine.specs.declared.seat.Seat.{Seat}
 use Rattle.rx_machine.specs.Held.{is_held, HeldInFront}
 use Rattle.rx_machine.specs.Spine.{Spine}
+
+-- the row of the main activity
+abbrev pub root_row : Task
+root_row = record { number = record { 0 = 0 }; under = the_root; place = At (record { 0 = 0 }); waits = false; struck = None }
 
 -- the task, if no death has struck it
 abbrev pub if_unstruck : Task → Option Task

@@ -1,20 +1,18 @@
 // The machine.
-ghost use Rattle.std.specs.Prelude.{◌≡◌, ◌<◌, false, [], ◌∷◌, Some, None, length, slice_set, IfOk};
-ghost use Rattle.rx_rules.specs.declared.tasks.Where.TheVariants.{At as Stays};
+ghost use Rattle.std.specs.Prelude.{◌≡◌, [], ◌∷◌, Some, length, IfOk};
 ghost use Rattle.rx_rules.specs.Code.{Block};
 ghost use Rattle.rx_rules.specs.Terms.{Empty, no_vars, items};
-ghost use Rattle.rx_rules.specs.Tree.{the_root};
 ghost use Rattle.rx_rules.specs.Fold.{opening};
 ghost use Rattle.rx_rules.specs.Run.{Proper};
 ghost use Rattle.rx_rules.specs.Picked.{start_game};
 ghost use Rattle.rx_history.specs.Setups.{given};
 ghost use Rattle.rx_nodes.specs.Shape.{Stands};
 ghost use Rattle.rx_control.specs.Stands.{StandsFor};
+ghost use Rattle.rx_machine.specs.Slots.{root_row};
 ghost use Rattle.rx_machine.specs.Holds.{Holds};
 
-use crate::ready::{Origin, Ready};
+use crate::enabled::{Origin, Ready};
 use crate::seat::Seat;
-use crate::stores::Stores;
 use rx_base::{Batch, NoMemory, PlaceId, ScopeId, TaskId};
 use rx_check::{Program, checked};
 use rx_control::Control;
@@ -23,6 +21,7 @@ use rx_history::{History, Setup};
 use rx_kills::Kills;
 use rx_rank::Ranks;
 use rx_rules::{Task, Where};
+use rx_stores::Stores;
 use std::alloc::Global;
 
 /// A run with its ledger.
@@ -48,7 +47,8 @@ impl<L: FinishLedger> Machine<L> {
     pub fn open(alloc: Global, p: &Program, setup: Setup, ledger: L) -> Result<Machine<L>, NoMemory>
         requires proper { Proper (given setup) }
         requires opened { L.stands ledger (opening (given setup).places) }
-        ensures { IfOk result (λ m. (code : Block) → Stands p.now.script code → Holds L.stands p.now.script code (given setup) m (start_game code (given setup))) }
+        ensures { IfOk result (λ m. (code : Block) → Stands p.now.script code
+            → Holds L.stands p.now.script code (given setup) m (start_game code (given setup))) }
     {
         checked(p);
         let kills = Kills::open(alloc, &setup.kills)?;
@@ -72,9 +72,10 @@ impl<L: FinishLedger> Machine<L> {
 
 /// The seat of the main activity, which is at place 0 under the root.
 fn root_seat(alloc: Global, p: &Program) -> Result<Seat, NoMemory>
-    ensures row { IfOk result (λ seat. seat.row ≡ record { number = record { 0 = 0 }; under = the_root; place = Stays (record { 0 = 0 }); waits = false; struck = None }) }
+    ensures row { IfOk result (λ seat. seat.row ≡ root_row) }
     ensures bare { IfOk result (λ seat. (seat.scopes.items ≡ []) × (seat.batch ≡ [])) }
-    ensures control { IfOk result (λ seat. (b : Block) → Stands p.now.script b → StandsFor p.now.script seat.control (items b [] Empty) × (seat.control.vars ≡ no_vars)) }
+    ensures control { IfOk result (λ seat. (b : Block) → Stands p.now.script b
+        → StandsFor p.now.script seat.control (items b [] Empty) × (seat.control.vars ≡ no_vars)) }
 {
     let control = Control::main(alloc, p)?;
     Ok(Seat {
@@ -114,12 +115,4 @@ fn root_ready(alloc: Global) -> Result<Ready, NoMemory>
         parent: ScopeId(0),
     })?;
     Ok(Ready { tasks, origins })
-}
-
-/// Puts a seat into its slot.
-pub(crate) fn put_back(seats: &mut Vec<Option<Seat>>, i: usize, seat: Seat)
-    requires { i < length seats.old.items }
-    ensures { seats.new.items ≡ slice_set seats.old.items i (Some seat) }
-{
-    seats[i] = Some(seat);
 }

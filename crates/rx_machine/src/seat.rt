@@ -1,6 +1,7 @@
-// What the machine holds of one task that no death has struck.
-ghost use Rattle.std.specs.Prelude.{◌≡◌};
+// What the machine holds of one task that no death has struck, and the slots in which it lies.
+ghost use Rattle.std.specs.Prelude.{◌≡◌, ◌<◌, length, Some, None, slice_set};
 ghost use Rattle.rx_machine.specs.Callers.{caller};
+ghost use Rattle.rx_machine.specs.Slots.{seat_at};
 
 use rx_base::{Batch, ScopeId};
 use rx_control::Control;
@@ -33,4 +34,32 @@ impl Seat {
             place: self.row.place,
         }
     }
+}
+
+/// The scope that the task of a slot hangs under.
+pub(crate) fn under_of(seats: &[Option<Seat>], i: usize) -> ScopeId
+    requires { (seat : Seat) × (seat_at seats.now i ≡ Some seat) }
+    ensures { (seat : Seat) → seat_at seats.now i ≡ Some seat → result ≡ seat.row.under }
+{
+    match &seats[i] {
+        Some(seat) => seat.row.under,
+        None => unreachable!(),
+    }
+}
+
+/// Takes the seat out of its slot.
+pub(crate) fn take_seat(seats: &mut Vec<Option<Seat>>, i: usize) -> Option<Seat>
+    requires { i < length seats.old.items }
+    ensures taken { result ≡ seat_at seats.old.items i }
+    ensures left { seats.new.items ≡ slice_set seats.old.items i None }
+{
+    seats[i].take()
+}
+
+/// Puts a seat into its slot.
+pub(crate) fn put_back(seats: &mut Vec<Option<Seat>>, i: usize, seat: Seat)
+    requires { i < length seats.old.items }
+    ensures { seats.new.items ≡ slice_set seats.old.items i (Some seat) }
+{
+    seats[i] = Some(seat);
 }

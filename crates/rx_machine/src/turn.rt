@@ -1,16 +1,19 @@
 // A turn: the place whose kill is due dies, or else the pick's task moves, or the root is released.
-ghost use Rattle.std.specs.Prelude.{◌≡◌, ◌<◌, ◌^◌, ◌%◌, ℕ, suc, Bool, length, map, slice_get, Some, Ok, OnOk, OnErr, true, false, vec_len, vec_capacity};
+ghost use Rattle.std.specs.Prelude.{◌≡◌, ◌<◌, ◌^◌, ◌%◌, ℕ, suc, length, map, slice_get, Some, Ok, OnOk, OnErr, true, false};
+ghost use Rattle.std.specs.Prelude.{vec_len, vec_capacity};
 ghost use Rattle.rx_rules.specs.Code.{Block};
 ghost use Rattle.rx_rules.specs.Run.{Given};
-ghost use Rattle.rx_rules.specs.Picked.{Game, Turn as MadeTurn, used_after, tree_in};
+ghost use Rattle.rx_rules.specs.Picked.{Game, Turn as MadeTurn, tree_in};
+ghost use Rattle.rx_nodes.specs.Shape.{Shape};
 ghost use Rattle.rx_machine.specs.Picking.{IsReady};
 ghost use Rattle.rx_machine.specs.Origins.{TellsOrigins};
-ghost use Rattle.rx_machine.specs.Holds.{Holds, Finished, Makes};
-ghost use Rattle.rx_machine.specs.Refusals.{HasBegun, HasFailed};
-ghost use Rattle.rx_machine.specs.Runs.{Calm, Dying, WentOn};
+ghost use Rattle.rx_machine.specs.Holds.{Finished, Makes};
+ghost use Rattle.rx_machine.specs.Refusals.{HasBegun};
+ghost use Rattle.rx_machine.specs.Runs.{Dying, WentOn, CanRun, HasGoneOn, HasEnded, WasRefused};
+ghost use Rattle.rx_machine.specs.Games.{EachDying, SomeCalm, EachCalm};
 
 use crate::machine::Machine;
-use crate::turning::under_of;
+use crate::seat::under_of;
 use rx_base::{NoMemory, PlaceId};
 use rx_check::Program;
 use rx_finish::FinishLedger;
@@ -32,13 +35,14 @@ impl<L: FinishLedger> Machine<L> {
     /// answers `NoMemory`, changes nothing and uses no pick; the history and the journals begin with those of the turns before, and
     /// begin those that the refused turn leads to, and `enabled` tells what it told before that turn.
     pub fn turn<P: Picks>(&mut self, p: &Program, picks: &mut P) -> Result<Turn, NoMemory>
-        requires game { self.old.failed ≡ false → (code : Block) × (U : Given) × (G : Game) × Holds L.stands p.now.script code U self.old G }
-        ensures moved { result ≡ Ok Turn.Moved → (used : Bool) × ((code : Block) (U : Given) (G : Game) → Holds L.stands p.now.script code U self.old G → WentOn L.stands p.now.script code U self.new (P.number picks.old 0) used G) × ((j : ℕ) → P.number picks.new j ≡ P.number picks.old (used_after used j)) }
-        ensures ended { result ≡ Ok Turn.Ended → (code : Block) (U : Given) (G : Game) → Holds L.stands p.now.script code U self.old G → Makes (MadeTurn U (P.number picks.old 0) G false) (Finished L.stands U self.new) }
+        requires game { self.old.failed ≡ false → CanRun L.stands p.now.script self.old }
+        ensures moved { result ≡ Ok Turn.Moved
+            → HasGoneOn L.stands p.now.script self.old self.new (P.number picks.old) (P.number picks.new) }
+        ensures ended { result ≡ Ok Turn.Ended → HasEnded L.stands p.now.script self.old self.new (P.number picks.old 0) }
         ensures unused { result ≡ Ok Turn.Ended → picks.new ≡ picks.old }
         ensures failed { OnOk result (self.old.failed ≡ false) }
         ensures fails { OnErr result (self.new.failed ≡ true) }
-        ensures refused { OnErr result ((code : Block) (U : Given) (G : Game) → Holds L.stands p.now.script code U self.old G → HasFailed U (P.number picks.old 0) self.new G) }
+        ensures refused { OnErr result (WasRefused L.stands p.now.script self.old self.new (P.number picks.old 0)) }
         ensures setup { OnErr result (self.new.history.setup ≡ self.old.history.setup) }
         ensures stays { self.old.failed ≡ true → (self.new ≡ self.old) × (picks.new ≡ picks.old) }
     {
@@ -61,11 +65,12 @@ impl<L: FinishLedger> Machine<L> {
         p: &Program,
         picks: &mut P,
     ) -> Result<bool, NoMemory>
-        requires game { (code : Block) × (U : Given) × (G : Game) × Holds L.stands p.now.script code U self.old G }
-        ensures moved { result ≡ Ok true → (used : Bool) × ((code : Block) (U : Given) (G : Game) → Holds L.stands p.now.script code U self.old G → WentOn L.stands p.now.script code U self.new (P.number picks.old 0) used G) × ((j : ℕ) → P.number picks.new j ≡ P.number picks.old (used_after used j)) }
-        ensures ended { result ≡ Ok false → (code : Block) (U : Given) (G : Game) → Holds L.stands p.now.script code U self.old G → Makes (MadeTurn U (P.number picks.old 0) G false) (Finished L.stands U self.new) }
+        requires game { CanRun L.stands p.now.script self.old }
+        ensures moved { result ≡ Ok true
+            → HasGoneOn L.stands p.now.script self.old self.new (P.number picks.old) (P.number picks.new) }
+        ensures ended { result ≡ Ok false → HasEnded L.stands p.now.script self.old self.new (P.number picks.old 0) }
         ensures unused { result ≡ Ok false → picks.new ≡ picks.old }
-        ensures refused { OnErr result ((code : Block) (U : Given) (G : Game) → Holds L.stands p.now.script code U self.old G → HasFailed U (P.number picks.old 0) self.new G) }
+        ensures refused { OnErr result (WasRefused L.stands p.now.script self.old self.new (P.number picks.old 0)) }
         ensures setup { OnErr result (self.new.history.setup ≡ self.old.history.setup) }
     {
         rx_runs::games_come();
@@ -75,7 +80,7 @@ impl<L: FinishLedger> Machine<L> {
         self.make_room()?;
         match self.kills.due(self.history.len() as u32) {
             Some(place) => {
-                self.make_death(p, place);
+                self.make_death(place);
                 Ok(true)
             }
             None => self.take_pick(p, picks),
@@ -100,16 +105,18 @@ impl<L: FinishLedger> Machine<L> {
     }
 
     // Makes the death of a place. It may free many tasks that wait, and asks of every slot: a run has at most 15 deaths.
-    fn make_death(&mut self, p: &Program, place: PlaceId)
+    fn make_death(&mut self, place: PlaceId)
         requires room { 0 < self.old.history.spare }
         requires slots { length self.old.seats.items < self.old.ready.tasks.room }
-        requires game { (code : Block) × (U : Given) × (G : Game) × Dying L.stands p.now.script code U self.old place G × IsReady (tree_in U G) self.old.ready.tasks.members × TellsOrigins (tree_in U G) self.old.ready.origins.items }
-        ensures { (code : Block) (U : Given) (k : ℕ) (G : Game) → Dying L.stands p.now.script code U self.old place G → IsReady (tree_in U G) self.old.ready.tasks.members → TellsOrigins (tree_in U G) self.old.ready.origins.items → WentOn L.stands p.now.script code U self.new k false G }
+        requires game { (shape : Shape) × (code : Block) × (U : Given) × (G : Game) × Dying L.stands shape code U self.old place G
+            × IsReady (tree_in U G) self.old.ready.tasks.members × TellsOrigins (tree_in U G) self.old.ready.origins.items }
+        ensures { EachDying L.stands self.old place (λ shape code U G. (k : ℕ) → IsReady (tree_in U G) self.old.ready.tasks.members
+            → TellsOrigins (tree_in U G) self.old.ready.origins.items → WentOn L.stands shape code U self.new k false G) }
     {
         rx_runs::games_come();
         rx_sound::fold_is_reached();
         rx_sound::reached_is_sound();
-        self.die(p, place);
+        self.die(place);
         self.note_all();
     }
 
@@ -119,11 +126,15 @@ impl<L: FinishLedger> Machine<L> {
         requires room { 0 < self.old.history.spare }
         requires slots { length self.old.seats.items < self.old.ready.tasks.room }
         requires spare { vec_len self.old.ready.origins < vec_capacity self.old.ready.origins }
-        requires game { (code : Block) × (U : Given) × (G : Game) × Calm L.stands p.now.script code U self.old G }
-        ensures moved { result ≡ Ok true → ((code : Block) (U : Given) (G : Game) → Calm L.stands p.now.script code U self.old G → WentOn L.stands p.now.script code U self.new (P.number picks.old 0) true G) × ((j : ℕ) → P.number picks.new j ≡ P.number picks.old (suc j)) }
-        ensures ended { result ≡ Ok false → (code : Block) (U : Given) (G : Game) → Calm L.stands p.now.script code U self.old G → Makes (MadeTurn U (P.number picks.old 0) G false) (Finished L.stands U self.new) }
+        requires game { SomeCalm L.stands p.now.script self.old }
+        ensures moved { result ≡ Ok true → EachCalm L.stands p.now.script self.old (λ code U G.
+            WentOn L.stands p.now.script code U self.new (P.number picks.old 0) true G)
+            × ((j : ℕ) → P.number picks.new j ≡ P.number picks.old (suc j)) }
+        ensures ended { result ≡ Ok false → EachCalm L.stands p.now.script self.old (λ code U G.
+            Makes (MadeTurn U (P.number picks.old 0) G false) (Finished L.stands U self.new)) }
         ensures unused { result ≡ Ok false → picks.new ≡ picks.old }
-        ensures refused { OnErr result ((code : Block) (U : Given) (G : Game) → Calm L.stands p.now.script code U self.old G → HasBegun U (P.number picks.old 0) G self.new.history.entries (map (λ s. s.events) self.new.stores.items)) }
+        ensures refused { OnErr result (EachCalm L.stands p.now.script self.old (λ code U G.
+            HasBegun U (P.number picks.old 0) G self.new.history.entries (map (λ s. s.events) self.new.stores.items))) }
         ensures ready { OnErr result (self.new.ready.tasks.members ≡ self.old.ready.tasks.members) }
         ensures setup { OnErr result (self.new.history.setup ≡ self.old.history.setup) }
     {
@@ -134,7 +145,7 @@ impl<L: FinishLedger> Machine<L> {
         rx_sound::root_stands_until_released();
         rx_sound::fold_is_reached();
         if self.ready.tasks.len() == 0 {
-            self.release_root(p)?;
+            self.release_root()?;
             return Ok(false);
         }
         let i = chosen(&self.ready.tasks, picks);

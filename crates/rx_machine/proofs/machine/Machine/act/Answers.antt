@@ -9,10 +9,10 @@ pub open_finish-requires-clause-game : goal.open_finish-requires-clause-game
 open_finish-requires-clause-game g c =
     let w = c.requires.game in
     let r = c.in_ok-next.ensures.next w.0 w.1 w.2 w.3 w.4 w.5 in
-    (w.0, w.1, w.2, r.0, w.4, r.1, told_open _ _ c.in-Book-Open.field-0 r.2 c.in-Book-Open.is (rw c.in-Book-Open.is at c.in-Book-Open.field-0-is))
+    (c.args.here, (w.0, w.1, w.2, r.0, w.4, r.1, told_open _ _ c.in-Book-Open.field-0 r.2 c.in-Book-Open.is (rw c.in-Book-Open.is at c.in-Book-Open.field-0-is)))
 
-pub call-requires-clause-game : goal.call-requires-clause-game
-call-requires-clause-game g c =
+pub open_at-requires-clause-game : goal.open_at-requires-clause-game
+open_at-requires-clause-game g c =
     let w = c.requires.game in
     let r = c.in_ok-next.ensures.next w.0 w.1 w.2 w.3 w.4 w.5 in
     (w.0, w.1, w.2, r.0, w.4, r.1, told_call _ _ c.in-Book-At.field-0 c.in-Book-At.to r.2 c.in-Book-At.is (rw c.in-Book-At.is at c.in-Book-At.field-0-is))
@@ -27,26 +27,26 @@ pub wait-requires-clause-game : goal.wait-requires-clause-game
 wait-requires-clause-game g c =
     let w = c.requires.game in
     let r = c.in_ok-next.ensures.next w.0 w.1 w.2 w.3 w.4 w.5 in
-    (w.0, w.1, w.2, r.0, w.4, r.1, told_wait _ _ c.in-Book-Wait.field-0 r.2 c.in-Book-Wait.is (rw c.in-Book-Wait.is at c.in-Book-Wait.field-0-is))
+    (c.args.here, (w.0, w.1, w.2, r.0, w.4, r.1, told_wait _ _ c.in-Book-Wait.field-0 r.2 c.in-Book-Wait.is (rw c.in-Book-Wait.is at c.in-Book-Wait.field-0-is)))
 
 pub release-requires-clause-game : goal.release-requires-clause-game
 release-requires-clause-game g c =
     let w = c.requires.game in
     let r = c.in_ok-next.ensures.next w.0 w.1 w.2 w.3 w.4 w.5 in
-    (w.0, w.1, w.2, r.0, w.4, r.1, told_release _ _ c.in-Book-Release.field-0 r.2 c.in-Book-Release.is (rw c.in-Book-Release.is at c.in-Book-Release.field-0-is))
+    (c.args.here, (w.0, w.1, w.2, r.0, w.4, r.1, told_release _ _ c.in-Book-Release.field-0 r.2 c.in-Book-Release.is (rw c.in-Book-Release.is at c.in-Book-Release.field-0-is)))
 
 pub print-requires-clause-game : goal.print-requires-clause-game
 print-requires-clause-game g c =
     let w = c.requires.game in
     let r = c.in_ok-next.ensures.next w.0 w.1 w.2 w.3 w.4 w.5 in
     let t : to_z w64 (of_z w64 c.in-Book-Print.value) ≡ c.in-Book-Print.value = search rules in
-    (w.0, w.1, w.2, r.0, w.4, r.1, told_print _ _ c.in-Book-Print.field-0 c.in-Book-Print.value r.2 c.in-Book-Print.is (rw c.in-Book-Print.is at c.in-Book-Print.field-0-is) ∙ ap (λ z. Prints z) (sym t))
+    (c.args.here, (w.0, w.1, w.2, r.0, w.4, r.1, told_print _ _ c.in-Book-Print.field-0 c.in-Book-Print.value r.2 c.in-Book-Print.is (rw c.in-Book-Print.is at c.in-Book-Print.field-0-is) ∙ ap (λ z. Prints z) (sym t)))
 
 pub end-requires-clause-game : goal.end-requires-clause-game
 end-requires-clause-game g c =
     let w = c.requires.game in
     let r = c.in_ok-next.ensures.next w.0 w.1 w.2 w.3 w.4 w.5 in
-    (w.0, w.1, w.2, r.0, w.4, r.1, told_end _ _ r.2 c.in-Done.is)
+    (c.args.p.now.script, c.args.i, c.args.here, (w.0, w.1, w.2, r.0, w.4, r.1, told_end _ _ r.2 c.in-Done.is))
 
 pub unreachable-requires : goal.unreachable-requires
 unreachable-requires g c =
@@ -63,12 +63,12 @@ unreachable-requires-in-Cell g c =
 pub returns-in-Book-Open-clause-made : goal.returns-in-Book-Open-clause-made
 returns-in-Book-Open-clause-made g c = on_ok c.open_finish.result (λ h code U k q G a.
     let r = c.in_ok-next.ensures.next code U k q G a in
-    h code U k r.0 G r.1 (told_open _ _ c.in-Book-Open.field-0 r.2 c.in-Book-Open.is (rw c.in-Book-Open.is at c.in-Book-Open.field-0-is))) c.open_finish.ensures.made
+    h c.args.here code U k r.0 G r.1 (told_open _ _ c.in-Book-Open.field-0 r.2 c.in-Book-Open.is (rw c.in-Book-Open.is at c.in-Book-Open.field-0-is))) c.open_finish.ensures.made
 
 pub returns-in-Book-At-clause-made : goal.returns-in-Book-At-clause-made
-returns-in-Book-At-clause-made g c = on_ok c.call.result (λ h code U k q G a.
+returns-in-Book-At-clause-made g c = on_ok c.open_at.result (λ h code U k q G a.
     let r = c.in_ok-next.ensures.next code U k q G a in
-    h code U k r.0 G r.1 (told_call _ _ c.in-Book-At.field-0 c.in-Book-At.to r.2 c.in-Book-At.is (rw c.in-Book-At.is at c.in-Book-At.field-0-is))) c.call.ensures.made
+    h code U k r.0 G r.1 (told_call _ _ c.in-Book-At.field-0 c.in-Book-At.to r.2 c.in-Book-At.is (rw c.in-Book-At.is at c.in-Book-At.field-0-is))) c.open_at.ensures.made
 
 pub returns-in-Book-Spawn-clause-made : goal.returns-in-Book-Spawn-clause-made
 returns-in-Book-Spawn-clause-made g c = on_ok c.spawn.result (λ h code U k q G a.
@@ -78,23 +78,23 @@ returns-in-Book-Spawn-clause-made g c = on_ok c.spawn.result (λ h code U k q G 
 pub returns-in-Book-Wait-clause-made : goal.returns-in-Book-Wait-clause-made
 returns-in-Book-Wait-clause-made g c = on_ok c.wait.result (λ h code U k q G a.
     let r = c.in_ok-next.ensures.next code U k q G a in
-    h code U k r.0 G r.1 (told_wait _ _ c.in-Book-Wait.field-0 r.2 c.in-Book-Wait.is (rw c.in-Book-Wait.is at c.in-Book-Wait.field-0-is))) c.wait.ensures.made
+    h c.args.here code U k r.0 G r.1 (told_wait _ _ c.in-Book-Wait.field-0 r.2 c.in-Book-Wait.is (rw c.in-Book-Wait.is at c.in-Book-Wait.field-0-is))) c.wait.ensures.made
 
 pub returns-in-Book-Release-clause-made : goal.returns-in-Book-Release-clause-made
 returns-in-Book-Release-clause-made g c = on_ok c.release.result (λ h code U k q G a.
     let r = c.in_ok-next.ensures.next code U k q G a in
-    h code U k r.0 G r.1 (told_release _ _ c.in-Book-Release.field-0 r.2 c.in-Book-Release.is (rw c.in-Book-Release.is at c.in-Book-Release.field-0-is))) c.release.ensures.made
+    h c.args.here code U k r.0 G r.1 (told_release _ _ c.in-Book-Release.field-0 r.2 c.in-Book-Release.is (rw c.in-Book-Release.is at c.in-Book-Release.field-0-is))) c.release.ensures.made
 
 pub returns-in-Book-Print-clause-made : goal.returns-in-Book-Print-clause-made
 returns-in-Book-Print-clause-made g c = on_ok c.print.result (λ h code U k q G a.
     let r = c.in_ok-next.ensures.next code U k q G a in
     let t : to_z w64 (of_z w64 c.in-Book-Print.value) ≡ c.in-Book-Print.value = search rules in
-    h code U k r.0 G r.1 (told_print _ _ c.in-Book-Print.field-0 c.in-Book-Print.value r.2 c.in-Book-Print.is (rw c.in-Book-Print.is at c.in-Book-Print.field-0-is) ∙ ap (λ z. Prints z) (sym t))) c.print.ensures.made
+    h c.args.here code U k r.0 G r.1 (told_print _ _ c.in-Book-Print.field-0 c.in-Book-Print.value r.2 c.in-Book-Print.is (rw c.in-Book-Print.is at c.in-Book-Print.field-0-is) ∙ ap (λ z. Prints z) (sym t))) c.print.ensures.made
 
 pub returns-in-Done-clause-made : goal.returns-in-Done-clause-made
 returns-in-Done-clause-made g c = on_ok c.end.result (λ h code U k q G a.
     let r = c.in_ok-next.ensures.next code U k q G a in
-    h code U k r.0 G r.1 (told_end _ _ r.2 c.in-Done.is)) c.end.ensures.made
+    h c.args.p.now.script c.args.i c.args.here code U k r.0 G r.1 (told_end _ _ r.2 c.in-Done.is)) c.end.ensures.made
 
 pub returns-in-Book-Open-clause-refused : goal.returns-in-Book-Open-clause-refused
 returns-in-Book-Open-clause-refused g c = on_err c.open_finish.result (λ told code U k q G a.
@@ -105,12 +105,12 @@ pub returns-in-Book-Open-clause-history : goal.returns-in-Book-Open-clause-histo
 returns-in-Book-Open-clause-history g c = on_err c.open_finish.result (λ told. told.history ∙ c.run_on.ensures.same.history) c.open_finish.ensures.refused
 
 pub returns-in-Book-At-clause-refused : goal.returns-in-Book-At-clause-refused
-returns-in-Book-At-clause-refused g c = on_err c.call.result (λ told code U k q G a.
+returns-in-Book-At-clause-refused g c = on_err c.open_at.result (λ told code U k q G a.
     let r = c.in_ok-next.ensures.next code U k q G a in
-    acting-told g.L.FinishLedger.stands c.args.p.now.script code U _ k c.args.i c.args.here r.0 _ G _ (ap (λ v. v.items) told.stores) r.1) c.call.ensures.refused
+    acting-told g.L.FinishLedger.stands c.args.p.now.script code U _ k c.args.i c.args.here r.0 _ G _ (ap (λ v. v.items) told.stores) r.1) c.open_at.ensures.refused
 
 pub returns-in-Book-At-clause-history : goal.returns-in-Book-At-clause-history
-returns-in-Book-At-clause-history g c = on_err c.call.result (λ told. told.history ∙ c.run_on.ensures.same.history) c.call.ensures.refused
+returns-in-Book-At-clause-history g c = on_err c.open_at.result (λ told. told.history ∙ c.run_on.ensures.same.history) c.open_at.ensures.refused
 
 pub returns-in-Book-Spawn-clause-refused : goal.returns-in-Book-Spawn-clause-refused
 returns-in-Book-Spawn-clause-refused g c = on_err c.spawn.result (λ told code U k q G a.

@@ -9,51 +9,33 @@ use Rattle.rx_finish.specs.declared.ledger.Caller.{Caller}
 use Rattle.rx_finish.specs.Callers.{MayAsk, Travels, does_travel}
 use Rattle.rx_base.specs.declared.ids.PlaceId.{PlaceId}
 use Rattle.rx_finish.specs.Calls.{blow_of, landing}
-use Rattle.rx_machine.proofs.Asking.{seat_asks, seat_unstruck, not_lost}
-use Rattle.rx_machine.proofs.Landed.{landed}
+use Rattle.rx_machine.proofs.Asking.{seat_asks, seat_unstruck}
+use Rattle.rx_machine.proofs.Landed.{arrival-granted, landed}
 use Rattle.rx_machine.proofs.machine.Machine.arrive.Goals as goal
 
 pub arrive-requires : goal.arrive-requires
 arrive-requires g c =
+    let shape = c.requires.game.0 in
     let game = c.requires.game in
-    let T = tree_in game.1 game.3 in
-    let a = game.4 in
-    let may = subst (λ (w : Caller). MayAsk T w Travels) (sym c.caller-who.ensures) (seat_asks c.args.p.now.script T c.args.i a.player c.args.seat Travels a.seat_is a.numbers (record { travels = ap (λ (w : Where). does_travel w) a.travels })) in
+    let T = tree_in game.2 game.4 in
+    let a = game.5 in
+    let may = subst (λ (w : Caller). MayAsk T w Travels) (sym c.caller-who.ensures) (seat_asks shape T c.args.i a.player c.args.seat Travels a.seat_is a.numbers (record { travels = ap (λ (w : Where). does_travel w) a.travels })) in
     (T, a.but.shares.ledger, may)
 
 pub unreachable-requires : goal.unreachable-requires
 unreachable-requires g c =
+    let shape = c.requires.game.0 in
     let game = c.requires.game in
-    let T = tree_in game.1 game.3 in
-    let a = game.4 in
-    let may = subst (λ (w : Caller). MayAsk T w Travels) (sym c.caller-who.ensures) (seat_asks c.args.p.now.script T c.args.i a.player c.args.seat Travels a.seat_is a.numbers (record { travels = ap (λ (w : Where). does_travel w) a.travels })) in
-    let reply = c.in-Err-NoMemory.ensures T a.but.shares.ledger may in
-    rw c.in-Err-NoMemory.field-0-is at reply
-
-pub unreachable-requires-in-Err-Lost : goal.unreachable-requires-in-Err-Lost
-unreachable-requires-in-Err-Lost g c =
-    let game = c.requires.game in
-    let T = tree_in game.1 game.3 in
-    let a = game.4 in
-    let may = subst (λ (w : Caller). MayAsk T w Travels) (sym c.caller-who.ensures) (seat_asks c.args.p.now.script T c.args.i a.player c.args.seat Travels a.seat_is a.numbers (record { travels = ap (λ (w : Where). does_travel w) a.travels })) in
-    let free = subst (λ (w : Caller). blow_of T w.task ≡ None) (sym c.caller-who.ensures) (seat_unstruck c.args.p.now.script T c.args.i a.player c.args.seat a.seat_is) in
-    let reply = c.in-Err-Lost.ensures T a.but.shares.ledger may in
-    let lost = rw c.in-Err-Lost.field-0-is at reply in
-    not_lost T c.caller-who.result.task (record { place = c.in-Err-Lost.field-0-0; entry = c.in-Err-Lost.field-0-1 }) free lost.0
-
-pub unreachable-requires-in-Err-NotYet : goal.unreachable-requires-in-Err-NotYet
-unreachable-requires-in-Err-NotYet g c =
-    let game = c.requires.game in
-    let T = tree_in game.1 game.3 in
-    let a = game.4 in
-    let may = subst (λ (w : Caller). MayAsk T w Travels) (sym c.caller-who.ensures) (seat_asks c.args.p.now.script T c.args.i a.player c.args.seat Travels a.seat_is a.numbers (record { travels = ap (λ (w : Where). does_travel w) a.travels })) in
-    let reply = c.in-Err-NotYet.ensures T a.but.shares.ledger may in
-    rw c.in-Err-NotYet.field-0-is at reply
+    let T = tree_in game.2 game.4 in
+    let a = game.5 in
+    let may = subst (λ (w : Caller). MayAsk T w Travels) (sym c.caller-who.ensures) (seat_asks shape T c.args.i a.player c.args.seat Travels a.seat_is a.numbers (record { travels = ap (λ (w : Where). does_travel w) a.travels })) in
+    let free = subst (λ (w : Caller). blow_of T w.task ≡ None) (sym c.caller-who.ensures) (seat_unstruck shape T c.args.i a.player c.args.seat a.seat_is) in
+    arrival-granted T c.caller-who.result c.in-Err.field-0 (g.L.FinishLedger.stands c.arrive.new.self) free (c.in-Err.ensures T a.but.shares.ledger may)
 
 pub returns-clause-made : goal.returns-clause-made
-returns-clause-made g c = λ code U k G a.
+returns-clause-made g c = λ shape code U k G a.
     let T = tree_in U G in
-    let may = subst (λ (w : Caller). MayAsk T w Travels) (sym c.caller-who.ensures) (seat_asks c.args.p.now.script T c.args.i a.player c.args.seat Travels a.seat_is a.numbers (record { travels = ap (λ (w : Where). does_travel w) a.travels })) in
+    let may = subst (λ (w : Caller). MayAsk T w Travels) (sym c.caller-who.ensures) (seat_asks shape T c.args.i a.player c.args.seat Travels a.seat_is a.numbers (record { travels = ap (λ (w : Where). does_travel w) a.travels })) in
     let did = c.in-Ok.ensures T a.but.shares.ledger may in
     let t : c.caller-who.result.task ≡ c.args.seat.row.number = ap (λ (w : Caller). w.task) c.caller-who.ensures in
     let place : landing c.caller-who.result.place ≡ c.args.to = ap (λ (w : Caller). landing w.place) c.caller-who.ensures ∙ ap (λ (w : Where). landing w) a.travels in
@@ -63,5 +45,5 @@ returns-clause-made g c = λ code U k G a.
     ap (λ l. l.entries) c.add.ensures
     ∙ (ap (λ (u : TaskId). c.args.self.now.history.entries ++ Step u (Arrive c.args.to) c.open.result ∷ []) t
     ∙ ap (λ (v : List (List ℕ)). c.args.self.now.history.entries ++ Step c.args.seat.row.number (Arrive c.args.to) v ∷ []) c.open.ensures) in
-    landed g.L.FinishLedger.stands c.args.p.now.script code U c.args.self.now _ k c.args.i c.args.to c.args.seat _ G a allowed refl refl refl refl
+    landed g.L.FinishLedger.stands shape code U c.args.self.now _ k c.args.i c.args.to c.args.seat _ G a allowed refl refl refl refl
     (record { places = refl; setup = ap (λ l. l.setup) c.add.ensures; entries = entries; kills = refl; failed = refl; stores = refl; ledger = made }) c.put_back.ensures

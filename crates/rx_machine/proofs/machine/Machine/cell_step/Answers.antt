@@ -5,7 +5,7 @@ use Rattle.rx_rules.specs.Terms.{receives, answer_of, vars_after}
 use Rattle.rx_store.specs.Kept.{ends_closed}
 use Rattle.rx_control.specs.declared.control.Control.{Control}
 use Rattle.rx_control.specs.Stands.{StandsFor}
-use Rattle.rx_machine.specs.Asked.{MayAskStore}
+use Rattle.rx_stores.specs.Asked.{MayAskStore}
 use Rattle.rx_machine.proofs.Called.{call_is, store_is, events_few, called}
 use Rattle.rx_machine.proofs.Halting.{called-told}
 use Rattle.rx_machine.proofs.Requested.{any_err}

@@ -9,26 +9,28 @@ use Rattle.rx_machine.proofs.machine.Machine.die.Goals as goal
 
 pub death-requires : goal.death-requires
 death-requires g c =
+    let shape = c.requires.game.0 in
     let w = c.requires.game in
-    let at : c.len-at.result ≡ length w.2.entries = c.len-at.ensures ∙ ap length w.3.can.holds.shares.entries in
-    let may = may-strike g.L.FinishLedger.stands c.args.p.now.script w.0 w.1 c.args.self.now c.args.place w.2 c.games_come.ensures w.3 in
-    (tree_in w.1 w.2, w.3.can.holds.shares.ledger, subst (λ (n : ℕ). MayStrike (tree_in w.1 w.2) c.args.place n) (sym at) may)
+    let at : c.len-at.result ≡ length w.3.entries = c.len-at.ensures ∙ ap length w.4.can.holds.shares.entries in
+    let may = may-strike g.L.FinishLedger.stands shape w.1 w.2 c.args.self.now c.args.place w.3 c.games_come.ensures w.4 in
+    (tree_in w.2 w.3, w.4.can.holds.shares.ledger, subst (λ (n : ℕ). MayStrike (tree_in w.2 w.3) c.args.place n) (sym at) may)
 
 pub close-requires : goal.close-requires
 close-requires g c =
+    let shape = c.requires.game.0 in
     let w = c.requires.game in
-    let at : c.len-at.result ≡ length w.2.entries = c.len-at.ensures ∙ ap length w.3.can.holds.shares.entries in
-    let s = store-open g.L.FinishLedger.stands c.args.p.now.script w.0 w.1 c.args.self.now c.args.place w.2 c.games_come.ensures w.3 in
+    let at : c.len-at.result ≡ length w.3.entries = c.len-at.ensures ∙ ap length w.4.can.holds.shares.entries in
+    let s = store-open g.L.FinishLedger.stands shape w.1 w.2 c.args.self.now c.args.place w.3 c.games_come.ensures w.4 in
     (s.0, s.1.found, s.1.unclosed, subst (λ (n : ℕ). last_stamp s.0.events ≤ n) (sym at) s.1.last)
 
 pub returns-clause-made : goal.returns-clause-made
-returns-clause-made g c = λ code U k G t.
+returns-clause-made g c = λ shape code U G t k.
     let at : c.len-at.result ≡ length G.entries = c.len-at.ensures ∙ ap length t.can.holds.shares.entries in
-    let may = may-strike g.L.FinishLedger.stands c.args.p.now.script code U c.args.self.now c.args.place G c.games_come.ensures t in
+    let may = may-strike g.L.FinishLedger.stands shape code U c.args.self.now c.args.place G c.games_come.ensures t in
     let ledger =
     subst (λ (n : ℕ). g.L.FinishLedger.stands c.death.new.self (strike (record { place = c.args.place; entry = n }) (tree_in U G))) at
     (c.death.ensures (tree_in U G) t.can.holds.shares.ledger (subst (λ (n : ℕ). MayStrike (tree_in U G) c.args.place n) (sym at) may)) in
-    fallen g.L.FinishLedger.stands c.args.p.now.script code U c.args.self.now c.args.place G c.games_come.ensures t _ k
+    fallen g.L.FinishLedger.stands shape code U c.args.self.now c.args.place G c.games_come.ensures t _ k
     (record {
       places = refl;
       setup = ap (λ l. l.setup) c.add.ensures;

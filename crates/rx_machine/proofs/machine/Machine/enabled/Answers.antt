@@ -1,5 +1,5 @@
 use Rattle.std.proofs.Common.{◌∙◌, length, ap, sym}
-use Rattle.rx_machine.proofs.Turned.{counted}
+use Rattle.rx_machine.proofs.BeforeTurn.{counted}
 use Rattle.rx_machine.proofs.machine.Machine.enabled.Goals as goal
 
 pub returns-clause-holds : goal.returns-clause-holds

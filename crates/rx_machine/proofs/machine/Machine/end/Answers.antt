@@ -16,30 +16,34 @@ use Rattle.rx_machine.proofs.machine.Machine.end.Goals as goal
 
 pub end-requires : goal.end-requires
 end-requires g c =
-    let game = c.requires.game in
+    let shape = c.requires.game.0 in
+    let i = c.requires.game.1 in
+    let here = c.requires.game.2 in
+    let game = c.requires.game.3 in
     let T = tree_in game.1 game.4 in
     let a = game.5 in
-    (T, a.but.shares.ledger, subst (λ (w : Caller). MayAskEnd T w) (sym c.caller-who.ensures) (end-asks c.args.p.now.script T c.args.i game.3 c.args.seat c.args.here game.1.places game.6.0 a.gone.seat_is a.numbers a.gone.is_at game.6.1))
+    (T, a.but.shares.ledger, subst (λ (w : Caller). MayAskEnd T w) (sym c.caller-who.ensures) (end-asks shape T i game.3 c.args.seat here game.1.places game.6.0 a.gone.seat_is a.numbers a.gone.is_at game.6.1))
 
 pub no_memory-requires : goal.no_memory-requires
 no_memory-requires g c =
-    let game = c.requires.game in
+    let shape = c.requires.game.0 in
+    let i = c.requires.game.1 in
+    let here = c.requires.game.2 in
+    let game = c.requires.game.3 in
     let T = tree_in game.1 game.4 in
     let a = game.5 in
-    let may = subst (λ (w : Caller). MayAskEnd T w) (sym c.caller-who.ensures) (end-asks c.args.p.now.script T c.args.i game.3 c.args.seat c.args.here game.1.places game.6.0 a.gone.seat_is a.numbers a.gone.is_at game.6.1) in
-    let free = subst (λ (w : Caller). blow_of T w.task ≡ None) (sym c.caller-who.ensures) (seat_unstruck c.args.p.now.script T c.args.i game.3 c.args.seat a.gone.seat_is) in
+    let may = subst (λ (w : Caller). MayAskEnd T w) (sym c.caller-who.ensures) (end-asks shape T i game.3 c.args.seat here game.1.places game.6.0 a.gone.seat_is a.numbers a.gone.is_at game.6.1) in
+    let free = subst (λ (w : Caller). blow_of T w.task ≡ None) (sym c.caller-who.ensures) (seat_unstruck shape T i game.3 c.args.seat a.gone.seat_is) in
     end-refused T c.caller-who.result c.take_faults-faults.result (c.in-Err.fault, c.in-Err.field-0-1) (g.L.FinishLedger.stands c.end.new.self) free (c.in-Err.ensures T a.but.shares.ledger may)
 
 pub returns-clause-made : goal.returns-clause-made
-returns-clause-made g c = λ code U k q G a asks.
+returns-clause-made g c = λ shape i here code U k q G a asks.
     let T = tree_in U G in
     let s = a.gone.seat_is in
     let fs = asks.0 in
-    let here = c.args.here in
-    let shape = c.args.p.now.script in
     let so = ap (λ v. does v here.0 U.places q.term) s.vars ∙ asks.1 in
     let faults : c.take_faults-faults.result ≡ fs = c.take_faults-faults.ensures.list shape q.term here U.places fs s.term (ap carried so) in
-    let may = subst (λ (w : Caller). MayAskEnd T w) (sym c.caller-who.ensures) (end-asks shape T c.args.i q c.args.seat here U.places fs s a.numbers a.gone.is_at asks.1) in
+    let may = subst (λ (w : Caller). MayAskEnd T w) (sym c.caller-who.ensures) (end-asks shape T i q c.args.seat here U.places fs s a.numbers a.gone.is_at asks.1) in
     let did = c.in-Ok.ensures T a.but.shares.ledger may in
     let who : c.caller-who.result.task ≡ c.args.seat.row.number = ap (λ (w : Caller). w.task) c.caller-who.ensures in
     let allowed = subst (λ (t : TaskId). MayEnd T t) who did.allowed in
@@ -51,5 +55,5 @@ returns-clause-made g c = λ code U k q G a asks.
     ∙ (ap (λ (v : List Fault). c.args.self.now.history.entries ++ Step c.caller-who.result.task (End v) c.replace-batch.result ∷ []) (c.in_ok-thrown.ensures ∙ faults)
     ∙ (ap (λ (t : TaskId). c.args.self.now.history.entries ++ Step t (End fs) c.replace-batch.result ∷ []) who
     ∙ ap (λ (v : List (List ℕ)). c.args.self.now.history.entries ++ Step c.args.seat.row.number (End fs) v ∷ []) c.replace-batch.ensures.value)) in
-    ended g.L.FinishLedger.stands shape code U c.args.self.now _ k c.args.i here q c.args.seat G fs a asks.1 allowed
+    ended g.L.FinishLedger.stands shape code U c.args.self.now _ k i here q c.args.seat G fs a asks.1 allowed
     (record { places = refl; setup = ap (λ l. l.setup) c.add.ensures; entries = entries; kills = refl; failed = refl; stores = refl; ledger = ledger }) refl

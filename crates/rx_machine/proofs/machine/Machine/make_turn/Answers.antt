@@ -3,8 +3,8 @@ use Rattle.rx_rules.specs.Picked.{tree_in}
 use Rattle.rx_machine.specs.declared.machine.Machine.{Machine}
 use Rattle.rx_machine.specs.Picking.{IsReady}
 use Rattle.rx_machine.specs.Origins.{TellsOrigins}
-use Rattle.rx_machine.specs.declared.ready.Origin.{Origin}
-use Rattle.rx_machine.proofs.Turned.{dying, calm, can-turn, counted}
+use Rattle.rx_machine.specs.declared.enabled.Origin.{Origin}
+use Rattle.rx_machine.proofs.BeforeTurn.{dying, calm, can-turn, counted}
 use Rattle.rx_machine.proofs.Noting.{roomy-can}
 use Rattle.rx_machine.proofs.Halting.{refused-same}
 use Rattle.rx_machine.proofs.Requested.{on_errs, any_err}
@@ -22,6 +22,7 @@ pub make_death-requires-clause-game : goal.make_death-requires-clause-game
 make_death-requires-clause-game g c =
     let w = c.requires.game in
     let can = roomy-can g.L.FinishLedger.stands c.args.p.now.script w.0 w.1 c.args.self.now c.make_room.new.self w.2 c.games_come.ensures c.fold_is_reached.ensures c.in_ok-make_room.ensures.same c.in_ok-make_room.ensures.told w.3 in (
+      c.args.p.now.script,
       w.0,
       w.1,
       w.2,
@@ -45,7 +46,7 @@ returns-in-Some-clause-moved g c = λ e. (
       let can = roomy-can g.L.FinishLedger.stands c.args.p.now.script code U c.args.self.now c.make_room.new.self G c.games_come.ensures c.fold_is_reached.ensures c.in_ok-make_room.ensures.same c.in_ok-make_room.ensures.told h in
       let ready = subst (λ (ns : List ℕ). IsReady (tree_in U G) ns) (sym c.in_ok-make_room.ensures.members) h.ready in
       let told = subst (λ (xs : List Origin). TellsOrigins (tree_in U G) xs) (sym c.in_ok-make_room.ensures.origins) h.origins in
-      c.make_death.ensures code U (g.P.Picks.number c.args.picks.now 0) G (dying g.L.FinishLedger.stands c.args.p.now.script code U c.make_room.new.self c.in-Some.place G c.len.result can c.len.ensures c.in-Some.ensures.due) ready told,
+      c.make_death.ensures c.args.p.now.script code U G (dying g.L.FinishLedger.stands c.args.p.now.script code U c.make_room.new.self c.in-Some.place G c.len.result can c.len.ensures c.in-Some.ensures.due) (g.P.Picks.number c.args.picks.now 0) ready told,
   λ j. refl,
 )
 

@@ -1,6 +1,6 @@
 use Rattle.std.proofs.Common.{◌≡◌, Some, None, ◌∙◌, sym, refl}
 use Rattle.rx_machine.proofs.Requested.{on_ok, on_err}
-use Rattle.rx_machine.proofs.Taking.{lands, acts}
+use Rattle.rx_machine.proofs.SeatTaken.{lands, acts}
 use Rattle.rx_machine.proofs.machine.Machine.move_task.Goals as goal
 
 pub take_seat-requires : goal.take_seat-requires
@@ -10,7 +10,7 @@ pub arrive-requires-clause-game : goal.arrive-requires-clause-game
 arrive-requires-clause-game g c =
     let w = c.requires.game in
     let at = sym c.take_seat.ensures.taken ∙ c.in-Some.is in
-    (w.0, w.1, w.2, w.3, lands g.L.FinishLedger.stands c.args.p.now.script w.0 w.1 c.args.self.now _ w.2 c.args.i c.in-Travel.from c.in-Travel.to c.in-Some.seat w.3 w.4 at (record { same = refl; left = c.take_seat.ensures.left }) c.in-Travel.is)
+    (c.args.p.now.script, w.0, w.1, w.2, w.3, lands g.L.FinishLedger.stands c.args.p.now.script w.0 w.1 c.args.self.now _ w.2 c.args.i c.in-Travel.from c.in-Travel.to c.in-Some.seat w.3 w.4 at (record { same = refl; left = c.take_seat.ensures.left }) c.in-Travel.is)
 
 pub act-requires-clause-game : goal.act-requires-clause-game
 act-requires-clause-game g c =
@@ -28,7 +28,7 @@ unreachable-requires g c =
 pub returns-in-Travel-clause-made : goal.returns-in-Travel-clause-made
 returns-in-Travel-clause-made g c = λ code U k G t.
     let at = sym c.take_seat.ensures.taken ∙ c.in-Some.is in
-    c.arrive.ensures.made code U k G (lands g.L.FinishLedger.stands c.args.p.now.script code U c.args.self.now (record c.args.self.now { seats = c.take_seat.new.seats }) k c.args.i c.in-Travel.from c.in-Travel.to c.in-Some.seat G t at (record { same = refl; left = c.take_seat.ensures.left }) c.in-Travel.is)
+    c.arrive.ensures.made c.args.p.now.script code U k G (lands g.L.FinishLedger.stands c.args.p.now.script code U c.args.self.now (record c.args.self.now { seats = c.take_seat.new.seats }) k c.args.i c.in-Travel.from c.in-Travel.to c.in-Some.seat G t at (record { same = refl; left = c.take_seat.ensures.left }) c.in-Travel.is)
 
 pub returns-in-At-clause-made : goal.returns-in-At-clause-made
 returns-in-At-clause-made g c = on_ok c.act.result (λ h code U k G t.

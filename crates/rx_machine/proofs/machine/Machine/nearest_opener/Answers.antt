@@ -3,7 +3,7 @@ use Rattle.rx_base.specs.declared.ids.TaskId.{TaskId}
 use Rattle.rx_base.specs.declared.ids.ScopeId.{ScopeId}
 use Rattle.rx_rules.specs.Picked.{tree_in}
 use Rattle.rx_sound.specs.Enabling.{is_left}
-use Rattle.rx_machine.proofs.Openers.{step_up, step_at, row_inside, left_seen, found_left, goes_on, none_above_root}
+use Rattle.rx_machine.proofs.OriginsKept.{step_up, step_at, row_inside, left_seen, found_left, goes_on, none_above_root}
 use Rattle.rx_machine.proofs.machine.Machine.nearest_opener.Goals as goal
 
 pub index-origin-requires : goal.index-origin-requires

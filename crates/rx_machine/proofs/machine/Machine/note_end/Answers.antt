@@ -2,7 +2,7 @@ use Rattle.std.proofs.Common.{List, ap, ◌∙◌, sym, subst}
 use Rattle.rx_rules.specs.Picked.{tree_in}
 use Rattle.rx_rank.specs.Numbers.{marked}
 use Rattle.rx_machine.specs.declared.machine.Machine.{Machine}
-use Rattle.rx_machine.specs.declared.ready.Origin.{Origin}
+use Rattle.rx_machine.specs.declared.enabled.Origin.{Origin}
 use Rattle.rx_machine.specs.Slots.{seat_at}
 use Rattle.rx_machine.specs.Holds.{CanTurn}
 use Rattle.rx_machine.specs.Picking.{slot_able}
@@ -12,7 +12,8 @@ use Rattle.rx_machine.proofs.machine.Machine.note_end.Goals as goal
 
 pub nearest_opener-requires : goal.nearest_opener-requires
 nearest_opener-requires g c =
-    let w = c.requires.game in
+    let before = c.requires.game.0 in
+    let w = c.requires.game.1 in
     let stands = g.L.FinishLedger.stands in
     let m = c.args.self.now in
     record {
@@ -20,21 +21,22 @@ nearest_opener-requires g c =
         w.0,
         w.1,
         w.2,
-        w.6,
-        subst (λ (x : Machine g.row.L.Denot). CanTurn stands w.0 w.1 w.2 x w.6) (sym c.note.ensures.same) (can-same stands w.0 w.1 w.2 m c.note.new.self.ready w.6 w.7.can),
-        subst (λ (xs : List Origin). TellsOrigins (tree_in w.2 w.6) xs) (ap (λ v. v.items) (sym c.note.ensures.origins)) w.8,
-        end-way stands w.0 w.1 w.2 m w.3 c.args.i c.args.under w.4 w.5 w.6 c.reached_is_sound.ensures w.7 c.way_up_stays.ensures c.requires.ended,
+        w.5,
+        subst (λ (x : Machine g.row.L.Denot). CanTurn stands w.0 w.1 w.2 x w.5) (sym c.note.ensures.same) (can-same stands w.0 w.1 w.2 m c.note.new.self.ready w.5 w.6.can),
+        subst (λ (xs : List Origin). TellsOrigins (tree_in w.2 w.5) xs) (ap (λ v. v.items) (sym c.note.ensures.origins)) w.7,
+        end-way stands w.0 w.1 w.2 m w.3 c.args.i c.args.under before w.4 w.5 c.reached_is_sound.ensures w.6 c.way_up_stays.ensures c.requires.ended,
       );
     }
 
 pub note-requires-in-Some-clause-game : goal.note-requires-in-Some-clause-game
 note-requires-in-Some-clause-game g c =
-    let w = c.requires.game in
+    let before = c.requires.game.0 in
+    let w = c.requires.game.1 in
     let stands = g.L.FinishLedger.stands in
-    (w.0, w.1, w.2, w.6, subst (λ (x : Machine g.row.L.Denot). CanTurn stands w.0 w.1 w.2 x w.6) (sym c.note.ensures.same) (can-same stands w.0 w.1 w.2 c.args.self.now c.note.new.self.ready w.6 w.7.can))
+    (w.0, w.1, w.2, w.5, subst (λ (x : Machine g.row.L.Denot). CanTurn stands w.0 w.1 w.2 x w.5) (sym c.note.ensures.same) (can-same stands w.0 w.1 w.2 c.args.self.now c.note.new.self.ready w.5 w.6.can))
 
 pub returns-in-Some-clause-ready : goal.returns-in-Some-clause-ready
-returns-in-Some-clause-ready g c = λ shape code U k before G H h told.
+returns-in-Some-clause-ready g c = λ before shape code U k G H h told.
     let stands = g.L.FinishLedger.stands in
     let m = c.args.self.now in
     let can = subst (λ (x : Machine g.row.L.Denot). CanTurn stands shape code U x H) (sym c.note.ensures.same) (can-same stands shape code U m c.note.new.self.ready H h.can) in
@@ -48,7 +50,7 @@ returns-in-Some-clause-ready g c = λ shape code U k before G H h told.
     ∙ ap (marked (slot_able (tree_in U H) (seat_at m.seats.items c.in-Some.opener.0)) c.in-Some.opener.0) (c.note.ensures.members shape code U H h.can)))
 
 pub returns-in-None-clause-ready : goal.returns-in-None-clause-ready
-returns-in-None-clause-ready g c = λ shape code U k before G H h told.
+returns-in-None-clause-ready g c = λ before shape code U k G H h told.
     let stands = g.L.FinishLedger.stands in
     let m = c.args.self.now in
     let can = subst (λ (x : Machine g.row.L.Denot). CanTurn stands shape code U x H) (sym c.note.ensures.same) (can-same stands shape code U m c.note.new.self.ready H h.can) in

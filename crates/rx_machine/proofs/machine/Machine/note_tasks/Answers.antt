@@ -13,7 +13,7 @@ pub note_end-requires-clause-ended : goal.note_end-requires-clause-ended
 note_end-requires-clause-ended g c = none_at c.args.self.now.seats.items c.args.i c.index.result.now c.requires.inside c.index.ensures (none_here c.index.result.now (c.is_none.ensures ∙ ap not c.if-is_none.true))
 
 pub returns-then-is_none-clause-ready : goal.returns-then-is_none-clause-ready
-returns-then-is_none-clause-ready g c = λ shape code U k G H h told. c.note_end.ensures.ready shape code U k c.args.before G H h told
+returns-then-is_none-clause-ready g c = λ shape code U k G H h told. c.note_end.ensures.ready c.args.before shape code U k G H h told
 
 pub note-requires-then-before-len-clause-game : goal.note-requires-then-before-len-clause-game
 note-requires-then-before-len-clause-game g c =

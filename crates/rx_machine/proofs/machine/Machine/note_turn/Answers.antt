@@ -1,7 +1,7 @@
 use Rattle.std.proofs.Common.{List, ap, sym, subst}
 use Rattle.rx_rules.specs.Picked.{tree_in}
 use Rattle.rx_machine.specs.declared.machine.Machine.{Machine}
-use Rattle.rx_machine.specs.declared.ready.Origin.{Origin}
+use Rattle.rx_machine.specs.declared.enabled.Origin.{Origin}
 use Rattle.rx_machine.specs.Runs.{HasMoved}
 use Rattle.rx_machine.specs.Origins.{TellsOrigins}
 use Rattle.rx_machine.proofs.Noting.{moved-same}

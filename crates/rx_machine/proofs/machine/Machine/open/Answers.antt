@@ -4,7 +4,7 @@ use Rattle.rx_check.proofs.OneTree.{one-tree}
 use Rattle.rx_history.specs.Setups.{given}
 use Rattle.rx_machine.specs.Holds.{RunsOn}
 use Rattle.rx_machine.proofs.Programs.{runs-on}
-use Rattle.rx_machine.proofs.Opens.{opens-so, opens-ready, opens-told}
+use Rattle.rx_machine.proofs.FirstGame.{opens-so, opens-ready, opens-told}
 use Rattle.rx_machine.proofs.machine.Machine.open.Goals as goal
 
 pub returns : goal.returns

@@ -1,9 +1,8 @@
-use Rattle.std.proofs.Common.{◌≡◌, ◌++◌, [], ◌∷◌, ℕ, List, Some, None, refl, ap, ◌∙◌, sym, subst}
+use Rattle.std.proofs.Common.{◌≡◌, ◌++◌, [], ◌∷◌, List, Some, None, refl, ap, ◌∙◌, sym, subst}
 use Rattle.rx_base.specs.declared.ids.TaskId.{TaskId}
 use Rattle.rx_base.specs.declared.ids.ScopeId.{ScopeId}
 use Rattle.rx_base.specs.declared.values.Fault.{Fault}
 use Rattle.rx_rules.specs.declared.entries.Act.TheVariants.{Open}
-use Rattle.rx_rules.specs.declared.entries.Entry.TheVariants.{Step}
 use Rattle.rx_rules.specs.Terms.{granted, begins}
 use Rattle.rx_rules.specs.Entries.{AllowedAct, made_act}
 use Rattle.rx_rules.specs.Picked.{tree_in}
@@ -12,65 +11,60 @@ use Rattle.rx_finish.specs.Callers.{MayAsk, IsMoving}
 use Rattle.rx_finish.specs.Calls.{blow_of}
 use Rattle.rx_control.specs.Stands.{StandsFor}
 use Rattle.rx_machine.specs.Callers.{caller}
-use Rattle.rx_machine.proofs.Asking.{seat_asks, seat_unstruck, moving, not_lost}
-use Rattle.rx_machine.proofs.Opened.{open-begins, open-free, finish-opened}
+use Rattle.rx_machine.proofs.Acted.{closed}
+use Rattle.rx_machine.proofs.Asking.{seat_asks, seat_unstruck, moving}
+use Rattle.rx_machine.proofs.FinishBegun.{open-begins, open-free, open-refused, finish-opened}
 use Rattle.rx_machine.proofs.machine.Machine.open_finish.Goals as goal
 
 pub path_of-requires : goal.path_of-requires
 path_of-requires g c =
-    let game = c.requires.game in
-    let b = open-begins game.3 c.args.here.0 game.1.places game.6 in (game.3.term, b.0, game.5.gone.seat_is.term, b.1)
+    let here = c.requires.game.0 in
+    let game = c.requires.game.1 in
+    let b = open-begins game.3 here.0 game.1.places game.6 in (game.3.term, b.0, game.5.gone.seat_is.term, b.1)
 
 pub open_finish-requires : goal.open_finish-requires
 open_finish-requires g c =
-    let game = c.requires.game in
+    let here = c.requires.game.0 in
+    let game = c.requires.game.1 in
     let T = tree_in game.1 game.4 in
     let a = game.5 in
     let s = a.gone.seat_is in
     let who : c.caller-who.result ≡ caller c.args.seat.row c.args.seat.scopes.items = c.caller-who.ensures ∙ ap (caller c.args.seat.row) c.reserve.ensures.items in
-    (T, a.but.shares.ledger, subst (λ (w : Caller). MayAsk T w IsMoving) (sym who) (seat_asks c.args.p.now.script T c.args.i game.3 c.args.seat IsMoving s a.numbers (moving c.args.p.now.script T c.args.i game.3 c.args.seat c.args.here s a.gone.is_at (open-free game.3 c.args.here.0 game.1.places game.6))))
+    (T, a.but.shares.ledger, subst (λ (w : Caller). MayAsk T w IsMoving) (sym who) (seat_asks c.args.p.now.script T c.args.i game.3 c.args.seat IsMoving s a.numbers (moving c.args.p.now.script T c.args.i game.3 c.args.seat here s a.gone.is_at (open-free game.3 here.0 game.1.places game.6))))
 
-pub unreachable-requires : goal.unreachable-requires
-unreachable-requires g c =
-    let game = c.requires.game in
+pub no_memory-requires : goal.no_memory-requires
+no_memory-requires g c =
+    let here = c.requires.game.0 in
+    let game = c.requires.game.1 in
     let T = tree_in game.1 game.4 in
     let a = game.5 in
     let s = a.gone.seat_is in
     let who : c.caller-who.result ≡ caller c.args.seat.row c.args.seat.scopes.items = c.caller-who.ensures ∙ ap (caller c.args.seat.row) c.reserve.ensures.items in
-    let may = subst (λ (w : Caller). MayAsk T w IsMoving) (sym who) (seat_asks c.args.p.now.script T c.args.i game.3 c.args.seat IsMoving s a.numbers (moving c.args.p.now.script T c.args.i game.3 c.args.seat c.args.here s a.gone.is_at (open-free game.3 c.args.here.0 game.1.places game.6))) in
+    let may = subst (λ (w : Caller). MayAsk T w IsMoving) (sym who) (seat_asks c.args.p.now.script T c.args.i game.3 c.args.seat IsMoving s a.numbers (moving c.args.p.now.script T c.args.i game.3 c.args.seat here s a.gone.is_at (open-free game.3 here.0 game.1.places game.6))) in
     let free = subst (λ (w : Caller). blow_of T w.task ≡ None) (sym who) (seat_unstruck c.args.p.now.script T c.args.i game.3 c.args.seat s) in
-    let reply = c.in-Err-Lost.ensures T a.but.shares.ledger may in
-    let lost = rw c.in-Err-Lost.field-0-is at reply in
-    not_lost T c.caller-who.result.task (record { place = c.in-Err-Lost.field-0-0; entry = c.in-Err-Lost.field-0-1 }) free lost.0
+    open-refused T c.caller-who.result c.in-Err.fault (g.L.FinishLedger.stands c.open_finish.new.self) free (c.in-Err.ensures T a.but.shares.ledger may)
 
-pub unreachable-requires-in-Err-NotYet : goal.unreachable-requires-in-Err-NotYet
-unreachable-requires-in-Err-NotYet g c =
-    let game = c.requires.game in
-    let T = tree_in game.1 game.4 in
-    let a = game.5 in
-    let s = a.gone.seat_is in
-    let who : c.caller-who.result ≡ caller c.args.seat.row c.args.seat.scopes.items = c.caller-who.ensures ∙ ap (caller c.args.seat.row) c.reserve.ensures.items in
-    let may = subst (λ (w : Caller). MayAsk T w IsMoving) (sym who) (seat_asks c.args.p.now.script T c.args.i game.3 c.args.seat IsMoving s a.numbers (moving c.args.p.now.script T c.args.i game.3 c.args.seat c.args.here s a.gone.is_at (open-free game.3 c.args.here.0 game.1.places game.6))) in
-    let reply = c.in-Err-NotYet.ensures T a.but.shares.ledger may in
-    rw c.in-Err-NotYet.field-0-is at reply
+pub go_on-requires : goal.go_on-requires
+go_on-requires g c = let game = c.requires.game.1 in (game.3.term, game.5.gone.seat_is.term)
+
+pub close_turn-requires-clause-inside : goal.close_turn-requires-clause-inside
+close_turn-requires-clause-inside g c = c.requires.game.1.5.inside
 
 pub returns-clause-made : goal.returns-clause-made
-returns-clause-made g c = λ code U k q G a asks.
+returns-clause-made g c = λ here code U k q G a asks.
     let T = tree_in U G in
     let s = a.gone.seat_is in
-    let b = open-begins q c.args.here.0 U.places asks in
+    let b = open-begins q here.0 U.places asks in
     let who : c.caller-who.result ≡ caller c.args.seat.row c.args.seat.scopes.items = c.caller-who.ensures ∙ ap (caller c.args.seat.row) c.reserve.ensures.items in
-    let may = subst (λ (w : Caller). MayAsk T w IsMoving) (sym who) (seat_asks c.args.p.now.script T c.args.i q c.args.seat IsMoving s a.numbers (moving c.args.p.now.script T c.args.i q c.args.seat c.args.here s a.gone.is_at (open-free q c.args.here.0 U.places asks))) in
+    let may = subst (λ (w : Caller). MayAsk T w IsMoving) (sym who) (seat_asks c.args.p.now.script T c.args.i q c.args.seat IsMoving s a.numbers (moving c.args.p.now.script T c.args.i q c.args.seat here s a.gone.is_at (open-free q here.0 U.places asks))) in
     let path = c.in_ok-path.ensures q.term b.0 s.term b.1 in
     let at : begins q.term ≡ Some c.in_ok-path.path = b.1 ∙ ap (λ v. Some v) (sym path) in
     let did = c.in-Ok.ensures T a.but.shares.ledger may in
     let t : c.caller-who.result.task ≡ c.args.seat.row.number = ap (λ (w : Caller). w.task) who in
-    let term = subst (λ (fs : List Fault). StandsFor c.args.p.now.script c.resume.new.self (granted fs q.term)) c.open.ensures (c.in-Ok-resume.ensures.ok q.term s.term) in
-    let entries =
-    ap (λ l. l.entries) c.add.ensures
-    ∙ (ap (λ (u : TaskId). c.args.self.now.history.entries ++ Step u (Open c.in-Ok.scope c.caller-who.result.inner c.in_ok-path.path) c.replace-batch.result ∷ []) t
-    ∙ ap (λ (v : List (List ℕ)). c.args.self.now.history.entries ++ Step c.args.seat.row.number (Open c.in-Ok.scope c.caller-who.result.inner c.in_ok-path.path) v ∷ []) c.replace-batch.ensures.value) in
-    finish-opened g.L.FinishLedger.stands c.args.p.now.script code U c.args.self.now _ k c.args.i c.args.here q c.args.seat _ G c.in-Ok.scope c.caller-who.result.inner c.in_ok-path.path a asks at
-    (subst (λ (u : TaskId). AllowedAct T u (Open c.in-Ok.scope c.caller-who.result.inner c.in_ok-path.path)) t did.allowed)
-    term c.in-Ok-resume.ensures.vars refl (c.push_reserved.ensures.items ∙ ap (λ (ss : List ScopeId). ss ++ c.in-Ok.scope ∷ []) c.reserve.ensures.items) (c.replace-batch.ensures.after ∙ c.open-2.ensures)
-    (record { places = refl; setup = ap (λ l. l.setup) c.add.ensures; entries = entries; kills = refl; failed = refl; stores = refl; ledger = subst (λ (u : TaskId). g.L.FinishLedger.stands c.open_finish.new.self (made_act T u (Open c.in-Ok.scope c.caller-who.result.inner c.in_ok-path.path))) t did.made }) c.put_back.ensures
+    let act = Open c.in-Ok.scope c.caller-who.result.inner c.in_ok-path.path in
+    let term = subst (λ (fs : List Fault). StandsFor c.args.p.now.script c.go_on.new.control (granted fs q.term)) c.open.ensures (c.in_ok-go_on.ensures.ok q.term s.term) in
+    finish-opened g.L.FinishLedger.stands c.args.p.now.script code U c.args.self.now _ k c.args.i here q c.args.seat _ G c.in-Ok.scope c.caller-who.result.inner c.in_ok-path.path a asks at
+    (subst (λ (u : TaskId). AllowedAct T u act) t did.allowed)
+    term c.in_ok-go_on.ensures.vars refl (c.push_reserved.ensures.items ∙ ap (λ (ss : List ScopeId). ss ++ c.in-Ok.scope ∷ []) c.reserve.ensures.items) refl
+    (closed g.L.FinishLedger.stands c.args.self.now _ _ c.args.i _ act (made_act T c.args.seat.row.number act) refl c.close_turn.ensures (subst (λ (u : TaskId). g.L.FinishLedger.stands c.open_finish.new.self (made_act T u act)) t did.made))
+    c.close_turn.ensures.seats

@@ -1,21 +1,20 @@
-use Rattle.std.proofs.Common.{◌≡◌, ◌++◌, [], ◌∷◌, ℕ, ◌+◌, ◌<◌, length, List, Some, None, Ok, Err, slice_set, refl, ap, ◌∙◌, sym, subst, arith}
+use Rattle.std.proofs.Common.{◌≡◌, ◌++◌, [], ◌∷◌, ◌+◌, ◌<◌, length, List, Some, None, Ok, slice_set, refl, ap, ◌∙◌, sym, subst, arith}
 use Rattle.std.proofs.lemmas.List.{length-append}
-use Rattle.rx_base.specs.declared.ids.TaskId.{TaskId}
 use Rattle.rx_base.specs.declared.values.Fault.{Fault}
 use Rattle.rx_rules.specs.declared.entries.Act.TheVariants.{Spawn}
-use Rattle.rx_rules.specs.declared.entries.Entry.TheVariants.{Step}
 use Rattle.rx_rules.specs.Terms.{granted, begins}
+use Rattle.rx_rules.specs.Entries.{made_act}
 use Rattle.rx_rules.specs.Picked.{tree_in}
 use Rattle.rx_finish.specs.declared.ledger.Caller.{Caller}
-use Rattle.rx_finish.specs.declared.ledger.LedgerFault.{LedgerFault}
 use Rattle.rx_finish.specs.Callers.{MayAsk, MayAskTo, IsMoving}
 use Rattle.rx_finish.specs.Calls.{blow_of, SpawnReply}
 use Rattle.rx_control.specs.Stands.{StandsFor}
 use Rattle.rx_machine.specs.declared.seat.Seat.{Seat}
 use Rattle.rx_machine.specs.Callers.{caller}
-use Rattle.rx_machine.proofs.Asking.{seat_asks, seat_unstruck, not_lost, moving}
+use Rattle.rx_machine.proofs.Acted.{closed}
+use Rattle.rx_machine.proofs.Asking.{seat_asks, seat_unstruck, moving}
 use Rattle.rx_machine.proofs.Finding.{set_before}
-use Rattle.rx_machine.proofs.Spawned.{spawn-begins, spawn-free, spawn-target, spawn-did, spawned}
+use Rattle.rx_machine.proofs.Spawned.{spawn-begins, spawn-free, spawn-target, spawn-did, spawn-refused, spawned}
 use Rattle.rx_machine.proofs.machine.Machine.spawn.Goals as goal
 
 pub path_of-requires : goal.path_of-requires
@@ -34,10 +33,11 @@ spawn-requires g c =
     let T = tree_in game.1 game.4 in
     let a = game.5 in
     let s = a.gone.seat_is in
-    (T, a.but.shares.ledger, record { asks = subst (λ (w : Caller). MayAsk T w IsMoving) (sym c.caller-who.ensures) (seat_asks c.args.p.now.script T c.args.i game.3 c.args.seat IsMoving s a.numbers (moving c.args.p.now.script T c.args.i game.3 c.args.seat c.args.here s a.gone.is_at (spawn-free game.3 c.args.here.0 game.1.places c.args.to.0 game.6))); target = spawn-target game.1 game.4 game.3 c.args.here c.args.to.0 a.place game.6 })
+    let who : c.caller-who.result ≡ caller c.args.seat.row c.args.seat.scopes.items = c.caller-who.ensures in
+    (T, a.but.shares.ledger, record { asks = subst (λ (w : Caller). MayAsk T w IsMoving) (sym who) (seat_asks c.args.p.now.script T c.args.i game.3 c.args.seat IsMoving s a.numbers (moving c.args.p.now.script T c.args.i game.3 c.args.seat c.args.here s a.gone.is_at (spawn-free game.3 c.args.here.0 game.1.places c.args.to.0 game.6))); target = spawn-target game.1 game.4 game.3 c.args.here c.args.to.0 a.place game.6 })
 
-pub unreachable-requires : goal.unreachable-requires
-unreachable-requires g c =
+pub no_memory-requires : goal.no_memory-requires
+no_memory-requires g c =
     let game = c.requires.game in
     let T = tree_in game.1 game.4 in
     let a = game.5 in
@@ -45,24 +45,13 @@ unreachable-requires g c =
     let who : c.caller-who.result ≡ caller c.args.seat.row c.args.seat.scopes.items = c.caller-who.ensures in
     let may : MayAskTo T c.caller-who.result c.args.to = record { asks = subst (λ (w : Caller). MayAsk T w IsMoving) (sym who) (seat_asks c.args.p.now.script T c.args.i game.3 c.args.seat IsMoving s a.numbers (moving c.args.p.now.script T c.args.i game.3 c.args.seat c.args.here s a.gone.is_at (spawn-free game.3 c.args.here.0 game.1.places c.args.to.0 game.6))); target = spawn-target game.1 game.4 game.3 c.args.here c.args.to.0 a.place game.6 } in
     let free = subst (λ (w : Caller). blow_of T w.task ≡ None) (sym who) (seat_unstruck c.args.p.now.script T c.args.i game.3 c.args.seat s) in
-    let reply = subst (λ (e : LedgerFault). SpawnReply T c.caller-who.result c.args.to (Err e) (g.L.FinishLedger.stands c.spawn.new.self)) c.in-Err-Lost.field-0-is (c.in-Err-Lost.ensures T a.but.shares.ledger may) in
-    not_lost T c.caller-who.result.task (record { place = c.in-Err-Lost.field-0-0; entry = c.in-Err-Lost.field-0-1 }) free reply.0
+    spawn-refused T c.caller-who.result c.args.to c.in-Err.fault (g.L.FinishLedger.stands c.spawn.new.self) free (c.in-Err.ensures T a.but.shares.ledger may)
 
-pub unreachable-requires-in-Err-NotYet : goal.unreachable-requires-in-Err-NotYet
-unreachable-requires-in-Err-NotYet g c =
-    let game = c.requires.game in
-    let T = tree_in game.1 game.4 in
-    let a = game.5 in
-    let s = a.gone.seat_is in
-    let who : c.caller-who.result ≡ caller c.args.seat.row c.args.seat.scopes.items = c.caller-who.ensures in
-    let may : MayAskTo T c.caller-who.result c.args.to = record { asks = subst (λ (w : Caller). MayAsk T w IsMoving) (sym who) (seat_asks c.args.p.now.script T c.args.i game.3 c.args.seat IsMoving s a.numbers (moving c.args.p.now.script T c.args.i game.3 c.args.seat c.args.here s a.gone.is_at (spawn-free game.3 c.args.here.0 game.1.places c.args.to.0 game.6))); target = spawn-target game.1 game.4 game.3 c.args.here c.args.to.0 a.place game.6 } in
-    subst (λ (e : LedgerFault). SpawnReply T c.caller-who.result c.args.to (Err e) (g.L.FinishLedger.stands c.spawn.new.self)) c.in-Err-NotYet.field-0-is (c.in-Err-NotYet.ensures T a.but.shares.ledger may)
+pub go_on-requires : goal.go_on-requires
+go_on-requires g c = let game = c.requires.game in (game.3.term, game.5.gone.seat_is.term)
 
-pub resume-requires : goal.resume-requires
-resume-requires g c = let game = c.requires.game in (game.3.term, game.5.gone.seat_is.term)
-
-pub put_back-requires : goal.put_back-requires
-put_back-requires g c =
+pub close_turn-requires-clause-inside : goal.close_turn-requires-clause-inside
+close_turn-requires-clause-inside g c =
     let inside : c.args.i < length c.args.self.now.seats.items = c.requires.game.5.inside in
     let more : length c.push_reserved.new.self.items ≡ length c.args.self.now.seats.items + 1 = ap (λ v. length v) (c.push_reserved.ensures.items ∙ ap (λ v. v ++ c.new_seat-child.result ∷ []) c.reserve.ensures.items) ∙ length-append c.args.self.now.seats.items (c.new_seat-child.result ∷ []) in
     omega (arith, inside, more)
@@ -72,21 +61,20 @@ returns-clause-made g c = λ code U k q G a asks.
     let T = tree_in U G in
     let s = a.gone.seat_is in
     let b = spawn-begins q c.args.here.0 U.places c.args.to.0 asks in
-    let may : MayAskTo T c.caller-who.result c.args.to = record { asks = subst (λ (w : Caller). MayAsk T w IsMoving) (sym c.caller-who.ensures) (seat_asks c.args.p.now.script T c.args.i q c.args.seat IsMoving s a.numbers (moving c.args.p.now.script T c.args.i q c.args.seat c.args.here s a.gone.is_at (spawn-free q c.args.here.0 U.places c.args.to.0 asks))); target = spawn-target U G q c.args.here c.args.to.0 a.place asks } in
+    let who : c.caller-who.result ≡ caller c.args.seat.row c.args.seat.scopes.items = c.caller-who.ensures in
+    let may : MayAskTo T c.caller-who.result c.args.to = record { asks = subst (λ (w : Caller). MayAsk T w IsMoving) (sym who) (seat_asks c.args.p.now.script T c.args.i q c.args.seat IsMoving s a.numbers (moving c.args.p.now.script T c.args.i q c.args.seat c.args.here s a.gone.is_at (spawn-free q c.args.here.0 U.places c.args.to.0 asks))); target = spawn-target U G q c.args.here c.args.to.0 a.place asks } in
     let path = c.in_ok-path.ensures q.term b.0 s.term b.1 in
     let at : begins q.term ≡ Some c.in_ok-path.path = b.1 ∙ ap (λ v. Some v) (sym path) in
-    let did = spawn-did T c.args.seat.row c.args.seat.scopes.items c.args.here c.args.to c.in-Ok.born (g.L.FinishLedger.stands c.spawn.new.self) a.gone.is_at (subst (λ (w : Caller). SpawnReply T w c.args.to (Ok c.in-Ok.born) (g.L.FinishLedger.stands c.spawn.new.self)) c.caller-who.ensures (c.in-Ok.ensures T a.but.shares.ledger may)) in
-    let term = subst (λ (fs : List Fault). StandsFor c.args.p.now.script c.resume.new.self (granted fs q.term)) c.open.ensures (c.in-Ok-resume.ensures.ok q.term s.term) in
+    let did = spawn-did T c.args.seat.row c.args.seat.scopes.items c.args.here c.args.to c.in-Ok.born (g.L.FinishLedger.stands c.spawn.new.self) a.gone.is_at (subst (λ (w : Caller). SpawnReply T w c.args.to (Ok c.in-Ok.born) (g.L.FinishLedger.stands c.spawn.new.self)) who (c.in-Ok.ensures T a.but.shares.ledger may)) in
+    let term = subst (λ (fs : List Fault). StandsFor c.args.p.now.script c.go_on.new.control (granted fs q.term)) c.open.ensures (c.in_ok-go_on.ensures.ok q.term s.term) in
     let born = c.in_ok-control.ensures.stands q.term s.term b.0 b.1 in
-    let after : Seat = record { row = c.args.seat.row; scopes = c.args.seat.scopes; control = c.resume.new.self; batch = c.replace-batch.new.dest } in
-    let back : c.put_back.new.seats.items ≡ slice_set c.args.self.now.seats.items c.args.i (Some after) ++ c.new_seat-child.result ∷ [] =
-    c.put_back.ensures ∙ (ap (λ v. slice_set v c.args.i (Some after)) (c.push_reserved.ensures.items ∙ ap (λ v. v ++ c.new_seat-child.result ∷ []) c.reserve.ensures.items)
-    ∙ set_before c.args.self.now.seats.items c.new_seat-child.result c.args.i (Some after) a.inside) in
-    let who : c.caller-who.result.task ≡ c.args.seat.row.number = ap (λ (w : Caller). w.task) c.caller-who.ensures in
-    let entries =
-    ap (λ l. l.entries) c.add.ensures
-    ∙ (ap (λ (t : TaskId). c.args.self.now.history.entries ++ Step t (Spawn c.in-Ok.born.child c.in-Ok.born.scope c.args.here c.args.to c.in_ok-path.path) c.replace-batch.result ∷ []) who
-    ∙ ap (λ (v : List (List ℕ)). c.args.self.now.history.entries ++ Step c.args.seat.row.number (Spawn c.in-Ok.born.child c.in-Ok.born.scope c.args.here c.args.to c.in_ok-path.path) v ∷ []) c.replace-batch.ensures.value) in
-    spawned g.L.FinishLedger.stands c.args.p.now.script code U c.args.self.now _ k c.args.i c.args.here c.args.to q c.args.seat after c.new_seat-child.result c.in_ok-control.control G c.in-Ok.born.child c.in-Ok.born.scope c.in_ok-path.path a (c.reached_is_sound.ensures T a.reached) asks at did.0 term c.in-Ok-resume.ensures.vars refl refl (c.replace-batch.ensures.after ∙ c.open-2.ensures) born.0 born.1
+    let slot = c.new_seat-child.result in
+    let after : Seat = record { row = c.args.seat.row; scopes = c.args.seat.scopes; control = c.go_on.new.control; batch = [] } in
+    let back : c.close_turn.new.self.seats.items ≡ slice_set c.args.self.now.seats.items c.args.i (Some after) ++ slot ∷ [] =
+    c.close_turn.ensures.seats ∙ (ap (λ v. slice_set v c.args.i (Some after)) (c.push_reserved.ensures.items ∙ ap (λ v. v ++ slot ∷ []) c.reserve.ensures.items)
+    ∙ set_before c.args.self.now.seats.items slot c.args.i (Some after) a.inside) in
+    let act = Spawn c.in-Ok.born.child c.in-Ok.born.scope c.args.here c.args.to c.in_ok-path.path in
+    let went = closed g.L.FinishLedger.stands c.args.self.now _ _ c.args.i _ act (made_act T c.args.seat.row.number act) refl c.close_turn.ensures did.1 in
+    spawned g.L.FinishLedger.stands c.args.p.now.script code U c.args.self.now _ k c.args.i c.args.here c.args.to q c.args.seat after slot c.in_ok-control.control G c.in-Ok.born.child c.in-Ok.born.scope c.in_ok-path.path a (c.reached_is_sound.ensures T a.reached) asks at did.0 term c.in_ok-go_on.ensures.vars refl refl refl born.0 born.1
     (record { lost = c.new_seat-child.ensures.lost ∙ did.2; row = c.new_seat-child.ensures.row; rest = c.new_seat-child.ensures.seat })
-    (record { places = refl; setup = ap (λ l. l.setup) c.add.ensures; entries = entries; kills = refl; failed = refl; stores = refl; ledger = did.1 }) back
+    went back

@@ -1,11 +1,11 @@
 use Rattle.std.proofs.Common.{arith, ◌≡◌, ◌<◌, List, Option, length, vec_len, vec_capacity, ap, ◌∙◌, sym, subst}
 use Rattle.rx_rules.specs.Picked.{tree_in}
-use Rattle.rx_machine.specs.declared.ready.Ready.{Ready}
+use Rattle.rx_machine.specs.declared.enabled.Ready.{Ready}
 use Rattle.rx_machine.specs.declared.seat.Seat.{Seat}
 use Rattle.rx_machine.specs.Slots.{seat_at}
 use Rattle.rx_machine.specs.Origins.{TellsOrigins}
 use Rattle.rx_machine.proofs.Readying.{ready_slots}
-use Rattle.rx_machine.proofs.Turned.{releasing, taken}
+use Rattle.rx_machine.proofs.BeforeTurn.{releasing, taken}
 use Rattle.rx_machine.proofs.Noting.{has-moved, room-left, inside-still, went-on}
 use Rattle.rx_machine.proofs.Halting.{refused-same, refused-told}
 use Rattle.rx_machine.proofs.Requested.{any_err}
@@ -16,6 +16,7 @@ release_root-requires-clause-game g c =
     let w = c.requires.game in
     let m = c.args.self.now in
     let none : length m.ready.tasks.members ≡ 0 = omega (arith, c.len.ensures.len, c.if-len-eq0.true) in (
+      c.args.p.now.script,
       w.0,
       w.1,
       w.2,
@@ -27,9 +28,10 @@ pub returns-then-len-eq0-clause-ended : goal.returns-then-len-eq0-clause-ended
 returns-then-len-eq0-clause-ended g c = λ e code U G calm.
     let m = c.args.self.now in
     let none : length m.ready.tasks.members ≡ 0 = omega (arith, c.len.ensures.len, c.if-len-eq0.true) in
-    c.in_ok-release_root.ensures.made code U (g.P.Picks.number c.args.picks.now 0) G
+    c.in_ok-release_root.ensures.made c.args.p.now.script code U G
     (releasing g.L.FinishLedger.stands c.args.p.now.script code U m G c.games_come.ensures c.reached_is_sound.ensures c.none_enabled_is_quiet.ensures c.root_stands_until_released.ensures calm
     (ready_slots c.args.p.now.script (tree_in U G) G.players m.seats.items m.ready.tasks.members calm.can.holds.seats calm.ready) none)
+    (g.P.Picks.number c.args.picks.now 0)
 
 pub returns-in_err-release_root-clause-refused : goal.returns-in_err-release_root-clause-refused
 returns-in_err-release_root-clause-refused g c = any_err c.from_residual.result (λ code U G quietly.

@@ -1,0 +1,79 @@
+-- What a machine holds before the first turn.
+use Rattle.std.specs.Prelude.{◌≡◌, ◌≢◌, ◌==◌, ℕ, zero, suc, ◌≤◌, ◌||◌, Bool, true, false, cond, List, [], ◌∷◌, length, replicate, reverse, Option, Some, None, refl}
+use Rattle.std.proofs.Common.{ap, ◌∙◌, sym, subst, arith}
+use Rattle.std.proofs.lemmas.Bool.{ne_eqb}
+use Rattle.rx_rules.specs.Code.{Block}
+use Rattle.rx_rules.specs.Terms.{Empty, items, no_vars}
+use Rattle.rx_rules.specs.Tree.{Tree}
+use Rattle.rx_rules.specs.Fold.{opening}
+use Rattle.rx_rules.specs.Run.{Given}
+use Rattle.rx_rules.specs.Picked.{Comes, start_game, tree_in}
+use Rattle.rx_history.specs.Setups.{given}
+use Rattle.rx_nodes.specs.Shape.{Shape}
+use Rattle.rx_control.specs.Stands.{StandsFor}
+use Rattle.rx_machine.specs.declared.machine.Machine.{Machine}
+use Rattle.rx_machine.specs.declared.seat.Seat.{Seat}
+use Rattle.rx_machine.specs.Held.{is_held, HeldInFront}
+use Rattle.rx_machine.specs.Slots.{SlotIs, seat_at, live_in, root_row}
+use Rattle.rx_sound.specs.Enabling.{able_in}
+use Rattle.rx_machine.specs.Picking.{IsReady}
+use Rattle.rx_machine.specs.Origins.{TellsOrigins}
+use Rattle.rx_machine.specs.declared.enabled.Origin.{Origin}
+use Rattle.rx_stores.specs.Kepts.{StoresAre}
+use Rattle.rx_machine.specs.Holds.{RunsOn, Seated}
+use Rattle.rx_machine.proofs.Holding.{unheld-front, unheld-items}
+use Rattle.rx_machine.proofs.OriginsKept.{tells_root}
+use Rattle.rx_machine.proofs.Spines.{flat-spine, flat-items}
+
+-- its seat stands in slot 0, and no other slot has one
+pub opens-seats : (shape : Shape) (code : Block) (U : Given) (seat : Seat) (n : ℕ) → seat.row ≡ root_row → seat.scopes.items ≡ [] → seat.batch ≡ [] → StandsFor shape seat.control (items code [] Empty) → seat.control.vars ≡ no_vars → SlotIs shape (opening U.places) (start_game code U).players n (seat_at (Some seat ∷ []) n)
+opens-seats shape code U seat zero row scopes batch term vars =
+    let front : HeldInFront (items code [] Empty) × (is_held (items code [] Empty) ≡ false) = unheld-front (items code [] Empty) (unheld-items code [] 0 Empty tt) in (
+      record { term = items code [] Empty; vars = no_vars; batch = [] },
+      refl,
+      record {
+        row = ap (λ r. Some r) (sym row);
+        scopes = ap (λ ss. reverse ss) (sym scopes);
+        term = term;
+        vars = vars;
+        batch = batch;
+        waits = ap (λ r. r.waits) row ∙ sym front.1;
+        held = front.0;
+        spine = flat-spine (items code [] Empty) (flat-items code [] 0 Empty tt);
+      },
+    )
+opens-seats shape code U seat (suc n) row scopes batch term vars =
+    let apart : 0 ≢ suc n = λ e. absurd (omega (arith, e)) in
+    let other : (0 == suc n) ≡ false = ne_eqb 0 (suc n) apart in
+    ap (λ (b : Bool). live_in (cond b (Some root_row) None)) other
+
+-- the machine stands for the game before the first turn
+pub opens-so : {L : Type 0} (stands : L → Tree → Type 0) (shape : Shape) (code : Block) (U : Given) (m : Machine L) (seat : Seat) → RunsOn code U → U.places ≡ m.places → given m.history.setup ≡ U → m.history.entries ≡ [] → m.kills ≡ U.kills → m.failed ≡ false → stands m.ledger (opening U.places) → StoresAre U.heap 0 m.stores.items (replicate U.places []) → m.seats.items ≡ Some seat ∷ [] → seat.row ≡ root_row → seat.scopes.items ≡ [] → seat.batch ≡ [] → StandsFor shape seat.control (items code [] Empty) → seat.control.vars ≡ no_vars → Seated stands shape code U m (start_game code U)
+opens-so stands shape code U m seat on places setup entries kills failed ledger stores seats row scopes batch term vars =
+    record {
+      shares = record {
+        on = on;
+        comes = Comes.opens;
+        places = places;
+        setup = setup;
+        entries = entries;
+        kills = kills;
+        ledger = ledger;
+        slots = ap (λ v. length v) seats;
+        failed = failed;
+      };
+      stores = stores;
+      seats = λ n. subst (λ (v : List (Option Seat)). SlotIs shape (opening U.places) (start_game code U).players n (seat_at v n)) (sym seats) (opens-seats shape code U seat n row scopes batch term vars);
+    }
+
+-- the main activity alone is enabled
+pub opens-ready : (code : Block) (U : Given) (ns : List ℕ) → ns ≡ 0 ∷ [] → IsReady (tree_in U (start_game code U)) ns
+opens-ready code U ns e =
+    subst (IsReady (tree_in U (start_game code U))) (sym e) (
+      ((let r : 0 ≤ 0 = omega arith in r), tt),
+      λ n. elim (0 == n) as (λ b. (b || false) ≡ able_in (opening U.places) (cond b (Some root_row) None)) [ true ↦ refl | false ↦ refl ],
+    )
+
+-- the root alone stands, and no task opened it
+pub opens-told : (code : Block) (U : Given) (origins : List Origin) → length origins ≡ 1 → TellsOrigins (tree_in U (start_game code U)) origins
+opens-told code U origins size = tells_root origins (opening U.places) _ refl refl refl size

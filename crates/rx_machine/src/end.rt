@@ -1,0 +1,44 @@
+// The turn in which a task ends.
+ghost use Rattle.std.specs.Prelude.{◌≡◌, ◌<◌, ℕ, List, OnOk, OnErr};
+ghost use Rattle.rx_base.specs.declared.ids.PlaceId.{PlaceId};
+ghost use Rattle.rx_base.specs.declared.values.Fault.{Fault};
+ghost use Rattle.rx_rules.specs.Terms.{Done};
+ghost use Rattle.rx_nodes.specs.Shape.{Shape};
+ghost use Rattle.rx_machine.specs.Refusals.{NothingTold};
+ghost use Rattle.rx_machine.specs.Games.{SomeDoing};
+ghost use Rattle.rx_machine.specs.Acts.{HasDone};
+
+use crate::entry::no_memory;
+use crate::machine::Machine;
+use crate::seat::Seat;
+use rx_base::{Batch, NoMemory};
+use rx_finish::FinishLedger;
+use rx_rules::{Act, Entry};
+
+impl<L: FinishLedger> Machine<L> {
+    /// Ends a turn by the end of the task, whose slot stays empty.
+    pub(crate) fn end(&mut self, mut seat: Seat) -> Result<(), NoMemory>
+        requires room { 0 < self.old.history.spare }
+        requires game { (shape : Shape) × (i : ℕ) × (here : PlaceId)
+            × SomeDoing L.stands shape self.old i here seat (λ d. (faults : List Fault) × (d ≡ Done faults)) }
+        ensures made { OnOk result ((shape : Shape) (i : ℕ) (here : PlaceId)
+            → HasDone L.stands shape self.old self.new i here seat (λ d. (faults : List Fault) × (d ≡ Done faults))) }
+        ensures refused { OnErr result (NothingTold self.old self.new) }
+        ensures ready { self.new.ready ≡ self.old.ready }
+    {
+        let faults = seat.control.take_faults(self.alloc);
+        let thrown = faults.copy(self.alloc)?;
+        let who = seat.caller();
+        match self.ledger.end(who, faults) {
+            Ok(()) => {}
+            Err((fault, _)) => return Err(no_memory(fault)),
+        }
+        let batch = std::mem::replace(&mut seat.batch, Batch::open(self.alloc));
+        self.history.add(Entry::Step {
+            task: who.task,
+            act: Act::End { thrown },
+            batch,
+        });
+        Ok(())
+    }
+}

@@ -25,7 +25,7 @@ use Rattle.rx_machine.specs.declared.seat.Seat.{Seat}
 use Rattle.rx_machine.specs.Slots.{live_task, SlotIs, IsSeat, seat_at, seat_in}
 use Rattle.rx_stores.specs.Kepts.{StoresAre}
 use Rattle.rx_machine.specs.Holds.{Shares, Seated, HoldsBut, IsPick, HasGone, Makes}
-use Rattle.rx_machine.specs.Acts.{HasClosed}
+use Rattle.rx_machine.specs.Inside.Acts.{HasClosed}
 use Rattle.rx_machine.proofs.Finding.{same_or_not, get_same, get_other, get_within}
 use Rattle.rx_machine.proofs.Own.{SameOwn, slot-on}
 use Rattle.rx_machine.proofs.Pushed.{tree-push}

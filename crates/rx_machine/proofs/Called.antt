@@ -46,7 +46,7 @@ use Rattle.rx_machine.specs.Spine.{Flat, Spine}
 use Rattle.rx_machine.specs.Slots.{IsSeat, live_task, own_kinds}
 use Rattle.rx_stores.specs.Kepts.{StoresAre}
 use Rattle.rx_machine.specs.Holds.{Acting}
-use Rattle.rx_machine.specs.Requests.{OnlyStores, AfterStep}
+use Rattle.rx_machine.specs.Inside.Requests.{OnlyStores, AfterStep}
 use Rattle.rx_stores.specs.Asked.{MayAskStore, Receives, Asked}
 use Rattle.rx_machine.proofs.Finding.{get_same}
 use Rattle.rx_machine.proofs.Live.{live_stands}

@@ -28,7 +28,7 @@ use Rattle.rx_store.specs.Kept.{Kept}
 use Rattle.rx_nodes.specs.Shape.{Shape}
 use Rattle.rx_machine.specs.declared.machine.Machine.{Machine}
 use Rattle.rx_machine.specs.declared.seat.Seat.{Seat}
-use Rattle.rx_machine.specs.Callers.{caller}
+use Rattle.rx_machine.specs.Inside.Callers.{caller}
 use Rattle.rx_machine.specs.Slots.{IsSeat, SlotIs, live_task, own_kinds, seat_at}
 use Rattle.rx_machine.specs.Held.{is_held}
 use Rattle.rx_stores.specs.Kepts.{StoresAre}

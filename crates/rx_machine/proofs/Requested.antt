@@ -10,7 +10,7 @@ use Rattle.rx_control.specs.declared.step.Want.TheVariants.{Open, At, Spawn, Wai
 use Rattle.rx_control.specs.declared.step.Next.{Next}
 use Rattle.rx_control.specs.declared.step.Next.TheVariants.{Local as LocalStep, Cell, Book, Done as Ended}
 use Rattle.rx_control.specs.Next.{next_of}
-use Rattle.rx_machine.specs.Requests.{IsAsked, IsRequest}
+use Rattle.rx_machine.specs.Inside.Requests.{IsAsked, IsRequest}
 
 pub asks_open : (d : Does) → next_of d ≡ Book Open → d ≡ Opens
 asks_open (Local left vars) h = cc

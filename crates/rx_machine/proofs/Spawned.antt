@@ -30,7 +30,7 @@ use Rattle.rx_finish.specs.declared.ledger.LedgerFault.TheVariants.{NotYet, Lost
 use Rattle.rx_finish.specs.Calls.{SpawnReply, CallReply, blow_of}
 use Rattle.rx_machine.specs.declared.machine.Machine.{Machine}
 use Rattle.rx_machine.specs.declared.seat.Seat.{Seat}
-use Rattle.rx_machine.specs.Callers.{caller}
+use Rattle.rx_machine.specs.Inside.Callers.{caller}
 use Rattle.rx_machine.specs.Slots.{live_task, if_unstruck, own_scopes, own_kinds}
 use Rattle.rx_machine.specs.Spine.{Spine}
 use Rattle.rx_machine.specs.Held.{is_held}

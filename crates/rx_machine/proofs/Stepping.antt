@@ -30,7 +30,7 @@ use Rattle.rx_machine.specs.Held.{is_held}
 use Rattle.rx_machine.specs.Slots.{IsSeat, own_kinds}
 use Rattle.rx_stores.specs.Kepts.{StoresAre}
 use Rattle.rx_machine.specs.Holds.{Shares, Acting}
-use Rattle.rx_machine.specs.Requests.{IsAsked, OnlyStores, AfterStep}
+use Rattle.rx_machine.specs.Inside.Requests.{IsAsked, OnlyStores, AfterStep}
 use Rattle.rx_machine.proofs.Holding.{AfterLocal, after-local}
 use Rattle.rx_machine.proofs.Granting.{held-releases}
 use Rattle.rx_machine.proofs.Spines.{LeavesSpine, spine-local}

@@ -29,7 +29,7 @@ use Rattle.rx_nodes.specs.Shape.{Shape}
 use Rattle.rx_control.specs.Stands.{StandsFor}
 use Rattle.rx_machine.specs.declared.machine.Machine.{Machine}
 use Rattle.rx_machine.specs.declared.seat.Seat.{Seat}
-use Rattle.rx_machine.specs.Callers.{caller}
+use Rattle.rx_machine.specs.Inside.Callers.{caller}
 use Rattle.rx_machine.specs.Slots.{IsSeat, live_task, own_kinds}
 use Rattle.rx_machine.specs.Spine.{Spine}
 use Rattle.rx_machine.specs.Held.{is_held}

@@ -1,12 +1,9 @@
-pub mod Callers
 pub mod Held
 pub mod Spine
 pub mod Slots
 pub mod Picking
 pub mod Origins
 pub mod Holds
-pub mod Requests
 pub mod Refusals
 pub mod Runs
-pub mod Games
-pub mod Acts
+pub mod Inside

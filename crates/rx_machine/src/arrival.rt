@@ -1,7 +1,7 @@
 // The turn in which a task arrives.
 ghost use Rattle.std.specs.Prelude.{◌≡◌, ◌<◌};
 ghost use Rattle.rx_machine.specs.Runs.{AfterTurn};
-ghost use Rattle.rx_machine.specs.Games.{SomeLanding, EachLanding};
+ghost use Rattle.rx_machine.specs.Inside.Games.{SomeLanding, EachLanding};
 
 use crate::machine::Machine;
 use crate::seat::{Seat, put_back};

@@ -2,7 +2,7 @@
 ghost use Rattle.std.specs.Prelude.{◌≡◌, ◌<◌, ℕ, length};
 ghost use Rattle.rx_machine.specs.Slots.{seat_at, is_struck as strikes, left_by};
 ghost use Rattle.rx_machine.specs.Runs.{HasDied};
-ghost use Rattle.rx_machine.specs.Games.{SomeDying, EachDying};
+ghost use Rattle.rx_machine.specs.Inside.Games.{SomeDying, EachDying};
 
 use crate::machine::Machine;
 use crate::seat::Seat;

@@ -9,7 +9,7 @@ ghost use Rattle.rx_sound.specs.Enabling.{nearest_opener as nearest};
 ghost use Rattle.rx_nodes.specs.Shape.{Shape};
 ghost use Rattle.rx_machine.specs.Slots.{seat_at};
 ghost use Rattle.rx_machine.specs.Holds.{Holds, CanTurn, Finished};
-ghost use Rattle.rx_machine.specs.Games.{SomeTurning, EachTurning, SomeMoved, EachMoved};
+ghost use Rattle.rx_machine.specs.Inside.Games.{SomeTurning, EachTurning, SomeMoved, EachMoved};
 ghost use Rattle.rx_machine.specs.Refusals.{HasFailed};
 ghost use Rattle.rx_machine.specs.Picking.{slot_able, has, IsReady};
 ghost use Rattle.rx_machine.specs.Origins.{TellsOrigins, origin_in as told_in, origin_by as told_by};

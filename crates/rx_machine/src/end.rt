@@ -5,8 +5,8 @@ ghost use Rattle.rx_base.specs.declared.values.Fault.{Fault};
 ghost use Rattle.rx_rules.specs.Terms.{Done};
 ghost use Rattle.rx_nodes.specs.Shape.{Shape};
 ghost use Rattle.rx_machine.specs.Refusals.{NothingTold};
-ghost use Rattle.rx_machine.specs.Games.{SomeDoing};
-ghost use Rattle.rx_machine.specs.Acts.{HasDone};
+ghost use Rattle.rx_machine.specs.Inside.Games.{SomeDoing};
+ghost use Rattle.rx_machine.specs.Inside.Acts.{HasDone};
 
 use crate::entry::no_memory;
 use crate::machine::Machine;

@@ -3,7 +3,7 @@ ghost use Rattle.std.specs.Prelude.{◌≡◌, ◌<◌, ℕ, List, length, Some,
 ghost use Rattle.rx_rules.specs.Terms.{Term, begins, granted};
 ghost use Rattle.rx_finish.specs.declared.ledger.LedgerFault.{LedgerFault};
 ghost use Rattle.rx_control.specs.Stands.{StandsFor};
-ghost use Rattle.rx_machine.specs.Acts.{HasClosed};
+ghost use Rattle.rx_machine.specs.Inside.Acts.{HasClosed};
 
 use crate::machine::Machine;
 use crate::seat::{Seat, put_back};

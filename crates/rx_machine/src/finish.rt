@@ -4,8 +4,8 @@ ghost use Rattle.rx_base.specs.declared.ids.PlaceId.{PlaceId};
 ghost use Rattle.rx_base.specs.declared.values.Fault.{Fault};
 ghost use Rattle.rx_rules.specs.Terms.{Opens, Waits};
 ghost use Rattle.rx_machine.specs.Refusals.{NothingTold};
-ghost use Rattle.rx_machine.specs.Games.{SomeDoing};
-ghost use Rattle.rx_machine.specs.Acts.{HasDone};
+ghost use Rattle.rx_machine.specs.Inside.Games.{SomeDoing};
+ghost use Rattle.rx_machine.specs.Inside.Acts.{HasDone};
 
 use crate::entry::{go_on, no_memory, path_of};
 use crate::machine::Machine;

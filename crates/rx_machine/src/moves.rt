@@ -2,7 +2,7 @@
 ghost use Rattle.std.specs.Prelude.{◌≡◌, ◌<◌, OnOk, OnErr};
 ghost use Rattle.rx_machine.specs.Refusals.{HasTold};
 ghost use Rattle.rx_machine.specs.Runs.{AfterTurn};
-ghost use Rattle.rx_machine.specs.Games.{SomeTaken, EachTaken, SomeActing, EachActing};
+ghost use Rattle.rx_machine.specs.Inside.Games.{SomeTaken, EachTaken, SomeActing, EachActing};
 
 use crate::machine::Machine;
 use crate::seat::{Seat, take_seat};

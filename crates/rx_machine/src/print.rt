@@ -3,8 +3,8 @@ ghost use Rattle.std.specs.Prelude.{◌≡◌, ◌<◌, OnOk, OnErr};
 ghost use Rattle.rx_base.specs.declared.ids.PlaceId.{PlaceId};
 ghost use Rattle.rx_rules.specs.Terms.{Prints};
 ghost use Rattle.rx_machine.specs.Refusals.{NothingTold};
-ghost use Rattle.rx_machine.specs.Games.{SomeDoing};
-ghost use Rattle.rx_machine.specs.Acts.{HasDone};
+ghost use Rattle.rx_machine.specs.Inside.Games.{SomeDoing};
+ghost use Rattle.rx_machine.specs.Inside.Acts.{HasDone};
 
 use crate::entry::{go_on, path_of};
 use crate::machine::Machine;

@@ -6,8 +6,8 @@ ghost use Rattle.rx_rules.specs.Plays.{raised_by};
 ghost use Rattle.rx_rules.specs.Picked.{Turn};
 ghost use Rattle.rx_machine.specs.Refusals.{NothingTold};
 ghost use Rattle.rx_machine.specs.Holds.{Finished, Makes};
-ghost use Rattle.rx_machine.specs.Games.{SomeDoing, SomeReleasing, EachReleasing};
-ghost use Rattle.rx_machine.specs.Acts.{HasDone};
+ghost use Rattle.rx_machine.specs.Inside.Games.{SomeDoing, SomeReleasing, EachReleasing};
+ghost use Rattle.rx_machine.specs.Inside.Acts.{HasDone};
 
 use crate::entry::{go_on, no_memory};
 use crate::machine::Machine;

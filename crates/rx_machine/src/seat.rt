@@ -1,6 +1,6 @@
 // What the machine holds of one task that no death has struck, and the slots in which it lies.
 ghost use Rattle.std.specs.Prelude.{◌≡◌, ◌<◌, length, Some, None, slice_set};
-ghost use Rattle.rx_machine.specs.Callers.{caller};
+ghost use Rattle.rx_machine.specs.Inside.Callers.{caller};
 ghost use Rattle.rx_machine.specs.Slots.{seat_at};
 
 use rx_base::{Batch, ScopeId};

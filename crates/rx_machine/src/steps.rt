@@ -8,8 +8,8 @@ ghost use Rattle.rx_control.specs.Stands.{StandsFor, Leaves};
 ghost use Rattle.rx_control.specs.Next.{next_of};
 ghost use Rattle.rx_machine.specs.Holds.{Acting};
 ghost use Rattle.rx_machine.specs.Refusals.{HasTold};
-ghost use Rattle.rx_machine.specs.Requests.{IsRequest, OnlyStores, AfterStep};
-ghost use Rattle.rx_machine.specs.Games.{SomeActing, SomeDoing, EachActing};
+ghost use Rattle.rx_machine.specs.Inside.Requests.{IsRequest, OnlyStores, AfterStep};
+ghost use Rattle.rx_machine.specs.Inside.Games.{SomeActing, SomeDoing, EachActing};
 
 use crate::entry::path_of;
 use crate::machine::Machine;

@@ -10,7 +10,7 @@ ghost use Rattle.rx_machine.specs.Origins.{TellsOrigins};
 ghost use Rattle.rx_machine.specs.Holds.{Finished, Makes};
 ghost use Rattle.rx_machine.specs.Refusals.{HasBegun};
 ghost use Rattle.rx_machine.specs.Runs.{Dying, WentOn, CanRun, HasGoneOn, HasEnded, WasRefused};
-ghost use Rattle.rx_machine.specs.Games.{EachDying, SomeCalm, EachCalm};
+ghost use Rattle.rx_machine.specs.Inside.Games.{EachDying, SomeCalm, EachCalm};
 
 use crate::machine::Machine;
 use crate::seat::under_of;

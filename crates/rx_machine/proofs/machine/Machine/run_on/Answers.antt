@@ -1,7 +1,7 @@
 use Rattle.std.proofs.Common.{◌≤◌, ◌+◌, Option, subst, arith}
 use Rattle.rx_runs.specs.Steps.{steps}
 use Rattle.rx_control.specs.declared.step.Next.{Next}
-use Rattle.rx_machine.specs.Requests.{AfterStep}
+use Rattle.rx_machine.specs.Inside.Requests.{AfterStep}
 use Rattle.rx_machine.proofs.Stepping.{same, same-twice, few-now}
 use Rattle.rx_machine.proofs.Requested.{any_err}
 use Rattle.rx_machine.proofs.machine.Machine.run_on.Goals as goal

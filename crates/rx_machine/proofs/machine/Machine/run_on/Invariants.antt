@@ -4,7 +4,7 @@ use Rattle.rx_rules.specs.Run.{Given}
 use Rattle.rx_rules.specs.Picked.{Game, Player}
 use Rattle.rx_runs.specs.Steps.{steps}
 use Rattle.rx_machine.specs.Holds.{Acting}
-use Rattle.rx_machine.specs.Requests.{OnlyStores}
+use Rattle.rx_machine.specs.Inside.Requests.{OnlyStores}
 use Rattle.rx_machine.proofs.machine.Machine.run_on.Given as goal
 
 abbrev pub invariant-loop-made : goal.invariant-loop-made

@@ -1,0 +1,5 @@
+-- What contracts of private functions say; a reader of the public contracts needs none of it.
+pub mod Callers
+pub mod Requests
+pub mod Games
+pub mod Acts

@@ -1,11 +1,32 @@
 -- The members of a set of places.
 use Rattle.std.proofs.Common.{◌≡◌, ℕ, ◌/◌, ◌%◌, ◌<◌, ◌^◌, Bool, true, false, cond, List, [], ◌∷◌, zero, suc, refl, ap, sym, ◌∙◌, subst, arith, slice_index_or}
-use Rattle.std.specs.Prelude.{◌==◌, ◌↔◌, IsTrue, Contains, filter}
+use Rattle.std.specs.Prelude.{◌↔◌, IsTrue, Contains, filter, Some, slice_get}
 use Rattle.std.specs.Int.{bit_at}
 use Rattle.std.proofs.lemmas.List.Elements.{All-contains, filter_passes}
 use Rattle.std.proofs.lemmas.Nat.Bits.{bit_at-lt, bit_at-suc, bit_at_lowest}
 use Rattle.rx_base.specs.declared.place_set.PlaceSet.{PlaceSet}
 use Rattle.rx_base.specs.Sets.{all_places, has_bit, members, MembersMakeTheSet}
+use Rattle.rx_base.proofs.Numbers.{digit-is}
+
+-- each place stands at its own number
+pub place-at : (p : ℕ) → p < 16 → slice_get all_places p ≡ Some p
+place-at zero below = refl
+place-at (suc zero) below = refl
+place-at (suc (suc zero)) below = refl
+place-at (suc (suc (suc zero))) below = refl
+place-at (suc (suc (suc (suc zero)))) below = refl
+place-at (suc (suc (suc (suc (suc zero))))) below = refl
+place-at (suc (suc (suc (suc (suc (suc zero)))))) below = refl
+place-at (suc (suc (suc (suc (suc (suc (suc zero))))))) below = refl
+place-at (suc (suc (suc (suc (suc (suc (suc (suc zero)))))))) below = refl
+place-at (suc (suc (suc (suc (suc (suc (suc (suc (suc zero))))))))) below = refl
+place-at (suc (suc (suc (suc (suc (suc (suc (suc (suc (suc zero)))))))))) below = refl
+place-at (suc (suc (suc (suc (suc (suc (suc (suc (suc (suc (suc zero))))))))))) below = refl
+place-at (suc (suc (suc (suc (suc (suc (suc (suc (suc (suc (suc (suc zero)))))))))))) below = refl
+place-at (suc (suc (suc (suc (suc (suc (suc (suc (suc (suc (suc (suc (suc zero))))))))))))) below = refl
+place-at (suc (suc (suc (suc (suc (suc (suc (suc (suc (suc (suc (suc (suc (suc zero)))))))))))))) below = refl
+place-at (suc (suc (suc (suc (suc (suc (suc (suc (suc (suc (suc (suc (suc (suc (suc zero))))))))))))))) below = refl
+place-at (suc (suc (suc (suc (suc (suc (suc (suc (suc (suc (suc (suc (suc (suc (suc (suc p)))))))))))))))) below = absurd (omega arith)
 
 later : (x p : ℕ) (xs : List ℕ) → Contains xs p → Contains (x ∷ xs) p
 later x p xs (k, below, is) = (suc k, omega arith, is)
@@ -57,15 +78,6 @@ same-bits a b same p below =
     both _ _
     (λ set. (member-bit b p below).1 (let P : List ℕ → Type 0 = λ xs. Contains xs p in subst P same ((member-bit a p below).0 set)))
     (λ set. (member-bit a p below).1 (let P : List ℕ → Type 0 = λ xs. Contains xs p in subst P (sym same) ((member-bit b p below).0 set)))
-
-digit-is : (a b : ℕ) → a < 2 → b < 2 → (a == 1) ≡ (b == 1) → a ≡ b
-digit-is zero zero low_a low_b same = refl
-digit-is zero (suc zero) low_a low_b same = cc
-digit-is (suc zero) zero low_a low_b same = cc
-digit-is (suc zero) (suc zero) low_a low_b same = refl
-digit-is (suc (suc a)) b low_a low_b same = absurd (omega arith)
-digit-is zero (suc (suc b)) low_a low_b same = absurd (omega arith)
-digit-is (suc zero) (suc (suc b)) low_a low_b same = absurd (omega arith)
 
 bit-is : (m n i : ℕ) → has_bit m i ≡ has_bit n i → bit_at m i ≡ bit_at n i
 bit-is m n i same = digit-is (bit_at m i) (bit_at n i) (bit_at-lt m i) (bit_at-lt n i) same

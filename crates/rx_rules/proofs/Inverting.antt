@@ -16,7 +16,7 @@ use Rattle.rx_rules.specs.Fold.{births}
 use Rattle.rx_rules.specs.Inversions.{EndsLast, ArrivesFirst, NeverArrived, UpTo, FromOn, acts_of, events_of}
 
 -- no request is an end
-asks_no_end : (here : PlaceId) (t : Term) (d : Does) (thrown : List Fault) → Fits here t d (End thrown) → ⊥
+pub asks_no_end : (here : PlaceId) (t : Term) (d : Does) (thrown : List Fault) → Fits here t d (End thrown) → ⊥
 asks_no_end here t (Local left vars) thrown h = h
 asks_no_end here t (Makes name words) thrown h = h
 asks_no_end here t (Gets name target index) thrown h = h

@@ -13,7 +13,7 @@ use Rattle.rx_rules.specs.Inversions.{NumbersInOrder, CountFrom, born_in, opened
 use Rattle.std.specs.List.{filter_map}
 use Rattle.rx_rules.specs.Fold.{AllAllowed, births, births_of, fold_from, tree_of, opening}
 
-next-after_end : (T : Tree) (t : TaskId) (thrown : List Fault) → (after_end T t thrown).next_task ≡ T.next_task
+pub next-after_end : (T : Tree) (t : TaskId) (thrown : List Fault) → (after_end T t thrown).next_task ≡ T.next_task
 next-after_end T t thrown =
     elim (task_of T t) as
     (λ o. (elim o as (λ _. Tree) [
@@ -24,7 +24,7 @@ next-after_end T t thrown =
       | None ↦ refl
     ]
 
-next-made : (n : ℕ) (T : Tree) (e : Entry) → (made n T e).next_task ≡ T.next_task + births_of e
+pub next-made : (n : ℕ) (T : Tree) (e : Entry) → (made n T e).next_task ≡ T.next_task + births_of e
 next-made n T (Step t (Open s r path) batch) = sym (add-zero T.next_task)
 next-made n T (Step t (Calls s r callee from to path) batch) = sym (add-one T.next_task)
 next-made n T (Step t (Spawn child s from to path) batch) = sym (add-one T.next_task)
@@ -47,7 +47,7 @@ next-fold n T (e ∷ es) =
 pub next-tree : (places : ℕ) (es : List Entry) → (tree_of places es).next_task ≡ 1 + births es
 next-tree places es = next-fold 0 (opening places) es
 
-scope-after_end : (T : Tree) (t : TaskId) (thrown : List Fault) → (after_end T t thrown).next_scope ≡ T.next_scope
+pub scope-after_end : (T : Tree) (t : TaskId) (thrown : List Fault) → (after_end T t thrown).next_scope ≡ T.next_scope
 scope-after_end T t thrown =
     elim (task_of T t) as
     (λ o. (elim o as (λ _. Tree) [

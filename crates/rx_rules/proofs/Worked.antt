@@ -13,7 +13,7 @@ use Rattle.rx_rules.specs.Run.{IsRun}
 use Rattle.rx_rules.specs.Examples.{adoption, adoption_journals, adoption_script, adoption_setup, at_waits, at_waits_journals, full_heap, full_heap_journals, full_script, full_setup, kill_setup, loss_in_transit, loss_in_transit_journals, ordinary_case, ordinary_case_journals, ordinary_script, ordinary_setup, orphan_script, orphan_setup, p, source_dies, source_dies_journals, source_script, source_setup, stale_reference, stale_reference_journals, stale_script, two_kills_setup, two_losses, two_losses_journals}
 
 -- nothing is below the front
-at_front : {w n : ℕ} {S : State} → fits w S n 0 ≡ true → IsLeastFree w S n 0
+pub at_front : {w n : ℕ} {S : State} → fits w S n 0 ≡ true → IsLeastFree w S n 0
 at_front e = record { here = e; least = λ b h. absurd (omega arith) }
 
 -- four words do not fit before the end of a block of four

@@ -1,0 +1,21 @@
+-- Numbers.
+use Rattle.std.specs.Prelude.{◌≡◌, ℕ, zero, suc, ◌+◌, ◌<◌, ◌≤◌, ◌==◌, true, refl}
+use Rattle.std.proofs.Common.{arith}
+use Rattle.std.proofs.lemmas.Bool.{eq-eqb}
+
+pub eq-refl : (n : ℕ) → (n == n) ≡ true
+eq-refl n = eq-eqb n n refl
+
+-- binary digits that are alike in being 1
+pub digit-is : (a b : ℕ) → a < 2 → b < 2 → (a == 1) ≡ (b == 1) → a ≡ b
+digit-is zero zero low_a low_b same = refl
+digit-is zero (suc zero) low_a low_b same = cc
+digit-is (suc zero) zero low_a low_b same = cc
+digit-is (suc zero) (suc zero) low_a low_b same = refl
+digit-is (suc (suc a)) b low_a low_b same = absurd (omega arith)
+digit-is zero (suc (suc b)) low_a low_b same = absurd (omega arith)
+digit-is (suc zero) (suc (suc b)) low_a low_b same = absurd (omega arith)
+
+-- two summands more on either side
+pub add-one : (a b h r : ℕ) → a + 1 ≤ b → (a + h + r) + 1 ≤ b + h + r
+add-one a b h r le = omega arith

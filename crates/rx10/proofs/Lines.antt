@@ -1,11 +1,12 @@
 -- The lines of a trace: where one ends, and what the line of the root's release tells.
-use Rattle.std.proofs.Common.{◌≡◌, ℕ, ℤ, pos, negsuc, suc, ◌+◌, ◌<◌, ◌≤◌, Bool, true, false, ◌&&◌, ◌==◌, List, [], ◌∷◌, ◌++◌, refl, ap, sym, ◌∙◌, subst, arith, append_assoc}
+use Rattle.std.proofs.Common.{◌≡◌, ℕ, ℤ, pos, negsuc, suc, ◌+◌, ◌<◌, ◌≤◌, Bool, true, ◌&&◌, ◌==◌, List, [], ◌∷◌, ◌++◌, refl, ap, sym, ◌∙◌, subst, arith, append_assoc}
 use Rattle.std.specs.Prelude.{not, codes, length}
 use Rattle.std.specs.List.{list_all, flat_map}
 use Rattle.std.specs.Str.{all_ascii_digits}
 use Rattle.std.specs.Char.{is_ascii_digit}
 use Rattle.std.proofs.lemmas.List.Folds.{list_all-append}
 use Rattle.std.proofs.lemmas.Bool.Decides.{nat_tests}
+use Rattle.std.proofs.lemmas.Bool.{and_parts}
 use Rattle.rx_base.specs.declared.ids.PlaceId.{PlaceId}
 use Rattle.rx_base.specs.declared.ids.TaskId.{TaskId}
 use Rattle.rx_base.specs.declared.ids.ScopeId.{ScopeId}
@@ -34,14 +35,10 @@ both a b h k = list_all-append (λ x. not (x == 10)) a b ∙ ap (λ t. t && is_l
 digit-plain : (d : ℕ) → is_ascii_digit d ≡ true → not (d == 10) ≡ true
 digit-plain d h = grind (arith, nat_tests)
 
-and-parts : (a b : Bool) → (a && b) ≡ true → (a ≡ true) × (b ≡ true)
-and-parts true b h = (refl, h)
-and-parts false b h = cc
-
 digits-plain : (ds : List ℕ) → all_ascii_digits ds ≡ true → is_line ds ≡ true
 digits-plain [] h = refl
 digits-plain (d ∷ ds) h =
-    let t = and-parts (is_ascii_digit d) (all_ascii_digits ds) h in
+    let t = and_parts (is_ascii_digit d) (all_ascii_digits ds) h in
     ap (λ b. b && is_line ds) (digit-plain d t.0) ∙ digits-plain ds t.1
 
 natural : (n : ℕ) → is_line (natural_text n) ≡ true
@@ -124,14 +121,14 @@ pub one-line : (a b x y : List ℕ) → is_line a ≡ true → is_line b ≡ tru
 one-line [] [] x y h k e = (refl, cc)
 one-line [] (c ∷ cs) x y h k e =
     let same : 10 ≡ c = cc in
-    let plain : not (c == 10) ≡ true = (and-parts (not (c == 10)) (is_line cs) k).0 in
+    let plain : not (c == 10) ≡ true = (and_parts (not (c == 10)) (is_line cs) k).0 in
     absurd (no-newline c (sym same) plain)
 one-line (c ∷ cs) [] x y h k e =
     let same : c ≡ 10 = cc in
-    let plain : not (c == 10) ≡ true = (and-parts (not (c == 10)) (is_line cs) h).0 in
+    let plain : not (c == 10) ≡ true = (and_parts (not (c == 10)) (is_line cs) h).0 in
     absurd (no-newline c same plain)
 one-line (c ∷ cs) (d ∷ ds) x y h k e =
     let head : c ≡ d = cc in
     let more : cs ++ 10 ∷ x ≡ ds ++ 10 ∷ y = cc in
-    let rest = one-line cs ds x y (and-parts (not (c == 10)) (is_line cs) h).1 (and-parts (not (d == 10)) (is_line ds) k).1 more in
+    let rest = one-line cs ds x y (and_parts (not (c == 10)) (is_line cs) h).1 (and_parts (not (d == 10)) (is_line ds) k).1 more in
     (ap (λ z. z ∷ cs) head ∙ ap (λ zs. d ∷ zs) rest.0, rest.1)

@@ -2,6 +2,7 @@
 use Rattle.std.proofs.Common.{◌≡◌, ℕ, ◌≤◌, ◌/◌, ◌%◌, bit_or, true, Option, List, [], ◌∷◌, ◌++◌, length, take, drop, refl, ap, sym, ◌∙◌, arith, subst, length-append}
 use Rattle.std.proofs.lemmas.List.{append-nil, take-append-le, length-drop}
 use Rattle.std.proofs.Math.Seq.{drop-append_seam, take-append_seam}
+use Rattle.std.proofs.lemmas.Bool.{or_right}
 use mathlib.Core.List.{IsPrefix}
 use Rattle.rx_book.specs.declared.views.Stamped.{Stamped}
 use Rattle.rx_book.specs.declared.views.View.{View}
@@ -13,7 +14,6 @@ use Rattle.rx_book.proofs.Replay.{follows_more}
 use Rattle.rx_book.proofs.History.{entries_by-append, entries_by-same}
 use Rattle.rx_book.proofs.Fronts.{longer_right}
 use Rattle.rx_book.proofs.Or.{has_bit_more}
-use Rattle.rx_book.proofs.Keeps.{right_one}
 
 -- what a load found comes after what was seen before
 pub looks : {I : Type 0} (v : View I) (n : ℕ) → v.reach ≤ n / 65536 → bit_or v.dead (n % 65536) ≡ n % 65536 → Looked v (looked v n)
@@ -31,7 +31,7 @@ module _ {I : Type 0} (place : I → Option ℕ) where
 
   pub at_point : (v m : View I) → v.numbered ≡ true → m.marked ≡ true → Told place (both v m) → AtPoint v m
   at_point v m own has (log, now, first, second, all, whole, mine) =
-      let top : (both v m).marked ≡ true = right_one v.marked m.marked has in
+      let top : (both v m).marked ≡ true = or_right v.marked m.marked has in
       let here : (both v m).seen ≡ log = all top in
       let there : m.seen ≡ log = whole has in
       let full : take (length log) log ≡ log = ap (take (length log)) (sym (append-nil log)) ∙ take-append_seam log [] in

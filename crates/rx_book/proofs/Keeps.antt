@@ -4,6 +4,7 @@ use Rattle.std.specs.Prelude.{slice_set}
 use Rattle.std.proofs.lemmas.List.{take-append-le, append-nil, length-drop, length-map}
 use Rattle.std.proofs.Math.ListN.{drop_of_length-le}
 use Rattle.std.proofs.Math.Seq.{drop-append_seam, take-append_seam}
+use Rattle.std.proofs.lemmas.Bool.{or_right}
 use mathlib.Core.Option.{none, some, some-injective, some-ne-none}
 use mathlib.Core.List.{IsPrefix}
 use lib.ListN.{get_elem?}
@@ -32,20 +33,6 @@ module _ {A : Type 0} (P : ℕ → A → Type 0) where
       at_end [] a b (suc j) e = absurd (some-ne-none b (sym e))
       at_end (x ∷ xs) a b zero e = inl (omega arith, e)
       at_end (x ∷ xs) a b (suc j) e = ⊎_elim (λ t. inl (let h = t.0 in omega arith, t.1)) (λ t. inr (ap suc t.0, t.1)) (at_end xs a b j e)
-
-pub at_inside : {A : Type 0} (l : List A) (i : ℕ) (a : A) → get_elem? l i ≡ some a → i < length l
-at_inside [] i a e = absurd (some-ne-none a (sym e))
-at_inside (x ∷ xs) zero a e = omega arith
-at_inside (x ∷ xs) (suc i) a e = let h = at_inside xs i a e in omega arith
-
-pub length_set : {A : Type 0} (l : List A) (i : ℕ) (a : A) → length (set l i a) ≡ length l
-length_set [] i a = refl
-length_set (x ∷ xs) zero a = refl
-length_set (x ∷ xs) (suc i) a = ap suc (length_set xs i a)
-
-pub right_one : (a b : Bool) → b ≡ true → (a || b) ≡ true
-right_one true b e = refl
-right_one false b e = e
 
 only_left : (a b : Bool) → (a || b) ≡ true → b ≡ false → a ≡ true
 only_left true b e h = refl
@@ -260,7 +247,7 @@ module _ {I : Type 0} (place : I → Option ℕ) where
         };
         first = f.now;
         second = g.now;
-        whole = λ m. (right_one v.marked w.marked m, (g.mark m).1);
+        whole = λ m. (or_right v.marked w.marked m, (g.mark m).1);
         mark = mark;
         own = λ m. ((f.own m).0, (f.own m).0 ∙ sym (entries_by-between v.number v.seen all log mine whole (sym (f.own m).1 ∙ (f.own m).0)));
         alone = f.alone;

@@ -2,21 +2,16 @@
 use Rattle.std.proofs.Common.{◌≡◌, ℕ, zero, suc, ◌+◌, ◌*◌, ◌<◌, ◌≤◌, ◌⊎◌, inl, inr, nat_lt, Bool, true, false, refl, ap, sym, ◌∙◌, arith, max}
 use Rattle.std.specs.Prelude.{if◌then◌else◌}
 use Rattle.std.proofs.lemmas.Bool.Decides.{nat_tests}
+use Rattle.std.proofs.lemmas.Bool.{lt-ltb, le-ltb}
 use Rattle.rx_nodes.specs.declared.nodes.Stmt.{Stmt as Node}
 use Rattle.rx_nodes.specs.declared.nodes.Stmt.TheVariants.{Set as SetNode, New as NewNode, Get as GetNode, Put as PutNode, Forget as ForgetNode, Print as PrintNode, Throw as ThrowNode, Async as AsyncNode, AtAsync as AtAsyncNode, At as AtNode, Finish as FinishNode, If as IfNode, Repeat as RepeatNode, Try as TryNode}
 use Rattle.rx_check.specs.Inside.Walk.{cap, work_with}
 
-lt-true : (a b : ℕ) → a < b → nat_lt a b ≡ true
-lt-true a b h = grind (arith, nat_tests)
-
-lt-false : (a b : ℕ) → b ≤ a → nat_lt a b ≡ false
-lt-false a b h = grind (arith, nat_tests)
-
 pub cap-over : (n : ℕ) → 100000 < n → cap n ≡ 100001
-cap-over n h = ap (λ b. if b then 100001 else n) (lt-true 100000 n h)
+cap-over n h = ap (λ b. if b then 100001 else n) (lt-ltb 100000 n h)
 
 pub cap-within : (n : ℕ) → n ≤ 100000 → cap n ≡ n
-cap-within n h = ap (λ b. if b then 100001 else n) (lt-false 100000 n h)
+cap-within n h = ap (λ b. if b then 100001 else n) (le-ltb 100000 n h)
 
 le-or : (n : ℕ) → (n ≤ 100000) ⊎ (100000 < n)
 le-or n = or-else (nat_lt 100000 n) refl

@@ -15,7 +15,8 @@ use Rattle.rx_rules.specs.Code.{Block}
 use Rattle.rx_rules.specs.Terms.{Vars, no_vars, bound, Term, Empty, Raise, Answer, answered, vars_after, Gives, Fine, Fails, Does, Local, Makes, Gets, Puts, Forgets, Opens, Calls, Spawns, Waits, Releases, Prints, Done, does, granted, replaced, after_it}
 use Rattle.rx_rules.specs.Plays.{Tells, Fits, brought}
 use Rattle.rx_nodes.specs.Named.{NamesAreNumbered}
-use Rattle.rx_check.specs.Rules.{Kind, has, kind_of, nodes}
+use Rattle.rx_base.specs.Lists.{has}
+use Rattle.rx_check.specs.Rules.{Kind, kind_of, nodes}
 use Rattle.rx_check.specs.Defined.{Comes, main, local, stores, asks, starts, AlwaysDefined, FewNames}
 use Rattle.rx_check.proofs.Lawful.{Lawful, meets-lawful}
 use Rattle.rx_check.proofs.Safe.{better-same, Good, later-items, safe-defined}

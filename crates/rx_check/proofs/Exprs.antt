@@ -1,18 +1,12 @@
 -- What a part of an expression stands for.
-use Rattle.std.proofs.Common.{◌≡◌, ◌<◌, List, length, Some, refl, ap, sym, ◌∙◌, subst}
+use Rattle.std.proofs.Common.{◌≡◌, ◌<◌, List, Some, refl, ap, sym, ◌∙◌, subst}
 use Rattle.std.specs.Prelude.{slice_get}
-use Rattle.std.proofs.lemmas.Option.{slice_get_within}
+use Rattle.std.proofs.lemmas.Option.{same_Some}
 use Rattle.rx_rules.specs.Code.{Expr, Num, Name, Here, Bin}
 use Rattle.rx_nodes.specs.declared.nodes.ExprId.{ExprId}
 use Rattle.rx_nodes.specs.declared.nodes.Expr.{Expr as Part}
 use Rattle.rx_nodes.specs.declared.nodes.Expr.TheVariants.{Num as NumPart, Name as NamePart, Here as HerePart, Bin as BinPart}
 use Rattle.rx_nodes.specs.Shape.{ExprStands, op_of}
-
-pub expr-within : (es : List Part) (i : ExprId) (e : Expr) → ExprStands es i e → i.0 < length es
-expr-within es i (Num z) h = slice_get_within es i.0 _ h
-expr-within es i (Name n) h = slice_get_within es i.0 _ h.1
-expr-within es i Here h = slice_get_within es i.0 _ h
-expr-within es i (Bin op l r) h = slice_get_within es i.0 _ h.3
 
 -- what a part stands for, by the part
 abbrev pub PartIs : List Part → ExprId → Part → Expr → Type 0
@@ -22,18 +16,15 @@ PartIs es i HerePart e = e ≡ Here
 PartIs es i (BinPart sign left right) e =
     (l : Expr) × (r : Expr) × (e ≡ Bin (op_of sign) l r) × (left.0 < i.0) × (right.0 < i.0) × ExprStands es left l × ExprStands es right r
 
-some-is : {A : Type 0} (x y : A) → Some x ≡ Some y → x ≡ y
-some-is x y e = cc
-
 pub part-is : (es : List Part) (i : ExprId) (p : Part) (e : Expr) → slice_get es i.0 ≡ Some p → ExprStands es i e → PartIs es i p e
 part-is es i p (Num z) g h =
-    let q : NumPart z ≡ p = some-is _ _ (sym h ∙ g) in let P : Part → Type 0 = λ p. PartIs es i p (Num z) in subst P q refl
+    let q : NumPart z ≡ p = same_Some _ _ (sym h ∙ g) in let P : Part → Type 0 = λ p. PartIs es i p (Num z) in subst P q refl
 part-is es i p (Name n) g h =
-    let q : NamePart h.0 ≡ p = some-is _ _ (sym h.1 ∙ g) in
+    let q : NamePart h.0 ≡ p = same_Some _ _ (sym h.1 ∙ g) in
     let P : Part → Type 0 = λ p. PartIs es i p (Name n) in subst P q (ap (λ k. Name k) h.2)
 part-is es i p Here g h =
-    let q : HerePart ≡ p = some-is _ _ (sym h ∙ g) in let P : Part → Type 0 = λ p. PartIs es i p Here in subst P q refl
+    let q : HerePart ≡ p = same_Some _ _ (sym h ∙ g) in let P : Part → Type 0 = λ p. PartIs es i p Here in subst P q refl
 part-is es i p (Bin op l r) g h =
-    let q : BinPart h.0 h.1 h.2 ≡ p = some-is _ _ (sym h.3 ∙ g) in
+    let q : BinPart h.0 h.1 h.2 ≡ p = same_Some _ _ (sym h.3 ∙ g) in
     let P : Part → Type 0 = λ p. PartIs es i p (Bin op l r) in
     subst P q (l, r, ap (λ o. Bin o l r) h.4, h.5, h.6, h.7, h.8)

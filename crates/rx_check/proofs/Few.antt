@@ -3,7 +3,8 @@ use Rattle.std.specs.Prelude.{◌≡◌, ◌≢◌, ℕ, zero, suc, ◌<◌, ◌
 use Rattle.std.proofs.Common.{ap, sym, subst, ◌∙◌, arith}
 use Rattle.std.proofs.lemmas.Bool.{eqb-true, eq-eqb, true≢false}
 use Rattle.rx_nodes.specs.Named.{NamesAreNumbered}
-use Rattle.rx_check.specs.Rules.{Kind, Sight, assigned, has, kind_of, kind_after, more_names, names_after, is_name, fails_count, nodes}
+use Rattle.rx_base.specs.Lists.{has}
+use Rattle.rx_check.specs.Rules.{Kind, Sight, assigned, kind_of, kind_after, more_names, names_after, is_name, fails_count, nodes}
 use Rattle.rx_check.specs.Defined.{FewNames}
 use Rattle.rx_check.proofs.Lawful.{AllPass, Passes, passes, meets-pass, meets-lawful, mentioned-kind, has-left, has-right}
 

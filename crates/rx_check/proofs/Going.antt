@@ -1,24 +1,25 @@
 -- The statements of a block, as they are gone through.
-use Rattle.std.proofs.Common.{◌≡◌, ℕ, zero, suc, ◌+◌, ◌≤◌, Bool, true, false, ◌||◌, List, [], ◌∷◌, ◌++◌, length, drop, map, ◌==◌, nat_lt, refl, ap, sym, ◌∙◌, subst, arith}
+use Rattle.std.proofs.Common.{◌≡◌, ℕ, suc, ◌+◌, ◌≤◌, Bool, true, false, ◌||◌, List, [], ◌∷◌, ◌++◌, length, drop, map, ◌==◌, refl, ap, sym, ◌∙◌, subst, arith}
 use Rattle.std.specs.Prelude.{Option, Some, None, option_map, Result, Ok, Err, IfSome, slice_get, if◌then◌else◌}
 use Rattle.std.proofs.lemmas.List.{drop_all}
 use Rattle.std.proofs.lemmas.List.Folds.{list_any-append}
-use Rattle.std.proofs.lemmas.Bool.Decides.{nat_tests}
+use Rattle.std.proofs.lemmas.Option.{same_Some}
+use Rattle.std.proofs.lemmas.Bool.{eqb-true, ltb-false}
+use Rattle.rx_base.proofs.Elements.{drop-next}
+use Rattle.rx_base.proofs.Bools.{or-first}
 use Rattle.rx_rules.specs.Code.{Stmt, Block, Nothing, Then, work, work_of}
 use Rattle.rx_nodes.specs.Shape.{Shape, StmtIs, ListStands, BlockStands}
 use Rattle.rx_nodes.specs.declared.nodes.StmtId.{StmtId}
 use Rattle.rx_nodes.specs.declared.nodes.BlockId.{BlockId}
 use Rattle.rx_nodes.specs.declared.nodes.NameId.{NameId}
 use Rattle.rx_nodes.specs.declared.nodes.Stmt.{Stmt as Node}
-use Rattle.rx_check.specs.Rules.{Kind, Sight, assigned, fails_depth, fails_known, has, inside, learned, sights}
+use Rattle.rx_base.specs.Lists.{has}
+use Rattle.rx_check.specs.Rules.{Kind, Sight, assigned, fails_depth, fails_known, inside, learned, sights}
 use Rattle.rx_check.specs.Inside.Walk.{Sofar, and_on, cap, is_in, is_one_more, mistakes_kind, known_with, noted, rule_with, run, seen_as, sofar_of, stepped, Extends, Knows}
 use Rattle.rx_check.specs.declared.names.Seen.{Seen}
 use Rattle.rx_check.specs.declared.walk.Walk.{Walk}
 use Rattle.rx_check.proofs.Statements.{least}
 use Rattle.rx_check.proofs.Capping.{cap-more, cap-same}
-
-some-is : {A : Type 0} (x y : A) → Some x ≡ Some y → x ≡ y
-some-is x y e = cc
 
 -- one list of statements after another
 and-on-and-on : (r : Result Sofar (ℕ × ℕ)) (f g : Sofar → Result Sofar (ℕ × ℕ)) → and_on (and_on r f) g ≡ and_on r (λ st. and_on (f st) g)
@@ -73,17 +74,6 @@ pub record Next (s : Shape) (k : BlockId) (i depth total : ℕ) (old now : Walk)
   pub same : run (sofar_of old) (sights known depth t) ≡ run (sofar_of now) (record { stmt = first; depth = depth; known = names } ∷ (inside names depth first ++ sights (learned (assigned first) names) depth rest))
   pub works : cap (work t) ≡ cap (total + (work_of first + work rest))
 
-drop-suc : {A : Type 0} (xs : List A) (i : ℕ) (x : A) → slice_get xs i ≡ Some x → drop i xs ≡ x ∷ drop (suc i) xs
-drop-suc [] i x e = cc
-drop-suc (y ∷ xs) zero x e = ap (λ z. z ∷ xs) (some-is y x e)
-drop-suc (y ∷ xs) (suc i) x e = drop-suc xs i x e
-
-drop-next : {A : Type 0} (xs : List A) (i : ℕ) (x : A) → slice_get xs i ≡ Some x → drop i xs ≡ x ∷ drop (i + 1) xs
-drop-next xs i x e = drop-suc xs i x e ∙ ap (λ n. x ∷ drop n xs) (one-more i)
-  where
-    one-more : (i : ℕ) → suc i ≡ i + 1
-    one-more i = omega arith
-
 -- the number of the next statement stands for one
 pub record Points (s : Shape) (id : StmtId) : Type 0 where
   pub node : Node
@@ -107,7 +97,7 @@ next-of s k i depth total old now t known id node ids (Then u us) names a b h n 
   ids = ids;
   block = b;
   first = u;
-  is = subst (λ (m : Node). StmtIs s m u) (some-is h.0.0 node (sym h.0.1 ∙ a)) h.0.2;
+  is = subst (λ (m : Node). StmtIs s m u) (same_Some h.0.0 node (sym h.0.1 ∙ a)) h.0.2;
   rest = us;
   stands = h.1;
   names = names;
@@ -187,9 +177,6 @@ or-end true false = refl
 or-end false true = refl
 or-end false false = refl
 
-same-number : (n m : ℕ) → (n == m) ≡ true → n ≡ m
-same-number n m e = grind (arith, nat_tests)
-
 -- what is known after a statement
 pub knows-more : (a : Option Seen) (ns : List NameId) (known : List ℕ) → Knows ns known → Knows (known_with a ns) (learned (option_map seen_as a) known)
 knows-more None ns known k n = k n
@@ -198,7 +185,7 @@ knows-more (Some s) ns known k n = by-cases (is_in s.name.0 ns) refl
     by-cases : (b : Bool) → is_in s.name.0 ns ≡ b → is_in n (known_with (Some s) ns) ≡ ((n == s.name.0) || has n known)
     by-cases true e =
         ap (λ b. is_in n (if b then ns else ns ++ s.name ∷ [])) e
-        ∙ (or-true (n == s.name.0) (is_in n ns) (λ h. ap (λ m. is_in m ns) (same-number n s.name.0 h) ∙ e) ∙ ap (λ b. (n == s.name.0) || b) (k n))
+        ∙ (or-true (n == s.name.0) (is_in n ns) (λ h. ap (λ m. is_in m ns) (eqb-true n s.name.0 h) ∙ e) ∙ ap (λ b. (n == s.name.0) || b) (k n))
     by-cases false e =
         ap (λ b. is_in n (if b then ns else ns ++ s.name ∷ [])) e
         ∙ (list_any-append (λ m. n == m.0) ns (s.name ∷ []) ∙ (or-end (is_in n ns) (n == s.name.0) ∙ ap (λ b. (n == s.name.0) || b) (k n)))
@@ -215,12 +202,5 @@ least-none false true c d e = cc
 least-none false false true d e = cc
 least-none false false false d e = refl
 
-or-left : (a b : Bool) → (a || b) ≡ false → a ≡ false
-or-left true b e = e
-or-left false b e = refl
-
-not-less : (a b : ℕ) → nat_lt a b ≡ false → b ≤ a
-not-less a b e = grind (arith, nat_tests)
-
 pub not-deep : (seen : List (ℕ × Kind)) (x : Sight) → rule_with seen x ≡ None → x.depth ≤ 32
-not-deep seen x e = not-less 32 x.depth (or-left _ _ (least-none (fails_known x) (mistakes_kind seen x) (fails_depth x) (is_one_more seen (assigned x.stmt)) e))
+not-deep seen x e = ltb-false 32 x.depth (or-first _ _ (least-none (fails_known x) (mistakes_kind seen x) (fails_depth x) (is_one_more seen (assigned x.stmt)) e))

@@ -4,8 +4,14 @@ use Rattle.std.specs.Prelude.{Result, Ok, Err, slice_get, if◌then◌else◌}
 use Rattle.std.specs.List.{list_all}
 use Rattle.std.proofs.lemmas.List.Folds.{list_all-append}
 use Rattle.std.proofs.lemmas.Bool.Decides.{nat_tests}
+use Rattle.std.proofs.lemmas.Bool.{eqb-true, not-false, lt-ltb, le-ltb}
+use Rattle.std.proofs.Math.Bool.{and-false, and-true}
+use Rattle.rx_base.proofs.Numbers.{eq-refl}
+use Rattle.rx_base.proofs.Bools.{or-assoc, and-first, and-second}
+use Rattle.rx_base.proofs.Elements.{length-push}
 use Rattle.rx_rules.specs.Code.{Stmt, SetTo, New, Get, Put, Forget, Print, Throw, Async, AtAsync, At, Finish, If, Repeat, Try, Block, Nothing, Then, work}
-use Rattle.rx_check.specs.Rules.{Kind, ANumber, AReference, exprs_of, targets_of, assigned, Sight, learned, inside, sights, nodes, has, same_kind, kind_after, kind_of, is_kind, more_names, names_after, names_of_all, fails_known, gets_other, fails_kind, fails_depth, is_name, fails_count, rule_of, found, first_fault, or_work, verdict}
+use Rattle.rx_base.specs.Lists.{has}
+use Rattle.rx_check.specs.Rules.{Kind, ANumber, AReference, exprs_of, targets_of, assigned, Sight, learned, inside, sights, nodes, same_kind, kind_after, kind_of, is_kind, more_names, names_after, names_of_all, fails_known, gets_other, fails_kind, fails_depth, is_name, fails_count, rule_of, found, first_fault, or_work, verdict}
 use Rattle.rx_check.specs.Inside.Walk.{kind_in, Sofar, differs, gets_other_kind, is_one_more, mistakes_kind, rule_with, seen_with, noted, stepped, and_on, run, cap}
 use Rattle.rx_check.proofs.Statements.{least}
 use Rattle.rx_check.proofs.Capping.{cap-cases}
@@ -21,12 +27,6 @@ or_else None o = o
 
 eq-swap : (a b : ℕ) → (a == b) ≡ (b == a)
 eq-swap a b = grind (arith, nat_tests)
-
-same-number : (n m : ℕ) → (n == m) ≡ true → n ≡ m
-same-number n m e = grind (arith, nat_tests)
-
-eq-refl : (n : ℕ) → (n == n) ≡ true
-eq-refl n = grind (arith, nat_tests)
 
 if-is : {A : Type 0} (b : Bool) (x y : A) → b ≡ true → (if b then x else y) ≡ x
 if-is b x y e = ap (λ c. if c then x else y) e
@@ -64,10 +64,6 @@ or-false-end : (a b : Bool) → (a || (b || false)) ≡ (a || b)
 or-false-end true b = refl
 or-false-end false true = refl
 or-false-end false false = refl
-
-or-assoc : (a b c : Bool) → (a || (b || c)) ≡ ((a || b) || c)
-or-assoc true b c = refl
-or-assoc false b c = refl
 
 has-append : (n : ℕ) (xs ys : List ℕ) → has n (xs ++ ys) ≡ (has n xs || has n ys)
 has-append n [] ys = refl
@@ -116,7 +112,7 @@ kind-with None seen n = sym (else-none (kind_in seen n))
 kind-with (Some x) seen n = by-cases (is_some (kind_in seen x.0)) refl
   where
     by-name : is_some (kind_in seen x.0) ≡ true → (b : Bool) → (x.0 == n) ≡ b → kind_in seen n ≡ or_else (kind_in seen n) (if b then Some x.1 else None)
-    by-name e true f = sym (else-some (kind_in seen n) (Some x.1) (ap (λ m. is_some (kind_in seen m)) (sym (same-number x.0 n f)) ∙ e))
+    by-name e true f = sym (else-some (kind_in seen n) (Some x.1) (ap (λ m. is_some (kind_in seen m)) (sym (eqb-true x.0 n f)) ∙ e))
     by-name e false f = sym (else-none (kind_in seen n))
 
     by-cases : (b : Bool) → is_some (kind_in seen x.0) ≡ b → kind_in (seen_with (Some x) seen) n ≡ or_else (kind_in seen n) (if x.0 == n then Some x.1 else None)
@@ -212,30 +208,10 @@ mutual
 pub all-knowing : (t : Block) → AllKnowing [] (nodes t)
 all-knowing t = all-sights t [] [] 0 (λ n e. cc)
 
-and-left : (a b : Bool) → (a && b) ≡ true → a ≡ true
-and-left true b e = refl
-and-left false b e = e
-
-and-right : (a b : Bool) → (a && b) ≡ true → b ≡ true
-and-right true b e = e
-and-right false b e = cc
-
-and-false : (a : Bool) → (a && false) ≡ false
-and-false true = refl
-and-false false = refl
-
-and-true : (a : Bool) → (a && true) ≡ a
-and-true true = refl
-and-true false = refl
-
-not-false : (a : Bool) → not a ≡ false → a ≡ true
-not-false true e = refl
-not-false false e = cc
-
 all-same : (p q g : ℕ → Bool) (xs : List ℕ) → list_all g xs ≡ true → ((n : ℕ) → g n ≡ true → p n ≡ q n) → list_all p xs ≡ list_all q xs
 all-same p q g [] e f = refl
 all-same p q g (x ∷ xs) e f =
-    ap (λ b. b && list_all p xs) (f x (and-left (g x) (list_all g xs) e)) ∙ ap (λ b. q x && b) (all-same p q g xs (and-right (g x) (list_all g xs) e) f)
+    ap (λ b. b && list_all p xs) (f x (and-first (g x) (list_all g xs) e)) ∙ ap (λ b. q x && b) (all-same p q g xs (and-second (g x) (list_all g xs) e) f)
 
 -- the whole script, and a statement in it
 pub record Split (script before : List Sight) (s : Sight) (after : List Sight) (seen : List (ℕ × Kind)) : Type 0 where
@@ -279,16 +255,11 @@ kind-same script before s after seen y e =
     let q : ℕ → Bool = λ n. not (is_kind AReference (kind_in seen n)) in
     let u : ℕ → Bool = λ n. not (is_kind ANumber (kind_of script n)) in
     let v : ℕ → Bool = λ n. not (is_kind ANumber (kind_in seen n)) in
-    let one : list_all r names ≡ list_all q names = all-same r q g names (and-left (list_all g names) (list_all g targets) all) (λ n h. ap (λ o. not (is_kind AReference o)) (kind-known script before s after seen y n h)) in
-    let two : list_all u targets ≡ list_all v targets = all-same u v g targets (and-right (list_all g names) (list_all g targets) all) (λ n h. ap (λ o. not (is_kind ANumber o)) (kind-known script before s after seen y n h)) in
+    let one : list_all r names ≡ list_all q names = all-same r q g names (and-first (list_all g names) (list_all g targets) all) (λ n h. ap (λ o. not (is_kind AReference o)) (kind-known script before s after seen y n h)) in
+    let two : list_all u targets ≡ list_all v targets = all-same u v g targets (and-second (list_all g names) (list_all g targets) all) (λ n h. ap (λ o. not (is_kind ANumber o)) (kind-known script before s after seen y n h)) in
     ap (λ b. not b || not (list_all u targets) || gets_other script (assigned s.stmt)) one
     ∙ (ap (λ b. not (list_all q names) || not b || gets_other script (assigned s.stmt)) two
     ∙ ap (λ b. not (list_all q names) || not (list_all v targets) || b) (gets-same script before s after seen y (assigned s.stmt) refl))
-
--- the 33rd name
-length-last : {A : Type 0} (xs : List A) (x : A) → length (xs ++ x ∷ []) ≡ suc (length xs)
-length-last [] x = refl
-length-last (y ∷ xs) x = ap suc (length-last xs x)
 
 get-past : (xs : List ℕ) (i : ℕ) → length xs ≤ i → slice_get xs i ≡ None
 get-past [] i h = refl
@@ -321,7 +292,7 @@ other-name xs x n e f = by-cases (x == n) refl
   where
     by-cases : (b : Bool) → (x == n) ≡ b → (x == n) ≡ false
     by-cases false g = g
-    by-cases true g = let h : true ≡ false = sym f ∙ (ap (λ m. has m xs) (sym (same-number x n g)) ∙ e) in cc
+    by-cases true g = let h : true ≡ false = sym f ∙ (ap (λ m. has m xs) (sym (eqb-true x n g)) ∙ e) in cc
 
 has-last : (xs : List ℕ) (n x : ℕ) → has n xs ≡ true → has n (xs ++ x ∷ []) ≡ true
 has-last xs n x e = has-append n xs (x ∷ []) ∙ ap (λ b. b || has n (x ∷ [])) e
@@ -338,7 +309,7 @@ abbrev pub NotAt : List Sight → ℕ → ℕ → Type 0
 NotAt ss i n = (xs : List ℕ) → has n xs ≡ true → length xs ≤ i → is_name (slice_get (names_after xs ss) i) n ≡ false
 
 grown-name : (ss : List Sight) (xs : List ℕ) (i n x : ℕ) → NotAt ss i n → has n xs ≡ true → length xs ≤ i → has x xs ≡ false → (b : Bool) → nat_lt (length xs) i ≡ b → is_name (slice_get (names_after (xs ++ x ∷ []) ss) i) n ≡ false
-grown-name ss xs i n x ih e h f true g = ih (xs ++ x ∷ []) (has-last xs n x e) (let l : length xs < i = grind (arith, nat_tests) in omega (arith, l, length-last xs x))
+grown-name ss xs i n x ih e h f true g = ih (xs ++ x ∷ []) (has-last xs n x e) (let l : length xs < i = grind (arith, nat_tests) in omega (arith, l, length-push xs x))
 grown-name ss xs i n x ih e h f false g =
     let l : i ≤ length xs = grind (arith, nat_tests) in
     let m : length xs ≡ i = omega (arith, l, h) in
@@ -367,7 +338,7 @@ new-name xs after x h = by-cases (nat_le 32 (length xs)) refl
         let m : length xs ≡ 32 = omega (arith, l, h) in
         let p : slice_get (xs ++ x ∷ []) 32 ≡ Some x = ap (slice_get (xs ++ x ∷ [])) (sym m) ∙ get-last xs x in
         ap (λ o. is_name o x) (at-place after (xs ++ x ∷ []) 32 x p) ∙ eq-refl x
-    by-cases false g = let l : length xs < 32 = grind (arith, nat_tests) in not-at after 32 x (xs ++ x ∷ []) (has-new xs x) (omega (arith, l, length-last xs x))
+    by-cases false g = let l : length xs < 32 = grind (arith, nat_tests) in not-at after 32 x (xs ++ x ∷ []) (has-new xs x) (omega (arith, l, length-push xs x))
 
 count-one : (after : List Sight) (seen : List (ℕ × Kind)) (x : ℕ × Kind) → length seen ≤ 32 → (b : Bool) → has x.0 (names_of seen) ≡ b → is_name (slice_get (names_after (if b then names_of seen else names_of seen ++ x.0 ∷ []) after) 32) x.0 ≡ (nat_le 32 (length seen) && not b)
 count-one after seen x h true e = not-at after 32 x.0 (names_of seen) e (omega (arith, h, length-names seen)) ∙ sym (and-false (nat_le 32 (length seen)))
@@ -412,7 +383,7 @@ length-if : (b : Bool) (seen : List (ℕ × Kind)) (x : ℕ × Kind) → length 
 length-if true seen x h e = h
 length-if false seen x h e =
     let f : nat_le 32 (length seen) ≡ false = sym (and-true (nat_le 32 (length seen))) ∙ e in
-    let l : length seen < 32 = grind (arith, nat_tests) in omega (arith, l, length-last seen x)
+    let l : length seen < 32 = grind (arith, nat_tests) in omega (arith, l, length-push seen x)
 
 few-with : (a : Option (ℕ × Kind)) (seen : List (ℕ × Kind)) → length seen ≤ 32 → is_one_more seen a ≡ false → length (seen_with a seen) ≤ 32
 few-with None seen h e = h
@@ -441,12 +412,6 @@ start = record { seen = []; count = 0 }
 pub first-judged : (t : Block) → fault_in (run start (nodes t)) ≡ first_fault (nodes t) 0 (nodes t)
 first-judged t = judged (nodes t) [] (nodes t) start refl stands-none (omega arith) (all-knowing t)
 
-lt-true : (a b : ℕ) → a < b → nat_lt a b ≡ true
-lt-true a b h = grind (arith, nat_tests)
-
-lt-false : (a b : ℕ) → b ≤ a → nat_lt a b ≡ false
-lt-false a b h = grind (arith, nat_tests)
-
 verdict-is : (t : Block) (r : Result Sofar (ℕ × ℕ)) → run start (nodes t) ≡ r → verdict t ≡ or_work (fault_in r) (work t)
 verdict-is t r e = ap (λ o. or_work o (work t)) (sym (first-judged t) ∙ ap fault_in e)
 
@@ -456,7 +421,7 @@ verdict-bad t x e = verdict-is t (Err x) e
 pub verdict-none : (t : Block) (st : Sofar) (w : ℕ) → run start (nodes t) ≡ Ok st → w ≡ cap (work t) → w ≤ 100000 → (verdict t ≡ None) × (w ≡ work t)
 verdict-none t st w e f h =
     elim (cap-cases (work t)) [
-      | inl k ↦ (verdict-is t (Ok st) e ∙ ap (λ b. if b then Some (5, 0) else None) (lt-false 100000 (work t) k.0), f ∙ k.1)
+      | inl k ↦ (verdict-is t (Ok st) e ∙ ap (λ b. if b then Some (5, 0) else None) (le-ltb 100000 (work t) k.0), f ∙ k.1)
       | inr k ↦ absurd (omega (arith, k.1, f, h))
     ]
 
@@ -464,7 +429,7 @@ pub verdict-work : (t : Block) (st : Sofar) (w : ℕ) → run start (nodes t) �
 verdict-work t st w e f h =
     elim (cap-cases (work t)) [
       | inl k ↦ absurd (omega (arith, k.0, k.1, f, h))
-      | inr k ↦ verdict-is t (Ok st) e ∙ ap (λ b. if b then Some (5, 0) else None) (lt-true 100000 (work t) k.0)
+      | inr k ↦ verdict-is t (Ok st) e ∙ ap (λ b. if b then Some (5, 0) else None) (lt-ltb 100000 (work t) k.0)
     ]
 
 -- the work of statements that meet the rules
@@ -476,7 +441,7 @@ some-none x e = absurd (not-none x e)
 
 work-of : (o : Option (ℕ × ℕ)) (n : ℕ) → or_work o n ≡ None → n ≤ 100000
 work-of (Some x) n e = some-none x e
-work-of None n e = elim (cap-cases n) [ inl k ↦ k.0 | inr k ↦ some-none (5, 0) (sym (ap (λ b. if b then Some (5, 0) else None) (lt-true 100000 n k.0)) ∙ e) ]
+work-of None n e = elim (cap-cases n) [ inl k ↦ k.0 | inr k ↦ some-none (5, 0) (sym (ap (λ b. if b then Some (5, 0) else None) (lt-ltb 100000 n k.0)) ∙ e) ]
 
 pub meets-work : (t : Block) → verdict t ≡ None → work t ≤ 100000
 meets-work t e = work-of (first_fault (nodes t) 0 (nodes t)) (work t) e

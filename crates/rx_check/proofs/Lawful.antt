@@ -2,10 +2,11 @@
 use Rattle.std.specs.Prelude.{◌≡◌, ℕ, suc, ◌<◌, ◌==◌, Bool, true, false, not, cond, ◌&&◌, ◌||◌, List, [], ◌∷◌, ◌++◌, Option, Some, None, refl}
 use Rattle.std.specs.List.{list_all}
 use Rattle.std.proofs.Common.{ap, sym, subst, inl, inr}
-use Rattle.std.proofs.lemmas.Bool.{eqb-true, eq-eqb}
+use Rattle.std.proofs.lemmas.Bool.{eqb-true, eq-eqb, or_right, not-false, not-true, or_parts}
 use Rattle.rx_rules.specs.Code.{Expr, Num, Name, Here, Bin, Stmt, SetTo, New, Get, Put, Forget, Print, Throw, Async, AtAsync, At, Finish, If, Repeat, Try, Block, Nothing, Then, work}
 use Rattle.rx_nodes.specs.Named.{Uses, StmtMentions, Mentions}
-use Rattle.rx_check.specs.Rules.{Kind, ANumber, AReference, names_in, exprs_of, targets_of, assigned, Sight, learned, inside, sights, nodes, has, kind_of, is_kind, names_of_all, fails_known, gets_other, fails_kind, fails_depth, fails_count, rule_of, found, first_fault, or_work}
+use Rattle.rx_base.specs.Lists.{has}
+use Rattle.rx_check.specs.Rules.{Kind, ANumber, AReference, names_in, exprs_of, targets_of, assigned, Sight, learned, inside, sights, nodes, kind_of, is_kind, names_of_all, fails_known, gets_other, fails_kind, fails_depth, fails_count, rule_of, found, first_fault, or_work}
 use Rattle.rx_check.specs.Checked.{Meets}
 
 -- a statement keeps the rules, where the names of the list are known, each name has its kind, and names are below the limit
@@ -39,10 +40,6 @@ abbrev mutual
 
 -- Lists of numbers.
 
-pub or-true : (a b : Bool) → b ≡ true → (a || b) ≡ true
-or-true true b h = refl
-or-true false b h = h
-
 pub has-left : (n : ℕ) (xs ys : List ℕ) → has n xs ≡ true → has n (xs ++ ys) ≡ true
 has-left n [] ys h = cc
 has-left n (x ∷ xs) ys h = (elim (n == x) as (λ b. (b || has n xs) ≡ true → (b || has n (xs ++ ys)) ≡ true) [
@@ -52,7 +49,7 @@ has-left n (x ∷ xs) ys h = (elim (n == x) as (λ b. (b || has n xs) ≡ true �
 
 pub has-right : (n : ℕ) (xs ys : List ℕ) → has n ys ≡ true → has n (xs ++ ys) ≡ true
 has-right n [] ys h = h
-has-right n (x ∷ xs) ys h = or-true (n == x) (has n (xs ++ ys)) (has-right n xs ys h)
+has-right n (x ∷ xs) ys h = or_right (n == x) (has n (xs ++ ys)) (has-right n xs ys h)
 
 -- a number of the list passes a test that all pass
 all-has : (test : ℕ → Bool) (xs : List ℕ) (n : ℕ) → list_all test xs ≡ true → has n xs ≡ true → test n ≡ true
@@ -71,18 +68,6 @@ all-has test (x ∷ xs) n a h =
 if-none : (b : Bool) (rule : ℕ) (o : Option ℕ) → cond b (Some rule) o ≡ None → (b ≡ false) × (o ≡ None)
 if-none true rule o h = cc
 if-none false rule o h = (refl, h)
-
-not-false : (b : Bool) → not b ≡ false → b ≡ true
-not-false true h = refl
-not-false false h = cc
-
-not-true : (b : Bool) → not b ≡ true → b ≡ false
-not-true true h = cc
-not-true false h = refl
-
-or-false : (a b : Bool) → (a || b) ≡ false → (a ≡ false) × (b ≡ false)
-or-false true b h = cc
-or-false false b h = (refl, h)
 
 -- no statement of the list fails a rule
 abbrev pub AllPass : List Sight → List Sight → Type 0
@@ -180,8 +165,8 @@ own script limit s kinded h names =
     let p : Passes script s = passes script s h in
     let uses : List ℕ = names_of_all (exprs_of s.stmt) in
     let all : list_all (λ n. has n s.known) (uses ++ targets_of s.stmt) ≡ true = not-false (list_all (λ n. has n s.known) (uses ++ targets_of s.stmt)) p.known in
-    let ls = or-false (not (list_all (λ n. not (is_kind AReference (kind_of script n))) uses) || not (list_all (λ n. not (is_kind ANumber (kind_of script n))) (targets_of s.stmt))) (gets_other script (assigned s.stmt)) p.kind in
-    let ks = or-false (not (list_all (λ n. not (is_kind AReference (kind_of script n))) uses)) (not (list_all (λ n. not (is_kind ANumber (kind_of script n))) (targets_of s.stmt))) ls.0 in
+    let ls = or_parts (not (list_all (λ n. not (is_kind AReference (kind_of script n))) uses) || not (list_all (λ n. not (is_kind ANumber (kind_of script n))) (targets_of s.stmt))) (gets_other script (assigned s.stmt)) p.kind in
+    let ks = or_parts (not (list_all (λ n. not (is_kind AReference (kind_of script n))) uses)) (not (list_all (λ n. not (is_kind ANumber (kind_of script n))) (targets_of s.stmt))) ls.0 in
     record {
       numbers = λ n u.
           let k : has n s.known ≡ true = all-has (λ n. has n s.known) (uses ++ targets_of s.stmt) n all (has-left n uses (targets_of s.stmt) u) in

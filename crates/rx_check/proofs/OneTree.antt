@@ -1,6 +1,7 @@
 -- A script stands for one block of statements alone.
 use Rattle.std.proofs.Common.{◌≡◌, List, [], ◌∷◌, Some, refl, ap, sym, ◌∙◌, subst}
 use Rattle.std.specs.Prelude.{slice_get}
+use Rattle.std.proofs.lemmas.Option.{same_Some}
 use Rattle.rx_rules.specs.Code.{Expr, Num, Name, Here, Bin, Stmt, SetTo, New, Get, Put, Forget, Print, Throw, Async, AtAsync, At, Finish, If, Repeat, Try, Block, Nothing, Then}
 use Rattle.rx_nodes.specs.Shape.{Shape, ExprStands, StmtIs, ListStands, BlockStands, Stands, op_of}
 use Rattle.rx_nodes.specs.declared.nodes.StmtId.{StmtId}
@@ -11,9 +12,6 @@ use Rattle.rx_nodes.specs.declared.nodes.Expr.TheVariants.{Num as NumPart, Name 
 use Rattle.rx_nodes.specs.declared.nodes.Stmt.{Stmt as Node}
 use Rattle.rx_nodes.specs.declared.nodes.Stmt.TheVariants.{Set as SetNode, New as NewNode, Get as GetNode, Put as PutNode, Forget as ForgetNode, Print as PrintNode, Throw as ThrowNode, Async as AsyncNode, AtAsync as AtAsyncNode, At as AtNode, Finish as FinishNode, If as IfNode, Repeat as RepeatNode, Try as TryNode}
 use Rattle.rx_check.proofs.Exprs.{part-is}
-
-some-is : {A : Type 0} (x y : A) → Some x ≡ Some y → x ≡ y
-some-is x y e = cc
 
 expr-one : (es : List Part) (i : ExprId) (e f : Expr) → ExprStands es i e → ExprStands es i f → e ≡ f
 expr-one es i (Num z) f h k = sym (part-is es i (NumPart z) f h k)
@@ -58,7 +56,7 @@ node-is s (TryNode body dead_only handler) (Try a d b) h = (a, b, ap (λ x. Try 
 node-is s _ _ h = absurd h
 
 same-list : (s : Shape) (k : BlockId) (ids : List StmtId) (u : Block) → slice_get s.blocks k.0 ≡ Some ids → BlockStands s k u → ListStands s ids u
-same-list s k ids u e h = subst (λ (js : List StmtId). ListStands s js u) (some-is h.0 ids (sym h.1 ∙ e)) h.2
+same-list s k ids u e h = subst (λ (js : List StmtId). ListStands s js u) (same_Some h.0 ids (sym h.1 ∙ e)) h.2
 
 mutual
   stmt-one : (s : Shape) (node : Node) (t u : Stmt) → StmtIs s node t → NodeIs s node u → t ≡ u
@@ -96,7 +94,7 @@ mutual
   list-one s (i ∷ ids) (Then t ts) Nothing h k = absurd k
   list-one s (i ∷ ids) (Then t ts) (Then u us) h k =
       let P : Node → Type 0 = λ m. StmtIs s m u in
-      let is : StmtIs s h.0.0 u = subst P (some-is k.0.0 h.0.0 (sym k.0.1 ∙ h.0.1)) k.0.2 in
+      let is : StmtIs s h.0.0 u = subst P (same_Some k.0.0 h.0.0 (sym k.0.1 ∙ h.0.1)) k.0.2 in
       ap (λ x. Then x ts) (stmt-one s h.0.0 t u h.0.2 (node-is s h.0.0 u is)) ∙ ap (Then u) (list-one s ids ts us h.1 k.1)
 
 pub one-tree : (s : Shape) (t u : Block) → Stands s t → Stands s u → t ≡ u

@@ -8,7 +8,8 @@ use Rattle.rx_base.specs.declared.values.Value.{Value}
 use Rattle.rx_base.specs.declared.values.Value.TheVariants.{Num as Number, Ref}
 use Rattle.rx_rules.specs.Code.{Stmt, Block, Nothing, Then}
 use Rattle.rx_rules.specs.Terms.{Vars, joined, value_of, bound, Term, Empty, Run, Raise, Turns, Trying, Body, Held, items_from}
-use Rattle.rx_check.specs.Rules.{Kind, ANumber, AReference, has, learned, assigned}
+use Rattle.rx_base.specs.Lists.{has}
+use Rattle.rx_check.specs.Rules.{Kind, ANumber, AReference, learned, assigned}
 use Rattle.rx_check.specs.Defined.{IsDefined, beginning}
 use Rattle.rx_check.proofs.Lawful.{Own, Inner, Lawful}
 

@@ -1,6 +1,7 @@
 -- What the parts that wait use together.
 use Rattle.std.proofs.Common.{◌≡◌, ℕ, ℤ, zero, suc, ◌+◌, ◌-◌, ◌<◌, ◌≤◌, ◌==◌, nat_lt, Bool, true, false, ◌||◌, List, [], ◌∷◌, ◌++◌, refl, ap, sym, ◌∙◌, arith, max}
 use Rattle.std.proofs.lemmas.Bool.Decides.{nat_tests}
+use Rattle.std.proofs.Math.Bool.{or-false}
 use Rattle.rx_rules.specs.Code.{Expr, Num, Name, Here, Bin}
 use Rattle.rx_nodes.specs.declared.nodes.Expr.{Expr as Part}
 use Rattle.rx_nodes.specs.Shape.{ExprStands}
@@ -26,10 +27,6 @@ or-swap true true c = refl
 or-swap true false c = refl
 or-swap false true c = refl
 or-swap false false c = refl
-
-or-false : (a : Bool) → (a || false) ≡ a
-or-false true = refl
-or-false false = refl
 
 pub join-assoc : (a b c : Uses) → join (join a b) c ≡ join a (join b c)
 join-assoc a b c = uses-eq _ _ (or-assoc a.unknown b.unknown c.unknown) (or-assoc a.reference b.reference c.reference) (or-assoc a.deep b.deep c.deep)

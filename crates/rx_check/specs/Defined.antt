@@ -11,7 +11,8 @@ use Rattle.rx_rules.specs.Terms.{Answer, answered, vars_after, granted, child}
 use Rattle.rx_rules.specs.Plays.{Tells, Fits, brought}
 use Rattle.rx_token.specs.Tokens.{AreNames}
 use Rattle.rx_nodes.specs.Grammar.{spellings}
-use Rattle.rx_check.specs.Rules.{Kind, has, names_of_all, exprs_of, targets_of, assigned}
+use Rattle.rx_base.specs.Lists.{has}
+use Rattle.rx_check.specs.Rules.{Kind, names_of_all, exprs_of, targets_of, assigned}
 use Rattle.rx_check.specs.Checked.{Meets}
 
 -- each name that the statement's expressions use has a number, its target has a reference, and there is a variable for the name

@@ -3,6 +3,7 @@ use Rattle.std.specs.Prelude.{ℕ, suc, nat_lt, ◌==◌, Bool, true, false, not
 use Rattle.std.specs.Prelude.{if◌then◌else◌}
 use Rattle.std.specs.List.{list_all}
 use Rattle.std.proofs.Common.{max}
+use Rattle.rx_base.specs.Lists.{has}
 use Rattle.rx_rules.specs.Code.{Expr, Num, Name, Here, Bin, Stmt, SetTo, New, Get, Put, Forget, Print, Throw, Async, AtAsync, At}
 use Rattle.rx_rules.specs.Code.{Finish, If, Repeat, Try, Block, Nothing, Then, work}
 
@@ -113,11 +114,6 @@ abbrev mutual
 -- the statements of a script; the number of a statement is its place in this list
 abbrev pub nodes : Block → List Sight
 nodes script = sights [] 0 script
-
--- a list has a number
-abbrev pub has : ℕ → List ℕ → Bool
-has n [] = false
-has n (m ∷ ms) = n == m || has n ms
 
 abbrev pub same_kind : Kind → Kind → Bool
 same_kind ANumber ANumber = true

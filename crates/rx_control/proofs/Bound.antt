@@ -1,6 +1,7 @@
 -- Each step of a term leaves fewer.
-use Rattle.std.proofs.Common.{◌≡◌, ℕ, zero, suc, ◌+◌, ◌-◌, ◌*◌, ◌<◌, ◌≤◌, List, [], ◌∷◌, Option, Some, None, Bool, true, false, cond, ◌==◌, ℤ, max, refl, ap, arith}
+use Rattle.std.proofs.Common.{◌≡◌, ℕ, zero, suc, ◌+◌, ◌-◌, ◌*◌, ◌<◌, ◌≤◌, List, [], ◌∷◌, Option, Some, Bool, true, false, cond, ◌==◌, ℤ, max, refl, ap, arith}
 use Rattle.std.specs.Prelude.{Result, Ok, Err, nat_le}
+use Rattle.std.proofs.lemmas.Option.{none-some}
 use Rattle.rx_base.specs.declared.values.Fault.{Fault}
 use Rattle.rx_base.specs.declared.values.Fault.TheVariants.{WrongPlace, Thrown}
 use Rattle.rx_base.specs.declared.values.Value.TheVariants.{Num as Number}
@@ -9,9 +10,6 @@ use Rattle.rx_rules.specs.Terms.{Vars, Term, Empty, Run, Raise, Turns, Trying, B
 use Rattle.rx_runs.specs.Steps.{steps, Sinks}
 use Rattle.rx_runs.proofs.Sinking.{sinks, steps_items}
 use Rattle.rx_control.specs.Bound.{Falls}
-
-none-some : {A : Type 0} (x : A) → None ≡ Some x → ⊥
-none-some x e = cc
 
 pub steps-items : (b : Block) (x : List ℕ) (i : ℕ) (rest : Term) → steps (items_from b x i rest) ≡ 3 * work b + steps rest
 steps-items b x i rest = steps_items b x i rest

@@ -1,6 +1,7 @@
 -- What a control carries, and where no statement is begun.
 use Rattle.std.proofs.Common.{◌≡◌, ℕ, ℤ, suc, List, [], ◌∷◌, ◌++◌, Option, Some, None, Bool, true, false, cond, ◌==◌, refl, ap, sym, ◌∙◌, subst}
 use Rattle.std.specs.Prelude.{Result, Ok, Err, unwrap_or, option_to_list}
+use Rattle.std.proofs.lemmas.Option.{same_Some}
 use Rattle.rx_base.specs.declared.values.Fault.{Fault}
 use Rattle.rx_base.specs.declared.values.Value.TheVariants.{Num as Number}
 use Rattle.rx_base.specs.declared.values.Fault.TheVariants.{Thrown, WrongPlace}
@@ -18,9 +19,6 @@ use Rattle.rx_control.specs.Inside.Front.{lifted, AtStatement}
 use Rattle.rx_control.proofs.Standing.{at-top, at-end, at-turns, at-tried, at-inside, at-waiting}
 use Rattle.rx_control.proofs.Wrapping.{begins-wrap, replaced-wrap}
 use Rattle.rx_control.proofs.Front.{does-statement, does-turns, does-tried, does-inside, does-waiting, does-raised-tried, does-raised-inside}
-
-some-is : {A : Type 0} (x y : A) → Some x ≡ Some y → x ≡ y
-some-is x y e = cc
 
 carried-lifted : (s : List Level) (d : Does) → carried (lifted s d) ≡ carried d
 carried-lifted s (Local left vars) = refl
@@ -80,7 +78,7 @@ pub record Took (r : Option (List Fault)) (levels : List Level) (faults : List F
   pub is : term_of None levels ≡ replaced (term_of r levels) Empty
 
 pub took : (vars : Vars) (here places : ℕ) (faults : List Fault) (r : Option (List Fault)) (levels : List Level) → Settled r levels → carried (does vars here places (term_of r levels)) ≡ Some faults → Took r levels faults
-took vars here places faults None [] h e = record { list = some-is _ _ e; settled = tt; is = refl }
+took vars here places faults None [] h e = record { list = same_Some _ _ e; settled = tt; is = refl }
 took vars here places faults None (More Nothing x i ∷ gs) h e = absurd h
 took vars here places faults None (More (Then stmt more) x i ∷ gs) h e =
     let q : None ≡ Some faults = sym (ap carried (does-statement vars here places stmt more x i gs) ∙ carried-lifted gs _ ∙ stmt-carried vars here places stmt _ _) ∙ e in absurd (cc)
@@ -90,17 +88,17 @@ took vars here places faults None (Tried d b x ∷ gs) h e =
     let q : None ≡ Some faults = sym (ap carried (does-tried vars here places d b x gs)) ∙ e in absurd (cc)
 took vars here places faults None (Inside ∷ gs) h e =
     let q : Some [] ≡ Some faults = sym (ap carried (does-inside vars here places gs)) ∙ e in
-    record { list = some-is _ _ q; settled = tt; is = sym (replaced-wrap Empty (BodyTerm Empty (seq gs)) gs) }
+    record { list = same_Some _ _ q; settled = tt; is = sym (replaced-wrap Empty (BodyTerm Empty (seq gs)) gs) }
 took vars here places faults None (Waiting ∷ gs) h e =
     let q : None ≡ Some faults = sym (ap carried (does-waiting vars here places gs)) ∙ e in absurd (cc)
-took vars here places faults (Some fs) [] h e = record { list = some-is _ _ e; settled = tt; is = refl }
+took vars here places faults (Some fs) [] h e = record { list = same_Some _ _ e; settled = tt; is = refl }
 took vars here places faults (Some fs) (More left x i ∷ gs) h e = absurd h
 took vars here places faults (Some fs) (Again body x k times ∷ gs) h e = absurd h
 took vars here places faults (Some fs) (Tried d b x ∷ gs) h e =
     let q : None ≡ Some faults = sym (ap carried (does-raised-tried vars here places fs d b x gs)) ∙ e in absurd (cc)
 took vars here places faults (Some fs) (Inside ∷ gs) h e =
     let q : Some fs ≡ Some faults = sym (ap carried (does-raised-inside vars here places fs gs)) ∙ e in
-    record { list = some-is _ _ q; settled = tt; is = sym (replaced-wrap Empty (BodyTerm (Raise fs) (seq gs)) gs) }
+    record { list = same_Some _ _ q; settled = tt; is = sym (replaced-wrap Empty (BodyTerm (Raise fs) (seq gs)) gs) }
 took vars here places faults (Some fs) (Waiting ∷ gs) h e = absurd h
 
 -- what is raised begins nothing, and neither do the other levels

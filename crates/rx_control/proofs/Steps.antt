@@ -79,10 +79,6 @@ whole-stands s c t below block next part a =
 pub settled-turns : (s : Shape) (base : List ℕ) (frames : List Frame) (b : Block) (x : List ℕ) (k n : ℕ) (gs : List Level) → FramesStand s base frames (Again b x k n ∷ gs) → SettlesTo s base frames None (Again b x k n ∷ gs)
 settled-turns s base frames b x k n gs h = record { levels_left = Again b x k n ∷ gs; stands = h; settled = tt; is = refl }
 
--- the waits and ends are no local steps
-pub leaves-of : (s : Shape) (c : Control) (d e : Does) → d ≡ e → Leaves s c e → Leaves s c d
-leaves-of s c d e q h = leaves-by s c d e q h
-
 pub turn-over : (k n : ℕ) (x y : Term) → n ≤ k → cond (nat_le n k) x y ≡ x
 turn-over k n x y e = let q : (nat_le n k) ≡ true = grind (arith, nat_tests) in ap (λ b. cond b x y) q
 

@@ -6,6 +6,7 @@ use Rattle.std.proofs.lemmas.Bool.{eq-eqb}
 use Rattle.rx_sound.proofs.Parents.{met_found}
 use Rattle.rx_base.specs.declared.ids.PlaceId.{PlaceId}
 use Rattle.rx_base.specs.declared.ids.ScopeId.{ScopeId}
+use Rattle.rx_base.proofs.SameIds.{scope-is}
 use Rattle.rx_rules.specs.declared.tasks.Kind.TheVariants.{Finish}
 use Rattle.rx_rules.specs.declared.tasks.Where.{Where}
 use Rattle.rx_rules.specs.declared.tasks.Where.TheVariants.{At}
@@ -26,7 +27,6 @@ use Rattle.rx_finish.specs.declared.ledger.Caller.{Caller}
 use Rattle.rx_finish.specs.Callers.{MayAskMoving, IsMoving}
 use Rattle.rx_finish.specs.Calls.{OpenReply}
 use Rattle.rx_finish.proofs.Allowed.{Free, open_allowed}
-use Rattle.rx_counts.proofs.Shapes.{scope_is}
 use Rattle.rx_counts.specs.declared.record.Record.{Record}
 use Rattle.rx_counts.specs.declared.ledger.CountLedger.{CountLedger}
 use Rattle.rx_counts.specs.Keeping.{stands_home, keeper, finishes}
@@ -50,7 +50,7 @@ inner_rooted T who P h f = subst (λ (u : ScopeId). meets the_root T.scopes (Som
 pub governing_is : (gs : List Scope) (want : Option ScopeId) (n : ScopeId) → keeper finishes gs want ≡ Some n.0 → governing_in gs want ≡ n
 governing_is gs want n e =
     (elim (find finishes (chain_in gs want)) as (λ o. option_map (λ g. g.number.0) o ≡ Some n.0 → (elim o as (λ _. ScopeId) [ Some g ↦ g.number | None ↦ the_root ]) ≡ n) [
-      | Some g ↦ λ k. let num : g.number.0 ≡ n.0 = cc in scope_is g.number n num
+      | Some g ↦ λ k. let num : g.number.0 ≡ n.0 = cc in scope-is g.number n num
       | None ↦ λ k. cc
     ]) (keeper_is finishes gs want ∙ e)
 
@@ -59,7 +59,7 @@ pub finish_known : (l : CountLedger) (T : Tree) (who : Caller) (P : Task → Typ
 finish_known l T who P n s f e =
     let k : Kept T l.scopes.items who.inner.0 = inner_kept l T who P s f in
     let same : n ≡ k.kept.finish = subst (λ o. IfSome o (λ r. n ≡ r.finish)) k.found e in
-    subst (λ (v : ScopeId). keeper finishes T.scopes (Some v) ≡ Some n.0) (scope_is k.scope.number who.inner k.number) (k.fits.shape.finish ∙ ap (λ (v : ScopeId). Some v.0) (sym same))
+    subst (λ (v : ScopeId). keeper finishes T.scopes (Some v) ≡ Some n.0) (scope-is k.scope.number who.inner k.number) (k.fits.shape.finish ∙ ap (λ (v : ScopeId). Some v.0) (sym same))
 
 -- the home of an unstruck caller
 pub home_known : (T : Tree) (who : Caller) (P : Task → Type 0) → Free T who P → home_for T who.task ≡ place_number who.place

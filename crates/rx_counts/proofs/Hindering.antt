@@ -2,11 +2,12 @@
 use Rattle.std.specs.Prelude.{◌≡◌, ℕ, zero, suc, ◌<◌, ◌≤◌, Bool, true, false, cond, ◌||◌, ◌&&◌, ◌==◌, not, List, [], ◌∷◌, ◌++◌, Some, None, is_none, count_by, filter, refl}
 use Rattle.std.specs.List.{list_any}
 use Rattle.std.proofs.Common.{sym, ap, ◌∙◌, subst, arith}
-use Rattle.std.proofs.lemmas.Bool.{eq-eqb, ne_eqb, true≢false, and_parts, and_from, or_left, or_right, lt-ltb}
+use Rattle.std.proofs.lemmas.Bool.{eq-eqb, ne_eqb, true≢false, and_parts, and_from, or_left, or_right, lt-ltb, not-false}
 use Rattle.rx_sound.proofs.Staying.{any_same}
 use Rattle.rx_base.specs.Sets.{has_bit, members, all_places}
 use Rattle.rx_base.specs.declared.ids.PlaceId.{PlaceId}
 use Rattle.rx_base.specs.declared.ids.ScopeId.{ScopeId}
+use Rattle.rx_base.proofs.Elements.{find-passes}
 use Rattle.rx_rules.specs.declared.tasks.Where.{Where}
 use Rattle.rx_rules.specs.declared.tasks.Where.TheVariants.{At, Travel}
 use Rattle.rx_rules.specs.declared.tasks.Task.{Task}
@@ -16,7 +17,6 @@ use Rattle.rx_rules.specs.Entries.{was_lost_at, lost_under, thrown_of}
 use Rattle.rx_sound.specs.Sound.{Each, Sound, TaskFits}
 use Rattle.rx_sound.proofs.Changes.{each_found, each_more}
 use Rattle.rx_sound.proofs.Below.{found_any}
-use Rattle.rx_sound.proofs.Lookups.{find_passes}
 use Rattle.rx_sound.proofs.Reached.{sound}
 use Rattle.rx_sound.proofs.Releasing.{on_meets, each_all}
 use Rattle.rx_finish.specs.Calls.{IsHindered, landing}
@@ -55,7 +55,7 @@ some_cell T keeps r n h s pos =
     let any : list_any (λ x. is_none x.struck && kept_at keeps T.scopes n x) T.tasks ≡ true = any_counted (λ x. is_none x.struck && kept_at keeps T.scopes n x) T.tasks ∙ lt-ltb 0 (total_of keeps T.scopes T.tasks n) (omega arith) in
     let found = found_any (λ x. is_none x.struck && kept_at keeps T.scopes n x) T.tasks any in
     let x : Task = found.0 in
-    let here = and_parts (is_none x.struck) (kept_at keeps T.scopes n x) (find_passes (λ y. is_none y.struck && kept_at keeps T.scopes n y) T.tasks x found.1) in
+    let here = and_parts (is_none x.struck) (kept_at keeps T.scopes n x) (find-passes (λ y. is_none y.struck && kept_at keeps T.scopes n y) T.tasks x found.1) in
     let within : in_range x.place = within_range T.places x.place h.few (each_found (TaskFits T.dead T.places T.scopes) (λ y. is_none y.struck && kept_at keeps T.scopes n y) T.tasks x h.tasks found.1).inside in
     let part = each_found (λ y. (p : Task → Bool) → one (p y) ≤ count_by p T.tasks) (λ y. is_none y.struck && kept_at keeps T.scopes n y) T.tasks x (each_part T.tasks T.tasks (λ p. omega arith)) found.1 (λ y. (is_none y.struck && same_where x.place y.place) && kept_at keeps T.scopes n y) in
     let mine : (is_none x.struck && same_where x.place x.place) && kept_at keeps T.scopes n x ≡ true = and_from (is_none x.struck && same_where x.place x.place) (kept_at keeps T.scopes n x) (and_from (is_none x.struck) (same_where x.place x.place) here.0 (same_self x.place)) here.1 in
@@ -126,12 +126,8 @@ lost_named T s h i still p =
     (λ e. kept_here T s h i still y.under (sym (on_meets s T.scopes (Some y.under)) ∙ e))
     (λ e. on_meets s T.scopes (Some y.under) ∙ keeper_meets (stands_home T.dead) s T.scopes (Some y.under) e)) T.tasks)
 
-unnot : (b : Bool) → not b ≡ false → b ≡ true
-unnot true e = refl
-unnot false e = absurd (true≢false e)
-
 pub home_keeps : (T : Tree) (s : ScopeId) → Sound T → (i : IsLast T s) → stands_home T.dead i.scope ≡ true
-home_keeps T s h i = unnot (stands_home T.dead i.scope) (sym (one_number (λ k. not (stands_home T.dead k)) T.next_scope T.scopes s i.scope h.falls i.stands) ∙ i.keeps_it)
+home_keeps T s h i = not-false (stands_home T.dead i.scope) (sym (one_number (λ k. not (stands_home T.dead k)) T.next_scope T.scopes s i.scope h.falls i.stands) ∙ i.keeps_it)
 
 pub record Outcomes (T : Tree) (s : ScopeId) (r : Record) : Type 0 where
   pub still : quiet T s ≡ true

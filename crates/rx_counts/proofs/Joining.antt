@@ -17,11 +17,11 @@ use Rattle.rx_rules.specs.Tree.{is_task}
 use Rattle.rx_rules.specs.Entries.{change_first, was_lost_at}
 use Rattle.rx_sound.specs.Sound.{TasksFall}
 use Rattle.rx_sound.proofs.Changes.{each_more}
-use Rattle.rx_sound.proofs.Lookups.{find_passes}
 use Rattle.rx_counts.specs.declared.record.Sums.{Sums}
 use Rattle.rx_counts.specs.declared.record.Record.{Record}
 use Rattle.rx_counts.specs.Keeping.{keeper, is_number, kept_at, same_where}
 use Rattle.rx_base.specs.Sets.{has_bit}
+use Rattle.rx_base.proofs.Elements.{find-passes}
 use Rattle.rx_rules.specs.Counts.{has_number}
 use Rattle.rx_counts.specs.Stands.{slot, in_range, ShapeOf, SumsOf, RecordOf, Both, AllFit, record_at, count_in, more, less, in_sums, with_lost, Changed, ChangedBy, Pairs, Loses}
 use Rattle.rx_counts.proofs.Counting.{one, count_cons, count_change, count_filter, any_counted, sum_change}
@@ -248,7 +248,7 @@ both_more P Q None (Some g) k h = absurd h
 both_more P Q None None k h = tt
 
 pub number_is : (n : ℕ) (gs : List Scope) (g : Scope) → find (has_number n) gs ≡ Some g → g.number.0 ≡ n
-number_is n gs g e = eqb-true g.number.0 n (find_passes (has_number n) gs g e)
+number_is n gs g e = eqb-true g.number.0 n (find-passes (has_number n) gs g e)
 
 -- the record of k changes by f, and the others stay
 pub all_change : (keeps : Scope → Bool) (gs : List Scope) (ts us : List Task) (f : Record → Record) (k : ℕ) (rs qs : List (Option (Box Record))) → ((r : Record) (g : Scope) → g.number.0 ≡ k → RecordOf keeps gs ts r g → RecordOf keeps gs us (f r) g) → ((r : Record) (g : Scope) → (g.number.0 ≡ k → ⊥) → RecordOf keeps gs ts r g → RecordOf keeps gs us r g) → Changed f k rs qs → AllFit keeps gs ts rs → AllFit keeps gs us qs

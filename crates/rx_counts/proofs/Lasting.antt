@@ -9,6 +9,7 @@ use Rattle.rx_sound.proofs.Waiting.{each_stands}
 use Rattle.rx_sound.proofs.Enabling.{any_none}
 use Rattle.rx_base.specs.declared.ids.TaskId.{TaskId}
 use Rattle.rx_base.specs.declared.ids.ScopeId.{ScopeId}
+use Rattle.rx_base.proofs.Elements.{find-passes}
 use Rattle.rx_rules.specs.declared.tasks.Where.TheVariants.{At}
 use Rattle.rx_rules.specs.declared.tasks.Task.{Task}
 use Rattle.rx_rules.specs.declared.tasks.Scope.{Scope}
@@ -19,7 +20,6 @@ use Rattle.rx_sound.specs.Chains.{meets, HasOpener, Opened}
 use Rattle.rx_sound.specs.Sound.{TaskFits, Sound}
 use Rattle.rx_sound.proofs.Changes.{each_found, each_more}
 use Rattle.rx_sound.proofs.Releasing.{on_meets, each_none}
-use Rattle.rx_sound.proofs.Lookups.{find_passes}
 use Rattle.rx_counts.specs.Inside.Freeing.{IsLast}
 use Rattle.rx_counts.specs.Keeping.{stands_home, keeper, is_number, total_of}
 use Rattle.rx_counts.proofs.Below.{Empty, under_none_at, all_kept_here}
@@ -35,7 +35,7 @@ own_home T t x g h found own free =
 pub own_last : (T : Tree) (t : TaskId) (x : Task) (g : Scope) → Sound T → task_of T t ≡ Some x → own_scope T t ≡ Some g → x.struck ≡ None → IsLast T g.number
 own_last T t x g h found own free =
     let it : find (is_scope g.number) T.scopes ≡ Some g = last_number t T.next_scope T.scopes g h.falls own in
-    let mine : opened_by t g ≡ true = find_passes (opened_by t) T.scopes g own in
+    let mine : opened_by t g ≡ true = find-passes (opened_by t) T.scopes g own in
     record {
       scope = g;
       stands = it;

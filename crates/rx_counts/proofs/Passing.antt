@@ -9,6 +9,7 @@ use Rattle.std.proofs.Math.Bool.{and-false, and-true}
 use Rattle.rx_sound.proofs.Parents.{parent_rooted}
 use Rattle.rx_base.specs.declared.ids.PlaceId.{PlaceId}
 use Rattle.rx_base.specs.declared.ids.ScopeId.{ScopeId}
+use Rattle.rx_base.proofs.Options.{some-of}
 use Rattle.rx_rules.specs.declared.tasks.Scope.{Scope}
 use Rattle.rx_rules.specs.Tree.{Tree, is_scope, the_root}
 use Rattle.rx_sound.specs.Chains.{Falls}
@@ -141,10 +142,6 @@ pub record Hands (T : Tree) (keeps : Scope → Bool) (d : PlaceId) (i a : ℕ) (
 abbrev number_id : ℕ → ScopeId
 number_id n = record { 0 = n }
 
-some_of : {X : Type 0} (o : Option X) → is_some o ≡ true → (x : X) × (o ≡ Some x)
-some_of (Some x) e = (x, refl)
-some_of None e = absurd (true≢false (sym e))
-
 hands_to : (T : Tree) (keeps : Scope → Bool) (dead : List (Option ℕ)) (d : PlaceId) (i : ℕ) (rs : List (Option (Box Record))) (u : ScopeId) (g : Scope) → Passing T keeps dead d i rs → find (has_number i) T.scopes ≡ Some g → g.parent ≡ Some u → u.0 < i → heir (until keeps d i) T.scopes (number_id i) ≡ keeper (stands_home dead) T.scopes (Some u)
 hands_to T keeps dead d i rs u g p found parent older =
     let h : ScopeId = number_id i in
@@ -169,7 +166,7 @@ hands T keeps dead d i rs u a p e at =
     let parent : k.0.parent ≡ Some u = sym k.2.parent ∙ t.3 in
     let older : u.0 < i = subst (OlderThan i) t.3 (walk_older T rs (number_id i) t.0 p.shaped t.1) in
     let num : k.0.number.0 ≡ i = number_is i T.scopes k.0 k.1 in
-    let ga = some_of (find (has_number a.0) T.scopes) (keeper_stands (stands_home dead) a.0 T.scopes (Some u) at) in
+    let ga = some-of (find (has_number a.0) T.scopes) (keeper_stands (stands_home dead) a.0 T.scopes (Some u) at) in
     record {
       from = t.0;
       has_from = t.1;

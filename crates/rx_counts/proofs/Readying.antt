@@ -3,6 +3,7 @@ use Rattle.std.specs.Prelude.{◌≡◌, true, false, ◌&&◌, ◌==◌, Option
 use Rattle.std.proofs.Common.{sym, ap, ◌∙◌, subst}
 use Rattle.std.proofs.lemmas.Bool.{true≢false}
 use Rattle.rx_base.specs.declared.ids.ScopeId.{ScopeId}
+use Rattle.rx_base.proofs.Options.{none-of}
 use Rattle.rx_rules.specs.declared.tasks.Blow.{Blow}
 use Rattle.rx_rules.specs.Tree.{Tree, quiet}
 use Rattle.rx_sound.specs.Blows.{blow_at}
@@ -37,16 +38,12 @@ ready_struck l T who o s may e k =
     let b : blow_of T who.task ≡ o = blow_is l T who (WaitsInside T who) s may ∙ sym e in
     rw (is_ready, b) ((elim o as (λ v. is_some v ≡ true → false ≡ (is_none v && quiet T who.inner)) [ Some x ↦ λ q. refl | None ↦ λ q. absurd (true≢false (sym q)) ]) k)
 
-pub none_of : {X : Type 0} (o : Option X) → is_some o ≡ false → o ≡ None
-none_of (Some x) e = absurd (true≢false e)
-none_of None e = refl
-
 ready_caller : (l : CountLedger) (T : Tree) (who : Caller) (o : Option Blow) → StandsFor l T → MayAskRelease T who → o ≡ blow_at l.dead who.place → is_some o ≡ false → Free T who (WaitsInside T who)
-ready_caller l T who o s may e k = caller l T who (WaitsInside T who) s may (sym e ∙ none_of o k)
+ready_caller l T who o s may e k = caller l T who (WaitsInside T who) s may (sym e ∙ none-of o k)
 
 pub ready_some : (l : CountLedger) (T : Tree) (who : Caller) (o : Option Blow) (r : Record) → StandsFor l T → MayAskRelease T who → o ≡ blow_at l.dead who.place → is_some o ≡ false → record_at l.scopes.items who.inner.0 ≡ Some r → r.sums.total == 0 ≡ is_ready T who
 ready_some l T who o r s may e k f =
-    let free : blow_of T who.task ≡ None = unstruck l T who (WaitsInside T who) s may (sym e ∙ none_of o k) in
+    let free : blow_of T who.task ≡ None = unstruck l T who (WaitsInside T who) s may (sym e ∙ none-of o k) in
     rw (is_ready, free) (total_quiet l T who.inner r s (last_of l T who s (ready_caller l T who o s may e k)) f)
 
 pub ready_none : (l : CountLedger) (T : Tree) (who : Caller) (o : Option Blow) → StandsFor l T → MayAskRelease T who → o ≡ blow_at l.dead who.place → is_some o ≡ false → record_at l.scopes.items who.inner.0 ≡ None → ⊥

@@ -5,6 +5,7 @@ use Rattle.std.specs.Global.{Box}
 use Rattle.std.proofs.Common.{sym, ap, ◌∙◌, subst, arith}
 use Rattle.std.proofs.lemmas.Bool.{eqb-true, ne_eqb, true≢false, and_right, not-true}
 use Rattle.rx_base.specs.declared.ids.ScopeId.{ScopeId}
+use Rattle.rx_base.proofs.SameIds.{scope-is}
 use Rattle.rx_rules.specs.declared.tasks.Task.{Task}
 use Rattle.rx_rules.specs.declared.tasks.Scope.{Scope}
 use Rattle.rx_rules.specs.Tree.{Tree, is_scope, on_chain, is_under, quiet}
@@ -12,7 +13,6 @@ use Rattle.rx_rules.specs.Entries.{was_lost_at, without}
 use Rattle.rx_sound.specs.Chains.{meets}
 use Rattle.rx_sound.specs.Sound.{Sound}
 use Rattle.rx_sound.proofs.Releasing.{on_meets, passes_marks, drops, leaves, stayer_free, each_none, each_filtered, each_all}
-use Rattle.rx_counts.proofs.Shapes.{scope_is}
 use Rattle.rx_counts.specs.declared.record.Record.{Record}
 use Rattle.rx_counts.specs.Keeping.{stands_home, keeper, finishes, is_number, kept_at, same_where, is_orphan, held}
 use Rattle.rx_rules.specs.Counts.{has_number}
@@ -129,14 +129,14 @@ all_released T s rs qs h i still gone fit n =
     (elim (meets s T.scopes (Some u)) as (λ b. meets s T.scopes (Some u) ≡ b → record_at qs n ≡ cond b None (record_at rs n) → Both (RecordOf keeps (without T s).scopes (without T s).tasks) (record_at qs n) (find (has_number n) (without T s).scopes)) [
       | true ↦ λ m e.
           subst (λ o. Both (RecordOf keeps (without T s).scopes (without T s).tasks) o (find (has_number n) (without T s).scopes)) (sym e)
-          (subst (λ o. Both (RecordOf keeps (without T s).scopes (without T s).tasks) None o) (sym (find_gone q n T.scopes (λ g num. ap not (on_meets s T.scopes (Some g.number) ∙ ap (λ (v : ScopeId). meets s T.scopes (Some v)) (scope_is g.number u num) ∙ m)))) tt)
+          (subst (λ o. Both (RecordOf keeps (without T s).scopes (without T s).tasks) None o) (sym (find_gone q n T.scopes (λ g num. ap not (on_meets s T.scopes (Some g.number) ∙ ap (λ (v : ScopeId). meets s T.scopes (Some v)) (scope-is g.number u num) ∙ m)))) tt)
       | false ↦ λ m e.
           subst (λ o. Both (RecordOf keeps (without T s).scopes (without T s).tasks) o (find (has_number n) (without T s).scopes)) (sym e)
-          (subst (λ o. Both (RecordOf keeps (without T s).scopes (without T s).tasks) (record_at rs n) o) (sym (find_stays q n T.scopes (λ g num. ap not (on_meets s T.scopes (Some g.number) ∙ ap (λ (v : ScopeId). meets s T.scopes (Some v)) (scope_is g.number u num) ∙ m))))
+          (subst (λ o. Both (RecordOf keeps (without T s).scopes (without T s).tasks) (record_at rs n) o) (sym (find_stays q n T.scopes (λ g num. ap not (on_meets s T.scopes (Some g.number) ∙ ap (λ (v : ScopeId). meets s T.scopes (Some v)) (scope-is g.number u num) ∙ m))))
           (both_more (RecordOf keeps T.scopes T.tasks) (RecordOf keeps (without T s).scopes (without T s).tasks) (record_at rs n) (find (has_number n) T.scopes)
           (λ r g found a.
           let num : g.number.0 ≡ n = number_is n T.scopes g found in
-          let free : meets s T.scopes (Some g.number) ≡ false = ap (λ (v : ScopeId). meets s T.scopes (Some v)) (scope_is g.number u num) ∙ m in
-          record_released T s r g h still (kept_here T s h i still) (λ e2. true≢false (sym (met_own T s i) ∙ ap (λ (v : ScopeId). meets s T.scopes (Some v)) (sym (scope_is g.number s e2)) ∙ free)) free a)
+          let free : meets s T.scopes (Some g.number) ≡ false = ap (λ (v : ScopeId). meets s T.scopes (Some v)) (scope-is g.number u num) ∙ m in
+          record_released T s r g h still (kept_here T s h i still) (λ e2. true≢false (sym (met_own T s i) ∙ ap (λ (v : ScopeId). meets s T.scopes (Some v)) (sym (scope-is g.number s e2)) ∙ free)) free a)
           (fit n)))
     ]) refl (gone u)

@@ -6,19 +6,16 @@ use Rattle.std.proofs.Common.{sym, ap, ◌∙◌, subst}
 use Rattle.std.proofs.lemmas.Bool.{eqb-true}
 use Rattle.rx_base.specs.declared.ids.PlaceId.{PlaceId}
 use Rattle.rx_base.specs.declared.ids.ScopeId.{ScopeId}
+use Rattle.rx_base.proofs.Elements.{find-passes}
 use Rattle.rx_rules.specs.declared.tasks.Blow.{Blow}
 use Rattle.rx_rules.specs.declared.tasks.Scope.{Scope}
 use Rattle.rx_rules.specs.Tree.{Tree, is_scope}
 use Rattle.rx_sound.specs.Blows.{death_blow}
-use Rattle.rx_sound.proofs.Lookups.{find_passes}
 use Rattle.rx_counts.specs.declared.record.Record.{Record}
 use Rattle.rx_counts.specs.Keeping.{stands_home, keeper}
 use Rattle.rx_rules.specs.Counts.{has_number}
 use Rattle.rx_counts.specs.Stands.{Both, ShapeOf, IsShaped, record_at}
 use Rattle.rx_counts.proofs.Walks.{keeper_step, keeper_missing, keeper_nothing, parent_older, OlderThan}
-
-pub scope_is : (a b : ScopeId) → a.0 ≡ b.0 → a ≡ b
-scope_is a b e = ap (λ (n : ℕ). let q : ScopeId = record { 0 = n } in q) e
 
 none_same : (o : Option ℕ) (p : PlaceId) → is_none (option_map (λ n. let b : Blow = record { place = p; entry = n } in b) o) ≡ is_none o
 none_same (Some n) p = refl
@@ -58,7 +55,7 @@ walk_step T rs dead s r h e =
 pub walk_older : (T : Tree) (rs : List (Option (Box Record))) (s : ScopeId) (r : Record) → IsShaped T rs → record_at rs s.0 ≡ Some r → OlderThan s.0 r.parent
 walk_older T rs s r h e =
     let k = shape_in T rs s r h e in
-    let num : k.0.number.0 ≡ s.0 = eqb-true k.0.number.0 s.0 (find_passes (is_scope s) T.scopes k.0 k.1) in
+    let num : k.0.number.0 ≡ s.0 = eqb-true k.0.number.0 s.0 (find-passes (is_scope s) T.scopes k.0 k.1) in
     subst (λ w. OlderThan s.0 w) (sym k.2.parent) (subst (λ m. OlderThan m k.0.parent) num (parent_older T.tasks (is_scope s) T.next_scope T.scopes k.0 h.falls h.opened k.1))
 
 -- the three ends of the walk, and its step, in the words of the code

@@ -7,6 +7,8 @@ use Rattle.std.proofs.Common.{sym, ap, ◌∙◌, subst, arith, ⊎_elim}
 use Rattle.std.proofs.lemmas.Bool.{eqb-true, eq-eqb, ne_eqb, true≢false, lt-ltb, cases_eq, cases_lt}
 use Rattle.std.proofs.Math.Bool.{and-false, and-true}
 use Rattle.rx_base.specs.declared.ids.ScopeId.{ScopeId}
+use Rattle.rx_base.proofs.Elements.{find-passes}
+use Rattle.rx_base.proofs.SameIds.{scope-is}
 use Rattle.rx_rules.specs.declared.tasks.Scope.{Scope}
 use Rattle.rx_rules.specs.Tree.{Tree, is_scope, quiet}
 use Rattle.rx_rules.specs.Counts.{has_number}
@@ -14,7 +16,6 @@ use Rattle.rx_sound.specs.Chains.{meets, Falls}
 use Rattle.rx_sound.specs.Sound.{Each, Sound}
 use Rattle.rx_sound.proofs.Changes.{each_found, each_more}
 use Rattle.rx_sound.proofs.Releasing.{each_all, each_below, each_both, each_none}
-use Rattle.rx_sound.proofs.Lookups.{find_passes}
 use Rattle.rx_sound.proofs.Parents.{met_found}
 use Rattle.rx_sound.proofs.Reached.{sound}
 use Rattle.rx_counts.specs.declared.record.Record.{Record}
@@ -24,7 +25,7 @@ use Rattle.rx_counts.specs.Stands.{ShapeOf, StandsFor, record_at}
 use Rattle.rx_counts.specs.Inside.Freeing.{IsLast, Takes, parent_gone}
 use Rattle.rx_counts.proofs.Counting.{one, count_cons, count_split, count_none, none_counted}
 use Rattle.rx_counts.proofs.Walks.{keeper_step}
-use Rattle.rx_counts.proofs.Shapes.{scope_is, both_none, shape_in}
+use Rattle.rx_counts.proofs.Shapes.{both_none, shape_in}
 use Rattle.rx_counts.proofs.Telling.{keeper_meets}
 use Rattle.rx_counts.proofs.Lasting.{kept_here}
 use Rattle.rx_counts.proofs.Asking.{shaped}
@@ -123,7 +124,7 @@ taken_here T rs ps s u n goes h e below above =
     → count_by (λ g. meets s T.scopes (Some g.number) && has_number u.0 g) T.scopes ≡ one goes) [
       | Some r ↦ λ k.
           let g = shape_in T rs u r h.shaped k in
-          let num : g.0.number ≡ u = scope_is g.0.number u (eqb-true g.0.number.0 u.0 (find_passes (is_scope u) T.scopes g.0 g.1)) in
+          let num : g.0.number ≡ u = scope-is g.0.number u (eqb-true g.0.number.0 u.0 (find-passes (is_scope u) T.scopes g.0 g.1)) in
           let is : goes ≡ meets s T.scopes (Some u) = e ∙ ap (λ o. u.0 == s.0 || parent_gone ps o) (above ∙ k)
           ∙ goes_now T rs ps s u r h.shaped k below in
           count_found (λ g. meets s T.scopes (Some g.number)) u.0 T.next_scope T.scopes g.0 h.shaped.falls g.1
@@ -202,7 +203,7 @@ none_left T rs ps s i n left h below above zero sum u =
 
     stays : (g : Scope) → find (is_scope u) T.scopes ≡ Some g → i ≤ u.0 → meets s T.scopes (Some u) ≡ false
     stays g found le =
-        let num : g.number ≡ u = scope_is g.number u (eqb-true g.number.0 u.0 (find_passes (is_scope u) T.scopes g found)) in
+        let num : g.number ≡ u = scope-is g.number u (eqb-true g.number.0 u.0 (find-passes (is_scope u) T.scopes g found)) in
         let parts =
         count_split (λ k. meets s T.scopes (Some k.number)) (λ k. meets s T.scopes (Some k.number) && ltb k.number.0 i)
         (λ k. meets s T.scopes (Some k.number) && not (ltb k.number.0 i)) T.scopes

@@ -9,6 +9,7 @@ use Rattle.rx_sound.proofs.Releasing.{each_all}
 use Rattle.rx_sound.proofs.Staying.{any_same}
 use Rattle.rx_base.specs.declared.ids.PlaceId.{PlaceId}
 use Rattle.rx_base.specs.declared.ids.ScopeId.{ScopeId}
+use Rattle.rx_base.proofs.Bools.{same-or-false}
 use Rattle.rx_rules.specs.declared.tasks.Where.{Where}
 use Rattle.rx_rules.specs.declared.tasks.Where.TheVariants.{At, Travel}
 use Rattle.rx_rules.specs.declared.tasks.Blow.{Blow}
@@ -63,12 +64,8 @@ count_strike b keeps gs ts s w =
       | false ↦ refl
     ])
 
-or_false : (b : Bool) → b ≡ (b || false)
-or_false true = refl
-or_false false = refl
-
 lost_after : (b : Blow) (p : ℕ) (o : Option Blow) (h : Bool) → (elim (cond (is_none o && h) (Some b) o) as (λ _. Bool) [ Some c ↦ c.place.0 == p | None ↦ false ]) ≡ ((elim o as (λ _. Bool) [ Some c ↦ c.place.0 == p | None ↦ false ]) || ((is_none o && h) && (b.place.0 == p)))
-lost_after b p (Some c) h = or_false (c.place.0 == p)
+lost_after b p (Some c) h = same-or-false (c.place.0 == p)
 lost_after b p None true = refl
 lost_after b p None false = refl
 
@@ -96,7 +93,7 @@ any_either a c k (x ∷ xs) = ap (λ b. ((a x || c x) && k x) || b) (any_either 
 
 any_lost : {X : Type 0} (a c k : X → Bool) (e : Bool) (xs : List X) → list_any (λ x. (a x || (c x && e)) && k x) xs ≡ (list_any (λ x. a x && k x) xs || (list_any (λ x. c x && k x) xs && e))
 any_lost {X = X} a c k true xs = any_same (λ x. (a x || (c x && true)) && k x) (λ x. (a x || c x) && k x) xs (each_all _ (λ (x : X). ap (λ v. (a x || v) && k x) (and-true (c x))) xs) ∙ any_either a c k xs ∙ ap (λ v. list_any (λ x. a x && k x) xs || v) (sym (and-true (list_any (λ x. c x && k x) xs)))
-any_lost {X = X} a c k false xs = any_same (λ x. (a x || (c x && false)) && k x) (λ x. a x && k x) xs (each_all _ (λ (x : X). ap (λ v. (a x || v) && k x) (and-false (c x)) ∙ ap (λ v. v && k x) (sym (or_false (a x)))) xs) ∙ or_false (list_any (λ x. a x && k x) xs) ∙ ap (λ v. list_any (λ x. a x && k x) xs || v) (sym (and-false (list_any (λ x. c x && k x) xs)))
+any_lost {X = X} a c k false xs = any_same (λ x. (a x || (c x && false)) && k x) (λ x. a x && k x) xs (each_all _ (λ (x : X). ap (λ v. (a x || v) && k x) (and-false (c x)) ∙ ap (λ v. v && k x) (sym (same-or-false (a x)))) xs) ∙ same-or-false (list_any (λ x. a x && k x) xs) ∙ ap (λ v. list_any (λ x. a x && k x) xs || v) (sym (and-false (list_any (λ x. c x && k x) xs)))
 
 pub hits_slot : (d : PlaceId) (w : Where) → in_range w → hits_cell d.0 (slot w) ≡ is_hit d w
 hits_slot d (At p) h = rw (lt-ltb p.0 16 h)

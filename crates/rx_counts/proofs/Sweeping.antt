@@ -3,19 +3,20 @@ use Rattle.std.specs.Prelude.{◌≡◌, ℕ, ◌<◌, ◌≤◌, ◌+◌, Bool,
 use Rattle.std.specs.List.{find}
 use Rattle.std.specs.Global.{Box}
 use Rattle.std.proofs.Common.{sym, ap, ◌∙◌, subst, arith, ⊎_elim}
-use Rattle.std.proofs.lemmas.Bool.{eqb-true, eq-eqb, ne_eqb, true≢false, false_from_ne_true, cases_eq, cases_lt}
+use Rattle.std.proofs.lemmas.Bool.{eqb-true, eq-eqb, ne_eqb, false_from_ne_true, cases_eq, cases_lt}
 use Rattle.std.proofs.Math.Bool.{and-false, and-true}
 use Rattle.rx_sound.proofs.Freeing.{meets_none}
 use Rattle.rx_sound.proofs.Parents.{met_found}
 use Rattle.rx_base.specs.declared.ids.TaskId.{TaskId}
 use Rattle.rx_base.specs.declared.ids.ScopeId.{ScopeId}
+use Rattle.rx_base.proofs.Options.{some-of}
+use Rattle.rx_base.proofs.Elements.{find-passes}
 use Rattle.rx_rules.specs.declared.tasks.Task.{Task}
 use Rattle.rx_rules.specs.declared.tasks.Scope.{Scope}
 use Rattle.rx_rules.specs.Tree.{Tree, is_scope, wants, the_root, quiet}
 use Rattle.rx_rules.specs.Entries.{without}
 use Rattle.rx_sound.specs.Chains.{meets, Falls, HasOpener, Opened}
 use Rattle.rx_sound.proofs.Below.{met_newer}
-use Rattle.rx_sound.proofs.Lookups.{find_passes}
 use Rattle.rx_sound.proofs.Reached.{sound}
 use Rattle.rx_counts.specs.declared.record.Record.{Record}
 use Rattle.rx_counts.specs.declared.ledger.CountLedger.{CountLedger}
@@ -45,7 +46,7 @@ meets_keeper s (g ∷ gs) want =
 -- one step of it
 pub meets_step : (ts : List Task) (n : ℕ) (gs : List Scope) (s u : ScopeId) (g : Scope) → Falls n gs → Opened ts gs → find (is_scope u) gs ≡ Some g → meets s gs (Some u) ≡ (u.0 == s.0 || meets s gs g.parent)
 meets_step ts n gs s u g f o e =
-    let num : g.number.0 ≡ u.0 = eqb-true g.number.0 u.0 (find_passes (is_scope u) gs g e) in
+    let num : g.number.0 ≡ u.0 = eqb-true g.number.0 u.0 (find-passes (is_scope u) gs g e) in
     meets_keeper s gs (Some u) ∙ ap (is_number s.0) (keeper_step ts (is_scope s) n gs u g f o e ∙ ap (λ (m : ℕ). cond (m == s.0) (Some u.0) (keeper (is_scope s) gs g.parent)) num)
     ∙ ((elim (u.0 == s.0) as (λ b. u.0 == s.0 ≡ b → is_number s.0 (cond b (Some u.0) (keeper (is_scope s) gs g.parent)) ≡ (b || meets s gs g.parent)) [
       | true ↦ λ k. k
@@ -69,10 +70,6 @@ parent_found ts p (h ∷ hs) g r o e k =
           ]) e
     ]
 
-some_of : {X : Type 0} (o : Option X) → is_some o ≡ true → (x : X) × (o ≡ Some x)
-some_of (Some x) e = (x, refl)
-some_of None e = absurd (true≢false (sym e))
-
 cond_none : {X : Type 0} (b : Bool) (o : Option X) (x : X) → o ≡ Some x → is_none (cond b None o) ≡ b
 cond_none true o x e = refl
 cond_none false o x e = rw e refl
@@ -80,7 +77,7 @@ cond_none false o x e = rw e refl
 parent_is : (T : Tree) (rs qs : List (Option (Box Record))) (s : ScopeId) (i : ℕ) (r : Record) (g : Scope) (want : Option ScopeId) → IsShaped T rs → find (has_number i) T.scopes ≡ Some g → g.parent ≡ want → OlderThan i want → ((u : ScopeId) → u.0 < i → record_at qs u.0 ≡ cond (meets s T.scopes (Some u)) None (record_at rs u.0)) → (elim want as (λ _. Bool) [ Some p ↦ is_none (record_at qs p.0) | None ↦ false ]) ≡ meets s T.scopes want
 parent_is T rs qs s i r g None h found e old below = sym (meets_none s T.scopes)
 parent_is T rs qs s i r g (Some p) h found e old below =
-    let k = some_of (find (has_number p.0) T.scopes) (parent_found T.tasks (has_number i) T.scopes g p h.opened found e) in
+    let k = some-of (find (has_number p.0) T.scopes) (parent_found T.tasks (has_number i) T.scopes g p h.opened found e) in
     let q = both_found (ShapeOf T.scopes) (record_at rs p.0) (find (has_number p.0) T.scopes) k.0 (h.shapes p.0) k.1 in
     ap is_none (below p old) ∙ cond_none (meets s T.scopes (Some p)) (record_at rs p.0) q.0 q.1
 

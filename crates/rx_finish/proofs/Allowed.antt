@@ -1,6 +1,5 @@
 -- Where the condition of a call holds of a reached tree and no death has struck the caller, the call's entry is allowed.
-use Rattle.std.specs.Prelude.{◌≡◌, ℕ, Bool, true, false, cond, List, [], ◌∷◌, Option, Some, None, is_some, refl, ◌⊎◌}
-use Rattle.std.specs.List.{find}
+use Rattle.std.specs.Prelude.{◌≡◌, ℕ, true, false, List, [], Some, None, is_some, refl, ◌⊎◌}
 use Rattle.std.proofs.Common.{sym, ap, ◌∙◌, subst, inl, inr}
 use Rattle.std.proofs.lemmas.Bool.{eqb-true}
 use Rattle.rx_base.specs.declared.ids.PlaceId.{PlaceId}
@@ -8,6 +7,7 @@ use Rattle.rx_base.specs.declared.ids.TaskId.{TaskId}
 use Rattle.rx_base.specs.declared.ids.ScopeId.{ScopeId}
 use Rattle.rx_base.specs.declared.values.Fault.{Fault}
 use Rattle.rx_base.specs.declared.place_set.PlaceSet.{PlaceSet}
+use Rattle.rx_base.proofs.Elements.{find-passes}
 use Rattle.rx_rules.specs.declared.tasks.Where.{Where}
 use Rattle.rx_rules.specs.declared.tasks.Where.TheVariants.{At, Travel}
 use Rattle.rx_rules.specs.declared.tasks.Task.{Task}
@@ -106,18 +106,9 @@ arrive_allowed T who r may u =
       travels = way.1 ∙ ap (λ w. Travel way.0 (landing w)) f.at.says.place;
     }
 
-pick_passes : {X : Type 0} (p : X → Bool) (y : X) (rest : Option X) (x : X) (b : Bool) → p y ≡ b → (rest ≡ Some x → p x ≡ true) → cond b (Some y) rest ≡ Some x → p x ≡ true
-pick_passes p y rest x true e ih h = let same : y ≡ x = cc in subst (λ v. p v ≡ true) same e
-pick_passes p y rest x false e ih h = ih h
-
--- what is found passes the test
-find_passes : {X : Type 0} (p : X → Bool) (xs : List X) (x : X) → find p xs ≡ Some x → p x ≡ true
-find_passes p [] x h = cc
-find_passes p (y ∷ ys) x h = pick_passes p y (find p ys) x (p y) refl (find_passes p ys x) h
-
 -- a task that is found has the number
 number_of : (T : Tree) (t : TaskId) (x : Task) → task_of T t ≡ Some x → x.number ≡ t
-number_of T t x h = ap (λ (n : ℕ). record { 0 = n }) (eqb-true x.number.0 t.0 (find_passes (is_task t) T.tasks x h))
+number_of T t x h = ap (λ (n : ℕ). record { 0 = n }) (eqb-true x.number.0 t.0 (find-passes (is_task t) T.tasks x h))
 
 -- the scope that a caller opened last is the inner one
 pub own_is : (T : Tree) (who : Caller) (P : Task → Type 0) (f : Free T who P) (g : Scope) → own_scope T who.task ≡ Some g → g.number ≡ who.inner

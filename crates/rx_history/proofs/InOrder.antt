@@ -4,6 +4,7 @@ use Rattle.std.specs.Prelude.{Contains, Decides, slice_index_or}
 use Rattle.std.proofs.lemmas.Bool.Decides.{nat_tests}
 use Rattle.rx_base.specs.declared.ids.Kill.{Kill}
 use Rattle.rx_rules.specs.Run.{ComesAfter, Ascends}
+use Rattle.rx_rules.proofs.Kills.{further}
 use Rattle.rx_history.specs.KillOrder.{IsAscending, is_before, InOrder, OneOrder}
 
 -- the test tells which kill comes after which
@@ -28,13 +29,6 @@ after-before a b (inr same) =
 
 pub before-Decides : (a b : Kill) → Decides (is_before a b) (ComesAfter a b)
 before-Decides a b = (before-after a b, after-before a b)
-
--- what comes after a later kill comes after the earlier one
-pub further : (a b c : Kill) → ComesAfter a b → ComesAfter b c → ComesAfter a c
-further a b c (inl x) (inl y) = inl (omega arith)
-further a b c (inl x) (inr y) = let e = y.0 in inl (omega arith)
-further a b c (inr x) (inl y) = let e = x.0 in inl (omega arith)
-further a b c (inr x) (inr y) = let e = x.0 in let f = y.0 in let g = x.1 in let h = y.1 in inr (omega arith, omega arith)
 
 -- none comes after itself
 pub not-itself : (a : Kill) → ComesAfter a a → ⊥

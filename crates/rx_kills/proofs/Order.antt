@@ -4,8 +4,9 @@ use Rattle.std.specs.List.{AllByRecursion}
 use Rattle.std.proofs.lemmas.List.Elements.{All-from_recursion}
 use Rattle.rx_base.specs.declared.ids.Kill.{Kill}
 use Rattle.rx_rules.specs.Run.{ComesAfter, Ascends}
+use Rattle.rx_rules.proofs.Kills.{further}
 use Rattle.rx_history.specs.KillOrder.{IsAscending}
-use Rattle.rx_history.proofs.InOrder.{further, contains-first, ascending-rest}
+use Rattle.rx_history.proofs.InOrder.{contains-first, ascending-rest}
 use Rattle.rx_kills.specs.Least.{DueIsLeast, NoneIsReached}
 
 onward : (a b : Kill) (ks : List Kill) → ComesAfter a b → Ascends b ks → Ascends a ks

@@ -3,6 +3,7 @@ use Rattle.std.specs.Prelude.{◌≡◌, ◌⊎◌, ℕ, suc, Bool, false, List,
 use Rattle.std.proofs.Common.{ap, sym, subst, ◌∙◌, inl, inr}
 use Rattle.std.proofs.lemmas.Bool.{cond_both}
 use Rattle.rx_base.specs.declared.values.Fault.{Fault}
+use Rattle.rx_base.proofs.Elements.{tails-are}
 use Rattle.rx_rules.specs.Code.{Block, Nothing, Then, Stmt, SetTo, New, Get, Put, Forget, Print, Throw, Async, AtAsync, At, Finish, If, Repeat, Try}
 use Rattle.rx_rules.specs.Terms.{Term, Empty, Run, Raise, Turns, Trying, Body, Held, Vars, Does, Gets, Puts, Forgets, Calls, Spawns, Prints, at, items_from, items, does, stmt_does, trying_does, body_does, eval, target_of, is_zero, catches, replaced, after_it}
 use Rattle.rx_laws.proofs.Straight.{code_at, is_waiter}
@@ -42,17 +43,14 @@ nothing-left : (x : List ℕ) (j : ℕ) (r : List ℕ) → [] ≡ x ++ j ∷ r �
 nothing-left [] j r e = cc
 nothing-left (i ∷ x) j r e = cc
 
-pub tail_same : (i j : ℕ) (x y : List ℕ) → i ∷ x ≡ j ∷ y → x ≡ y
-tail_same i j x y e = cc
-
 between-two : (z x : List ℕ) (c m j : ℕ) (r : List ℕ) → at (at z c) m ≡ x ++ j ∷ r → Starts z x → (x ≡ z) ⊎ (x ≡ at z c)
 between-two [] [] c m j r e s = inl refl
 between-two [] (k ∷ []) c m j r e s = inr (let same : c ≡ k = cc in ap (λ v. v ∷ []) (sym same))
 between-two [] (k ∷ l ∷ x) c m j r e s =
-    absurd (nothing-left x j r (tail_same m l [] (x ++ j ∷ r) (tail_same c k (m ∷ []) (l ∷ (x ++ j ∷ r)) e)))
+    absurd (nothing-left x j r (tails-are m l [] (x ++ j ∷ r) (tails-are c k (m ∷ []) (l ∷ (x ++ j ∷ r)) e)))
 between-two (k ∷ z) [] c m j r e s = absurd s
 between-two (k ∷ z) (l ∷ x) c m j r e s =
-    elim (between-two z x c m j r (tail_same k l (at (at z c) m) (x ++ j ∷ r) e) s.1) [
+    elim (between-two z x c m j r (tails-are k l (at (at z c) m) (x ++ j ∷ r) e) s.1) [
       | inl q ↦ inl (ap (λ v. v ∷ x) (sym s.0) ∙ ap (λ v. k ∷ v) q)
       | inr q ↦ inr (ap (λ v. v ∷ x) (sym s.0) ∙ ap (λ v. k ∷ v) q)
     ]

@@ -14,7 +14,8 @@ use Rattle.rx_rules.specs.declared.tasks.Task.{Task}
 use Rattle.rx_rules.specs.declared.entries.Act.{Act}
 use Rattle.rx_rules.specs.declared.entries.Act.TheVariants.{Open, At as Calling, Spawn, Arrive, Wait, Release, End, Print as Printed}
 use Rattle.rx_rules.specs.Tree.{Tree, is_task, task_of, is_under, death_of}
-use Rattle.rx_rules.specs.Entries.{AllowedAct, made_act, after_end, born, waiting, resumed, without, change_first, hit, is_hit, strike}
+use Rattle.rx_rules.specs.Entries.{AllowedAct, made_act, born, waiting, resumed, without, change_first, hit, is_hit, strike}
+use Rattle.rx_rules.proofs.Append.{end-tasks}
 use Rattle.rx_laws.proofs.ToldPairs.{is_free, is_alive}
 
 abbrev pub at_place : ℕ → Where → Bool
@@ -99,9 +100,6 @@ here-without T s c p = any-filter (λ x. not (is_under T s x && is_some x.struck
 other_row : (t : TaskId) (c p : ℕ) (x : Task) → (t.0 ≡ c → ⊥) → is_task t x ≡ true → is_here c p x ≡ true → ⊥
 other_row t c p x o e h =
     o (sym (eqb-true x.number.0 t.0 e) ∙ eqb-true x.number.0 c (and_parts (x.number.0 == c) (is_none x.struck && at_place p x.place) h).0)
-
-end-tasks : (T : Tree) (t : TaskId) (thrown : List Fault) (x : Task) → task_of T t ≡ Some x → (after_end T t thrown).tasks ≡ filter (λ y. not (is_task t y)) T.tasks
-end-tasks T t thrown x e = rw (e, after_end)
 
 not_task : (t : TaskId) (c p : ℕ) (x : Task) (y : Bool) → is_task t x ≡ y → (t.0 ≡ c → ⊥) → is_here c p x ≡ true → not y ≡ true
 not_task t c p x true e o h = absurd (other_row t c p x o e h)

@@ -20,7 +20,7 @@ use Rattle.rx_rules.specs.Fold.{births_of}
 use Rattle.rx_rules.specs.Run.{Given, IsRun}
 use Rattle.rx_rules.specs.Order.{InOrder, told}
 use Rattle.rx_rules.specs.Laws.{has, walk, links, born_so_far}
-use Rattle.rx_laws.proofs.Numbers.{next-made}
+use Rattle.rx_rules.proofs.Numbers.{next-made}
 use Rattle.rx_laws.proofs.Lines.{bones}
 use Rattle.rx_laws.proofs.Losses.{is_off}
 use Rattle.rx_laws.proofs.Ties.{Tied}

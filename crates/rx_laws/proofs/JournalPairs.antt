@@ -1,6 +1,6 @@
 -- A relation that holds of each two statements of the events of a journal, the earlier first, if it follows from the order of
 -- words and holds of each one that a task begins and each one that another living task has still to begin then.
-use Rattle.std.specs.Prelude.{◌≡◌, ◌⊎◌, ℕ, suc, ◌+◌, ◌<◌, ◌≤◌, Bool, true, false, cond, not, ◌==◌, List, [], ◌∷◌, length, Option, Some, None, is_some, slice_get, refl}
+use Rattle.std.specs.Prelude.{◌≡◌, ◌⊎◌, ℕ, suc, ◌+◌, ◌<◌, ◌≤◌, Bool, true, false, cond, not, ◌==◌, List, [], ◌∷◌, length, Some, None, is_some, slice_get, refl}
 use Rattle.std.specs.List.{filter_map, cons_option}
 use Rattle.std.proofs.Common.{ap, sym, subst, ◌∙◌, arith, inl, inr}
 use Rattle.std.proofs.lemmas.Bool.{eq-eqb, ne_eqb, cases_order}
@@ -8,6 +8,8 @@ use Rattle.rx_base.specs.declared.ids.PlaceId.{PlaceId}
 use Rattle.rx_base.specs.declared.ids.TaskId.{TaskId}
 use Rattle.rx_base.specs.declared.values.Fault.{Fault}
 use Rattle.rx_base.specs.declared.place_set.PlaceSet.{PlaceSet}
+use Rattle.rx_base.proofs.Options.{none-of}
+use Rattle.rx_base.proofs.Elements.{get-within}
 use Rattle.rx_rules.specs.declared.entries.Act.{Act}
 use Rattle.rx_rules.specs.declared.entries.Act.TheVariants.{Arrive}
 use Rattle.rx_rules.specs.declared.entries.Entry.{Entry}
@@ -24,10 +26,10 @@ use Rattle.rx_rules.specs.Plays.{Begins, Birth, birth_from, travels, cell_of, mo
 use Rattle.rx_rules.specs.Order.{event_path}
 use Rattle.rx_rules.specs.Run.{NotFalling, death_number, close_in, ClosesAt}
 use Rattle.rx_rules.specs.Laws.{born_so_far}
+use Rattle.rx_rules.proofs.Lookups.{number-of}
 use Rattle.rx_laws.proofs.Paths.{Comes}
 use Rattle.rx_laws.proofs.TermOrder.{Todo}
 use Rattle.rx_laws.proofs.Lies.{Moves}
-use Rattle.rx_laws.proofs.Lookups.{number_of}
 use Rattle.rx_laws.proofs.Rows.{to_in, travels-to}
 use Rattle.rx_laws.proofs.NestedTerm.{EachStarts}
 use Rattle.rx_laws.proofs.Ties.{Tied, has_died}
@@ -37,7 +39,7 @@ use Rattle.rx_laws.proofs.Story.{Shape, set_at, set_case, moves_own, moves_other
 use Rattle.rx_laws.proofs.ToldPairs.{is_alive}
 use Rattle.rx_laws.proofs.Events.{EventFrom, IsDue, NextEvent, next-event, none-due, none-before}
 use Rattle.rx_laws.proofs.Here.{stays_here, here-alive, here-act, here-without, here-death, here-lands}
-use Rattle.rx_laws.proofs.Newborn.{to-same, StartsOther, from-other, from-here, newborn, births-left, birth-low, start-at}
+use Rattle.rx_laws.proofs.Newborn.{to-same, StartsOther, from-other, from-here, newborn, births-left, birth-low}
 
 abbrev pub Cells : Type 0
 Cells = List (ℕ × Cell × List ℕ)
@@ -83,10 +85,6 @@ closes-late low (Done u stamp cell x ∷ j) f = closes-late low j (falling-lower
 pub not_first : (n : ℕ) (ns : List ℕ) → FirstFrom (suc n) ns → ns ≡ n ∷ [] → ⊥
 not_first n [] f e = cc
 not_first n (m ∷ ns) f e = let same : m ≡ n = cc in omega arith
-
-some_death : (o : Option ℕ) → is_some o ≡ false → o ≡ None
-some_death None h = refl
-some_death (Some n) h = cc
 
 empty_cell : (stamp : ℕ) (cell : Cell) (x : List ℕ) (cells rest : Cells) → cells ≡ (stamp, cell, x) ∷ rest → cells ≡ [] → ⊥
 empty_cell stamp cell x cells rest e k = let bad : [] ≡ (stamp, cell, x) ∷ rest = sym k ∙ e in cc
@@ -208,7 +206,7 @@ module _ (p : ℕ) (home : ℕ → ℕ) where
                     let few : births es ≡ 0 = ap births none in
                     let k = count in omega (arith, few, k)
                 | inr early ↦
-                    let at = start-at starts u.0 bound in
+                    let at = get-within starts u.0 bound in
                     let w = tale.unborn u.0 at.0.0 at.0.1 le at.1 in
                     none-before starts (birth_from n es u.0).to q (travels (birth_from n es u.0)) n (birth_from n es u.0).low at.0.1 at.0.0 w.cells (moves_from n es u.0) w.begins (birth-low n T es a u.0 le count) stamp cell x (filter_map (cell_of u.0) j) (w.events at_home ∙ own_cell u stamp cell x j) early (due u.0)
               ]
@@ -227,7 +225,7 @@ module _ (p : ℕ) (home : ℕ → ℕ) where
           let may = subst (AllowedAct T t) e a in
           let at : w.0 ≡ p = travels-to q past T i t may.task may.from w may.acts.stands may.travels ∙ to ∙ h in
           subst (λ v. stays_here (made_act T t v) t.0 p ≡ true) (sym e)
-          (subst (λ v. stays_here (made_act T t (Arrive w)) t.0 v ≡ true) at (here-lands T t w may.task may.acts.stands (number_of T t may.task may.acts.stands) may.acts.unstruck))
+          (subst (λ v. stays_here (made_act T t (Arrive w)) t.0 v ≡ true) at (here-lands T t w may.task may.acts.stands (number-of T t may.task may.acts.stands) may.acts.unstruck))
 
       pub passes : Passes (Events past T j t.0) (Events (Step t act batch ∷ past) after j t.0) n act
       passes =
@@ -310,7 +308,7 @@ module _ (p : ℕ) (home : ℕ → ℕ) where
                         let at : to.0 ≡ p = at_home ∙ h in
                         let low16 : to.0 < 16 = let k : T.places ≡ q = i.same_places in omega (arith, k, target) in
                         let alive : is_some (death_of T to) ≡ false = i.dead_so to low16 ∙ ap (has_died past) at ∙ tale.lives in
-                        subst (λ v. stays_here after c.0 v ≡ true) at (here y (some_death (death_of T to) alive))),
+                        subst (λ v. stays_here after c.0 v ≡ true) at (here y (none-of (death_of T to) alive))),
                   ),
                 ) begins
             by_way u vars from to cells false y at_home events dest target here begins =

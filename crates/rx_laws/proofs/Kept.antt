@@ -1,9 +1,8 @@
 -- What every entry keeps of the open scopes, from which it follows that each waiter that holds an item of a living task is open.
-use Rattle.std.specs.Prelude.{◌≡◌, ◌⊎◌, ℕ, suc, ◌<◌, ◌≤◌, Bool, true, List, [], ◌∷◌, ◌++◌, map, filter, Option, Some, None, refl}
+use Rattle.std.specs.Prelude.{◌≡◌, ◌⊎◌, ℕ, suc, ◌<◌, ◌≤◌, Bool, true, List, [], ◌∷◌, ◌++◌, map, filter, Some, None, refl}
 use Rattle.std.proofs.Common.{ap, sym, subst, ◌∙◌, arith, inl, inr}
 use Rattle.std.proofs.lemmas.Bool.{eq-eqb, ne_eqb, cond_both}
 use Rattle.rx_base.specs.declared.ids.TaskId.{TaskId}
-use Rattle.rx_base.specs.declared.values.Fault.{Fault}
 use Rattle.rx_rules.specs.declared.tasks.Task.{Task}
 use Rattle.rx_rules.specs.declared.tasks.Scope.{Scope}
 use Rattle.rx_rules.specs.declared.entries.Act.{Act}
@@ -13,11 +12,12 @@ use Rattle.rx_rules.specs.declared.entries.Entry.TheVariants.{Step}
 use Rattle.rx_rules.specs.Code.{Block, Stmt, Finish}
 use Rattle.rx_rules.specs.Terms.{Term, Empty, items}
 use Rattle.rx_rules.specs.Tree.{Tree, task_of, inner}
-use Rattle.rx_rules.specs.Entries.{AllowedAct, made_act, after_end}
+use Rattle.rx_rules.specs.Entries.{AllowedAct, made_act}
 use Rattle.rx_rules.specs.Fold.{opening}
 use Rattle.rx_rules.specs.Laws.{has, walk, links, born_so_far}
+use Rattle.rx_rules.proofs.Numbers.{scope-after_end}
+use Rattle.rx_rules.proofs.Lookups.{number-of}
 use Rattle.rx_laws.proofs.Straight.{code_at, is_waiter}
-use Rattle.rx_laws.proofs.Lookups.{number_of}
 use Rattle.rx_laws.proofs.Lines.{bone, Falls}
 use Rattle.rx_laws.proofs.Ties.{Tied}
 use Rattle.rx_laws.proofs.HeadsStep.{items-heads}
@@ -103,12 +103,6 @@ kept-start code q =
 
 -- What an act makes of scope numbers, chains and births.
 
-next-end : (T : Tree) (t : TaskId) (thrown : List Fault) → (after_end T t thrown).next_scope ≡ T.next_scope
-next-end T t thrown = by_row (task_of T t) refl where
-  by_row : (o : Option Task) → task_of T t ≡ o → (after_end T t thrown).next_scope ≡ T.next_scope
-  by_row None e = let it : after_end T t thrown ≡ T = rw (e, after_end) in ap (λ (v : Tree). v.next_scope) it
-  by_row (Some x) e = rw (e, after_end)
-
 abbrev pub NextScope : Tree → Act → Tree → Type 0
 NextScope T act after =
     ((scope_in act ≡ None) × (after.next_scope ≡ T.next_scope)) ⊎ ((s : ℕ) × (scope_in act ≡ Some s) × (s ≡ T.next_scope) × (after.next_scope ≡ suc T.next_scope))
@@ -120,7 +114,7 @@ next-scope T t (Spawn c s from to x) a = inl (refl, refl)
 next-scope T t (Arrive p) a = inl (refl, refl)
 next-scope T t (Wait s thrown) a = inl (refl, refl)
 next-scope T t (Release s lost thrown) a = inl (refl, refl)
-next-scope T t (End thrown) a = inl (refl, next-end T t thrown)
+next-scope T t (End thrown) a = inl (refl, scope-after_end T t thrown)
 next-scope T t (Printed value x) a = inl (refl, refl)
 
 -- chains of scopes that are there stay
@@ -163,4 +157,4 @@ under-same past T t (Printed value x) batch a c h = refl
 -- the scope that a task works in is the innermost that it has open, or the one that it hangs under
 pub inner-of : (q : ℕ) (past : List Entry) (T : Tree) → Tied q past T → (t : TaskId) → own_nums t.0 (cores T) ≡ nums_of (opened past t.0) → (x : Task) → task_of T t ≡ Some x → (inner T x).0 ≡ inner_num past t.0
 inner-of q past T i t own x h =
-    inner-top T x ∙ ap (λ n. top x.under.0 (own_nums n (cores T))) (number_of T t x h) ∙ ap (top x.under.0) own ∙ ap (λ u. top u (nums_of (opened past t.0))) (task-under q past T i t x h)
+    inner-top T x ∙ ap (λ n. top x.under.0 (own_nums n (cores T))) (number-of T t x h) ∙ ap (top x.under.0) own ∙ ap (λ u. top u (nums_of (opened past t.0))) (task-under q past T i t x h)

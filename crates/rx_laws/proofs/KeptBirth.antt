@@ -4,6 +4,7 @@ use Rattle.std.proofs.Common.{ap, sym, subst, ◌∙◌, arith, inl, inr, append
 use Rattle.std.proofs.lemmas.Bool.{eq-eqb, or_left, or_right, cases_eq, true≢false}
 use Rattle.rx_base.specs.declared.ids.TaskId.{TaskId}
 use Rattle.rx_base.specs.declared.ids.ScopeId.{ScopeId}
+use Rattle.rx_base.proofs.Elements.{tails-are}
 use Rattle.rx_rules.specs.declared.entries.Act.{Act}
 use Rattle.rx_rules.specs.declared.entries.Act.TheVariants.{Open, At as Calling, Spawn, Arrive, Wait, Release, End, Print as Printed}
 use Rattle.rx_rules.specs.declared.entries.Entry.{Entry}
@@ -35,7 +36,6 @@ use Rattle.rx_laws.proofs.Owners.{cores, own_nums}
 use Rattle.rx_laws.proofs.Rows.{under_in, linked-own, linked-under}
 use Rattle.rx_laws.proofs.Kept.{finish-bones, inner_num, Kept, walk-new, inner-of}
 use Rattle.rx_laws.proofs.KeptStep.{none_some, same_number, fresh-path}
-use Rattle.rx_laws.proofs.HeadsStep.{tail_same}
 
 -- where a task that an act starts hangs: under the new scope of an `at`, or under the finish that governs its starter
 pub data Hangs (past : List Entry) (T : Tree) (t : TaskId) (act : Act) (batch : List (List ℕ)) : Type 0 where
@@ -76,7 +76,7 @@ async-of (Try body dead_only handler) h w = absurd (true≢false (sym h))
 
 cancel : (x a b : List ℕ) → x ++ a ≡ x ++ b → a ≡ b
 cancel [] a b e = e
-cancel (i ∷ x) a b e = cancel x a b (tail_same i i (x ++ a) (x ++ b) e)
+cancel (i ∷ x) a b e = cancel x a b (tails-are i i (x ++ a) (x ++ b) e)
 
 module _ (code : Block) (starts : List (Term × Vars)) (q : ℕ) (past : List Entry) (T : Tree) (t : TaskId) (act : Act) (batch told : List (List ℕ)) (f : ℕ → Term) (i : Tied q past T) (s : Shape code past T.next_task f) (sd : Says starts (f t.0) act told) (a : AllowedAct T t act) (low : t.0 < T.next_task) (lives : is_alive T t.0 ≡ true) (k : Kept code past T f) (d : TaskId) (e : started_by act ≡ Some d) where
   abbrev ch : ChildOf starts d (f t.0) sd.after (told ++ own_path act)

@@ -8,11 +8,9 @@ mod KeptPaths
 mod LawsHold
 mod Lies
 mod Lines
-mod Lookups
 mod Losses
 mod Made
 mod NestedTerm
-mod Numbers
 mod Paths
 mod Says
 mod Stacks

@@ -9,6 +9,7 @@ use Rattle.rx_base.specs.declared.place_set.PlaceSet.{PlaceSet}
 use Rattle.rx_base.specs.declared.ids.PlaceId.{PlaceId}
 use Rattle.rx_base.specs.declared.ids.TaskId.{TaskId}
 use Rattle.rx_base.specs.declared.ids.ScopeId.{ScopeId}
+use Rattle.rx_base.proofs.Elements.{find-passes}
 use Rattle.rx_rules.specs.declared.tasks.Where.TheVariants.{At, Travel}
 use Rattle.rx_rules.specs.declared.entries.Act.TheVariants.{Open, At as Calls, Spawn, Arrive, Wait, Release, End, Print}
 use Rattle.rx_rules.specs.declared.entries.Entry.{Entry}
@@ -16,7 +17,6 @@ use Rattle.rx_rules.specs.declared.entries.Entry.TheVariants.{Step, Root, Death}
 use Rattle.rx_rules.specs.Tree.{Tree, is_task, is_finish, task_of, scope_of, own_scope, inner, governs, chain_in, on_chain, is_under, quiet, death_of, the_root, is_scope}
 use Rattle.rx_rules.specs.Entries.{change_first, change_scope, born, waiting, resumed, without, after_end, made, Allowed, MayRelease}
 use Rattle.rx_rules.specs.Laws.{Birth, has, is_born, born_so_far, hit, has_landed, has_ended}
-use Rattle.rx_laws.proofs.Lookups.{find_passes, number_of}
 use Rattle.rx_laws.proofs.Lines.{Bone, bone, bones, nums, line, has_finish, line-in, find-stands, chain-bones, on_chain-line, bones-change, bones-filter}
 use Rattle.rx_laws.proofs.Aligned.{Facts, facts, IsWhere, blow_place, IsRow, found, aligned-change, ended_too, is_other}
 use Rattle.rx_laws.proofs.Losses.{is_off, left_of, released_too}
@@ -24,6 +24,7 @@ use Rattle.rx_laws.proofs.Ties.{Ties, Tied, ScopeOk, has_died, hit-unborn, ties-
 use Rattle.rx_laws.proofs.TiesStep.{ties-arrive, ties-end, ties-death, ties-release}
 use Rattle.rx_rules.specs.declared.tasks.Task.{Task}
 use Rattle.rx_rules.specs.declared.tasks.Scope.{Scope}
+use Rattle.rx_rules.proofs.Lookups.{number-of}
 
 -- a change of a row in what no birth tells, and of scopes in what no bone tells
 pub ties-change : (q : ℕ) (F : Facts) (born died : ℕ → Bool) (bs : List Birth) (next_task next_scope places : ℕ) (dead : List (Option ℕ)) (B C : List Bone) (xs : List Task) → C ≡ B → (p : Task → Bool) (f : Task → Task) → ((b : Birth) (x : Task) → IsRow F B b x → IsRow F B b (f x)) → Ties q F born died bs next_task next_scope places dead B xs → Ties q F born died bs next_task next_scope places dead C (change_first p f xs)
@@ -145,14 +146,14 @@ module _ (q : ℕ) (small : q ≤ 16) (n : ℕ) (past : List Entry) (T : Tree) (
   makes_arrive : (t : TaskId) (p : PlaceId) (batch : List (List ℕ)) → Keeps (Step t (Arrive p) batch)
   makes_arrive t p batch a =
       ties-arrive q (facts past) (is_born past) (has_died past) (born_so_far past) T.next_task T.next_scope T.places T.dead (bones T) T.tasks i t p
-      a.task a.acts.stands (number_of T t a.task a.acts.stands)
+      a.task a.acts.stands (number-of T t a.task a.acts.stands)
       (λ x h. (a.from, let same : a.task ≡ x = let k : Some a.task ≡ Some x = sym a.acts.stands ∙ h in cc in ap (λ (v : Task). v.place) (sym same) ∙ a.travels))
 
   makes_end : (t : TaskId) (thrown : List Fault) (batch : List (List ℕ)) → Keeps (Step t (End thrown) batch)
   makes_end t thrown batch a =
       let stands : task_of T t ≡ Some a.task = a.live.acts.stands in
       let e = ties-end q (facts past) (is_born past) (has_died past) (born_so_far past) T.next_task T.next_scope T.places T.dead (bones T) T.tasks i t
-      a.task stands (number_of T t a.task stands)
+      a.task stands (number-of T t a.task stands)
       (λ x h. let same : a.task ≡ x = let k : Some a.task ≡ Some x = sym stands ∙ h in cc in ap (λ (v : Task). v.struck) (sym same) ∙ a.live.acts.unstruck) in
       let same_bones : map bone (change_first (is_scope a.task.under) (λ g. record g { ends = g.ends ++ thrown }) T.scopes) ≡ bones T = bones-change (is_scope a.task.under) (λ g. record g { ends = g.ends ++ thrown }) (λ g. refl) T.scopes in
       let made_so : after_end T t thrown ≡ change_scope (λ g. record g { ends = g.ends ++ thrown }) a.task.under (record T { tasks = filter (is_other t) T.tasks }) = rw (stands, after_end) in
@@ -184,7 +185,7 @@ module _ (q : ℕ) (small : q ≤ 16) (n : ℕ) (past : List Entry) (T : Tree) (
 
   pub root_stands : (g : Scope) → scope_of T the_root ≡ Some g → has 0 (nums (bones T)) ≡ true
   root_stands g h =
-      subst (λ k. has k (nums (bones T)) ≡ true) (eqb-true g.number.0 0 (find_passes (is_scope the_root) T.scopes g h)) (find-stands _ T.scopes g h)
+      subst (λ k. has k (nums (bones T)) ≡ true) (eqb-true g.number.0 0 (find-passes (is_scope the_root) T.scopes g h)) (find-stands _ T.scopes g h)
 
   makes_root : (lost : PlaceSet) (thrown : List Fault) → Keeps (Root lost thrown)
   makes_root lost thrown a = released the_root (root_stands a.0.root a.0.stands) a.0.is_quiet

@@ -214,7 +214,7 @@ stmt-grown (If test first other) x rest n l = n
 stmt-grown (Repeat times body) x rest n l = n
 stmt-grown (Try body dead_only handler) x rest n l = n
 
-goes_on : (inside after rest : Term) (z : List ℕ) → begins inside ≡ Some z → Body after rest ≡ body_granted inside after rest
+pub goes_on : (inside after rest : Term) (z : List ℕ) → begins inside ≡ Some z → Body after rest ≡ body_granted inside after rest
 goes_on Empty after rest z e = cc
 goes_on (Raise faults) after rest z e = cc
 goes_on (Run stmt y more) after rest z e = refl

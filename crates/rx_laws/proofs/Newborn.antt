@@ -1,5 +1,5 @@
 -- The births of a history, by the number of the entry.
-use Rattle.std.specs.Prelude.{◌≡◌, ℕ, suc, ◌+◌, ◌<◌, ◌≤◌, true, ◌==◌, List, [], ◌∷◌, length, Option, Some, None, slice_get, refl, zero}
+use Rattle.std.specs.Prelude.{◌≡◌, ℕ, suc, ◌+◌, ◌<◌, ◌≤◌, true, ◌==◌, List, [], ◌∷◌, Option, Some, None, refl}
 use Rattle.std.proofs.Common.{ap, sym, subst, ◌∙◌, arith, inl, inr}
 use Rattle.std.proofs.lemmas.Bool.{eq-eqb, ne_eqb, cases_eq}
 use Rattle.std.proofs.lemmas.List.Sums.{sum_by-cons}
@@ -14,8 +14,8 @@ use Rattle.rx_rules.specs.Entries.{AllowedAct, made, made_act}
 use Rattle.rx_rules.specs.Fold.{AllAllowed, births, births_of}
 use Rattle.rx_rules.specs.Plays.{Birth, birth_in, birth_from, started_by}
 use Rattle.rx_rules.specs.Laws.{born_so_far}
+use Rattle.rx_rules.proofs.Numbers.{next-made}
 use Rattle.rx_laws.proofs.Rows.{to_in}
-use Rattle.rx_laws.proofs.Numbers.{next-made}
 use Rattle.rx_laws.proofs.ToldPairs.{Starting, starts_none, starts_one, starting}
 use Rattle.rx_laws.proofs.Here.{stays_here, here-called, here-spawned}
 
@@ -108,8 +108,3 @@ birth-low n T (Step t act batch ∷ es) a c le lt =
           | inr other ↦ later on (omega arith)
               (λ m k i. other (let same : d ≡ m = let j : Some d ≡ Some m = sym e ∙ k in cc in ap (λ (v : TaskId). v.0) same ∙ i))
         ]
-
-pub start-at : {X : Type 0} (xs : List X) (i : ℕ) → i < length xs → (x : X) × (slice_get xs i ≡ Some x)
-start-at [] i h = absurd (omega arith)
-start-at (x ∷ xs) zero h = (x, refl)
-start-at (x ∷ xs) (suc i) h = start-at xs i (omega arith)

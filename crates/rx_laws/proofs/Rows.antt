@@ -12,7 +12,7 @@ use Rattle.rx_rules.specs.declared.tasks.Task.{Task}
 use Rattle.rx_rules.specs.declared.entries.Entry.{Entry}
 use Rattle.rx_rules.specs.Tree.{Tree, is_task, task_of, is_under, quiet}
 use Rattle.rx_rules.specs.Laws.{Birth, has, walk, links, born_so_far, is_born}
-use Rattle.rx_laws.proofs.Lookups.{number_of}
+use Rattle.rx_rules.proofs.Lookups.{number-of}
 use Rattle.rx_laws.proofs.Lines.{Bone, bones, nums, line, has-below, on_chain-line}
 use Rattle.rx_laws.proofs.Aligned.{Facts, facts, IsWhere, has_moved, IsRow, Aligned, none, out, row, BirthsOk}
 use Rattle.rx_laws.proofs.Ties.{Tied}
@@ -87,14 +87,14 @@ module _ (q : ℕ) (past : List Entry) (T : Tree) (i : Tied q past T) where
       )
 
   pub task-under : (t : TaskId) (x : Task) → task_of T t ≡ Some x → x.under.0 ≡ under_in (born_so_far past) t.0
-  task-under t x h = (row_under x (find-in (is_task t) T.tasks x h)).0 ∙ ap (under_in (born_so_far past)) (number_of T t x h)
+  task-under t x h = (row_under x (find-in (is_task t) T.tasks x h)).0 ∙ ap (under_in (born_so_far past)) (number-of T t x h)
 
   -- a task that travels goes where it was born for
   pub travels-to : (t : TaskId) (x : Task) (from w : PlaceId) → task_of T t ≡ Some x → x.place ≡ Travel from w → w.0 ≡ to_in (born_so_far past) t.0
   travels-to t x from w h e =
       let r = row-of (facts past) (bones T) (is_born past) T.next_task T.next_scope i.births i.tasks x (find-in (is_task t) T.tasks x h) in
       let at : IsWhere (has_moved (facts past) r.birth) r.birth (Travel from w) = subst (IsWhere (has_moved (facts past) r.birth) r.birth) e r.is_row.place in
-      let same : r.birth.task ≡ t.0 = sym r.is_row.number ∙ number_of T t x h in
+      let same : r.birth.task ≡ t.0 = sym r.is_row.number ∙ number-of T t x h in
       at.2 ∙ sym r.to ∙ ap (to_in (born_so_far past)) same
 
   -- the scope that a living task hangs under stands

@@ -5,6 +5,7 @@ use Rattle.rx_laws.proofs.Heads.{Head}
 use Rattle.rx_laws.proofs.Opening.{is_opening, finish-opens, fits-opening}
 use Rattle.std.specs.Prelude.{◌≤◌, ◌≡◌, false, ◌⊎◌, ℕ, suc, Bool, true, List, [], ◌∷◌, ◌++◌, Some, None, slice_get, refl}
 use Rattle.std.proofs.Common.{ap, sym, subst, ◌∙◌, arith, inl, inr, append-nil}
+use Rattle.std.proofs.lemmas.Option.{same_Some}
 use Rattle.rx_base.specs.declared.ids.PlaceId.{PlaceId}
 use Rattle.rx_base.specs.declared.ids.TaskId.{TaskId}
 use Rattle.rx_base.specs.declared.values.Fault.{Fault}
@@ -12,7 +13,7 @@ use Rattle.rx_rules.specs.declared.events.Cell.{Cell}
 use Rattle.rx_rules.specs.declared.entries.Act.{Act}
 use Rattle.rx_rules.specs.declared.entries.Act.TheVariants.{Open, At as Calls, Spawn, Arrive, Wait, Release, Print, End}
 use Rattle.rx_rules.specs.Code.{Block, Stmt, SetTo, New, Get, Put, Forget, Print as Prints, Throw, Async, AtAsync, At, Finish, If, Repeat, Try}
-use Rattle.rx_rules.specs.Terms.{Term, Empty, Raise, Run, Turns, Trying, Body, Held, Does, Local, Makes, Gets, Puts, Forgets, Opens, Calls as Asks, Spawns, Waits, Releases, Prints as Printing, Done, Vars, at, does, begins, granted, stmt_granted, body_granted, child, stmt_child, within, trying_does, body_does, stmt_does, no_vars}
+use Rattle.rx_rules.specs.Terms.{Term, Empty, Raise, Run, Turns, Trying, Body, Held, Does, Local, Makes, Gets, Puts, Forgets, Opens, Calls as Asks, Spawns, Waits, Releases, Prints as Printing, Done, Vars, at, does, begins, granted, stmt_granted, child, stmt_child, within, trying_does, body_does, stmt_does, no_vars}
 use Rattle.rx_rules.specs.Plays.{Plays, stops, Begins, Fits, StartsSo, brought, started_by}
 use Rattle.rx_rules.specs.Order.{own_path}
 use Rattle.rx_laws.proofs.Paths.{Starts, Below, Comes, starts-at, starts-trans, below-at, starts-below, below-starts, starts-not_below}
@@ -21,7 +22,7 @@ use Rattle.rx_laws.proofs.Straight.{code_at, comes_ahead, is_waiter}
 use Rattle.rx_laws.proofs.Barriers.{is_shut, shut-comes_ahead}
 use Rattle.rx_laws.proofs.TermCode.{Coded, granted-coded, child-coded}
 use Rattle.rx_laws.proofs.Turns.{ComesAll, InTurn, Turn, AllWithin, next-turn, in_turn-less}
-use Rattle.rx_laws.proofs.NestedTerm.{Nested, EachStarts, begun-inside}
+use Rattle.rx_laws.proofs.NestedTerm.{Nested, EachStarts, begun-inside, goes_on}
 use Rattle.rx_laws.proofs.Lies.{LiesIn, Moves, granted-lies, child-lies, waiter-opens, child-head}
 use Rattle.rx_laws.proofs.Stacks.{Pushes, fits-pushes, fits-begins, stack_after, outermost, fits-nested, fits-not_end, fits-not_arrive, child-flat, fits-released}
 
@@ -121,15 +122,6 @@ body-asks d (Trying t1 d1 h1 x1 r1) rest z e n = not_opens-within (λ t. Body t 
 body-asks d (Body t1 r1) rest z e n = not_opens-within (λ t. Body t rest) d n
 body-asks d (Held r1) rest z e n = not_opens-within (λ t. Body t rest) d n
 
-body-granted : (inside after rest : Term) (z : List ℕ) → begins inside ≡ Some z → Body after rest ≡ body_granted inside after rest
-body-granted Empty after rest z e = cc
-body-granted (Raise faults) after rest z e = cc
-body-granted (Run stmt y more) after rest z e = refl
-body-granted (Turns b y k times more) after rest z e = refl
-body-granted (Trying t1 d1 h1 x1 r1) after rest z e = refl
-body-granted (Body t1 r1) after rest z e = refl
-body-granted (Held r1) after rest z e = refl
-
 pub asked-left : (vars : Vars) (here places : ℕ) (faults : List Fault) (t : Term) (z : List ℕ) → begins t ≡ Some z → NotOpens (does vars here places t) → Sorted t → Later z (granted faults t)
 asked-left vars here places faults Empty z e n s = cc
 asked-left vars here places faults (Raise f) z e n s = cc
@@ -140,7 +132,7 @@ asked-left vars here places faults (Trying inside dead_only handler x rest) z e 
     trying-left z inside (granted faults inside) x dead_only handler rest s (begins-todo inside z e)
     (asked-left vars here places faults inside z e (trying-asks vars (does vars here places inside) inside dead_only handler x rest z e n) s.0)
 asked-left vars here places faults (Body inside rest) z e n s =
-    subst (Later z) (body-granted inside (granted faults inside) rest z e)
+    subst (Later z) (goes_on inside (granted faults inside) rest z e)
     (body-left z inside (granted faults inside) rest s (begins-todo inside z e)
     (asked-left vars here places faults inside z e (body-asks (does vars here places inside) inside rest z e n) s.0))
 asked-left vars here places faults (Held rest) z e n s = cc
@@ -166,9 +158,6 @@ starts_fits here t Releases act c e f = tt
 starts_fits here t (Printing z) act c e f = tt
 starts_fits here t Opens act c e f = absurd f
 starts_fits here t d act c e f = absurd f
-
-same_some : (x y : List ℕ) → Some x ≡ Some y → x ≡ y
-same_some x y e = cc
 
 -- the term of a task that is started: within what the starter had to begin, apart from what it has left, and after what was told
 pub record ChildOf (starts : List (Term × Vars)) (c : TaskId) (t after : Term) (told : List (List ℕ)) : Type 0 where
@@ -294,12 +283,12 @@ child-of starts here places vars t asking act fresh x b o s sh i k stay go fits 
       deep = λ ps n. begun-inside asking x ps b (stay ps n);
       flat = child-flat asking;
       lies = λ code d y u f w l. elim (child-lies code asking (k code d) y u f l) [
-        | inl q ↦ inl (same_some y x (sym q ∙ b))
+        | inl q ↦ inl (same_Some y x (sym q ∙ b))
         | inr q ↦ inr (go code d y u f w q)
       ];
       heads = λ h l.
           let q = child-head asking h l in
-          let same : q.0 ≡ x = same_some q.0 x (sym q.1 ∙ b) in
+          let same : q.0 ≡ x = same_Some q.0 x (sym q.1 ∙ b) in
           (q.2.0, q.2.1 ∙ ap (λ v. v ++ q.2.0 ∷ []) same);
       shut = λ code d y h. child-shut code asking x b (k code d) y h;
     }

@@ -16,8 +16,6 @@ use Rattle.rx_rules.specs.Code.{Block}
 use Rattle.rx_rules.specs.Terms.{Term, Vars}
 use Rattle.rx_rules.specs.Plays.{started_by}
 use Rattle.rx_rules.specs.Order.{own_path}
-use Rattle.rx_laws.proofs.Lookups.{number_of}
-use Rattle.rx_laws.proofs.Numbers.{next-made}
 use Rattle.rx_laws.proofs.Paths.{Comes}
 use Rattle.rx_laws.proofs.TermOrder.{Todo}
 use Rattle.rx_laws.proofs.Turns.{InTurn, ComesAll, AllWithin}
@@ -33,6 +31,8 @@ use Rattle.rx_laws.proofs.Ties.{Tied, has_died}
 use Rattle.rx_laws.proofs.TiesStep.{found_older}
 use Rattle.rx_rules.specs.declared.tasks.Task.{Task}
 use Rattle.rx_rules.specs.declared.tasks.Blow.{Blow}
+use Rattle.rx_rules.proofs.Lookups.{number-of}
+use Rattle.rx_rules.proofs.Numbers.{next-made}
 
 -- a task with a row that no death has struck
 abbrev pub is_free : ℕ → Task → Bool
@@ -306,8 +306,8 @@ pub acting : (q : ℕ) (past : List Entry) (T : Tree) → Tied q past T → (t :
 acting q past T i t act a =
     let actor = acts_by T t act a in
     record {
-      low = found_older q (facts past) (is_born past) (has_died past) (born_so_far past) T.next_task T.next_scope T.places T.dead (bones T) T.tasks i t actor.task actor.acts.stands (number_of T t actor.task actor.acts.stands);
-      lives = alive-acts (is_task t) T.tasks actor.task t.0 actor.acts.stands (number_of T t actor.task actor.acts.stands) actor.acts.unstruck;
+      low = found_older q (facts past) (is_born past) (has_died past) (born_so_far past) T.next_task T.next_scope T.places T.dead (bones T) T.tasks i t actor.task actor.acts.stands (number-of T t actor.task actor.acts.stands);
+      lives = alive-acts (is_task t) T.tasks actor.task t.0 actor.acts.stands (number-of T t actor.task actor.acts.stands) actor.acts.unstruck;
     }
 
 -- an act starts no task, or the next one

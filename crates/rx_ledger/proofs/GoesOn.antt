@@ -25,16 +25,16 @@ use Rattle.rx_sound.specs.Sound.{Sound}
 use Rattle.rx_sound.proofs.Reached.{sound}
 use Rattle.rx_sound.proofs.Opening.{own_place}
 use Rattle.rx_sound.proofs.Stay.{find_filter}
-use Rattle.rx_sound.proofs.Staying.{id_is}
 use Rattle.rx_sound.proofs.Reach.{task_below}
-use Rattle.rx_sound.proofs.Lookups.{number_of}
 use Rattle.rx_sound.proofs.Histories.{fold_reached}
-use Rattle.rx_runs.proofs.Append.{tree-push}
 use Rattle.rx_finish.specs.declared.ledger.Caller.{Caller}
 use Rattle.rx_base.specs.declared.values.Fault.{Fault}
 use Rattle.rx_finish.specs.Callers.{Says, MayAsk, MayAskMoving, MayAskWait, MayAskRelease, MayAskArrive, HasFinish, WaitsInside, IsMoving, Travels, HasNumbers}
 use Rattle.rx_base.specs.declared.place_set.PlaceSet.{PlaceSet}
+use Rattle.rx_base.proofs.SameIds.{task-is}
 use Rattle.rx_rules.specs.declared.tasks.Blow.{Blow}
+use Rattle.rx_rules.proofs.Lookups.{number-of}
+use Rattle.rx_rules.proofs.Append.{tree-push}
 use Rattle.rx_ledger.proofs.Uncovers.{uncovers}
 use Rattle.rx_ledger.specs.declared.asks.Request.{Request}
 use Rattle.rx_ledger.specs.declared.asks.Reply.TheVariants.{Opened, Called, Spawned, Landed, Waits, Released, Ended, Printed, RootDone, NotYet, Lost, NoMemory}
@@ -149,7 +149,7 @@ module _ (T : Tree) (h : Sound T) where
   opened_on who s path may act few =
       let x = act.task in
       let so = so_says T who IsMoving x may act.live.acts.stands in
-      let own : (who.task.0 == x.number.0) ≡ true = eq-eqb who.task.0 x.number.0 (sym (number_of T who.task x act.live.acts.stands)) in
+      let own : (who.task.0 == x.number.0) ≡ true = eq-eqb who.task.0 x.number.0 (sym (number-of T who.task x act.live.acts.stands)) in
       record {
         caller = inl (record {
           task = x;
@@ -186,7 +186,7 @@ module _ (T : Tree) (h : Sound T) where
       let x = act.task in
       let so = so_says T who (HasFinish T who) x may act.live.acts.stands in
       let own = found_faulted (opened_by who.task) (is_scope who.inner) (λ g. record g { body = thrown }) T.scopes act.scope (λ g. refl) (λ g. refl) act.own in
-      let number : x.number ≡ who.task = id_is x.number who.task (number_of T who.task x act.live.acts.stands) in
+      let number : x.number ≡ who.task = task-is x.number who.task (number-of T who.task x act.live.acts.stands) in
       let found : find (opened_by x.number) (change_first (is_scope who.inner) (λ g. record g { body = thrown }) T.scopes) ≡ Some own.scope = subst (λ (t : TaskId). find (opened_by t) (change_first (is_scope who.inner) (λ g. record g { body = thrown }) T.scopes) ≡ Some own.scope) (sym number) own.found in
       record {
         caller = inl (record {
@@ -208,7 +208,7 @@ module _ (T : Tree) (h : Sound T) where
       let next : child.0 ≡ T.next_task = act.next_task in
       let other : (child.0 == who.task.0) ≡ false = ne_eqb child.0 who.task.0 (λ e. absurd (omega (arith, low, next, e))) in
       let there : find (is_task who.task) (born T child s from to ∷ T.tasks) ≡ Some x = rw other act.live.acts.stands in
-      let own : (who.task.0 == x.number.0) ≡ true = eq-eqb who.task.0 x.number.0 (sym (number_of T who.task x act.live.acts.stands)) in
+      let own : (who.task.0 == x.number.0) ≡ true = eq-eqb who.task.0 x.number.0 (sym (number-of T who.task x act.live.acts.stands)) in
       let mine : (who.task.0 == who.task.0) ≡ true = eq-eqb who.task.0 who.task.0 refl in
       let g : Scope = record { number = s; kind = Call; opener = Some who.task; home = home_for T who.task; parent = Some who.inner; body = []; ends = [] } in
       record {

@@ -7,6 +7,7 @@ use Rattle.rx_base.specs.declared.ids.TaskId.{TaskId}
 use Rattle.rx_base.specs.declared.ids.ScopeId.{ScopeId}
 use Rattle.rx_base.specs.declared.place_set.PlaceSet.{PlaceSet}
 use Rattle.rx_base.specs.declared.values.Fault.{Fault}
+use Rattle.rx_base.proofs.SameIds.{task-is}
 use Rattle.rx_rules.specs.declared.entries.Act.{Act}
 use Rattle.rx_rules.specs.declared.entries.Act.TheVariants.{Open, At as Calls, Spawn, Arrive, Wait, Release, End, Print}
 use Rattle.rx_rules.specs.declared.entries.Entry.{Entry}
@@ -21,12 +22,12 @@ use Rattle.rx_rules.specs.Tree.{Tree, is_task, task_of, is_scope, is_under, open
 use Rattle.rx_rules.specs.Entries.{change_first, waiting, resumed, born, hit, is_hit, made, made_act, after_end, Allowed, AllowedAct, without, home_for, change_scope}
 use Rattle.rx_rules.specs.Fold.{AllAllowed, fold_from}
 use Rattle.rx_rules.specs.Reached.{Reached, IsOlder}
+use Rattle.rx_rules.proofs.Lookups.{number-of}
 use Rattle.rx_sound.specs.Chains.{Opened, HasOpener}
 use Rattle.rx_sound.specs.Sound.{TasksFall}
 use Rattle.rx_sound.proofs.Reached.{sound}
 use Rattle.rx_sound.proofs.Reach.{task_below}
-use Rattle.rx_sound.proofs.Lookups.{number_of}
-use Rattle.rx_sound.proofs.Staying.{find_unfiltered, id_is}
+use Rattle.rx_sound.proofs.Staying.{find_unfiltered}
 use Rattle.rx_sound.proofs.Owning.{release_keeps, release_pops}
 use Rattle.rx_sound.proofs.Histories.{reached_now, dead-now}
 use Rattle.rx_runs.proofs.Endings.{root_empties}
@@ -141,10 +142,10 @@ module _ (T : Tree) (r : Reached T) (h : AllLinked T) where
   opens_on t x kind s p v y at parent found free =
       (elim (t.0 == v.0) as (λ b. t.0 == v.0 ≡ b → Linked (map link (cond b (record { number = s; kind = kind; opener = Some t; home = home_for T t; parent = Some p; body = []; ends = [] } ∷ filter (opened_by v) T.scopes) (filter (opened_by v) T.scopes))) y.under) [
         | true ↦ λ e.
-            let it : t ≡ v = id_is t v (eqb-true t.0 v.0 e) in
+            let it : t ≡ v = task-is t v (eqb-true t.0 v.0 e) in
             let same : Some x ≡ Some y = sym at ∙ (ap (λ (w : TaskId). task_of T w) it ∙ found) in
             let xy : x ≡ y = cc in
-            let own : x.number ≡ v = id_is x.number v (number_of T t x at ∙ ap (λ (w : TaskId). w.0) it) in
+            let own : x.number ≡ v = task-is x.number v (number-of T t x at ∙ ap (λ (w : TaskId). w.0) it) in
             (ap (λ (q : ScopeId). Some q) (parent ∙ (inner_top T x ∙ (ap (λ (w : TaskId). top (links T w) x.under) own ∙ ap (λ (z : Task). top (links T v) z.under) xy))), h v y found free)
         | false ↦ λ e. h v y found free
       ]) refl
@@ -173,13 +174,13 @@ module _ (T : Tree) (r : Reached T) (h : AllLinked T) where
   release_on t s lost thrown may v z found free =
       (elim (v.0 == t.0) as (λ b. v.0 == t.0 ≡ b → Linked (links (made_act T t (Release s lost thrown)) v) z.under) [
         | true ↦ λ w.
-            let it : v ≡ t = id_is v t (eqb-true v.0 t.0 w) in
+            let it : v ≡ t = task-is v t (eqb-true v.0 t.0 w) in
             let pops = release_pops T t s lost thrown r may in
             let all : Linked (links T t) z.under = h t z (subst (λ (u : TaskId). task_of T u ≡ Some z) it found) free in
             let split : Linked (link pops.0 ∷ links (made_act T t (Release s lost thrown)) t) z.under = subst (λ (gs : List Scope). Linked (map link gs) z.under) pops.2 all in
             subst (λ (u : TaskId). Linked (links (made_act T t (Release s lost thrown)) u) z.under) (sym it) split.1
         | false ↦ λ w.
-            let own : z.number ≡ v = id_is z.number v (number_of T v z found) in
+            let own : z.number ≡ v = task-is z.number v (number-of T v z found) in
             let there : task_of T z.number ≡ Some z = subst (λ (u : TaskId). task_of T u ≡ Some z) (sym own) found in
             let apart : z.number.0 ≢ t.0 = λ e. eqb-false v.0 t.0 w (sym (ap (λ (u : TaskId). u.0) own) ∙ e) in
             let keeps = release_keeps T t s lost thrown z r may there free apart in

@@ -6,6 +6,7 @@ use Rattle.std.proofs.lemmas.Bool.{eqb-true, ne_eqb, true≢false, false_from_ne
 use Rattle.rx_base.specs.declared.ids.TaskId.{TaskId}
 use Rattle.rx_base.specs.declared.ids.ScopeId.{ScopeId}
 use Rattle.rx_base.specs.declared.values.Fault.{Fault}
+use Rattle.rx_base.proofs.Elements.{find-passes}
 use Rattle.rx_rules.specs.declared.entries.Act.{Act}
 use Rattle.rx_rules.specs.declared.entries.Act.TheVariants.{Open, At as Calls, Spawn, Arrive, Wait, Release, End, Print}
 use Rattle.rx_rules.specs.declared.entries.Entry.{Entry}
@@ -17,6 +18,7 @@ use Rattle.rx_rules.specs.declared.tasks.Scope.{Scope}
 use Rattle.rx_rules.specs.Tree.{Tree, is_task, task_of, is_scope, is_under, on_chain, opened_by, quiet, the_root}
 use Rattle.rx_rules.specs.Entries.{Allowed, AllowedAct, made, made_act, after_end, change_first, change_scope, waiting, resumed, born, without, hit}
 use Rattle.rx_rules.specs.Reached.{Reached, opens, acts, ends, dies}
+use Rattle.rx_rules.proofs.Lookups.{number-of}
 use Rattle.rx_sound.specs.Sound.{Each, TasksFall, Sound}
 use Rattle.rx_sound.specs.Chains.{meets}
 use Rattle.rx_sound.proofs.Blows.{hit_under, hit_place}
@@ -27,7 +29,6 @@ use Rattle.rx_sound.proofs.Below.{own_free, one_opener}
 use Rattle.rx_sound.proofs.Owning.{kept}
 use Rattle.rx_sound.proofs.Reach.{task_below, fits_of}
 use Rattle.rx_sound.proofs.Reached.{sound}
-use Rattle.rx_sound.proofs.Lookups.{find_passes, number_of}
 use Rattle.rx_sound.proofs.Stay.{find_change, find_filter}
 use Rattle.rx_sound.proofs.Staying.{find_unfiltered}
 use Rattle.rx_runs.proofs.Endings.{struck_if}
@@ -108,8 +109,8 @@ find_other u t f keeps apart xs x found =
     elim (find_change (is_task t) (is_task u) f (λ y. ap (λ (v : TaskId). v.0 == t.0) (keeps y)) xs x found) [
       | inl e ↦ e
       | inr both ↦
-          let his : x.number.0 ≡ t.0 = eqb-true x.number.0 t.0 (find_passes (is_task t) xs x found) in
-          let mine : x.number.0 ≡ u.0 = eqb-true x.number.0 u.0 (find_passes (is_task u) xs x both.1) in
+          let his : x.number.0 ≡ t.0 = eqb-true x.number.0 t.0 (find-passes (is_task t) xs x found) in
+          let mine : x.number.0 ≡ u.0 = eqb-true x.number.0 u.0 (find-passes (is_task u) xs x both.1) in
           absurd (apart (sym his ∙ mine))
     ]
 
@@ -305,7 +306,7 @@ module _ (T : Tree) (r : Reached T) (u t : TaskId) (x : Task) (apart : t.0 ≢ u
   act_lasts (End thrown) may =
       let z = may.task in
       let V : Tree = change_scope (λ g. record g { ends = g.ends ++ thrown }) z.under (record T { tasks = filter (λ y. not (is_task u y)) T.tasks }) in
-      let keeps : not (is_task u x) ≡ true = ap not (ne_eqb x.number.0 u.0 (λ e. apart (sym (number_of T t x found) ∙ e))) in
+      let keeps : not (is_task u x) ≡ true = ap not (ne_eqb x.number.0 u.0 (λ e. apart (sym (number-of T t x found) ∙ e))) in
       subst (λ (W : Tree). Lasts T W t x) (sym (ended T u thrown z may.live.acts.stands))
       (inl (record {
         kept = same_kept V t x (find_filter (is_task t) (λ y. not (is_task u y)) T.tasks x found keeps);

@@ -6,6 +6,8 @@ use Rattle.std.proofs.lemmas.Bool.{eqb-true, eqb-false, eq-eqb, ne_eqb, true≢f
 use Rattle.std.proofs.lemmas.Bool.Decides.{leb_tells}
 use Rattle.rx_base.specs.declared.ids.TaskId.{TaskId}
 use Rattle.rx_base.specs.declared.ids.ScopeId.{ScopeId}
+use Rattle.rx_base.proofs.Elements.{find-passes}
+use Rattle.rx_base.proofs.SameIds.{task-is}
 use Rattle.rx_rules.specs.declared.entries.Act.{Act}
 use Rattle.rx_rules.specs.declared.entries.Act.TheVariants.{Open, At as Calls, Spawn, Arrive, Wait, Release, End, Print}
 use Rattle.rx_rules.specs.declared.entries.Entry.{Entry}
@@ -19,7 +21,6 @@ use Rattle.rx_rules.specs.Tree.{Tree, task_of, is_task, is_scope, opened_by}
 use Rattle.rx_rules.specs.Entries.{Allowed, AllowedAct, made, made_act, change_scope, hit}
 use Rattle.rx_rules.specs.Fold.{AllAllowed, fold_from, opening, tree_of}
 use Rattle.rx_rules.specs.Reached.{Reached, IsOlder, opens}
-use Rattle.rx_sound.proofs.Lookups.{find_passes}
 use Rattle.rx_sound.proofs.Reach.{task_below}
 use Rattle.rx_sound.proofs.Reached.{sound}
 use Rattle.rx_sound.proofs.Histories.{reached_now, dead-now, none_yet}
@@ -29,7 +30,6 @@ use Rattle.rx_runs.proofs.Endings.{root_empties}
 use Rattle.rx_ledger.proofs.Ended.{who_stands}
 use Rattle.rx_ledger.proofs.Striking.{find-hit}
 use Rattle.rx_ledger.proofs.Linking.{Link, link, links, links_faulted, none_opened}
-use Rattle.rx_sound.proofs.Staying.{id_is}
 use Rattle.rx_ledger.proofs.Others.{none_act, passes_filter, ended, entry_lasts}
 
 -- Links tell numbers and kinds.
@@ -59,7 +59,7 @@ own_act T t (Release s lost thrown) y reached may found =
 own_act T t (End thrown) y reached may found =
     let there : find (is_task t) (filter (λ z. not (is_task t z)) T.tasks) ≡ Some y = subst (λ (V : Tree). task_of V t ≡ Some y) (ended T t thrown may.task may.live.acts.stands) found in
     let off = not-true (is_task t y) (passes_filter (is_task t) (λ z. not (is_task t z)) T.tasks y there) in
-    absurd (true≢false (sym (find_passes (is_task t) (filter (λ z. not (is_task t z)) T.tasks) y there) ∙ off))
+    absurd (true≢false (sym (find-passes (is_task t) (filter (λ z. not (is_task t z)) T.tasks) y there) ∙ off))
 own_act T t (Print value path) y reached may found = refl
 
 -- A task that is not yet born has none.
@@ -162,7 +162,7 @@ module _ (n : ℕ) (T : Tree) (r : Reached T) (own : TaskId → Owned) (h : Told
   entry_each (Step u act batch) t y may found =
       (elim (u.0 == t.0) as (λ b. u.0 == t.0 ≡ b → owned (made_act T u act) t ≡ cond b (own_after act (own t)) (own t)) [
         | true ↦ λ w.
-            let it : u ≡ t = id_is u t (eqb-true u.0 t.0 w) in
+            let it : u ≡ t = task-is u t (eqb-true u.0 t.0 w) in
             let mine : AllowedAct T t act = subst (λ (v : TaskId). AllowedAct T v act) it may in
             let now : task_of (made_act T t act) t ≡ Some y = subst (λ (v : TaskId). task_of (made_act T v act) t ≡ Some y) it found in
             let x = who_stands T t act mine in

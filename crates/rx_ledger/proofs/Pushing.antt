@@ -1,5 +1,5 @@
 -- What is read from a history, with one entry more.
-use Rattle.std.specs.Prelude.{◌≡◌, ℕ, suc, ◌||◌, ◌==◌, Bool, true, false, not, List, [], ◌∷◌, ◌++◌, filter, Option, Some, None, refl}
+use Rattle.std.specs.Prelude.{◌≡◌, ℕ, ◌||◌, ◌==◌, Bool, List, [], ◌∷◌, ◌++◌, refl}
 use Rattle.std.proofs.Common.{ap, ◌∙◌}
 use Rattle.rx_base.specs.declared.ids.PlaceId.{PlaceId}
 use Rattle.rx_base.specs.declared.place_set.PlaceSet.{PlaceSet}
@@ -7,48 +7,16 @@ use Rattle.rx_base.specs.declared.ids.TaskId.{TaskId}
 use Rattle.rx_base.specs.declared.ids.ScopeId.{ScopeId}
 use Rattle.rx_base.specs.declared.ids.Kill.{Kill}
 use Rattle.rx_base.specs.declared.values.Fault.{Fault}
+use Rattle.rx_base.proofs.Bools.{or-assoc}
 use Rattle.rx_rules.specs.declared.entries.Act.{Act}
 use Rattle.rx_rules.specs.declared.entries.Act.TheVariants.{Open, At as Calls, Spawn, Arrive, Wait, Release, End, Print}
 use Rattle.rx_rules.specs.declared.entries.Entry.{Entry}
 use Rattle.rx_rules.specs.declared.entries.Entry.TheVariants.{Step, Root, Death}
-use Rattle.rx_rules.specs.declared.tasks.Task.{Task}
-use Rattle.rx_rules.specs.Tree.{Tree, task_of, is_task}
-use Rattle.rx_rules.specs.Entries.{made, made_act, after_end, change_scope}
-use Rattle.rx_rules.specs.Fold.{fold_from, opening, tree_of}
 use Rattle.rx_rules.specs.Run.{NoRoot, rest_of}
 use Rattle.rx_runs.specs.Segments.{kills_left}
 use Rattle.rx_ledger.specs.Told.{parents_in, dies_in, deaths}
 
 -- No entry changes how many places there are.
-
-end-places : (T : Tree) (t : TaskId) (thrown : List Fault) → (after_end T t thrown).places ≡ T.places
-end-places T t thrown = of_found (task_of T t)
-  where
-    of_found : (o : Option Task) → (let V : Tree = elim o as (λ _. Tree) [ Some x ↦ change_scope (λ g. record g { ends = g.ends ++ thrown }) x.under (record T { tasks = filter (λ y. not (is_task t y)) T.tasks }) | None ↦ T ] in V.places) ≡ T.places
-    of_found (Some x) = refl
-    of_found None = refl
-
-act-places : (T : Tree) (t : TaskId) (act : Act) → (made_act T t act).places ≡ T.places
-act-places T t (Open s r path) = refl
-act-places T t (Calls s r callee from to path) = refl
-act-places T t (Spawn child s from to path) = refl
-act-places T t (Arrive p) = refl
-act-places T t (Wait s thrown) = refl
-act-places T t (Release s lost thrown) = refl
-act-places T t (End thrown) = end-places T t thrown
-act-places T t (Print value path) = refl
-
-pub made-places : (n : ℕ) (T : Tree) (e : Entry) → (made n T e).places ≡ T.places
-made-places n T (Step t act batch) = act-places T t act
-made-places n T (Root lost thrown) = refl
-made-places n T (Death d) = refl
-
-fold-places : (n : ℕ) (T : Tree) (es : List Entry) → (fold_from n T es).places ≡ T.places
-fold-places n T [] = refl
-fold-places n T (e ∷ es) = fold-places (suc n) (made n T e) es ∙ made-places n T e
-
-pub tree-places : (places : ℕ) (es : List Entry) → (tree_of places es).places ≡ places
-tree-places places es = fold-places 0 (opening places) es
 
 -- The kills that are left.
 
@@ -59,12 +27,6 @@ left-root ks (Root l f ∷ es) lost thrown = left-root ks es lost thrown
 left-root ks (Death d ∷ es) lost thrown = left-root (rest_of ks) es lost thrown
 
 -- The root.
-
-pub still_open-death : (es : List Entry) (d : PlaceId) → NoRoot es → NoRoot (es ++ Death d ∷ [])
-still_open-death [] d h = tt
-still_open-death (Step t act batch ∷ es) d h = still_open-death es d h
-still_open-death (Root lost thrown ∷ es) d h = h
-still_open-death (Death e ∷ es) d h = still_open-death es d h
 
 pub still_open-step : (es : List Entry) (t : TaskId) (act : Act) (batch : List (List ℕ)) → NoRoot es → NoRoot (es ++ Step t act batch ∷ [])
 still_open-step [] t act batch h = tt
@@ -86,10 +48,6 @@ parents-push (Step t (End thrown) batch ∷ es) e = parents-push es e
 parents-push (Step t (Print value path) batch ∷ es) e = parents-push es e
 parents-push (Root lost thrown ∷ es) e = parents-push es e
 parents-push (Death d ∷ es) e = parents-push es e
-
-or-assoc : (a b c : Bool) → (a || (b || c)) ≡ ((a || b) || c)
-or-assoc true b c = refl
-or-assoc false b c = refl
 
 pub dies-push : (p : ℕ) (es : List Entry) (e : Entry) → dies_in p (es ++ e ∷ []) ≡ (dies_in p es || dies_in p (e ∷ []))
 dies-push p [] e = refl

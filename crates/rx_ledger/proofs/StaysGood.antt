@@ -5,6 +5,7 @@ use Rattle.std.proofs.Common.{ap, ◌∙◌, sym, subst, ◌⊎◌, inl, inr}
 use Rattle.rx_base.specs.declared.ids.PlaceId.{PlaceId}
 use Rattle.rx_base.specs.declared.ids.TaskId.{TaskId}
 use Rattle.rx_base.specs.declared.ids.ScopeId.{ScopeId}
+use Rattle.rx_base.proofs.SameIds.{task-is}
 use Rattle.rx_rules.specs.declared.entries.Entry.{Entry}
 use Rattle.rx_rules.specs.declared.tasks.Task.{Task}
 use Rattle.rx_rules.specs.declared.tasks.Scope.{Scope}
@@ -12,8 +13,9 @@ use Rattle.rx_rules.specs.Tree.{Tree, task_of, opened_by, own_scope, inner}
 use Rattle.rx_rules.specs.Entries.{Allowed, made}
 use Rattle.rx_rules.specs.Fold.{AllAllowed, fold_from, opening, tree_of}
 use Rattle.rx_rules.specs.Reached.{Reached, IsOlder, opens}
+use Rattle.rx_rules.proofs.Lookups.{number-of}
+use Rattle.rx_rules.proofs.Append.{made-places, tree-places}
 use Rattle.rx_sound.specs.Sound.{Each}
-use Rattle.rx_sound.proofs.Lookups.{number_of}
 use Rattle.rx_sound.proofs.Histories.{reached_now, dead-now, none_yet}
 use Rattle.rx_finish.specs.declared.ledger.Caller.{Caller}
 use Rattle.rx_finish.specs.Callers.{Stands, HasLeft, HasNumbers, MayAskTo, IsMoving, Travels, HasFinish, WaitsInside, IsBare, does_travel}
@@ -23,9 +25,7 @@ use Rattle.rx_history.specs.declared.asks.Ask.{Ask}
 use Rattle.rx_history.specs.declared.asks.Ask.TheVariants.{Open, At as Calls, Spawn, Arrive, Wait, Release, End, Print, Root}
 use Rattle.rx_ledger.specs.Asking.{MayAskFor, IsMoving as Moves, IsRunning, IsHeld}
 use Rattle.rx_ledger.specs.Staying.{NotBy, NotOf, EntryKeepsTicket, TicketsStayGood}
-use Rattle.rx_ledger.proofs.Pushing.{made-places, tree-places}
 use Rattle.rx_ledger.proofs.Linking.{Link, link, links, top, inner_top}
-use Rattle.rx_sound.proofs.Staying.{id_is}
 use Rattle.rx_ledger.proofs.Others.{Stays, entry_lasts, left_lasts}
 
 -- The newest own scope, as its link.
@@ -71,8 +71,8 @@ module _ (n : ℕ) (T : Tree) (e : Entry) (who : Caller) (r : Reached T) (may : 
   inner_stays : (x : Task) (s : Stays T (made n T e) who.task x) → task_of T who.task ≡ Some x → inner (made n T e) s.kept.task ≡ inner T x
   inner_stays x s found =
       let y = s.kept.task in
-      let mine : y.number ≡ who.task = id_is y.number who.task (number_of (made n T e) who.task y s.kept.stands) in
-      let his : x.number ≡ who.task = id_is x.number who.task (number_of T who.task x found) in
+      let mine : y.number ≡ who.task = task-is y.number who.task (number-of (made n T e) who.task y s.kept.stands) in
+      let his : x.number ≡ who.task = task-is x.number who.task (number-of T who.task x found) in
       inner_top (made n T e) y
       ∙ (ap (λ (t : TaskId). top (links (made n T e) t) y.under) mine
       ∙ (ap (λ (u : ScopeId). top (links (made n T e) who.task) u) s.kept.under

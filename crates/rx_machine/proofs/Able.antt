@@ -1,5 +1,5 @@
 -- Whether a task is enabled, as the ledger tells.
-use Rattle.std.specs.Prelude.{◌≡◌, ℕ, ◌<◌, length, get_or, true, false, not, ◌&&◌, ◌||◌, List, Option, Some, None, is_none, is_some, refl}
+use Rattle.std.specs.Prelude.{◌≡◌, ℕ, ◌<◌, length, get_or, true, false, not, ◌&&◌, ◌||◌, List, Option, Some, None, is_none}
 use Rattle.std.proofs.Common.{ap, ◌∙◌, sym, subst}
 use Rattle.std.proofs.lemmas.Option.{slice_get-get_or}
 use Rattle.rx_base.specs.declared.ids.TaskId.{TaskId}
@@ -48,10 +48,6 @@ seat_here items i now seat inside at is = ap seat_in (slice_get-get_or items i n
 -- or none
 pub none_at : (items : List (Option Seat)) (i : ℕ) (now : Option Seat) → i < length items → now ≡ get_or items i now → now ≡ None → seat_at items i ≡ None
 none_at items i now inside at is = ap seat_in (slice_get-get_or items i now inside ∙ ap (λ o. Some o) (sym at)) ∙ is
-
-pub none_here : {X : Type 0} (o : Option X) → is_some o ≡ false → o ≡ None
-none_here None e = refl
-none_here (Some x) e = absurd (let f : ⊥ = cc in f)
 
 -- what a slot with a seat is
 pub slot_here : (shape : Shape) (T : Tree) (ps : List Player) (n : ℕ) (o : Option Seat) (seat : Seat) → o ≡ Some seat → SlotIs shape T ps n o → SlotIs shape T ps n (Some seat)

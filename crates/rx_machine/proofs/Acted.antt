@@ -2,8 +2,10 @@
 use Rattle.std.specs.Prelude.{◌≡◌, ◌≢◌, ℕ, ◌<◌, true, List, [], ◌∷◌, ◌++◌, length, Option, Some, None, slice_get, slice_set, refl}
 use Rattle.std.proofs.Common.{ap, ◌∙◌, sym, subst, inl, inr}
 use Rattle.std.proofs.lemmas.List.{append-nil, length-set}
+use Rattle.std.proofs.lemmas.Option.{slice_get_within}
 use Rattle.rx_base.specs.declared.ids.PlaceId.{PlaceId}
 use Rattle.rx_base.specs.declared.ids.TaskId.{TaskId}
+use Rattle.rx_base.proofs.Elements.{get-set}
 use Rattle.rx_rules.specs.declared.tasks.Task.{Task}
 use Rattle.rx_rules.specs.declared.entries.Act.{Act}
 use Rattle.rx_rules.specs.declared.entries.Entry.{Entry}
@@ -17,6 +19,7 @@ use Rattle.rx_rules.specs.Store.{State}
 use Rattle.rx_rules.specs.Plays.{Fits, brought, started_by}
 use Rattle.rx_rules.specs.Run.{Given}
 use Rattle.rx_rules.specs.Picked.{Game, Player, Turn, moves, turns, tree_in, child_of}
+use Rattle.rx_rules.proofs.Append.{tree-push}
 use Rattle.rx_history.specs.Setups.{given}
 use Rattle.rx_store.specs.Kept.{Kept}
 use Rattle.rx_nodes.specs.Shape.{Shape}
@@ -26,9 +29,8 @@ use Rattle.rx_machine.specs.Slots.{live_task, SlotIs, IsSeat, seat_at, seat_in}
 use Rattle.rx_stores.specs.Kepts.{StoresAre}
 use Rattle.rx_machine.specs.Holds.{Shares, Seated, HoldsBut, IsPick, HasGone, Makes}
 use Rattle.rx_machine.specs.Inside.Acts.{HasClosed}
-use Rattle.rx_machine.proofs.Finding.{same_or_not, get_same, get_other, get_within}
+use Rattle.rx_machine.proofs.Finding.{same_or_not, get_other}
 use Rattle.rx_machine.proofs.Own.{SameOwn, slot-on}
-use Rattle.rx_machine.proofs.Pushed.{tree-push}
 
 -- the player after its request was granted
 abbrev pub granted_player : Player → Act → Player
@@ -94,7 +96,7 @@ shared stands shape code U m m' k i here p q S Z j seat G act h pick gone fits m
 
 -- a seat that was put back
 pub seat_back : (xs : List (Option Seat)) (i : ℕ) (s : Seat) → i < length xs → seat_at (slice_set xs i (Some s)) i ≡ Some s
-seat_back xs i s h = ap seat_in (get_same xs i (Some s) h)
+seat_back xs i s h = ap seat_in (get-set xs i (Some s) h)
 
 pub seat_other : (xs : List (Option Seat)) (i n : ℕ) (o : Option Seat) → n ≢ i → seat_at (slice_set xs i o) n ≡ seat_at xs n
 seat_other xs i n o apart = ap seat_in (get_other xs i n o apart)
@@ -109,8 +111,8 @@ acted stands shape code U m m' k i here p q S Z j seat seat' G act but pick gone
     let players : slice_set G.players i (granted_player q act) ≡ G'.players =
     subst (λ (n : ℕ). slice_set G.players n (granted_player q act) ≡ G'.players) pick.number
     (sym (ap (λ c. slice_set G.players seat.row.number.0 (granted_player q act) ++ c) (childless_of q act childless) ∙ append-nil (slice_set G.players seat.row.number.0 (granted_player q act)))) in
-    let within : i < length G.players = get_within G.players i p gone.player in
-    let mine : slice_get G'.players i ≡ Some (granted_player q act) = subst (λ (ps : List Player). slice_get ps i ≡ Some (granted_player q act)) players (get_same G.players i (granted_player q act) within) in
+    let within : i < length G.players = slice_get_within G.players i p gone.player in
+    let mine : slice_get G'.players i ≡ Some (granted_player q act) = subst (λ (ps : List Player). slice_get ps i ≡ Some (granted_player q act)) players (get-set G.players i (granted_player q act) within) in
     let others : (n : ℕ) → n ≢ i → slice_get G'.players n ≡ slice_get G.players n = λ n apart. subst (λ (ps : List Player). slice_get ps n ≡ slice_get G.players n) players (get_other G.players i n (granted_player q act) apart) in
     let length_is : length m'.seats.items ≡ T'.next_task = ap (λ xs. length xs) back ∙ (length-set m.seats.items i (Some seat') ∙ (but.shares.slots ∙ sym next)) in (
       G',

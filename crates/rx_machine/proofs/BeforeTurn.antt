@@ -1,8 +1,9 @@
 -- A turn: what holds of the game before it, the task that the pick moves, and the root's release where none is enabled.
-use Rattle.std.specs.Prelude.{◌≡◌, ℕ, zero, suc, ◌+◌, ◌-◌, ◌*◌, ◌<◌, ◌≤◌, ◌%◌, List, [], ◌∷◌, length, Option, Some, slice_get, refl}
+use Rattle.std.specs.Prelude.{◌≡◌, ℕ, zero, suc, ◌+◌, ◌-◌, ◌*◌, ◌<◌, ◌≤◌, ◌%◌, List, [], ◌∷◌, length, Option, Some, slice_get}
 use Rattle.std.proofs.Common.{ap, ◌∙◌, sym, subst, arith}
 use Rattle.rx_base.specs.declared.ids.PlaceId.{PlaceId}
 use Rattle.rx_base.specs.declared.ids.Kill.{Kill}
+use Rattle.rx_base.proofs.Elements.{empty-from}
 use Rattle.rx_rules.specs.declared.tasks.Task.{Task}
 use Rattle.rx_rules.specs.Code.{Block, work}
 use Rattle.rx_rules.specs.Tree.{Tree}
@@ -81,10 +82,6 @@ calm stands shape code U m G n can at none ready told =
       origins = told;
     }
 
-empty : {X : Type 0} (xs : List X) → length xs ≡ 0 → xs ≡ []
-empty [] h = refl
-empty (x ∷ xs) h = absurd (omega (arith, h))
-
 -- where the numbers are none, no task is enabled, and the root may be released
 pub releasing : {L : Type 0} (stands : L → Tree → Type 0) (shape : Shape) (code : Block) (U : Given) (m : Machine L) (G : Game) → GamesCome → ReachedSound → NoneLeft → RootStands → Calm stands shape code U m G → m.ready.tasks.members ≡ able_from (tree_in U G) 0 m.seats.items → length m.ready.tasks.members ≡ 0 → Releasing stands shape code U m G
 releasing stands shape code U m G come sound quiets roots quietly able none =
@@ -94,7 +91,7 @@ releasing stands shape code U m G come sound quiets roots quietly able none =
     let came : CameTo code U G = come code U G on.proper can.holds.shares.comes can.unreleased in
     let rows = enabled_rows shape T G.players m.seats.items (sound T can.reached).tasks_fall can.holds.shares.slots can.holds.seats in
     let size : length m.ready.tasks.members ≡ length (enabled T) = ap length able ∙ (able_length T 0 m.seats.items ∙ ap length rows) in
-    let no_task : enabled T ≡ [] = empty (enabled T) (sym size ∙ none) in
+    let no_task : enabled T ≡ [] = empty-from (enabled T) (sym size ∙ none) in
     let root = roots U.places G.entries on.proper.some on.proper.few came.ok.folds.allowed can.unreleased in
     record {
       holds = can.holds;
@@ -103,7 +100,7 @@ releasing stands shape code U m G come sound quiets roots quietly able none =
       none_enabled = no_task;
       is_quiet = quiets T can.reached no_task;
       root = record { root = root.0; stands = root.1 };
-      none_ready = empty m.ready.tasks.members none;
+      none_ready = empty-from m.ready.tasks.members none;
       none_left = root_empties T (sound T can.reached) (quiets T can.reached no_task);
     }
 

@@ -4,9 +4,12 @@ use Rattle.std.specs.List.{find}
 use Rattle.std.proofs.Common.{ap, ◌∙◌, sym, subst, inl, inr, arith}
 use Rattle.std.proofs.lemmas.List.{length-set, length-append}
 use Rattle.std.proofs.lemmas.Bool.{eqb-true}
+use Rattle.std.proofs.lemmas.Option.{slice_get_within}
 use Rattle.rx_base.specs.declared.ids.PlaceId.{PlaceId}
 use Rattle.rx_base.specs.declared.ids.TaskId.{TaskId}
 use Rattle.rx_base.specs.declared.ids.ScopeId.{ScopeId}
+use Rattle.rx_base.proofs.Options.{none-of}
+use Rattle.rx_base.proofs.Elements.{get-set, get-pushed}
 use Rattle.rx_rules.specs.declared.tasks.Task.{Task}
 use Rattle.rx_rules.specs.declared.tasks.Scope.{Scope}
 use Rattle.rx_rules.specs.declared.tasks.Kind.{Kind}
@@ -36,7 +39,7 @@ use Rattle.rx_machine.specs.Slots.{live_task, if_unstruck, own_scopes, own_kinds
 use Rattle.rx_stores.specs.Kepts.{StoresAre}
 use Rattle.rx_machine.specs.Holds.{Seated, HoldsBut, IsPick, HasGone, Makes}
 use Rattle.rx_machine.proofs.Acted.{Went, granted_player, game_after, tree-after, turned, shared}
-use Rattle.rx_machine.proofs.Finding.{same_or_not, get_same, get_other, get_within, get_pushed, get_before}
+use Rattle.rx_machine.proofs.Finding.{same_or_not, get_other, get_before}
 use Rattle.rx_machine.proofs.Granting.{unheld-child}
 use Rattle.rx_machine.proofs.Holding.{unheld-front}
 use Rattle.rx_machine.proofs.Live.{none_above}
@@ -81,10 +84,6 @@ born-struck T number under from to b e =
       | None ↦ refl
     ])
 
-lives : (o : Option ℕ) → is_some o ≡ false → o ≡ None
-lives (Some n) e = cc
-lives None e = refl
-
 -- what the task of an act begins with
 abbrev pub child_player : Player → Player
 child_player q = record { term = child q.term; vars = q.vars; batch = [] }
@@ -101,7 +100,7 @@ NewSeat control seat = (seat.scopes.items ≡ []) × (seat.control ≡ control) 
 pub new-slot : (shape : Shape) (T T' : Tree) (n : ℕ) (q : Player) (slot : Option Seat) (control : Control) (number : TaskId) (under : ScopeId) (from to : PlaceId) → live_task T' n ≡ if_unstruck (born T number under from to) → (own_scopes T' n ≡ []) × (own_kinds T' n ≡ []) → StandsFor shape control (child q.term) → control.vars ≡ q.vars → is_none slot ≡ is_some (death_of T to) → IfSome slot (λ seat. (V : Tree) → death_of V to ≡ None → seat.row ≡ born V number under from to) → IfSome slot (NewSeat control) → NewSlot shape T' n (child_player q) slot
 new-slot shape T T' n q None control number under from to live own stands vars lost row rest = live ∙ born-struck T number under from to true (sym lost)
 new-slot shape T T' n q (Some seat) control number under from to live own stands vars lost row rest =
-    let is : seat.row ≡ born T number under from to = row T (lives (death_of T to) (sym lost)) in
+    let is : seat.row ≡ born T number under from to = row T (none-of (death_of T to) (sym lost)) in
     let front : HeldInFront (child q.term) × (is_held (child q.term) ≡ false) = unheld-front (child q.term) (unheld-child q.term) in
     record {
       row = live ∙ (born-struck T number under from to false (sym lost) ∙ ap (λ r. Some r) (sym is));
@@ -133,19 +132,19 @@ started stands shape code U m m' k i here p q S Z j seat seat' slot G act c but 
     let ps_long : length ps ≡ T.next_task = length-set G.players i (granted_player q act) ∙ count in
     let xs_long : length xs ≡ T.next_task = length-set m.seats.items i (Some seat') ∙ but.shares.slots in
     let older : i ≢ T.next_task = λ e. let low : i < T.next_task = subst (λ (v : ℕ). i < v) but.shares.slots inside in absurd (omega (arith, e)) in
-    let within : i < length G.players = get_within G.players i p gone.player in
+    let within : i < length G.players = slice_get_within G.players i p gone.player in
     let mine : slice_get G'.players i ≡ Some (granted_player q act) =
     subst (λ (v : List Player). slice_get v i ≡ Some (granted_player q act)) players
-    (get_before ps (child_player q) i (λ e. older (e ∙ ps_long)) ∙ get_same G.players i (granted_player q act) within) in
+    (get_before ps (child_player q) i (λ e. older (e ∙ ps_long)) ∙ get-set G.players i (granted_player q act) within) in
     let its : slice_get G'.players T.next_task ≡ Some (child_player q) =
     subst (λ (v : List Player). slice_get v T.next_task ≡ Some (child_player q)) players
-    (subst (λ (v : ℕ). slice_get (ps ++ child_player q ∷ []) v ≡ Some (child_player q)) ps_long (get_pushed ps (child_player q))) in
+    (subst (λ (v : ℕ). slice_get (ps ++ child_player q ∷ []) v ≡ Some (child_player q)) ps_long (get-pushed ps (child_player q))) in
     let others : (n : ℕ) → n ≢ i → n ≢ T.next_task → slice_get G'.players n ≡ slice_get G.players n = λ n apart fresh.
     subst (λ (v : List Player). slice_get v n ≡ slice_get G.players n) players
     (get_before ps (child_player q) n (λ e. fresh (e ∙ ps_long)) ∙ get_other G.players i n (granted_player q act) apart) in
-    let seat_mine : seat_at (xs ++ slot ∷ []) i ≡ Some seat' = ap seat_in (get_before xs slot i (λ e. older (e ∙ xs_long)) ∙ get_same m.seats.items i (Some seat') inside) in
+    let seat_mine : seat_at (xs ++ slot ∷ []) i ≡ Some seat' = ap seat_in (get_before xs slot i (λ e. older (e ∙ xs_long)) ∙ get-set m.seats.items i (Some seat') inside) in
     let seat_new : seat_at (xs ++ slot ∷ []) T.next_task ≡ slot =
-    ap seat_in (subst (λ (v : ℕ). slice_get (xs ++ slot ∷ []) v ≡ Some slot) xs_long (get_pushed xs slot)) in
+    ap seat_in (subst (λ (v : ℕ). slice_get (xs ++ slot ∷ []) v ≡ Some slot) xs_long (get-pushed xs slot)) in
     let seat_others : (n : ℕ) → n ≢ i → n ≢ T.next_task → seat_at (xs ++ slot ∷ []) n ≡ seat_at m.seats.items n = λ n apart fresh.
     ap seat_in (get_before xs slot n (λ e. fresh (e ∙ xs_long)) ∙ get_other m.seats.items i n (Some seat') apart) in
     let pushed : length (xs ++ slot ∷ []) ≡ suc T.next_task = let one : length (xs ++ slot ∷ []) ≡ length xs + 1 = length-append xs (slot ∷ []) in omega (arith, one, xs_long) in

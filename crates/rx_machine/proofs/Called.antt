@@ -8,6 +8,8 @@ use Rattle.rx_base.specs.declared.values.Value.{Value}
 use Rattle.rx_base.specs.declared.values.Value.TheVariants.{Num as Number}
 use Rattle.rx_base.specs.declared.values.Fault.{Fault}
 use Rattle.rx_base.specs.declared.values.Fault.TheVariants.{Thrown, WrongPlace}
+use Rattle.rx_base.proofs.SameIds.{place-is}
+use Rattle.rx_base.proofs.Elements.{get-set}
 use Rattle.rx_rules.specs.declared.tasks.Task.{Task}
 use Rattle.rx_rules.specs.declared.tasks.Where.TheVariants.{At as IsAt}
 use Rattle.rx_rules.specs.declared.tasks.Kind.{Kind}
@@ -48,7 +50,6 @@ use Rattle.rx_stores.specs.Kepts.{StoresAre}
 use Rattle.rx_machine.specs.Holds.{Acting}
 use Rattle.rx_machine.specs.Inside.Requests.{OnlyStores, AfterStep}
 use Rattle.rx_stores.specs.Asked.{MayAskStore, Receives, Asked}
-use Rattle.rx_machine.proofs.Finding.{get_same}
 use Rattle.rx_machine.proofs.Live.{live_stands}
 use Rattle.rx_machine.proofs.Beginning.{Begins, begins-so}
 use Rattle.rx_machine.proofs.Granting.{after-answer, unheld-after}
@@ -152,9 +153,6 @@ pub record IsCall (t : Term) (here : PlaceId) (op : CellOp) (d : Does) : Type 0 
   pub sinks : (a : Answer) → steps (answered a t) + 1 ≤ steps t
   pub free : d ≡ Releases → ⊥
 
-place_is : (p here : PlaceId) → p.0 ≡ here.0 → p ≡ here
-place_is p here e = ap (λ (k : ℕ). let q : PlaceId = record { 0 = k } in q) e
-
 pub is_call : (t : Term) (here : PlaceId) (op : CellOp) (d : Does) → next_of d ≡ CellStep op → Begins d (begins t) → CallSo here.0 d (receives t) → AsksSome d → Sinks t d → IsCall t here op d
 is_call t here op (Local left vars) e b c s k = absurd (let f : ⊥ = cc in f)
 is_call t here (Make n) (Makes name words) e b c s k = record { begins = b; receives = c; may = (let w : words ≡ n = cc in subst (λ (v : ℕ). 0 < v) w s); sinks = k; free = λ f. (let g : ⊥ = cc in g) }
@@ -162,17 +160,17 @@ is_call t here (GetWord r i) (Makes name words) e b c s k = absurd (let f : ⊥ 
 is_call t here (PutWord r i v) (Makes name words) e b c s k = absurd (let f : ⊥ = cc in f)
 is_call t here (ForgetBlock r) (Makes name words) e b c s k = absurd (let f : ⊥ = cc in f)
 is_call t here (Make n) (Gets name target index) e b c s k = absurd (let f : ⊥ = cc in f)
-is_call t here (GetWord r i) (Gets name target index) e b c s k = record { begins = b; receives = c.1; may = (let w : target ≡ r = cc in ap (λ v. v.home) (sym w) ∙ place_is target.home here c.0); sinks = k; free = λ f. (let g : ⊥ = cc in g) }
+is_call t here (GetWord r i) (Gets name target index) e b c s k = record { begins = b; receives = c.1; may = (let w : target ≡ r = cc in ap (λ v. v.home) (sym w) ∙ place-is target.home here c.0); sinks = k; free = λ f. (let g : ⊥ = cc in g) }
 is_call t here (PutWord r i v) (Gets name target index) e b c s k = absurd (let f : ⊥ = cc in f)
 is_call t here (ForgetBlock r) (Gets name target index) e b c s k = absurd (let f : ⊥ = cc in f)
 is_call t here (Make n) (Puts target index value) e b c s k = absurd (let f : ⊥ = cc in f)
 is_call t here (GetWord r i) (Puts target index value) e b c s k = absurd (let f : ⊥ = cc in f)
-is_call t here (PutWord r i v) (Puts target index value) e b c s k = record { begins = b; receives = tt; may = (let w : target ≡ r = cc in ap (λ v. v.home) (sym w) ∙ place_is target.home here c); sinks = k; free = λ f. (let g : ⊥ = cc in g) }
+is_call t here (PutWord r i v) (Puts target index value) e b c s k = record { begins = b; receives = tt; may = (let w : target ≡ r = cc in ap (λ v. v.home) (sym w) ∙ place-is target.home here c); sinks = k; free = λ f. (let g : ⊥ = cc in g) }
 is_call t here (ForgetBlock r) (Puts target index value) e b c s k = absurd (let f : ⊥ = cc in f)
 is_call t here (Make n) (Forgets target) e b c s k = absurd (let f : ⊥ = cc in f)
 is_call t here (GetWord r i) (Forgets target) e b c s k = absurd (let f : ⊥ = cc in f)
 is_call t here (PutWord r i v) (Forgets target) e b c s k = absurd (let f : ⊥ = cc in f)
-is_call t here (ForgetBlock r) (Forgets target) e b c s k = record { begins = b; receives = tt; may = (let w : target ≡ r = cc in ap (λ v. v.home) (sym w) ∙ place_is target.home here c); sinks = k; free = λ f. (let g : ⊥ = cc in g) }
+is_call t here (ForgetBlock r) (Forgets target) e b c s k = record { begins = b; receives = tt; may = (let w : target ≡ r = cc in ap (λ v. v.home) (sym w) ∙ place-is target.home here c); sinks = k; free = λ f. (let g : ⊥ = cc in g) }
 is_call t here op Opens e b c s k = absurd (let f : ⊥ = cc in f)
 is_call t here op (Calls place) e b c s k = absurd (let f : ⊥ = cc in f)
 is_call t here op (Spawns place) e b c s k = absurd (let f : ⊥ = cc in f)
@@ -289,13 +287,13 @@ module _ {L : Type 0} (stands : L → Tree → Type 0) (shape : Shape) (code : B
       let came : CameTo code U G = come code U G proper a.but.shares.comes a.pick.stands in
       let ok = came.ok in
       let low : here.0 < length G.journals = rw ok.one_each a.place in
-      let at : slice_get (slice_set G.journals here.0 a.events) here.0 ≡ Some a.events = get_same G.journals here.0 a.events low in
+      let at : slice_get (slice_set G.journals here.0 a.events) here.0 ≡ Some a.events = get-set G.journals here.0 a.events low in
       let s = stores-at U.heap 0 m.stores.items (slice_set G.journals here.0 a.events) here.0 a.events a.stores at in
       let start : JournalIs (length G.entries) a.store (journal_at G.journals here.0) = journal-is code U G i seat.row here a.store ok a.gone.seat_is.row a.gone.is_at a.place a.gone.store in (
         s.0,
         record {
           found = s.1;
-          place = place_is s.0.place here (let w : s.0.place.0 ≡ 0 + here.0 = s.2 in omega (arith, w));
+          place = place-is s.0.place here (let w : s.0.place.0 ≡ 0 + here.0 = s.2 in omega (arith, w));
           words = s.3;
           events = s.4;
           journal = goes-is a.gone.goes start;

@@ -4,9 +4,10 @@ use Rattle.std.proofs.Common.{ap, ◌∙◌, sym, subst, arith, inl, inr}
 use Rattle.std.proofs.lemmas.List.{length-set}
 use Rattle.rx_base.specs.declared.ids.PlaceId.{PlaceId}
 use Rattle.rx_base.specs.declared.ids.Kill.{Kill}
+use Rattle.rx_base.proofs.Elements.{get-set}
 use Rattle.rx_rules.specs.declared.tasks.Blow.{Blow}
 use Rattle.rx_rules.specs.declared.entries.Entry.{Entry}
-use Rattle.rx_rules.specs.declared.entries.Entry.TheVariants.{Step, Root, Death}
+use Rattle.rx_rules.specs.declared.entries.Entry.TheVariants.{Death}
 use Rattle.rx_rules.specs.declared.events.PlaceEvent.{PlaceEvent}
 use Rattle.rx_rules.specs.declared.events.PlaceEvent.TheVariants.{Close}
 use Rattle.rx_rules.specs.Code.{Block, work}
@@ -16,8 +17,9 @@ use Rattle.rx_rules.specs.Fold.{fold_from, opening}
 use Rattle.rx_rules.specs.Plays.{journal_at}
 use Rattle.rx_rules.specs.Reached.{IsOlder}
 use Rattle.rx_rules.specs.Store.{opening_state}
-use Rattle.rx_rules.specs.Run.{Given, NoRoot, IsDue, rest_of, death_number}
+use Rattle.rx_rules.specs.Run.{Given, IsDue, rest_of, death_number}
 use Rattle.rx_rules.specs.Picked.{Game, Player, Turn, dies, turns, tree_in}
+use Rattle.rx_rules.proofs.Append.{no_root-death, tree-push}
 use Rattle.rx_sound.proofs.Histories.{dead-now, none_yet}
 use Rattle.rx_runs.specs.Coming.{CameTo, GamesCome}
 use Rattle.rx_runs.specs.Games.{JournalSo, Leads}
@@ -32,11 +34,10 @@ use Rattle.rx_machine.specs.declared.seat.Seat.{Seat}
 use Rattle.rx_machine.specs.Slots.{live_task, SlotIs, seat_at, seat_in, left_by}
 use Rattle.rx_stores.specs.Kepts.{StoresAre}
 use Rattle.rx_machine.specs.Runs.{Dying, HasDied}
-use Rattle.rx_machine.proofs.Finding.{same_or_not, get_same}
+use Rattle.rx_machine.proofs.Finding.{same_or_not}
 use Rattle.rx_machine.proofs.Acted.{seat_other}
 use Rattle.rx_machine.proofs.Live.{if_missed, strike-live}
 use Rattle.rx_machine.proofs.Called.{stores-at, stores-set, leads-open, stamp-most}
-use Rattle.rx_machine.proofs.Pushed.{tree-push}
 
 -- What the kill that is due says of its place.
 
@@ -56,12 +57,6 @@ older-from n T [] o = let e : n ≡ n + 0 = omega arith in subst (λ (m : ℕ). 
 older-from n T (x ∷ es) o =
     let e : suc n + length es ≡ n + length (x ∷ es) = omega arith in
     subst (λ (m : ℕ). All (IsOlder m) (fold_from (suc n) (made n T x) es).dead) e (older-from (suc n) (made n T x) es (dead-now n T x o))
-
-pub still_open : (es : List Entry) (d : PlaceId) → NoRoot es → NoRoot (es ++ Death d ∷ [])
-still_open [] d h = tt
-still_open (Step t act batch ∷ es) d h = still_open es d h
-still_open (Root lost thrown ∷ es) d h = h
-still_open (Death e ∷ es) d h = still_open es d h
 
 -- The slots.
 
@@ -200,7 +195,7 @@ module _ {L : Type 0} (stands : L → Tree → Type 0) (shape : Shape) (code : B
                 subst (λ (T : Tree). SlotIs shape T G.players i (seat_at m'.seats.items i)) same
                 (subst (λ (o : Option Seat). SlotIs shape (strike b (tree_in U G)) G.players i o) (sym (f.each i)) (slot-struck shape (tree_in U G) b G.players i (seat_at m.seats.items i) (h.seats i)));
           },
-          still_open G.entries d t.can.unreleased,
+          no_root-death G.entries d t.can.unreleased,
         ),
       )
 
@@ -225,7 +220,7 @@ done-more d first now i o new low at is h = (
       elim (same_or_not n i) [
         | inl e ↦
             subst (λ (v : ℕ). seat_at (slice_set now i new) v ≡ left_by d (seat_at first v)) (sym e)
-            (ap seat_in (get_same now i new low) ∙ (is ∙ ap (left_by d) (sym (seat_is now i o o low at) ∙ h.2 i (let r : i ≤ i = omega arith in r))))
+            (ap seat_in (get-set now i new low) ∙ (is ∙ ap (left_by d) (sym (seat_is now i o o low at) ∙ h.2 i (let r : i ≤ i = omega arith in r))))
         | inr apart ↦ seat_other now i n new apart ∙ h.1 n (below n i under apart)
       ],
   λ n over. seat_other now i n new (λ e. absurd (omega (arith, over, e))) ∙ h.2 n (omega (arith, over)),

@@ -13,7 +13,7 @@ use Rattle.rx_nodes.specs.Shape.{Shape}
 use Rattle.rx_machine.specs.declared.seat.Seat.{Seat}
 use Rattle.rx_machine.specs.Slots.{live_task, live_in, SlotIs, seat_at}
 use Rattle.rx_machine.specs.Picking.{slot_able}
-use Rattle.rx_machine.proofs.Live.{live_stands}
+use Rattle.rx_machine.proofs.Live.{live_stands, none_above}
 
 -- the numbers of the enabled slots, from slot n on
 abbrev pub able_from : Tree → ℕ → List (Option Seat) → List ℕ
@@ -49,12 +49,6 @@ gather_split q xs n (suc a) b =
     ∙ (ap (λ v. found q (find (is_task (record { 0 = n })) xs) ++ v) (gather_split q xs (suc n) a b ∙ ap (λ v. gather q xs (suc n) a ++ gather q xs v b) f)
     ∙ sym (append_assoc (found q (find (is_task (record { 0 = n })) xs)) (gather q xs (suc n) a) (gather q xs (n + suc a) b)))
 
-below : (n k : ℕ) (xs : List Task) → TasksFall k xs → k ≤ n → find (is_task (record { 0 = n })) xs ≡ None
-below n k [] h le = refl
-below n k (x ∷ xs) h le =
-    let low : x.number.0 < k = h.0 in
-    let e : (x.number.0 == n) ≡ false = ne_eqb x.number.0 n (λ s. absurd (omega (arith, s))) in rw e (below n x.number.0 xs h.1 (omega arith))
-
 -- tasks whose numbers fall stand, from the oldest on, as their numbers tell
 gathered : (q : Task → Bool) (xs : List Task) (n : ℕ) → TasksFall n xs → reverse (filter q xs) ≡ gather q xs 0 n
 gathered q [] n h = sym (gather_none q [] 0 n (λ j low. refl))
@@ -63,7 +57,7 @@ gathered q (x ∷ xs) n h =
     let low : m < n = h.0 in
     let size : n ≡ m + suc (n - suc m) = omega arith in
     let here : find (is_task (record { 0 = m })) (x ∷ xs) ≡ Some x = (let e : (m == m) ≡ true = eq-eqb m m refl in rw e refl) in
-    let above : gather q (x ∷ xs) (suc m) (n - suc m) ≡ [] = gather_none q (x ∷ xs) (suc m) (n - suc m) (λ j le. below j (suc m) (x ∷ xs) (let s : m < suc m = omega arith in (s, h.1)) le) in
+    let above : gather q (x ∷ xs) (suc m) (n - suc m) ≡ [] = gather_none q (x ∷ xs) (suc m) (n - suc m) (λ j le. none_above j (suc m) (x ∷ xs) (let s : m < suc m = omega arith in (s, h.1)) le) in
     let before : gather q (x ∷ xs) 0 m ≡ gather q xs 0 m = gather_same q (x ∷ xs) xs 0 m (λ j le less. let e : (m == j) ≡ false = ne_eqb m j (λ s. absurd (omega (arith, s))) in rw e refl) in
     let z : 0 + m ≡ m = omega arith in
     sym

@@ -18,6 +18,7 @@ use Rattle.rx_rules.specs.Tree.{Tree, task_of, own_scope, opened_by}
 use Rattle.rx_rules.specs.Entries.{MayEnd, made_act, after_end}
 use Rattle.rx_rules.specs.Run.{Given}
 use Rattle.rx_rules.specs.Picked.{Game, Player, Turn, ends, turns, tree_in}
+use Rattle.rx_rules.proofs.Append.{tree-push}
 use Rattle.rx_finish.specs.declared.ledger.Caller.{Caller}
 use Rattle.rx_finish.specs.declared.ledger.LedgerFault.{LedgerFault}
 use Rattle.rx_finish.specs.declared.ledger.LedgerFault.TheVariants.{NotYet, Lost, NoMemory}
@@ -39,7 +40,6 @@ use Rattle.rx_machine.proofs.Own.{end-tasks, end-own, slot-on}
 use Rattle.rx_machine.proofs.Acted.{Went}
 use Rattle.rx_machine.proofs.Asking.{id_of, not_lost, seat_asks, moving}
 use Rattle.rx_machine.proofs.Granting.{held-releases}
-use Rattle.rx_machine.proofs.Pushed.{tree-push}
 use Rattle.rx_machine.proofs.SpineGrants.{EmptyWhereDone, spine-done}
 
 -- a task that has nothing left to run does not wait

@@ -48,26 +48,12 @@ find_mapped p f (x ∷ xs) same = rw (same x) (elim (p x) as (λ b. cond b (Some
 
 -- Elements by their position.
 
-pub get_same : {X : Type 0} (xs : List X) (n : ℕ) (y : X) → n < length xs → slice_get (slice_set xs n y) n ≡ Some y
-get_same [] n y h = absurd (omega arith)
-get_same (v ∷ xs) zero y h = refl
-get_same (v ∷ xs) (suc n) y h = let inside : n < length xs = omega arith in get_same xs n y inside
-
 pub get_other : {X : Type 0} (xs : List X) (n m : ℕ) (y : X) → m ≢ n → slice_get (slice_set xs n y) m ≡ slice_get xs m
 get_other [] n m y h = refl
 get_other (v ∷ xs) zero zero y h = absurd (h refl)
 get_other (v ∷ xs) zero (suc m) y h = refl
 get_other (v ∷ xs) (suc n) zero y h = refl
 get_other (v ∷ xs) (suc n) (suc m) y h = get_other xs n m y (λ e. h (ap suc e))
-
-pub get_within : {X : Type 0} (xs : List X) (n : ℕ) (x : X) → slice_get xs n ≡ Some x → n < length xs
-get_within [] n x h = cc
-get_within (v ∷ xs) zero x h = omega arith
-get_within (v ∷ xs) (suc n) x h = let r : n < length xs = get_within xs n x h in omega arith
-
-pub get_pushed : {X : Type 0} (xs : List X) (y : X) → slice_get (xs ++ y ∷ []) (length xs) ≡ Some y
-get_pushed [] y = refl
-get_pushed (x ∷ xs) y = get_pushed xs y
 
 pub get_before : {X : Type 0} (xs : List X) (y : X) (n : ℕ) → n ≢ length xs → slice_get (xs ++ y ∷ []) n ≡ slice_get xs n
 get_before [] y zero h = absurd (h refl)

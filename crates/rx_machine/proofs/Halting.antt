@@ -1,13 +1,13 @@
 -- What is told when a turn is refused is told by the turn.
-use Rattle.std.specs.Prelude.{◌≡◌, ℕ, zero, suc, ◌<◌, ◌≤◌, ◌%◌, Bool, List, [], ◌∷◌, ◌++◌, map, length, Option, Some, Result, slice_get, slice_set, refl}
-use Rattle.std.proofs.Common.{ap, ◌∙◌, sym, subst, arith}
+use Rattle.std.specs.Prelude.{◌≡◌, ℕ, zero, suc, ◌%◌, Bool, List, [], ◌∷◌, ◌++◌, map, length, Option, Some, Result, slice_get, slice_set, refl}
+use Rattle.std.proofs.Common.{ap, ◌∙◌, sym, subst}
 use Rattle.std.proofs.lemmas.List.{append-nil, append_assoc}
 use mathlib.Core.List.{IsPrefix}
 use Rattle.rx_base.specs.declared.ids.PlaceId.{PlaceId}
 use Rattle.rx_base.specs.declared.ids.TaskId.{TaskId}
-use Rattle.rx_base.specs.declared.ids.Kill.{Kill}
 use Rattle.rx_base.specs.declared.values.Value.{Value}
 use Rattle.rx_base.specs.declared.values.Fault.{Fault}
+use Rattle.rx_base.proofs.Elements.{not-empty}
 use Rattle.rx_rules.specs.declared.tasks.Task.{Task}
 use Rattle.rx_rules.specs.declared.tasks.Where.TheVariants.{At, Travel}
 use Rattle.rx_rules.specs.declared.entries.Entry.{Entry}
@@ -22,8 +22,9 @@ use Rattle.rx_rules.specs.Tree.{Tree, task_of}
 use Rattle.rx_rules.specs.Store.{State, after_cell}
 use Rattle.rx_rules.specs.Plays.{Tells, begun, journal_at}
 use Rattle.rx_rules.specs.Entries.{MayArrive}
-use Rattle.rx_rules.specs.Run.{Given, Proper, NoRoot, NoneDue, IsDue}
+use Rattle.rx_rules.specs.Run.{Given, Proper, NoRoot}
 use Rattle.rx_rules.specs.Picked.{Game, Player, Turn, dies, arrives, moves, ends, root, Comes, Goes, stays, local, stores, enabled, tree_in}
+use Rattle.rx_rules.proofs.Kills.{due-not}
 use Rattle.rx_runs.specs.Coming.{GoesOn}
 use Rattle.rx_runs.proofs.Walks.{IsLast, fits_last}
 use Rattle.rx_runs.proofs.Telling.{tell_once}
@@ -116,14 +117,6 @@ turn-tells U k used G G' (moves x here p q S Z j act none_due pick at player sto
 turn-tells U k used G G' (ends x here p q S Z j f none_due pick at player store goes done may) = ((Step x.number (End f) q.batch ∷ [], refl), begin-set G.journals here.0 j (goes-more goes))
 turn-tells U k used G G' (root lost thrown none_due none may) = ((Root lost thrown ∷ [], refl), begin-same G.journals)
 
-due_not : (n : ℕ) (d : PlaceId) (ks : List Kill) → IsDue n d ks → NoneDue n ks → ⊥
-due_not n d [] due none = due
-due_not n d (k ∷ ks) due none = let a : k.moment ≤ n = due.1 in let b : n < k.moment = none in omega (arith, a, b)
-
-not_empty : {X : Type 0} (xs : List X) (i : ℕ) (x : X) → xs ≡ [] → slice_get xs i ≡ Some x → ⊥
-not_empty [] i x e h = cc
-not_empty (y ∷ ys) i x e h = cc
-
 -- no arrival is made of a task at a place
 not_away : (T : Tree) (x y : Task) (here p : PlaceId) → x ≡ y → task_of T x.number ≡ Some x → x.place ≡ At here → MayArrive T y.number p → ⊥
 not_away T x y here p same stands is_at may =
@@ -153,14 +146,14 @@ module _ (U : Given) (k : ℕ) (G : Game) (items : List Kept) (h : HasTold U k G
 
   -- so the journals begin those of each turn
   begins-turn : (used : Bool) (G' : Game) → Turn U k G used G' → BeginEach (slice_set G.journals h.here.0 h.events) G'.journals
-  begins-turn used G' (dies d due) = absurd (due_not (length G.entries) d G.kills due h.none_due)
+  begins-turn used G' (dies d due) = absurd (due-not (length G.entries) d G.kills due h.none_due)
   begins-turn used G' (arrives y p none_due pick may) =
       let task : h.task ≡ y = (let e : Some h.task ≡ Some y = sym h.picked ∙ pick in cc) in absurd (not_away (tree_in U G) h.task y h.here p task h.stands h.is_at may)
   begins-turn used G' (moves y there p2 r S2 W l act none_due pick at player store goes fits may) =
       begins-walk y there p2 r S2 W l pick at player store goes (fits_last there r.term (does r.vars there.0 U.places r.term) act fits)
   begins-turn used G' (ends y there p2 r S2 W l f none_due pick at player store goes done may) =
       begins-walk y there p2 r S2 W l pick at player store goes (subst IsLast (sym done) tt)
-  begins-turn used G' (root lost thrown none_due none may) = absurd (not_empty (enabled (tree_in U G)) (k % length (enabled (tree_in U G))) h.task none h.picked)
+  begins-turn used G' (root lost thrown none_due none may) = absurd (not-empty (enabled (tree_in U G)) (k % length (enabled (tree_in U G))) h.task none h.picked)
 
 -- What a refused turn leaves.
 

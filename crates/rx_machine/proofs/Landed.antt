@@ -9,13 +9,13 @@ use Rattle.rx_base.specs.declared.values.Fault.{Fault}
 use Rattle.rx_rules.specs.declared.tasks.Task.{Task}
 use Rattle.rx_rules.specs.declared.tasks.Where.TheVariants.{At}
 use Rattle.rx_rules.specs.declared.entries.Act.TheVariants.{Arrive}
-use Rattle.rx_rules.specs.declared.entries.Entry.{Entry}
-use Rattle.rx_rules.specs.declared.entries.Entry.TheVariants.{Step, Root, Death}
+use Rattle.rx_rules.specs.declared.entries.Entry.TheVariants.{Step, Root}
 use Rattle.rx_rules.specs.Code.{Block}
 use Rattle.rx_rules.specs.Tree.{Tree, the_root, quiet}
 use Rattle.rx_rules.specs.Entries.{AllowedAct, Allowed, made_act, without}
-use Rattle.rx_rules.specs.Run.{Given, NoRoot, EndsWithRoot}
+use Rattle.rx_rules.specs.Run.{Given, NoRoot}
 use Rattle.rx_rules.specs.Picked.{Game, Turn, arrives, root, turns, is_enabled, enabled, tree_in}
+use Rattle.rx_rules.proofs.Append.{root-push, tree-push}
 use Rattle.rx_finish.specs.declared.ledger.Caller.{Caller}
 use Rattle.rx_finish.specs.declared.ledger.LedgerFault.{LedgerFault}
 use Rattle.rx_finish.specs.declared.ledger.LedgerFault.TheVariants.{NotYet, Lost, NoMemory}
@@ -35,7 +35,6 @@ use Rattle.rx_machine.proofs.Asking.{not_lost}
 use Rattle.rx_machine.proofs.Finding.{same_or_not}
 use Rattle.rx_machine.proofs.Live.{change-other, change-same, live_stands}
 use Rattle.rx_machine.proofs.Own.{slot-on}
-use Rattle.rx_machine.proofs.Pushed.{tree-push}
 use Rattle.rx_machine.proofs.Acted.{Went, seat_back, seat_other}
 
 -- the ledger does not refuse an arrival
@@ -104,13 +103,6 @@ landed stands shape code U m m' k i to seat seat' G a may row scopes control bat
       },
     )
 
--- a history that ends with the root
-ends-with : (es : List Entry) (lost : PlaceSet) (thrown : List Fault) → NoRoot es → EndsWithRoot (es ++ Root lost thrown ∷ [])
-ends-with [] lost thrown h = refl
-ends-with (Step t act b ∷ es) lost thrown h = ends-with es lost thrown h
-ends-with (Root l f ∷ es) lost thrown h = absurd h
-ends-with (Death d ∷ es) lost thrown h = ends-with es lost thrown h
-
 -- where no task is left none is enabled
 none-left : (T : Tree) → T.tasks ≡ [] → enabled T ≡ []
 none-left T e = ap (λ (xs : List Task). reverse (filter (is_enabled T) xs)) e
@@ -127,7 +119,7 @@ finished stands shape code U m m' k G lost thrown a open_still may entries setup
         setup = ap given setup ∙ h.setup;
         ledger = subst (λ (T : Tree). stands m'.ledger T) same ledger;
         stores = subst (λ (ss : List Kept). StoresAre U.heap 0 ss G.journals) (ap (λ v. v.items) (sym stores)) a.holds.stores;
-        ended = ends-with G.entries lost thrown open_still;
+        ended = root-push G.entries lost thrown open_still;
         none_enabled = subst (λ (T : Tree). enabled T ≡ []) same (none-left (without (tree_in U G) the_root) a.none_left);
         none_ready = ap (λ (r : Ready). r.tasks.members) ready ∙ a.none_ready;
       },

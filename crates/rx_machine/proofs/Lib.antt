@@ -1,7 +1,6 @@
 pub mod Finding
 pub mod Live
 pub mod Own
-pub mod Pushed
 pub mod Acted
 pub mod Holding
 pub mod Granting

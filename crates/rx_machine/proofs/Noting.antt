@@ -1,10 +1,11 @@
 -- The set of the enabled tasks after a turn.
-use Rattle.std.specs.Prelude.{◌≡◌, ◌≢◌, ℕ, suc, ◌-◌, ◌<◌, ◌≤◌, ◌%◌, Bool, true, false, List, [], ◌∷◌, ◌++◌, length, Option, Some, None, is_some, slice_get, refl}
+use Rattle.std.specs.Prelude.{◌≡◌, ◌≢◌, ℕ, suc, ◌-◌, ◌<◌, ◌≤◌, ◌%◌, Bool, true, false, List, [], ◌∷◌, ◌++◌, length, Option, Some, None, slice_get, refl}
 use Rattle.std.proofs.Common.{ap, ◌∙◌, sym, subst, arith, inl, inr}
 use Rattle.std.proofs.lemmas.Bool.{cases_lt}
 use Rattle.rx_base.specs.declared.ids.TaskId.{TaskId}
 use Rattle.rx_base.specs.declared.ids.ScopeId.{ScopeId}
 use Rattle.rx_base.specs.declared.values.Fault.{Fault}
+use Rattle.rx_base.proofs.Elements.{get-pushed, length-push}
 use Rattle.rx_rules.specs.declared.tasks.Task.{Task}
 use Rattle.rx_rules.specs.declared.entries.Act.{Act}
 use Rattle.rx_rules.specs.declared.entries.Act.TheVariants.{Open, At as Calls, Spawn, Arrive, Wait, Release, End, Print}
@@ -17,6 +18,7 @@ use Rattle.rx_rules.specs.Fold.{tree_of}
 use Rattle.rx_rules.specs.Reached.{Reached}
 use Rattle.rx_rules.specs.Run.{Given, NoRoot}
 use Rattle.rx_rules.specs.Picked.{Game, Player, Turn, dies, arrives, moves, ends, root, enabled, tree_in}
+use Rattle.rx_rules.proofs.Append.{tree-push}
 use Rattle.rx_rank.specs.Numbers.{Ascends, marked}
 use Rattle.rx_sound.specs.Sound.{Sound, ReachedSound}
 use Rattle.rx_sound.specs.Enabling.{able, OthersStay, nearest_opener, FreesOne, WayStays}
@@ -32,12 +34,11 @@ use Rattle.rx_machine.specs.Picking.{slot_able, has, IsReady}
 use Rattle.rx_machine.specs.Origins.{TellsOrigins, origin_in, origin_by}
 use Rattle.rx_machine.specs.Holds.{Seated, Holds, CanTurn}
 use Rattle.rx_machine.specs.Runs.{HasMoved, HasDied, AfterTurn, WentOn, Taken}
-use Rattle.rx_machine.proofs.Finding.{same_or_not, get_pushed}
+use Rattle.rx_machine.proofs.Finding.{same_or_not}
 use Rattle.rx_machine.proofs.Live.{live_stands, live_number}
-use Rattle.rx_machine.proofs.Pushed.{tree-push}
 use Rattle.rx_machine.proofs.Whole.{stays_open}
 use Rattle.rx_machine.proofs.BeforeTurn.{roomier, can-turn}
-use Rattle.rx_machine.proofs.OriginsKept.{length_more, with_row, tells_act, tells_without, acts_on}
+use Rattle.rx_machine.proofs.OriginsKept.{with_row, tells_act, tells_without, acts_on}
 use Rattle.rx_machine.proofs.Readying.{marked_same, marked_other, ascends_marked, slot_task, able_high}
 
 -- nothing but the set is another
@@ -283,10 +284,6 @@ noted-all shape T T' ps os old ns before after more size slots ready ascends not
   ],
 )
 
-pub some_here : {X : Type 0} (o : Option X) → is_some o ≡ true → (x : X) × (o ≡ Some x)
-some_here None e = absurd (let f : ⊥ = cc in f)
-some_here (Some x) e = (x, refl)
-
 -- what is noted after a turn of the task of slot i
 pub has-moved : {L : Type 0} (stands : L → Tree → Type 0) (shape : Shape) (code : Block) (U : Given) (m m' : Machine L) (k i : ℕ) (under : ScopeId) (before : ℕ) (G : Game) → GamesCome → FoldReached → (t : Taken stands shape code U m k i G) → IsReady (tree_in U G) m.ready.tasks.members → (a : AfterTurn stands shape code U m' k G) → m'.ready ≡ m.ready → ((seat : Seat) → seat_at m.seats.items i ≡ Some seat → under ≡ seat.row.under) → before ≡ length m.seats.items → HasMoved stands shape code U m' k i under before G a.0
 has-moved stands shape code U m m' k i under before G come fold t ready a same hung size =
@@ -368,9 +365,9 @@ roomy-can {L = L} stands shape code U m m' G come fold same told h =
 
 last-item : (es : List Entry) (e : Entry) (n : ℕ) → n ≡ length (es ++ e ∷ []) - 1 → slice_get (es ++ e ∷ []) n ≡ Some e
 last-item es e n at =
-    let size : length (es ++ e ∷ []) ≡ suc (length es) = length_more es e in
+    let size : length (es ++ e ∷ []) ≡ suc (length es) = length-push es e in
     let here : n ≡ length es = omega (arith, at, size) in
-    ap (λ (v : ℕ). slice_get (es ++ e ∷ []) v) here ∙ get_pushed es e
+    ap (λ (v : ℕ). slice_get (es ++ e ∷ []) v) here ∙ get-pushed es e
 
 -- the origin that it tells is that of the act
 pub last-origin : (U : Given) (k : ℕ) (G H : Game) (es : List Entry) (e : Entry) (n : ℕ) → (turn : Turn U k G true H) → es ≡ H.entries → n ≡ length es - 1 → slice_get es n ≡ Some e → origin_by e ≡ origin_in (turn-act U k G H turn).task.number (turn-act U k G H turn).act

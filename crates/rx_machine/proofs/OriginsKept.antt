@@ -2,10 +2,11 @@
 use Rattle.std.specs.Prelude.{◌≡◌, ◌≢◌, ◌⊎◌, ℕ, suc, ◌<◌, true, false, cond, not, List, [], ◌∷◌, ◌++◌, length, Option, Some, None, is_none, is_some, slice_get, get_or, refl}
 use Rattle.std.proofs.Common.{ap, ◌∙◌, sym, subst, arith, inl, inr}
 use Rattle.std.proofs.lemmas.Bool.{eqb-true}
-use Rattle.std.proofs.lemmas.Option.{slice_get-get_or}
+use Rattle.std.proofs.lemmas.Option.{slice_get-get_or, slice_get_within}
 use Rattle.rx_base.specs.declared.ids.TaskId.{TaskId}
 use Rattle.rx_base.specs.declared.ids.ScopeId.{ScopeId}
 use Rattle.rx_base.specs.declared.values.Fault.{Fault}
+use Rattle.rx_base.proofs.Elements.{length-push, find-passes, get-pushed}
 use Rattle.rx_rules.specs.declared.tasks.Where.TheVariants.{At}
 use Rattle.rx_rules.specs.declared.tasks.Task.{Task}
 use Rattle.rx_rules.specs.declared.tasks.Scope.{Scope}
@@ -20,21 +21,16 @@ use Rattle.rx_rules.specs.Picked.{Player}
 use Rattle.rx_sound.specs.Sound.{Each, Sound}
 use Rattle.rx_sound.specs.Enabling.{unstruck_in, is_left, nearest_opener, GoesUp, WalkGoesUp, WalkEnds}
 use Rattle.rx_sound.proofs.Changes.{each_more, each_found, each_change, each_filter}
-use Rattle.rx_sound.proofs.Lookups.{find_passes}
 use Rattle.rx_sound.proofs.Reach.{task_below}
 use Rattle.rx_nodes.specs.Shape.{Shape}
 use Rattle.rx_machine.specs.declared.enabled.Origin.{Origin}
 use Rattle.rx_machine.specs.declared.seat.Seat.{Seat}
 use Rattle.rx_machine.specs.Slots.{live_task, live_in, SlotIs, seat_at, seat_in}
 use Rattle.rx_machine.specs.Origins.{IsTold, TellsOrigins, origin_in}
-use Rattle.rx_machine.proofs.Finding.{get_within, get_pushed, get_before}
+use Rattle.rx_machine.proofs.Finding.{get_before}
 use Rattle.rx_machine.proofs.Live.{live_stands, stands_live, change-same, add-other, release-live}
 
 -- The table.
-
-pub length_more : {X : Type 0} (xs : List X) (y : X) → length (xs ++ y ∷ []) ≡ suc (length xs)
-length_more [] y = refl
-length_more (x ∷ xs) y = ap suc (length_more xs y)
 
 -- a row more, if there is one
 abbrev pub with_row : Option Origin → List Origin → List Origin
@@ -46,7 +42,7 @@ told_still origins x gs h =
     each_more (IsTold origins) (IsTold (origins ++ x ∷ []))
     (λ (g : Scope) told o p eo ep.
     let row = told o p eo ep in
-    let inside : g.number.0 < length origins = get_within origins g.number.0 (record { opener = o; parent = p }) row in
+    let inside : g.number.0 < length origins = slice_get_within origins g.number.0 (record { opener = o; parent = p }) row in
     get_before origins x g.number.0 (λ e. absurd (omega (arith, e, inside))) ∙ row)
     gs h
 
@@ -59,13 +55,13 @@ tells_opened T t kind s r origins next h =
     let size : length origins ≡ T.next_scope = h.size in
     let number : s.0 ≡ length origins = omega (arith, next, size) in
     record {
-      size = length_more origins (row_of t r) ∙ ap suc size;
+      size = length-push origins (row_of t r) ∙ ap suc size;
       tells = (
         λ o p eo ep.
             let a : t ≡ o = (let e : Some t ≡ Some o = eo in cc) in
             let b : r ≡ p = (let e : Some r ≡ Some p = ep in cc) in
             ap (λ (n : ℕ). slice_get (origins ++ row_of t r ∷ []) n) number
-            ∙ (get_pushed origins (row_of t r)
+            ∙ (get-pushed origins (row_of t r)
             ∙ (ap (λ (v : TaskId). Some (row_of v r)) a ∙ ap (λ (w : ScopeId). Some (row_of o w)) b)),
         told_still origins (row_of t r) T.scopes h.tells,
       );
@@ -120,7 +116,7 @@ left_slot shape T ps n None none = off (task_of T (record { 0 = n })) none where
 pub row_at : (T : Tree) (s : ScopeId) (origins : List Origin) → TellsOrigins T origins → (u : GoesUp T s) → slice_get origins s.0 ≡ Some (record { opener = u.opener; parent = u.parent })
 row_at T s origins h u =
     let told : IsTold origins u.scope = each_found (IsTold origins) (is_scope s) T.scopes u.scope h.tells u.stands in
-    let number : u.scope.number.0 ≡ s.0 = eqb-true u.scope.number.0 s.0 (find_passes (is_scope s) T.scopes u.scope u.stands) in
+    let number : u.scope.number.0 ≡ s.0 = eqb-true u.scope.number.0 s.0 (find-passes (is_scope s) T.scopes u.scope u.stands) in
     sym (ap (λ (n : ℕ). slice_get origins n) number) ∙ told u.opener u.parent u.is_opener u.is_parent
 
 -- the scope leads to the root, and its nearest opener is that of the scope at which the walk began
@@ -156,7 +152,7 @@ step_up T under s reached law way off = law T s reached way.0 off
 
 -- the scope has a row
 pub row_inside : (T : Tree) (origins : List Origin) (s : ScopeId) → TellsOrigins T origins → GoesUp T s → s.0 < length origins
-row_inside T origins s h u = get_within origins s.0 (record { opener = u.opener; parent = u.parent }) (row_at T s origins h u)
+row_inside T origins s h u = slice_get_within origins s.0 (record { opener = u.opener; parent = u.parent }) (row_at T s origins h u)
 
 pub step_at : (T : Tree) (origins : List Origin) (under s : ScopeId) (now : Origin) → Reached T → WalkGoesUp → TellsOrigins T origins → IsOnWay T under s → s.0 ≢ 0 → now ≡ get_or origins s.0 now → StepAt T under s now
 step_at T origins under s now reached law h way off at =

@@ -7,6 +7,7 @@ use Rattle.rx_base.specs.declared.place_set.PlaceSet.{PlaceSet}
 use Rattle.rx_base.specs.declared.values.Fault.{Fault}
 use Rattle.rx_base.specs.declared.values.Fault.TheVariants.{Dead}
 use Rattle.rx_base.specs.Sets.{all_places, has_bit, members}
+use Rattle.rx_base.proofs.Members.{place-at}
 
 -- so many numbers in ascending order
 abbrev pub numbers_from : ℕ → ℕ → List ℕ
@@ -21,12 +22,9 @@ number_at s (suc k) (suc p) h =
     let e : suc s + p ≡ s + suc p = omega arith in
     number_at (suc s) k p inside ∙ ap (λ (v : ℕ). Some v) e
 
-place_at : (p : ℕ) → p < 16 → slice_get all_places p ≡ Some p
-place_at p h = let e : 0 + p ≡ p = omega arith in number_at 0 16 p h ∙ ap (λ (v : ℕ). Some v) e
-
 next_place : (p : ℕ) → p < 16 → drop p all_places ≡ p ∷ drop (p + 1) all_places
 next_place p h =
-    let g : slice_get all_places p ≡ Some p = place_at p h in
+    let g : slice_get all_places p ≡ Some p = place-at p h in
     at_drop_more {Y = List ℕ} (λ l. l) all_places p p (slice_get_within all_places p p g) ∙ ap (λ y. y ∷ drop (p + 1) all_places) (get_or_from_slice_get all_places p p p g)
 
 -- the faults of the members from a place on

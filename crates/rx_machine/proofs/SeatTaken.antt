@@ -3,6 +3,7 @@ use Rattle.std.specs.Prelude.{◌≡◌, ℕ, ◌<◌, List, length, Option, Som
 use Rattle.std.proofs.Common.{ap, ◌∙◌, sym, subst}
 use Rattle.std.proofs.lemmas.List.{length-set}
 use Rattle.rx_base.specs.declared.ids.PlaceId.{PlaceId}
+use Rattle.rx_base.proofs.Elements.{get-set}
 use Rattle.rx_rules.specs.declared.tasks.Where.{Where}
 use Rattle.rx_rules.specs.declared.tasks.Where.TheVariants.{At, Travel}
 use Rattle.rx_rules.specs.declared.events.PlaceEvent.{PlaceEvent}
@@ -25,7 +26,6 @@ use Rattle.rx_stores.specs.Kepts.{StoresAre}
 use Rattle.rx_machine.specs.Holds.{Seated, HoldsBut, IsPick, Acting, Landing}
 use Rattle.rx_machine.specs.Runs.{Taken}
 use Rattle.rx_machine.proofs.Acted.{seat_other}
-use Rattle.rx_machine.proofs.Finding.{get_same}
 use Rattle.rx_machine.proofs.Live.{live_stands, live_number}
 
 -- the machine m' is m, but for its seats, of which that of slot i is gone
@@ -67,7 +67,7 @@ holds-but {L = L} stands shape code U m m' i G h inside e =
         slots = ap (λ xs. length xs) e.left ∙ (length-set m.seats.items i None ∙ s.slots);
         failed = ap (λ (x : Machine L). x.failed) e.same ∙ s.failed;
       };
-      empty = ap (λ xs. seat_at xs i) e.left ∙ ap seat_in (get_same m.seats.items i None inside);
+      empty = ap (λ xs. seat_at xs i) e.left ∙ ap seat_in (get-set m.seats.items i None inside);
       others = λ n apart. subst (λ (o : Option Seat). SlotIs shape (tree_in U G) G.players n o) (sym (ap (λ xs. seat_at xs n) e.left ∙ seat_other m.seats.items i n None apart)) (h.seats n);
     }
 

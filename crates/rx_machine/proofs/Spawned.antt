@@ -19,6 +19,7 @@ use Rattle.rx_rules.specs.Entries.{MaySpawn, MayCall, born, add_task, change_tas
 use Rattle.rx_rules.specs.Plays.{Fits}
 use Rattle.rx_rules.specs.Run.{Given}
 use Rattle.rx_rules.specs.Picked.{Game, Player, Turn, tree_in}
+use Rattle.rx_rules.proofs.Append.{tree-places}
 use Rattle.rx_sound.specs.Sound.{Sound}
 use Rattle.rx_nodes.specs.Shape.{Shape}
 use Rattle.rx_control.specs.declared.control.Control.{Control}
@@ -43,7 +44,7 @@ use Rattle.rx_machine.proofs.Granting.{AfterGrant, after-grant, held-releases}
 use Rattle.rx_machine.proofs.Live.{live_stands, add-other, add-same, change-other, change-same}
 use Rattle.rx_machine.proofs.Own.{opened-same, opened-other}
 use Rattle.rx_machine.proofs.SpineGrants.{GrantsSpine, spine-grant}
-use Rattle.rx_machine.proofs.Targets.{Targets, targets-exist, tree-places}
+use Rattle.rx_machine.proofs.Targets.{Targets, targets-exist}
 
 -- What starts a task begins a statement, does not wait, and is for a place that exists.
 

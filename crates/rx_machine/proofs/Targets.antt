@@ -1,21 +1,10 @@
 -- A task is started for a place that exists.
-use Rattle.std.specs.Prelude.{◌≡◌, ℕ, suc, ◌<◌, ℤ, pos, negsuc, Bool, true, false, cond, not, ◌==◌, nat_lt, List, [], ◌∷◌, ◌++◌, filter, Option, Some, None, Ok, Err, refl}
-use Rattle.std.proofs.Common.{◌∙◌}
+use Rattle.std.specs.Prelude.{◌≡◌, ℕ, ◌<◌, ℤ, pos, negsuc, Bool, true, false, cond, ◌==◌, nat_lt, List, Option, Some, None, Ok, Err, refl}
 use Rattle.std.proofs.lemmas.Bool.{ltb-true}
-use Rattle.rx_base.specs.declared.ids.TaskId.{TaskId}
-use Rattle.rx_base.specs.declared.values.Fault.{Fault}
 use Rattle.rx_base.specs.declared.values.Fault.TheVariants.{Thrown, WrongPlace, NoPlace}
 use Rattle.rx_base.specs.declared.values.Value.TheVariants.{Num as Number}
-use Rattle.rx_rules.specs.declared.tasks.Task.{Task}
-use Rattle.rx_rules.specs.declared.entries.Act.{Act}
-use Rattle.rx_rules.specs.declared.entries.Act.TheVariants.{Open, At as CallsAt, Spawn, Arrive, Wait, Release, End, Print as Prints_so}
-use Rattle.rx_rules.specs.declared.entries.Entry.{Entry}
-use Rattle.rx_rules.specs.declared.entries.Entry.TheVariants.{Step, Root, Death}
 use Rattle.rx_rules.specs.Code.{Stmt, SetTo, New, Get, Put, Forget, Print, Throw, Async, AtAsync, At, Finish, If, Repeat, Try}
 use Rattle.rx_rules.specs.Terms.{Vars, Term, Empty, Run, Raise, Turns, Trying, Body, Held, items, at, Does, Local, Makes, Gets, Puts, Forgets, Opens, Calls, Spawns, Waits, Releases, Prints, Done, raise, bound, value_of, ref_in, eval, target_of, is_zero, with_number, with_place, stmt_does, within, does}
-use Rattle.rx_rules.specs.Tree.{Tree, task_of, is_task}
-use Rattle.rx_rules.specs.Entries.{change_scope, after_end, made_act, made}
-use Rattle.rx_rules.specs.Fold.{fold_from, tree_of, opening}
 
 -- what is started is started for a place that exists
 abbrev pub Targets : ℕ → Does → Type 0
@@ -110,32 +99,3 @@ targets-exist vars here places (Body (Held m) rest) h = inside places (λ t. Bod
 targets-exist vars here places (Held rest) h = tt
 
 -- No entry changes how many places there are.
-
-end-places : (T : Tree) (t : TaskId) (thrown : List Fault) → (after_end T t thrown).places ≡ T.places
-end-places T t thrown = of_found (task_of T t)
-  where
-    of_found : (o : Option Task) → (let V : Tree = elim o as (λ _. Tree) [ Some x ↦ change_scope (λ g. record g { ends = g.ends ++ thrown }) x.under (record T { tasks = filter (λ y. not (is_task t y)) T.tasks }) | None ↦ T ] in V.places) ≡ T.places
-    of_found (Some x) = refl
-    of_found None = refl
-
-act-places : (T : Tree) (t : TaskId) (act : Act) → (made_act T t act).places ≡ T.places
-act-places T t (Open s r path) = refl
-act-places T t (CallsAt s r callee from to path) = refl
-act-places T t (Spawn child s from to path) = refl
-act-places T t (Arrive p) = refl
-act-places T t (Wait s thrown) = refl
-act-places T t (Release s lost thrown) = refl
-act-places T t (End thrown) = end-places T t thrown
-act-places T t (Prints_so value path) = refl
-
-made-places : (n : ℕ) (T : Tree) (e : Entry) → (made n T e).places ≡ T.places
-made-places n T (Step t act batch) = act-places T t act
-made-places n T (Root lost thrown) = refl
-made-places n T (Death d) = refl
-
-fold-places : (n : ℕ) (T : Tree) (es : List Entry) → (fold_from n T es).places ≡ T.places
-fold-places n T [] = refl
-fold-places n T (e ∷ es) = fold-places (suc n) (made n T e) es ∙ made-places n T e
-
-pub tree-places : (places : ℕ) (es : List Entry) → (tree_of places es).places ≡ places
-tree-places places es = fold-places 0 (opening places) es

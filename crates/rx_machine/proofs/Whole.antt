@@ -12,6 +12,7 @@ use Rattle.rx_rules.specs.Code.{Block, work}
 use Rattle.rx_rules.specs.Tree.{Tree}
 use Rattle.rx_rules.specs.Run.{Given, NoRoot}
 use Rattle.rx_rules.specs.Picked.{Game, Turn, dies, arrives, moves, ends, root, Turns, none, more, IsPicked, start_game, tree_in, used_after}
+use Rattle.rx_rules.proofs.Append.{no_root-push}
 use Rattle.rx_runs.specs.Coming.{GamesCome}
 use Rattle.rx_history.specs.Logs.{Log}
 use Rattle.rx_history.specs.Events.{AllEvents, events_of}
@@ -24,17 +25,11 @@ use Rattle.rx_machine.specs.Runs.{WentOn, picks_in, RanFrom, Gives}
 
 -- Turns that move tasks.
 
-step_push : (es : List Entry) (e : Entry) → NoRoot es → NoRoot (e ∷ []) → NoRoot (es ++ e ∷ [])
-step_push [] e h k = k
-step_push (Step t act batch ∷ es) e h k = step_push es e h k
-step_push (Root lost thrown ∷ es) e h k = h
-step_push (Death d ∷ es) e h k = step_push es e h k
-
 -- the root stands after it
 pub stays_open : (U : Given) (k : ℕ) (G G' : Game) → Turn U k G true G' → NoRoot G.entries → NoRoot G'.entries
-stays_open U k G G' (arrives x p none_due pick may) h = step_push G.entries (Step x.number (Arrive p) []) h tt
-stays_open U k G G' (moves x here p q S Z j act none_due pick at player store goes fits may) h = step_push G.entries (Step x.number act q.batch) h tt
-stays_open U k G G' (ends x here p q S Z j f none_due pick at player store goes done may) h = step_push G.entries (Step x.number (End f) q.batch) h tt
+stays_open U k G G' (arrives x p none_due pick may) h = no_root-push G.entries (Step x.number (Arrive p) []) h tt
+stays_open U k G G' (moves x here p q S Z j act none_due pick at player store goes fits may) h = no_root-push G.entries (Step x.number act q.batch) h tt
+stays_open U k G G' (ends x here p q S Z j f none_due pick at player store goes done may) h = no_root-push G.entries (Step x.number (End f) q.batch) h tt
 
 -- The picks that turns use.
 

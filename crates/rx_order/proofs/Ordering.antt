@@ -2,12 +2,12 @@
 use Rattle.std.proofs.Common.{◌≡◌, ℕ, zero, suc, ◌+◌, ◌<◌, ◌≤◌, Bool, true, false, cond, List, [], ◌∷◌, drop, refl, ap, sym, ◌∙◌, subst, arith}
 use Rattle.std.specs.Prelude.{Option, Some, None, slice_get, ◌==◌, nat_lt}
 use Rattle.std.proofs.lemmas.Bool.Decides.{nat_tests}
+use Rattle.rx_base.proofs.Elements.{drop-next}
 use Rattle.rx_rules.specs.Code.{Stmt, Block, SetTo, New, Get, Put, Forget, Print, Throw, Async, AtAsync, At, Finish, If, Repeat, Try}
 use Rattle.rx_rules.specs.Order.{is_before, is_before_in, comes_before}
 use Rattle.rx_nodes.specs.Shape.{Shape, BlockStands}
 use Rattle.rx_order.specs.declared.parts.Part.{Part}
 use Rattle.rx_order.specs.Inside.Parts.{is_kept_along, part_in, is_ordered, IsPart}
-use Rattle.rx_order.proofs.Positions.{drop-next}
 
 -- the statements at the positions that the paths tell
 pub before-at : (b : Block) (x y : List ℕ) (at i j : ℕ) → slice_get x at ≡ Some i → slice_get y at ≡ Some j → comes_before b (drop at x) (drop at y) ≡ is_before_in b i (drop (at + 1) x) j (drop (at + 1) y)

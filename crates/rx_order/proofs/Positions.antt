@@ -1,7 +1,7 @@
 -- Positions in lists and in blocks.
-use Rattle.std.proofs.Common.{◌≡◌, ℕ, zero, suc, ◌+◌, ◌<◌, ◌≤◌, false, List, [], ◌∷◌, length, drop, refl, ap, sym, ◌∙◌, subst, arith}
+use Rattle.std.proofs.Common.{◌≡◌, ℕ, zero, suc, ◌<◌, ◌≤◌, false, List, [], ◌∷◌, length, refl, ap, sym, ◌∙◌, subst, arith}
 use Rattle.std.specs.Prelude.{Option, Some, None, IfSome, slice_get}
-use Rattle.std.proofs.lemmas.Option.{slice_get_within}
+use Rattle.std.proofs.lemmas.Option.{slice_get_within, same_Some}
 use Rattle.rx_rules.specs.Code.{Stmt, Block, Nothing, Then}
 use Rattle.rx_rules.specs.Order.{is_kept, is_kept_in, is_before, is_before_in}
 use Rattle.rx_nodes.specs.Shape.{Shape, StmtIs, ListStands, BlockStands}
@@ -9,20 +9,6 @@ use Rattle.rx_nodes.specs.declared.nodes.StmtId.{StmtId}
 use Rattle.rx_nodes.specs.declared.nodes.BlockId.{BlockId}
 use Rattle.rx_nodes.specs.declared.nodes.Stmt.{Stmt as Node}
 use Rattle.rx_order.specs.Inside.Parts.{item_of}
-
-some-is : {A : Type 0} (x y : A) → Some x ≡ Some y → x ≡ y
-some-is x y e = cc
-
-drop-suc : {A : Type 0} (xs : List A) (i : ℕ) (x : A) → slice_get xs i ≡ Some x → drop i xs ≡ x ∷ drop (suc i) xs
-drop-suc [] i x e = cc
-drop-suc (y ∷ xs) zero x e = ap (λ z. z ∷ xs) (some-is y x e)
-drop-suc (y ∷ xs) (suc i) x e = drop-suc xs i x e
-
-pub drop-next : {A : Type 0} (xs : List A) (i : ℕ) (x : A) → slice_get xs i ≡ Some x → drop i xs ≡ x ∷ drop (i + 1) xs
-drop-next xs i x e = drop-suc xs i x e ∙ ap (λ n. x ∷ drop n xs) (one-more i)
-  where
-    one-more : (i : ℕ) → suc i ≡ i + 1
-    one-more i = omega arith
 
 -- the statement at a position of a block
 pub record Held (s : Shape) (b : Block) (i : ℕ) (id : StmtId) : Type 0 where
@@ -37,7 +23,7 @@ held s [] b i id h e = cc
 held s (j ∷ ids) Nothing i id h e = absurd h
 held s (j ∷ ids) (Then t ts) zero id h e =
     let P : StmtId → Type 0 = λ j. (node : Node) × (slice_get s.stmts j.0 ≡ Some node) × StmtIs s node t in
-    let k = subst P (some-is j id e) h.0 in
+    let k = subst P (same_Some j id e) h.0 in
     record { node = k.0; there = k.1; stmt = t; is = k.2; at = refl }
 held s (j ∷ ids) (Then t ts) (suc i) id h e =
     let k = held s ids ts i id h.1 e in
@@ -54,7 +40,7 @@ held-within s b i id h = slice_get_within s.stmts id.0 h.node h.there
 pub held-is : (s : Shape) (b : Block) (i : ℕ) (id : StmtId) (node : Node) → slice_get s.stmts id.0 ≡ Some node → Held s b i id → (t : Stmt) × StmtIs s node t × (item_of b i ≡ Some t)
 held-is s b i id node e h =
     let P : Node → Type 0 = λ n. StmtIs s n h.stmt in
-    (h.stmt, subst P (some-is h.node node (sym h.there ∙ e)) h.is, h.at)
+    (h.stmt, subst P (same_Some h.node node (sym h.there ∙ e)) h.is, h.at)
 
 past : (s : Shape) (ids : List StmtId) (b : Block) (i : ℕ) → ListStands s ids b → length ids ≤ i → item_of b i ≡ None
 past s [] Nothing i h e = refl
@@ -77,7 +63,7 @@ kept-none (Then t ts) (suc i) x e = kept-none ts i x e
 
 pub kept-some : (b : Block) (i : ℕ) (x : List ℕ) (t : Stmt) → item_of b i ≡ Some t → is_kept_in b i x ≡ is_kept t x
 kept-some Nothing i x t e = cc
-kept-some (Then u us) zero x t e = ap (λ v. is_kept v x) (some-is u t e)
+kept-some (Then u us) zero x t e = ap (λ v. is_kept v x) (same_Some u t e)
 kept-some (Then u us) (suc i) x t e = kept-some us i x t e
 
 pub before-none : (b : Block) (i : ℕ) (x y : List ℕ) → item_of b i ≡ None → is_before_in b i x i y ≡ false
@@ -87,7 +73,7 @@ before-none (Then t ts) (suc i) x y e = before-none ts i x y e
 
 pub before-some : (b : Block) (i : ℕ) (x y : List ℕ) (t : Stmt) → item_of b i ≡ Some t → is_before_in b i x i y ≡ is_before t x y
 before-some Nothing i x y t e = cc
-before-some (Then u us) zero x y t e = ap (λ v. is_before v x y) (some-is u t e)
+before-some (Then u us) zero x y t e = ap (λ v. is_before v x y) (same_Some u t e)
 before-some (Then u us) (suc i) x y t e = before-some us i x y t e
 
 pub before-less : (b : Block) (i : ℕ) (x : List ℕ) (j : ℕ) (y : List ℕ) → i < j → is_before_in b i x j y ≡ is_kept_in b i x

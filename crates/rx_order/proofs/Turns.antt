@@ -1,6 +1,7 @@
 -- The part of a statement into which a path goes.
 use Rattle.std.proofs.Common.{◌≡◌, ℕ, zero, suc, ◌+◌, ◌<◌, ◌≤◌, List, [], ◌∷◌, length, drop, refl, ap, sym, subst, arith, length-drop}
 use Rattle.std.specs.Prelude.{Bool, Option, Some, None, slice_get}
+use Rattle.rx_base.proofs.Elements.{drop-next}
 use Rattle.rx_rules.specs.Code.{Stmt, Block, If, Repeat, Try}
 use Rattle.rx_nodes.specs.Shape.{Shape, StmtIs, BlockStands}
 use Rattle.rx_nodes.specs.declared.nodes.ExprId.{ExprId}
@@ -8,7 +9,6 @@ use Rattle.rx_nodes.specs.declared.nodes.BlockId.{BlockId}
 use Rattle.rx_nodes.specs.declared.nodes.Stmt.TheVariants.{If as IfNode, Repeat as RepeatNode, Try as TryNode}
 use Rattle.rx_order.specs.declared.parts.Part.{Part}
 use Rattle.rx_order.specs.Inside.Parts.{turn_in, one_in, part_in, numbers_of, IsPart}
-use Rattle.rx_order.proofs.Positions.{drop-next}
 
 -- a turn
 pub turn-there : (s : Shape) (block : BlockId) (body : Block) (path : List ℕ) (at k : ℕ) → BlockStands s block body → slice_get path at ≡ Some k → at + 1 < length path → IsPart s path (at + 1) (Some (record { number = k; block = block; at = at + 1 })) (turn_in body (drop at path))

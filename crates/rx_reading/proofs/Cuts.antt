@@ -3,7 +3,9 @@ use Rattle.std.proofs.Common.{◌≡◌, ℕ, Bool, true, false, cond, ◌&&◌,
 use Rattle.std.specs.Prelude.{◌≢◌, Some, None}
 use Rattle.std.specs.List.{AllByRecursion, flat_map}
 use Rattle.std.specs.Str.{bytes_eq}
-use Rattle.std.proofs.lemmas.Bool.{eqb-true, eq-eqb}
+use Rattle.std.proofs.lemmas.Bool.{eqb-true, ne_eqb}
+use Rattle.std.proofs.lemmas.Option.{same_Some}
+use Rattle.rx_base.proofs.Numbers.{eq-refl}
 use Rattle.rx_reading.specs.Words.{Lacks, grown, pieces, stripped}
 
 -- a byte of a word
@@ -21,20 +23,6 @@ pub all-map : {A : Type 0} (P Q : A → Type 0) → ((a : A) → P a → Q a) �
 all-map P Q f [] a = tt
 all-map P Q f (x ∷ xs) a = (f x a.0, all-map P Q f xs a.1)
 
-pub same-byte : (b : ℕ) → (b == b) ≡ true
-same-byte b = eq-eqb b b refl
-
-pub other-byte : (b c : ℕ) → b ≢ c → (b == c) ≡ false
-other-byte b c other = by (b == c) refl
-  where
-    by : (t : Bool) → (b == c) ≡ t → (b == c) ≡ false
-    by true e = absurd (other (eqb-true b c e))
-    by false e = e
-
-pub same-bytes : (xs : List ℕ) → bytes_eq xs xs ≡ true
-same-bytes [] = refl
-same-bytes (x ∷ xs) = rw (same-byte x) (same-bytes xs)
-
 byte-same : (x y : ℕ) (xs ys : List ℕ) (t : Bool) → (x == y) ≡ t → (t && bytes_eq xs ys) ≡ true → (bytes_eq xs ys ≡ true → xs ≡ ys) → x ∷ xs ≡ y ∷ ys
 byte-same x y xs ys true h e more = ap (λ b. b ∷ xs) (eqb-true x y h) ∙ ap (λ bs. y ∷ bs) (more e)
 byte-same x y xs ys false h e more = cc
@@ -47,12 +35,12 @@ bytes-same (x ∷ xs) (y ∷ ys) e = byte-same x y xs ys (x == y) refl e (bytes-
 
 -- a piece, and the pieces after the byte
 pub pieces-cut : (c : ℕ) (w rest : List ℕ) → Lacks c w → pieces c (w ++ c ∷ rest) ≡ w ∷ pieces c rest
-pieces-cut c [] rest l = rw (same-byte c) refl
-pieces-cut c (b ∷ w) rest l = rw (other-byte b c l.0) (ap (grown b) (pieces-cut c w rest l.1))
+pieces-cut c [] rest l = rw (eq-refl c) refl
+pieces-cut c (b ∷ w) rest l = rw (ne_eqb b c l.0) (ap (grown b) (pieces-cut c w rest l.1))
 
 pub pieces-one : (c : ℕ) (w : List ℕ) → Lacks c w → pieces c w ≡ w ∷ []
 pieces-one c [] l = refl
-pieces-one c (b ∷ w) l = rw (other-byte b c l.0) (ap (grown b) (pieces-one c w l.1))
+pieces-one c (b ∷ w) l = rw (ne_eqb b c l.0) (ap (grown b) (pieces-one c w l.1))
 
 -- pieces, each after the byte
 abbrev pub marked : ℕ → List (List ℕ) → List ℕ
@@ -93,14 +81,11 @@ byte-stripped : (p b : ℕ) (ps bs rest : List ℕ) (t : Bool) → (b == p) ≡ 
 byte-stripped p b ps bs rest true h e more = ap (λ a. a ∷ bs) (eqb-true b p h) ∙ ap (λ r. p ∷ r) (more e)
 byte-stripped p b ps bs rest false h e more = cc
 
-one-is : (x y : List ℕ) → Some x ≡ Some y → x ≡ y
-one-is x y e = cc
-
 pub stripped-is : (ps bytes rest : List ℕ) → stripped ps bytes ≡ Some rest → bytes ≡ ps ++ rest
-stripped-is [] bytes rest e = one-is bytes rest e
+stripped-is [] bytes rest e = same_Some bytes rest e
 stripped-is (p ∷ ps) [] rest e = cc
 stripped-is (p ∷ ps) (b ∷ bs) rest e = byte-stripped p b ps bs rest (b == p) refl e (stripped-is ps bs rest)
 
 pub stripped-again : (ps rest : List ℕ) → stripped ps (ps ++ rest) ≡ Some rest
 stripped-again [] rest = refl
-stripped-again (p ∷ ps) rest = rw (same-byte p) (stripped-again ps rest)
+stripped-again (p ∷ ps) rest = rw (eq-refl p) (stripped-again ps rest)

@@ -2,7 +2,8 @@
 use Rattle.std.proofs.Common.{◌≡◌, ℕ, ◌+◌, ◌≤◌, Bool, true, false, ◌&&◌, not, ◌==◌, List, [], ◌∷◌, ◌++◌, length, drop, suc, refl, ap, sym, ◌∙◌, subst, arith, length-append}
 use Rattle.std.specs.Prelude.{Option, Some, None, option_map, slice_get, ℤ, FitsSigned}
 use Rattle.std.specs.Int.{w64}
-use Rattle.std.proofs.lemmas.Bool.{eqb-true}
+use Rattle.std.proofs.lemmas.Bool.{eqb-true, and_parts}
+use Rattle.std.proofs.lemmas.Option.{same_Some, none-some}
 use Rattle.rx_base.specs.declared.ids.Kill.{Kill}
 use Rattle.rx_text.proofs.Lists.{left-more}
 use Rattle.rx_history.specs.Events.{AllEvents, events_of}
@@ -20,8 +21,7 @@ use Rattle.rx_reading.specs.declared.stage.Stage.{Stage}
 use Rattle.rx_reading.specs.declared.stage.Stage.TheVariants as stages
 use Rattle.rx_reading.proofs.Figures.{number-takes}
 use Rattle.rx_reading.proofs.Places.{HasRead, IsOpen, ended-more, read-more, read-all, bad-here, bad-end}
-use Rattle.rx_reading.proofs.Plans.{after-is, and-parts}
-use Rattle.rx_reading.proofs.Spelt.{some-is, not-none}
+use Rattle.rx_reading.proofs.Plans.{after-is}
 use Rattle.rx_reading.proofs.States.{ended}
 
 abbrev with : List (List ℕ) → ℤ → ℤ × List (List ℕ)
@@ -29,12 +29,12 @@ with ws z = (z, ws)
 
 -- a number that was read is one of 64 bits
 pub number-fits : (words new : List (List ℕ)) (z : ℤ) → number_at words ≡ Some (z, new) → FitsSigned w64 z
-number-fits [] new z e = absurd (not-none (z, new) e)
+number-fits [] new z e = absurd (none-some (z, new) e)
 number-fits (w ∷ ws) new z e = by (number_of w) refl e
   where
     by : (o : Option ℤ) → number_of w ≡ o → option_map (with ws) o ≡ Some (z, new) → FitsSigned w64 z
-    by None is f = absurd (not-none (z, new) f)
-    by (Some y) is f = (number-takes w z (is ∙ ap (λ p. Some p.0) (some-is (y, ws) (z, new) f))).1
+    by None is f = absurd (none-some (z, new) f)
+    by (Some y) is f = (number-takes w z (is ∙ ap (λ p. Some p.0) (same_Some (y, ws) (z, new) f))).1
 
 abbrev comes : Kill → Kill → Bool
 comes k kill = is_before k kill && not (k.place.0 == kill.place.0)
@@ -52,8 +52,8 @@ follow-none ks i k kill here no_one left = sym (follow-here ks i k kill here ∙
 -- a kill that follows those of a list comes after the last
 pub comes-last : (ks : List Kill) (kill : Kill) → may_follow ks kill ≡ true → ComesLast ks kill
 comes-last [] kill e = tt
-comes-last (k ∷ []) kill e = after-is k kill (and-parts (is_before k kill) (not (k.place.0 == kill.place.0)) (and-parts (comes k kill) true e).0).0
-comes-last (k ∷ j ∷ ks) kill e = comes-last (j ∷ ks) kill (and-parts (comes k kill) (may_follow (j ∷ ks) kill) e).1
+comes-last (k ∷ []) kill e = after-is k kill (and_parts (is_before k kill) (not (k.place.0 == kill.place.0)) (and_parts (comes k kill) true e).0).0
+comes-last (k ∷ j ∷ ks) kill e = comes-last (j ∷ ks) kill (and_parts (comes k kill) (may_follow (j ∷ ks) kill) e).1
 
 -- the lines before the line of this number have been read
 abbrev pub At : List ℕ → ℕ → State → List ℕ → Type 0

@@ -8,6 +8,7 @@ use Rattle.rx_base.specs.declared.ids.TaskId.{TaskId}
 use Rattle.rx_base.specs.declared.ids.ScopeId.{ScopeId}
 use Rattle.rx_base.specs.declared.place_set.PlaceSet.{PlaceSet}
 use Rattle.rx_base.specs.declared.values.Fault.{Fault}
+use Rattle.rx_base.proofs.Elements.{flat4}
 use Rattle.rx_rules.specs.declared.entries.Act.{Act}
 use Rattle.rx_rules.specs.declared.entries.Act.TheVariants.{Open, At, Spawn, Arrive, Wait, Release, End, Print}
 use Rattle.rx_rules.specs.declared.entries.Entry.{Entry}
@@ -70,9 +71,6 @@ IsAct places key act t = (t ≡ act_fields act) × (FitsAct places act × (32 �
 
 flat2 : (a b : List ℕ) → a ++ (b ++ []) ≡ a ++ b
 flat2 a b = simp append-nil
-
-flat4 : (a b c d : List ℕ) → a ++ (b ++ (c ++ (d ++ []))) ≡ ((a ++ b) ++ c) ++ d
-flat4 a b c d = simp (append_assoc, append-nil)
 
 flat-at : (s i r t f o p : List ℕ) → s ++ (i ++ (r ++ (t ++ (f ++ (o ++ (p ++ [])))))) ≡ ((((s ++ i) ++ r) ++ t) ++ (f ++ o)) ++ p
 flat-at s i r t f o p = simp (append_assoc, append-nil)

@@ -3,8 +3,11 @@ use Rattle.std.proofs.Common.{◌≡◌, ℕ, ◌<◌, ◌^◌, true, false, con
 use Rattle.std.specs.Prelude.{◌≢◌, Option, Some, None, option_map, codes, ℤ, FitsSigned}
 use Rattle.std.specs.Int.{w64}
 use Rattle.std.specs.Char.{is_ascii_digit}
+use Rattle.std.proofs.lemmas.Bool.{ne_eqb}
+use Rattle.std.proofs.lemmas.Option.{none-some}
 use Rattle.rx_base.specs.declared.ids.TaskId.{TaskId}
 use Rattle.rx_base.specs.declared.ids.GlobalRef.{GlobalRef}
+use Rattle.rx_base.proofs.Elements.{flat4}
 use Rattle.rx_rules.specs.declared.events.Cell.{Cell}
 use Rattle.rx_rules.specs.declared.events.Cell.TheVariants.{Make, MakeFull, Get, Put, Forget, GetRefused, PutRefused, ForgetStale}
 use Rattle.rx_rules.specs.declared.events.PlaceEvent.{PlaceEvent}
@@ -18,12 +21,12 @@ use Rattle.rx_reading.specs.Words.{fields}
 use Rattle.rx_reading.specs.Inside.Readers.{Reader, after, done, keyed}
 use Rattle.rx_reading.specs.Inside.FieldWords.{next, natural_of, task_of, natural_at, number_at, path_at, block_at}
 use Rattle.rx_reading.specs.Inside.EventWords.{made_at, make_at, got_at, get_at, written_at, put_at, forgotten_at, forget_at, cell_at, done_at, close_at, event_of, event_at}
-use Rattle.rx_reading.proofs.Cuts.{Plain, other-byte}
+use Rattle.rx_reading.proofs.Cuts.{Plain}
 use Rattle.rx_reading.proofs.Faults.{plain-word-is}
 use Rattle.rx_reading.proofs.Fields.{natural-item, natural-takes, task-item, task-takes, one-word, word-again}
 use Rattle.rx_reading.proofs.Figures.{natural-plain, below-again}
 use Rattle.rx_reading.proofs.Entries.{Told, path-one, value-one, path-again, value-again}
-use Rattle.rx_reading.proofs.Spelt.{not-none, Read, Takes, takes-done, takes-followed, takes-keyed, takes-either, Again, Any, again-as, again-done, again-keyed, again-kind, again-field}
+use Rattle.rx_reading.proofs.Spelt.{Read, Takes, takes-done, takes-followed, takes-keyed, takes-either, Again, Any, again-as, again-done, again-keyed, again-kind, again-field}
 
 abbrev IsValue : ℤ → Type 0
 IsValue v = FitsSigned w64 v
@@ -53,9 +56,6 @@ flat-full m w f = simp (append_assoc, append-nil)
 flat-get : (g b i s v : List ℕ) → g ++ (b ++ (i ++ (s ++ (v ++ [])))) ≡ ((g ++ b) ++ i) ++ (s ++ v)
 flat-get g b i s v = simp (append_assoc, append-nil)
 
-flat-got : (g b i c : List ℕ) → g ++ (b ++ (i ++ (c ++ []))) ≡ ((g ++ b) ++ i) ++ c
-flat-got g b i c = simp (append_assoc, append-nil)
-
 flat-put : (p b i v c : List ℕ) → p ++ (b ++ (i ++ (v ++ (c ++ [])))) ≡ (((p ++ b) ++ i) ++ v) ++ c
 flat-put p b i v c = simp (append_assoc, append-nil)
 
@@ -77,9 +77,9 @@ get-takes home =
     takes-followed number_at _ number_field IsValue _ value-one (λ value c.
     takes-done (Get target index value) _ (flat-get (codes " get") (block_field target) (number_field index) (codes " is") (number_field value), (a, b, c)))) (
     takes-either (codes "stale") _ _ _ (
-    takes-done (GetRefused target index true) _ (flat-got (codes " get") (block_field target) (number_field index) (codes " stale"), (a, b))) (
+    takes-done (GetRefused target index true) _ (flat4 (codes " get") (block_field target) (number_field index) (codes " stale"), (a, b))) (
     takes-keyed (codes "index") _ _ (
-    takes-done (GetRefused target index false) _ (flat-got (codes " get") (block_field target) (number_field index) (codes " index"), (a, b)))))))
+    takes-done (GetRefused target index false) _ (flat4 (codes " get") (block_field target) (number_field index) (codes " index"), (a, b)))))))
 
 put-takes : (home : ℕ) → Takes (put_at home) (λ cell t. IsCell home cell (codes " put" ++ t))
 put-takes home =
@@ -146,7 +146,7 @@ event-takes home = record { takes = t }
         }
 
     t : (ws : List (List ℕ)) (e : PlaceEvent) (rest : List (List ℕ)) → event_at home ws ≡ Some (e, rest) → Read (IsEvent home) ws e rest
-    t [] e rest h = absurd (not-none (e, rest) h)
+    t [] e rest h = absurd (none-some (e, rest) h)
     t (w ∷ ws) e rest h = by w ws e rest (task_of w) refl h
 
 natural-once : (n : ℕ) → IsShort n → Again natural_at n (natural_field n) Any
@@ -213,11 +213,11 @@ cell-again home (Get target index value) fits =
     again-done (Get target index value) Any)))
 cell-again home (GetRefused target index true) fits =
     got-again home target index (GetRefused target index true) _ fits.0 fits.1
-    (flat-got (codes " get") (block_field target) (number_field index) (codes " stale"))
+    (flat4 (codes " get") (block_field target) (number_field index) (codes " stale"))
     (answered (got_at target index) (codes "stale") (GetRefused target index true) (plain-word-is (codes "stale") refl) (λ ws. refl))
 cell-again home (GetRefused target index false) fits =
     got-again home target index (GetRefused target index false) _ fits.0 fits.1
-    (flat-got (codes " get") (block_field target) (number_field index) (codes " index"))
+    (flat4 (codes " get") (block_field target) (number_field index) (codes " index"))
     (answered (got_at target index) (codes "index") (GetRefused target index false) (plain-word-is (codes "index") refl) (λ ws. refl))
 cell-again home (Put target index value) fits =
     written-again home target index value (Put target index value) _ fits.0 fits.1 fits.2
@@ -246,7 +246,7 @@ task_numbered n = record { 0 = n }
 -- a number is no task
 no-task : (w : List ℕ) → is_ascii_digit (slice_index (w ++ []) 0) ≡ true → task_of w ≡ None
 no-task [] e = refl
-no-task (b ∷ bs) e = ap (λ t. option_map task_numbered (next (cond t (Some bs) None) natural_of)) (other-byte b 116 apart)
+no-task (b ∷ bs) e = ap (λ t. option_map task_numbered (next (cond t (Some bs) None) natural_of)) (ne_eqb b 116 apart)
   where
     apart : b ≢ 116
     apart h = let t : true ≡ false = sym e ∙ ap is_ascii_digit h in cc

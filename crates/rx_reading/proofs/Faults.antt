@@ -2,6 +2,8 @@
 use Rattle.std.proofs.Common.{◌≡◌, ℕ, ◌<◌, ◌≤◌, Bool, true, false, cond, ◌==◌, List, [], ◌∷◌, ◌++◌, refl, ap, ◌∙◌, subst, arith}
 use Rattle.std.specs.Prelude.{Option, Some, None, option_map, codes, ℤ}
 use Rattle.std.specs.Str.{bytes_eq}
+use Rattle.std.proofs.lemmas.Bool.{eqb-false}
+use Rattle.std.proofs.lemmas.Option.{same_Some, none-some}
 use Rattle.rx_base.specs.declared.ids.PlaceId.{PlaceId}
 use Rattle.rx_base.specs.declared.values.Fault.{Fault}
 use Rattle.rx_base.specs.declared.values.Fault.TheVariants.{Dead, Thrown, Overflow, NoPlace, WrongPlace, Stale, Index, HeapFull}
@@ -12,8 +14,8 @@ use Rattle.rx_reading.specs.Words.{stripped}
 use Rattle.rx_reading.specs.Inside.FieldWords.{next, or_else, place_of, number_of, plain_fault, dead_of, thrown_of, fault_of}
 use Rattle.rx_reading.proofs.Cuts.{IsPlain, Plain, all-append, stripped-is, stripped-again, bytes-same}
 use Rattle.rx_reading.proofs.Figures.{number-takes, number-again, number-plain, natural-plain}
-use Rattle.rx_reading.proofs.Fields.{next-is, map-is, place-again, place-takes, differs}
-use Rattle.rx_reading.proofs.Spelt.{some-is, not-none, Item}
+use Rattle.rx_reading.proofs.Fields.{next-is, map-is, place-again, place-takes}
+use Rattle.rx_reading.proofs.Spelt.{Item}
 
 abbrev IsFault : ℕ → List ℕ → Fault → Type 0
 IsFault places w fault = (32 ∷ w ≡ fault_field fault) × FitsFault places fault
@@ -23,7 +25,7 @@ plain-word : (places : ℕ) (w key : List ℕ) (f g : Fault) (other : Option Fau
 plain-word places w key f g other known more e = by (bytes_eq w key) refl e
   where
     by : (b : Bool) → bytes_eq w key ≡ b → cond b (Some f) other ≡ Some g → IsFault places w g
-    by true same is = subst (λ (x : Fault). IsFault places w x) (some-is f g is) (ap (λ v. 32 ∷ v) (bytes-same w key same) ∙ known.0, known.1)
+    by true same is = subst (λ (x : Fault). IsFault places w x) (same_Some f g is) (ap (λ v. 32 ∷ v) (bytes-same w key same) ∙ known.0, known.1)
     by false same is = more is
 
 plain-takes : (places : ℕ) (w : List ℕ) (g : Fault) → plain_fault w ≡ Some g → IsFault places w g
@@ -33,7 +35,7 @@ plain-takes places w g e =
     plain-word places w (codes "wrongplace") WrongPlace g _ (refl, tt) (λ e3.
     plain-word places w (codes "stale") Stale g _ (refl, tt) (λ e4.
     plain-word places w (codes "index") Index g _ (refl, tt) (λ e5.
-    plain-word places w (codes "heapfull") HeapFull g None (refl, tt) (λ e6. absurd (not-none g e6)) e5) e4) e3) e2) e1) e
+    plain-word places w (codes "heapfull") HeapFull g None (refl, tt) (λ e6. absurd (none-some g e6)) e5) e4) e3) e2) e1) e
 
 abbrev dead_at : PlaceId → Fault
 dead_at p = Dead p
@@ -72,7 +74,7 @@ fault-takes places w g e = first (dead_of places w) refl e
 
 -- the word is plain by its bytes
 pub plain-bytes : (b : ℕ) (w : List ℕ) → (b == 32) ≡ false → (b == 10) ≡ false → Plain w → Plain (b ∷ w)
-plain-bytes b w blank line rest = ((differs b 32 blank, differs b 10 line), rest)
+plain-bytes b w blank line rest = ((eqb-false b 32 blank, eqb-false b 10 line), rest)
 
 abbrev pub is_plain : List ℕ → Bool
 is_plain [] = true
@@ -81,7 +83,7 @@ is_plain (b ∷ bs) = cond (b == 32) false (cond (b == 10) false (is_plain bs))
 plain-more : (b : ℕ) (bs : List ℕ) (s t : Bool) → (b == 32) ≡ s → (b == 10) ≡ t → cond s false (cond t false (is_plain bs)) ≡ true → (is_plain bs ≡ true → Plain bs) → Plain (b ∷ bs)
 plain-more b bs true t es et e more = cc
 plain-more b bs false true es et e more = cc
-plain-more b bs false false es et e more = ((differs b 32 es, differs b 10 et), more e)
+plain-more b bs false false es et e more = ((eqb-false b 32 es, eqb-false b 10 et), more e)
 
 -- no byte of the word is a blank or a newline
 pub plain-word-is : (w : List ℕ) → is_plain w ≡ true → Plain w

@@ -1,10 +1,11 @@
 -- The fields of a line, each of one word.
-use Rattle.std.proofs.Common.{◌≡◌, ℕ, ◌<◌, ◌≤◌, ◌^◌, Bool, true, false, cond, ◌==◌, nat_le, List, [], ◌∷◌, ◌++◌, length, refl, ap, sym, ◌∙◌, subst, arith, append-nil, append_assoc}
+use Rattle.std.proofs.Common.{◌≡◌, ℕ, ◌<◌, ◌≤◌, ◌^◌, Bool, true, false, cond, nat_le, List, [], ◌∷◌, ◌++◌, length, refl, ap, sym, ◌∙◌, subst, arith, append-nil, append_assoc}
 use Rattle.std.specs.Prelude.{◌≢◌, Option, Some, None, option_map, codes, ℤ, FitsSigned}
 use Rattle.std.specs.Int.{w64}
 use Rattle.std.specs.List.{AllByRecursion, flat_map}
-use Rattle.std.proofs.lemmas.Bool.{eq-eqb}
+use Rattle.std.proofs.lemmas.Bool.{eqb-false, le-leb}
 use Rattle.std.proofs.lemmas.Bool.Decides.{nat_tests}
+use Rattle.std.proofs.lemmas.Option.{same_Some, none-some}
 use Rattle.rx_base.specs.declared.ids.PlaceId.{PlaceId}
 use Rattle.rx_base.specs.declared.ids.TaskId.{TaskId}
 use Rattle.rx_base.specs.declared.ids.ScopeId.{ScopeId}
@@ -20,7 +21,7 @@ use Rattle.rx_kills.proofs.Spelling.{spelling}
 use Rattle.rx_reading.specs.Inside.FieldWords.{next, number_below, number_of, natural_of, place_of, task_of, scope_of, naturals_of, path_of, kill_of}
 use Rattle.rx_reading.proofs.Cuts.{IsPlain, Plain, Together, marked, all-append, all-map, pieces-cut, pieces-one, pieces-marked, pieces-together, stripped-is, stripped-again}
 use Rattle.rx_reading.proofs.Figures.{IsFigure, below-takes, below-again, number-takes, number-again, number-plain, natural-plain, natural-figures}
-use Rattle.rx_reading.proofs.Spelt.{some-is, not-none, Takes, takes-word, Again, Any, again-word, again-as, Item}
+use Rattle.rx_reading.proofs.Spelt.{Takes, takes-word, Again, Any, again-word, again-as, Item}
 
 -- an answer of two steps
 pub record Next {A B : Type 0} (o : Option A) (f : A → Option B) (b : B) : Type 0 where
@@ -29,7 +30,7 @@ pub record Next {A B : Type 0} (o : Option A) (f : A → Option B) (b : B) : Typ
   pub then_was : f first ≡ Some b
 
 pub next-is : {A B : Type 0} (o : Option A) (f : A → Option B) (b : B) → next o f ≡ Some b → Next o f b
-next-is None f b e = absurd (not-none b e)
+next-is None f b e = absurd (none-some b e)
 next-is (Some a) f b e = record { first = a; was = refl; then_was = e }
 
 pub record Mapped {A B : Type 0} (f : A → B) (o : Option A) (b : B) : Type 0 where
@@ -38,8 +39,8 @@ pub record Mapped {A B : Type 0} (f : A → B) (o : Option A) (b : B) : Type 0 w
   pub is : f value ≡ b
 
 pub map-is : {A B : Type 0} (f : A → B) (o : Option A) (b : B) → option_map f o ≡ Some b → Mapped f o b
-map-is f None b e = absurd (not-none b e)
-map-is f (Some a) b e = record { value = a; was = refl; is = some-is (f a) b e }
+map-is f None b e = absurd (none-some b e)
+map-is f (Some a) b e = record { value = a; was = refl; is = same_Some (f a) b e }
 
 -- a number
 pub natural-item : (n : ℕ) → IsShort n → Item natural_of natural_field n
@@ -80,9 +81,6 @@ lettered key w n e =
 letter-again : (key : List ℕ) (n : ℕ) → IsShort n → next (stripped key (key ++ natural_text n)) natural_of ≡ Some n
 letter-again key n short = ap (λ o. next o natural_of) (stripped-again key (natural_text n)) ∙ below-again (2 ^ 32) n short (omega arith)
 
-pub differs : (b c : ℕ) → (b == c) ≡ false → b ≢ c
-differs b c no_eq h = let t : (b == c) ≡ true = eq-eqb b c h in cc
-
 abbrev task_numbered : ℕ → TaskId
 task_numbered n = record { 0 = n }
 
@@ -90,7 +88,7 @@ pub task-item : (t : TaskId) → IsShort t.0 → Item task_of task_field t
 task-item t short = record {
   text = codes "t" ++ natural_text t.0;
   spelled = refl;
-  plain = ((differs 116 32 refl, differs 116 10 refl), natural-plain t.0 (omega arith));
+  plain = ((eqb-false 116 32 refl, eqb-false 116 10 refl), natural-plain t.0 (omega arith));
   reads = ap (option_map task_numbered) (letter-again (codes "t") t.0 short);
 }
 
@@ -107,7 +105,7 @@ pub scope-item : (s : ScopeId) → IsShort s.0 → Item scope_of scope_field s
 scope-item s short = record {
   text = codes "s" ++ natural_text s.0;
   spelled = refl;
-  plain = ((differs 115 32 refl, differs 115 10 refl), natural-plain s.0 (omega arith));
+  plain = ((eqb-false 115 32 refl, eqb-false 115 10 refl), natural-plain s.0 (omega arith));
   reads = ap (option_map scope_numbered) (letter-again (codes "s") s.0 short);
 }
 
@@ -122,7 +120,7 @@ abbrev consed : ℕ → List ℕ → List ℕ
 consed n ns = n ∷ ns
 
 naturals-take : (ws : List (List ℕ)) (ns : List ℕ) → naturals_of ws ≡ Some ns → (marked 46 ws ≡ flat_map dotted ns) × AllByRecursion IsShort ns
-naturals-take [] ns e = subst (λ (ms : List ℕ). ([] ≡ flat_map dotted ms) × AllByRecursion IsShort ms) (some-is [] ns e) (refl, tt)
+naturals-take [] ns e = subst (λ (ms : List ℕ). ([] ≡ flat_map dotted ms) × AllByRecursion IsShort ms) (same_Some [] ns e) (refl, tt)
 naturals-take (w ∷ ws) ns e =
     let two = next-is (natural_of w) (λ n. option_map (consed n) (naturals_of ws)) ns e in
     let m = map-is (consed two.first) (naturals_of ws) ns two.then_was in
@@ -157,8 +155,8 @@ path-takes w p e =
     by : (ns : List ℕ) → (w ≡ path_text ns) × (1 ≤ length ns) × AllByRecursion IsShort ns → (b : Bool) → nat_le (length ns) 65 ≡ b → cond b (Some ns) None ≡ Some p → (32 ∷ w ≡ path_field p) × FitsPath p
     by ns is true low f =
         let few : length ns ≤ 65 = grind (arith, nat_tests) in
-        subst (λ (ms : List ℕ). (32 ∷ w ≡ path_field ms) × FitsPath ms) (some-is ns p f) (ap (λ t. 32 ∷ t) is.0, (is.1, few, is.2))
-    by ns is false low f = absurd (not-none p f)
+        subst (λ (ms : List ℕ). (32 ∷ w ≡ path_field ms) × FitsPath ms) (same_Some ns p f) (ap (λ t. 32 ∷ t) is.0, (is.1, few, is.2))
+    by ns is false low f = absurd (none-some p f)
 
 abbrev texts : List ℕ → List (List ℕ)
 texts [] = []
@@ -180,10 +178,7 @@ texts-read (n ∷ ns) all =
 
 tail-plain : (ns : List ℕ) → AllByRecursion IsShort ns → Plain (flat_map dotted ns)
 tail-plain [] all = tt
-tail-plain (n ∷ ns) all = let low : n < 2 ^ 32 = all.0 in ((differs 46 32 refl, differs 46 10 refl), all-append IsPlain (natural_text n) (flat_map dotted ns) (natural-plain n (omega arith)) (tail-plain ns all.1))
-
-le-true : (a b : ℕ) → a ≤ b → nat_le a b ≡ true
-le-true a b h = grind (arith, nat_tests)
+tail-plain (n ∷ ns) all = let low : n < 2 ^ 32 = all.0 in ((eqb-false 46 32 refl, eqb-false 46 10 refl), all-append IsPlain (natural_text n) (flat_map dotted ns) (natural-plain n (omega arith)) (tail-plain ns all.1))
 
 pub path-item : (p : List ℕ) → FitsPath p → Item path_of path_field p
 path-item [] fits = absurd (let h : 1 ≤ 0 = fits.0 in omega arith)
@@ -196,7 +191,7 @@ path-item (n ∷ ns) fits =
       text = path_text (n ∷ ns);
       spelled = refl;
       plain = all-append IsPlain (natural_text n) (flat_map dotted ns) (natural-plain n (omega arith)) (tail-plain ns all.1);
-      reads = ap (λ ws. next (naturals_of ws) short_path) cut ∙ ap (λ o. next o short_path) (texts-read (n ∷ ns) all) ∙ ap (λ b. cond b (Some (n ∷ ns)) None) (le-true (length (n ∷ ns)) 65 fits.1);
+      reads = ap (λ ws. next (naturals_of ws) short_path) cut ∙ ap (λ o. next o short_path) (texts-read (n ∷ ns) all) ∙ ap (λ b. cond b (Some (n ∷ ns)) None) (le-leb (length (n ∷ ns)) 65 fits.1);
     }
 
 sign-text : (front back : List ℕ) → front ++ 64 ∷ back ≡ front ++ codes "@" ++ back
@@ -212,13 +207,13 @@ pub kill-takes : (places : ℕ) (w : List ℕ) (kill : Kill) → kill_of places 
 kill-takes places w kill e = by (spelling w).kill (spelling w).spelled e
   where
     low : (k : Kill) → IsKillWord w k → (b : Bool) → nat_lt k.place.0 places ≡ b → cond b (Some k) None ≡ Some kill → (32 ∷ w ≡ kill_field kill) × IsKill places kill
-    low k s false h f = absurd (not-none kill f)
+    low k s false h f = absurd (none-some kill f)
     low k s true h f =
-        subst (λ (j : Kill). (32 ∷ w ≡ kill_field j) × IsKill places j) (some-is k kill f)
+        subst (λ (j : Kill). (32 ∷ w ≡ kill_field j) × IsKill places j) (same_Some k kill f)
         (ap (λ v. 32 ∷ v) s.spelled ∙ kill-text k, (let p : k.place.0 < places = grind (arith, nat_tests) in p, s.moment))
 
     by : (o : Option Kill) → IfSome o (IsKillWord w) → next o (λ k. cond (nat_lt k.place.0 places) (Some k) None) ≡ Some kill → (32 ∷ w ≡ kill_field kill) × IsKill places kill
-    by None s f = absurd (not-none kill f)
+    by None s f = absurd (none-some kill f)
     by (Some k) s f = low k s (nat_lt k.place.0 places) refl f
 
 pub kill-item : (places : ℕ) (kill : Kill) → places ≤ 16 → IsKill places kill → Item (kill_of places) kill_field kill
@@ -231,7 +226,7 @@ kill-item places kill few fits =
     record {
       text = text;
       spelled = kill-text kill;
-      plain = all-append IsPlain (natural_text kill.place.0) (64 ∷ natural_text kill.moment) (natural-plain kill.place.0 (omega arith)) ((differs 64 32 refl, differs 64 10 refl), natural-plain kill.moment (omega arith));
+      plain = all-append IsPlain (natural_text kill.place.0) (64 ∷ natural_text kill.moment) (natural-plain kill.place.0 (omega arith)) ((eqb-false 64 32 refl, eqb-false 64 10 refl), natural-plain kill.moment (omega arith));
       reads = ap (λ o. next o (λ k. cond (nat_lt k.place.0 places) (Some k) None)) ((spelling text).exact kill is) ∙ ap (λ b. cond b (Some kill) None) below;
     }
 

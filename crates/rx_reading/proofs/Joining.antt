@@ -1,7 +1,7 @@
 -- The numbers of a path, one after the other.
-use Rattle.std.proofs.Common.{◌≡◌, ℕ, ◌<◌, ◌≤◌, true, false, cond, nat_le, List, [], ◌∷◌, ◌++◌, length, refl, ap, sym, ◌∙◌, arith, append_assoc}
+use Rattle.std.proofs.Common.{◌≡◌, ℕ, ◌<◌, ◌≤◌, cond, nat_le, List, [], ◌∷◌, ◌++◌, length, refl, ap, sym, ◌∙◌, arith, append_assoc}
 use Rattle.std.specs.Prelude.{Option, Some, None, option_map}
-use Rattle.std.proofs.lemmas.Bool.Decides.{nat_tests}
+use Rattle.std.proofs.lemmas.Bool.{lt-leb, le-leb}
 use Rattle.rx_reading.specs.Words.{Lacks, pieces}
 use Rattle.rx_reading.specs.Inside.FieldWords.{next, natural_of, naturals_of, path_of}
 use Rattle.rx_reading.proofs.Cuts.{pieces-cut, pieces-one}
@@ -53,14 +53,8 @@ last-some pre new rest word n left lacks e more =
     ∙ ap (λ o. next (option_map (λ ns. pre ++ ns) o) short_path) (sym (last-read rest lacks))
     ∙ ap (λ o. next o short_path) left
 
-le-false : (a b : ℕ) → b < a → nat_le a b ≡ false
-le-false a b h = grind (arith, nat_tests)
-
-le-true : (a b : ℕ) → a ≤ b → nat_le a b ≡ true
-le-true a b h = grind (arith, nat_tests)
-
 pub last-long : (pre new rest word : List ℕ) (n len : ℕ) → Left pre rest word → Lacks 46 rest → natural_of rest ≡ Some n → new ≡ pre ++ n ∷ [] → len ≡ length new → 65 < len → None ≡ path_of word
-last-long pre new rest word n len left lacks e more is long = ap (λ b. cond b (Some new) None) (sym (le-false (length new) 65 (omega arith))) ∙ last-some pre new rest word n left lacks e more
+last-long pre new rest word n len left lacks e more is long = ap (λ b. cond b (Some new) None) (sym (lt-leb (length new) 65 (omega arith))) ∙ last-some pre new rest word n left lacks e more
 
 pub last-ok : (pre new rest word : List ℕ) (n len : ℕ) → Left pre rest word → Lacks 46 rest → natural_of rest ≡ Some n → new ≡ pre ++ n ∷ [] → len ≡ length new → len ≤ 65 → Some new ≡ path_of word
-last-ok pre new rest word n len left lacks e more is few = ap (λ b. cond b (Some new) None) (sym (le-true (length new) 65 (omega arith))) ∙ last-some pre new rest word n left lacks e more
+last-ok pre new rest word n len left lacks e more is few = ap (λ b. cond b (Some new) None) (sym (le-leb (length new) 65 (omega arith))) ∙ last-some pre new rest word n left lacks e more

@@ -5,9 +5,10 @@ use Rattle.std.specs.Int.{bit_at}
 use Rattle.std.specs.List.{AllByRecursion, flat_map}
 use Rattle.std.specs.Str.{bytes_eq}
 use Rattle.std.proofs.Math.Nat.{pow-le-pow_right}
-use Rattle.std.proofs.lemmas.Bool.{eqb-true, eq-eqb}
+use Rattle.std.proofs.lemmas.Bool.{eqb-true, eq-eqb, ltb-true, ltb-false, lt-ltb}
 use Rattle.std.proofs.lemmas.Nat.{pow_pos}
 use Rattle.std.proofs.lemmas.Nat.Bits.{bit_at-suc, bit_at-zero, bit_at_cat_low, bit_at_cat_high, bit_at_above}
+use Rattle.std.proofs.lemmas.Option.{same_Some, none-some}
 use Rattle.rx_base.specs.declared.ids.PlaceId.{PlaceId}
 use Rattle.rx_base.specs.declared.place_set.PlaceSet.{PlaceSet}
 use Rattle.rx_base.specs.Sets.{has_bit, members}
@@ -24,8 +25,8 @@ use Rattle.rx_reading.specs.Inside.PartWords.{set_of, joined, places_at, some_pl
 use Rattle.rx_reading.proofs.Cuts.{Plain, bytes-same}
 use Rattle.rx_reading.proofs.Faults.{plain-word-is}
 use Rattle.rx_reading.proofs.Fields.{place-takes, place-again}
-use Rattle.rx_reading.proofs.Figures.{lt-true, not-lt, true-lt, natural-plain}
-use Rattle.rx_reading.proofs.Spelt.{some-is, not-none, Read, Takes, takes-done, behind, Again, AfterPart, NoItem}
+use Rattle.rx_reading.proofs.Figures.{natural-plain}
+use Rattle.rx_reading.proofs.Spelt.{Read, Takes, takes-done, behind, Again, AfterPart, NoItem}
 
 pow-le : (p q : ℕ) → p ≤ q → 2 ^ p ≤ 2 ^ q
 pow-le p q h = pow-le-pow_right {n = 2} (omega arith) h
@@ -72,8 +73,8 @@ joined-bit m p i low = by (p == i) refl
     or-true false = refl
 
     side : (b : Bool) → nat_lt i p ≡ b → (p ≡ i → ⊥) → has_bit (m + 2 ^ p) i ≡ has_bit m i
-    side true h apart = bit-below m p i (lt-true i p h)
-    side false h apart = let at : p ≤ i = not-lt i p h in let over : p < i = omega (arith, apart) in bit-above m p i low over ∙ sym (bit-high m p i low at)
+    side true h apart = bit-below m p i (ltb-true i p h)
+    side false h apart = let at : p ≤ i = ltb-false i p h in let over : p < i = omega (arith, apart) in bit-above m p i low over ∙ sym (bit-high m p i low at)
 
     by : (b : Bool) → (p == i) ≡ b → has_bit (m + 2 ^ p) i ≡ (has_bit m i || b)
     by true e = ap (has_bit (m + 2 ^ p)) (sym (eqb-true p i e)) ∙ bit-same m p low ∙ or-true (has_bit m i)
@@ -133,16 +134,16 @@ record Gone (places set : ℕ) (ws : List (List ℕ)) (s : PlaceSet) (rest : Lis
 
 place-joined : (places : ℕ) (w : List ℕ) (ws : List (List ℕ)) (set : ℕ) (s : PlaceSet) (rest : List (List ℕ)) (o : Option PlaceId) → place_of places w ≡ o → places ≤ 16 → set < 2 ^ places → ((n : ℕ) → n < 2 ^ places → places_at places n ws ≡ Some (s, rest) → Gone places n ws s rest) → joined o set w ws (λ n. places_at places n ws) ≡ Some (s, rest) → Gone places set (w ∷ ws) s rest
 place-joined places w ws set s rest None is few low more e =
-    let same = some-is (set_of set, w ∷ ws) (s, rest) e in
+    let same = same_Some (set_of set, w ∷ ws) (s, rest) e in
     let value : set_of set ≡ s = ap (λ x. x.0) same in
     let left : w ∷ ws ≡ rest = ap (λ x. x.1) same in
     record { whole = ap (λ x. told x.0 ++ fields (w ∷ ws)) value ∙ ap (λ vs. told s.0 ++ fields vs) left; low = subst (λ (x : PlaceSet). x.0 < 2 ^ places) value low }
 place-joined places w ws set s rest (Some p) is few low more e = by (nat_lt set (2 ^ p.0)) refl e
   where
     by : (b : Bool) → nat_lt set (2 ^ p.0) ≡ b → cond b (places_at places (set + 2 ^ p.0) ws) None ≡ Some (s, rest) → Gone places set (w ∷ ws) s rest
-    by false h f = absurd (not-none (s, rest) f)
+    by false h f = absurd (none-some (s, rest) f)
     by true h f =
-        let below : set < 2 ^ p.0 = lt-true set (2 ^ p.0) h in
+        let below : set < 2 ^ p.0 = ltb-true set (2 ^ p.0) h in
         let place = place-takes places w p is in
         let inside : p.0 < places = place.1 in
         let next = more (set + 2 ^ p.0) (joined-low set p.0 places below inside) f in
@@ -156,7 +157,7 @@ place-joined places w ws set s rest (Some p) is few low more e = by (nat_lt set 
 
 places-take : (places : ℕ) (ws : List (List ℕ)) (set : ℕ) (s : PlaceSet) (rest : List (List ℕ)) → places ≤ 16 → set < 2 ^ places → places_at places set ws ≡ Some (s, rest) → Gone places set ws s rest
 places-take places [] set s rest few low e =
-    let same = some-is (set_of set, []) (s, rest) e in
+    let same = same_Some (set_of set, []) (s, rest) e in
     let value : set_of set ≡ s = ap (λ x. x.0) same in
     let left : [] ≡ rest = ap (λ x. x.1) same in
     record { whole = ap (λ x. told x.0 ++ []) value ∙ ap (λ vs. told s.0 ++ fields vs) left; low = subst (λ (x : PlaceSet). x.0 < 2 ^ places) value low }
@@ -177,13 +178,13 @@ lost-takes places few = record { takes = t }
     nothing ws s rest e = (takes-done (set_of 0) S (refl, power)).takes ws s rest e
 
     some : (ws : List (List ℕ)) (s : PlaceSet) (rest : List (List ℕ)) (o : Option (PlaceSet × List (List ℕ))) → places_at places 0 ws ≡ o → some_place o ≡ Some (s, rest) → Read (λ x t. S x ((32 ∷ codes "lost") ++ t)) ws s rest
-    some ws s rest None is e = absurd (not-none (s, rest) e)
+    some ws s rest None is e = absurd (none-some (s, rest) e)
     some ws s rest (Some x) is e = filled (x.0.0 == 0) refl e
       where
         filled : (b : Bool) → (x.0.0 == 0) ≡ b → cond b None (Some x) ≡ Some (s, rest) → Read (λ x t. S x ((32 ∷ codes "lost") ++ t)) ws s rest
-        filled true h f = absurd (not-none (s, rest) f)
+        filled true h f = absurd (none-some (s, rest) f)
         filled false h f =
-            let same = some-is x (s, rest) f in
+            let same = same_Some x (s, rest) f in
             let value : x.0 ≡ s = ap (λ y. y.0) same in
             let left : x.1 ≡ rest = ap (λ y. y.1) same in
             let gone = places-take places ws 0 x.0 x.1 few power is in
@@ -225,9 +226,9 @@ bit-inside : (places s : ℕ) → s < 2 ^ places → (i : ℕ) → has_bit s i �
 bit-inside places s low i set = by (nat_lt i places) refl
   where
     by : (b : Bool) → nat_lt i places ≡ b → i < places
-    by true e = lt-true i places e
+    by true e = ltb-true i places e
     by false e =
-        let above : places ≤ i = not-lt i places e in
+        let above : places ≤ i = ltb-false i places e in
         let clash : true ≡ false = sym set ∙ bit-high s places i low above in cc
 
 rising-members : (places : ℕ) (s : PlaceSet) → s.0 < 2 ^ places → Rising places 0 (members s)
@@ -268,7 +269,7 @@ places-again : (places : ℕ) (ps : List ℕ) (set : ℕ) (rest : List (List ℕ
 places-again places [] set rest few r n = places-end places set rest n
 places-again places (p ∷ ps) set rest few r n =
     ap (λ o. joined o set (natural_text p) (place_texts ps ++ rest) (λ m. places_at places m (place_texts ps ++ rest))) (place-again places (record { 0 = p }) few r.1)
-    ∙ ap (λ b. cond b (places_at places (set + 2 ^ p) (place_texts ps ++ rest)) None) (true-lt set (2 ^ p) r.0)
+    ∙ ap (λ b. cond b (places_at places (set + 2 ^ p) (place_texts ps ++ rest)) None) (lt-ltb set (2 ^ p) r.0)
     ∙ places-again places ps (set + 2 ^ p) rest few r.2 n
 
 lost-none : (places : ℕ) (rest : List (List ℕ)) → AfterPart (codes "lost") (place_of places) rest → lost_at places rest ≡ Some (set_of 0, rest)

@@ -4,8 +4,10 @@ use Rattle.std.specs.Prelude.{◌≢◌, Option, Some, None, option_map, codes}
 use Rattle.std.specs.Char.{is_ascii_digit}
 use Rattle.std.specs.List.{AllByRecursion, flat_map}
 use Rattle.std.specs.Str.{bytes_eq}
-use Rattle.std.proofs.lemmas.Bool.{eq-eqb}
+use Rattle.std.proofs.lemmas.Bool.{eq-eqb, lt-ltb}
+use Rattle.std.proofs.lemmas.Option.{same_Some, none-some}
 use Rattle.rx_base.specs.declared.ids.Kill.{Kill}
+use Rattle.rx_base.proofs.Elements.{tails-are, same-bytes}
 use Rattle.rx_rules.specs.declared.entries.Entry.{Entry}
 use Rattle.rx_rules.specs.declared.events.PlaceEvent.{PlaceEvent}
 use Rattle.rx_rules.specs.Run.{Given}
@@ -19,10 +21,8 @@ use Rattle.rx_reading.specs.Limits.{FitsEntry, FitsEvent, FitJournals, FitsSetup
 use Rattle.rx_reading.specs.Inside.Machine.{State, Untitled, Titled, Sized, Planned, Entering, Logging, Over, begins_journal, entry_of, event_of, state_with_sizes, read_line}
 use Rattle.rx_reading.specs.Reading.{IsText, BeginsText, IsLine, AreLines, IsBadLine, TextsTellThePair, TextsHaveNoBadLine}
 use Rattle.rx_reading.specs.Words.{Lacks}
-use Rattle.rx_reading.proofs.Cuts.{IsPlain, same-bytes, bytes-same, all-append, all-map}
-use Rattle.rx_reading.proofs.Figures.{true-lt}
+use Rattle.rx_reading.proofs.Cuts.{IsPlain, bytes-same, all-append, all-map}
 use Rattle.rx_reading.proofs.Plans.{sizes_text, sizes-again, kills-line-again}
-use Rattle.rx_reading.proofs.Spelt.{some-is, not-none}
 use Rattle.rx_reading.proofs.States.{state_text, SoFar, FitEntries, ended, stepped, over-is-text, journals-fit-end}
 use Rattle.rx_reading.proofs.Wholes.{LineAgain, entry-line-again, event-line-again, number-plain-all}
 
@@ -196,7 +196,7 @@ next-again U es js j below =
     let line = codes "journal " ++ natural_text (length js + 1) in
     record {
       reads = ap (λ b. cond (b && nat_lt (length js + 1) U.places) (Some (Logging U es (js ++ j ∷ []) [])) (last_answer U es js j line)) (same-bytes line)
-          ∙ ap (λ b. cond b (Some (Logging U es (js ++ j ∷ []) [])) (last_answer U es js j line)) (true-lt (length js + 1) U.places below);
+          ∙ ap (λ b. cond b (Some (Logging U es (js ++ j ∷ []) [])) (last_answer U es js j line)) (lt-ltb (length js + 1) U.places below);
       lacks = journal-lacks (length js + 1);
     }
 
@@ -319,9 +319,6 @@ begins (Over U es js) so = over-begins U es js so
 head-is : (a b : ℕ) (x y : List ℕ) → a ∷ x ≡ b ∷ y → a ≡ b
 head-is a b x y e = cc
 
-tails-are : (a b : ℕ) (x y : List ℕ) → a ∷ x ≡ b ∷ y → x ≡ y
-tails-are a b x y e = cc
-
 seam : (l m x y : List ℕ) → Lacks 10 l → Lacks 10 m → l ++ 10 ∷ x ≡ m ++ 10 ∷ y → (l ≡ m) × (x ≡ y)
 seam [] [] x y a b e = (refl, tails-are 10 10 x y e)
 seam [] (c ∷ m) x y a b e = absurd (b.0 (sym (head-is 10 c x (m ++ 10 ∷ y) e)))
@@ -378,7 +375,7 @@ stops s line so lacks none (rest, (U, es, js, within, is)) =
     let run : then_read (Some Untitled) t.lines ≡ None =
     ap (then_read (Some Untitled)) cut.whole ∙ read-append (Some Untitled) r.lines (line ∷ cut.left) ∙ ap (λ o. then_read o (line ∷ cut.left)) r.runs
     ∙ ap (λ o. then_read o cut.left) none ∙ none-read cut.left in
-    not-none (Over U es js) (sym run ∙ t.runs)
+    none-some (Over U es js) (sym run ∙ t.runs)
 
 -- where lines were read and no other line follows, and this is a text, everything has been read
 pub ends : (s : State) (rest : List ℕ) → SoFar s → Lacks 10 rest → (t : IsText (state_text s ++ rest)) → (s ≡ Over t.0 t.1 t.2) × (rest ≡ [])
@@ -386,7 +383,7 @@ ends s rest so lacks (U, es, js, within, is) =
     let r = reached s so in
     let t = reached (Over U es js) within in
     let same = cut-end t.lines r.lines rest t.lacks r.lacks lacks (t.spelled ∙ sym (over-is-text U es js) ∙ sym is ∙ ap (λ x. x ++ rest) (sym r.spelled)) in
-    (some-is s (Over U es js) (sym r.runs ∙ sym (ap (then_read (Some Untitled)) same.0) ∙ t.runs), same.1)
+    (same_Some s (Over U es js) (sym r.runs ∙ sym (ap (then_read (Some Untitled)) same.0) ∙ t.runs), same.1)
 
 over-same : (U V : Given) (es fs : List Entry) (js ks : List (List PlaceEvent)) → Over U es js ≡ Over V fs ks → (U ≡ V) × (es ≡ fs) × (js ≡ ks)
 over-same U V es fs js ks e = (cc, cc, cc)

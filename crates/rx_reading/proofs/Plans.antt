@@ -3,11 +3,14 @@ use Rattle.std.proofs.Common.{◌≡◌, ◌⊎◌, inl, inr, ℕ, ◌+◌, ◌<
 use Rattle.std.specs.Prelude.{◌≢◌, Option, Some, None, codes}
 use Rattle.std.specs.List.{AllByRecursion, flat_map}
 use Rattle.std.specs.Str.{bytes_eq}
-use Rattle.std.proofs.lemmas.Bool.{eqb-true, eq-eqb}
+use Rattle.std.proofs.lemmas.Bool.{eqb-true, eq-eqb, and_parts, and_from, not-true, eqb-false, not_from_false, ne_eqb}
+use Rattle.std.proofs.lemmas.Option.{same_Some, none-some}
 use Rattle.rx_base.specs.declared.ids.PlaceId.{PlaceId}
 use Rattle.rx_base.specs.declared.ids.Kill.{Kill}
+use Rattle.rx_base.proofs.Elements.{flat4, rest-is}
 use Rattle.rx_rules.specs.Run.{ComesAfter, Spares, Ascends, AreKills}
 use Rattle.rx_text.specs.Numbers.{natural_text}
+use Rattle.rx_rules.proofs.Kills.{further}
 use Rattle.rx_trace.specs.Fields.{natural_field, kill_field}
 use Rattle.rx_reading.specs.Words.{Lacks, pieces, fields}
 use Rattle.rx_reading.specs.Inside.Readers.{word, all_read}
@@ -15,11 +18,11 @@ use Rattle.rx_history.specs.KillOrder.{is_before}
 use Rattle.rx_history.proofs.InOrder.{before-Decides}
 use Rattle.rx_reading.specs.Inside.FieldWords.{next, number_below, kill_of}
 use Rattle.rx_reading.specs.Inside.Machine.{count_of, sizes_at, may_follow, planned, kills_of, kills_line_of}
-use Rattle.rx_reading.proofs.Cuts.{Plain, other-byte, bytes-same}
+use Rattle.rx_reading.proofs.Cuts.{Plain, bytes-same}
 use Rattle.rx_reading.proofs.Faults.{plain-word-is}
 use Rattle.rx_reading.proofs.Fields.{next-is, kill-takes, kill-item, one-word, word-again}
-use Rattle.rx_reading.proofs.Figures.{below-takes, below-again, natural-plain, lt-true, true-lt}
-use Rattle.rx_reading.proofs.Spelt.{some-is, not-none, Takes, takes-done, takes-followed, takes-keyed, Any, again-as, again-done, again-keyed, again-field, Item}
+use Rattle.rx_reading.proofs.Figures.{below-takes, below-again, natural-plain}
+use Rattle.rx_reading.proofs.Spelt.{Takes, takes-done, takes-followed, takes-keyed, Any, again-as, again-done, again-keyed, again-field, Item}
 use Rattle.rx_reading.proofs.Wholes.{cut-line, fields-lack, LineAgain, line-takes, line-again, words-of-line}
 
 abbrev pub IsCount : ℕ → ℕ → Type 0
@@ -31,12 +34,12 @@ count-takes most w n e =
     by two.first (below-takes (most + 1) w two.first two.was) (two.first == 0) refl two.then_was
   where
     by : (k : ℕ) → (w ≡ natural_text k) × (k < most + 1) → (b : Bool) → (k == 0) ≡ b → cond b None (Some k) ≡ Some n → (32 ∷ w ≡ natural_field n) × IsCount most n
-    by k is true h f = absurd (not-none n f)
+    by k is true h f = absurd (none-some n f)
     by k is false h f =
         let low : k < most + 1 = is.1 in
         let apart : k ≢ 0 = λ z. (let t : (k == 0) ≡ true = eq-eqb k 0 z in cc) in
         let some : 1 ≤ k = omega (arith, apart) in
-        subst (λ (m : ℕ). (32 ∷ w ≡ natural_field m) × IsCount most m) (some-is k n f) (ap (λ t. 32 ∷ t) is.0, (some, omega arith))
+        subst (λ (m : ℕ). (32 ∷ w ≡ natural_field m) × IsCount most m) (same_Some k n f) (ap (λ t. 32 ∷ t) is.0, (some, omega arith))
 
 count-item : (most n : ℕ) → most ≤ 4096 → IsCount most n → Item (count_of most) natural_field n
 count-item most n few fits =
@@ -47,7 +50,7 @@ count-item most n few fits =
       text = natural_text n;
       spelled = refl;
       plain = natural-plain n (omega arith);
-      reads = ap (λ o. next o (λ k. cond (k == 0) None (Some k))) (below-again (most + 1) n (omega arith) (omega arith)) ∙ ap (λ b. cond b None (Some n)) (other-byte n 0 apart);
+      reads = ap (λ o. next o (λ k. cond (k == 0) None (Some k))) (below-again (most + 1) n (omega arith) (omega arith)) ∙ ap (λ b. cond b None (Some n)) (ne_eqb n 0 apart);
     }
 
 abbrev pub sizes_text : ℕ → ℕ → List ℕ
@@ -55,9 +58,6 @@ sizes_text places heap = codes "places" ++ natural_field places ++ codes " heap"
 
 abbrev AreSizes : ℕ × ℕ → List ℕ → Type 0
 AreSizes x t = (t ≡ 32 ∷ sizes_text x.0 x.1) × IsCount 16 x.0 × IsCount 4096 x.1
-
-flat4 : (a b c d : List ℕ) → a ++ (b ++ (c ++ (d ++ []))) ≡ ((a ++ b) ++ c) ++ d
-flat4 a b c d = simp (append_assoc, append-nil)
 
 count-one : (most : ℕ) → Takes (word (count_of most)) (λ n t. (t ≡ natural_field n) × IsCount most n)
 count-one most = one-word (count_of most) natural_field (IsCount most) (count-takes most)
@@ -69,9 +69,6 @@ sizes-read =
     takes-keyed (codes "heap") _ _ (
     takes-followed (word (count_of 4096)) _ natural_field (IsCount 4096) _ (count-one 4096) (λ heap b.
     takes-done (places, heap) _ (flat4 (codes " places") (natural_field places) (codes " heap") (natural_field heap), a, b)))))
-
-rest-is : (a : ℕ) (x y : List ℕ) → a ∷ x ≡ a ∷ y → x ≡ y
-rest-is a x y e = cc
 
 -- the line of the sizes
 pub sizes-take : (line : List ℕ) (x : ℕ × ℕ) → all_read (sizes_at (pieces 32 line)) ≡ Some x → (line ≡ sizes_text x.0 x.1) × IsCount 16 x.0 × IsCount 4096 x.1
@@ -92,21 +89,9 @@ sizes-again places heap a b =
 abbrev pub Moments : List Kill → Type 0
 Moments kills = AllByRecursion (λ k. k.moment ≤ 1000000) kills
 
-pub and-parts : (a b : Bool) → (a && b) ≡ true → (a ≡ true) × (b ≡ true)
-and-parts true b e = (refl, e)
-and-parts false b e = cc
-
-and-true : (a b : Bool) → a ≡ true → b ≡ true → (a && b) ≡ true
-and-true true b e f = f
-and-true false b e f = cc
-
 or-parts : (a b : Bool) → (a || b) ≡ true → (a ≡ true) ⊎ (b ≡ true)
 or-parts true b e = inl refl
 or-parts false b e = inr e
-
-not-parts : (a : Bool) → not a ≡ true → a ≡ false
-not-parts true e = cc
-not-parts false e = refl
 
 pub after-is : (a b : Kill) → is_before a b ≡ true → ComesAfter a b
 after-is a b e = (before-Decides a b).0 e
@@ -119,21 +104,18 @@ abbrev Follows : List Kill → Kill → Type 0
 Follows [] kill = Unit {0}
 Follows (k ∷ ks) kill = ComesAfter k kill × (k.place.0 ≢ kill.place.0) × Follows ks kill
 
-eq-apart : (a b : ℕ) → (a == b) ≡ false → a ≢ b
-eq-apart a b e h = let t : (a == b) ≡ true = eq-eqb a b h in cc
-
 follows-is : (ks : List Kill) (kill : Kill) → may_follow ks kill ≡ true → Follows ks kill
 follows-is [] kill e = tt
 follows-is (k ∷ ks) kill e =
-    let one = and-parts (is_before k kill && not (k.place.0 == kill.place.0)) (may_follow ks kill) e in
-    let two = and-parts (is_before k kill) (not (k.place.0 == kill.place.0)) one.0 in
-    (after-is k kill two.0, eq-apart k.place.0 kill.place.0 (not-parts (k.place.0 == kill.place.0) two.1), follows-is ks kill one.1)
+    let one = and_parts (is_before k kill && not (k.place.0 == kill.place.0)) (may_follow ks kill) e in
+    let two = and_parts (is_before k kill) (not (k.place.0 == kill.place.0)) one.0 in
+    (after-is k kill two.0, eqb-false k.place.0 kill.place.0 (not-true (k.place.0 == kill.place.0) two.1), follows-is ks kill one.1)
 
 is-followed : (ks : List Kill) (kill : Kill) → Follows ks kill → may_follow ks kill ≡ true
 is-followed [] kill f = refl
 is-followed (k ∷ ks) kill f =
-    and-true (is_before k kill && not (k.place.0 == kill.place.0)) (may_follow ks kill)
-    (and-true (is_before k kill) (not (k.place.0 == kill.place.0)) (is-after k kill f.0) (ap not (other-byte k.place.0 kill.place.0 f.1)))
+    and_from (is_before k kill && not (k.place.0 == kill.place.0)) (may_follow ks kill)
+    (and_from (is_before k kill) (not (k.place.0 == kill.place.0)) (is-after k kill f.0) (ap not (ne_eqb k.place.0 kill.place.0 f.1)))
     (is-followed ks kill f.2)
 
 spares-push : (p : PlaceId) (ks : List Kill) (kill : Kill) → Spares p ks → p.0 ≢ kill.place.0 → Spares p (ks ++ kill ∷ [])
@@ -165,15 +147,15 @@ pub record KillsRead (places : ℕ) (front : List ℕ) (kills : List Kill) : Typ
 
 kill-read : (places : ℕ) (w : List ℕ) (ws : List (List ℕ)) (ks kills : List Kill) (o : Option Kill) → kill_of places w ≡ o → AreKills places ks → Moments ks → planned o ks (λ js. kills_of places js ws) ≡ Some kills
     → ((js : List Kill) → AreKills places js → Moments js → kills_of places js ws ≡ Some kills → KillsRead places (flat_map kill_field js ++ fields ws) kills) → KillsRead places (flat_map kill_field ks ++ fields (w ∷ ws)) kills
-kill-read places w ws ks kills None is all moments e more = absurd (not-none kills e)
+kill-read places w ws ks kills None is all moments e more = absurd (none-some kills e)
 kill-read places w ws ks kills (Some kill) is all moments e more = by (not (kill.place.0 == 0) && may_follow ks kill) refl e
   where
     by : (b : Bool) → (not (kill.place.0 == 0) && may_follow ks kill) ≡ b → cond b (kills_of places (ks ++ kill ∷ []) ws) None ≡ Some kills → KillsRead places (flat_map kill_field ks ++ fields (w ∷ ws)) kills
-    by false h f = absurd (not-none kills f)
+    by false h f = absurd (none-some kills f)
     by true h f =
-        let both = and-parts (not (kill.place.0 == 0)) (may_follow ks kill) h in
+        let both = and_parts (not (kill.place.0 == 0)) (may_follow ks kill) h in
         let known = kill-takes places w kill is in
-        let some = eq-apart kill.place.0 0 (not-parts (kill.place.0 == 0) both.0) in
+        let some = eqb-false kill.place.0 0 (not-true (kill.place.0 == 0) both.0) in
         let next = more (ks ++ kill ∷ []) (kills-push places ks kill all known.1.0 some (follows-is ks kill both.1)) (moments-push ks kill moments known.1.1) f in
         record {
           text = ap (λ v. flat_map kill_field ks ++ (v ++ fields ws)) known.0 ∙ sym (append_assoc (flat_map kill_field ks) (kill_field kill) (fields ws)) ∙ ap (λ v. v ++ fields ws) (sym (flat-push ks kill)) ∙ next.text;
@@ -183,7 +165,7 @@ kill-read places w ws ks kills (Some kill) is all moments e more = by (not (kill
 
 kills-read : (places : ℕ) (ws : List (List ℕ)) (ks kills : List Kill) → AreKills places ks → Moments ks → kills_of places ks ws ≡ Some kills → KillsRead places (flat_map kill_field ks ++ fields ws) kills
 kills-read places [] ks kills all moments e =
-    let same = some-is ks kills e in
+    let same = same_Some ks kills e in
     record { text = append-nil (flat_map kill_field ks) ∙ ap (flat_map kill_field) same; all = subst (AreKills places) same all; moments = subst Moments same moments }
 kills-read places (w ∷ ws) ks kills all moments e =
     kill-read places w ws ks kills (kill_of places w) refl all moments e (λ js a m f. kills-read places ws js kills a m f)
@@ -198,7 +180,7 @@ pub kills-take : (places : ℕ) (line : List ℕ) (kills : List Kill) → kills_
 kills-take places line kills e = by (pieces 32 line) (words-of-line line) e
   where
     keyed-kills : (w : List ℕ) (ws : List (List ℕ)) → fields (w ∷ ws) ≡ 32 ∷ line → (b : Bool) → bytes_eq w (codes "kills") ≡ b → cond b (kills_of places [] ws) None ≡ Some kills → KillsLine places line kills
-    keyed-kills w ws is false h f = absurd (not-none kills f)
+    keyed-kills w ws is false h f = absurd (none-some kills f)
     keyed-kills w ws is true h f =
         let read = kills-read places ws [] kills tt tt f in
         record {
@@ -208,14 +190,8 @@ kills-take places line kills e = by (pieces 32 line) (words-of-line line) e
         }
 
     by : (ws : List (List ℕ)) → fields ws ≡ 32 ∷ line → kills_line_of places ws ≡ Some kills → KillsLine places line kills
-    by [] is f = absurd (not-none kills f)
+    by [] is f = absurd (none-some kills f)
     by (w ∷ ws) is f = keyed-kills w ws is (bytes_eq w (codes "kills")) refl f
-
-further : (a b c : Kill) → ComesAfter a b → ComesAfter b c → ComesAfter a c
-further a b c (inl x) (inl y) = inl (omega arith)
-further a b c (inl x) (inr y) = let e = y.0 in inl (omega arith)
-further a b c (inr x) (inl y) = let e = x.0 in inl (omega arith)
-further a b c (inr x) (inr y) = let e = x.0 in let f = y.0 in let g = x.1 in let h = y.1 in inr (omega arith, omega arith)
 
 ascends-to : (a : Kill) (pre : List Kill) (k : Kill) (ks : List Kill) → Ascends a (pre ++ k ∷ ks) → ComesAfter a k
 ascends-to a [] k ks h = h.0
@@ -243,10 +219,6 @@ record KillsAgain (places : ℕ) (pre ks : List Kill) : Type 0 where
   pub plain : AllByRecursion Plain front
   pub reads : kills_of places pre front ≡ Some (pre ++ ks)
 
-not-false : (b : Bool) → b ≡ false → not b ≡ true
-not-false true e = cc
-not-false false e = refl
-
 kills-again : (places : ℕ) (pre ks : List Kill) → places ≤ 16 → AreKills places (pre ++ ks) → Moments ks → KillsAgain places pre ks
 kills-again places pre [] few all moments = record { front = []; spelled = refl; plain = tt; reads = ap Some (sym (append-nil pre)) }
 kills-again places pre (k ∷ ks) few all moments =
@@ -254,7 +226,7 @@ kills-again places pre (k ∷ ks) few all moments =
     let item = kill-item places k few (here.low, moments.0) in
     let more = kills-again places (pre ++ k ∷ []) ks few (subst (AreKills places) (sym (append_assoc pre (k ∷ []) ks)) all) moments.1 in
     let may : (not (k.place.0 == 0) && may_follow pre k) ≡ true =
-    and-true (not (k.place.0 == 0)) (may_follow pre k) (not-false (k.place.0 == 0) (other-byte k.place.0 0 here.some)) (is-followed pre k here.follows) in
+    and_from (not (k.place.0 == 0)) (may_follow pre k) (not_from_false (k.place.0 == 0) (ne_eqb k.place.0 0 here.some)) (is-followed pre k here.follows) in
     record {
       front = item.text ∷ more.front;
       spelled = ap (λ v. v ++ fields more.front) item.spelled ∙ ap (λ v. kill_field k ++ v) more.spelled;

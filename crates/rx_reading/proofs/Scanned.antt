@@ -5,10 +5,11 @@ use Rattle.std.specs.Int.{w64}
 use mir.Val.{to_z, of_z}
 use Rattle.std.proofs.lemmas.Int.{to_z-of_z}
 use Rattle.std.proofs.lemmas.List.{drop_all}
+use Rattle.std.proofs.lemmas.Bool.{ltb-true, ltb-false, lt-ltb}
+use Rattle.std.proofs.lemmas.Option.{same_Some, none-some}
 use Rattle.rx_text.specs.Numbers.{number_text, natural_text, NoDigitFirst, StandsAt}
 use Rattle.rx_reading.specs.Inside.FieldWords.{next, number_of, natural_of, number_below, short_of}
-use Rattle.rx_reading.proofs.Figures.{below-takes, below-again, number-takes, number-again, lt-true, not-lt, true-lt}
-use Rattle.rx_reading.proofs.Spelt.{some-is, not-none}
+use Rattle.rx_reading.proofs.Figures.{below-takes, below-again, number-takes, number-again}
 
 -- a whole word that is a number
 pub scanned : (word : List ℕ) (n : ℤ) (end : ℕ) → StandsAt word 0 n end → end ≡ length word → Some (to_z w64 (of_z w64 n)) ≡ number_of word
@@ -36,11 +37,11 @@ no-scan word r exact never = by (number_of word) refl
 
 -- no number stands in front
 pub scanned-none : (word : List ℕ) (r : Option (ℤ × ℕ)) → ((n : ℤ) (end : ℕ) → StandsAt word 0 n end → r ≡ Some (n, end)) → r ≡ None → None ≡ number_of word
-scanned-none word r exact none = no-scan word r exact (λ n e. not-none (n, length word) (sym none ∙ e))
+scanned-none word r exact none = no-scan word r exact (λ n e. none-some (n, length word) (sym none ∙ e))
 
 -- the number that stands in front is not all
 pub scanned-less : (word : List ℕ) (r : Option (ℤ × ℕ)) (n : ℤ) (end : ℕ) → ((n : ℤ) (end : ℕ) → StandsAt word 0 n end → r ≡ Some (n, end)) → r ≡ Some (n, end) → (end ≡ length word → ⊥) → None ≡ number_of word
-scanned-less word r n end exact is less = no-scan word r exact (λ m e. less (ap (λ x. x.1) (some-is (n, end) (m, length word) (sym is ∙ e))))
+scanned-less word r n end exact is less = no-scan word r exact (λ m e. less (ap (λ x. x.1) (same_Some (n, end) (m, length word) (sym is ∙ e))))
 
 short-is : (w : List ℕ) (o : Option ℤ) → number_of w ≡ o → next o short_of ≡ natural_of w
 short-is w o e = by (natural_of w) refl o e
@@ -51,7 +52,7 @@ short-is w o e = by (natural_of w) refl o e
       where
         low : (b : Bool) → nat_lt n (2 ^ 32) ≡ b → cond b (Some n) None ≡ None
         low false h = refl
-        low true h = absurd (not-none n (sym none ∙ ap natural_of is.0 ∙ below-again (2 ^ 32) n (lt-true n (2 ^ 32) h) (omega arith)))
+        low true h = absurd (none-some n (sym none ∙ ap natural_of is.0 ∙ below-again (2 ^ 32) n (ltb-true n (2 ^ 32) h) (omega arith)))
 
     by : (m : Option ℕ) → natural_of w ≡ m → (o : Option ℤ) → number_of w ≡ o → next o short_of ≡ natural_of w
     by None f None e = sym f
@@ -61,7 +62,7 @@ short-is w o e = by (natural_of w) refl o e
         let low : n < 2 ^ 32 = is.1 in
         let fits : FitsSigned w64 (pos n) = record { sfits = omega arith } in
         let known : o ≡ Some (pos n) = sym e ∙ ap number_of is.0 ∙ number-again (pos n) fits in
-        ap (λ x. next x short_of) known ∙ ap (λ b. cond b (Some n) None) (true-lt n (2 ^ 32) low) ∙ sym f
+        ap (λ x. next x short_of) known ∙ ap (λ b. cond b (Some n) None) (lt-ltb n (2 ^ 32) low) ∙ sym f
 
 -- a number of 32 bits is one of 64 bits that is short
 pub natural_by_number : (w : List ℕ) → natural_of w ≡ next (number_of w) short_of
@@ -82,13 +83,13 @@ below_by_natural limit w small = by (number_below limit w) refl (natural_of w) r
         fails (Some n) h =
             let is = below-takes limit w n h in
             let low : n < limit = is.1 in
-            absurd (not-none n (sym f ∙ ap natural_of is.0 ∙ below-again (2 ^ 32) n (omega arith) (omega arith)))
+            absurd (none-some n (sym f ∙ ap natural_of is.0 ∙ below-again (2 ^ 32) n (omega arith) (omega arith)))
     by o e (Some n) f =
         let is = below-takes (2 ^ 32) w n f in
         low (nat_lt n limit) refl is.0
       where
         low : (b : Bool) → nat_lt n limit ≡ b → w ≡ natural_text n → number_below limit w ≡ cond b (Some n) None
-        low true h text = ap (number_below limit) text ∙ below-again limit n (lt-true n limit h) (omega arith)
+        low true h text = ap (number_below limit) text ∙ below-again limit n (ltb-true n limit h) (omega arith)
         low false h text = none o e
           where
             none : (o : Option ℕ) → number_below limit w ≡ o → number_below limit w ≡ None
@@ -96,6 +97,6 @@ below_by_natural limit w small = by (number_below limit w) refl (natural_of w) r
             none (Some k) is =
                 let known = below-takes limit w k is in
                 let less : k < limit = known.1 in
-                let high : limit ≤ n = not-lt n limit h in
-                let same : k ≡ n = some-is k n (sym (ap natural_of known.0 ∙ below-again (2 ^ 32) k (omega arith) (omega arith)) ∙ f) in
+                let high : limit ≤ n = ltb-false n limit h in
+                let same : k ≡ n = same_Some k n (sym (ap natural_of known.0 ∙ below-again (2 ^ 32) k (omega arith) (omega arith)) ∙ f) in
                 absurd (omega arith)

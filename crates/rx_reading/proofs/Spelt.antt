@@ -3,16 +3,12 @@ use Rattle.std.proofs.Common.{◌≡◌, ℕ, Bool, true, false, cond, List, [],
 use Rattle.std.specs.Prelude.{Option, Some, None, option_map}
 use Rattle.std.specs.List.{AllByRecursion, flat_map}
 use Rattle.std.specs.Str.{bytes_eq}
+use Rattle.std.proofs.lemmas.Option.{same_Some, none-some}
+use Rattle.rx_base.proofs.Elements.{same-bytes}
 use Rattle.rx_trace.specs.Parts.{part_text}
 use Rattle.rx_reading.specs.Words.{fields}
 use Rattle.rx_reading.specs.Inside.Readers.{Reader, after, followed, done, word, keyed, either, gathered, many, one_or_more, part, all_read}
-use Rattle.rx_reading.proofs.Cuts.{Plain, all-append, same-bytes, bytes-same}
-
-pub some-is : {A : Type 0} (x y : A) → Some x ≡ Some y → x ≡ y
-some-is x y e = cc
-
-pub not-none : {A : Type 0} (x : A) → None ≡ Some x → ⊥
-not-none x e = cc
+use Rattle.rx_reading.proofs.Cuts.{Plain, all-append, bytes-same}
 
 pub fields-append : (vs ws : List (List ℕ)) → fields (vs ++ ws) ≡ fields vs ++ fields ws
 fields-append [] ws = refl
@@ -31,7 +27,7 @@ pub record Takes {A : Type 0} (r : Reader A) (S : A → List ℕ → Type 0) : T
 pub takes-done : {A : Type 0} (a : A) (S : A → List ℕ → Type 0) → S a [] → Takes (done a) S
 takes-done a S known = record {
   takes = λ ws b rest e.
-      let same = some-is (a, ws) (b, rest) e in
+      let same = same_Some (a, ws) (b, rest) e in
       let value : a ≡ b = ap (λ x. x.0) same in
       let left : ws ≡ rest = ap (λ x. x.1) same in
       record { text = []; whole = ap fields left; known = subst (λ x. S x []) value known };
@@ -41,9 +37,9 @@ abbrev pair : {A : Type 0} → A → List (List ℕ) → A × List (List ℕ)
 pair a ws = (a, ws)
 
 word-read : {A : Type 0} (of : List ℕ → Option A) (S : A → List ℕ → Type 0) → ((w : List ℕ) (a : A) → of w ≡ Some a → S a (32 ∷ w)) → (w : List ℕ) (ws : List (List ℕ)) (a : A) (rest : List (List ℕ)) (o : Option A) → of w ≡ o → option_map (λ b. pair b ws) o ≡ Some (a, rest) → Read S (w ∷ ws) a rest
-word-read of S h w ws a rest None is e = absurd (not-none (a, rest) e)
+word-read of S h w ws a rest None is e = absurd (none-some (a, rest) e)
 word-read of S h w ws a rest (Some b) is e =
-    let same = some-is (b, ws) (a, rest) e in
+    let same = same_Some (b, ws) (a, rest) e in
     let value : b ≡ a = ap (λ x. x.0) same in
     let left : ws ≡ rest = ap (λ x. x.1) same in
     record { text = 32 ∷ w; whole = ap (λ r. (32 ∷ w) ++ fields r) left; known = subst (λ x. S x (32 ∷ w)) value (h w b is) }
@@ -52,7 +48,7 @@ pub takes-word : {A : Type 0} (of : List ℕ → Option A) (S : A → List ℕ �
 takes-word of S h = record { takes = t }
   where
     t : (ws : List (List ℕ)) (a : _) (rest : List (List ℕ)) → word of ws ≡ Some (a, rest) → Read S ws a rest
-    t [] a rest e = absurd (not-none (a, rest) e)
+    t [] a rest e = absurd (none-some (a, rest) e)
     t (w ∷ ws) a rest e = word-read of S h w ws a rest (of w) refl e
 
 -- a word in front of what was read
@@ -71,7 +67,7 @@ takes-either {A} key r other S h k = record { takes = t }
     by w ws a rest false is e = k.takes (w ∷ ws) a rest e
 
     t : (ws : List (List ℕ)) (a : A) (rest : List (List ℕ)) → either key r other ws ≡ Some (a, rest) → Read S ws a rest
-    t [] a rest e = absurd (not-none (a, rest) e)
+    t [] a rest e = absurd (none-some (a, rest) e)
     t (w ∷ ws) a rest e = by w ws a rest (bytes_eq w key) refl e
 
 pub takes-keyed : {A : Type 0} (key : List ℕ) (r : Reader A) (S : A → List ℕ → Type 0) → Takes r (λ b t. S b ((32 ∷ key) ++ t)) → Takes (keyed key r) S
@@ -79,10 +75,10 @@ takes-keyed {A} key r S h = record { takes = t }
   where
     by : (w : List ℕ) (ws : List (List ℕ)) (a : A) (rest : List (List ℕ)) (b : Bool) → bytes_eq w key ≡ b → cond b (r ws) None ≡ Some (a, rest) → Read S (w ∷ ws) a rest
     by w ws a rest true is e = behind S key w ws a rest (bytes-same w key is) (h.takes ws a rest e)
-    by w ws a rest false is e = absurd (not-none (a, rest) e)
+    by w ws a rest false is e = absurd (none-some (a, rest) e)
 
     t : (ws : List (List ℕ)) (a : A) (rest : List (List ℕ)) → keyed key r ws ≡ Some (a, rest) → Read S ws a rest
-    t [] a rest e = absurd (not-none (a, rest) e)
+    t [] a rest e = absurd (none-some (a, rest) e)
     t (w ∷ ws) a rest e = by w ws a rest (bytes_eq w key) refl e
 
 -- one reader after another, where the first one's values have one text each
@@ -90,7 +86,7 @@ pub takes-followed : {A B : Type 0} (r : Reader A) (f : A → Reader B) (spell :
 takes-followed {A} {B} r f spell P S h k = record { takes = λ ws b rest e. by ws b rest (r ws) refl e }
   where
     by : (ws : List (List ℕ)) (b : B) (rest : List (List ℕ)) (o : Option (A × List (List ℕ))) → r ws ≡ o → after o f ≡ Some (b, rest) → Read S ws b rest
-    by ws b rest None is e = absurd (not-none (b, rest) e)
+    by ws b rest None is e = absurd (none-some (b, rest) e)
     by ws b rest (Some x) is e =
         let one = h.takes ws x.0 x.1 is in
         let two = (k x.0 one.known.1).takes x.1 b rest e in
@@ -118,9 +114,9 @@ takes-part {A} key of spell P h = record { takes = t }
     S xs t = (t ≡ part_text (32 ∷ key) spell xs) × AllByRecursion P xs
 
     some : (ws : List (List ℕ)) (m : List A × List (List ℕ)) (xs : List A) (rest : List (List ℕ)) → (fields ws ≡ flat_map spell m.0 ++ fields m.1) × AllByRecursion P m.0 → one_or_more m ≡ Some (xs, rest) → Read (λ ys t. S ys ((32 ∷ key) ++ t)) ws xs rest
-    some ws ([], vs) xs rest known e = absurd (not-none (xs, rest) e)
+    some ws ([], vs) xs rest known e = absurd (none-some (xs, rest) e)
     some ws (y ∷ ys, vs) xs rest known e =
-        let same = some-is (y ∷ ys, vs) (xs, rest) e in
+        let same = same_Some (y ∷ ys, vs) (xs, rest) e in
         let value : y ∷ ys ≡ xs = ap (λ x. x.0) same in
         let left : vs ≡ rest = ap (λ x. x.1) same in
         record {
@@ -286,10 +282,10 @@ pub whole-read : {A : Type 0} (r : Reader A) (S : A → List ℕ → Type 0) (ws
 whole-read {A} r S ws a h e = by (r ws) refl e
   where
     by : (o : Option (A × List (List ℕ))) → r ws ≡ o → all_read o ≡ Some a → S a (fields ws)
-    by None is e = absurd (not-none a e)
+    by None is e = absurd (none-some a e)
     by (Some (b, [])) is e =
         let one = h.takes ws b [] is in
-        let value : b ≡ a = some-is b a e in
+        let value : b ≡ a = same_Some b a e in
         let text : one.text ≡ fields ws = sym (one.whole ∙ append-nil one.text) in
         subst (λ x. S x (fields ws)) value (subst (λ t. S b t) text one.known)
-    by (Some (b, w ∷ vs)) is e = absurd (not-none a e)
+    by (Some (b, w ∷ vs)) is e = absurd (none-some a e)

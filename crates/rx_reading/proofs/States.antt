@@ -3,7 +3,8 @@ use Rattle.std.proofs.Common.{◌≡◌, ℕ, ◌+◌, ◌<◌, ◌≤◌, ◌^�
 use Rattle.std.specs.Prelude.{Option, Some, None, option_map, codes}
 use Rattle.std.specs.List.{AllByRecursion, flat_map}
 use Rattle.std.specs.Str.{bytes_eq}
-use Rattle.std.proofs.lemmas.Bool.{eqb-true}
+use Rattle.std.proofs.lemmas.Bool.{eqb-true, and_parts, ltb-true}
+use Rattle.std.proofs.lemmas.Option.{same_Some, none-some}
 use Rattle.rx_base.specs.declared.ids.Kill.{Kill}
 use Rattle.rx_rules.specs.declared.entries.Entry.{Entry}
 use Rattle.rx_rules.specs.declared.events.PlaceEvent.{PlaceEvent}
@@ -19,9 +20,7 @@ use Rattle.rx_reading.specs.Words.{pieces}
 use Rattle.rx_reading.specs.Inside.Machine.{State, Untitled, Titled, Sized, Planned, Entering, Logging, Over, sizes_at, kills_line_of, entry_of, event_of, begins_journal, state_with_sizes, read_line}
 use Rattle.rx_reading.proofs.Cuts.{bytes-same, all-append}
 use Rattle.rx_reading.proofs.Fields.{map-is}
-use Rattle.rx_reading.proofs.Figures.{lt-true}
 use Rattle.rx_reading.proofs.Plans.{IsCount, sizes_text, sizes-take, KillsLine, kills-take}
-use Rattle.rx_reading.proofs.Spelt.{some-is, not-none}
 use Rattle.rx_reading.proofs.Wholes.{entry-line-takes, event-line-takes}
 
 abbrev title : List ℕ
@@ -65,17 +64,17 @@ same-line : (line key : List ℕ) (s next after : State) (other : Option State) 
 same-line line key s next after other more here e = by (bytes_eq line key) refl e
   where
     by : (b : Bool) → bytes_eq line key ≡ b → cond b (Some next) other ≡ Some after → Stepped s line after
-    by true h f = subst (λ x. Stepped s line x) (some-is next after f) (here (bytes-same line key h))
+    by true h f = subst (λ x. Stepped s line x) (same_Some next after f) (here (bytes-same line key h))
     by false h f = more f
 
 refused : (s : State) (line : List ℕ) (after : State) → None ≡ Some after → Stepped s line after
-refused s line after e = absurd (not-none after e)
+refused s line after e = absurd (none-some after e)
 
 sized : (line : List ℕ) (after : State) (o : Option (ℕ × ℕ)) → all_read (sizes_at (pieces 32 line)) ≡ o → state_with_sizes o ≡ Some after → Stepped Titled line after
 sized line after None is e = refused Titled line after e
 sized line after (Some x) is e =
     let known = sizes-take line x is in
-    subst (λ s. Stepped Titled line s) (some-is (Sized x.0 x.1) after e)
+    subst (λ s. Stepped Titled line s) (same_Some (Sized x.0 x.1) after e)
     (record { text = ap (λ t. title ++ (t ++ codes "\n")) (sym known.0); so_far = (known.1, known.2) })
 
 abbrev given_of : ℕ → ℕ → List Kill → Given
@@ -190,10 +189,6 @@ next-text U es js j line is =
 over-text : (U : Given) (es : List Entry) (js : List (List PlaceEvent)) (j : List PlaceEvent) (line : List ℕ) → line ≡ codes "done" → state_text (Over U es (js ++ j ∷ [])) ≡ state_text (Logging U es js j) ++ ended line
 over-text U es js j line is = ap (λ l. state_text (Logging U es js j) ++ ended l) (sym is)
 
-both-parts : (a b : Bool) → (a && b) ≡ true → (a ≡ true) × (b ≡ true)
-both-parts true b e = (refl, e)
-both-parts false b e = cc
-
 abbrev event_answer : Given → List Entry → List (List PlaceEvent) → List PlaceEvent → List ℕ → Option State
 event_answer U es js j line = option_map (λ e. Logging U es js (j ++ e ∷ [])) (event_of (length js) (length j) line)
 
@@ -222,17 +217,17 @@ logging U es js j line after so e = by (begins_journal (length js + 1) line && n
     last : (b : Bool) → (bytes_eq line (codes "done") && length js + 1 == U.places) ≡ b → cond b (Some (Over U es (js ++ j ∷ []))) (event_answer U es js j line) ≡ Some after → Stepped s line after
     last false h f = logged U es js j line after so f
     last true h f =
-        let both = both-parts (bytes_eq line (codes "done")) (length js + 1 == U.places) h in
-        subst (λ x. Stepped s line x) (some-is (Over U es (js ++ j ∷ [])) after f)
+        let both = and_parts (bytes_eq line (codes "done")) (length js + 1 == U.places) h in
+        subst (λ x. Stepped s line x) (same_Some (Over U es (js ++ j ∷ [])) after f)
         (record { text = over-text U es js j line (bytes-same line (codes "done") both.0); so_far = over-within U es js j so (eqb-true (length js + 1) U.places both.1) })
 
     by : (b : Bool) → (begins_journal (length js + 1) line && nat_lt (length js + 1) U.places) ≡ b → cond b (Some (Logging U es (js ++ j ∷ []) [])) (cond (bytes_eq line (codes "done") && length js + 1 == U.places) (Some (Over U es (js ++ j ∷ []))) (event_answer U es js j line)) ≡ Some after → Stepped s line after
     by false h f = last (bytes_eq line (codes "done") && length js + 1 == U.places) refl f
     by true h f =
-        let both = both-parts (begins_journal (length js + 1) line) (nat_lt (length js + 1) U.places) h in
-        let below : length js + 1 < U.places = lt-true (length js + 1) U.places both.1 in
+        let both = and_parts (begins_journal (length js + 1) line) (nat_lt (length js + 1) U.places) h in
+        let below : length js + 1 < U.places = ltb-true (length js + 1) U.places both.1 in
         let long : length (js ++ j ∷ []) < U.places = omega (arith, length-append js (j ∷ [])) in
-        subst (λ x. Stepped s line x) (some-is (Logging U es (js ++ j ∷ []) []) after f)
+        subst (λ x. Stepped s line x) (same_Some (Logging U es (js ++ j ∷ []) []) after f)
         (record { text = next-text U es js j line (bytes-same line _ both.0); so_far = (so.0, long, journals-fit-end js j so.2 so.3, tt) })
 
 -- what is read of a line is its text

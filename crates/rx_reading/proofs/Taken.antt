@@ -1,8 +1,8 @@
 -- What stands before a byte, and after it.
 use Rattle.std.proofs.Common.{◌≡◌, ℕ, ◌+◌, ◌-◌, ◌<◌, Bool, true, false, cond, ◌==◌, not, List, [], ◌∷◌, ◌++◌, length, take, drop, suc, refl, ap, sym, ◌∙◌, subst, arith}
-use Rattle.std.specs.Prelude.{◌≢◌, Some}
+use Rattle.std.specs.Prelude.{Some}
 use Rattle.std.specs.List.{prefix_len}
-use Rattle.std.proofs.lemmas.Bool.{eqb-true, eq-eqb}
+use Rattle.std.proofs.lemmas.Bool.{eqb-true, eq-eqb, eqb-false}
 use Rattle.std.proofs.lemmas.List.{take_rest, take_all, drop_all, length-take-le}
 use Rattle.std.proofs.lemmas.List.Sums.{prefix_len-le-length}
 use Rattle.std.proofs.Math.Seq.{drop-append_seam}
@@ -12,16 +12,13 @@ use Rattle.rx_reading.proofs.Cuts.{pieces-cut, pieces-one}
 abbrev pub before : ℕ → List ℕ → ℕ
 before c bytes = prefix_len (λ b. not (b == c)) bytes
 
-apart : (b c : ℕ) → (b == c) ≡ false → b ≢ c
-apart b c e h = let t : (b == c) ≡ true = eq-eqb b c h in cc
-
 pub lacks-before : (c : ℕ) (bytes : List ℕ) → Lacks c (take (before c bytes) bytes)
 lacks-before c [] = tt
 lacks-before c (b ∷ bs) = by (b == c) refl (lacks-before c bs)
   where
     by : (t : Bool) → (b == c) ≡ t → Lacks c (take (before c bs) bs) → Lacks c (take (cond (not t) (1 + before c bs) 0) (b ∷ bs))
     by true e more = tt
-    by false e more = let one : 1 + before c bs ≡ suc (before c bs) = omega arith in subst (λ n. Lacks c (take n (b ∷ bs))) (sym one) (apart b c e, more)
+    by false e more = let one : 1 + before c bs ≡ suc (before c bs) = omega arith in subst (λ n. Lacks c (take n (b ∷ bs))) (sym one) (eqb-false b c e, more)
 
 pub lacks-all : (c : ℕ) (bytes : List ℕ) → before c bytes ≡ length bytes → Lacks c bytes
 lacks-all c [] e = tt
@@ -29,7 +26,7 @@ lacks-all c (b ∷ bs) e = by (b == c) refl e (lacks-all c bs)
   where
     by : (t : Bool) → (b == c) ≡ t → cond (not t) (1 + before c bs) 0 ≡ length (b ∷ bs) → (before c bs ≡ length bs → Lacks c bs) → Lacks c (b ∷ bs)
     by true h f more = absurd (omega arith)
-    by false h f more = (apart b c h, more (omega arith))
+    by false h f more = (eqb-false b c h, more (omega arith))
 
 -- the byte stands there
 pub cut-there : (c : ℕ) (bytes : List ℕ) → (before c bytes ≡ length bytes → ⊥) → bytes ≡ take (before c bytes) bytes ++ c ∷ drop (before c bytes + 1) bytes

@@ -1,5 +1,5 @@
 -- The next word, taken where it is an item.
-use Rattle.std.proofs.Common.{◌≡◌, ℕ, ◌+◌, ◌*◌, ◌/◌, ◌<◌, ◌≤◌, ◌^◌, Bool, true, false, cond, ◌||◌, ◌==◌, not, List, [], ◌∷◌, ◌++◌, length, refl, ap, sym, ◌∙◌, subst, arith, append_assoc, append-nil}
+use Rattle.std.proofs.Common.{◌≡◌, ℕ, ◌+◌, ◌*◌, ◌/◌, ◌<◌, ◌≤◌, ◌^◌, Bool, true, false, cond, ◌||◌, ◌==◌, List, [], ◌∷◌, ◌++◌, length, refl, ap, sym, ◌∙◌, subst, arith, append_assoc, append-nil}
 use Rattle.std.specs.Prelude.{Option, Some, None, option_map, filter}
 use Rattle.std.specs.List.{AllByRecursion}
 use Rattle.std.specs.Str.{bytes_eq}
@@ -9,35 +9,35 @@ use Rattle.rx_base.specs.Sets.{all_places, has_bit, members}
 use Rattle.rx_base.proofs.Members.{same-sets}
 use Rattle.std.proofs.Math.Nat.{lt-div-mul-add}
 use Rattle.std.proofs.lemmas.Nat.{pow_pos}
+use Rattle.std.proofs.lemmas.Bool.{lt-ltb}
+use Rattle.std.proofs.lemmas.Option.{same_Some, none-some}
 use Rattle.rx_reading.specs.Inside.FieldWords.{place_of}
 use Rattle.rx_reading.specs.Inside.Readers.{Reader, gathered, many, one_or_more, part}
 use Rattle.rx_reading.specs.Words.{first_word, next_of}
 use Rattle.rx_reading.specs.Inside.PartWords.{set_of, joined, places_at, key_of, left_of, item_of}
 use Rattle.rx_reading.proofs.Cuts.{bytes-same}
 use Rattle.rx_reading.proofs.Fields.{place-takes}
-use Rattle.rx_reading.proofs.Figures.{true-lt}
 use Rattle.rx_reading.proofs.Losses.{joined-low, joined-bit}
-use Rattle.rx_reading.proofs.Spelt.{some-is, not-none}
 
 abbrev with : {S : Type 0} → (S → List ℕ) → List (List ℕ) → S → List ℕ × List (List ℕ)
 with now new s = (now s, new)
 
 rest-of : {S : Type 0} (r : Option S) (now : S → List ℕ) (new : List (List ℕ)) (w : List ℕ) (ws : List (List ℕ)) → option_map (with now new) r ≡ Some (w, ws) → new ≡ ws
-rest-of None now new w ws e = absurd (not-none (w, ws) e)
-rest-of (Some s) now new w ws e = ap (λ x. x.1) (some-is (now s, new) (w, ws) e)
+rest-of None now new w ws e = absurd (none-some (w, ws) e)
+rest-of (Some s) now new w ws e = ap (λ x. x.1) (same_Some (now s, new) (w, ws) e)
 
 -- an item is taken
 pub item-some : {A S : Type 0} (of : List ℕ → Option A) (ws new : List (List ℕ)) (w : List ℕ) (a : A) (r : Option S) (now : S → List ℕ) → Some w ≡ next_of ws → of w ≡ Some a → option_map (with now new) r ≡ first_word ws → (Some a, new) ≡ item_of of ws
-item-some of [] new w a r now next is e = absurd (not-none w (sym next))
+item-some of [] new w a r now next is e = absurd (none-some w (sym next))
 item-some of (v ∷ ws) new w a r now next is e =
-    let same : w ≡ v = some-is w v next in
+    let same : w ≡ v = same_Some w v next in
     let left : new ≡ ws = rest-of r now new v ws e in
     ap (λ n. (Some a, n)) left ∙ sym (ap (λ o. left_of o v ws) (ap of (sym same) ∙ is))
 
 -- none is there
 pub item-none : {A : Type 0} (of : List ℕ → Option A) (ws : List (List ℕ)) (w : List ℕ) → Some w ≡ next_of ws → of w ≡ None → (None, ws) ≡ item_of of ws
-item-none of [] w next is = absurd (not-none w (sym next))
-item-none of (v ∷ ws) w next is = sym (ap (λ o. left_of o v ws) (ap of (sym (some-is w v next)) ∙ is))
+item-none of [] w next is = absurd (none-some w (sym next))
+item-none of (v ∷ ws) w next is = sym (ap (λ o. left_of o v ws) (ap of (sym (same_Some w v next)) ∙ is))
 
 abbrev paired : {A B : Type 0} → A → B → A × B
 paired a b = (a, b)
@@ -55,11 +55,11 @@ pub record Took {A : Type 0} (of : List ℕ → Option A) (ws : List (List ℕ))
   pub reads : of text ≡ Some a
 
 pub took : {A : Type 0} (of : List ℕ → Option A) (ws new : List (List ℕ)) (a : A) → (Some a, new) ≡ item_of of ws → Took of ws a new
-took of [] new a e = absurd (not-none a (sym (pair-first (Some a) None new [] e)))
+took of [] new a e = absurd (none-some a (sym (pair-first (Some a) None new [] e)))
 took {A} of (w ∷ ws) new a e = by (of w) refl e
   where
     by : (o : Option A) → of w ≡ o → (Some a, new) ≡ left_of o w ws → Took of (w ∷ ws) a new
-    by None is f = absurd (not-none a (sym (pair-first (Some a) None new (w ∷ ws) f)))
+    by None is f = absurd (none-some a (sym (pair-first (Some a) None new (w ∷ ws) f)))
     by (Some b) is f = record { text = w; whole = ap (λ vs. w ∷ vs) (sym (pair-second (Some a) (Some b) new ws f)); reads = is ∙ sym (pair-first (Some a) (Some b) new ws f) }
 
 pub took-shorter : {A : Type 0} (of : List ℕ → Option A) (ws new : List (List ℕ)) (a : A) → (Some a, new) ≡ item_of of ws → length new < length ws
@@ -74,7 +74,7 @@ none-many {A} of (w ∷ ws) new e = by (of w) refl e
   where
     by : (o : Option A) → of w ≡ o → (None, new) ≡ left_of o w ws → gathered o w ws (many of ws) ≡ ([], new)
     by None is f = ap (λ vs. ([], vs)) (sym (pair-second {A = Option A} {B = List (List ℕ)} None None new (w ∷ ws) f))
-    by (Some b) is f = absurd (not-none b (pair-first None (Some b) new ws f))
+    by (Some b) is f = absurd (none-some b (pair-first None (Some b) new ws f))
 
 -- the items so far and those that are left are all
 abbrev pub AreAll : {A : Type 0} → (List ℕ → Option A) → List A → List (List ℕ) → List (List ℕ) → Type 0
@@ -137,7 +137,7 @@ joined-more places set result p ws new all few left e low small bits =
     let t = took (place_of places) ws new p e in
     let inside : p.0 < places = (place-takes places t.text p t.reads).1 in
     ap (λ n. places_at places n new) (set-joined set result p.0 low (omega arith) small bits)
-    ∙ sym (ap (places_at places set.0) t.whole ∙ ap (λ o. joined o set.0 t.text new (λ n. places_at places n new)) t.reads ∙ ap (λ b. cond b (places_at places (set.0 + 2 ^ p.0) new) None) (true-lt set.0 (2 ^ p.0) low))
+    ∙ sym (ap (places_at places set.0) t.whole ∙ ap (λ o. joined o set.0 t.text new (λ n. places_at places n new)) t.reads ∙ ap (λ b. cond b (places_at places (set.0 + 2 ^ p.0) new) None) (lt-ltb set.0 (2 ^ p.0) low))
     ∙ left
 
 -- what the answer of a call is
@@ -158,16 +158,12 @@ below-power n p e =
 
 -- the reader that the first word picks
 pub by-word : {A : Type 0} (q r : Reader A) (words rest : List (List ℕ)) (w key : List ℕ) → Some (paired w rest) ≡ first_word words → true ≡ bytes_eq w key → ((ws : List (List ℕ)) → q (key ∷ ws) ≡ r ws) → r rest ≡ q words
-by-word q r [] rest w key first same picks = absurd (not-none (w, rest) (sym first))
+by-word q r [] rest w key first same picks = absurd (none-some (w, rest) (sym first))
 by-word q r (v ∷ ws) rest w key first same picks =
-    let e = some-is (paired w rest) (paired v ws) first in
+    let e = same_Some (paired w rest) (paired v ws) first in
     let is : key ≡ v = sym (bytes-same w key (sym same)) ∙ ap (λ x. x.0) e in
     let left : rest ≡ ws = ap (λ x. x.1) e in
     ap r left ∙ sym (picks ws) ∙ ap (λ k. q (k ∷ ws)) is
-
-pub not-false : (b : Bool) → not b ≡ false → b ≡ true
-not-false true e = refl
-not-false false e = cc
 
 pub item-none-as : {A : Type 0} (of : List ℕ → Option A) (ws : List (List ℕ)) (w : List ℕ) → Some w ≡ next_of ws → of w ≡ None → (r : Option A) → r ≡ None → paired r ws ≡ item_of of ws
 item-none-as of ws w next is r none = ap (λ o. paired o ws) none ∙ item-none of ws w next is

@@ -5,6 +5,9 @@ use Rattle.std.specs.Char.{is_ascii_digit}
 use Rattle.std.specs.Fmt.{digits, digits_onto, digit_glyph}
 use Rattle.std.specs.List.{AllByRecursion}
 use Rattle.std.specs.Str.{all_ascii_digits}
+use Rattle.std.proofs.lemmas.Bool.{eqb-false, ltb-true, lt-ltb}
+use Rattle.std.proofs.lemmas.Option.{none-some}
+use Rattle.rx_base.proofs.Elements.{rest-is}
 use Rattle.rx_rules.specs.declared.entries.Entry.{Entry}
 use Rattle.rx_rules.specs.declared.events.PlaceEvent.{PlaceEvent}
 use Rattle.rx_text.specs.Numbers.{natural_text}
@@ -20,9 +23,8 @@ use Rattle.rx_text.proofs.Digits.{digits-all}
 use Rattle.rx_reading.proofs.Cuts.{IsPlain, Plain, all-append, all-map, marked-together, pieces-marked, pieces-together}
 use Rattle.rx_reading.proofs.Entries.{IsEnd, entry-takes, entry-again}
 use Rattle.rx_reading.proofs.Events.{event-takes, event-again}
-use Rattle.rx_reading.proofs.Fields.{differs}
-use Rattle.rx_reading.proofs.Figures.{digits-plain, IsFigure, lt-true, true-lt}
-use Rattle.rx_reading.proofs.Spelt.{not-none, Takes, takes-keyed, whole-read, Again, Any, again-keyed}
+use Rattle.rx_reading.proofs.Figures.{digits-plain, IsFigure}
+use Rattle.rx_reading.proofs.Spelt.{Takes, takes-keyed, whole-read, Again, Any, again-keyed}
 
 -- a line is its words, each after a blank, but for the first blank
 pub words-of-line : (line : List ℕ) → fields (pieces 32 line) ≡ 32 ∷ line
@@ -34,14 +36,11 @@ line-takes r S line a h e = subst (λ t. S a t) (words-of-line line) (whole-read
 
 pub fields-lack : (ws : List (List ℕ)) → AllByRecursion Plain ws → Lacks 10 (fields ws)
 fields-lack [] all = tt
-fields-lack (w ∷ ws) all = (differs 32 10 refl, all-append (λ b. b ≢ 10) w (fields ws) (all-map IsPlain (λ b. b ≢ 10) (λ b p. p.1) w all.0) (fields-lack ws all.1))
+fields-lack (w ∷ ws) all = (eqb-false 32 10 refl, all-append (λ b. b ≢ 10) w (fields ws) (all-map IsPlain (λ b. b ≢ 10) (λ b p. p.1) w all.0) (fields-lack ws all.1))
 
 words-lack : (ws : List (List ℕ)) → AllByRecursion Plain ws → AllByRecursion (Lacks 32) ws
 words-lack [] all = tt
 words-lack (w ∷ ws) all = (all-map IsPlain (λ b. b ≢ 32) (λ b p. p.0) w all.0, words-lack ws all.1)
-
-pub rest-is : (a : ℕ) (x y : List ℕ) → a ∷ x ≡ a ∷ y → x ≡ y
-rest-is a x y e = cc
 
 pub cut-line : (front : List (List ℕ)) (line : List ℕ) → fields front ≡ 32 ∷ line → AllByRecursion Plain front → pieces 32 line ≡ front
 cut-line [] line e all = cc
@@ -80,7 +79,7 @@ pub entry-line-takes : (places n : ℕ) (line : List ℕ) (e : Entry) → places
 entry-line-takes places n line e few is = by (nat_lt n (2 ^ 32)) refl is
   where
     by : (b : Bool) → nat_lt n (2 ^ 32) ≡ b → cond b (all_read (keyed (natural_text n) (entry_at places) (pieces 32 line))) None ≡ Some e → EntryRead places n line e
-    by false h f = absurd (not-none e f)
+    by false h f = absurd (none-some e f)
     by true h f =
         let entry = entry-takes places few in
         let shifted : Takes (entry_at places) (λ x t. IsEntryLine places n x ((32 ∷ natural_text n) ++ t)) = record {
@@ -90,13 +89,13 @@ entry-line-takes places n line e few is = by (nat_lt n (2 ^ 32)) refl is
               );
         } in
         let got = line-takes (keyed (natural_text n) (entry_at places)) (IsEntryLine places n) line e (takes-keyed (natural_text n) (entry_at places) (IsEntryLine places n) shifted) f in
-        record { text = rest-is 32 line (natural_text n ++ entry_text e) got.0; fits = got.1; low = lt-true n (2 ^ 32) h }
+        record { text = rest-is 32 line (natural_text n ++ entry_text e) got.0; fits = got.1; low = ltb-true n (2 ^ 32) h }
 
 pub entry-line-again : (places n : ℕ) (e : Entry) → places ≤ 16 → n < 2 ^ 32 → FitsEntry places e → LineAgain (entry_of places n (natural_text n ++ entry_text e)) e (natural_text n ++ entry_text e)
 entry-line-again places n e few low fits =
     let h = line-again (keyed (natural_text n) (entry_at places)) e (natural_text n ++ entry_text e) IsEnd refl
     (again-keyed (natural_text n) (entry_at places) e (entry_text e) IsEnd (number-plain-all n) (entry-again places e few fits)) in
-    record { reads = ap (λ b. cond b (all_read (keyed (natural_text n) (entry_at places) (pieces 32 (natural_text n ++ entry_text e)))) None) (true-lt n (2 ^ 32) low) ∙ h.reads; lacks = h.lacks }
+    record { reads = ap (λ b. cond b (all_read (keyed (natural_text n) (entry_at places) (pieces 32 (natural_text n ++ entry_text e)))) None) (lt-ltb n (2 ^ 32) low) ∙ h.reads; lacks = h.lacks }
 
 abbrev IsEventLine : ℕ → ℕ → PlaceEvent → List ℕ → Type 0
 IsEventLine home n e t = (t ≡ 32 ∷ (natural_text n ++ event_text e)) × FitsEvent home e

@@ -6,6 +6,7 @@ use Rattle.rx_base.specs.declared.ids.TaskId.{TaskId}
 use Rattle.rx_base.specs.declared.ids.ScopeId.{ScopeId}
 use Rattle.rx_base.specs.declared.place_set.PlaceSet.{PlaceSet}
 use Rattle.rx_base.specs.declared.values.Fault.{Fault}
+use Rattle.rx_base.proofs.SameIds.{scope-is, task-is, place-is}
 use Rattle.rx_rules.specs.declared.tasks.Task.{Task}
 use Rattle.rx_rules.specs.declared.tasks.Scope.{Scope}
 use Rattle.rx_rules.specs.declared.entries.Act.{Act}
@@ -17,15 +18,6 @@ use Rattle.rx_rules.specs.Plays.{Fits}
 use Rattle.rx_runs.specs.PickedRuns.{ActFits}
 use Rattle.rx_runs.proofs.Sets.{members_once}
 
-pub scope_is : (s r : ScopeId) → s.0 ≡ r.0 → s ≡ r
-scope_is s r e = ap (λ (n : ℕ). let q : ScopeId = record { 0 = n } in q) e
-
-pub task_is : (s r : TaskId) → s.0 ≡ r.0 → s ≡ r
-task_is s r e = ap (λ (n : ℕ). let q : TaskId = record { 0 = n } in q) e
-
-place_is : (s r : PlaceId) → s.0 ≡ r.0 → s ≡ r
-place_is s r e = ap (λ (n : ℕ). let q : PlaceId = record { 0 = n } in q) e
-
 pub one_task : (T : Tree) (t : TaskId) (x y : Task) → task_of T t ≡ Some x → task_of T t ≡ Some y → x ≡ y
 one_task T t x y e f = let k : Some x ≡ Some y = sym e ∙ f in cc
 
@@ -35,7 +27,7 @@ names_once T s a b f g h k low high = (members_once a b (h.places ∙ sym k.plac
 
 open_once : (T : Tree) (u : TaskId) (here : PlaceId) (t : Term) (c d : Act) → Fits here t Opens c → Fits here t Opens d → AllowedAct T u c → AllowedAct T u d → ActFits c → ActFits d → c ≡ d
 open_once T u here t (Open a0 a1 a2) (Open b0 b1 b2) h k m o p q =
-    let s : a0 ≡ b0 = scope_is a0 b0 (m.next ∙ sym o.next) in
+    let s : a0 ≡ b0 = scope-is a0 b0 (m.next ∙ sym o.next) in
     let task : m.task ≡ o.task = one_task T u m.task o.task m.live.acts.stands o.live.acts.stands in
     let r : a1 ≡ b1 = m.parent ∙ ap (inner T) task ∙ sym o.parent in
     let x : a2 ≡ b2 = (let e : Some a2 ≡ Some b2 = sym h ∙ k in cc) in
@@ -59,12 +51,12 @@ call_once : (T : Tree) (u : TaskId) (here : PlaceId) (t : Term) (place : ℕ) (c
 call_once T u here t place (Open a0 a1 a2) d h k m o p q = absurd h
 call_once T u here t place (Calls a0 a1 a2 a3 a4 a5) (Open b0 b1 b2) h k m o p q = absurd k
 call_once T u here t place (Calls a0 a1 a2 a3 a4 a5) (Calls b0 b1 b2 b3 b4 b5) h k m o p q =
-    let s : a0 ≡ b0 = scope_is a0 b0 (m.next ∙ sym o.next) in
+    let s : a0 ≡ b0 = scope-is a0 b0 (m.next ∙ sym o.next) in
     let task : m.task ≡ o.task = one_task T u m.task o.task m.live.acts.stands o.live.acts.stands in
     let r : a1 ≡ b1 = m.parent ∙ ap (inner T) task ∙ sym o.parent in
-    let c : a2 ≡ b2 = task_is a2 b2 (m.next_task ∙ sym o.next_task) in
+    let c : a2 ≡ b2 = task-is a2 b2 (m.next_task ∙ sym o.next_task) in
     let from : a3 ≡ b3 = h.1 ∙ sym k.1 in
-    let to : a4 ≡ b4 = place_is a4 b4 (h.0 ∙ sym k.0) in
+    let to : a4 ≡ b4 = place-is a4 b4 (h.0 ∙ sym k.0) in
     let x : a5 ≡ b5 = (let e : Some a5 ≡ Some b5 = sym h.2 ∙ k.2 in cc) in
     ap (λ (v : ScopeId). Calls v a1 a2 a3 a4 a5) s ∙ ap (λ (v : ScopeId). Calls b0 v a2 a3 a4 a5) r ∙ ap (λ (v : TaskId). Calls b0 b1 v a3 a4 a5) c ∙ ap (λ (v : PlaceId). Calls b0 b1 b2 v a4 a5) from ∙ ap (λ (v : PlaceId). Calls b0 b1 b2 b3 v a5) to ∙ ap (λ (v : List ℕ). Calls b0 b1 b2 b3 b4 v) x
 call_once T u here t place (Calls a0 a1 a2 a3 a4 a5) (Spawn b0 b1 b2 b3 b4) h k m o p q = absurd k
@@ -87,10 +79,10 @@ spawn_once T u here t place (Spawn a0 a1 a2 a3 a4) (Open b0 b1 b2) h k m o p q =
 spawn_once T u here t place (Spawn a0 a1 a2 a3 a4) (Calls b0 b1 b2 b3 b4 b5) h k m o p q = absurd k
 spawn_once T u here t place (Spawn a0 a1 a2 a3 a4) (Spawn b0 b1 b2 b3 b4) h k m o p q =
     let task : m.task ≡ o.task = one_task T u m.task o.task m.live.acts.stands o.live.acts.stands in
-    let c : a0 ≡ b0 = task_is a0 b0 (m.next_task ∙ sym o.next_task) in
+    let c : a0 ≡ b0 = task-is a0 b0 (m.next_task ∙ sym o.next_task) in
     let s : a1 ≡ b1 = m.under ∙ ap (governs T) task ∙ sym o.under in
     let from : a2 ≡ b2 = h.1 ∙ sym k.1 in
-    let to : a3 ≡ b3 = place_is a3 b3 (h.0 ∙ sym k.0) in
+    let to : a3 ≡ b3 = place-is a3 b3 (h.0 ∙ sym k.0) in
     let x : a4 ≡ b4 = (let e : Some a4 ≡ Some b4 = sym h.2 ∙ k.2 in cc) in
     ap (λ (v : TaskId). Spawn v a1 a2 a3 a4) c ∙ ap (λ (v : ScopeId). Spawn b0 v a2 a3 a4) s ∙ ap (λ (v : PlaceId). Spawn b0 b1 v a3 a4) from ∙ ap (λ (v : PlaceId). Spawn b0 b1 b2 v a4) to ∙ ap (λ (v : List ℕ). Spawn b0 b1 b2 b3 v) x
 spawn_once T u here t place (Spawn a0 a1 a2 a3 a4) (Arrive b0) h k m o p q = absurd k

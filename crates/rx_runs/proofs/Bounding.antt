@@ -23,8 +23,8 @@ use Rattle.rx_rules.specs.Plays.{Birth, birth_of, moves_from, travels, started_b
 use Rattle.rx_rules.specs.Run.{Given, IsDue, rest_of}
 use Rattle.rx_rules.specs.Picked as picked
 use Rattle.rx_rules.specs.Picked.{Player, Game, Turn, Turns, start_game, enabled, tree_in, child_of}
-use Rattle.rx_runs.proofs.Numbers.{next-tree}
 use Rattle.rx_rules.specs.Run.{NoRoot}
+use Rattle.rx_rules.proofs.Numbers.{next-tree}
 use Rattle.rx_runs.specs.Costs.{cost}
 use Rattle.rx_runs.specs.Ties.{Moves, is_end, has_end, RowSo}
 use Rattle.rx_runs.specs.Games.{GameOk, PlayerSo}

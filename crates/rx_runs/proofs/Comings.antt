@@ -1,43 +1,30 @@
 -- Games that turns have made, whatever the picks.
-use Rattle.std.specs.Prelude.{◌≡◌, ℕ, suc, ◌+◌, ◌*◌, ◌≤◌, not, List, [], ◌∷◌, ◌++◌, filter, length, Some, None, refl}
+use Rattle.std.specs.Prelude.{◌≡◌, ℕ, suc, ◌+◌, ◌*◌, ◌≤◌, List, [], ◌∷◌, ◌++◌, length, refl}
 use Rattle.std.proofs.Common.{◌∙◌, sym, arith}
 use Rattle.std.proofs.lemmas.List.Sums.{sum_by-cons}
-use Rattle.rx_base.specs.declared.values.Fault.{Fault}
-use Rattle.rx_base.specs.declared.ids.TaskId.{TaskId}
 use Rattle.rx_rules.specs.declared.entries.Act.TheVariants.{Open, At as Calls, Spawn, Arrive, Wait, Release, End, Print}
 use Rattle.rx_rules.specs.declared.entries.Entry.{Entry}
 use Rattle.rx_rules.specs.declared.entries.Entry.TheVariants.{Step, Root, Death}
 use Rattle.rx_rules.specs.Code.{Block, work}
 use Rattle.rx_rules.specs.Terms.{Empty, items}
-use Rattle.rx_rules.specs.Tree.{Tree, is_task, task_of}
-use Rattle.rx_rules.specs.Entries.{made, after_end, change_scope}
+use Rattle.rx_rules.specs.Tree.{Tree}
+use Rattle.rx_rules.specs.Entries.{made}
 use Rattle.rx_rules.specs.Fold.{births, births_of, fold_from, opening}
 use Rattle.rx_rules.specs.Run.{Given, Proper, NoRoot}
 use Rattle.rx_rules.specs.Picked.{Game, Comes, opens, turns, start_game, tree_in}
+use Rattle.rx_rules.proofs.Numbers.{scope-after_end, next-tree}
 use Rattle.rx_runs.specs.Costs.{cost}
 use Rattle.rx_runs.specs.Games.{GameOk, PlayerSo}
 use Rattle.rx_runs.specs.Coming.{GamesCome, GoesOn}
 use Rattle.rx_runs.specs.Framing.{AllFit}
 use Rattle.rx_runs.proofs.Fitting.{fits_keeps, starts_fit}
 use Rattle.rx_runs.proofs.Going.{next_of}
-use Rattle.rx_runs.proofs.Numbers.{next-tree}
 use Rattle.rx_runs.proofs.Pairs.{pairs-length}
 use Rattle.rx_runs.proofs.Bounding.{total, turn_pays}
 use Rattle.rx_runs.proofs.Costs.{cost_items}
 use Rattle.rx_runs.proofs.Keeping.{turn_keeps}
 use Rattle.rx_runs.proofs.Opening.{starts_ok}
 use Rattle.rx_runs.proofs.Pigeons.{kills_fit}
-
-scope-after_end : (T : Tree) (t : TaskId) (thrown : List Fault) → (after_end T t thrown).next_scope ≡ T.next_scope
-scope-after_end T t thrown =
-    elim (task_of T t) as
-    (λ o. (elim o as (λ _. Tree) [
-      | Some x ↦ change_scope (λ g. record g { ends = g.ends ++ thrown }) x.under (record T { tasks = filter (λ y. not (is_task t y)) T.tasks })
-      | None ↦ T
-    ]).next_scope ≡ T.next_scope) [
-      | Some x ↦ refl
-      | None ↦ refl
-    ]
 
 scope-made : (n : ℕ) (T : Tree) (e : Entry) → (made n T e).next_scope ≤ T.next_scope + 1
 scope-made n T (Step t (Open s r path) batch) = omega arith

@@ -8,6 +8,7 @@ use Rattle.rx_base.specs.declared.values.Fault.{Fault}
 use Rattle.rx_base.specs.declared.ids.GlobalRef.{GlobalRef}
 use Rattle.rx_base.specs.declared.values.Value.TheVariants.{Num as Number}
 use Rattle.rx_base.specs.declared.values.Fault.TheVariants.{WrongPlace, Thrown}
+use Rattle.rx_base.proofs.Numbers.{add-one}
 use Rattle.rx_rules.specs.Code as code
 use Rattle.rx_rules.specs.Code.{Block, Nothing, Then, Stmt, work, work_of}
 use Rattle.rx_rules.specs.Terms.{bound, Term, Empty, Raise, Run, Turns, Trying, Body, Held, Does, Local, Makes, Gets, Puts, Forgets, Opens, Calls, Spawns, Waits, Releases, Prints, Done, granted, child, Vars, does, items, items_from, at, eval, with_number, with_place, target_of, on_ref, ref_in, is_zero, stmt_does, trying_does, body_does, catches, or_raise, raise, value_of, within}
@@ -110,14 +111,8 @@ stmt_spends vars here places (code.Try body dead_only handler) x rest =
 add_both : (a b h r : ℕ) → a ≤ b → a + h + r ≤ b + h + r
 add_both a b h r le = omega arith
 
-add_one : (a b h r : ℕ) → a + 1 ≤ b → (a + h + r) + 1 ≤ b + h + r
-add_one a b h r le = omega arith
-
 add_child : (a c b h r : ℕ) → a + c + 3 ≤ b → (a + h + r) + c + 3 ≤ b + h + r
 add_child a c b h r le = omega arith
-
-above : (a b : ℕ) → nat_le a b ≡ false → b < a
-above a b e = leb-false a b e
 
 trying_answer : (inside : Term) (dead_only : Bool) (handler : Block) (x : List ℕ) (rest : Term) (a : Answer) → cost (answered a inside) ≤ cost inside → cost (answered a (Trying inside dead_only handler x rest)) ≤ cost inside + 4 * work handler + cost rest
 trying_answer inside dead_only handler x rest (Gives name value) h = add_both (cost (answered (Gives name value) inside)) (cost inside) (4 * work handler) (cost rest) h
@@ -136,12 +131,12 @@ in_trying inside dead_only handler x rest (Makes name words) h = λ a. trying_an
 in_trying inside dead_only handler x rest (Gets name target index) h = λ a. trying_answer inside dead_only handler x rest a (h a)
 in_trying inside dead_only handler x rest (Puts target index value) h = λ a. trying_answer inside dead_only handler x rest a (h a)
 in_trying inside dead_only handler x rest (Forgets target) h = λ a. trying_answer inside dead_only handler x rest a (h a)
-in_trying inside dead_only handler x rest Opens h = add_one (cost (granted [] inside)) (cost inside) (4 * work handler) (cost rest) h
+in_trying inside dead_only handler x rest Opens h = add-one (cost (granted [] inside)) (cost inside) (4 * work handler) (cost rest) h
 in_trying inside dead_only handler x rest (Calls p) h = add_child (cost (granted [] inside)) (cost (child inside)) (cost inside) (4 * work handler) (cost rest) h
 in_trying inside dead_only handler x rest (Spawns p) h = add_child (cost (granted [] inside)) (cost (child inside)) (cost inside) (4 * work handler) (cost rest) h
-in_trying inside dead_only handler x rest (Waits faults) h = add_one (cost (granted [] inside)) (cost inside) (4 * work handler) (cost rest) h
-in_trying inside dead_only handler x rest Releases h = λ faults. add_one (cost (granted faults inside)) (cost inside) (4 * work handler) (cost rest) (h faults)
-in_trying inside dead_only handler x rest (Prints value) h = add_one (cost (granted [] inside)) (cost inside) (4 * work handler) (cost rest) h
+in_trying inside dead_only handler x rest (Waits faults) h = add-one (cost (granted [] inside)) (cost inside) (4 * work handler) (cost rest) h
+in_trying inside dead_only handler x rest Releases h = λ faults. add-one (cost (granted faults inside)) (cost inside) (4 * work handler) (cost rest) (h faults)
+in_trying inside dead_only handler x rest (Prints value) h = add-one (cost (granted [] inside)) (cost inside) (4 * work handler) (cost rest) h
 in_trying inside dead_only handler x rest (Done faults) h = tt
 
 caught : (b : Bool) (handler : Block) (x : List ℕ) (rest : Term) (faults : List Fault) → cost (cond b (items handler (at x 1) rest) (Raise faults)) ≤ 0 + 4 * work handler + cost rest
@@ -164,12 +159,12 @@ in_body inside rest (Makes name words) g h = λ a. body_answer inside rest a (h 
 in_body inside rest (Gets name target index) g h = λ a. body_answer inside rest a (h a)
 in_body inside rest (Puts target index value) g h = λ a. body_answer inside rest a (h a)
 in_body inside rest (Forgets target) g h = λ a. body_answer inside rest a (h a)
-in_body inside rest Opens g h = subst (λ (t : Term). cost t + 1 ≤ cost (Body inside rest)) (sym (g [])) (add_one (cost (granted [] inside)) (cost inside) 2 (cost rest) h)
+in_body inside rest Opens g h = subst (λ (t : Term). cost t + 1 ≤ cost (Body inside rest)) (sym (g [])) (add-one (cost (granted [] inside)) (cost inside) 2 (cost rest) h)
 in_body inside rest (Calls p) g h = subst (λ (t : Term). cost t + cost (child inside) + 3 ≤ cost (Body inside rest)) (sym (g [])) (add_child (cost (granted [] inside)) (cost (child inside)) (cost inside) 2 (cost rest) h)
 in_body inside rest (Spawns p) g h = subst (λ (t : Term). cost t + cost (child inside) + 3 ≤ cost (Body inside rest)) (sym (g [])) (add_child (cost (granted [] inside)) (cost (child inside)) (cost inside) 2 (cost rest) h)
-in_body inside rest (Waits faults) g h = subst (λ (t : Term). cost t + 1 ≤ cost (Body inside rest)) (sym (g [])) (add_one (cost (granted [] inside)) (cost inside) 2 (cost rest) h)
-in_body inside rest Releases g h = λ faults. subst (λ (t : Term). cost t + 1 ≤ cost (Body inside rest)) (sym (g faults)) (add_one (cost (granted faults inside)) (cost inside) 2 (cost rest) (h faults))
-in_body inside rest (Prints value) g h = subst (λ (t : Term). cost t + 1 ≤ cost (Body inside rest)) (sym (g [])) (add_one (cost (granted [] inside)) (cost inside) 2 (cost rest) h)
+in_body inside rest (Waits faults) g h = subst (λ (t : Term). cost t + 1 ≤ cost (Body inside rest)) (sym (g [])) (add-one (cost (granted [] inside)) (cost inside) 2 (cost rest) h)
+in_body inside rest Releases g h = λ faults. subst (λ (t : Term). cost t + 1 ≤ cost (Body inside rest)) (sym (g faults)) (add-one (cost (granted faults inside)) (cost inside) 2 (cost rest) (h faults))
+in_body inside rest (Prints value) g h = subst (λ (t : Term). cost t + 1 ≤ cost (Body inside rest)) (sym (g [])) (add-one (cost (granted [] inside)) (cost inside) 2 (cost rest) h)
 in_body inside rest (Done faults) g h = tt
 
 body_spends : (inside rest : Term) (d : Does) → Spends inside d → Spends (Body inside rest) (body_does inside d rest)
@@ -185,7 +180,7 @@ turn_spends : (b : Bool) (body : Block) (x : List ℕ) (k times : ℕ) (rest : T
 turn_spends true body x k times rest e = omega arith
 turn_spends false body x k times rest e =
     let i : cost (items body (at x k) (Turns body x (suc k) times rest)) ≡ 4 * work body + cost (Turns body x (suc k) times rest) = cost_items body (at x k) 0 (Turns body x (suc k) times rest) in
-    let more : k < times = above times k e in
+    let more : k < times = leb-false times k e in
     let less : times - k ≡ suc (times - suc k) = omega arith in
     let m : (times - k) * work body ≡ (times - suc k) * work body + work body = ap (λ v. v * work body) less ∙ suc-mul (times - suc k) (work body) in
     let t : cost (Turns body x (suc k) times rest) ≡ 4 * ((times - suc k) * work body) + cost rest = refl in

@@ -19,6 +19,7 @@ use Rattle.rx_rules.specs.Fold.{births, AllAllowed, opening, fold_from, tree_of}
 use Rattle.rx_rules.specs.Reached.{Reached, IsOlder, opens}
 use Rattle.rx_rules.specs.Run.{EndsWithRoot}
 use Rattle.rx_rules.specs.Laws.{ends_task, has_ended}
+use Rattle.rx_rules.proofs.Numbers.{next-tree}
 use Rattle.rx_sound.specs.Sound.{Each, TaskFits, Sound}
 use Rattle.rx_sound.proofs.Changes.{each_more}
 use Rattle.rx_sound.proofs.Blows.{hit_number}
@@ -26,7 +27,6 @@ use Rattle.rx_sound.proofs.Reached.{sound}
 use Rattle.rx_sound.proofs.Histories.{reached_now, dead-now, none_yet}
 use Rattle.rx_sound.proofs.Releasing.{none_is_not, leaves, each_both, each_none, on_meets}
 use Rattle.rx_runs.specs.Endings.{EveryoneEnds}
-use Rattle.rx_runs.proofs.Numbers.{next-tree}
 
 abbrev is_number : ℕ → Task → Bool
 is_number t x = x.number.0 == t

@@ -22,6 +22,7 @@ use Rattle.rx_rules.specs.Fold.{births, births_of, AllAllowed, opening}
 use Rattle.rx_rules.specs.Reached.{Reached, IsOlder, opens}
 use Rattle.rx_rules.specs.Run.{KillsInOrder, rest_of}
 use Rattle.rx_rules.specs.Plays.{Starts, Birth, brought, started_by, birth_in, birth_from, birth_of, travels, moves_from}
+use Rattle.rx_rules.proofs.Numbers.{next-made}
 use Rattle.rx_sound.specs.Chains.{meets}
 use Rattle.rx_sound.specs.Sound.{Sound}
 use Rattle.rx_sound.proofs.Stay.{any_faulted}
@@ -35,7 +36,6 @@ use Rattle.rx_runs.proofs.Costs.{spends, cost_items}
 use Rattle.rx_runs.proofs.Paying.{asks_cost, store_cost}
 use Rattle.rx_runs.proofs.Wider.{SoFor}
 use Rattle.rx_runs.proofs.Paying as paying
-use Rattle.rx_runs.proofs.Numbers.{next-made}
 use Rattle.rx_runs.proofs.Bounding.{one_less}
 use Rattle.rx_runs.proofs.Pigeons.{kills_fit}
 use Rattle.rx_runs.proofs.Sharing.{of_moves, of_tasks, of_entries, brings, range, weight, given, all_hit, born_in_order, given_range, all_below}

@@ -8,6 +8,7 @@ use Rattle.std.proofs.lemmas.List.Folds.{list_any-append}
 use Rattle.rx_base.specs.declared.ids.PlaceId.{PlaceId}
 use Rattle.rx_base.specs.declared.ids.TaskId.{TaskId}
 use Rattle.rx_base.specs.declared.values.Fault.{Fault}
+use Rattle.rx_base.proofs.Bools.{or-first}
 use Rattle.rx_rules.specs.declared.entries.Act.TheVariants.{Arrive, End}
 use Rattle.rx_rules.specs.declared.entries.Entry.{Entry}
 use Rattle.rx_rules.specs.declared.entries.Entry.TheVariants.{Step, Root, Death}
@@ -59,16 +60,12 @@ abbrev sum_of : List ℕ → ℕ
 sum_of [] = 0
 sum_of (w ∷ ws) = w + sum_of ws
 
-first_false : (a b : Bool) → (a || b) ≡ false → a ≡ false
-first_false true b e = e
-first_false false b e = refl
-
 -- who has not ended after one entry more had not before
 still : (es : List Entry) (e : Entry) (m : ℕ) → has_end (moves_from 0 (es ++ e ∷ []) m) ≡ false → has_end (moves_from 0 es m) ≡ false
 still es e m h =
     let more : Moves = cons_option (move_of (0 + length es) m e) [] in
     let same : has_end (moves_from 0 (es ++ e ∷ []) m) ≡ (has_end (moves_from 0 es m) || has_end more) = ap has_end (moves-push 0 es e m) ∙ list_any-append is_end (moves_from 0 es m) more in
-    first_false (has_end (moves_from 0 es m)) (has_end more) (sym same ∙ h)
+    or-first (has_end (moves_from 0 es m)) (has_end more) (sym same ∙ h)
 
 grow : (es fs : List Entry) (n : ℕ) (ws : List ℕ) (ps : List Player) → ((m : ℕ) → has_end (moves_from 0 fs m) ≡ false → has_end (moves_from 0 es m) ≡ false) → Credits es n ws ps → Credits fs n ws ps
 grow es fs n [] [] f h = tt

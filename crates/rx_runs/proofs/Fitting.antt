@@ -3,10 +3,13 @@ use Rattle.std.specs.Prelude.{◌≡◌, ◌≢◌, ℕ, zero, suc, ◌%◌, ◌
 use Rattle.std.specs.List.{find}
 use Rattle.std.proofs.Common.{ap, ◌∙◌, sym, subst, arith, ⊎_elim, length-set}
 use Rattle.std.proofs.lemmas.Bool.{eq-eqb, eqb-true, true≢false, cases_lt}
+use Rattle.std.proofs.lemmas.Option.{slice_get_within}
 use Rattle.rx_base.specs.declared.ids.PlaceId.{PlaceId}
 use Rattle.rx_base.specs.declared.ids.TaskId.{TaskId}
 use Rattle.rx_base.specs.declared.ids.ScopeId.{ScopeId}
 use Rattle.rx_base.specs.declared.values.Fault.{Fault}
+use Rattle.rx_base.proofs.Elements.{get-set}
+use Rattle.rx_base.proofs.SameIds.{task-is}
 use Rattle.rx_rules.specs.declared.tasks.Blow.{Blow}
 use Rattle.rx_rules.specs.declared.tasks.Task.{Task}
 use Rattle.rx_rules.specs.declared.tasks.Scope.{Scope}
@@ -28,6 +31,8 @@ use Rattle.rx_rules.specs.Reached.{Reached}
 use Rattle.rx_rules.specs.Run.{Given, NoRoot}
 use Rattle.rx_rules.specs.Picked as picked
 use Rattle.rx_rules.specs.Picked.{Player, Game, Goes, stays, local, stores, Turn, child_of, enabled, tree_in, start_game}
+use Rattle.rx_rules.proofs.Append.{tree-push}
+use Rattle.rx_rules.proofs.Numbers.{next-tree}
 use Rattle.rx_sound.specs.Sound.{Inside, Sound}
 use Rattle.rx_sound.proofs.Blows.{hit_number}
 use Rattle.rx_sound.proofs.Reach.{task_below, fits_of}
@@ -36,13 +41,11 @@ use Rattle.rx_sound.proofs.Owning.{release_pops}
 use Rattle.rx_sound.proofs.Waiting.{OpenersBelow, openers_below, hit_free, hit_waits}
 use Rattle.rx_runs.specs.Framing.{frames, first, Flat, Shape, kinds_of, Match, TermFits, AllFit}
 use Rattle.rx_runs.specs.Games.{GameOk, PlayerSo}
-use Rattle.rx_runs.proofs.Append.{tree-push}
-use Rattle.rx_runs.proofs.Asking.{one_task, task_is}
+use Rattle.rx_runs.proofs.Asking.{one_task}
 use Rattle.rx_runs.proofs.Framing.{Framed, Stored, framed, flat_items, flat_shape, flat_frames}
 use Rattle.rx_runs.proofs.Keeping.{root_not}
-use Rattle.rx_runs.proofs.Pairs.{pairs-length, within}
+use Rattle.rx_runs.proofs.Pairs.{pairs-length}
 use Rattle.rx_runs.proofs.Picks.{Pick, picked_task, reached_in}
-use Rattle.rx_runs.proofs.Numbers.{next-tree}
 use Rattle.rx_runs.proofs.Scopes.{find_other, find_own, find_gone, find_unmap, skip, kinds_own, kinds_faulted, kinds_none, new_scope, other_act}
 
 -- The task that acts.
@@ -250,11 +253,6 @@ get_past [] i p le h = cc
 get_past (x ∷ xs) zero p le h = absurd (omega arith)
 get_past (x ∷ xs) (suc i) p le h = get_past xs i p (omega arith) h
 
-set_own : {X : Type 0} (xs : List X) (k : ℕ) (a : X) → k < length xs → slice_get (slice_set xs k a) k ≡ Some a
-set_own [] k a low = absurd (omega arith)
-set_own (x ∷ xs) zero a low = refl
-set_own (x ∷ xs) (suc k) a low = set_own xs k a (omega arith)
-
 set_other : {X : Type 0} (xs : List X) (k i : ℕ) (a : X) → k ≢ i → slice_get (slice_set xs k a) i ≡ slice_get xs i
 set_other [] k i a o = refl
 set_other (x ∷ xs) zero zero a o = absurd (o refl)
@@ -283,8 +281,8 @@ module _ (T : Tree) (r : Reached T) (players : List Player) (size : length playe
       let at2 : slice_get (slice_set players t.0 last) u.0 ≡ Some p = sym (get_left (slice_set players t.0 last) (child_of q act) u.0 (omega arith)) ∙ at in
       (elim (t.0 == u.0) as (λ b. t.0 == u.0 ≡ b → TermFits (kinds_of (made_act T t act) u) y.waits p.term) [
         | true ↦ λ e.
-            let same : t ≡ u = task_is t u (eqb-true t.0 u.0 e) in
-            let mine : last ≡ p = (let k : Some last ≡ Some p = sym (set_own players t.0 last (omega arith)) ∙ subst (λ (v : TaskId). slice_get (slice_set players t.0 last) v.0 ≡ Some p) (sym same) at2 in cc) in
+            let same : t ≡ u = task-is t u (eqb-true t.0 u.0 e) in
+            let mine : last ≡ p = (let k : Some last ≡ Some p = sym (get-set players t.0 last (omega arith)) ∙ subst (λ (v : TaskId). slice_get (slice_set players t.0 last) v.0 ≡ Some p) (sym same) at2 in cc) in
             subst (λ (v : TaskId). TermFits (kinds_of (made_act T t act) v) y.waits p.term) same
             (subst (λ (v : Player). TermFits (kinds_of (made_act T t act) t) y.waits v.term) mine
             (own_fits T t x y here places q.term d act r found fit f fits may (subst (λ (v : TaskId). task_of (made_act T t act) v ≡ Some y) (sym same) there)))
@@ -301,7 +299,7 @@ module _ (T : Tree) (r : Reached T) (players : List Player) (size : length playe
           let k = get_last ps (record { term = child q.term; vars = q.vars; batch = [] }) u.0 p (omega arith) (subst (λ (o : Option TaskId). slice_get (ps ++ kids q o) u.0 ≡ Some p) e at) in
           let num : c.0 ≡ T.next_task = starts_next T t act c may e in
           let at_u : length ps ≡ u.0 = k.1 in
-          let same : c ≡ u = task_is c u (omega arith) in
+          let same : c ≡ u = task-is c u (omega arith) in
           subst (λ (v : TaskId). TermFits (kinds_of (made_act T t act) v) y.waits p.term) same
           (subst (λ (v : Player). TermFits (kinds_of (made_act T t act) c) y.waits v.term) k.0
           (child_fits T t c y here places q.term d act r low f fits may e (subst (λ (v : TaskId). task_of (made_act T t act) v ≡ Some y) (sym same) there)))
@@ -310,7 +308,7 @@ module _ (T : Tree) (r : Reached T) (players : List Player) (size : length playe
   fits_arrival t p may u y o there free at =
       (elim (t.0 == u.0) as (λ b. t.0 == u.0 ≡ b → TermFits (kinds_of T u) y.waits o.term) [
         | true ↦ λ e.
-            let same : t ≡ u = task_is t u (eqb-true t.0 u.0 e) in
+            let same : t ≡ u = task-is t u (eqb-true t.0 u.0 e) in
             let there2 : task_of (made_act T t (Arrive p)) t ≡ Some y = subst (λ (v : TaskId). task_of (made_act T t (Arrive p)) v ≡ Some y) (sym same) there in
             let it : record may.task { place = At p } ≡ y = (let k : Some (record may.task { place = At p }) ≡ Some y = sym (find_own t (λ v. record v { place = At p }) (λ v. refl) T.tasks may.task may.acts.stands) ∙ there2 in cc) in
             subst (λ (w : Bool). TermFits (kinds_of T u) w o.term) (ap (λ (v : Task). v.waits) it)
@@ -321,17 +319,17 @@ module _ (T : Tree) (r : Reached T) (players : List Player) (size : length playe
       ]) refl
     where
       within_next : (u : TaskId) (o : Player) → slice_get players u.0 ≡ Some o → u.0 < T.next_task
-      within_next u o at = let low : u.0 < length players = within players u.0 o at in omega arith
+      within_next u o at = let low : u.0 < length players = slice_get_within players u.0 o at in omega arith
 
   fits_end : (t : TaskId) (faults : List Fault) → AllowedAct T t (End faults) → AllFit (made_act T t (End faults)) players
   fits_end t faults may u y o there free at =
       (elim (t.0 == u.0) as (λ b. t.0 == u.0 ≡ b → TermFits (kinds_of (made_act T t (End faults)) u) y.waits o.term) [
         | true ↦ λ e.
-            let same : t ≡ u = task_is t u (eqb-true t.0 u.0 e) in
+            let same : t ≡ u = task-is t u (eqb-true t.0 u.0 e) in
             absurd (find_gone t T.tasks y (subst (λ (xs : List Task). find (is_task t) xs ≡ Some y) (after_tasks may.task may.live.acts.stands) (subst (λ (v : TaskId). task_of (made_act T t (End faults)) v ≡ Some y) (sym same) there)))
         | false ↦ λ e.
             let apart : t.0 ≢ u.0 = λ k. true≢false (sym (eq-eqb t.0 u.0 k) ∙ e) in
-            let low : u.0 < length players = within players u.0 o at in
+            let low : u.0 < length players = slice_get_within players u.0 o at in
             other_fits t (End faults) may u y o apart (omega arith) there free at
       ]) refl
     where

@@ -8,6 +8,7 @@ use Rattle.rx_base.specs.declared.ids.PlaceId.{PlaceId}
 use Rattle.rx_base.specs.declared.ids.ScopeId.{ScopeId}
 use Rattle.rx_base.specs.declared.ids.Kill.{Kill}
 use Rattle.rx_base.specs.declared.place_set.PlaceSet.{PlaceSet}
+use Rattle.rx_base.proofs.Elements.{get-within}
 use Rattle.rx_rules.specs.declared.tasks.Where.{Where}
 use Rattle.rx_rules.specs.declared.tasks.Where.TheVariants.{At, Travel}
 use Rattle.rx_rules.specs.declared.tasks.Task.{Task}
@@ -26,6 +27,7 @@ use Rattle.rx_rules.specs.Store.{State}
 use Rattle.rx_rules.specs.Run.{Given, NoRoot, EndsWithRoot, NoneDue, IsDue}
 use Rattle.rx_rules.specs.Picked as picked
 use Rattle.rx_rules.specs.Picked.{Player, Game, Turn, Turns, IsPicked, none, more, used_after, enabled, tree_in, start_game}
+use Rattle.rx_rules.proofs.Append.{no_root-push, root-push}
 use Rattle.rx_sound.proofs.Enabling.{none_left, inner_is}
 use Rattle.rx_sound.proofs.Rooting.{root_stands}
 use Rattle.rx_runs.specs.Framing.{frames, first, kinds_of, Match, TermFits, AllFit}
@@ -39,7 +41,6 @@ use Rattle.rx_runs.proofs.Journals.{longer}
 use Rattle.rx_runs.proofs.Opening.{starts_ok}
 use Rattle.rx_runs.proofs.Pairs.{pairs-length}
 use Rattle.rx_runs.proofs.Picks.{Pick, picked_task, reached_in}
-use Rattle.rx_runs.proofs.Pushes.{root-push}
 use Rattle.rx_runs.proofs.Sets.{set_members}
 use Rattle.rx_runs.proofs.Theorem.{turn_grows}
 use Rattle.rx_runs.proofs.Walks.{IsLast}
@@ -48,11 +49,6 @@ use Rattle.rx_runs.proofs.Walking.{Walked, walk}
 due_or : (n : ℕ) (ks : List Kill) → ((d : PlaceId) × IsDue n d ks) ⊎ NoneDue n ks
 due_or n [] = inr tt
 due_or n (k ∷ ks) = ⊎_elim (λ (lt : n < k.moment). inr lt) (λ (ge : k.moment ≤ n). inl (k.place, (refl, ge))) (cases_lt n k.moment)
-
-get_in : {X : Type 0} (xs : List X) (i : ℕ) → i < length xs → (x : X) × (slice_get xs i ≡ Some x)
-get_in [] i low = absurd (omega arith)
-get_in (x ∷ xs) zero low = (x, refl)
-get_in (x ∷ xs) (suc i) low = get_in xs i (omega arith)
 
 -- what a release names there is
 names : (T : Tree) (s : ScopeId) → (lost : PlaceSet) × Names T s lost (thrown_of T s) × (lost.0 < 2 ^ 16)
@@ -166,8 +162,8 @@ module _ (code : Block) (U : Given) (G : Game) (ok : GameOk code U G) (all : All
       let low : here.0 < U.places = place_inside code U G ok x here one.stands e in
       let journals : length G.journals ≡ length G.stores = pairs-length (JournalSo U G.entries) 0 G.journals G.stores ok.journals in
       let each_is : length G.journals ≡ U.places = ok.one_each in
-      let p = get_in G.players x.number.0 (omega arith) in
-      let S = get_in G.stores here.0 (omega arith) in
+      let p = get-within G.players x.number.0 (omega arith) in
+      let S = get-within G.stores here.0 (omega arith) in
       let fit = all x.number x p.0 one.stands one.free p.1 in
       let w = walk U.places U.heap (length G.entries) x.number here low p.0 S.0 (journal_at G.journals here.0) fit.shape in
       turn_by U k G free x here p.0 S.0 pick e p.1 S.1 one ok.ties.same w fit (does w.player.vars here.0 U.places w.player.term) refl (framed w.player.vars here.0 U.places low w.player.term w.shape) w.last
@@ -181,7 +177,7 @@ module _ (code : Block) (U : Given) (G : Game) (ok : GameOk code U G) (all : All
   by_enabled free (y ∷ ys) e =
       let size : length (enabled (tree_in U G)) ≡ suc (length ys) = ap length e in
       let some : 0 < length (enabled (tree_in U G)) = omega arith in
-      let x = get_in (enabled (tree_in U G)) (k % length (enabled (tree_in U G))) (mod-lt k some) in
+      let x = get-within (enabled (tree_in U G)) (k % length (enabled (tree_in U G))) (mod-lt k some) in
       by_pick free x.0 x.1 x.0.place refl
 
   pub next_of : HasTurn U k G
@@ -201,18 +197,11 @@ next_turn code U picks n G proper ts h k =
     let t = next_of code U G was.0 was.1 k in
     (t.0, t.1, t.2)
 
--- a turn ends the run or not
-free_push : (es : List Entry) (e : Entry) → NoRoot es → NoRoot (e ∷ []) → NoRoot (es ++ e ∷ [])
-free_push [] e h k = k
-free_push (Step t act batch ∷ es) e h k = free_push es e h k
-free_push (Root lost thrown ∷ es) e h k = h
-free_push (Death d ∷ es) e h k = free_push es e h k
-
 turn_ends : (U : Given) (k : ℕ) (used : Bool) (G G' : Game) → Turn U k G used G' → NoRoot G.entries → (NoRoot G'.entries) ⊎ (EndsWithRoot G'.entries)
-turn_ends U k used G G' (picked.dies d due) h = inl (free_push G.entries (Death d) h tt)
-turn_ends U k used G G' (picked.arrives x p none_due pick may) h = inl (free_push G.entries (Step x.number (Arrive p) []) h tt)
-turn_ends U k used G G' (picked.moves x here p q S Z j act none_due pick at player store goes fits may) h = inl (free_push G.entries (Step x.number act q.batch) h tt)
-turn_ends U k used G G' (picked.ends x here p q S Z j f none_due pick at player store goes done may) h = inl (free_push G.entries (Step x.number (End f) q.batch) h tt)
+turn_ends U k used G G' (picked.dies d due) h = inl (no_root-push G.entries (Death d) h tt)
+turn_ends U k used G G' (picked.arrives x p none_due pick may) h = inl (no_root-push G.entries (Step x.number (Arrive p) []) h tt)
+turn_ends U k used G G' (picked.moves x here p q S Z j act none_due pick at player store goes fits may) h = inl (no_root-push G.entries (Step x.number act q.batch) h tt)
+turn_ends U k used G G' (picked.ends x here p q S Z j f none_due pick at player store goes done may) h = inl (no_root-push G.entries (Step x.number (End f) q.batch) h tt)
 turn_ends U k used G G' (picked.root lost thrown none_due empty may) h = inr (root-push G.entries lost thrown h)
 
 -- turns to the end of a run

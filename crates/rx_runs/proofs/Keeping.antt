@@ -7,7 +7,7 @@ use Rattle.std.proofs.lemmas.Bool.{eq-eqb, and_parts, or_right}
 use Rattle.std.proofs.lemmas.List.{append-nil, length-reverse, get_or-reverse, length-append}
 use Rattle.std.proofs.lemmas.List.Folds.{list_any-append}
 use Rattle.std.proofs.lemmas.List.Sums.{sum_by-append}
-use Rattle.std.proofs.lemmas.Option.{slice_get-get_or, get_or_from_slice_get}
+use Rattle.std.proofs.lemmas.Option.{slice_get-get_or, get_or_from_slice_get, slice_get_within}
 use Rattle.rx_base.specs.declared.ids.PlaceId.{PlaceId}
 use Rattle.rx_base.specs.declared.place_set.PlaceSet.{PlaceSet}
 use Rattle.rx_base.specs.declared.ids.TaskId.{TaskId}
@@ -15,6 +15,8 @@ use Rattle.rx_base.specs.declared.values.Fault.{Fault}
 use Rattle.rx_rules.specs.declared.tasks.Where.{Where}
 use Rattle.rx_rules.specs.declared.tasks.Where.TheVariants.{At, Travel}
 use Rattle.rx_base.specs.declared.ids.Kill.{Kill}
+use Rattle.rx_base.proofs.Options.{none-from}
+use Rattle.rx_base.proofs.Elements.{get-more, get-pushed}
 use Rattle.rx_rules.specs.declared.entries.Act.{Act}
 use Rattle.rx_rules.specs.declared.entries.Act.TheVariants.{Open, At as Calls, Spawn, Arrive, Wait, Release, End, Print}
 use Rattle.rx_rules.specs.declared.entries.Entry.{Entry}
@@ -24,7 +26,6 @@ use Rattle.rx_rules.specs.declared.events.PlaceEvent.TheVariants.{Close}
 use Rattle.rx_rules.specs.declared.tasks.Task.{Task}
 use Rattle.rx_rules.specs.Code.{Block}
 use Rattle.rx_rules.specs.Terms.{Term, Empty, items, Does, Local, Makes, Gets, Puts, Forgets, Opens, Calls as Asks, Spawns, Waits, Releases, Prints, Done, does, granted, child}
-use Rattle.rx_runs.proofs.Segments.{got_more}
 use Rattle.rx_rules.specs.Plays.{Fits, birth_in}
 use Rattle.rx_rules.specs.Tree.{Tree, quiet, inner}
 use Rattle.rx_rules.specs.Entries.{Allowed, AllowedAct, MayDie, made_act}
@@ -34,15 +35,17 @@ use Rattle.rx_rules.specs.Store.{State}
 use Rattle.rx_rules.specs.Run.{Given, AtHome, NoneDue, IsDue, rest_of, death_number}
 use Rattle.rx_rules.specs.Picked as picked
 use Rattle.rx_rules.specs.Picked.{Player, Game, Turn, enabled, is_enabled, tree_in, child_of}
-use Rattle.rx_runs.proofs.Append.{allowed-push, tree-push}
-use Rattle.rx_runs.proofs.Numbers.{next-tree}
+use Rattle.rx_runs.proofs.Append.{allowed-push}
 use Rattle.rx_runs.specs.Segments.{kills_left}
 use Rattle.rx_rules.specs.Run.{NoRoot}
 use Rattle.rx_runs.specs.Ties.{Moves, is_end, has_end, RowSo, Ties, MayCome}
 use Rattle.rx_rules.specs.Run.{Spares}
+use Rattle.rx_rules.proofs.Inverting.{asks_no_end}
+use Rattle.rx_rules.proofs.Append.{tree-push}
+use Rattle.rx_rules.proofs.Numbers.{next-tree}
 use Rattle.rx_runs.specs.Games.{TaskSo, Pairs, PlayerSo, JournalSo, GameOk, TurnKeeps, fresh}
 use Rattle.rx_runs.proofs.Pushes.{kills-push, birth-push}
-use Rattle.rx_runs.proofs.Pairs.{pairs-map, pairs-set, pairs-push, pairs-get, pairs-length, within, set_same, at_push, journal_got}
+use Rattle.rx_runs.proofs.Pairs.{pairs-map, pairs-set, pairs-push, pairs-get, pairs-length, set_same, journal_got}
 use Rattle.rx_runs.proofs.Wider.{Keeps, SoFor}
 use Rattle.rx_runs.proofs.Told.{Told, told, IsNext, StartsAt, birth-new}
 use Rattle.rx_runs.proofs.Rows.{rows-filter, row-found, row-at}
@@ -55,7 +58,7 @@ use Rattle.rx_runs.proofs.Players.{Starts, Cells, Going, going_of, task_as, play
 
 pub reverse_at : {X : Type 0} (xs : List X) (i : ℕ) (x : X) → slice_get (reverse xs) i ≡ Some x → (j : ℕ) × (slice_get xs j ≡ Some x)
 reverse_at xs i x h =
-    let low : i < length (reverse xs) = within (reverse xs) i x h in
+    let low : i < length (reverse xs) = slice_get_within (reverse xs) i x h in
     let r : length (reverse xs) ≡ length xs = length-reverse xs in
     let e : get_or (reverse xs) i x ≡ x = get_or_from_slice_get (reverse xs) i x x h in
     (length xs - 1 - i, slice_get-get_or xs (length xs - 1 - i) x (omega arith) ∙ ap Some (sym (get_or-reverse xs i x (omega arith)) ∙ e))
@@ -68,15 +71,11 @@ filter_at {X = X} p (y ∷ ys) i x h = step (p y) refl i (λ j k. filter_at p ys
   step true e (suc i) rest got = let f : filter p (y ∷ ys) ≡ y ∷ filter p ys = rw e refl in rest i (got (y ∷ filter p ys) f)
   step false e i rest got = let f : filter p (y ∷ ys) ≡ filter p ys = rw e refl in rest i (got (filter p ys) f)
 
-pub none_from : {X : Type 0} (o : Option X) → is_none o ≡ true → o ≡ None
-none_from None h = refl
-none_from (Some x) h = cc
-
 pub picked_row : (q size : ℕ) (es : List Entry) (T : Tree) (i : ℕ) (x : Task) → Ties q size es T → slice_get (enabled T) i ≡ Some x → (x.number.0 < size) × RowSo es x.number.0 x.place
 picked_row q size es T i x ties h =
     let at = reverse_at (filter (is_enabled T) T.tasks) i x h in
     let able : (is_none x.struck && (not x.waits || quiet T (inner T x))) ≡ true = filter_at (is_enabled T) T.tasks at.0 x at.1 in
-    row-at at.0 x size es (filter (is_enabled T) T.tasks) at.1 (none_from x.struck (and_parts (is_none x.struck) (not x.waits || quiet T (inner T x)) able).0) (rows-filter (is_enabled T) size es T.tasks ties.rows)
+    row-at at.0 x size es (filter (is_enabled T) T.tasks) at.1 (none-from x.struck (and_parts (is_none x.struck) (not x.waits || quiet T (inner T x)) able).0) (rows-filter (is_enabled T) size es T.tasks ties.rows)
 
 -- the kills that are left
 
@@ -132,20 +131,6 @@ no_arrival here t (Waits a) p h = h
 no_arrival here t Releases p h = h
 no_arrival here t (Prints a) p h = h
 no_arrival here t (Done a) p h = h
-
-pub no_ending : (here : PlaceId) (t : Term) (d : Does) (f : List Fault) → Fits here t d (End f) → ⊥
-no_ending here t (Local a b) f h = h
-no_ending here t (Makes a b) f h = h
-no_ending here t (Gets a b c) f h = h
-no_ending here t (Puts a b c) f h = h
-no_ending here t (Forgets a) f h = h
-no_ending here t Opens f h = h
-no_ending here t (Asks a) f h = h
-no_ending here t (Spawns a) f h = h
-no_ending here t (Waits a) f h = h
-no_ending here t Releases f h = h
-no_ending here t (Prints a) f h = h
-no_ending here t (Done a) f h = h
 
 module _ (code : Block) (U : Given) (G : Game) (ok : GameOk code U G) where
   next_is : (tree_in U G).next_task ≡ length ok.starts
@@ -285,7 +270,7 @@ module _ (code : Block) (U : Given) (G : Game) (ok : GameOk code U G) where
       let both = pairs-get 0 t.0 ok.starts G.players found.0 ok.each in
       let same_player : both.right ≡ p = (let a : Some both.right ≡ Some p = sym both.at_right ∙ player in cc) in
       let old : PlayerSo ok.starts U.places G.entries G.journals t.0 both.left p = subst (λ (q : Player). PlayerSo ok.starts U.places G.entries G.journals t.0 both.left q) same_player (subst (λ (i : ℕ). PlayerSo ok.starts U.places G.entries G.journals i both.left both.right) zt both.holds) in
-      let stores_low : here.0 < length G.stores = within G.stores here.0 S store in
+      let stores_low : here.0 < length G.stores = slice_get_within G.stores here.0 S store in
       let lengths : length G.journals ≡ length G.stores = pairs-length (JournalSo U G.entries) 0 G.journals G.stores ok.journals in
       let low : here.0 < length G.journals = omega arith in
       let cells : Cells = filter_map (cell_of t.0) (journal_at G.journals (birth_of G.entries t.0).to.0) in
@@ -347,8 +332,8 @@ module _ (code : Block) (U : Given) (G : Game) (ok : GameOk code U G) where
       let fs : List Entry = G.entries ++ Step t act r.batch ∷ [] in
       let js : List (List PlaceEvent) = slice_set G.journals here.0 k in
       let starts_at : StartsAt (length ok.starts) act = subst (λ (o : Option TaskId). IsNext (length ok.starts) o) (sym sb) new in
-      let so : StartsSo more r.term r.vars act = subst (λ (o : Option TaskId). SoFor more r.term r.vars o) (sym sb) (subst (λ (n : ℕ). slice_get more n ≡ Some start) (sym new) (at_push ok.starts start)) in
-      let keeps : Keeps ok.starts more = λ j y h. got_more ok.starts (start ∷ []) j y h in
+      let so : StartsSo more r.term r.vars act = subst (λ (o : Option TaskId). SoFor more r.term r.vars o) (sym sb) (subst (λ (n : ℕ). slice_get more n ≡ Some start) (sym new) (get-pushed ok.starts start)) in
+      let keeps : Keeps ok.starts more = λ j y h. get-more ok.starts (start ∷ []) j y h in
       let ps : Parts t here act r.batch more k Z last =
       parts i x here p r S Z k act more last pick at player store goes keeps starts_at
       (λ b s cells moves same g c. acted ok.starts more U.places (length G.entries) U.heap b s cells moves p r t here S Z (journal_at G.journals here.0) k act keeps same g c fits so) in
@@ -373,7 +358,7 @@ module _ (code : Block) (U : Given) (G : Game) (ok : GameOk code U G) where
       pairs-push (PlayerSo more U.places fs js) 0 ok.starts (slice_set G.players t.0 last) start (fresh start)
       (subst (λ (n : ℕ). PlayerSo more U.places fs js n start (fresh start)) place child_so) ps.each in
       step_game t act r.batch more (slice_set G.players t.0 last ++ child_of r act) js (slice_set G.stores here.0 Z) none_due may no_root
-      (got_more ok.starts (start ∷ []) 0 (items code [] Empty, no_vars) ok.main)
+      (get-more ok.starts (start ∷ []) 0 (items code [] Empty, no_vars) ok.main)
       (omega (arith, nb))
       (subst (λ (l : List Player). Pairs (PlayerSo more U.places fs js) 0 more (slice_set G.players t.0 last ++ l)) (sym children) each)
       (length-set G.journals here.0 k ∙ ok.one_each) ps.journals
@@ -392,7 +377,7 @@ module _ (code : Block) (U : Given) (G : Game) (ok : GameOk code U G) where
   keeps_move i x here p r S Z k (Spawn c s from to y) due pick at player store goes fits may h =
       birth i x here p r S Z k (Spawn c s from to y) c from to due pick at player store goes fits may h refl (may.next_task ∙ next_is) refl refl (λ v e. cc) (λ j. rw (eq-eqb c.0 c.0 refl) refl)
   keeps_move i x here p r S Z k (Arrive to) due pick at player store goes fits may h = absurd (no_arrival here r.term (does r.vars here.0 U.places r.term) to fits)
-  keeps_move i x here p r S Z k (End f) due pick at player store goes fits may h = absurd (no_ending here r.term (does r.vars here.0 U.places r.term) f fits)
+  keeps_move i x here p r S Z k (End f) due pick at player store goes fits may h = absurd (asks_no_end here r.term (does r.vars here.0 U.places r.term) f fits)
 
   -- a turn by which a task ends
   pub keeps_end : (i : ℕ) (x : Task) (here : PlaceId) (p r : Player) (S Z : State) (k : List PlaceEvent) (faults : List Fault) → NoneDue (length G.entries) G.kills → slice_get (enabled (tree_in U G)) i ≡ Some x → x.place ≡ At here → slice_get G.players x.number.0 ≡ Some p → slice_get G.stores here.0 ≡ Some S → picked.Goes U.places U.heap (length G.entries) x.number here p S (journal_at G.journals here.0) r Z k → does r.vars here.0 U.places r.term ≡ Done faults → AllowedAct (tree_in U G) x.number (End faults) → NoRoot (G.entries ++ Step x.number (End faults) r.batch ∷ []) → GameOk code U (record G { entries = G.entries ++ Step x.number (End faults) r.batch ∷ []; journals = slice_set G.journals here.0 k; stores = slice_set G.stores here.0 Z })

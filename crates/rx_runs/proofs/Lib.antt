@@ -16,7 +16,6 @@ pub mod Costs
 pub mod Rooted
 pub mod Opening
 pub mod Append
-pub mod Numbers
 pub mod Pigeons
 pub mod Sets
 pub mod Telling

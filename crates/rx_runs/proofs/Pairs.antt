@@ -54,19 +54,10 @@ pairs-length P n (c ∷ xs) (d ∷ ys) h = ap suc (pairs-length P (suc n) xs ys 
 pairs-length P n [] (d ∷ ys) h = absurd h
 pairs-length P n (c ∷ xs) [] h = absurd h
 
-pub within : {X : Type 0} (xs : List X) (k : ℕ) (x : X) → slice_get xs k ≡ Some x → k < length xs
-within [] k x h = cc
-within (y ∷ ys) zero x h = omega arith
-within (y ∷ ys) (suc k) x h = let low : k < length ys = within ys k x h in omega arith
-
 pub set_same : {X : Type 0} (xs : List X) (k : ℕ) (x : X) → slice_get xs k ≡ Some x → slice_set xs k x ≡ xs
 set_same [] k x h = refl
 set_same (y ∷ ys) zero x h = let e : x ≡ y = cc in ap (λ z. z ∷ ys) e
 set_same (y ∷ ys) (suc k) x h = ap (λ zs. y ∷ zs) (set_same ys k x h)
-
-pub at_push : {X : Type 0} (xs : List X) (x : X) → slice_get (xs ++ x ∷ []) (length xs) ≡ Some x
-at_push [] x = refl
-at_push (y ∷ ys) x = at_push ys x
 
 pub journal_got : (js : List (List PlaceEvent)) (k : ℕ) (j : List PlaceEvent) → slice_get js k ≡ Some j → journal_at js k ≡ j
 journal_got [] k j h = cc

@@ -3,6 +3,7 @@ use Rattle.std.specs.Prelude.{◌≡◌, ℕ, zero, suc, true, not, ◌&&◌, �
 use Rattle.std.specs.List.{find}
 use Rattle.std.proofs.Common.{subst}
 use Rattle.std.proofs.lemmas.Bool.{and_parts}
+use Rattle.rx_base.proofs.Options.{none-from}
 use Rattle.rx_rules.specs.declared.tasks.Task.{Task}
 use Rattle.rx_rules.specs.Code.{Block}
 use Rattle.rx_rules.specs.Tree.{Tree, is_task, task_of, quiet, inner}
@@ -15,7 +16,7 @@ use Rattle.rx_sound.proofs.Reached.{sound}
 use Rattle.rx_sound.proofs.Histories.{fold_reached}
 use Rattle.rx_sound.proofs.Waiting.{each_stands}
 use Rattle.rx_runs.specs.Games.{GameOk}
-use Rattle.rx_runs.proofs.Keeping.{reverse_at, filter_at, none_from}
+use Rattle.rx_runs.proofs.Keeping.{reverse_at, filter_at}
 
 pub reached_in : (code : Block) (U : Given) (G : Game) → GameOk code U G → Reached (tree_in U G)
 reached_in code U G ok = fold_reached U.places G.entries ok.folds.some ok.folds.few ok.folds.allowed
@@ -38,6 +39,6 @@ picked_task T i x r h =
     let parts = and_parts (is_none x.struck) (not x.waits || quiet T (inner T x)) able in
     record {
       stands = each_at (λ (y : Task). find (is_task y.number) T.tasks ≡ Some y) (filter (is_enabled T) T.tasks) at.0 x (each_filter (λ (y : Task). find (is_task y.number) T.tasks ≡ Some y) (is_enabled T) T.tasks (each_stands T.next_task T.tasks s.tasks_fall)) at.1;
-      free = none_from x.struck parts.0;
+      free = none-from x.struck parts.0;
       able = parts.1;
     }

@@ -3,15 +3,12 @@ use Rattle.std.specs.Prelude.{◌≡◌, ℕ, suc, ◌+◌, List, [], ◌∷◌,
 use Rattle.std.proofs.Common.{ap, ◌∙◌, sym, arith, subst}
 use Rattle.std.specs.List.{cons_option}
 use Rattle.rx_base.specs.declared.ids.PlaceId.{PlaceId}
-use Rattle.rx_base.specs.declared.place_set.PlaceSet.{PlaceSet}
 use Rattle.rx_rules.specs.Plays.{Birth, moves_from, move_of, birth_in, birth_from}
-use Rattle.rx_base.specs.declared.values.Fault.{Fault}
 use Rattle.rx_base.specs.declared.ids.Kill.{Kill}
 use Rattle.rx_rules.specs.declared.entries.Entry.{Entry}
 use Rattle.rx_rules.specs.declared.entries.Entry.TheVariants.{Step, Root, Death}
-use Rattle.rx_rules.specs.Run.{death_number, KillsInOrder, EndsWithRoot, rest_of}
+use Rattle.rx_rules.specs.Run.{death_number, KillsInOrder, rest_of}
 use Rattle.rx_runs.specs.Segments.{kills_left, InTime}
-use Rattle.rx_rules.specs.Run.{NoRoot}
 
 alone : (n : ℕ) (ks : List Kill) (e : Entry) → InTime n ks e → KillsInOrder n ks (e ∷ [])
 alone n ks (Step t act batch) h = (h, tt)
@@ -27,13 +24,6 @@ kills-push n ks (Root lost thrown ∷ es) e h a =
     (h.0, kills-push (suc n) ks es e h.1 (let z : n + length (Root lost thrown ∷ es) ≡ suc n + length es = omega arith in subst (λ k. InTime k (kills_left ks es) e) z a))
 kills-push n ks (Death d ∷ es) e h a =
     (h.0, kills-push (suc n) (rest_of ks) es e h.1 (let z : n + length (Death d ∷ es) ≡ suc n + length es = omega arith in subst (λ k. InTime k (kills_left (rest_of ks) es) e) z a))
-
--- the end
-pub root-push : (es : List Entry) (lost : PlaceSet) (thrown : List Fault) → NoRoot es → EndsWithRoot (es ++ Root lost thrown ∷ [])
-root-push [] lost thrown h = refl
-root-push (Step t act batch ∷ es) lost thrown h = root-push es lost thrown h
-root-push (Root l f ∷ es) lost thrown h = absurd h
-root-push (Death d ∷ es) lost thrown h = root-push es lost thrown h
 
 cons_first : {X : Type 0} (o : Option X) (xs ys : List X) → cons_option o (xs ++ ys) ≡ cons_option o xs ++ ys
 cons_first None xs ys = refl

@@ -25,9 +25,10 @@ use Rattle.rx_runs.proofs.Journals.{homes_on, none_first}
 use Rattle.rx_runs.proofs.Append.{allowed-push}
 use Rattle.rx_runs.specs.Segments.{kills_left, InTime}
 use Rattle.rx_rules.specs.Run.{NoRoot}
+use Rattle.rx_rules.proofs.Append.{root-push}
 use Rattle.rx_runs.specs.Games.{TaskSo, away, going, over, Pairs, PlayerSo, JournalSo, Landed, GameOk}
 use Rattle.rx_runs.proofs.Segments.{stopped}
-use Rattle.rx_runs.proofs.Pushes.{kills-push, root-push, moves-push, birth-push, death-push}
+use Rattle.rx_runs.proofs.Pushes.{kills-push, moves-push, birth-push, death-push}
 
 -- what a task has played, whether it goes on or not
 pub landed : {starts : List (Term × Vars)} {places : ℕ} (b : Birth) (start : Term × Vars) (cells : List (ℕ × Cell × List ℕ)) (moves rest : List (ℕ × Act × List (List ℕ))) (low : ℕ) → Landed b moves low rest → Plays starts b.to places low start.1 start.0 [] cells rest → Begins starts b.to places (travels b) b.low start.1 start.0 cells moves

@@ -6,6 +6,8 @@ use Rattle.std.proofs.lemmas.Bool.{eqb-true, ne_eqb, false_from_ne_true}
 use Rattle.rx_base.specs.declared.ids.TaskId.{TaskId}
 use Rattle.rx_base.specs.declared.ids.ScopeId.{ScopeId}
 use Rattle.rx_base.specs.declared.values.Fault.{Fault}
+use Rattle.rx_base.proofs.Elements.{find-passes}
+use Rattle.rx_base.proofs.SameIds.{task-is}
 use Rattle.rx_rules.specs.declared.tasks.Where.TheVariants.{At}
 use Rattle.rx_rules.specs.declared.tasks.Task.{Task}
 use Rattle.rx_rules.specs.declared.tasks.Scope.{Scope}
@@ -16,7 +18,6 @@ use Rattle.rx_rules.specs.declared.entries.Act.TheVariants.{Open, At as Calls, S
 use Rattle.rx_rules.specs.Tree.{Tree, is_task, task_of, is_scope, opened_by, on_chain, quiet}
 use Rattle.rx_rules.specs.Entries.{change_first, waiting, resumed, without, born, home_for, made_act, after_end, AllowedAct}
 use Rattle.rx_sound.specs.Sound.{Each, TasksFall, Sound}
-use Rattle.rx_sound.proofs.Lookups.{find_passes}
 use Rattle.rx_sound.proofs.Changes.{each_found, each_filter}
 use Rattle.rx_sound.proofs.Stay.{faulted}
 use Rattle.rx_sound.proofs.Releasing.{leaves}
@@ -24,7 +25,6 @@ use Rattle.rx_sound.proofs.Owning.{kept}
 use Rattle.rx_sound.proofs.Below.{own_stays}
 use Rattle.rx_sound.proofs.Waiting.{each_stands, OpenersBelow}
 use Rattle.rx_runs.specs.Framing.{kinds_of}
-use Rattle.rx_runs.proofs.Asking.{task_is}
 
 -- Look-ups.
 
@@ -55,8 +55,8 @@ find_own t f same (y ∷ ys) x h =
 pub find_part : (q : Task → Bool) (n : ℕ) (xs : List Task) (u : TaskId) (y : Task) → TasksFall n xs → find (is_task u) (filter q xs) ≡ Some y → find (is_task u) xs ≡ Some y
 find_part q n xs u y f h =
     let self : find (is_task y.number) xs ≡ Some y = each_found (λ (x : Task). find (is_task x.number) xs ≡ Some x) (is_task u) (filter q xs) y (each_filter (λ (x : Task). find (is_task x.number) xs ≡ Some x) q xs (each_stands n xs f)) h in
-    let num : y.number.0 ≡ u.0 = eqb-true y.number.0 u.0 (find_passes (is_task u) (filter q xs) y h) in
-    subst (λ (v : TaskId). find (is_task v) xs ≡ Some y) (task_is y.number u num) self
+    let num : y.number.0 ≡ u.0 = eqb-true y.number.0 u.0 (find-passes (is_task u) (filter q xs) y h) in
+    subst (λ (v : TaskId). find (is_task v) xs ≡ Some y) (task-is y.number u num) self
 
 pub find_gone : (t : TaskId) (xs : List Task) (y : Task) → find (is_task t) (filter (λ x. not (is_task t x)) xs) ≡ Some y → ⊥
 find_gone t [] y h = cc

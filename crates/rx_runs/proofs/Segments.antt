@@ -1,6 +1,6 @@
 -- Segments of what a task plays.
 use Rattle.rx_rules.specs.Terms.{Vars}
-use Rattle.std.specs.Prelude.{◌≡◌, ℕ, zero, suc, ◌≤◌, List, [], ◌∷◌, ◌++◌, Some, slice_get}
+use Rattle.std.specs.Prelude.{◌≡◌, ℕ, ◌≤◌, List, [], ◌∷◌, ◌++◌}
 use Rattle.rx_base.specs.declared.ids.PlaceId.{PlaceId}
 use Rattle.rx_base.specs.declared.values.Fault.{Fault}
 use Rattle.rx_rules.specs.declared.entries.Act.{Act}
@@ -31,8 +31,3 @@ ended n faults stays le e = rules.ends le e
 ended n faults (local f p) le e = rules.local f (ended n faults p le e)
 ended n faults (stores answer less tells b p) le e = rules.stores answer less tells b (ended n faults p le e)
 ended n faults (asks less fits so p) le e = rules.asks less fits so (ended n faults p le e)
-
-pub got_more : {X : Type 0} (xs ys : List X) (n : ℕ) (x : X) → slice_get xs n ≡ Some x → slice_get (xs ++ ys) n ≡ Some x
-got_more [] ys n x h = cc
-got_more (v ∷ xs) ys zero x h = h
-got_more (v ∷ xs) ys (suc n) x h = got_more xs ys n x h

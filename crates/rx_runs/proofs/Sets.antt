@@ -9,6 +9,7 @@ use Rattle.std.proofs.lemmas.Bool.{eqb-true, eq-eqb, ne_eqb, or_right, true≢fa
 use Rattle.std.proofs.lemmas.Nat.Bits.{bit_at-lt, bit_at-suc, bit_at_lowest, same_from_bits_below}
 use Rattle.rx_base.specs.declared.place_set.PlaceSet.{PlaceSet}
 use Rattle.rx_base.specs.Sets.{all_places, has_bit, members}
+use Rattle.rx_base.proofs.Numbers.{digit-is}
 
 -- what a filter keeps of a number that stands in the list
 kept_if : (f : ℕ → Bool) (p : ℕ) (xs : List ℕ) → list_any (λ x. x == p) (filter f xs) ≡ (f p && list_any (λ x. x == p) xs)
@@ -47,20 +48,11 @@ all_there (suc (suc (suc (suc (suc (suc (suc (suc (suc (suc (suc (suc (suc (suc 
 bit_is : (s : PlaceSet) (p : ℕ) → p < 16 → list_any (λ x. x == p) (members s) ≡ has_bit s.0 p
 bit_is s p h = kept_if (has_bit s.0) p all_places ∙ ap (λ b. has_bit s.0 p && b) (all_there p h) ∙ and-true (has_bit s.0 p)
 
-same_bit : (a b : ℕ) → a < 2 → b < 2 → (a == 1) ≡ (b == 1) → a ≡ b
-same_bit zero zero h k e = refl
-same_bit zero (suc zero) h k e = absurd (true≢false (sym e))
-same_bit (suc zero) zero h k e = absurd (true≢false e)
-same_bit (suc zero) (suc zero) h k e = refl
-same_bit (suc (suc a)) b h k e = absurd (omega arith)
-same_bit zero (suc (suc b)) h k e = absurd (omega arith)
-same_bit (suc zero) (suc (suc b)) h k e = absurd (omega arith)
-
 -- sets of 16 bits with the same members
 pub members_once : (a b : PlaceSet) → members a ≡ members b → a.0 < 2 ^ 16 → b.0 < 2 ^ 16 → a ≡ b
 members_once a b e low high =
     ap (λ (n : ℕ). let q : PlaceSet = record { 0 = n } in q)
-    (same_from_bits_below 16 a.0 b.0 low high (λ i h. same_bit (bit_at a.0 i) (bit_at b.0 i) (bit_at-lt a.0 i) (bit_at-lt b.0 i) (sym (bit_is a i h) ∙ ap (list_any (λ x. x == i)) e ∙ bit_is b i h)))
+    (same_from_bits_below 16 a.0 b.0 low high (λ i h. digit-is (bit_at a.0 i) (bit_at b.0 i) (bit_at-lt a.0 i) (bit_at-lt b.0 i) (sym (bit_is a i h) ∙ ap (list_any (λ x. x == i)) e ∙ bit_is b i h)))
 
 -- Every set has its number.
 

@@ -15,11 +15,11 @@ use Rattle.rx_rules.specs.Entries.{made, Allowed, AllowedAct}
 use Rattle.rx_rules.specs.Fold.{births, births_of, AllAllowed}
 use Rattle.rx_rules.specs.Reached.{Reached, IsOlder}
 use Rattle.rx_rules.specs.Plays.{Starts, started_by, move_of, moves_from}
+use Rattle.rx_rules.proofs.Numbers.{next-made}
 use Rattle.rx_sound.proofs.Reach.{task_below}
 use Rattle.rx_sound.proofs.Reached.{sound}
 use Rattle.rx_sound.proofs.Histories.{reached_now, dead-now}
 use Rattle.rx_runs.specs.Ties.{Moves}
-use Rattle.rx_runs.proofs.Numbers.{next-made}
 
 -- A number for each act.
 

@@ -6,6 +6,7 @@ use Rattle.rx_base.specs.declared.ids.TaskId.{TaskId}
 use Rattle.rx_base.specs.declared.ids.Kill.{Kill}
 use Rattle.rx_base.specs.declared.place_set.PlaceSet.{PlaceSet}
 use Rattle.rx_base.specs.declared.values.Fault.{Fault}
+use Rattle.rx_base.proofs.Elements.{not-empty}
 use Rattle.rx_rules.specs.declared.tasks.Where.TheVariants.{At, Travel}
 use Rattle.rx_rules.specs.declared.tasks.Task.{Task}
 use Rattle.rx_rules.specs.declared.entries.Act.{Act}
@@ -20,9 +21,10 @@ use Rattle.rx_rules.specs.Tree.{Tree, the_root}
 use Rattle.rx_rules.specs.Entries.{AllowedAct, MayArrive}
 use Rattle.rx_rules.specs.Plays.{Fits, brought, journal_at}
 use Rattle.rx_rules.specs.Store.{State}
-use Rattle.rx_rules.specs.Run.{Given, NoRoot, EndsWithRoot, NoneDue, IsDue, rest_of}
+use Rattle.rx_rules.specs.Run.{Given, NoRoot, EndsWithRoot, IsDue, rest_of}
 use Rattle.rx_rules.specs.Picked as picked
 use Rattle.rx_rules.specs.Picked.{Player, Game, Turn, Turns, IsPicked, none, more, used_after, child_of, enabled, tree_in, start_game}
+use Rattle.rx_rules.proofs.Kills.{due-not}
 use Rattle.rx_runs.specs.Games.{GameOk}
 use Rattle.rx_runs.specs.PickedRuns.{ActFits, SetsFit, plain, OnePickedRun, FewPicks}
 use Rattle.rx_runs.proofs.Asking.{one_task, names_once, fit_once}
@@ -38,10 +40,6 @@ use Rattle.rx_runs.proofs.Plain.{picked_plain, plain_fits}
 pub due_once : (n : ℕ) (d e : PlaceId) (ks : List Kill) → IsDue n d ks → IsDue n e ks → d ≡ e
 due_once n d e [] h k = absurd h
 due_once n d e (a ∷ ks) h k = sym h.0 ∙ k.0
-
-pub due_not : (n : ℕ) (d : PlaceId) (ks : List Kill) → IsDue n d ks → NoneDue n ks → ⊥
-due_not n d [] h k = h
-due_not n d (a ∷ ks) h k = let low : a.moment ≤ n = h.1 in let high : n < a.moment = k in absurd (omega arith)
 
 -- The games that turns make.
 
@@ -80,9 +78,6 @@ not_here T x y p here same pick may at =
     let task : may.task ≡ x = one_task T x.number may.task x may.acts.stands pick.stands in
     let e : Travel may.from p ≡ At here = sym may.travels ∙ ap (λ (v : Task). v.place) (task ∙ same) ∙ at in
     cc
-
-not_empty : {X : Type 0} (xs : List X) (i : ℕ) (x : X) → xs ≡ [] → slice_get xs i ≡ Some x → ⊥
-not_empty xs i x e h = let k : slice_get [] i ≡ Some x = subst (λ v. slice_get v i ≡ Some x) e h in cc
 
 module _ (code : Block) (U : Given) (G : Game) (ok : GameOk code U G) (i : ℕ) where
   task_picked : (x : Task) → slice_get (enabled (tree_in U G)) i ≡ Some x → Pick (tree_in U G) x
@@ -124,11 +119,11 @@ done_last U here q f e = subst IsLast (sym e) tt
 
 pub turn_once : (code : Block) (U : Given) (n : ℕ) (G G1 G2 : Game) (u v : Bool) → GameOk code U G → Turn U n G u G1 → Turn U n G v G2 → SetsFit G1.entries → SetsFit G2.entries → (u ≡ v) × (G1 ≡ G2)
 turn_once code U n G G1 G2 u v ok (picked.dies d due) (picked.dies e due2) a b = (refl, ap (died G) (due_once (length G.entries) d e G.kills due due2))
-turn_once code U n G G1 G2 u v ok (picked.dies d due) (picked.arrives x p free pick may) a b = absurd (due_not (length G.entries) d G.kills due free)
-turn_once code U n G G1 G2 u v ok (picked.dies d due) (picked.moves x here p q S Z j act free pick at player store goes fits may) a b = absurd (due_not (length G.entries) d G.kills due free)
-turn_once code U n G G1 G2 u v ok (picked.dies d due) (picked.ends x here p q S Z j f free pick at player store goes done may) a b = absurd (due_not (length G.entries) d G.kills due free)
-turn_once code U n G G1 G2 u v ok (picked.dies d due) (picked.root lost thrown free empty may) a b = absurd (due_not (length G.entries) d G.kills due free)
-turn_once code U n G G1 G2 u v ok (picked.arrives x p free pick may) (picked.dies d due) a b = absurd (due_not (length G.entries) d G.kills due free)
+turn_once code U n G G1 G2 u v ok (picked.dies d due) (picked.arrives x p free pick may) a b = absurd (due-not (length G.entries) d G.kills due free)
+turn_once code U n G G1 G2 u v ok (picked.dies d due) (picked.moves x here p q S Z j act free pick at player store goes fits may) a b = absurd (due-not (length G.entries) d G.kills due free)
+turn_once code U n G G1 G2 u v ok (picked.dies d due) (picked.ends x here p q S Z j f free pick at player store goes done may) a b = absurd (due-not (length G.entries) d G.kills due free)
+turn_once code U n G G1 G2 u v ok (picked.dies d due) (picked.root lost thrown free empty may) a b = absurd (due-not (length G.entries) d G.kills due free)
+turn_once code U n G G1 G2 u v ok (picked.arrives x p free pick may) (picked.dies d due) a b = absurd (due-not (length G.entries) d G.kills due free)
 turn_once code U n G G1 G2 u v ok (picked.arrives x p free pick may) (picked.arrives y p2 free2 pick2 may2) a b =
     let same : x ≡ y = same_picked code U G ok (n % length (enabled (tree_in U G))) x y pick pick2 in
     let to : p ≡ p2 = arrive_once (tree_in U G) x.number p p2 may (subst (λ (w : Task). MayArrive (tree_in U G) w.number p2) (sym same) may2) in
@@ -137,8 +132,8 @@ turn_once code U n G G1 G2 u v ok (picked.arrives x p free pick may) (picked.mov
     absurd (not_here (tree_in U G) x y p here (same_picked code U G ok (n % length (enabled (tree_in U G))) x y pick pick2) (task_picked code U G ok (n % length (enabled (tree_in U G))) x pick) may at)
 turn_once code U n G G1 G2 u v ok (picked.arrives x p free pick may) (picked.ends y here p2 q S Z j f free2 pick2 at player store goes done may2) a b =
     absurd (not_here (tree_in U G) x y p here (same_picked code U G ok (n % length (enabled (tree_in U G))) x y pick pick2) (task_picked code U G ok (n % length (enabled (tree_in U G))) x pick) may at)
-turn_once code U n G G1 G2 u v ok (picked.arrives x p free pick may) (picked.root lost thrown free2 empty may2) a b = absurd (not_empty (enabled (tree_in U G)) (n % length (enabled (tree_in U G))) x empty pick)
-turn_once code U n G G1 G2 u v ok (picked.moves x here p q S Z j act free pick at player store goes fits may) (picked.dies d due) a b = absurd (due_not (length G.entries) d G.kills due free)
+turn_once code U n G G1 G2 u v ok (picked.arrives x p free pick may) (picked.root lost thrown free2 empty may2) a b = absurd (not-empty (enabled (tree_in U G)) (n % length (enabled (tree_in U G))) x empty pick)
+turn_once code U n G G1 G2 u v ok (picked.moves x here p q S Z j act free pick at player store goes fits may) (picked.dies d due) a b = absurd (due-not (length G.entries) d G.kills due free)
 turn_once code U n G G1 G2 u v ok (picked.moves x here p q S Z j act free pick at player store goes fits may) (picked.arrives y p2 free2 pick2 may2) a b =
     absurd (not_here (tree_in U G) y x p2 here (same_picked code U G ok (n % length (enabled (tree_in U G))) y x pick2 pick) (task_picked code U G ok (n % length (enabled (tree_in U G))) y pick2) may2 at)
 turn_once code U n G G1 G2 u v ok (picked.moves x here p q S Z j act free pick at player store goes fits may) (picked.moves y there p2 r S2 W k bct free2 pick2 at2 player2 store2 goes2 fits2 may2) a b =
@@ -147,8 +142,8 @@ turn_once code U n G G1 G2 u v ok (picked.moves x here p q S Z j act free pick a
 turn_once code U n G G1 G2 u v ok (picked.moves x here p q S Z j act free pick at player store goes fits may) (picked.ends y there p2 r S2 W k f free2 pick2 at2 player2 store2 goes2 done may2) a b =
     let w = same_walk U G (n % length (enabled (tree_in U G))) x y here there p p2 q r S S2 Z W j k pick pick2 at at2 player player2 store store2 goes goes2 (fits_last here q.term _ act fits) (done_last U there r f done) in
     absurd (not_done code U G ok (n % length (enabled (tree_in U G))) x y here there q r act f Z W j k w fits done)
-turn_once code U n G G1 G2 u v ok (picked.moves x here p q S Z j act free pick at player store goes fits may) (picked.root lost thrown free2 empty may2) a b = absurd (not_empty (enabled (tree_in U G)) (n % length (enabled (tree_in U G))) x empty pick)
-turn_once code U n G G1 G2 u v ok (picked.ends x here p q S Z j f free pick at player store goes done may) (picked.dies d due) a b = absurd (due_not (length G.entries) d G.kills due free)
+turn_once code U n G G1 G2 u v ok (picked.moves x here p q S Z j act free pick at player store goes fits may) (picked.root lost thrown free2 empty may2) a b = absurd (not-empty (enabled (tree_in U G)) (n % length (enabled (tree_in U G))) x empty pick)
+turn_once code U n G G1 G2 u v ok (picked.ends x here p q S Z j f free pick at player store goes done may) (picked.dies d due) a b = absurd (due-not (length G.entries) d G.kills due free)
 turn_once code U n G G1 G2 u v ok (picked.ends x here p q S Z j f free pick at player store goes done may) (picked.arrives y p2 free2 pick2 may2) a b =
     absurd (not_here (tree_in U G) y x p2 here (same_picked code U G ok (n % length (enabled (tree_in U G))) y x pick2 pick) (task_picked code U G ok (n % length (enabled (tree_in U G))) y pick2) may2 at)
 turn_once code U n G G1 G2 u v ok (picked.ends x here p q S Z j f free pick at player store goes done may) (picked.moves y there p2 r S2 W k bct free2 pick2 at2 player2 store2 goes2 fits2 may2) a b =
@@ -157,11 +152,11 @@ turn_once code U n G G1 G2 u v ok (picked.ends x here p q S Z j f free pick at p
 turn_once code U n G G1 G2 u v ok (picked.ends x here p q S Z j f free pick at player store goes done may) (picked.ends y there p2 r S2 W k g free2 pick2 at2 player2 store2 goes2 done2 may2) a b =
     let w = same_walk U G (n % length (enabled (tree_in U G))) x y here there p p2 q r S S2 Z W j k pick pick2 at at2 player player2 store store2 goes goes2 (done_last U here q f done) (done_last U there r g done2) in
     (refl, ends_once code U G ok (n % length (enabled (tree_in U G))) x y here there q r f g Z W j k w done done2)
-turn_once code U n G G1 G2 u v ok (picked.ends x here p q S Z j f free pick at player store goes done may) (picked.root lost thrown free2 empty may2) a b = absurd (not_empty (enabled (tree_in U G)) (n % length (enabled (tree_in U G))) x empty pick)
-turn_once code U n G G1 G2 u v ok (picked.root lost thrown free empty may) (picked.dies d due) a b = absurd (due_not (length G.entries) d G.kills due free)
-turn_once code U n G G1 G2 u v ok (picked.root lost thrown free empty may) (picked.arrives y p2 free2 pick2 may2) a b = absurd (not_empty (enabled (tree_in U G)) (n % length (enabled (tree_in U G))) y empty pick2)
-turn_once code U n G G1 G2 u v ok (picked.root lost thrown free empty may) (picked.moves y there p2 r S2 W k bct free2 pick2 at2 player2 store2 goes2 fits2 may2) a b = absurd (not_empty (enabled (tree_in U G)) (n % length (enabled (tree_in U G))) y empty pick2)
-turn_once code U n G G1 G2 u v ok (picked.root lost thrown free empty may) (picked.ends y there p2 r S2 W k g free2 pick2 at2 player2 store2 goes2 done2 may2) a b = absurd (not_empty (enabled (tree_in U G)) (n % length (enabled (tree_in U G))) y empty pick2)
+turn_once code U n G G1 G2 u v ok (picked.ends x here p q S Z j f free pick at player store goes done may) (picked.root lost thrown free2 empty may2) a b = absurd (not-empty (enabled (tree_in U G)) (n % length (enabled (tree_in U G))) x empty pick)
+turn_once code U n G G1 G2 u v ok (picked.root lost thrown free empty may) (picked.dies d due) a b = absurd (due-not (length G.entries) d G.kills due free)
+turn_once code U n G G1 G2 u v ok (picked.root lost thrown free empty may) (picked.arrives y p2 free2 pick2 may2) a b = absurd (not-empty (enabled (tree_in U G)) (n % length (enabled (tree_in U G))) y empty pick2)
+turn_once code U n G G1 G2 u v ok (picked.root lost thrown free empty may) (picked.moves y there p2 r S2 W k bct free2 pick2 at2 player2 store2 goes2 fits2 may2) a b = absurd (not-empty (enabled (tree_in U G)) (n % length (enabled (tree_in U G))) y empty pick2)
+turn_once code U n G G1 G2 u v ok (picked.root lost thrown free empty may) (picked.ends y there p2 r S2 W k g free2 pick2 at2 player2 store2 goes2 done2 may2) a b = absurd (not-empty (enabled (tree_in U G)) (n % length (enabled (tree_in U G))) y empty pick2)
 turn_once code U n G G1 G2 u v ok (picked.root lost thrown free empty may) (picked.root lost2 thrown2 free2 empty2 may2) a b =
     let s = names_once (tree_in U G) the_root lost lost2 thrown thrown2 may.1 may2.1 (last_fits G.entries (Root lost thrown) a).0 (last_fits G.entries (Root lost2 thrown2) b).0 in
     (refl, ap (λ (w : PlaceSet). rooted G w thrown) s.0 ∙ ap (rooted G lost2) s.1)

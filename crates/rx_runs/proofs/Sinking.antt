@@ -8,6 +8,7 @@ use Rattle.rx_base.specs.declared.values.Fault.{Fault}
 use Rattle.rx_base.specs.declared.ids.GlobalRef.{GlobalRef}
 use Rattle.rx_base.specs.declared.values.Value.TheVariants.{Num as Number}
 use Rattle.rx_base.specs.declared.values.Fault.TheVariants.{WrongPlace, Thrown}
+use Rattle.rx_base.proofs.Numbers.{add-one}
 use Rattle.rx_rules.specs.Code as code
 use Rattle.rx_rules.specs.Code.{Block, Nothing, Then, Stmt, work, work_of}
 use Rattle.rx_rules.specs.Terms.{bound, Term, Empty, Raise, Run, Turns, Trying, Body, Held, Does, Local, Makes, Gets, Puts, Forgets, Opens, Calls, Spawns, Waits, Releases, Prints, Done, granted, child, Vars, does, items, items_from, at, eval, with_number, with_place, target_of, on_ref, ref_in, is_zero, stmt_does, trying_does, body_does, catches, or_raise, raise, value_of, within}
@@ -127,38 +128,32 @@ stmt_sinks vars here places (code.Repeat times body) x rest = repeated times (wo
 stmt_sinks vars here places (code.Try body dead_only handler) x rest =
     tried (work body) (work handler) (steps rest) (steps (items body (at x 0) Empty)) (steps_items body (at x 0) 0 Empty)
 
-add_one : (a b h r : ℕ) → a + 1 ≤ b → (a + h + r) + 1 ≤ b + h + r
-add_one a b h r le = omega arith
-
 add_child : (a c b h r : ℕ) → a + c + 2 ≤ b → (a + h + r) + c + 2 ≤ b + h + r
 add_child a c b h r le = omega arith
 
-above : (a b : ℕ) → nat_le a b ≡ false → b < a
-above a b e = leb-false a b e
-
 trying_answer : (inside : Term) (dead_only : Bool) (handler : Block) (x : List ℕ) (rest : Term) (a : Answer) → steps (answered a inside) + 1 ≤ steps inside → steps (answered a (Trying inside dead_only handler x rest)) + 1 ≤ steps inside + (1 + 3 * work handler) + steps rest
-trying_answer inside dead_only handler x rest (Gives name value) h = add_one (steps (answered (Gives name value) inside)) (steps inside) (1 + 3 * work handler) (steps rest) h
-trying_answer inside dead_only handler x rest Fine h = add_one (steps (answered Fine inside)) (steps inside) (1 + 3 * work handler) (steps rest) h
-trying_answer inside dead_only handler x rest (Fails fault) h = add_one (steps (answered (Fails fault) inside)) (steps inside) (1 + 3 * work handler) (steps rest) h
+trying_answer inside dead_only handler x rest (Gives name value) h = add-one (steps (answered (Gives name value) inside)) (steps inside) (1 + 3 * work handler) (steps rest) h
+trying_answer inside dead_only handler x rest Fine h = add-one (steps (answered Fine inside)) (steps inside) (1 + 3 * work handler) (steps rest) h
+trying_answer inside dead_only handler x rest (Fails fault) h = add-one (steps (answered (Fails fault) inside)) (steps inside) (1 + 3 * work handler) (steps rest) h
 
 body_answer : (inside rest : Term) (a : Answer) → steps (answered a inside) + 1 ≤ steps inside → steps (answered a (Body inside rest)) + 1 ≤ steps inside + 2 + steps rest
-body_answer inside rest (Gives name value) h = add_one (steps (answered (Gives name value) inside)) (steps inside) 2 (steps rest) h
-body_answer inside rest Fine h = add_one (steps (answered Fine inside)) (steps inside) 2 (steps rest) h
-body_answer inside rest (Fails fault) h = add_one (steps (answered (Fails fault) inside)) (steps inside) 2 (steps rest) h
+body_answer inside rest (Gives name value) h = add-one (steps (answered (Gives name value) inside)) (steps inside) 2 (steps rest) h
+body_answer inside rest Fine h = add-one (steps (answered Fine inside)) (steps inside) 2 (steps rest) h
+body_answer inside rest (Fails fault) h = add-one (steps (answered (Fails fault) inside)) (steps inside) 2 (steps rest) h
 
 -- in the body of a try
 in_trying : (inside : Term) (dead_only : Bool) (handler : Block) (x : List ℕ) (rest : Term) (d : Does) → Sinks inside d → Sinks (Trying inside dead_only handler x rest) (within (λ t. Trying t dead_only handler x rest) d)
-in_trying inside dead_only handler x rest (Local after vars) h = add_one (steps after) (steps inside) (1 + 3 * work handler) (steps rest) h
+in_trying inside dead_only handler x rest (Local after vars) h = add-one (steps after) (steps inside) (1 + 3 * work handler) (steps rest) h
 in_trying inside dead_only handler x rest (Makes name words) h = λ a. trying_answer inside dead_only handler x rest a (h a)
 in_trying inside dead_only handler x rest (Gets name target index) h = λ a. trying_answer inside dead_only handler x rest a (h a)
 in_trying inside dead_only handler x rest (Puts target index value) h = λ a. trying_answer inside dead_only handler x rest a (h a)
 in_trying inside dead_only handler x rest (Forgets target) h = λ a. trying_answer inside dead_only handler x rest a (h a)
-in_trying inside dead_only handler x rest Opens h = add_one (steps (granted [] inside)) (steps inside) (1 + 3 * work handler) (steps rest) h
+in_trying inside dead_only handler x rest Opens h = add-one (steps (granted [] inside)) (steps inside) (1 + 3 * work handler) (steps rest) h
 in_trying inside dead_only handler x rest (Calls p) h = add_child (steps (granted [] inside)) (steps (child inside)) (steps inside) (1 + 3 * work handler) (steps rest) h
 in_trying inside dead_only handler x rest (Spawns p) h = add_child (steps (granted [] inside)) (steps (child inside)) (steps inside) (1 + 3 * work handler) (steps rest) h
-in_trying inside dead_only handler x rest (Waits faults) h = add_one (steps (granted [] inside)) (steps inside) (1 + 3 * work handler) (steps rest) h
-in_trying inside dead_only handler x rest Releases h = λ faults. add_one (steps (granted faults inside)) (steps inside) (1 + 3 * work handler) (steps rest) (h faults)
-in_trying inside dead_only handler x rest (Prints value) h = add_one (steps (granted [] inside)) (steps inside) (1 + 3 * work handler) (steps rest) h
+in_trying inside dead_only handler x rest (Waits faults) h = add-one (steps (granted [] inside)) (steps inside) (1 + 3 * work handler) (steps rest) h
+in_trying inside dead_only handler x rest Releases h = λ faults. add-one (steps (granted faults inside)) (steps inside) (1 + 3 * work handler) (steps rest) (h faults)
+in_trying inside dead_only handler x rest (Prints value) h = add-one (steps (granted [] inside)) (steps inside) (1 + 3 * work handler) (steps rest) h
 in_trying inside dead_only handler x rest (Done faults) h = tt
 
 caught : (b : Bool) (handler : Block) (x : List ℕ) (rest : Term) (faults : List Fault) → steps (cond b (items handler (at x 1) rest) (Raise faults)) + 1 ≤ 0 + (1 + 3 * work handler) + steps rest
@@ -176,17 +171,17 @@ trying_sinks vars (Held more) d dead_only handler x rest h = in_trying (Held mor
 
 -- in the body of a finish, where it goes on
 in_body : (inside : Term) (rest : Term) (d : Does) → ((faults : List Fault) → granted faults (Body inside rest) ≡ Body (granted faults inside) rest) → Sinks inside d → Sinks (Body inside rest) (within (λ t. Body t rest) d)
-in_body inside rest (Local after vars) g h = add_one (steps after) (steps inside) 2 (steps rest) h
+in_body inside rest (Local after vars) g h = add-one (steps after) (steps inside) 2 (steps rest) h
 in_body inside rest (Makes name words) g h = λ a. body_answer inside rest a (h a)
 in_body inside rest (Gets name target index) g h = λ a. body_answer inside rest a (h a)
 in_body inside rest (Puts target index value) g h = λ a. body_answer inside rest a (h a)
 in_body inside rest (Forgets target) g h = λ a. body_answer inside rest a (h a)
-in_body inside rest Opens g h = subst (λ (t : Term). steps t + 1 ≤ steps (Body inside rest)) (sym (g [])) (add_one (steps (granted [] inside)) (steps inside) 2 (steps rest) h)
+in_body inside rest Opens g h = subst (λ (t : Term). steps t + 1 ≤ steps (Body inside rest)) (sym (g [])) (add-one (steps (granted [] inside)) (steps inside) 2 (steps rest) h)
 in_body inside rest (Calls p) g h = subst (λ (t : Term). steps t + steps (child inside) + 2 ≤ steps (Body inside rest)) (sym (g [])) (add_child (steps (granted [] inside)) (steps (child inside)) (steps inside) 2 (steps rest) h)
 in_body inside rest (Spawns p) g h = subst (λ (t : Term). steps t + steps (child inside) + 2 ≤ steps (Body inside rest)) (sym (g [])) (add_child (steps (granted [] inside)) (steps (child inside)) (steps inside) 2 (steps rest) h)
-in_body inside rest (Waits faults) g h = subst (λ (t : Term). steps t + 1 ≤ steps (Body inside rest)) (sym (g [])) (add_one (steps (granted [] inside)) (steps inside) 2 (steps rest) h)
-in_body inside rest Releases g h = λ faults. subst (λ (t : Term). steps t + 1 ≤ steps (Body inside rest)) (sym (g faults)) (add_one (steps (granted faults inside)) (steps inside) 2 (steps rest) (h faults))
-in_body inside rest (Prints value) g h = subst (λ (t : Term). steps t + 1 ≤ steps (Body inside rest)) (sym (g [])) (add_one (steps (granted [] inside)) (steps inside) 2 (steps rest) h)
+in_body inside rest (Waits faults) g h = subst (λ (t : Term). steps t + 1 ≤ steps (Body inside rest)) (sym (g [])) (add-one (steps (granted [] inside)) (steps inside) 2 (steps rest) h)
+in_body inside rest Releases g h = λ faults. subst (λ (t : Term). steps t + 1 ≤ steps (Body inside rest)) (sym (g faults)) (add-one (steps (granted faults inside)) (steps inside) 2 (steps rest) (h faults))
+in_body inside rest (Prints value) g h = subst (λ (t : Term). steps t + 1 ≤ steps (Body inside rest)) (sym (g [])) (add-one (steps (granted [] inside)) (steps inside) 2 (steps rest) h)
 in_body inside rest (Done faults) g h = tt
 
 body_sinks : (inside rest : Term) (d : Does) → Sinks inside d → Sinks (Body inside rest) (body_does inside d rest)
@@ -202,7 +197,7 @@ turn_sinks : (b : Bool) (body : Block) (x : List ℕ) (k times : ℕ) (rest : Te
 turn_sinks true body x k times rest e = omega arith
 turn_sinks false body x k times rest e =
     let i : steps (items body (at x k) (Turns body x (suc k) times rest)) ≡ 3 * work body + steps (Turns body x (suc k) times rest) = steps_items body (at x k) 0 (Turns body x (suc k) times rest) in
-    let more : k < times = above times k e in
+    let more : k < times = leb-false times k e in
     let less : times - k ≡ suc (times - suc k) = omega arith in
     let m : (times - k) * work body ≡ (times - suc k) * work body + work body = ap (λ v. v * work body) less ∙ suc-mul (times - suc k) (work body) in
     let t : steps (Turns body x (suc k) times rest) ≡ 1 + ((times - suc k) + 3 * ((times - suc k) * work body)) + steps rest = refl in

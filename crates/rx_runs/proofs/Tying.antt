@@ -16,10 +16,11 @@ use Rattle.rx_rules.specs.declared.entries.Entry.{Entry}
 use Rattle.rx_rules.specs.declared.entries.Entry.TheVariants.{Step, Death}
 use Rattle.rx_rules.specs.declared.tasks.Task.{Task}
 use Rattle.rx_rules.specs.declared.tasks.Blow.{Blow}
-use Rattle.rx_rules.specs.Tree.{Tree, is_task, task_of, death_of}
+use Rattle.rx_rules.specs.Tree.{Tree, is_task, death_of}
 use Rattle.rx_rules.specs.Entries.{change_first, hit, is_hit, strike, waiting, resumed, born, made_act, after_end, AllowedAct, MayEnd}
 use Rattle.rx_rules.specs.Plays.{Birth, birth_in, birth_of, moves_from, started_by}
 use Rattle.rx_rules.specs.Run.{death_number}
+use Rattle.rx_rules.proofs.Append.{end-tasks}
 use Rattle.rx_sound.proofs.Blows.{hit_number, hit_place}
 use Rattle.rx_runs.specs.Ties.{Moves, is_end, has_end, HasLanded, PlaceSo, RowSo, RowsSo, Ties}
 use Rattle.rx_runs.proofs.Pushes.{moves-push, birth-push}
@@ -154,9 +155,6 @@ rows-born q size es T t c act batch under from to few inside new e a d b i =
       rows-up size c.0 (es ++ Step t act batch ∷ []) T.tasks (omega arith) (rows-on size es (es ++ Step t act batch ∷ []) T.tasks (λ k w low r. row_any size es (es ++ Step t act batch ∷ []) t act batch d e a.old a.landed k w low r) i.rows),
     )
 
-after_end-is : (T : Tree) (t : TaskId) (thrown : List Fault) (x : Task) → task_of T t ≡ Some x → (after_end T t thrown).tasks ≡ filter (λ y. not (is_task t y)) T.tasks
-after_end-is T t thrown x h = rw (h, after_end) refl
-
 -- one lemma a kind of act
 pub ties-act : (q size : ℕ) (es : List Entry) (T : Tree) (t : TaskId) (act : Act) (batch : List (List ℕ)) → q ≤ 16 → T.next_task ≡ size → AllowedAct T t act → is_end (length es, act, batch) ≡ false → Acting size es t → StartsAt size act → Ties q size es T → ((p : PlaceId) → act ≡ Arrive p → ⊥) → Ties q (elim (started_by act) [ Some c ↦ suc size | None ↦ size ]) (es ++ Step t act batch ∷ []) (made_act T t act)
 ties-act q size es T t (Open s r x) batch few next may e a h i na =
@@ -209,7 +207,7 @@ pub ties-end : (q size : ℕ) (es : List Entry) (T : Tree) (t : TaskId) (thrown 
 ties-end q size es T t thrown batch low may i =
     let d = told size es t (End thrown) batch tt in
     ties-step q size size es T t (End thrown) batch (filter (λ y. not (is_task t y)) T.tasks) T.dead T.places (omega arith) low d (λ j m k. refl) i (made_act T t (End thrown))
-    (after_end-is T t thrown may.task may.live.acts.stands)
+    (end-tasks T t thrown may.task may.live.acts.stands)
     (rw (may.live.acts.stands, after_end) refl)
     (rw (may.live.acts.stands, after_end) refl)
     (rows-end t size es (es ++ Step t (End thrown) batch ∷ []) T.tasks (λ k w l o v. row_other size es (es ++ Step t (End thrown) batch ∷ []) t (End thrown) batch d k w l o v) i.rows)

@@ -1,9 +1,10 @@
 -- How the arenas of a reader stand for the state of the machine, as they grow.
-use Rattle.std.proofs.Common.{◌≡◌, ◌⊎◌, inl, inr, ℕ, zero, suc, ◌+◌, ◌<◌, ◌≤◌, ◌^◌, List, [], ◌∷◌, ◌++◌, length, take, drop, refl, ap, sym, ◌∙◌, subst, arith, append_assoc, append-nil, length-append, length-take, get_or, map, Vec, Global}
+use Rattle.std.proofs.Common.{◌≡◌, ◌⊎◌, inl, inr, ℕ, zero, suc, ◌+◌, ◌<◌, ◌≤◌, ◌^◌, List, [], ◌∷◌, ◌++◌, length, take, drop, refl, ap, sym, ◌∙◌, subst, arith, append_assoc, append-nil, length-append, length-take, map, Vec, Global}
 use Rattle.std.specs.Prelude.{Some, slice_get, Result, Ok, Err, OnOk}
-use Rattle.std.proofs.lemmas.List.{get_or_append_left, same_from_push, length-drop}
-use Rattle.std.proofs.lemmas.Option.{slice_get-get_or, slice_get_within, get_or_from_slice_get}
-use Rattle.std.proofs.Math.Seq.{get_or-append_seam, take-append_seam, drop-append_seam}
+use Rattle.std.proofs.lemmas.List.{same_from_push, length-drop}
+use Rattle.std.proofs.lemmas.Option.{same_Some}
+use Rattle.std.proofs.Math.Seq.{take-append_seam, drop-append_seam}
+use Rattle.rx_base.proofs.Elements.{get-last, more-at}
 use Rattle.rx_rules.specs.Code.{Expr, Num, Name, Here, Bin, Stmt, SetTo, New, Get, Put, Forget, Print, Throw, Async, AtAsync, At, Finish, If, Repeat, Try, Block, Nothing, Then}
 use Rattle.rx_nodes.specs.Shape.{Shape, IsSmall, ExprStands, StmtIs, ListStands, BlockStands}
 use Rattle.rx_script.specs.Inside.Items.{Opener, ByAsync, ByAtAsync, ByAt, ByFinish, ByIf, ByRepeat, ByTry, Whole, Close}
@@ -26,28 +27,11 @@ use Rattle.rx_script.specs.declared.reader.Waiting.{Waiting}
 use Rattle.rx_script.specs.declared.reader.Waiting.TheVariants as waitings
 use Rattle.rx_script.specs.declared.reader.Reader.{Reader}
 
-some-is : {A : Type 0} (x y : A) → Some x ≡ Some y → x ≡ y
-some-is x y e = cc
-
--- what a longer list has at a place that a shorter one has
-pub get-more : {A : Type 0} (xs ys : List A) (i : ℕ) (x : A) → slice_get xs i ≡ Some x → slice_get (xs ++ ys) i ≡ Some x
-get-more xs ys i x h =
-    slice_get-get_or (xs ++ ys) i x (omega (arith, length-append xs ys, slice_get_within xs i x h))
-    ∙ ap Some (get_or_append_left xs ys x i (slice_get_within xs i x h) ∙ get_or_from_slice_get xs i x x h)
-
-pub get-last : {A : Type 0} (xs : List A) (x : A) (i : ℕ) → i ≡ length xs → slice_get (xs ++ x ∷ []) i ≡ Some x
-get-last xs x i e =
-    slice_get-get_or (xs ++ x ∷ []) i x (omega (arith, length-append xs (x ∷ [])))
-    ∙ ap Some (ap (λ n. get_or (xs ++ x ∷ []) n x) e ∙ get_or-append_seam xs x [] x)
-
 -- all that stood in the one still stands in the other
 pub record Extends (s t : Shape) : Type 0 where
   pub stmts : (i : ℕ) (x : Node) → slice_get s.stmts i ≡ Some x → slice_get t.stmts i ≡ Some x
   pub exprs : (i : ℕ) (x : Part) → slice_get s.exprs i ≡ Some x → slice_get t.exprs i ≡ Some x
   pub blocks : (i : ℕ) (x : List StmtId) → slice_get s.blocks i ≡ Some x → slice_get t.blocks i ≡ Some x
-
-more-at : {A : Type 0} (xs ys zs : List A) → zs ≡ xs ++ ys → (i : ℕ) (x : A) → slice_get xs i ≡ Some x → slice_get zs i ≡ Some x
-more-at xs ys zs e i x h = ap (λ us. slice_get us i) e ∙ get-more xs ys i x h
 
 pub extends-by : (s t : Shape) (xs : List Node) (ys : List Part) (zs : List (List StmtId)) → t.stmts ≡ s.stmts ++ xs → t.exprs ≡ s.exprs ++ ys → t.blocks ≡ s.blocks ++ zs → Extends s t
 extends-by s t xs ys zs a b d = record {
@@ -243,7 +227,7 @@ close-holds old mid new left last k f outer b e u p m h =
 
 -- what an item does
 at-state : (r : Reader) (s t : State) → Some s ≡ Some t → Holds r s → Holds r t
-at-state r s t e h = subst (λ (u : State). Holds r u) (some-is s t e) h
+at-state r s t e h = subst (λ (u : State). Holds r u) (same_Some s t e) h
 
 whole-grows : (r : Reader) (node : Node) (u : Stmt) → StmtIs (only r.exprs.items) node u → StmtIs (shape_of r) node u
 whole-grows r node u i = stmt-grows (only r.exprs.items) (shape_of r) (extends-by (only r.exprs.items) (shape_of r) r.stmts.items [] (blocks_of r) refl (sym (append-nil _)) refl) node u i
@@ -269,7 +253,7 @@ takes-close old mid new left last k e u p m s t _ h i x = absurd i
 
 -- the last of a longer list, or one before it
 push-get : {A : Type 0} (xs : List A) (y : A) (k : ℕ) (x : A) → slice_get (xs ++ y ∷ []) k ≡ Some x → (slice_get xs k ≡ Some x) ⊎ (x ≡ y)
-push-get [] y zero x e = inr (sym (some-is y x e))
+push-get [] y zero x e = inr (sym (same_Some y x e))
 push-get [] y (suc k) x e = cc
 push-get (z ∷ xs) y zero x e = inl e
 push-get (z ∷ xs) y (suc k) x e = push-get xs y k x e

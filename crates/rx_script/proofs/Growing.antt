@@ -1,9 +1,8 @@
 -- What stands in a list of parts goes on standing as the list grows.
-use Rattle.std.proofs.Common.{◌≡◌, ℕ, ◌<◌, List, [], ◌∷◌, ◌++◌, length, ap, sym, ◌∙◌, arith, append_assoc, append-nil, length-append, get_or}
+use Rattle.std.proofs.Common.{◌≡◌, ℕ, ◌<◌, List, [], ◌∷◌, ◌++◌, length, ap, sym, ◌∙◌, append_assoc, append-nil}
 use Rattle.std.specs.Prelude.{Some, slice_get}
-use Rattle.std.proofs.lemmas.List.{get_or_append_left}
-use Rattle.std.proofs.lemmas.Option.{slice_get-get_or, slice_get_within, get_or_from_slice_get}
-use Rattle.std.proofs.Math.Seq.{get_or-append_seam}
+use Rattle.std.proofs.lemmas.Option.{slice_get_within}
+use Rattle.rx_base.proofs.Elements.{more-at}
 use Rattle.rx_rules.specs.Code.{Expr, Num, Name, Here, Bin, Stmt, SetTo, New, Get, Put, Forget, Print, Throw, Async, AtAsync, At, Finish, If, Repeat, Try, Block, Nothing, Then}
 use Rattle.rx_nodes.specs.Shape.{Shape, ExprStands, StmtIs, ListStands}
 use Rattle.rx_script.specs.Inside.Pieces.{Grows}
@@ -12,20 +11,6 @@ use Rattle.rx_nodes.specs.declared.nodes.ExprId.{ExprId}
 use Rattle.rx_nodes.specs.declared.nodes.Expr.{Expr as Part}
 use Rattle.rx_nodes.specs.declared.nodes.Stmt.{Stmt as Node}
 use Rattle.rx_nodes.specs.declared.nodes.Stmt.TheVariants.{Set as SetNode, New as NewNode, Get as GetNode, Put as PutNode, Forget as ForgetNode, Print as PrintNode, Throw as ThrowNode, Async as AsyncNode, AtAsync as AtAsyncNode, At as AtNode, Finish as FinishNode, If as IfNode, Repeat as RepeatNode, Try as TryNode}
-
--- what a longer list has at a place that a shorter one has
-pub get-more : {A : Type 0} (xs ys : List A) (i : ℕ) (x : A) → slice_get xs i ≡ Some x → slice_get (xs ++ ys) i ≡ Some x
-get-more xs ys i x h =
-    slice_get-get_or (xs ++ ys) i x (omega (arith, length-append xs ys, slice_get_within xs i x h))
-    ∙ ap Some (get_or_append_left xs ys x i (slice_get_within xs i x h) ∙ get_or_from_slice_get xs i x x h)
-
-pub get-last : {A : Type 0} (xs : List A) (x : A) (i : ℕ) → i ≡ length xs → slice_get (xs ++ x ∷ []) i ≡ Some x
-get-last xs x i e =
-    slice_get-get_or (xs ++ x ∷ []) i x (omega (arith, length-append xs (x ∷ [])))
-    ∙ ap Some (ap (λ n. get_or (xs ++ x ∷ []) n x) e ∙ get_or-append_seam xs x [] x)
-
-pub more-at : {A : Type 0} (xs ys zs : List A) → zs ≡ xs ++ ys → (i : ℕ) (x : A) → slice_get xs i ≡ Some x → slice_get zs i ≡ Some x
-more-at xs ys zs e i x h = ap (λ us. slice_get us i) e ∙ get-more xs ys i x h
 
 -- a list that has what another has, or has it and more
 pub grows-none : (es : List Part) → Grows es es

@@ -1,6 +1,7 @@
 -- What a reader has read of the tokens.
 use Rattle.std.proofs.Common.{◌≡◌, ◌+◌, ◌<◌, ◌≤◌, ◌^◌, List, [], ◌∷◌, ◌++◌, length, vec_len, refl, ap, sym, ◌∙◌, subst, arith, append-nil, length-append, Vec, Global, true, false}
 use Rattle.std.specs.Prelude.{Some, Result, Ok, Err, IfOk, option_and_then, slice_get}
+use Rattle.rx_base.proofs.Elements.{get-last}
 use Rattle.rx_rules.specs.Code.{Stmt, SetTo, New, Get, Put, Forget, Print, Throw, Async, AtAsync, At, Finish, If, Repeat, Try, Block}
 use Rattle.rx_nodes.specs.Shape.{Shape, IsSmall, ListStands, BlockStands}
 use Rattle.rx_nodes.specs.Grammar.{spelling}
@@ -19,7 +20,7 @@ use Rattle.rx_script.specs.declared.reader.Reader.{Reader}
 use Rattle.rx_script.proofs.Runs.{words, some-and, start, run-append}
 use Rattle.rx_script.proofs.Spelt.{takes}
 use Rattle.rx_script.proofs.Places.{HasRun, place, run-more, script-read}
-use Rattle.rx_script.proofs.Arena.{Extends, extends-by, list-grows, get-last, holds-exprs}
+use Rattle.rx_script.proofs.Arena.{Extends, extends-by, list-grows, holds-exprs}
 
 pub record HasRead (r : Reader) (tokens rest : List Token) : Type 0 where
   pub items : List Item

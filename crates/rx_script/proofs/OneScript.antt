@@ -1,5 +1,6 @@
 -- Bytes are one script at most, or have one place where they go wrong, and what is written is the script that it was written from.
 use Rattle.std.proofs.Common.{◌≡◌, ℕ, ◌-◌, List, [], length, Some, slice_get, sym, ap, subst, ◌∙◌, arith}
+use Rattle.std.proofs.lemmas.Option.{same_Some}
 use Rattle.rx_rules.specs.Code.{Block}
 use Rattle.rx_token.specs.declared.token.Token.{Token}
 use Rattle.rx_token.specs.Scans.{Scans}
@@ -7,7 +8,6 @@ use Rattle.rx_nodes.specs.Grammar.{spellings, IsScriptOf}
 use Rattle.rx_script.specs.Places.{IsPlace}
 use Rattle.rx_script.specs.Faults.{IsFaultAt}
 use Rattle.rx_script.specs.Writing.{WrittenReadsBack, ScriptsAreSpelled}
-use Rattle.rx_token.proofs.Naming.{some-is}
 use Rattle.rx_token.proofs.Scanning.{begins-scans}
 use Rattle.rx_token.proofs.OneScan.{one-scan}
 use Rattle.rx_token.proofs.Spelling.{begins-spelled}
@@ -32,7 +32,7 @@ one-fault bytes m n a b =
     let one = one-scan a.names b.names (length bytes) bytes a.tokens b.tokens a.starts b.starts a.scans a.are_names b.scans b.are_names in
     let bad : a.bad ≡ b.bad = one-place b.tokens a.bad b.bad (subst (λ (us : List Token). IsPlace us a.bad) one.1 a.place) b.place in
     let there : slice_get b.starts (length b.tokens - length b.bad) ≡ Some m = ap (λ ss. slice_get ss (length b.tokens - length b.bad)) (sym one.2) ∙ ap (λ (us : List Token). slice_get a.starts (length us - length b.bad)) (sym one.1) ∙ ap (λ (us : List Token). slice_get a.starts (length a.tokens - length us)) (sym bad) ∙ a.start in
-    some-is m n (sym there ∙ b.start)
+    same_Some m n (sym there ∙ b.start)
 
 -- a script has none
 pub no-fault : (bytes : List ℕ) (names : List (List ℕ)) (s : Block) (n : ℕ) → IsScriptOf names bytes s → IsFaultAt bytes n → ⊥

@@ -2,6 +2,7 @@
 use Rattle.std.proofs.Common.{◌≡◌, ℤ, List, [], ◌∷◌, ◌++◌, length, refl, ap, sym, ◌∙◌, subst}
 use Rattle.std.specs.Prelude.{Result}
 use Rattle.std.proofs.lemmas.List.{same_from_push}
+use Rattle.rx_base.proofs.Elements.{push-not-nil, get-last}
 use Rattle.rx_rules.specs.Code.{Expr, Num, Name, Here, Bin}
 use Rattle.rx_nodes.specs.Shape.{ExprStands, op_of}
 use Rattle.rx_script.specs.Inside.Exprs.{Pair, First, Second, whole}
@@ -19,7 +20,7 @@ use Rattle.rx_token.specs.declared.token.Sign.TheVariants.{CloseParen as RParen}
 use Rattle.rx_script.specs.declared.exprs.OpenPair.{OpenPair}
 use Rattle.rx_script.specs.declared.exprs.OpenPair.TheVariants as pairs
 use Rattle.rx_script.specs.declared.exprs.Turn.TheVariants as turns
-use Rattle.rx_script.proofs.Growing.{get-last, expr-grows, stands-within}
+use Rattle.rx_script.proofs.Growing.{expr-grows, stands-within}
 
 pair-grows : (es fs : List Part) → Grows es fs → (p : OpenPair) (q : Pair) → PairStands es p q → PairStands fs p q
 pair-grows es fs g p First h = h
@@ -45,10 +46,6 @@ reads-name es ps name ts o h = (h.0, Name name.0, pairs-grow es _ (one-more es _
 
 pub reads-here : (es : List Part) (ps : List OpenPair) (ts : List Token) (o : Result (Expr × List Token) (List Token)) → Reads es ps turns.Operand (Key KHere ∷ ts) o → Reads (es ++ parts.Here ∷ []) ps (turns.After (next_id es)) ts o
 reads-here es ps ts o h = (h.0, Here, pairs-grow es _ (one-more es _) ps h.0 h.1, get-last es _ (length es) refl, h.2)
-
-push-not-nil : {A : Type 0} (xs : List A) (x : A) → xs ++ x ∷ [] ≡ [] → ⊥
-push-not-nil [] x e = cc
-push-not-nil (y ∷ ys) x e = cc
 
 second-first : (left : ExprId) (sign : Sign) → pairs.Second left sign ≡ pairs.First → ⊥
 second-first left sign e = cc

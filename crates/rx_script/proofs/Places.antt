@@ -1,6 +1,7 @@
 -- The first token that can't go on: the tokens before it begin a script, and no script begins with them and it.
 use Rattle.std.proofs.Common.{◌≡◌, List, [], ◌∷◌, ◌++◌, false, refl, ap, sym, ◌∙◌, subst, append_assoc, append-nil, ◌⊎◌, inl, inr}
 use Rattle.std.specs.Prelude.{Some, Result, Ok, Err, option_and_then}
+use Rattle.std.proofs.lemmas.Option.{same_Some}
 use Rattle.rx_token.specs.declared.token.Token.{Token}
 use Rattle.rx_rules.specs.Code.{Block, Nothing, Async, AtAsync, At, Finish, If, Repeat, Try}
 use Rattle.rx_nodes.specs.Grammar.{spellings, AllFit}
@@ -11,7 +12,6 @@ use Rattle.rx_script.proofs.Local.{Completes, Refuses, Judged}
 use Rattle.rx_script.proofs.LocalItems.{local-item}
 use Rattle.rx_script.proofs.Spelt.{again, takes}
 use Rattle.rx_script.proofs.Runs.{words, words-append, words-all, all_items, some-and, start, run-whole, run-on}
-use Rattle.rx_token.proofs.Naming.{some-is}
 use Rattle.rx_script.proofs.Sound.{AllItems, sound, all-append, fit-items, items-fit}
 
 -- an item that the machine takes may stand here
@@ -114,7 +114,7 @@ pub record Rest (t u : State) (xs ys : List Item) (rest : List Token) : Type 0 w
   pub items : AllItems left
 
 pub prefix : (s t u : State) (xs ys : List Item) (rest : List Token) → AllItems xs → AllItems ys → run s xs ≡ Some t → run s ys ≡ Some u → words xs ++ rest ≡ words ys → Rest t u xs ys rest
-prefix s t u [] ys rest i j e f w = record { left = ys; whole = refl; tokens = w; runs = subst (λ (v : State). run v ys ≡ Some u) (some-is s t e) f; items = j }
+prefix s t u [] ys rest i j e f w = record { left = ys; whole = refl; tokens = w; runs = subst (λ (v : State). run v ys ≡ Some u) (same_Some s t e) f; items = j }
 prefix s t u (x ∷ xs) [] rest i j e f w =
     let m = some-and (step s x) (λ v. run v xs) t e in
     let a = again-step s m.0 x (words xs ++ rest) i.0 m.1 in
@@ -126,7 +126,7 @@ prefix s t u (x ∷ xs) (y ∷ ys) rest i j e f w =
     let both : item_words x ++ (words xs ++ rest) ≡ item_words y ++ words ys = sym (append_assoc (item_words x) (words xs) rest) ∙ w in
     let pair = ok-is (x, words xs ++ rest) (y, words ys) (item_at (mode s) (item_words x ++ (words xs ++ rest))) (again-step s m.0 x (words xs ++ rest) i.0 m.1) (ap (item_at (mode s)) both ∙ again-step s n.0 y (words ys) j.0 n.1) in
     let same : x ≡ y = ap (λ (p : Item × List Token). p.0) pair in
-    let state : n.0 ≡ m.0 = some-is n.0 m.0 (sym n.1 ∙ ap (step s) (sym same) ∙ m.1) in
+    let state : n.0 ≡ m.0 = same_Some n.0 m.0 (sym n.1 ∙ ap (step s) (sym same) ∙ m.1) in
     let more = prefix m.0 t u xs ys rest i.1 j.1 m.2 (subst (λ (v : State). run v ys ≡ Some u) state n.2) (ap (λ (p : Item × List Token). p.1) pair) in
     record { left = more.left; whole = ap (λ z. z ∷ ys) (sym same) ∙ ap (λ zs. x ∷ zs) more.whole; tokens = more.tokens; runs = more.runs; items = more.items }
 
@@ -141,7 +141,7 @@ goes-on xs s rest ts h f e = prefix start s (free [] ts) xs (all_items ts) rest 
 
 -- tokens at which the reader of items fails go on no script
 no-items : (s u : State) (left : List Item) (rest bad : List Token) → (rest ≡ [] → s ≡ u → ⊥) → item_at (mode s) rest ≡ Err bad → rest ≡ words left → run s left ≡ Some u → AllItems left → ⊥
-no-items s u [] rest bad n e w r i = n w (some-is s u r)
+no-items s u [] rest bad n e w r i = n w (same_Some s u r)
 no-items s u (x ∷ xs) rest bad n e w r i =
     let m = some-and (step s x) (λ v. run v xs) u r in
     ok-err (x, words xs) bad (item_at (mode s) rest) (ap (item_at (mode s)) w ∙ again-step s m.0 x (words xs) i.0 m.1) e
@@ -240,7 +240,7 @@ no-place ts bad f p = no-place-in ts bad f p bad refl
 
 -- tokens spell one tree
 one-tree-by : (ts us : Block) (left : List Item) → [] ≡ words left → run (free [] ts) left ≡ Some (free [] us) → AllItems left → ts ≡ us
-one-tree-by ts us [] w r i = ap (λ (s : State). s.so_far) (some-is (free [] ts) (free [] us) r)
+one-tree-by ts us [] w r i = ap (λ (s : State). s.so_far) (same_Some (free [] ts) (free [] us) r)
 one-tree-by ts us (x ∷ xs) w r i =
     let m = some-and (step (free [] ts) x) (λ v. run v xs) (free [] us) r in
     absurd (ok-err (x, words xs) [] (item_at Outermost []) (ap (item_at Outermost) w ∙ again-step (free [] ts) m.0 x (words xs) i.0 m.1) refl)

@@ -23,7 +23,7 @@ op-of-sign Mul = refl
 op-of-sign Less = refl
 op-of-sign Equal = refl
 
-sign-of-op : (o : Operation) → sign_of (op_of o) ≡ o
+pub sign-of-op : (o : Operation) → sign_of (op_of o) ≡ o
 sign-of-op signs.Add = refl
 sign-of-op signs.Sub = refl
 sign-of-op signs.Mul = refl

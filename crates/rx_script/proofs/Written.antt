@@ -1,10 +1,11 @@
 -- What the parts of a script stand for, and how writing them goes on.
-use Rattle.std.proofs.Common.{◌≡◌, ℕ, zero, suc, ◌+◌, ◌<◌, ◌≤◌, Bool, true, false, List, [], ◌∷◌, ◌++◌, length, drop, Some, refl, ap, sym, ◌∙◌, subst, append_assoc, append-nil, add-one, pos, arith}
+use Rattle.std.proofs.Common.{◌≡◌, ℕ, suc, ◌+◌, ◌<◌, ◌≤◌, Bool, true, false, List, [], ◌∷◌, ◌++◌, length, drop, Some, refl, ap, sym, ◌∙◌, subst, append_assoc, append-nil, add-one, pos, arith}
 use Rattle.std.specs.Prelude.{slice_get, reverse, IfSome, OnOk, Option, Result, Ok, Err}
 use Rattle.std.proofs.lemmas.Grind.{flat_map-append}
 use Rattle.std.specs.List.{flat_map}
 use Rattle.std.proofs.lemmas.List.{reverse-append, reverse-reverse, drop_all}
 use Rattle.std.proofs.lemmas.Option.{slice_get_within}
+use Rattle.rx_base.proofs.Elements.{drop-suc}
 use Rattle.rx_rules.specs.Code.{Expr as Tree, Num, Name, Here, Bin, Block, Nothing, Then, Stmt, SetTo, New, Get, Put, Forget, Print, Throw, Async, AtAsync, At, Finish, If, Repeat, Try}
 use Rattle.rx_nodes.specs.declared.nodes.StmtId.{StmtId}
 use Rattle.rx_nodes.specs.declared.nodes.ExprId.{ExprId}
@@ -13,7 +14,6 @@ use Rattle.rx_nodes.specs.declared.nodes.Stmt.{Stmt as Node}
 use Rattle.rx_nodes.specs.declared.nodes.Stmt.TheVariants as nodes
 use Rattle.rx_nodes.specs.declared.nodes.Expr.{Expr as Leaf}
 use Rattle.rx_nodes.specs.declared.nodes.Expr.TheVariants as leaves
-use Rattle.rx_token.specs.declared.token.Op.{Op as Sign}
 use Rattle.rx_token.specs.declared.token.Op.TheVariants as signs
 use Rattle.rx_token.specs.declared.token.Keyword.TheVariants.{Async as KAsync, At as KAt, If as KIf, Else as KElse, Catch as KCatch, Dead as KDead}
 use Rattle.rx_token.specs.declared.token.Sign.TheVariants.{OpenBrace as LBrace, CloseBrace as RBrace, OpenParen as LParen, CloseParen as RParen, OpenSquare as LSquare, CloseSquare as RSquare, Equals, Semicolon}
@@ -21,10 +21,11 @@ use Rattle.rx_token.specs.declared.token.Token.{Token}
 use Rattle.rx_token.specs.declared.token.Token.TheVariants.{Key, Called, Number, Oper, Mark}
 use Rattle.rx_script.specs.declared.writer.Part.{Part}
 use Rattle.rx_script.specs.declared.writer.Part.TheVariants.{One, Value, From}
-use Rattle.rx_nodes.specs.Shape.{Shape, op_of, ExprStands, StmtIs, ListStands, Stands}
-use Rattle.rx_nodes.specs.Grammar.{sign_of, spell, catch_words, spelling, spellings}
+use Rattle.rx_nodes.specs.Shape.{Shape, ExprStands, StmtIs, ListStands, Stands}
+use Rattle.rx_nodes.specs.Grammar.{spell, catch_words, spelling, spellings}
 use Rattle.rx_token.specs.Texts.{spaced}
 use Rattle.rx_script.specs.Inside.Unwritten.{PartStands, PartsStand, front_of, rest_of, block_parts, catch_parts, expr_front, expr_rest, Wrote}
+use Rattle.rx_script.proofs.Spelt.{sign-of-op}
 
 -- parts one after another stand for their tokens one after another
 pub parts-append : (s : Shape) (ps qs : List Part) (us vs : List Token) → PartsStand s ps us → PartsStand s qs vs → PartsStand s (ps ++ qs) (us ++ vs)
@@ -118,9 +119,6 @@ few-expr (leaves.Name n) = omega arith
 few-expr leaves.Here = omega arith
 few-expr (leaves.Bin op left right) = omega arith
 
-same-sign : (o : Sign) → sign_of (op_of o) ≡ o
-same-sign = elim [ signs.Add ↦ refl | signs.Sub ↦ refl | signs.Mul ↦ refl | signs.Less ↦ refl | signs.Equal ↦ refl ]
-
 -- the node that stands at a place is that which was read
 leaf-is : (a b : Leaf) (es : List Leaf) (i : ℕ) → slice_get es i ≡ Some a → slice_get es i ≡ Some b → b ≡ a
 leaf-is a b es i h k = cc
@@ -134,7 +132,7 @@ leaf-parts s i (Bin o a b) h = (
   h.3,
   record {
     left = spell a ++ Oper h.0 ∷ (spell b ++ Mark RParen ∷ []);
-    whole = ap (λ p. spell (Bin p a b)) h.4 ∙ ap (λ g. Mark LParen ∷ (spell a ++ Oper g ∷ (spell b ++ Mark RParen ∷ []))) (same-sign h.0);
+    whole = ap (λ p. spell (Bin p a b)) h.4 ∙ ap (λ g. Mark LParen ∷ (spell a ++ Oper g ∷ (spell b ++ Mark RParen ∷ []))) (sign-of-op h.0);
     stands = value s h.1 a _ _ h.7 (one s _ _ _ (value s h.2 b _ _ h.8 (one s _ _ _ (end-of s))));
   },
 )
@@ -143,11 +141,6 @@ pub expr-parts : (s : Shape) (i : ExprId) (node : Leaf) (e : Tree) → slice_get
 expr-parts s i node e at h =
     let p = leaf-parts s i e h in
     subst (λ (n : Leaf). After s (expr_front n) (expr_rest n) (spell e)) (leaf-is node p.0 s.exprs i.0 at p.1) p.2
-
-drop-at : {X : Type 0} (xs : List X) (i : ℕ) (x : X) → slice_get xs i ≡ Some x → drop i xs ≡ x ∷ drop (suc i) xs
-drop-at [] i x h = cc
-drop-at (y ∷ ys) zero x h = let e : y ≡ x = cc in ap (λ z. z ∷ ys) e
-drop-at (y ∷ ys) (suc i) x h = drop-at ys i x h
 
 -- the first token of a part was written, and its other parts are in front of the others
 pub went-on : (s : Shape) (old new : List ℕ) (p : Part) (t : Token) (rest ps qs : List Part) (ts : List Token) → ((us : List Token) → PartStands s p us → After s t rest us) → new ≡ old ++ spaced s.names t → qs ≡ rest ++ ps → PartsStand s (p ∷ ps) ts → Wrote s old new qs ts
@@ -179,7 +172,7 @@ item-parts s k i ids id node (Then t ts) in_blocks in_stmts h =
 pub item-after : (s : Shape) (k : BlockId) (i : ℕ) (ids : List StmtId) (id : StmtId) (node : Node) (us : List Token) → slice_get s.blocks k.0 ≡ Some ids → slice_get ids i ≡ Some id → slice_get s.stmts id.0 ≡ Some node → PartStands s (From k i) us → After s (front_of node) (rest_of node ++ From k (i + 1) ∷ []) us
 item-after s k i ids id node us in_blocks in_ids in_stmts h =
     let e : ids ≡ h.0 = cc in
-    let f : drop i h.0 ≡ id ∷ drop (i + 1) ids = ap (drop i) (sym e) ∙ drop-at ids i id in_ids ∙ ap (λ j. id ∷ drop j ids) (sym (add-one i)) in
+    let f : drop i h.0 ≡ id ∷ drop (i + 1) ids = ap (drop i) (sym e) ∙ drop-suc ids i id in_ids ∙ ap (λ j. id ∷ drop j ids) (sym (add-one i)) in
     let x : ListStands s (id ∷ drop (i + 1) ids) h.1 = subst (λ (js : List StmtId). ListStands s js h.1) f h.3 in
     subst (λ (ts : List Token). After s (front_of node) (rest_of node ++ From k (i + 1) ∷ []) ts) (sym h.4) (item-parts s k i ids id node h.1 in_blocks in_stmts x)
 
@@ -211,7 +204,7 @@ first-known s id ids (Then t ts) h = slice_get_within s.stmts id.0 h.0.0 h.0.1
 pub item-known : (s : Shape) (k : BlockId) (i : ℕ) (id : StmtId) (ts : List Token) → PartStands s (From k i) ts → IfSome (slice_get s.blocks k.0) (λ ids. slice_get ids i ≡ Some id) → id.0 < length s.stmts
 item-known s k i id ts h at =
     let here : slice_get h.0 i ≡ Some id = at-list s.blocks k.0 h.0 (λ ids. slice_get ids i ≡ Some id) h.2 at in
-    first-known s id (drop (suc i) h.0) h.1 (subst (λ (js : List StmtId). ListStands s js h.1) (drop-at h.0 i id here) h.3)
+    first-known s id (drop (suc i) h.0) h.1 (subst (λ (js : List StmtId). ListStands s js h.1) (drop-suc h.0 i id here) h.3)
 
 pub item-wrote : (s : Shape) (k : BlockId) (i : ℕ) (id : StmtId) (node : Node) (old new : List ℕ) (ps ns qs : List Part) (ts : List Token) → IfSome (slice_get s.blocks k.0) (λ ids. slice_get ids i ≡ Some id) → slice_get s.stmts id.0 ≡ Some node → ns ≡ ps ++ From k (i + 1) ∷ [] → new ≡ old ++ spaced s.names (front_of node) → qs ≡ ns ++ reverse (rest_of node) → PartsStand s (From k i ∷ reverse ps) ts → Wrote s old new (reverse qs) ts
 item-wrote s k i id node old new ps ns qs ts at in_stmts pushed text parts h =
@@ -255,10 +248,6 @@ top-stands s b h = (spellings b, [], sym (append-nil (spellings b)), (h.0, b, h.
 
 pub last-first : (xs ys : List Part) (p : Part) → xs ≡ ys ++ p ∷ [] → reverse xs ≡ p ∷ reverse ys
 last-first xs ys p e = ap reverse e ∙ reverse-append ys (p ∷ [])
-
-pub ok-then : {A E : Type 0} (r : Result A E) (P Q : Type 0) → OnOk r P → (P → Q) → OnOk r Q
-ok-then (Ok a) P Q p f = f p
-ok-then (Err e) P Q p f = tt
 
 -- the same where the top is pushed on an empty list
 pub first-part : (s : Shape) (top : BlockId) (none parts : List Part) (b : Block) → s.top ≡ top → none ≡ [] → parts ≡ none ++ From top 0 ∷ [] → Stands s b → PartsStand s (reverse parts) (spellings b)

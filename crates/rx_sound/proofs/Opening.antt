@@ -13,12 +13,12 @@ use Rattle.rx_rules.specs.declared.tasks.Scope.{Scope}
 use Rattle.rx_rules.specs.declared.tasks.Kind.{Kind}
 use Rattle.rx_rules.specs.Tree.{Tree, is_task, task_of, is_scope, wants, opened_by, own_scope, inner, is_finish, chain_in, governing_in, the_root}
 use Rattle.rx_rules.specs.Entries.{opened, home_for, place_number, IsLive}
+use Rattle.rx_rules.proofs.Lookups.{number-of}
 use Rattle.rx_sound.specs.Chains.{meets, Falls, HasOpener, Opened}
 use Rattle.rx_sound.specs.Sound.{TaskFits, Sound}
 use Rattle.rx_sound.proofs.Changes.{each_more}
 use Rattle.rx_sound.proofs.Reach.{fits_of}
 use Rattle.rx_sound.proofs.Chains.{met_start, meets_skips}
-use Rattle.rx_sound.proofs.Lookups.{number_of}
 
 -- What the chain of a task's last own scope has: its other own scopes, and what the task is under.
 pub record OwnChain (gs : List Scope) (t : TaskId) (h : ScopeId) (u : ScopeId) : Type 0 where
@@ -119,7 +119,7 @@ pub record InnerFits (gs : List Scope) (n : ℕ) (t : TaskId) (r u : ScopeId) : 
 
 pub inner_fits : (T : Tree) (t : TaskId) (x : Task) → Sound T → task_of T t ≡ Some x → InnerFits T.scopes T.next_scope t (inner T x) x.under
 inner_fits T t x h e =
-    let num : x.number.0 ≡ t.0 = number_of T t x e in
+    let num : x.number.0 ≡ t.0 = number-of T t x e in
     let same : x.number ≡ t = ap (λ (n : ℕ). let q : TaskId = record { 0 = n } in q) num in
     (elim (own_scope T x.number) as (λ o. own_scope T x.number ≡ o → InnerFits T.scopes T.next_scope t (elim o as (λ _. ScopeId) [ Some g ↦ g.number | None ↦ x.under ]) x.under) [
       | Some g ↦ λ k.

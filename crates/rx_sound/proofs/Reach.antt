@@ -16,13 +16,13 @@ use Rattle.rx_rules.specs.Tree.{Tree, is_task, task_of, is_scope, opened_by, own
 use Rattle.rx_rules.specs.Entries.{change_first, change_task, change_scope, add_task, born, strike, hit, MayDie, MayArrive}
 use Rattle.rx_rules.specs.Fold.{opening}
 use Rattle.rx_rules.specs.Reached.{IsOlder}
+use Rattle.rx_rules.proofs.Lookups.{number-of}
 use Rattle.rx_sound.specs.Chains.{meets}
 use Rattle.rx_sound.specs.Sound.{TasksFall, TaskFits, LeftFits, Sound, Inside}
 use Rattle.rx_sound.specs.Blows.{death_blow, earlier, blow_at}
 use Rattle.rx_sound.proofs.Changes.{each_found, each_more, each_map, each_change, each_filter}
 use Rattle.rx_sound.proofs.Stay.{opened_stays, find_change, fall_change, fall_filter, fall_map, find_filter, find_map, faulted, meets_faulted, falls_faulted, any_faulted, opened_faulted}
 use Rattle.rx_sound.proofs.Blows.{struck_after, still_struck, hit_number, hit_under, hit_place}
-use Rattle.rx_sound.proofs.Lookups.{number_of}
 
 pub sound_opening : (places : ℕ) → 1 ≤ places → places ≤ 16 → Sound (opening places)
 sound_opening places low high =
@@ -211,7 +211,7 @@ sound_leaves T t h own =
           (λ o x p a found at.
           let apart : is_task t x ≡ false =
           ne_eqb x.number.0 t.0 (λ e.
-          let num : x.number.0 ≡ o.0 = number_of T o x found in
+          let num : x.number.0 ≡ o.0 = number-of T o x found in
           let same : o ≡ t = ap (λ (n : ℕ). let q : TaskId = record { 0 = n } in q) (sym num ∙ e) in
           not_found (opened_by t) T.scopes (subst (λ (v : TaskId). list_any (opened_by v) T.scopes ≡ true) same a) own)
           in

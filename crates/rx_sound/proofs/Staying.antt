@@ -7,6 +7,7 @@ use Rattle.std.proofs.lemmas.Bool.{eqb-true, eq-eqb, ne_eqb, true≢false, or_ri
 use Rattle.rx_base.specs.declared.ids.TaskId.{TaskId}
 use Rattle.rx_base.specs.declared.ids.ScopeId.{ScopeId}
 use Rattle.rx_base.specs.declared.values.Fault.{Fault}
+use Rattle.rx_base.proofs.SameIds.{task-is}
 use Rattle.rx_rules.specs.declared.tasks.Where.TheVariants.{At}
 use Rattle.rx_rules.specs.declared.tasks.Blow.{Blow}
 use Rattle.rx_rules.specs.declared.tasks.Task.{Task}
@@ -19,10 +20,10 @@ use Rattle.rx_rules.specs.Tree.{Tree, is_task, task_of, is_scope, wants, opened_
 use Rattle.rx_rules.specs.Entries.{change_first, change_scope, waiting, resumed, without, born, opened, home_for, after_end, AllowedAct, made_act}
 use Rattle.rx_rules.specs.Picked.{is_enabled}
 use Rattle.rx_rules.specs.Reached.{Reached}
+use Rattle.rx_rules.proofs.Lookups.{number-of}
 use Rattle.rx_sound.specs.Chains.{meets, Falls}
 use Rattle.rx_sound.specs.Sound.{Each, TasksFall, TaskFits, Sound}
 use Rattle.rx_sound.specs.Enabling.{able_in, able, OthersStay}
-use Rattle.rx_sound.proofs.Lookups.{number_of}
 use Rattle.rx_sound.proofs.Changes.{each_more, each_found}
 use Rattle.rx_sound.proofs.Chains.{met_start, meets_skips}
 use Rattle.rx_sound.proofs.Stay.{faulted, meets_faulted, fall_filter}
@@ -34,9 +35,6 @@ use Rattle.rx_sound.proofs.Below.{one_opener, free_of}
 use Rattle.rx_sound.proofs.Owning.{release_spares}
 use Rattle.rx_sound.proofs.Waiting.{waiter_owns}
 use Rattle.rx_sound.proofs.Enabling.{inner_is}
-
-pub id_is : (a b : TaskId) → a.0 ≡ b.0 → a ≡ b
-id_is a b e = ap (λ (n : ℕ). let q : TaskId = record { 0 = n } in q) e
 
 -- Lists.
 
@@ -242,7 +240,7 @@ same_able T T' n r found more = ap (able_in T') found ∙ each (task_of T n) ref
     with_waits false free w = refl
     with_waits true free w =
         let own = waiter_owns T n x r e free w in
-        let same : x.number ≡ n = id_is x.number n (number_of T n x e) in
+        let same : x.number ≡ n = task-is x.number n (number-of T n x e) in
         let mine : own_scope T x.number ≡ Some own.0 = subst (λ (v : TaskId). own_scope T v ≡ Some own.0) (sym same) own.1 in
         let m = more x own.0 e free own.1 in
         ap (quiet T') m.0 ∙ (m.1 ∙ sym (ap (quiet T) (inner_is T x own.0 mine)))
@@ -261,7 +259,7 @@ inner_at T x = elim (own_scope T x.number) as (λ o. (elim o as (λ _. ScopeId) 
 -- where the own scope has the same number
 pub inner_same : (T T' : Tree) (n : TaskId) (x : Task) (g : Scope) → task_of T n ≡ Some x → own_scope T n ≡ Some g → ((u : ScopeId) → number_at u (own_scope T' n) ≡ number_at u (own_scope T n)) → inner T' x ≡ g.number
 inner_same T T' n x g found own same =
-    let id : x.number ≡ n = id_is x.number n (number_of T n x found) in
+    let id : x.number ≡ n = task-is x.number n (number-of T n x found) in
     inner_at T' x ∙ (ap (λ (v : TaskId). number_at x.under (own_scope T' v)) id ∙ (same x.under ∙ ap (number_at x.under) own))
 
 -- a scope that another task opens
@@ -317,7 +315,7 @@ others_stay T t (Release s lost thrown) y n reached may stands apart low =
       | Some z ↦ λ e.
           let old : task_of T n ≡ Some z = find_unfiltered (λ x. not (leaves T s x)) n T.next_task T.tasks z h.tasks_fall e in
           same_able T T' n reached (found ∙ (e ∙ sym old)) (λ x g at free own.
-          let same : x.number ≡ n = id_is x.number n (number_of T n x at) in
+          let same : x.number ≡ n = task-is x.number n (number-of T n x at) in
           let spared = release_spares T t s lost thrown x reached may (subst (λ (v : TaskId). task_of T v ≡ Some x) (sym same) at) free (λ k. apart (sym (ap (λ (v : TaskId). v.0) same) ∙ k)) in
           (inner_same T T' n x g at own (λ u. ap (number_at u) (subst (λ (v : TaskId). own_scope T' v ≡ own_scope T v) same spared)), quiet_stays T t n (Release s lost thrown) y g h may stands own apart))
     ]) refl

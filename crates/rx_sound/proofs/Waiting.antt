@@ -7,6 +7,7 @@ use Rattle.rx_base.specs.declared.ids.PlaceId.{PlaceId}
 use Rattle.rx_base.specs.declared.ids.TaskId.{TaskId}
 use Rattle.rx_base.specs.declared.ids.ScopeId.{ScopeId}
 use Rattle.rx_base.specs.declared.values.Fault.{Fault}
+use Rattle.rx_base.proofs.Elements.{find-passes}
 use Rattle.rx_rules.specs.declared.tasks.Where.TheVariants.{At}
 use Rattle.rx_rules.specs.declared.tasks.Blow.{Blow}
 use Rattle.rx_rules.specs.declared.tasks.Task.{Task}
@@ -18,10 +19,10 @@ use Rattle.rx_rules.specs.declared.entries.Act.TheVariants.{Open, At as Calls, S
 use Rattle.rx_rules.specs.Tree.{Tree, is_task, task_of, is_scope, opened_by, own_scope, on_chain, is_under, quiet, the_root}
 use Rattle.rx_rules.specs.Entries.{change_first, waiting, resumed, hit, is_hit, strike, without, born, opened, home_for, after_end, AllowedAct, made_act, MayRelease, MayReleaseRoot}
 use Rattle.rx_rules.specs.Reached.{Reached, opens, acts, ends, dies}
+use Rattle.rx_rules.proofs.Lookups.{number-of}
 use Rattle.rx_sound.specs.Chains.{meets, HasOpener, Opened, Falls}
 use Rattle.rx_sound.specs.Sound.{Each, TasksFall, TaskFits, Sound}
 use Rattle.rx_sound.specs.Owning.{WaiterOwns, OpenersOlder}
-use Rattle.rx_sound.proofs.Lookups.{find_passes, number_of}
 use Rattle.rx_sound.proofs.Changes.{each_found, each_more, each_map, each_change, each_filter}
 use Rattle.rx_sound.proofs.Chains.{met_start, meets_skips}
 use Rattle.rx_sound.proofs.Stay.{faulted, meets_faulted, any_faulted, fall_filter}
@@ -90,7 +91,7 @@ own_waiting : (t : TaskId) (gs : List Scope) (ts : List Task) → list_any (open
 own_waiting t gs ts a w =
     each_change (Owns gs) (is_task t) waiting ts
     (λ x k old u v.
-    let num : x.number.0 ≡ t.0 = eqb-true x.number.0 t.0 (find_passes (is_task t) ts x k) in
+    let num : x.number.0 ≡ t.0 = eqb-true x.number.0 t.0 (find-passes (is_task t) ts x k) in
     let same : t ≡ x.number = ap (λ (n : ℕ). let q : TaskId = record { 0 = n } in q) (sym num) in
     subst (λ (q : TaskId). list_any (opened_by q) gs ≡ true) same a) w
 
@@ -260,7 +261,7 @@ apt (dies {T = T} b r may old) = apt_dies T b (apt r)
 pub waiter_owns : WaiterOwns
 waiter_owns T t x r found free waits =
     let a : Apt T = apt r in
-    let num : x.number.0 ≡ t.0 = number_of T t x found in
+    let num : x.number.0 ≡ t.0 = number-of T t x found in
     let same : x.number ≡ t = ap (λ (n : ℕ). let q : TaskId = record { 0 = n } in q) num in
     found_any (opened_by t) T.scopes (subst (λ (v : TaskId). list_any (opened_by v) T.scopes ≡ true) same (each_found (Owns T.scopes) (is_task t) T.tasks x a.owns found free waits))
 
@@ -288,6 +289,6 @@ found_own o (k ∷ gs) g e =
 pub openers_older : OpenersOlder
 openers_older T t o x g r found stands opener under =
     let a : Apt T = apt r in
-    let num : x.number.0 ≡ t.0 = number_of T t x found in
+    let num : x.number.0 ≡ t.0 = number-of T t x found in
     let low : o.0 < x.number.0 = each_found (Younger T.scopes) (is_task t) T.tasks x a.younger found g.number o (sym (on_meets g.number T.scopes (Some x.under)) ∙ under) (found_opener g.number o T.scopes g stands (opens_it o g opener)) in
     omega arith

@@ -3,6 +3,7 @@ use Rattle.std.proofs.Common.{◌≡◌, ◌≢◌, ℕ, ◌+◌, ◌-◌, ◌<�
 use Rattle.std.specs.Prelude.{Option, Some, None, slice_index, not}
 use Rattle.std.proofs.lemmas.Bool.{cases_lt, cases_eq, and_parts, and_from, eqb-true, eq-eqb, cases_Bool}
 use Rattle.std.proofs.lemmas.List.{get_or-append_right, get_or_append_left, get_or-replicate, length-replicate}
+use Rattle.std.proofs.lemmas.Option.{same_Some, none-some}
 use Rattle.rx_base.specs.declared.ids.GlobalRef.{GlobalRef}
 use Rattle.rx_heap.specs.Region.{Region, IsLive, IsLaid, IsFree}
 use Rattle.rx_rules.specs.Store.{Live, is_block, set_word}
@@ -11,19 +12,13 @@ use Rattle.rx_store.specs.Table.{slot_at, extent_of, Backs, BacksAll, Lists, Hol
 use Rattle.rx_store.proofs.Giving.{slot_within}
 use Rattle.rx_store.proofs.Holding.{all_live}
 
-some_same : {A : Type 0} (a b : A) → Some a ≡ Some b → a ≡ b
-some_same a b e = cc
-
-none_some : {A : Type 0} (a : A) → None ≡ Some a → ⊥
-none_some a e = cc
-
 true-false : true ≡ false → ⊥
 true-false q = cc
 
 -- another block of the table than that of the reference begins elsewhere
 elsewhere : (R : Region) (slots : List (Option Held)) (r : GlobalRef) (h : Held) (b : Live) → slot_at slots r.start ≡ Some h → h.generation ≡ r.generation → is_block r b ≡ false → Backs R slots b → b.start ≢ r.start
 elsewhere R slots r h b at same other backs e =
-    let held = some_same _ _ (sym at ∙ ap (slot_at slots) (sym e) ∙ backs.slot) in
+    let held = same_Some _ _ (sym at ∙ ap (slot_at slots) (sym e) ∙ backs.slot) in
     let generation = sym (ap (λ (z : Held). z.generation) held) ∙ same in
     true-false (sym (and_from _ _ (eq-eqb _ _ e) (eq-eqb _ _ generation)) ∙ other)
 
@@ -54,7 +49,7 @@ forget_holds R S slots bs r h holds laid words at same gone =
       laid = laid;
       backed = backed bs holds.backed lengths;
       listed = λ k g e. elim (cases_eq k r.start) [
-        | inl is ↦ absurd (none_some g (sym (get_or-set_same slots r.start None None within) ∙ ap (slot_at (set slots r.start None)) (sym is) ∙ e))
+        | inl is ↦ absurd (none-some g (sym (get_or-set_same slots r.start None None within) ∙ ap (slot_at (set slots r.start None)) (sym is) ∙ e))
         | inr ne ↦ kept bs k g.generation ne (holds.listed k g (sym (get_or-set_other slots r.start k None None ne) ∙ e))
       ];
       known = λ k some. elim (cases_eq k r.start) [
@@ -124,7 +119,7 @@ put_holds R S slots bs r h k v holds laid lengths words at same lt = record {
     this b t backs =
         let is = eqb-true _ _ (and_parts _ _ t).0 in
         let len = length-set b.words k v in
-        let held = some_same _ _ (sym at ∙ ap (slot_at slots) (sym is) ∙ backs.slot) in
+        let held = same_Some _ _ (sym at ∙ ap (slot_at slots) (sym is) ∙ backs.slot) in
         let long : h.block.len ≡ length b.words = ap (λ (z : Held). z.block.len) held in
         let inside = block_inside R b holds.laid backs.live in
         record {
@@ -208,7 +203,7 @@ make_holds R S slots bs s n g holds laid some free lengths words same = record {
   backed = (this, backed bs holds.backed);
   listed = λ k h e. elim (cases_eq k s) [
     | inl is ↦
-        let held = some_same _ _ (sym e ∙ ap (slot_at (set slots s new)) is ∙ get_or-set_same slots s new None within) in
+        let held = same_Some _ _ (sym e ∙ ap (slot_at (set slots s new)) is ∙ get_or-set_same slots s new None within) in
         inl (sym is, sym (ap (λ (z : Held). z.generation) held))
     | inr ne ↦ inr (holds.listed k h (sym (get_or-set_other slots s k new None ne) ∙ e))
   ];

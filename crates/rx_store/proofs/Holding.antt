@@ -1,17 +1,15 @@
 -- The table and the heap stand for the blocks of the law, after each event.
-use Rattle.std.proofs.Common.{◌≡◌, ℕ, ◌+◌, ◌<◌, ◌≤◌, inl, inr, Bool, true, false, cond, List, [], ◌∷◌, length, arith, refl, subst, sym, ◌∙◌, ap, leb}
-use Rattle.std.specs.Prelude.{Option, Some, None, slice_index, ◌||◌}
+use Rattle.std.proofs.Common.{◌≡◌, ℕ, ◌+◌, ◌<◌, ◌≤◌, inl, inr, true, false, cond, List, [], ◌∷◌, length, arith, refl, subst, sym, ◌∙◌, ap, leb}
+use Rattle.std.specs.Prelude.{Option, Some, None, slice_index}
 use Rattle.std.specs.List.{find, list_all}
-use Rattle.std.proofs.lemmas.Bool.{cases_lt, and_parts, and_from, eqb-true, eq-eqb, leb-true, le-leb, or_cases, or_left, cases_Bool}
+use Rattle.std.proofs.lemmas.Bool.{cases_lt, and_parts, and_from, eqb-true, eq-eqb, leb-true, le-leb, or_cases, or_left, cases_Bool, or_right, false_from_ne_true}
+use Rattle.std.proofs.lemmas.Option.{same_Some}
 use Rattle.rx_base.specs.declared.ids.GlobalRef.{GlobalRef}
 use Rattle.rx_heap.specs.Region.{Region, Extent, IsLive, IsFree, IsLeastFree}
 use Rattle.rx_rules.specs.Store.{Live, State, is_block, block_of, is_apart, fits, set_word}
 use Rattle.rx_rules.specs.Store as law
 use Rattle.rx_store.specs.declared.table.Held.{Held}
 use Rattle.rx_store.specs.Table.{slot_at, Backs, BacksAll, Lists, Holds, AllLive}
-
-some_same : {A : Type 0} (a b : A) → Some a ≡ Some b → a ≡ b
-some_same a b e = cc
 
 -- the listed block with this start and generation, which is in the table
 record Listed (R : Region) (slots : List (Option Held)) (bs : List Live) (s g : ℕ) : Type 0 where
@@ -59,11 +57,11 @@ pub all_live : (R : Region) (slots : List (Option Held)) (bs : List Live) → Ho
 all_live R slots bs holds = record {
   starts = λ k h e.
       let b = listed k h e in
-      let same = some_same _ _ (sym e ∙ ap (slot_at slots) (sym b.start) ∙ b.backs.slot) in
+      let same = same_Some _ _ (sym e ∙ ap (slot_at slots) (sym b.start) ∙ b.backs.slot) in
       ap (λ (z : Held). z.block.start) same ∙ b.start;
   live = λ k h e.
       let b = listed k h e in
-      let same = some_same _ _ (sym e ∙ ap (slot_at slots) (sym b.start) ∙ b.backs.slot) in
+      let same = same_Some _ _ (sym e ∙ ap (slot_at slots) (sym b.start) ∙ b.backs.slot) in
       let V : Extent → Type 0 = λ z. IsLive R z in
       subst V (sym (ap (λ (z : Held). z.block) same)) b.backs.live;
 }
@@ -75,10 +73,6 @@ all_live R slots bs holds = record {
 
     listed : (k : ℕ) (h : Held) → slot_at slots k ≡ Some h → Listed R slots bs k h.generation
     listed k h e = among bs k h.generation holds.backed (holds.listed k h e)
-
-or_right : (x y : Bool) → y ≡ true → (x || y) ≡ true
-or_right true y e = refl
-or_right false y e = e
 
 -- free words of the heap are free to the law
 pub fits_from_free : (R : Region) (slots : List (Option Held)) (S : State) (n a : ℕ) → BacksAll R slots S.blocks → 0 < n → IsFree R n a → fits (length R.words) S n a ≡ true
@@ -127,15 +121,11 @@ free_from_fits R slots S n a holds t =
           | inr e ↦ let le : b.start + length b.words ≤ a = leb-true (b.start + length b.words) a e in omega arith
         ]
 
-false_from : (b : Bool) → (b ≡ true → ⊥) → b ≡ false
-false_from true n = absurd (n refl)
-false_from false n = refl
-
 pub none_fits : (R : Region) (slots : List (Option Held)) (S : State) (n : ℕ) → Holds R slots S.blocks → ((a : ℕ) → IsFree R n a → ⊥) → (a : ℕ) → fits (length R.words) S n a ≡ false
-none_fits R slots S n holds none a = false_from _ (λ t. none a (free_from_fits R slots S n a holds t))
+none_fits R slots S n holds none a = false_from_ne_true _ (λ t. none a (free_from_fits R slots S n a holds t))
 
 pub least_fits : (R : Region) (slots : List (Option Held)) (S : State) (n a : ℕ) → Holds R slots S.blocks → 0 < n → IsLeastFree R n a → law.IsLeastFree (length R.words) S n a
 least_fits R slots S n a holds some least = record {
   here = fits_from_free R slots S n a holds.backed some least.here;
-  least = λ b less. false_from _ (λ t. least.least b less (free_from_fits R slots S n b holds t));
+  least = λ b less. false_from_ne_true _ (λ t. least.least b less (free_from_fits R slots S n b holds t));
 }

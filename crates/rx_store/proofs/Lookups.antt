@@ -1,6 +1,7 @@
 -- What the law says of a call, from what the code has found.
 use Rattle.std.proofs.Common.{◌≡◌, ℕ, suc, zero, ◌+◌, ◌<◌, Bool, true, false, ℤ, pos, List, [], ◌∷◌, length, get_or, arith, rules, subst, sym, ◌∙◌, ap, tests}
 use Rattle.std.specs.Prelude.{Option, Some, None, slice_get, int_le, int_lt, ◌&&◌}
+use Rattle.std.proofs.lemmas.Option.{same_Some}
 use Rattle.rx_base.specs.declared.ids.GlobalRef.{GlobalRef}
 use Rattle.rx_heap.specs.Region.{Region}
 use Rattle.rx_rules.specs.declared.events.Cell.TheVariants.{Get}
@@ -8,9 +9,6 @@ use Rattle.rx_rules.specs.Store.{Live, State, block_of, is_index, word_at, Reads
 use Rattle.rx_store.specs.declared.table.Held.{Held}
 use Rattle.rx_store.specs.Table.{slot_at, Backs, Holds, IsLocated, IsUnlocated}
 use Rattle.rx_store.proofs.Holding.{found, not_found}
-
-some_same : {A : Type 0} (a b : A) → Some a ≡ Some b → a ≡ b
-some_same a b e = cc
 
 -- the list that the code reads is the table
 pub at_table : (slots now : List (Option Held)) (s : ℕ) (h : Held) → now ≡ slots → slot_at now s ≡ Some h → slot_at slots s ≡ Some h
@@ -33,7 +31,7 @@ pub record IsFound (R : Region) (slots : List (Option Held)) (S : State) (r : Gl
 pub is_found : (R : Region) (slots : List (Option Held)) (S : State) (r : GlobalRef) (h : Held) → Holds R slots S.blocks → slot_at slots r.start ≡ Some h → h.generation ≡ r.generation → IsFound R slots S r h
 is_found R slots S r h holds at same =
     let b = found R slots S r h holds at same in
-    let held = some_same _ _ (sym at ∙ ap (slot_at slots) (sym b.2) ∙ b.4.slot) in
+    let held = same_Some _ _ (sym at ∙ ap (slot_at slots) (sym b.2) ∙ b.4.slot) in
     record {
       block = b.0;
       is = b.1;

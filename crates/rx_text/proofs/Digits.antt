@@ -1,5 +1,5 @@
 -- Runs of digits.
-use Rattle.std.proofs.Common.{◌≡◌, ℕ, ◌+◌, ◌<◌, ◌^◌, ◌/◌, ◌%◌, Bool, true, false, cond, ◌&&◌, ◌==◌, List, [], ◌∷◌, ◌++◌, length, take, drop, slice_index, zero, suc, refl, ap, sym, ◌∙◌, arith}
+use Rattle.std.proofs.Common.{◌≡◌, ℕ, ◌+◌, ◌<◌, ◌^◌, ◌/◌, ◌%◌, Bool, true, false, cond, ◌==◌, List, [], ◌∷◌, ◌++◌, length, take, drop, slice_index, zero, suc, refl, ap, sym, ◌∙◌, arith}
 use Rattle.std.specs.Char.{is_ascii_digit}
 use Rattle.std.specs.Fmt.{decimal, digits, digits_onto, digit_glyph}
 use Rattle.std.specs.List.{prefix_len}
@@ -8,9 +8,11 @@ use Rattle.std.specs.Str.Parse.{digits_value}
 use Rattle.std.proofs.lemmas.Fmt.{digits_decimal}
 use Rattle.std.proofs.lemmas.Str.Parse.{IsNumeralModel, numerals_by_value, tells_all_ascii_digits}
 use Rattle.std.proofs.Math.Seq.{take-append_seam, drop-append_seam}
+use Rattle.std.proofs.lemmas.Bool.{and_from}
+use Rattle.rx_base.proofs.Bools.{and-first, and-second}
 use Rattle.rx_text.specs.Numbers.{NoDigitFirst}
 
-own : IsNumeralModel (λ ds. all_ascii_digits ds ≡ true) (digits_value 10)
+pub own : IsNumeralModel (λ ds. all_ascii_digits ds ≡ true) (digits_value 10)
 own = numerals_by_value (λ ds. all_ascii_digits ds ≡ true) tells_all_ascii_digits
 
 onto-some : (k n : ℕ) (acc : List ℕ) → 0 < length acc → 0 < length (digits_onto k 10 false n acc)
@@ -46,14 +48,10 @@ glyph-digit n = by (n % 10) (omega arith)
     by (suc (suc (suc (suc (suc (suc (suc (suc (suc zero))))))))) h = refl
     by (suc (suc (suc (suc (suc (suc (suc (suc (suc (suc d)))))))))) h = absurd (omega arith)
 
-and-true : (a b : Bool) → a ≡ true → b ≡ true → (a && b) ≡ true
-and-true true b e f = f
-and-true false b e f = cc
-
 onto-digits : (k n : ℕ) (acc : List ℕ) → all_ascii_digits acc ≡ true → all_ascii_digits (digits_onto k 10 false n acc) ≡ true
 onto-digits zero n acc all = all
 onto-digits (suc k) n acc all =
-    let more = and-true (is_ascii_digit (digit_glyph false (n % 10))) (all_ascii_digits acc) (glyph-digit n) all in
+    let more = and_from (is_ascii_digit (digit_glyph false (n % 10))) (all_ascii_digits acc) (glyph-digit n) all in
     elim (n / 10 == 0) as (λ b. all_ascii_digits (cond b (digit_glyph false (n % 10) ∷ acc) (digits_onto k 10 false (n / 10) (digit_glyph false (n % 10) ∷ acc))) ≡ true)
     [ true ↦ more | false ↦ onto-digits k (n / 10) (digit_glyph false (n % 10) ∷ acc) more ]
 
@@ -62,21 +60,13 @@ pub digits-all : (n : ℕ) → all_ascii_digits (decimal n) ≡ true
 unfolding digits
 digits-all n = onto-digits 64 n [] refl
 
-first-part : (a b : Bool) → (a && b) ≡ true → a ≡ true
-first-part true b h = refl
-first-part false b h = h
-
-second-part : (a b : Bool) → (a && b) ≡ true → b ≡ true
-second-part true b h = h
-second-part false b h = cc
-
 -- a run of digits goes as far as its digits
 pub run-of : (ds rest : List ℕ) → all_ascii_digits ds ≡ true → NoDigitFirst rest → prefix_len is_ascii_digit (ds ++ rest) ≡ length ds
 run-of [] [] digits last = refl
 run-of [] (r ∷ rest) digits last = rw last refl
 run-of (d ∷ ds) rest digits last =
-    let here : is_ascii_digit d ≡ true = first-part (is_ascii_digit d) (all_ascii_digits ds) digits in
-    let more = run-of ds rest (second-part (is_ascii_digit d) (all_ascii_digits ds) digits) last in
+    let here : is_ascii_digit d ≡ true = and-first (is_ascii_digit d) (all_ascii_digits ds) digits in
+    let more = run-of ds rest (and-second (is_ascii_digit d) (all_ascii_digits ds) digits) last in
     rw here (omega (arith, more))
 
 stops : (x : ℕ) (xs : List ℕ) (b : Bool) → is_ascii_digit x ≡ b → NoDigitFirst (drop (prefix_len is_ascii_digit xs) xs) → NoDigitFirst (drop (cond b (1 + prefix_len is_ascii_digit xs) 0) (x ∷ xs))
@@ -91,7 +81,7 @@ run-stops (x ∷ xs) = stops x xs (is_ascii_digit x) refl (run-stops xs)
 -- the first byte of a text of digits is one
 pub digit-first : (ds rest : List ℕ) → 0 < length ds → all_ascii_digits ds ≡ true → is_ascii_digit (slice_index (ds ++ rest) 0) ≡ true
 digit-first [] rest some digits = absurd (omega arith)
-digit-first (d ∷ ds) rest some digits = first-part (is_ascii_digit d) (all_ascii_digits ds) digits
+digit-first (d ∷ ds) rest some digits = and-first (is_ascii_digit d) (all_ascii_digits ds) digits
 
 -- where two texts begin with runs of digits and are one, the runs are one
 pub one-run : (ds es x y : List ℕ) → all_ascii_digits ds ≡ true → all_ascii_digits es ≡ true → NoDigitFirst x → NoDigitFirst y → ds ++ x ≡ es ++ y → (ds ≡ es) × (x ≡ y)

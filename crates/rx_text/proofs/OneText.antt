@@ -8,6 +8,7 @@ use Rattle.std.specs.Str.{all_ascii_digits}
 use Rattle.std.proofs.lemmas.Fmt.{decimal_injective}
 use Rattle.std.proofs.lemmas.List.Elements.{recursion_from_All}
 use Rattle.std.proofs.Math.Seq.{drop-append_seam}
+use Rattle.rx_base.proofs.Elements.{rest-is}
 use Rattle.rx_text.specs.Numbers.{number_text, NoDigitFirst}
 use Rattle.rx_text.specs.Paths.{path_text, dotted, NoPathFirst}
 use Rattle.rx_text.specs.Spelling.{WrittenNumbersStand, NumbersHaveOneText, NaturalsHaveOneText, PathsHaveOneText}
@@ -18,9 +19,6 @@ pub naturals : NaturalsHaveOneText
 naturals m n x y small_m small_n no_x no_y same =
     let parts = one-run (decimal m) (decimal n) x y (all-digits m small_m) (all-digits n small_n) no_x no_y same in
     (decimal_injective m n small_m small_n parts.0, parts.1)
-
-rest-is : (a : ℕ) (x y : List ℕ) → a ∷ x ≡ a ∷ y → x ≡ y
-rest-is a x y same = cc
 
 -- a text of digits has no sign in front
 sign-apart : (m : ℕ) (x y : List ℕ) → m < 2 ^ 64 → decimal m ++ x ≡ 45 ∷ y → ⊥

@@ -1,5 +1,5 @@
 -- Lemmas on runs of bytes.
-use Rattle.std.proofs.Common.{◌≡◌, ℕ, ◌+◌, ◌-◌, ◌*◌, ◌/◌, ◌<◌, ◌≤◌, Bool, true, false, cond, not, ◌&&◌, ◌==◌, nat_lt, nat_le, List, [], ◌∷◌, length, drop, get_or, slice_index, Some, None, pos, refl, ap, ◌∙◌, arith}
+use Rattle.std.proofs.Common.{◌≡◌, ℕ, ◌+◌, ◌-◌, ◌*◌, ◌/◌, ◌<◌, ◌≤◌, true, false, cond, not, ◌&&◌, ◌==◌, nat_lt, nat_le, List, [], ◌∷◌, length, drop, get_or, slice_index, Some, None, pos, ap, ◌∙◌, arith}
 use Rattle.std.proofs.lemmas.Bool.Decides.{nat_tests}
 use Rattle.rx_token.specs.Lexical.{most, number_of_run}
 use Rattle.std.specs.Char.{is_ascii_digit, digit_value}
@@ -7,6 +7,7 @@ use Rattle.std.specs.Str.{all_ascii_digits}
 use Rattle.std.specs.Str.Parse.{digits_value, digits_value_after}
 use Rattle.std.proofs.lemmas.List.{at_drop_more}
 use Rattle.std.proofs.lemmas.List.Sums.{prefix_len-drop_yes, prefix_len-drop_no, prefix_len-drop_all}
+use Rattle.std.proofs.Math.Bool.{and-false}
 
 pub ruleset run_steps = (prefix_len-drop_yes, prefix_len-drop_no, prefix_len-drop_all)
 
@@ -22,10 +23,6 @@ pub value-drop : (xs : List ℕ) (i n : ℕ) → i < length xs → digits_value_
 value-drop xs i n h = at_drop_more (digits_value_after 10 n) xs i 0 h
 
 pub ruleset number_steps = (after-ge, all-drop, value-drop)
-
-and-false : (b : Bool) → (b && false) ≡ false
-and-false true = refl
-and-false false = refl
 
 -- no number is greater than the greatest
 pub none-past-most : (run : List ℕ) → most < digits_value 10 run → number_of_run run ≡ None

@@ -3,31 +3,17 @@ use Rattle.std.proofs.Common.{◌≡◌, ℕ, zero, suc, Bool, true, false, not,
 use Rattle.std.specs.List.{list_all, list_any}
 use Rattle.std.specs.Cmp.Lexicographic.{pointwise, same_text}
 use Rattle.std.proofs.lemmas.Cmp.{nat_list_eq_equiv}
-use Rattle.std.proofs.lemmas.Option.{slice_get-map, slice_get_within, get_or_from_slice_get}
+use Rattle.std.proofs.lemmas.Option.{slice_get-map, slice_get_within, get_or_from_slice_get, same_Some}
 use Rattle.std.proofs.lemmas.List.Folds.{list_any_at}
 use Rattle.rx_token.specs.Lexical.{is_word_byte, padded}
 use Rattle.rx_token.specs.Tokens.{IsName, AreDistinct}
 
--- what two options hold
-pub some-is : {A : Type 0} (x y : A) → Some x ≡ Some y → x ≡ y
-some-is x y e = cc
-
 pub some-none : {A : Type 0} (x : A) → Some x ≡ None → ⊥
 some-none x e = cc
 
--- what stands in a list stands there still where more follow
-pub get-front : {A : Type 0} (xs ys : List A) (i : ℕ) (x : A) → slice_get xs i ≡ Some x → slice_get (xs ++ ys) i ≡ Some x
-get-front [] ys i x e = cc
-get-front (z ∷ xs) ys zero x e = e
-get-front (z ∷ xs) ys (suc i) x e = get-front xs ys i x e
-
-pub get-last : {A : Type 0} (xs : List A) (x : A) → slice_get (xs ++ x ∷ []) (length xs) ≡ Some x
-get-last [] x = refl
-get-last (z ∷ xs) x = get-last xs x
-
 -- it stood there before, or is the last
 pub get-pushed : {A : Type 0} (xs : List A) (y : A) (i : ℕ) (x : A) → slice_get (xs ++ y ∷ []) i ≡ Some x → (slice_get xs i ≡ Some x) ⊎ ((i ≡ length xs) × (y ≡ x))
-get-pushed [] y zero x e = inr (refl, some-is y x e)
+get-pushed [] y zero x e = inr (refl, same_Some y x e)
 get-pushed [] y (suc i) x e = cc
 get-pushed (z ∷ xs) y zero x e = inl e
 get-pushed (z ∷ xs) y (suc i) x e = on-suc (get-pushed xs y i x e)
@@ -66,7 +52,7 @@ one-name v w p q e = filled-one v w _ _ p.letters q.letters e
 
 some-of : {A B : Type 0} (f : A → B) (xs : List A) (i : ℕ) (y : B) → slice_get (map f xs) i ≡ Some y → (x : A) × (slice_get xs i ≡ Some x) × (f x ≡ y)
 some-of f [] i y e = cc
-some-of f (x ∷ xs) zero y e = (x, refl, some-is (f x) y e)
+some-of f (x ∷ xs) zero y e = (x, refl, same_Some (f x) y e)
 some-of f (x ∷ xs) (suc i) y e = some-of f xs i y e
 
 -- the name of a number that the filled-up name was found by

@@ -1,5 +1,6 @@
 -- Bytes are scanned in one way, with one list of names.
 use Rattle.std.proofs.Common.{◌≡◌, ◌≢◌, ℕ, suc, ◌+◌, ◌<◌, ◌≤◌, false, List, [], ◌∷◌, length, Some, None, Option, option_map, slice_get, refl, sym, ap, subst, ◌∙◌, ◌⊎◌, inl, inr, eq-or-lt_of_le, arith}
+use Rattle.std.proofs.lemmas.Option.{same_Some}
 use Rattle.rx_token.specs.declared.token.Token.{Token}
 use Rattle.rx_token.specs.declared.token.Token.TheVariants.{Key, Called, Number, Oper, Mark, Bad}
 use Rattle.rx_token.specs.declared.token.Lexeme.{Lexeme}
@@ -8,7 +9,7 @@ use Rattle.rx_token.specs.Lexical.{skipped, padded, token_at}
 use Rattle.rx_token.specs.Tokens.{lexeme_of, InOrder, AreDistinct, IsName, AreNames}
 use Rattle.rx_token.specs.Scans.{Scans}
 use Rattle.rx_token.specs.Names.{Counts}
-use Rattle.rx_token.proofs.Naming.{some-is, some-none}
+use Rattle.rx_token.proofs.Naming.{some-none}
 use Rattle.rx_token.proofs.Naming.{one-name}
 
 -- names of which none stands twice
@@ -31,7 +32,7 @@ alike : {A : Type 0} (xs ys : List A) → length xs ≡ length ys → ((i : ℕ)
 alike [] [] l h = refl
 alike [] (y ∷ ys) l h = absurd (omega (arith, l))
 alike (x ∷ xs) [] l h = absurd (omega (arith, l))
-alike (x ∷ xs) (y ∷ ys) l h = ap (λ z. z ∷ xs) (some-is x y (h 0 (omega arith))) ∙ ap (λ zs. y ∷ zs) (alike xs ys (omega (arith, l)) (λ i m. h (suc i) (omega (arith, m))))
+alike (x ∷ xs) (y ∷ ys) l h = ap (λ z. z ∷ xs) (same_Some x y (h 0 (omega arith))) ∙ ap (λ zs. y ∷ zs) (alike xs ys (omega (arith, l)) (λ i m. h (suc i) (omega (arith, m))))
 
 all-agree : (k : ℕ) (names other : List (List ℕ)) → Agree k names other → k ≡ length names → k ≡ length other → names ≡ other
 all-agree k names other a e f = alike names other (sym e ∙ f) (λ i l. a i (omega (arith, l, e)))
@@ -48,23 +49,23 @@ abbrev IsNamed : List (List ℕ) → Token → Lexeme → Type 0
 IsNamed names t x = (n : ℕ) × (name : List ℕ) × (t ≡ Called n) × (slice_get names n ≡ Some name) × (x ≡ lexemes.Name (padded name))
 
 told-is : (names : List (List ℕ)) (t : Token) (x : Lexeme) → lexeme_of names t ≡ Some x → (told x ≡ Some t) ⊎ IsNamed names t x
-told-is names (Key k) x e = inl (ap told (sym (some-is _ x e)))
+told-is names (Key k) x e = inl (ap told (sym (same_Some _ x e)))
 told-is names (Called n) x e = by (slice_get names n) refl e
   where
     by : (o : Option (List ℕ)) → slice_get names n ≡ o → option_map (λ name. lexemes.Name (padded name)) o ≡ Some x → (told x ≡ Some (Called n)) ⊎ IsNamed names (Called n) x
     by None f e = cc
-    by (Some name) f e = inr (n, name, refl, f, sym (some-is _ x e))
-told-is names (Number n) x e = inl (ap told (sym (some-is _ x e)))
-told-is names (Oper o) x e = inl (ap told (sym (some-is _ x e)))
-told-is names (Mark s) x e = inl (ap told (sym (some-is _ x e)))
+    by (Some name) f e = inr (n, name, refl, f, sym (same_Some _ x e))
+told-is names (Number n) x e = inl (ap told (sym (same_Some _ x e)))
+told-is names (Oper o) x e = inl (ap told (sym (same_Some _ x e)))
+told-is names (Mark s) x e = inl (ap told (sym (same_Some _ x e)))
 told-is names Bad x e = cc
 
 told-counts : (k j : ℕ) (x : Lexeme) (t : Token) → told x ≡ Some t → Counts k t j → j ≡ k
-told-counts k j (lexemes.Word w) t e c = subst (λ u. Counts k u j) (sym (some-is _ t e)) c
+told-counts k j (lexemes.Word w) t e c = subst (λ u. Counts k u j) (sym (same_Some _ t e)) c
 told-counts k j (lexemes.Name n) t e c = cc
-told-counts k j (lexemes.Number n) t e c = subst (λ u. Counts k u j) (sym (some-is _ t e)) c
-told-counts k j (lexemes.Oper o) t e c = subst (λ u. Counts k u j) (sym (some-is _ t e)) c
-told-counts k j (lexemes.Mark s) t e c = subst (λ u. Counts k u j) (sym (some-is _ t e)) c
+told-counts k j (lexemes.Number n) t e c = subst (λ u. Counts k u j) (sym (same_Some _ t e)) c
+told-counts k j (lexemes.Oper o) t e c = subst (λ u. Counts k u j) (sym (same_Some _ t e)) c
+told-counts k j (lexemes.Mark s) t e c = subst (λ u. Counts k u j) (sym (same_Some _ t e)) c
 
 -- the same token, the same count of names after it, and the names agree up to there
 abbrev AreSame : List (List ℕ) → List (List ℕ) → Token → Token → ℕ → ℕ → Type 0
@@ -88,7 +89,7 @@ same-token : (names other : List (List ℕ)) (k : ℕ) (t u : Token) (x : Lexeme
     → (told x ≡ Some t) ⊎ IsNamed names t x → (told x ≡ Some u) ⊎ IsNamed other u x → Counts k t j → Counts k u l → AreSame names other t u j l
 same-token names other k t u x j l ln lo a (inl e) (inl f) c d =
     let first : j ≡ k = told-counts k j x t e c in
-    (some-is t u (sym e ∙ f), first ∙ sym (told-counts k l x u f d), subst (λ n. Agree n names other) (sym first) a)
+    (same_Some t u (sym e ∙ f), first ∙ sym (told-counts k l x u f d), subst (λ n. Agree n names other) (sym first) a)
 same-token names other k t u x j l ln lo a (inl e) (inr f) c d = absurd (some-none t (sym e ∙ ap told f.4))
 same-token names other k t u x j l ln lo a (inr e) (inl f) c d = absurd (some-none u (sym f ∙ ap told e.4))
 same-token names other k t u x j l ln lo a (inr e) (inr f) c d =
@@ -158,7 +159,7 @@ one-more : (names other : List (List ℕ)) (n k : ℕ) (bytes : List ℕ) (t u :
     → IsFirst names n bytes t ts at starts ⊎ IsBad n bytes t ts at starts → IsFirst other n bytes u us to more ⊎ IsBad n bytes u us to more
     → OneScan names other (t ∷ ts) (u ∷ us) (at ∷ starts) (to ∷ more)
 one-more names other n k bytes t u ts us at to starts more ln lo a rest o p (inl s) (inl r) =
-    let pair : (s.0, s.1) ≡ (r.0, r.1) = some-is (s.0, s.1) (r.0, r.1) (sym s.3 ∙ r.3) in
+    let pair : (s.0, s.1) ≡ (r.0, r.1) = same_Some (s.0, s.1) (r.0, r.1) (sym s.3 ∙ r.3) in
     let lexeme : s.0 ≡ r.0 = ap (λ (q : Lexeme × List ℕ). q.0) pair in
     let after : s.1 ≡ r.1 = ap (λ (q : Lexeme × List ℕ). q.1) pair in
     let q = order-first k (length names) t ts o in

@@ -1,5 +1,5 @@
 -- What was written is scanned as the tokens that it was written from.
-use Rattle.std.proofs.Common.{◌≡◌, ℕ, zero, suc, ◌+◌, ◌<◌, ◌≤◌, ◌^◌, Bool, true, false, cond, not, ◌&&◌, ◌==◌, nat_lt, nat_le, List, [], ◌∷◌, ◌++◌, length, take, drop, slice_index, Some, None, refl, ap, sym, ◌∙◌, append_assoc, pos, inl, inr, arith}
+use Rattle.std.proofs.Common.{◌≡◌, ℕ, zero, suc, ◌+◌, ◌<◌, ◌≤◌, ◌^◌, true, false, cond, not, ◌&&◌, ◌==◌, nat_lt, nat_le, List, [], ◌∷◌, ◌++◌, length, take, drop, slice_index, Some, None, refl, ap, sym, ◌∙◌, append_assoc, pos, inl, inr, arith}
 use Rattle.std.specs.Prelude.{slice_get, option_map}
 use Rattle.std.specs.Char.{is_ascii_digit}
 use Rattle.std.specs.Fmt.{decimal}
@@ -9,8 +9,9 @@ use Rattle.std.specs.Str.Parse.{digits_value}
 use Rattle.std.proofs.lemmas.Bool.Decides.{nat_tests}
 use Rattle.std.proofs.lemmas.Fmt.{decimal_nonempty, decimal_digit, first_decimal, digits_decimal, digits_value-decimal}
 use Rattle.std.proofs.lemmas.Option.{slice_get-get_or}
-use Rattle.std.proofs.lemmas.Str.Parse.{IsNumeralModel, numerals_by_value, tells_all_ascii_digits}
 use Rattle.std.proofs.Math.Seq.{take-append_seam, drop-append_seam}
+use Rattle.rx_base.proofs.Bools.{and-first, and-second}
+use Rattle.rx_text.proofs.Digits.{own}
 use Rattle.rx_token.specs.declared.token.Op.TheVariants as ops
 use Rattle.rx_token.specs.declared.token.Keyword.{Keyword}
 use Rattle.rx_token.specs.declared.token.Keyword.TheVariants as keywords
@@ -23,14 +24,6 @@ use Rattle.rx_token.specs.Lexical.{is_blank, skipped, is_word_byte, is_word_star
 use Rattle.rx_token.specs.Tokens.{lexeme_of, Begins, InOrder, IsName}
 use Rattle.rx_token.specs.Texts.{keyword_text, name_text, token_text, spaced, joined, AreSpelled}
 
-left-part : (a b : Bool) → (a && b) ≡ true → a ≡ true
-left-part true b h = refl
-left-part false b h = h
-
-right-part : (a b : Bool) → (a && b) ≡ true → b ≡ true
-right-part true b h = h
-right-part false b h = cc
-
 -- neither a byte of a word or number nor a `=` is in front
 pub record Stops (rest : List ℕ) : Type 0 where
   pub no_word : is_word_byte (slice_index rest 0) ≡ false
@@ -41,8 +34,8 @@ run-len : (xs rest : List ℕ) → list_all is_word_byte xs ≡ true → is_word
 run-len [] [] all stop = refl
 run-len [] (r ∷ rest) all stop = rw stop refl
 run-len (b ∷ bs) rest all stop =
-    let here : is_word_byte b ≡ true = left-part (is_word_byte b) (list_all is_word_byte bs) all in
-    let more = run-len bs rest (right-part (is_word_byte b) (list_all is_word_byte bs) all) stop in
+    let here : is_word_byte b ≡ true = and-first (is_word_byte b) (list_all is_word_byte bs) all in
+    let more = run-len bs rest (and-second (is_word_byte b) (list_all is_word_byte bs) all) stop in
     rw here (omega (arith, more))
 
 of-run : (k : ℕ) (bytes : List ℕ) → 0 < k → token_of k bytes ≡ option_map (λ t. (t, drop k bytes)) (run_token (take k bytes))
@@ -66,7 +59,7 @@ not-blank b bs word =
 
 run-shows : (xs rest : List ℕ) → 0 < length xs → list_all is_word_byte xs ≡ true → skipped false (xs ++ rest) ≡ xs ++ rest
 run-shows [] rest some all = absurd (omega arith)
-run-shows (b ∷ bs) rest some all = not-blank b (bs ++ rest) (left-part (is_word_byte b) (list_all is_word_byte bs) all)
+run-shows (b ∷ bs) rest some all = not-blank b (bs ++ rest) (and-first (is_word_byte b) (list_all is_word_byte bs) all)
 
 -- a token that bytes can spell, whose name is known
 abbrev pub Plain : List (List ℕ) → Token → Type 0
@@ -121,22 +114,19 @@ name-some (b ∷ bs) x h = omega arith
 
 -- numbers
 
-own : IsNumeralModel (λ ds. all_ascii_digits ds ≡ true) (digits_value 10)
-own = numerals_by_value (λ ds. all_ascii_digits ds ≡ true) tells_all_ascii_digits
-
 digit-word : (b : ℕ) → is_ascii_digit b ≡ true → is_word_byte b ≡ true
 digit-word b digit = grind (arith, nat_tests)
 
 digits-word : (ds : List ℕ) → all_ascii_digits ds ≡ true → list_all is_word_byte ds ≡ true
 digits-word [] all = refl
-digits-word (d ∷ ds) all = rw (digit-word d (left-part (is_ascii_digit d) (all_ascii_digits ds) all)) (digits-word ds (right-part (is_ascii_digit d) (all_ascii_digits ds) all))
+digits-word (d ∷ ds) all = rw (digit-word d (and-first (is_ascii_digit d) (all_ascii_digits ds) all)) (digits-word ds (and-second (is_ascii_digit d) (all_ascii_digits ds) all))
 
 digit-no-letter : (b : ℕ) → is_ascii_digit b ≡ true → is_word_start b ≡ false
 digit-no-letter b digit = grind (arith, nat_tests)
 
 digits-no-letter : (ds : List ℕ) → all_ascii_digits ds ≡ true → is_word_start (slice_index ds 0) ≡ false
 digits-no-letter [] all = refl
-digits-no-letter (d ∷ ds) all = digit-no-letter d (left-part (is_ascii_digit d) (all_ascii_digits ds) all)
+digits-no-letter (d ∷ ds) all = digit-no-letter d (and-first (is_ascii_digit d) (all_ascii_digits ds) all)
 
 no-leading : (n : ℕ) → n < 2 ^ 64 → not (slice_index (decimal n) 0 == 48 && nat_lt 1 (length (decimal n))) ≡ true
 no-leading zero small = ap (λ ds. not (slice_index ds 0 == 48 && nat_lt 1 (length ds))) (decimal_digit zero (omega arith))

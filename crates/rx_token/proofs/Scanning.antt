@@ -1,7 +1,9 @@
 -- Bytes, their tokens with the starts, and the names.
-use Rattle.std.proofs.Common.{◌≡◌, ◌≢◌, ℕ, zero, suc, ◌+◌, ◌-◌, ◌<◌, ◌≤◌, false, true, cond, Bool, ◌&&◌, ◌==◌, nat_le, List, [], ◌∷◌, ◌++◌, length, drop, take, Some, None, Option, option_map, slice_get, slice_index, if◌then◌else◌, refl, sym, ap, subst, ◌∙◌, append_assoc, append-nil, true≢false, inl, inr, arith, length-append, length-drop, eqb-true}
+use Rattle.std.proofs.Common.{◌≡◌, ◌≢◌, ℕ, zero, suc, ◌+◌, ◌-◌, ◌≤◌, false, true, cond, Bool, ◌&&◌, ◌==◌, nat_le, List, [], ◌∷◌, ◌++◌, length, drop, take, Some, None, Option, option_map, slice_get, slice_index, if◌then◌else◌, refl, sym, ap, subst, ◌∙◌, append_assoc, append-nil, true≢false, inl, inr, arith, length-append, length-drop, eqb-true}
 use Rattle.std.specs.List.{prefix_len, list_all}
 use Rattle.std.proofs.lemmas.List.Sums.{prefix_len-le-length}
+use Rattle.std.proofs.lemmas.Option.{same_Some}
+use Rattle.rx_base.proofs.Elements.{get-within, get-more}
 use Rattle.rx_token.specs.declared.token.Op.TheVariants.{Equal}
 use Rattle.rx_token.specs.declared.token.Keyword.{Keyword}
 use Rattle.rx_token.specs.declared.token.Sign.TheVariants.{Equals}
@@ -13,12 +15,10 @@ use Rattle.rx_token.specs.Lexical.{is_blank, skipped, is_word_byte, is_word_star
 use Rattle.rx_token.specs.Tokens.{lexeme_of, Begins, InOrder, IsName}
 use Rattle.rx_token.specs.Scans.{Scans}
 use Rattle.rx_token.specs.Names.{Numbers, Counts, IsNumbered}
-use Rattle.rx_token.proofs.Naming.{get-front}
-use Rattle.rx_token.proofs.Naming.{some-is}
 
 mapped : {A B : Type 0} (f : A → B) (o : Option A) (y : B) → option_map f o ≡ Some y → (x : A) × (o ≡ Some x) × (f x ≡ y)
 mapped f None y e = cc
-mapped f (Some x) y e = (x, refl, some-is (f x) y e)
+mapped f (Some x) y e = (x, refl, same_Some (f x) y e)
 
 -- a sign is no longer than the bytes, and no name
 abbrev is_sign : Lexeme → Bool
@@ -32,7 +32,7 @@ abbrev IsSign : ℕ → Lexeme × List ℕ → Type 0
 IsSign n x = (is_sign x.0 ≡ true) × (length x.1 ≤ n)
 
 one-sign : (c : Bool) (a : Lexeme) (o : Option Lexeme) → is_sign a ≡ true → ((x : Lexeme) → o ≡ Some x → is_sign x ≡ true) → (x : Lexeme) → (if c then Some a else o) ≡ Some x → is_sign x ≡ true
-one-sign true a o s h x e = subst (λ y. is_sign y ≡ true) (some-is a x e) s
+one-sign true a o s h x e = subst (λ y. is_sign y ≡ true) (same_Some a x e) s
 one-sign false a o s h x e = h x e
 
 sign-byte : (b : ℕ) (x : Lexeme) → sign_of_byte b ≡ Some x → is_sign x ≡ true
@@ -63,7 +63,7 @@ sign-front [] x e = cc
 sign-front (b ∷ bs) x e = by (b == 61) e
   where
     by : (c : Bool) → (if c then Some (equals bs) else option_map (λ y. (y, bs)) (sign_of_byte b)) ≡ Some x → IsSign (suc (length bs)) x
-    by true e = let s = sign-equals bs in subst (IsSign (suc (length bs))) (some-is (equals bs) x e) (s.0, omega (arith, s.1))
+    by true e = let s = sign-equals bs in subst (IsSign (suc (length bs))) (same_Some (equals bs) x e) (s.0, omega (arith, s.1))
     by false e = let m = mapped (λ (y : Lexeme). (y, bs)) (sign_of_byte b) x e in subst (IsSign (suc (length bs))) m.2 (sign-byte b m.0 m.1, omega arith)
 
 -- what is left after a token is no longer
@@ -118,7 +118,7 @@ pub lexeme-grows : (names more : List (List ℕ)) (t : Token) (x : Lexeme) → l
 lexeme-grows names more (Key k) x e = e
 lexeme-grows names more (Called m) x e =
     let there = mapped (λ name. lexemes.Name (padded name)) (slice_get names m) x e in
-    ap (option_map (λ name. lexemes.Name (padded name))) (get-front names more m there.0 there.1) ∙ ap (λ y. Some y) there.2
+    ap (option_map (λ name. lexemes.Name (padded name))) (get-more names more m there.0 there.1) ∙ ap (λ y. Some y) there.2
 lexeme-grows names more (Number m) x e = e
 lexeme-grows names more (Oper o) x e = e
 lexeme-grows names more (Mark s) x e = e
@@ -276,11 +276,6 @@ starts-long names n bytes (Number x ∷ ts) (at ∷ starts) s = ap suc (starts-l
 starts-long names n bytes (Oper x ∷ ts) (at ∷ starts) s = ap suc (starts-long names n s.1 ts starts s.5)
 starts-long names n bytes (Mark x ∷ ts) (at ∷ starts) s = ap suc (starts-long names n s.1 ts starts s.5)
 starts-long names n bytes (Bad ∷ ts) (at ∷ starts) s = ap suc (ap length s.1 ∙ ap (λ us. suc (length us)) (sym s.0))
-
-get-within : {A : Type 0} (xs : List A) (i : ℕ) → i < length xs → (x : A) × (slice_get xs i ≡ Some x)
-get-within [] i l = absurd (omega (arith, l))
-get-within (x ∷ xs) zero l = (x, refl)
-get-within (x ∷ xs) (suc i) l = get-within xs i (omega (arith, l))
 
 pub start-of : (names : List (List ℕ)) (n : ℕ) (bytes : List ℕ) (ts : List Token) (starts : List ℕ) (i : ℕ) → Scans names n bytes ts starts → i ≤ length ts → (at : ℕ) × (slice_get starts i ≡ Some at)
 start-of names n bytes ts starts i s l = get-within starts i (omega (arith, l, starts-long names n bytes ts starts s))

@@ -5,6 +5,7 @@ use Rattle.std.specs.List.{prefix_len}
 use Rattle.std.specs.Str.{all_ascii_digits}
 use Rattle.std.specs.Str.Parse.{digits_value}
 use Rattle.std.proofs.lemmas.Bool.Decides.{nat_tests}
+use Rattle.rx_base.proofs.Bools.{and-second}
 use Rattle.rx_token.specs.declared.token.Keyword.{Keyword}
 use Rattle.rx_token.specs.declared.token.Op.TheVariants as ops
 use Rattle.rx_token.specs.declared.token.Sign.TheVariants as signs
@@ -45,14 +46,10 @@ word-fine : (o : Option Keyword) (word : List ℕ) → Fine (word_or_name o word
 word-fine None word = tt
 word-fine (Some k) word = tt
 
-last-part : (a b : Bool) → (a && b) ≡ true → b ≡ true
-last-part true b h = h
-last-part false b h = cc
-
 number-fine : (run : List ℕ) (b : Bool) → is_number run ≡ b → FineOption (option_map (λ n. lexemes.Number n) (cond b (Some (pos (digits_value 10 run))) None))
 number-fine run false e = tt
 number-fine run true e =
-    let small : nat_le (digits_value 10 run) most ≡ true = last-part (not (length run == 0) && not (slice_index run 0 == 48 && nat_lt 1 (length run)) && all_ascii_digits run) (nat_le (digits_value 10 run) most) e in
+    let small : nat_le (digits_value 10 run) most ≡ true = and-second (not (length run == 0) && not (slice_index run 0 == 48 && nat_lt 1 (length run)) && all_ascii_digits run) (nat_le (digits_value 10 run) most) e in
     grind (arith, nat_tests)
 
 run-fine : (run : List ℕ) → FineOption (run_token run)

@@ -1,34 +1,14 @@
 -- The members of a set, place by place.
-use Rattle.std.proofs.Common.{◌≡◌, ℕ, ◌+◌, ◌<◌, ◌^◌, Bool, true, false, cond, List, [], ◌∷◌, ◌++◌, drop, Some, zero, suc, refl, ap, sym, ◌∙◌, arith, append_assoc, append-nil}
-use Rattle.std.specs.Prelude.{slice_get, filter, codes}
+use Rattle.std.proofs.Common.{◌≡◌, ℕ, ◌+◌, ◌<◌, ◌^◌, Bool, true, false, cond, List, [], ◌∷◌, ◌++◌, drop, refl, ap, sym, ◌∙◌, arith, append_assoc, append-nil}
+use Rattle.std.specs.Prelude.{filter, codes}
 use Rattle.std.specs.List.{flat_map}
 use Rattle.rx_base.specs.declared.place_set.PlaceSet.{PlaceSet}
 use Rattle.rx_base.specs.Sets.{all_places, has_bit, members}
-use Rattle.rx_base.proofs.Members.{same-sets}
+use Rattle.rx_base.proofs.Members.{same-sets, place-at}
 use Rattle.rx_text.proofs.Lists.{left-more}
 use Rattle.rx_trace.specs.Fields.{natural_field}
 use Rattle.rx_trace.specs.Parts.{lost_part}
 use Rattle.rx_trace.proofs.Lines.{part-some}
-
--- each place stands at its own number
-there : (p : ℕ) → p < 16 → slice_get all_places p ≡ Some p
-there zero below = refl
-there (suc zero) below = refl
-there (suc (suc zero)) below = refl
-there (suc (suc (suc zero))) below = refl
-there (suc (suc (suc (suc zero)))) below = refl
-there (suc (suc (suc (suc (suc zero))))) below = refl
-there (suc (suc (suc (suc (suc (suc zero)))))) below = refl
-there (suc (suc (suc (suc (suc (suc (suc zero))))))) below = refl
-there (suc (suc (suc (suc (suc (suc (suc (suc zero)))))))) below = refl
-there (suc (suc (suc (suc (suc (suc (suc (suc (suc zero))))))))) below = refl
-there (suc (suc (suc (suc (suc (suc (suc (suc (suc (suc zero)))))))))) below = refl
-there (suc (suc (suc (suc (suc (suc (suc (suc (suc (suc (suc zero))))))))))) below = refl
-there (suc (suc (suc (suc (suc (suc (suc (suc (suc (suc (suc (suc zero)))))))))))) below = refl
-there (suc (suc (suc (suc (suc (suc (suc (suc (suc (suc (suc (suc (suc zero))))))))))))) below = refl
-there (suc (suc (suc (suc (suc (suc (suc (suc (suc (suc (suc (suc (suc (suc zero)))))))))))))) below = refl
-there (suc (suc (suc (suc (suc (suc (suc (suc (suc (suc (suc (suc (suc (suc (suc zero))))))))))))))) below = refl
-there (suc (suc (suc (suc (suc (suc (suc (suc (suc (suc (suc (suc (suc (suc (suc (suc p)))))))))))))))) below = absurd (omega arith)
 
 -- the fields of one place, if it is in the set, and of the others
 one : (b : Bool) (p : ℕ) (rest : List ℕ) → flat_map natural_field (cond b (p ∷ rest) rest) ≡ flat_map natural_field (cond b (p ∷ []) []) ++ flat_map natural_field rest
@@ -41,7 +21,7 @@ places-more set old out next p below whole is =
     let F : List ℕ → List ℕ = λ ps. flat_map natural_field (filter (has_bit set) ps) in
     ap (λ o. o ++ F (drop (p + 1) all_places)) is
     ∙ append_assoc out (F (p ∷ [])) (F (drop (p + 1) all_places))
-    ∙ ap (λ r. out ++ r) (sym (left-more F all_places p p (there p below) ∙ one (has_bit set p) p (filter (has_bit set) (drop (p + 1) all_places)))) ∙ whole
+    ∙ ap (λ r. out ++ r) (sym (left-more F all_places p p (place-at p below) ∙ one (has_bit set p) p (filter (has_bit set) (drop (p + 1) all_places)))) ∙ whole
 
 -- a set whose number is not 0 has a member
 pub some-member : (set : PlaceSet) → set.0 < 2 ^ 16 → (set.0 ≡ 0 → ⊥) → members set ≡ [] → ⊥

@@ -1,24 +1,13 @@
 -- A reached tree has at most 16 places.
-use Rattle.std.specs.Prelude.{◌≡◌, ◌≤◌, List, ◌++◌, filter, not, Some, None, refl}
+use Rattle.std.specs.Prelude.{◌≤◌}
 use Rattle.std.proofs.Common.{sym, subst}
 use Rattle.rx_base.specs.declared.ids.TaskId.{TaskId}
-use Rattle.rx_base.specs.declared.values.Fault.{Fault}
 use Rattle.rx_rules.specs.declared.entries.Act.{Act}
 use Rattle.rx_rules.specs.declared.entries.Act.TheVariants.{Open, At as Calls, Spawn, Arrive, Wait, Release, End, Print}
-use Rattle.rx_rules.specs.Tree.{Tree, is_task, task_of}
-use Rattle.rx_rules.specs.Entries.{after_end, change_scope, made_act}
+use Rattle.rx_rules.specs.Tree.{Tree}
+use Rattle.rx_rules.specs.Entries.{made_act}
 use Rattle.rx_rules.specs.Reached.{Reached, opens, acts, ends, dies}
-
-places-end : (T : Tree) (t : TaskId) (thrown : List Fault) → (after_end T t thrown).places ≡ T.places
-places-end T t thrown =
-    elim (task_of T t) as
-    (λ o. (elim o as (λ _. Tree) [
-      | Some x ↦ change_scope (λ g. record g { ends = g.ends ++ thrown }) x.under (record T { tasks = filter (λ y. not (is_task t y)) T.tasks })
-      | None ↦ T
-    ]).places ≡ T.places) [
-      | Some x ↦ refl
-      | None ↦ refl
-    ]
+use Rattle.rx_rules.proofs.Append.{end-places}
 
 acted_few : (T : Tree) (t : TaskId) (act : Act) → T.places ≤ 16 → (made_act T t act).places ≤ 16
 acted_few T t (Open s r path) h = h
@@ -27,7 +16,7 @@ acted_few T t (Spawn child s from to path) h = h
 acted_few T t (Arrive p) h = h
 acted_few T t (Wait s thrown) h = h
 acted_few T t (Release s lost thrown) h = h
-acted_few T t (End thrown) h = subst (λ n. n ≤ 16) (sym (places-end T t thrown)) h
+acted_few T t (End thrown) h = subst (λ n. n ≤ 16) (sym (end-places T t thrown)) h
 acted_few T t (Print value path) h = h
 
 pub places_few : {T : Tree} → Reached T → T.places ≤ 16

@@ -8,12 +8,14 @@ use Rattle.std.specs.declared.cmp.Ordering.TheVariants.{Less, Equal, Greater}
 use Rattle.std.proofs.lemmas.Bool.Decides.{nat_tests}
 use Rattle.std.proofs.lemmas.List.Sorted.{Contains-permutation, IsPermutation-sym}
 use Rattle.std.proofs.lemmas.Map.Keys.{IsDistinct-IsPermutation, apart_from_distinct}
+use Rattle.std.proofs.lemmas.Bool.{or_parts}
 use Rattle.rx_base.specs.declared.ids.Kill.{Kill}
 use Rattle.rx_base.specs.declared.ids.PlaceId.{PlaceId}
 use Rattle.rx_rules.specs.Run.{AreKills, Spares, Ascends, ComesAfter}
 use Rattle.rx_history.specs.KillOrder.{IsAscending, ComesLast, is_before}
 use Rattle.rx_history.proofs.InOrder.{which-after, before-Decides, not-itself, contains-first, contains-later, contains-cases, contains-none, contained-after, ascending-rest, in_order, one-order}
-use Rattle.rx_words.specs.Words.{has, bad_kill, ordered}
+use Rattle.rx_base.specs.Lists.{has}
+use Rattle.rx_words.specs.Words.{bad_kill, ordered}
 use Rattle.rx_words.specs.Commands.{kill_in}
 
 -- kills of places that exist and are not 0, none twice
@@ -26,14 +28,10 @@ abbrev pub AreNew : List ℕ → List Kill → Type 0
 AreNew seen [] = Unit {0}
 AreNew seen (k ∷ ks) = (has k.place.0 seen ≡ false) × AreNew seen ks
 
-or-false : (a b : Bool) → (a || b) ≡ false → (a ≡ false) × (b ≡ false)
-or-false true b e = cc
-or-false false b e = (refl, e)
-
 has-front : (p q : ℕ) (seen : List ℕ) → has p (seen ++ q ∷ []) ≡ false → (has p seen ≡ false) × (p ≢ q)
-has-front p q [] e = (refl, λ h. (let t : (p == q) ≡ false = (or-false (p == q) false e).0 in grind (arith, nat_tests)))
+has-front p q [] e = (refl, λ h. (let t : (p == q) ≡ false = (or_parts (p == q) false e).0 in grind (arith, nat_tests)))
 has-front p q (x ∷ xs) e =
-    let t = or-false (p == x) (has p (xs ++ q ∷ [])) e in
+    let t = or_parts (p == x) (has p (xs ++ q ∷ [])) e in
     let more = has-front p q xs t.1 in
     (ap (λ b. b || has p xs) t.0 ∙ more.0, more.1)
 
@@ -53,8 +51,8 @@ fine-of places seen [] e = (tt, tt)
 fine-of places seen (k ∷ ks) e =
     let p = k.1.place.0 in
     let t = none-bad (p == 0 || nat_le places p || has p seen) k.0 (bad_kill places (seen ++ p ∷ []) ks) e in
-    let a = or-false (p == 0 || nat_le places p) (has p seen) t.0 in
-    let b = or-false (p == 0) (nat_le places p) a.0 in
+    let a = or_parts (p == 0 || nat_le places p) (has p seen) t.0 in
+    let b = or_parts (p == 0) (nat_le places p) a.0 in
     let more = fine-of places (seen ++ p ∷ []) ks t.1 in
     let front = new-front k.1.place seen (map kill_in ks) more.1 in
     let zero : (p == 0) ≡ false = b.0 in

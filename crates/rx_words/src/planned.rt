@@ -4,7 +4,8 @@ ghost use Rattle.std.specs.List.Sorted.{IsPermutation, IsSortedBy};
 ghost use Rattle.rx_rules.specs.Run.{AreKills, Proper};
 ghost use Rattle.rx_history.specs.KillOrder.{is_before};
 ghost use Rattle.rx_history.specs.Setups.{given};
-ghost use Rattle.rx_words.specs.Words.{setup_of, bad_kill, first_bad_kill, has, ordered, told};
+ghost use Rattle.rx_base.specs.Lists.{has};
+ghost use Rattle.rx_words.specs.Words.{setup_of, bad_kill, first_bad_kill, ordered, told};
 ghost use Rattle.rx_words.specs.declared.command.WordFault.TheVariants.{Bad};
 ghost use Rattle.rx_words.specs.Commands.{IsInRange, wants_of, place_of, kill_in};
 

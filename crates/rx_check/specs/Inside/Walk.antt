@@ -13,7 +13,8 @@ use Rattle.rx_nodes.specs.declared.nodes.Stmt.TheVariants.{Set as SetNode, New a
 use Rattle.rx_nodes.specs.declared.nodes.Stmt.TheVariants.{Forget as ForgetNode, Print as PrintNode, Throw as ThrowNode}
 use Rattle.rx_nodes.specs.declared.nodes.Stmt.TheVariants.{Async as AsyncNode, AtAsync as AtAsyncNode, At as AtNode}
 use Rattle.rx_nodes.specs.declared.nodes.Stmt.TheVariants.{Finish as FinishNode, If as IfNode, Repeat as RepeatNode, Try as TryNode}
-use Rattle.rx_check.specs.Rules.{Kind, ANumber, AReference, pairs_in, names_of_all, exprs_of, targets_of, assigned, Sight, has}
+use Rattle.rx_base.specs.Lists.{has}
+use Rattle.rx_check.specs.Rules.{Kind, ANumber, AReference, pairs_in, names_of_all, exprs_of, targets_of, assigned, Sight}
 use Rattle.rx_check.specs.Rules.{same_kind, is_kind, fails_known, fails_depth}
 use Rattle.rx_check.specs.declared.names.Kind.{Kind as Made}
 use Rattle.rx_check.specs.declared.names.Kind.TheVariants.{Number as MadeNumber, Reference as MadeReference}

@@ -1,13 +1,14 @@
 use Rattle.std.proofs.Common.{◌≡◌, List, [], ◌∷◌, ◌++◌, ap, sym, ◌∙◌, subst, arith}
 use Rattle.rx_nodes.specs.Shape.{op_of}
+use Rattle.rx_script.proofs.Growing.{stands-within}
 use Rattle.rx_check.specs.Inside.Walk.{join, name_uses, uses_in, weights, Yields}
 use Rattle.rx_check.specs.declared.uses.Part.{Part as Waiting}
-use Rattle.rx_check.proofs.Exprs.{part-is, expr-within}
+use Rattle.rx_check.proofs.Exprs.{part-is}
 use Rattle.rx_check.proofs.Waiting.{num-uses, here-uses, one-name-uses, took, took-none, took-pair, weights-less, weights-pair}
 use Rattle.rx_check.proofs.uses.take_part.Goals as goal
 
 pub expr-requires : goal.expr-requires
-expr-requires c = expr-within _ _ _ c.requires.1
+expr-requires c = stands-within _ _ _ c.requires.1
 
 pub returns-in-Num-clause-uses : goal.returns-in-Num-clause-uses
 returns-in-Num-clause-uses c v h = took-none c.args.walk.now _ _ c.args.part c.args.so_far v (λ e s. ap (uses_in c.args.walk.now c.args.part.pairs) (part-is _ c.args.part.id _ e c.in-Num.ensures s) ∙ num-uses c.args.walk.now c.args.part.pairs c.in-Num.field-0) h

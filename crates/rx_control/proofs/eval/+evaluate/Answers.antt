@@ -3,11 +3,12 @@ use Rattle.std.proofs.lemmas.Int.{ints, to_z-of_z}
 use mir.Val.{SFits}
 use Rattle.rx_rules.specs.Terms.{eval, both, number_in}
 use Rattle.rx_nodes.specs.Shape.{op_of}
-use Rattle.rx_check.proofs.Exprs.{part-is, expr-within}
+use Rattle.rx_script.proofs.Growing.{stands-within}
+use Rattle.rx_check.proofs.Exprs.{part-is}
 use Rattle.rx_control.proofs.eval.+evaluate.Goals as goal
 
 pub expr-requires : goal.expr-requires
-expr-requires t c = expr-within _ _ _ c.requires.1
+expr-requires t c = stands-within _ _ _ c.requires.1
 
 pub evaluate-a-requires : goal.evaluate-a-requires
 evaluate-a-requires t c = let p = part-is _ c.args.id _ c.requires.0 c.in-Bin.ensures c.requires.1 in

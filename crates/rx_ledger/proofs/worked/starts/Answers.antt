@@ -1,11 +1,11 @@
 use Rattle.std.proofs.Common.{ap, ◌∙◌, ◌<◌, refl, subst, sym, Some, ℕ}
 use Rattle.rx_base.specs.declared.ids.TaskId.{TaskId}
+use Rattle.rx_rules.proofs.Append.{tree-places}
 use Rattle.rx_ticket.specs.declared.tickets.AnyTicket.TheVariants.{Running}
 use Rattle.rx_history.specs.declared.asks.Ask.TheVariants.{Spawn}
 use Rattle.rx_ledger.specs.declared.asks.Request.{Request}
 use Rattle.rx_ledger.specs.declared.asks.Reply.TheVariants.{Spawned}
 use Rattle.rx_ledger.specs.Owned.{own_told}
-use Rattle.rx_ledger.proofs.Pushing.{tree-places}
 use Rattle.rx_ledger.proofs.Scenes.{spawned_task}
 use Rattle.rx_ledger.proofs.worked.starts.Goals as goal
 

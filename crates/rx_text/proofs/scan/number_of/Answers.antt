@@ -1,13 +1,13 @@
-use Rattle.std.proofs.Common.{◌≡◌, true, false, ℕ, List, [], ◌∷◌, refl, sym, ap, ◌∙◌, subst}
+use Rattle.std.proofs.Common.{◌≡◌, true, false, ℕ, List, sym, ap, ◌∙◌, subst}
 use Rattle.std.specs.Prelude.{ℤ, Result, Ok, Err, Some, FitsSigned}
 use Rattle.std.specs.Int.{w64}
 use mir.Val.{to_z, of_z}
 use Rattle.std.specs.Str.{IsUtf8, bytes_eq}
 use Rattle.std.specs.Str.Parse.{ParsesSigned}
-use Rattle.std.proofs.lemmas.Bool.{eq-eqb}
 use Rattle.std.proofs.lemmas.Fmt.{IsAscii-signed, parse-signed_decimal}
 use Rattle.std.proofs.lemmas.Int.{to_z-of_z}
 use Rattle.std.proofs.lemmas.Str.{IsUtf8-from_ascii}
+use Rattle.rx_base.proofs.Elements.{same-bytes}
 use Rattle.rx_text.specs.Numbers.{number_text}
 use Rattle.rx_text.proofs.scan.number_of.Goals as goal
 
@@ -20,10 +20,6 @@ one-number r m n first second = cc
 
 no-error : {E : Type 0} (r : Result ℤ E) (e : E) (n : ℤ) → r ≡ Err e → r ≡ Ok n → ⊥
 no-error r e n first second = cc
-
-same-bytes : (xs : List ℕ) → bytes_eq xs xs ≡ true
-same-bytes [] = refl
-same-bytes (x ∷ xs) = rw (eq-eqb x x refl) (same-bytes xs)
 
 not-other : (xs ys : List ℕ) → xs ≡ ys → false ≡ bytes_eq xs ys → ⊥
 not-other xs ys same other = let yes : bytes_eq xs ys ≡ true = ap (bytes_eq xs) (sym same) ∙ same-bytes xs in cc

@@ -2,11 +2,12 @@ use Rattle.std.proofs.Common.{◌≡◌, ℕ, List, Some, slice_get, ◌∷◌, 
 use Rattle.std.specs.List.{list_any}
 use Rattle.std.specs.Cmp.Lexicographic.{pointwise}
 use Rattle.std.proofs.lemmas.List.{map-append}
+use Rattle.rx_base.proofs.Elements.{get-pushed}
 use Rattle.rx_token.specs.Tokens.{AreDistinct, IsName}
 use Rattle.rx_token.specs.Lexical.{padded}
 use Rattle.rx_token.specs.Names.{IsTable}
 use Rattle.rx_token.specs.Tables.{names_of}
-use Rattle.rx_token.proofs.Naming.{found-name, absent-name, distinct-more, names-more, found-keys, not-found, new-keys, get-last}
+use Rattle.rx_token.proofs.Naming.{found-name, absent-name, distinct-more, names-more, found-keys, not-found, new-keys}
 use Rattle.rx_token.proofs.names.number_of.Goals.{In_ok-push}
 use Rattle.rx_token.proofs.names.number_of.Goals as goal
 
@@ -49,5 +50,5 @@ returns-clause-found = found
 
 pub returns-clause-numbers : goal.returns-clause-numbers
 returns-clause-numbers c =
-    let last : slice_get (names_of c.push.new.self) (length (names_of c.args.table.now.names)) ≡ Some c.args.word.now = ap (λ ns. slice_get ns (length (names_of c.args.table.now.names))) (names c) ∙ get-last (names_of c.args.table.now.names) c.args.word.now in
+    let last : slice_get (names_of c.push.new.self) (length (names_of c.args.table.now.names)) ≡ Some c.args.word.now = ap (λ ns. slice_get ns (length (names_of c.args.table.now.names))) (names c) ∙ get-pushed (names_of c.args.table.now.names) c.args.word.now in
     inr ((table c).distinct _ _ c.args.word.now (found c) last, (c.args.word.now, names c))

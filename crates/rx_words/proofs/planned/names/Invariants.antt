@@ -1,5 +1,6 @@
 use Rattle.std.proofs.Common.{◌≡◌, drop, map}
-use Rattle.rx_words.specs.Words.{has}
+use Rattle.rx_base.specs.Lists.{has}
+
 use Rattle.rx_words.specs.Commands.{place_of}
 use Rattle.rx_words.proofs.planned.names.Given as goal
 

@@ -1,5 +1,6 @@
-use Rattle.std.proofs.Common.{◌≡◌, ℕ, suc, List, ◌∷◌, ◌++◌, Some, None, ap, sym, ◌∙◌, subst}
+use Rattle.std.proofs.Common.{◌≡◌, ℕ, suc, List, ◌∷◌, ◌++◌, Some, ap, sym, ◌∙◌, subst}
 use Rattle.std.specs.Prelude.{option_to_list}
+use Rattle.std.proofs.lemmas.Option.{none-some}
 use Rattle.rx_rules.specs.Code.{Stmt}
 use Rattle.rx_rules.specs.Terms.{Term, Run, stmt_child, child, begins, at}
 use Rattle.rx_nodes.specs.Shape.{Shape, StmtIs}
@@ -43,9 +44,6 @@ returns-clause-stands c =
     let M : Term → Type 0 = λ u. StandsFor s d u in
     let N : Shape → Type 0 = λ s. StandsFor s d (child t) in
     (subst N c.script-script.ensures (subst M (sym f) q.0), q.1 ∙ c.copy.ensures))
-
-none-some : {A : Type 0} (x : A) → None ≡ Some x → ⊥
-none-some x e = cc
 
 pub unreachable-requires : goal.unreachable-requires
 unreachable-requires c = none-some c.requires.1 (sym (c.in-None.ensures c.args.p.now.script c.requires.0 c.requires.2) ∙ c.requires.3)

@@ -1,5 +1,6 @@
 use Rattle.std.proofs.Common.{◌≡◌, suc, ◌∷◌, ◌++◌, Option, Some, None, refl, ap, sym, ◌∙◌, subst}
 use Rattle.std.specs.Prelude.{Result, Ok, Err, option_to_list}
+use Rattle.std.proofs.lemmas.Option.{none-some}
 use Rattle.rx_base.specs.declared.values.Fault.{Fault}
 use Rattle.rx_base.specs.declared.values.Value.{Value}
 use Rattle.rx_rules.specs.Code.{Then}
@@ -14,9 +15,6 @@ use Rattle.rx_control.proofs.Steps.{went, whole-stands}
 use Rattle.rx_control.proofs.Carried.{statement-begin}
 use Rattle.rx_control.proofs.Answering.{answered-err, receives-front, fails-front, goes-front}
 use Rattle.rx_control.proofs.control.Control.take_answer.Goals as goal
-
-none-some : {A : Type 0} (x : A) → None ≡ Some x → ⊥
-none-some x e = cc
 
 pub at_hand-stmt-requires : goal.at_hand-stmt-requires
 at_hand-stmt-requires c =

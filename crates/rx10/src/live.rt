@@ -7,8 +7,8 @@ ghost use Rattle.rx_nodes.specs.Grammar.{IsScript};
 ghost use Rattle.rx_script.specs.Faults.{IsFaultAt};
 ghost use Rattle.rx_check.specs.Rules.{verdict};
 ghost use Rattle.rx_rules.specs.Run.{Given};
-ghost use Rattle.rx_words.specs.Words.{Asked, Gen, asked_any, told, BadWord};
-ghost use Rattle.rx_words.specs.Commands.{IsLive};
+ghost use Rattle.rx_words.specs.Words.{Asked, Gen, asked_any, told_number, BadWord};
+ghost use Rattle.rx_words.specs.Commands.{IsLiveCommand};
 ghost use Rattle.rx10.specs.declared.status.Status.{Status as Told};
 ghost use Rattle.rx10.specs.declared.status.Status.TheVariants.{Usage, Syntax, Bad, TooLong, ReadFault, WriteFault, NoMemory as NoRoom};
 ghost use Rattle.rx10.specs.Top.{WasRead, IsOutcome, CanDo, IsUnmade, IsOver, status_by};
@@ -34,8 +34,9 @@ pub fn rx10<S: Source, K: Sink, G: Gate + Sync, R: Threads + Wait + Sync>(
     gate: &G,
 ) -> Status
     // The words, from both sides, but for want of memory. Bad words leave the source as it was.
-    ensures usage { (word : ℕ) → result ≡ Usage word → (k : ℕ) × (asked_any words.now ≡ BadWord k) × (word ≡ told k) }
-    ensures words { (k : ℕ) → asked_any words.now ≡ BadWord k → ((result ≡ Usage (told k)) ⊎ (result ≡ NoRoom)) × (input.new ≡ input.old) }
+    ensures usage { (word : ℕ) → result ≡ Usage word → (k : ℕ) × (asked_any words.now ≡ BadWord k) × (word ≡ told_number k) }
+    ensures words { (k : ℕ) → asked_any words.now ≡ BadWord k → ((result ≡ Usage (told_number k)) ⊎ (result ≡ NoRoom))
+        × (input.new ≡ input.old) }
     // `gen` does not touch the source.
     ensures unread { (size : ℕ) (U : Given) (seed : Option ℕ) → asked_any words.now ≡ Gen size U seed → input.new ≡ input.old }
     // The theorem: what was read is a script that meets the rules, and what was written is what the words ask for: of `step` and
@@ -90,8 +91,8 @@ fn live_text<S: Source, G: Gate + Sync, R: Threads + Wait + Sync>(
     input: &mut S,
     gate: &G,
 ) -> Result<(Vec<u8>, bool), Status>
-    requires { (asked : Asked) × IsLive live.now asked }
-    ensures ok { IfOk result (λ r. (asked : Asked) → IsLive live.now asked →
+    requires { (asked : Asked) × IsLiveCommand live.now asked }
+    ensures ok { IfOk result (λ r. (asked : Asked) → IsLiveCommand live.now asked →
         IsOutcome asked (S.left input.old) (S.left input.new) r.0.items (status_by r.1)) }
     ensures kind { IfErr result IsUnmade }
     ensures syntax { (at : ℕ) → IsErrOf result (Syntax at) → (bytes : List ℕ)
@@ -106,7 +107,7 @@ fn live_text<S: Source, G: Gate + Sync, R: Threads + Wait + Sync>(
         × Consumes (S.left input.old) (S.left input.new) bytes × (length bytes ≡ 65537) }
     ensures read_fault { IsErrOf result ReadFault → Rose (S.faults input.old) (S.faults input.new) }
     ensures taken { (bytes : List ℕ) × Consumes (S.left input.old) (S.left input.new) bytes × (length bytes ≤ 65537) }
-    ensures complete { (asked : Asked) → IsLive live.now asked → CanDo asked (S.left input.old) →
+    ensures complete { (asked : Asked) → IsLiveCommand live.now asked → CanDo asked (S.left input.old) →
         (Rose (S.faults input.old) (S.faults input.new) → ⊥) → IfErr result (λ status. status ≡ NoRoom) }
     ensures later { S.faults input.old ≤ S.faults input.new }
 {

@@ -17,7 +17,7 @@ use Rattle.rx_rules.specs.Plays.{Tells, Fits, brought}
 use Rattle.rx_nodes.specs.Named.{NamesAreNumbered}
 use Rattle.rx_base.specs.Lists.{has}
 use Rattle.rx_check.specs.Rules.{Kind, kind_of, nodes}
-use Rattle.rx_check.specs.Defined.{Comes, main, local, stores, asks, starts, AlwaysDefined, FewNames}
+use Rattle.rx_check.specs.Defined.{TermComes, main, local, stores, asks, starts, AlwaysDefined, FewNames}
 use Rattle.rx_check.proofs.Lawful.{Lawful, meets-lawful}
 use Rattle.rx_check.proofs.Safe.{better-same, Good, later-items, safe-defined}
 use Rattle.rx_check.proofs.Stepping.{Next, KeepsTerm, keeps, good-child}
@@ -109,7 +109,7 @@ Sound kinds q vars t = (q ≤ length vars.values) × Good kinds q vars t
 sound-next : (kinds : ℕ → Option Kind) (q : ℕ) (vars after : Vars) (t : Term) → q ≤ length vars.values → Next kinds q vars after t → Sound kinds q after t
 sound-next kinds q vars after t wide h = (subst (λ (n : ℕ). q ≤ n) (sym h.0.cells) wide, h.1)
 
-comes-sound : (code : Block) (kinds : ℕ → Option Kind) (q : ℕ) {vars : Vars} {t : Term} → q ≤ 32 → Lawful kinds q [] code → Comes code vars t → Sound kinds q vars t
+comes-sound : (code : Block) (kinds : ℕ → Option Kind) (q : ℕ) {vars : Vars} {t : Term} → q ≤ 32 → Lawful kinds q [] code → TermComes code vars t → Sound kinds q vars t
 comes-sound code kinds q few l main =
     let all : length no_vars.values ≡ 32 = length-replicate {A = Option Value} 32 None in
     let begun = later-items kinds q no_vars [] code [] 0 Empty l ([], (λ n k. k), tt) in

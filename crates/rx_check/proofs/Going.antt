@@ -15,7 +15,7 @@ use Rattle.rx_nodes.specs.declared.nodes.NameId.{NameId}
 use Rattle.rx_nodes.specs.declared.nodes.Stmt.{Stmt as Node}
 use Rattle.rx_base.specs.Lists.{has}
 use Rattle.rx_check.specs.Rules.{Kind, Sight, assigned, fails_depth, fails_known, inside, learned, sights}
-use Rattle.rx_check.specs.Inside.Walk.{Sofar, and_on, cap, is_in, is_one_more, mistakes_kind, known_with, noted, rule_with, run, seen_as, sofar_of, stepped, Extends, Knows}
+use Rattle.rx_check.specs.Inside.Walk.{Sofar, and_on, cap, is_in, is_one_more, mistakes_kind, known_with, noted, rule_with, sights_run, seen_as, sofar_of, sight_stepped, Extends, Knows}
 use Rattle.rx_check.specs.declared.names.Seen.{Seen}
 use Rattle.rx_check.specs.declared.walk.Walk.{Walk}
 use Rattle.rx_check.proofs.Statements.{least}
@@ -30,19 +30,19 @@ and-on-same : (r : Result Sofar (ℕ × ℕ)) (f g : Sofar → Result Sofar (ℕ
 and-on-same (Ok st) f g h = h st
 and-on-same (Err e) f g h = refl
 
-pub run-append : (st : Sofar) (xs ys : List Sight) → run st (xs ++ ys) ≡ and_on (run st xs) (λ next. run next ys)
+pub run-append : (st : Sofar) (xs ys : List Sight) → sights_run st (xs ++ ys) ≡ and_on (sights_run st xs) (λ next. sights_run next ys)
 run-append st [] ys = refl
 run-append st (x ∷ xs) ys =
-    let r : Result Sofar (ℕ × ℕ) = stepped (rule_with st.seen x) (assigned x.stmt) st in
-    let f : Sofar → Result Sofar (ℕ × ℕ) = λ next. run next (xs ++ ys) in
-    let g : Sofar → Result Sofar (ℕ × ℕ) = λ next. and_on (run next xs) (λ n. run n ys) in
-    and-on-same r f g (λ next. run-append next xs ys) ∙ sym (and-on-and-on r (λ next. run next xs) (λ n. run n ys))
+    let r : Result Sofar (ℕ × ℕ) = sight_stepped (rule_with st.seen x) (assigned x.stmt) st in
+    let f : Sofar → Result Sofar (ℕ × ℕ) = λ next. sights_run next (xs ++ ys) in
+    let g : Sofar → Result Sofar (ℕ × ℕ) = λ next. and_on (sights_run next xs) (λ n. sights_run n ys) in
+    and-on-same r f g (λ next. run-append next xs ys) ∙ sym (and-on-and-on r (λ next. sights_run next xs) (λ n. sights_run n ys))
 
-pub run-on : (st next : Sofar) (xs ys : List Sight) → run st xs ≡ Ok next → run st (xs ++ ys) ≡ run next ys
-run-on st next xs ys e = run-append st xs ys ∙ ap (λ r. and_on r (λ n. run n ys)) e
+pub run-on : (st next : Sofar) (xs ys : List Sight) → sights_run st xs ≡ Ok next → sights_run st (xs ++ ys) ≡ sights_run next ys
+run-on st next xs ys e = run-append st xs ys ∙ ap (λ r. and_on r (λ n. sights_run n ys)) e
 
-pub run-bad : (st : Sofar) (xs ys : List Sight) (e : ℕ × ℕ) → run st xs ≡ Err e → run st (xs ++ ys) ≡ Err e
-run-bad st xs ys x e = run-append st xs ys ∙ ap (λ r. and_on r (λ n. run n ys)) e
+pub run-bad : (st : Sofar) (xs ys : List Sight) (e : ℕ × ℕ) → sights_run st xs ≡ Err e → sights_run st (xs ++ ys) ≡ Err e
+run-bad st xs ys x e = run-append st xs ys ∙ ap (λ r. and_on r (λ n. sights_run n ys)) e
 
 -- what is left of a block
 pub record Going (s : Shape) (k : BlockId) (i depth total : ℕ) (old now : Walk) (t : Block) (known : List ℕ) : Type 0 where
@@ -52,7 +52,7 @@ pub record Going (s : Shape) (k : BlockId) (i depth total : ℕ) (old now : Walk
   pub stands : ListStands s (drop i ids) rest
   pub names : List ℕ
   pub knows : Knows now.known.items names
-  pub same : run (sofar_of old) (sights known depth t) ≡ run (sofar_of now) (sights names depth rest)
+  pub same : sights_run (sofar_of old) (sights known depth t) ≡ sights_run (sofar_of now) (sights names depth rest)
   pub works : cap (work t) ≡ cap (total + work rest)
 
 zero-more : (n : ℕ) → n ≡ 0 + n
@@ -71,7 +71,7 @@ pub record Next (s : Shape) (k : BlockId) (i depth total : ℕ) (old now : Walk)
   pub stands : ListStands s (drop (i + 1) ids) rest
   pub names : List ℕ
   pub knows : Knows now.known.items names
-  pub same : run (sofar_of old) (sights known depth t) ≡ run (sofar_of now) (record { stmt = first; depth = depth; known = names } ∷ (inside names depth first ++ sights (learned (assigned first) names) depth rest))
+  pub same : sights_run (sofar_of old) (sights known depth t) ≡ sights_run (sofar_of now) (record { stmt = first; depth = depth; known = names } ∷ (inside names depth first ++ sights (learned (assigned first) names) depth rest))
   pub works : cap (work t) ≡ cap (total + (work_of first + work rest))
 
 -- the number of the next statement stands for one
@@ -91,7 +91,7 @@ next-stands s k i depth total old now t known id g f =
 pub points : (s : Shape) (k : BlockId) (i depth total : ℕ) (old now : Walk) (t : Block) (known : List ℕ) (id : StmtId) → Going s k i depth total old now t known → IfSome (slice_get s.blocks k.0) (λ ids. slice_get ids i ≡ Some id) → Points s id
 points s k i depth total old now t known id g f = points-of s id (drop (i + 1) g.ids) g.rest (next-stands s k i depth total old now t known id g f)
 
-next-of : (s : Shape) (k : BlockId) (i depth total : ℕ) (old now : Walk) (t : Block) (known : List ℕ) (id : StmtId) (node : Node) (ids : List StmtId) (rest : Block) (names : List ℕ) → slice_get s.stmts id.0 ≡ Some node → slice_get s.blocks k.0 ≡ Some ids → ListStands s (id ∷ drop (i + 1) ids) rest → Knows now.known.items names → run (sofar_of old) (sights known depth t) ≡ run (sofar_of now) (sights names depth rest) → cap (work t) ≡ cap (total + work rest) → Next s k i depth total old now t known node
+next-of : (s : Shape) (k : BlockId) (i depth total : ℕ) (old now : Walk) (t : Block) (known : List ℕ) (id : StmtId) (node : Node) (ids : List StmtId) (rest : Block) (names : List ℕ) → slice_get s.stmts id.0 ≡ Some node → slice_get s.blocks k.0 ≡ Some ids → ListStands s (id ∷ drop (i + 1) ids) rest → Knows now.known.items names → sights_run (sofar_of old) (sights known depth t) ≡ sights_run (sofar_of now) (sights names depth rest) → cap (work t) ≡ cap (total + work rest) → Next s k i depth total old now t known node
 next-of s k i depth total old now t known id node ids Nothing names a b h n e w = absurd h
 next-of s k i depth total old now t known id node ids (Then u us) names a b h n e w = record {
   ids = ids;
@@ -113,7 +113,7 @@ going-next s k i depth total old now t known id node g f a = next-of s k i depth
 abbrev pub its : {s : Shape} {k : BlockId} {i depth total : ℕ} {old now : Walk} {t : Block} {known : List ℕ} {node : Node} → Next s k i depth total old now t known node → List Sight
 its {depth = depth} n = record { stmt = n.first; depth = depth; known = n.names } ∷ inside n.names depth n.first
 
-pub going-on : (s : Shape) (k : BlockId) (i depth total : ℕ) (old now new : Walk) (t : Block) (known : List ℕ) (node : Node) (w : ℕ) (n : Next s k i depth total old now t known node) → run (sofar_of now) (its n) ≡ Ok (sofar_of new) → Knows new.known.items (learned (assigned n.first) n.names) → w ≡ cap (work_of n.first) → Going s k (i + 1) depth (cap (total + w)) old new t known
+pub going-on : (s : Shape) (k : BlockId) (i depth total : ℕ) (old now new : Walk) (t : Block) (known : List ℕ) (node : Node) (w : ℕ) (n : Next s k i depth total old now t known node) → sights_run (sofar_of now) (its n) ≡ Ok (sofar_of new) → Knows new.known.items (learned (assigned n.first) n.names) → w ≡ cap (work_of n.first) → Going s k (i + 1) depth (cap (total + w)) old new t known
 going-on s k i depth total old now new t known node w n e l v = record {
   ids = n.ids;
   block = n.block;
@@ -125,7 +125,7 @@ going-on s k i depth total old now new t known node w n e l v = record {
   works = n.works ∙ (cap-more total (work_of n.first) (work n.rest) ∙ ap (λ x. cap (cap (total + x) + work n.rest)) (sym v));
 }
 
-pub going-bad : (s : Shape) (k : BlockId) (i depth total : ℕ) (old now : Walk) (t : Block) (known : List ℕ) (node : Node) (x : ℕ × ℕ) (n : Next s k i depth total old now t known node) → run (sofar_of now) (its n) ≡ Err x → run (sofar_of old) (sights known depth t) ≡ Err x
+pub going-bad : (s : Shape) (k : BlockId) (i depth total : ℕ) (old now : Walk) (t : Block) (known : List ℕ) (node : Node) (x : ℕ × ℕ) (n : Next s k i depth total old now t known node) → sights_run (sofar_of now) (its n) ≡ Err x → sights_run (sofar_of old) (sights known depth t) ≡ Err x
 going-bad s k i depth total old now t known node x n e = n.same ∙ run-bad (sofar_of now) (its n) (sights (learned (assigned n.first) n.names) depth n.rest) x e
 
 none : (s : Shape) (b : Block) (ids : List StmtId) → ids ≡ [] → ListStands s ids b → b ≡ Nothing
@@ -136,11 +136,11 @@ add-none : (n : ℕ) → n + 0 ≡ n
 add-none n = omega arith
 
 -- nothing is left
-pub going-end : (s : Shape) (k : BlockId) (i depth total len : ℕ) (old now : Walk) (t : Block) (known : List ℕ) → Going s k i depth total old now t known → IfSome (slice_get s.blocks k.0) (λ ids. len ≡ length ids) → len ≤ i → total ≤ 100001 → (run (sofar_of old) (sights known depth t) ≡ Ok (sofar_of now)) × (total ≡ cap (work t))
+pub going-end : (s : Shape) (k : BlockId) (i depth total len : ℕ) (old now : Walk) (t : Block) (known : List ℕ) → Going s k i depth total old now t known → IfSome (slice_get s.blocks k.0) (λ ids. len ≡ length ids) → len ≤ i → total ≤ 100001 → (sights_run (sofar_of old) (sights known depth t) ≡ Ok (sofar_of now)) × (total ≡ cap (work t))
 going-end s k i depth total len old now t known g f h m =
     let e : len ≡ length g.ids = subst (λ (o : Option (List StmtId)). IfSome o (λ ids. len ≡ length ids)) g.block f in
     let r : g.rest ≡ Nothing = none s g.rest (drop i g.ids) (drop_all i g.ids (omega (arith, e, h))) g.stands in (
-      g.same ∙ ap (λ b. run (sofar_of now) (sights g.names depth b)) r,
+      g.same ∙ ap (λ b. sights_run (sofar_of now) (sights g.names depth b)) r,
       sym (g.works ∙ (ap (λ b. cap (total + work b)) r ∙ (ap cap (add-none total) ∙ cap-same total m))),
     )
 
@@ -193,8 +193,8 @@ knows-more (Some s) ns known k n = by-cases (is_in s.name.0 ns) refl
 pub one-more : (n : ℕ) → n + 1 ≡ suc n
 one-more n = omega arith
 
-pub stepped-none : (r : Option ℕ) (a : Option (ℕ × Kind)) (st : Sofar) (f : Sofar → Result Sofar (ℕ × ℕ)) → r ≡ None → and_on (stepped r a st) f ≡ f (noted a st)
-stepped-none r a st f e = ap (λ o. and_on (stepped o a st) f) e
+pub stepped-none : (r : Option ℕ) (a : Option (ℕ × Kind)) (st : Sofar) (f : Sofar → Result Sofar (ℕ × ℕ)) → r ≡ None → and_on (sight_stepped r a st) f ≡ f (noted a st)
+stepped-none r a st f e = ap (λ o. and_on (sight_stepped o a st) f) e
 
 least-none : (a b c d : Bool) → least a b c d ≡ None → c ≡ false
 least-none true b c d e = cc

@@ -12,7 +12,7 @@ use Rattle.rx_base.proofs.Elements.{length-push}
 use Rattle.rx_rules.specs.Code.{Stmt, SetTo, New, Get, Put, Forget, Print, Throw, Async, AtAsync, At, Finish, If, Repeat, Try, Block, Nothing, Then, work}
 use Rattle.rx_base.specs.Lists.{has}
 use Rattle.rx_check.specs.Rules.{Kind, ANumber, AReference, exprs_of, targets_of, assigned, Sight, learned, inside, sights, nodes, same_kind, kind_after, kind_of, is_kind, more_names, names_after, names_of_all, fails_known, gets_other, fails_kind, fails_depth, is_name, fails_count, rule_of, found, first_fault, or_work, verdict}
-use Rattle.rx_check.specs.Inside.Walk.{kind_in, Sofar, differs, gets_other_kind, is_one_more, mistakes_kind, rule_with, seen_with, noted, stepped, and_on, run, cap}
+use Rattle.rx_check.specs.Inside.Walk.{kind_in, Sofar, differs, gets_other_kind, is_one_more, mistakes_kind, rule_with, seen_with, noted, sight_stepped, and_on, sights_run, cap}
 use Rattle.rx_check.proofs.Statements.{least}
 use Rattle.rx_check.proofs.Capping.{cap-cases}
 
@@ -389,15 +389,15 @@ few-with : (a : Option (ℕ × Kind)) (seen : List (ℕ × Kind)) → length see
 few-with None seen h e = h
 few-with (Some x) seen h e = length-if (is_some (kind_in seen x.0)) seen x h e
 
-judged-by : (s : Sight) (ss : List Sight) (script : List Sight) (st : Sofar) → rule_of script s ≡ rule_with st.seen s → (rule_with st.seen s ≡ None → fault_in (run (noted (assigned s.stmt) st) ss) ≡ first_fault script (suc st.count) ss) → (r : Option ℕ) → rule_with st.seen s ≡ r → fault_in (run st (s ∷ ss)) ≡ first_fault script st.count (s ∷ ss)
+judged-by : (s : Sight) (ss : List Sight) (script : List Sight) (st : Sofar) → rule_of script s ≡ rule_with st.seen s → (rule_with st.seen s ≡ None → fault_in (sights_run (noted (assigned s.stmt) st) ss) ≡ first_fault script (suc st.count) ss) → (r : Option ℕ) → rule_with st.seen s ≡ r → fault_in (sights_run st (s ∷ ss)) ≡ first_fault script st.count (s ∷ ss)
 judged-by s ss script st same rest (Some n) f =
-    ap (λ r. fault_in (and_on (stepped r (assigned s.stmt) st) (λ next. run next ss))) f
+    ap (λ r. fault_in (and_on (sight_stepped r (assigned s.stmt) st) (λ next. sights_run next ss))) f
     ∙ sym (ap (λ r. found st.count r (first_fault script (suc st.count) ss)) (same ∙ f))
 judged-by s ss script st same rest None f =
-    ap (λ r. fault_in (and_on (stepped r (assigned s.stmt) st) (λ next. run next ss))) f
+    ap (λ r. fault_in (and_on (sight_stepped r (assigned s.stmt) st) (λ next. sights_run next ss))) f
     ∙ (rest f ∙ sym (ap (λ r. found st.count r (first_fault script (suc st.count) ss)) (same ∙ f)))
 
-pub judged : (left before script : List Sight) (st : Sofar) → script ≡ before ++ left → Stands before st.seen → length st.seen ≤ 32 → AllKnowing st.seen left → fault_in (run st left) ≡ first_fault script st.count left
+pub judged : (left before script : List Sight) (st : Sofar) → script ≡ before ++ left → Stands before st.seen → length st.seen ≤ 32 → AllKnowing st.seen left → fault_in (sights_run st left) ≡ first_fault script st.count left
 judged [] before script st e h l k = refl
 judged (s ∷ ss) before script st e h l k =
     judged-by s ss script st (rule-here script before s ss st.seen (record { whole = e; stands = h; few = l; knowing = k.0 }))
@@ -409,23 +409,23 @@ judged (s ∷ ss) before script st e h l k =
 abbrev pub start : Sofar
 start = record { seen = []; count = 0 }
 
-pub first-judged : (t : Block) → fault_in (run start (nodes t)) ≡ first_fault (nodes t) 0 (nodes t)
+pub first-judged : (t : Block) → fault_in (sights_run start (nodes t)) ≡ first_fault (nodes t) 0 (nodes t)
 first-judged t = judged (nodes t) [] (nodes t) start refl stands-none (omega arith) (all-knowing t)
 
-verdict-is : (t : Block) (r : Result Sofar (ℕ × ℕ)) → run start (nodes t) ≡ r → verdict t ≡ or_work (fault_in r) (work t)
+verdict-is : (t : Block) (r : Result Sofar (ℕ × ℕ)) → sights_run start (nodes t) ≡ r → verdict t ≡ or_work (fault_in r) (work t)
 verdict-is t r e = ap (λ o. or_work o (work t)) (sym (first-judged t) ∙ ap fault_in e)
 
-pub verdict-bad : (t : Block) (x : ℕ × ℕ) → run start (nodes t) ≡ Err x → verdict t ≡ Some x
+pub verdict-bad : (t : Block) (x : ℕ × ℕ) → sights_run start (nodes t) ≡ Err x → verdict t ≡ Some x
 verdict-bad t x e = verdict-is t (Err x) e
 
-pub verdict-none : (t : Block) (st : Sofar) (w : ℕ) → run start (nodes t) ≡ Ok st → w ≡ cap (work t) → w ≤ 100000 → (verdict t ≡ None) × (w ≡ work t)
+pub verdict-none : (t : Block) (st : Sofar) (w : ℕ) → sights_run start (nodes t) ≡ Ok st → w ≡ cap (work t) → w ≤ 100000 → (verdict t ≡ None) × (w ≡ work t)
 verdict-none t st w e f h =
     elim (cap-cases (work t)) [
       | inl k ↦ (verdict-is t (Ok st) e ∙ ap (λ b. if b then Some (5, 0) else None) (le-ltb 100000 (work t) k.0), f ∙ k.1)
       | inr k ↦ absurd (omega (arith, k.1, f, h))
     ]
 
-pub verdict-work : (t : Block) (st : Sofar) (w : ℕ) → run start (nodes t) ≡ Ok st → w ≡ cap (work t) → 100000 < w → verdict t ≡ Some (5, 0)
+pub verdict-work : (t : Block) (st : Sofar) (w : ℕ) → sights_run start (nodes t) ≡ Ok st → w ≡ cap (work t) → 100000 < w → verdict t ≡ Some (5, 0)
 verdict-work t st w e f h =
     elim (cap-cases (work t)) [
       | inl k ↦ absurd (omega (arith, k.0, k.1, f, h))

@@ -33,22 +33,22 @@ beginning (Body inside rest) = beginning inside
 beginning (Held rest) = None
 
 -- the variables and the term to which a task of the script can come, wherever it is and whatever the store and the ledger answer
-pub data Comes (code : Block) : Vars → Term → Type 0 where
-  main : Comes code no_vars (items code [] Empty)
-  local : {vars left : Vars} {t after : Term} (here places : ℕ) → Comes code vars t → does vars here places t ≡ Local after left
-      → Comes code left after
-  stores : {vars : Vars} {t : Term} (here : PlaceId) (places : ℕ) (cell : Cell) (a : Answer) → Comes code vars t
-      → Tells (does vars here.0 places t) here cell a → Comes code (vars_after a vars) (answered a t)
-  asks : {vars : Vars} {t : Term} (here : PlaceId) (places : ℕ) (act : Act) → Comes code vars t
-      → Fits here t (does vars here.0 places t) act → Comes code vars (granted (brought act) t)
+pub data TermComes (code : Block) : Vars → Term → Type 0 where
+  main : TermComes code no_vars (items code [] Empty)
+  local : {vars left : Vars} {t after : Term} (here places : ℕ) → TermComes code vars t → does vars here places t ≡ Local after left
+      → TermComes code left after
+  stores : {vars : Vars} {t : Term} (here : PlaceId) (places : ℕ) (cell : Cell) (a : Answer) → TermComes code vars t
+      → Tells (does vars here.0 places t) here cell a → TermComes code (vars_after a vars) (answered a t)
+  asks : {vars : Vars} {t : Term} (here : PlaceId) (places : ℕ) (act : Act) → TermComes code vars t
+      → Fits here t (does vars here.0 places t) act → TermComes code vars (granted (brought act) t)
   -- a task that it starts has a copy of its variables
-  starts : {vars : Vars} {t : Term} → Comes code vars t → Comes code vars (child t)
+  starts : {vars : Vars} {t : Term} → TermComes code vars t → TermComes code vars (child t)
 
 -- whenever a task comes to a statement, all that the statement uses is defined
 abbrev pub AlwaysDefined : Type 0
 AlwaysDefined =
     (code : Block) (names : List (List ℕ)) → Meets code → AreNames names (spellings code)
-    → (vars : Vars) (t : Term) (stmt : Stmt) → Comes code vars t → beginning t ≡ Some stmt → IsDefined vars stmt
+    → (vars : Vars) (t : Term) (stmt : Stmt) → TermComes code vars t → beginning t ≡ Some stmt → IsDefined vars stmt
 
 -- such a script has at most 32 names
 abbrev pub FewNames : Type 0

@@ -5,7 +5,7 @@ ghost use Rattle.rx_rules.specs.Code.{Block, Stmt as TheStmt, work, work_of};
 ghost use Rattle.rx_nodes.specs.Shape.{BlockStands, StmtIs};
 ghost use Rattle.rx_check.specs.Rules.{ANumber, assigned, inside, learned, sights};
 ghost use Rattle.rx_check.specs.Inside.Walk.{any_target, cap, gets_other_kind, is_of_kind, is_one_more, is_unknown, known_with, noted};
-ghost use Rattle.rx_check.specs.Inside.Walk.{rule_from, rule_with, run, seen_all, seen_as, seen_with, sofar_of, Extends, Knows};
+ghost use Rattle.rx_check.specs.Inside.Walk.{rule_from, rule_with, sights_run, seen_all, seen_as, seen_with, sofar_of, Extends, Knows};
 ghost use Rattle.rx_check.specs.declared.checker.CheckCause.TheVariants.{Bad, NoMemory};
 
 use crate::CheckCause;
@@ -164,11 +164,11 @@ impl Walk {
         requires stands { (t : TheStmt) × StmtIs script.now stmt t }
         requires depth { depth ≤ 33 }
         ensures ok { IfOk result (λ w. (t : TheStmt) (known : List ℕ) → Knows self.old.known.items known → StmtIs script.now stmt t
-            → (run (sofar_of self.old) (record { stmt = t; depth = depth; known = known } ∷ inside known depth t)
+            → (sights_run (sofar_of self.old) (record { stmt = t; depth = depth; known = known } ∷ inside known depth t)
             ≡ Ok (sofar_of self.new)) × Knows self.new.known.items (learned (assigned t) known) × (w ≡ cap (work_of t))) }
         ensures bad { (rule node : ℕ) → IsErrOf result (Bad rule node) → (t : TheStmt) (known : List ℕ)
             → Knows self.old.known.items known → StmtIs script.now stmt t
-            → run (sofar_of self.old) (record { stmt = t; depth = depth; known = known } ∷ inside known depth t) ≡ Err (rule, node) }
+            → sights_run (sofar_of self.old) (record { stmt = t; depth = depth; known = known } ∷ inside known depth t) ≡ Err (rule, node) }
         ensures small { IfOk result (λ w. w ≤ 100001) }
         ensures kept { OnOk result (Extends self.old.known.items self.new.known.items) }
     {
@@ -196,10 +196,10 @@ impl Walk {
         requires stands { (t : TheStmt) × StmtIs script.now stmt t }
         requires depth { depth ≤ 32 }
         ensures ok { IfOk result (λ w. (t : TheStmt) (known : List ℕ) → Knows self.old.known.items known → StmtIs script.now stmt t
-            → (run (sofar_of self.old) (inside known depth t) ≡ Ok (sofar_of self.new)) × (w ≡ cap (work_of t))) }
+            → (sights_run (sofar_of self.old) (inside known depth t) ≡ Ok (sofar_of self.new)) × (w ≡ cap (work_of t))) }
         ensures bad { (rule node : ℕ) → IsErrOf result (Bad rule node) → (t : TheStmt) (known : List ℕ)
             → Knows self.old.known.items known → StmtIs script.now stmt t
-            → run (sofar_of self.old) (inside known depth t) ≡ Err (rule, node) }
+            → sights_run (sofar_of self.old) (inside known depth t) ≡ Err (rule, node) }
         ensures small { IfOk result (λ w. w ≤ 100001) }
         ensures kept { OnOk result (self.new.known.items ≡ self.old.known.items) }
     {
@@ -229,11 +229,11 @@ impl Walk {
         requires stands { (t : Block) × BlockStands script.now block t }
         requires depth { depth ≤ 33 }
         ensures ok { IfOk result (λ w. (t : Block) (known : List ℕ) → Knows self.old.known.items known
-            → BlockStands script.now block t → (run (sofar_of self.old) (sights known depth t) ≡ Ok (sofar_of self.new))
+            → BlockStands script.now block t → (sights_run (sofar_of self.old) (sights known depth t) ≡ Ok (sofar_of self.new))
             × (w ≡ cap (work t))) }
         ensures bad { (rule node : ℕ) → IsErrOf result (Bad rule node) → (t : Block) (known : List ℕ)
             → Knows self.old.known.items known → BlockStands script.now block t
-            → run (sofar_of self.old) (sights known depth t) ≡ Err (rule, node) }
+            → sights_run (sofar_of self.old) (sights known depth t) ≡ Err (rule, node) }
         ensures small { IfOk result (λ w. w ≤ 100001) }
         ensures kept { OnOk result (self.new.known.items ≡ self.old.known.items) }
     {

@@ -10,7 +10,7 @@ use Rattle.rx_nodes.specs.declared.nodes.BlockId.{BlockId}
 use Rattle.rx_nodes.specs.declared.nodes.Stmt.TheVariants.{Finish as FinishNode, At as AtNode}
 use Rattle.rx_nodes.specs.Shape.{Shape, StmtIs, BlockStands}
 use Rattle.rx_control.specs.Levels.{Level, More, Again, Tried, Inside, Waiting, seq, wrap, term_of}
-use Rattle.rx_control.specs.Inside.Front.{opened}
+use Rattle.rx_control.specs.Inside.Front.{levels_opened}
 use Rattle.rx_control.proofs.Wrapping.{replaced-wrap, after-wrap, receives-wrap, granted-wrap}
 
 pub finish-is : (s : Shape) (body : BlockId) (t : Stmt) → StmtIs s (FinishNode body) t → (b : Block) × (t ≡ Finish b) × BlockStands s body b
@@ -43,7 +43,7 @@ goes-front v o stmt more x i gs =
 
 -- grants
 
-opened-term : (stmt : Stmt) (y : List ℕ) (more : Block) (x : List ℕ) (k : ℕ) (gs : List Level) → wrap (stmt_granted stmt y (seq (More more x k ∷ gs))) gs ≡ term_of None (opened stmt y (More more x k ∷ gs))
+opened-term : (stmt : Stmt) (y : List ℕ) (more : Block) (x : List ℕ) (k : ℕ) (gs : List Level) → wrap (stmt_granted stmt y (seq (More more x k ∷ gs))) gs ≡ term_of None (levels_opened stmt y (More more x k ∷ gs))
 opened-term (SetTo name value) y more x k gs = refl
 opened-term (New name words) y more x k gs = refl
 opened-term (Get name target index) y more x k gs = refl
@@ -59,7 +59,7 @@ opened-term (If test first other) y more x k gs = refl
 opened-term (Repeat times body) y more x k gs = refl
 opened-term (Try body dead_only handler) y more x k gs = refl
 
-pub granted-front : (faults : List Fault) (stmt : Stmt) (more : Block) (x : List ℕ) (i : ℕ) (gs : List Level) → granted faults (term_of None (More (Then stmt more) x i ∷ gs)) ≡ term_of None (opened stmt (at x i) (More more x (suc i) ∷ gs))
+pub granted-front : (faults : List Fault) (stmt : Stmt) (more : Block) (x : List ℕ) (i : ℕ) (gs : List Level) → granted faults (term_of None (More (Then stmt more) x i ∷ gs)) ≡ term_of None (levels_opened stmt (at x i) (More more x (suc i) ∷ gs))
 granted-front faults stmt more x i gs =
     granted-wrap faults (Run stmt (at x i) (seq (More more x (suc i) ∷ gs))) gs tt ∙ opened-term stmt (at x i) more x (suc i) gs
 

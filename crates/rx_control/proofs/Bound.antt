@@ -9,13 +9,13 @@ use Rattle.rx_rules.specs.Code.{Block, Nothing, Then, Stmt, SetTo, New, Get, Put
 use Rattle.rx_rules.specs.Terms.{Vars, Term, Empty, Run, Raise, Turns, Trying, Body, Held, items, items_from, at, Does, Local, Makes, Gets, Puts, Forgets, Opens, Calls, Spawns, Waits, Releases, Prints, Done, does, stmt_does, begins, child, stmt_child, with_number, with_place, raise, bound, eval, target_of, ref_in, value_of, is_zero, catches, within, granted, stmt_granted, or_raise, replaced, after_it, Answer, Gives, Fine, Fails, answered}
 use Rattle.rx_runs.specs.Steps.{steps, Sinks}
 use Rattle.rx_runs.proofs.Sinking.{sinks, steps_items}
-use Rattle.rx_control.specs.Bound.{Falls}
+use Rattle.rx_control.specs.Bound.{StepFalls}
 
 pub steps-items : (b : Block) (x : List ℕ) (i : ℕ) (rest : Term) → steps (items_from b x i rest) ≡ 3 * work b + steps rest
 steps-items b x i rest = steps_items b x i rest
 
 -- what leaves less in each step leaves less in a local one
-sink-falls : (t : Term) (d : Does) → Sinks t d → Falls (steps t) d
+sink-falls : (t : Term) (d : Does) → Sinks t d → StepFalls (steps t) d
 sink-falls t (Local left vars) h = omega (arith, h)
 sink-falls t (Makes name words) h = tt
 sink-falls t (Gets name target index) h = tt
@@ -30,7 +30,7 @@ sink-falls t (Prints value) h = tt
 sink-falls t (Done faults) h = tt
 
 -- each local step of a term leaves less
-pub local-falls : (vars : Vars) (here places : ℕ) (t : Term) → Falls (steps t) (does vars here places t)
+pub local-falls : (vars : Vars) (here places : ℕ) (t : Term) → StepFalls (steps t) (does vars here places t)
 local-falls vars here places t = sink-falls t (does vars here places t) (sinks vars here places t)
 
 stmt-grants : (stmt : Stmt) (x : List ℕ) (rest : Term) → steps (stmt_granted stmt x rest) ≤ 3 * work_of stmt + steps rest

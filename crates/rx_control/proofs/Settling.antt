@@ -11,7 +11,7 @@ use Rattle.rx_nodes.specs.declared.nodes.BlockId.{BlockId}
 use Rattle.rx_control.specs.declared.frame.Frame.{Frame}
 use Rattle.rx_control.specs.declared.frame.Frame.TheVariants.{Seq}
 use Rattle.rx_control.specs.Stands.{FrameStands, FramesStand}
-use Rattle.rx_control.specs.Inside.Front.{IsOver, IsCatch, SettlesTo}
+use Rattle.rx_control.specs.Inside.Front.{LevelIsOver, IsCatch, SettlesTo}
 use Rattle.rx_control.proofs.Moves.{top-stands, empty-stands}
 
 pub popped : {A : Type 0} (old new below : List A) (f : A) → new ≡ take (length old - 1) old → old ≡ below ++ f ∷ [] → new ≡ below
@@ -33,28 +33,28 @@ pub record Leads (s : Shape) (base : List ℕ) (frames : List Frame) (raised : O
 pub leads-start : (s : Shape) (base : List ℕ) (frames : List Frame) (raised : Option (List Fault)) (levels : List Level) → FramesStand s base frames levels → Leads s base frames raised levels
 leads-start s base frames raised levels h = record { levels_left = levels; stands = h; is = refl }
 
-none-left : (s : Shape) (n next : ℕ) (ids : List StmtId) (left : Block) (x : List ℕ) → n ≡ length ids → ListStands s (drop next ids) left → IsOver (nat_le n next) (More left x next)
+none-left : (s : Shape) (n next : ℕ) (ids : List StmtId) (left : Block) (x : List ℕ) → n ≡ length ids → ListStands s (drop next ids) left → LevelIsOver (nat_le n next) (More left x next)
 none-left s n next ids left x e h = by-left left (drop next ids) refl h
   where
-    by-left : (left : Block) (more : List StmtId) → more ≡ drop next ids → ListStands s more left → IsOver (nat_le n next) (More left x next)
+    by-left : (left : Block) (more : List StmtId) → more ≡ drop next ids → ListStands s more left → LevelIsOver (nat_le n next) (More left x next)
     by-left Nothing [] q h = let l : length ids ≤ next = omega (arith, ap length q, length-drop next ids) in grind (arith, nat_tests)
     by-left Nothing (i ∷ more) q h = absurd h
     by-left (Then t ts) [] q h = absurd h
     by-left (Then t ts) (i ∷ more) q h = let l : next < length ids = omega (arith, ap length q, length-drop next ids) in grind (arith, nat_tests)
 
-pub seq-over : (s : Shape) (x : List ℕ) (block : BlockId) (next n : ℕ) (part : Option ℕ) (g : Level) → FrameStands s x (Seq block next part) g → IfSome (slice_get s.blocks block.0) (λ ids. n ≡ length ids) → IsOver (nat_le n next) g
+pub seq-over : (s : Shape) (x : List ℕ) (block : BlockId) (next n : ℕ) (part : Option ℕ) (g : Level) → FrameStands s x (Seq block next part) g → IfSome (slice_get s.blocks block.0) (λ ids. n ≡ length ids) → LevelIsOver (nat_le n next) g
 seq-over s x block next n part g h k =
     let l : n ≡ length h.1 = let P : Option (List StmtId) → Type 0 = λ o. IfSome o (λ ids. n ≡ length ids) in subst P h.3 k in
-    let P : Level → Type 0 = λ g. IsOver (nat_le n next) g in
+    let P : Level → Type 0 = λ g. LevelIsOver (nat_le n next) g in
     subst P (sym h.2) (none-left s n next h.1 h.0 (x ++ option_to_list part) l h.4)
 
 -- one frame less, which was over
-pub leads-less : (s : Shape) (base : List ℕ) (below : List Frame) (f : Frame) (levels : List Level) → ((x : List ℕ) (g : Level) → FrameStands s x f g → IsOver true g) → Leads s base (below ++ f ∷ []) None levels → Leads s base below None levels
+pub leads-less : (s : Shape) (base : List ℕ) (below : List Frame) (f : Frame) (levels : List Level) → ((x : List ℕ) (g : Level) → FrameStands s x f g → LevelIsOver true g) → Leads s base (below ++ f ∷ []) None levels → Leads s base below None levels
 leads-less s base below f levels over l =
     let t = top-stands s base below f l.levels_left l.stands in
     by-level t.level t.others (over _ t.level t.stands) t.is t.rest
   where
-    by-level : (g : Level) (gs : List Level) → IsOver true g → l.levels_left ≡ g ∷ gs → FramesStand s base below gs → Leads s base below None levels
+    by-level : (g : Level) (gs : List Level) → LevelIsOver true g → l.levels_left ≡ g ∷ gs → FramesStand s base below gs → Leads s base below None levels
     by-level (More Nothing x i) gs o e r = record { levels_left = gs; stands = r; is = sym (ap (term_of None) e) ∙ l.is }
     by-level (More (Then u us) x i) gs o e r = absurd (cc)
     by-level (Again body x k times) gs o e r = absurd (cc)
@@ -63,7 +63,7 @@ leads-less s base below f levels over l =
     by-level Waiting gs o e r = absurd (cc)
 
 -- the top frame is not over
-pub settles-here : (s : Shape) (base : List ℕ) (below : List Frame) (f : Frame) (levels : List Level) → ((x : List ℕ) (g : Level) → FrameStands s x f g → IsOver false g) → Leads s base (below ++ f ∷ []) None levels → SettlesTo s base (below ++ f ∷ []) None levels
+pub settles-here : (s : Shape) (base : List ℕ) (below : List Frame) (f : Frame) (levels : List Level) → ((x : List ℕ) (g : Level) → FrameStands s x f g → LevelIsOver false g) → Leads s base (below ++ f ∷ []) None levels → SettlesTo s base (below ++ f ∷ []) None levels
 settles-here s base below f levels over l =
     let t = top-stands s base below f l.levels_left l.stands in
     record {
@@ -73,7 +73,7 @@ settles-here s base below f levels over l =
       is = l.is;
     }
   where
-    by-level : (g : Level) (gs : List Level) → IsOver false g → Settled None (g ∷ gs)
+    by-level : (g : Level) (gs : List Level) → LevelIsOver false g → Settled None (g ∷ gs)
     by-level (More Nothing x i) gs o = absurd (cc)
     by-level (More (Then u us) x i) gs o = tt
     by-level (Again body x k times) gs o = tt

@@ -9,7 +9,7 @@ ghost use Rattle.rx_rules.specs.Terms.{answer_of, vars_after, receives};
 ghost use Rattle.rx_nodes.specs.Shape.{Shape, Stands};
 ghost use Rattle.rx_control.specs.declared.frame.Frame.{Frame};
 ghost use Rattle.rx_control.specs.Stands.{StandsFor, path_of, Leaves, IsSame};
-ghost use Rattle.rx_control.specs.Bound.{Falls};
+ghost use Rattle.rx_control.specs.Bound.{StepFalls};
 ghost use Rattle.rx_runs.specs.Steps.{steps};
 ghost use Rattle.rx_control.specs.Next.{next_of, carried};
 ghost use Rattle.rx_control.specs.Inside.Front.{lifted};
@@ -156,7 +156,7 @@ impl Control {
         ensures other { (t : Term) → StandsFor p.now.script self.old t → next_of (does self.old.vars here.0 places t) ≢ Next.Local
             → IsSame self.new self.old }
         ensures err { OnErr result (IsSame self.new self.old) }
-        ensures steps { (t : Term) → Falls (steps t) (does self.old.vars here.0 places t) }
+        ensures steps { (t : Term) → StepFalls (steps t) (does self.old.vars here.0 places t) }
     {
         if self.frames.reserve(2).is_err() {
             return Err(NoMemory);

@@ -5,7 +5,7 @@ ghost use Rattle.rx_control.specs.Levels.{Level};
 ghost use Rattle.rx_nodes.specs.Shape.{Shape};
 ghost use Rattle.rx_control.specs.declared.frame.Frame.{Frame};
 ghost use Rattle.rx_control.specs.Stands.{FrameStands, FramesStand};
-ghost use Rattle.rx_control.specs.Inside.Front.{IsOver, IsCatch, SettlesTo};
+ghost use Rattle.rx_control.specs.Inside.Front.{LevelIsOver, IsCatch, SettlesTo};
 
 use rx_script::{BlockId, Script};
 
@@ -72,7 +72,7 @@ pub(crate) fn go_on(frames: &mut Vec<Frame>, block: BlockId, next: u32, part: Op
 // Whether a frame is a block without statements left.
 fn is_over(script: &Script, frame: Frame) -> bool
     requires { (x : List ℕ) × (g : Level) × FrameStands script.now x frame g }
-    ensures { (x : List ℕ) (g : Level) → FrameStands script.now x frame g → IsOver result g }
+    ensures { (x : List ℕ) (g : Level) → FrameStands script.now x frame g → LevelIsOver result g }
 {
     match frame {
         Frame::Seq { block, next, .. } => script.block_len(block) <= next,

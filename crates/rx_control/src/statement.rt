@@ -7,7 +7,7 @@ ghost use Rattle.rx_control.specs.declared.frame.Frame.{Frame};
 ghost use Rattle.rx_control.specs.declared.control.Control.{Control};
 ghost use Rattle.rx_control.specs.Levels.{Level};
 ghost use Rattle.rx_control.specs.Stands.{StandsFor, FramesStand, path_of};
-ghost use Rattle.rx_control.specs.Inside.Front.{Awaits, SettlesTo, opened};
+ghost use Rattle.rx_control.specs.Inside.Front.{Awaits, SettlesTo, levels_opened};
 ghost use Rattle.rx_control.specs.Inside.Plans.{name_in};
 
 use crate::Variables;
@@ -87,7 +87,8 @@ pub(crate) fn open_after(script: &Script, frames: &mut Vec<Frame>, stmt: Stmt)
     requires stands { (base : List ℕ) × (levels : List Level) × FramesStand script.now base frames.old.items levels }
     requires stmt { (t : Tree) × StmtIs script.now stmt t }
     ensures { (base : List ℕ) (levels : List Level) (t : Tree) → FramesStand script.now base frames.old.items levels
-        → StmtIs script.now stmt t → SettlesTo script.now base frames.new.items None (opened t (path_of base frames.old.items) levels) }
+        → StmtIs script.now stmt t → SettlesTo script.now base frames.new.items None
+        (levels_opened t (path_of base frames.old.items) levels) }
 {
     match stmt {
         Stmt::Finish { body } => {

@@ -31,7 +31,7 @@ use Rattle.rx_counts.specs.declared.record.Record.{Record}
 use Rattle.rx_counts.specs.declared.ledger.CountLedger.{CountLedger}
 use Rattle.rx_counts.specs.Keeping.{stands_home, keeper, kept_at, same_where}
 use Rattle.rx_rules.specs.Counts.{has_number}
-use Rattle.rx_counts.specs.Stands.{slot, in_range, ShapeOf, SumsOf, RecordOf, Both, AllFit, Fit, StandsFor, IsShaped, record_at, count_in}
+use Rattle.rx_counts.specs.Stands.{slot, where_in_range, ShapeOf, SumsOf, RecordOf, Both, AllFit, Fit, StandsFor, IsShaped, record_at, count_in}
 use Rattle.rx_counts.proofs.Telling.{within_range}
 use Rattle.rx_counts.proofs.Lasting.{root_keeps}
 use Rattle.rx_counts.proofs.Walks.{keeper_exists, keeper_stands}
@@ -114,7 +114,7 @@ tasks_length n [] f = omega arith
 tasks_length n (x ∷ xs) f = let a : x.number.0 < n = f.0 in let b : length xs ≤ x.number.0 = tasks_length x.number.0 xs f.1 in omega arith
 
 -- so no count is above their number
-pub small : (keeps : Scope → Bool) (gs : List Scope) (ts : List Task) (q : Sums) (n m : ℕ) (w : Where) → SumsOf keeps gs ts q m → length ts ≤ n → n < 2 ^ 31 → in_range w → (count_in q (slot w) + 1 < 2 ^ 32) × (q.total + 1 < 2 ^ 32)
+pub small : (keeps : Scope → Bool) (gs : List Scope) (ts : List Task) (q : Sums) (n m : ℕ) (w : Where) → SumsOf keeps gs ts q m → length ts ≤ n → n < 2 ^ 31 → where_in_range w → (count_in q (slot w) + 1 < 2 ^ 32) × (q.total + 1 < 2 ^ 32)
 small keeps gs ts q n m w fits f low within =
     let a = fits.counts w within in
     let b = count_by-le-length (λ x. (is_none x.struck && same_where w x.place) && kept_at keeps gs m x) ts in
@@ -123,8 +123,8 @@ small keeps gs ts q n m w fits f low within =
     (omega arith, omega arith)
 
 -- where the caller is
-pub place_in : (T : Tree) (who : Caller) (P : Task → Type 0) → Sound T → (f : Free T who P) → in_range who.place
-place_in T who P h f = subst in_range f.at.says.place (within_range T.places f.at.task.place h.few (fits_of T who.task f.at.task h f.at.stands).inside)
+pub place_in : (T : Tree) (who : Caller) (P : Task → Type 0) → Sound T → (f : Free T who P) → where_in_range who.place
+place_in T who P h f = subst where_in_range f.at.says.place (within_range T.places f.at.task.place h.few (fits_of T who.task f.at.task h f.at.stands).inside)
 
 -- the scope that it hangs under leads to the root
 pub scope_rooted : (T : Tree) (who : Caller) (P : Task → Type 0) → Sound T → (f : Free T who P) → meets the_root T.scopes (Some who.scope) ≡ true

@@ -26,7 +26,7 @@ use Rattle.rx_counts.specs.declared.record.Sums.{Sums}
 use Rattle.rx_counts.specs.declared.record.Record.{Record}
 use Rattle.rx_counts.specs.declared.ledger.CountLedger.{CountLedger}
 use Rattle.rx_counts.specs.Keeping.{stands_home, keeper, finishes, is_number, kept_at}
-use Rattle.rx_counts.specs.Stands.{slot, in_range, SumsOf, StandsFor, Pushed, count_in, more, with_lost}
+use Rattle.rx_counts.specs.Stands.{slot, where_in_range, SumsOf, StandsFor, Pushed, count_in, more, with_lost}
 use Rattle.rx_counts.proofs.Asking.{unstruck_of}
 use Rattle.rx_counts.proofs.Joining.{join_here, join_lost, join_other, all_waits, slot_below}
 use Rattle.rx_counts.proofs.NewRecord.{IsZero, all_opened, sums_fresh, sums_further}
@@ -37,7 +37,7 @@ use Rattle.rx_counts.proofs.Spawning.{start, started_in, to_low, is_lost, struck
 self_kept : (keeps : Scope → Bool) (g : Scope) (gs : List Scope) → keeps g ≡ true → keeper keeps (g ∷ gs) (Some g.number) ≡ Some g.number.0
 self_kept keeps g gs e = rw (eq-eqb g.number.0 g.number.0 refl, e)
 
-sums_callee : (T : Tree) (keeps : Scope → Bool) (gs : List Scope) (ts : List Task) (child : TaskId) (s : ScopeId) (from to : PlaceId) (q p : Sums) (b : Bool) → b ≡ is_some (death_of T to) → kept_at keeps gs s.0 (born T child s from to) ≡ true → in_range (start from to) → (b ≡ true → (p ≡ with_lost p.lost q) × ((i : ℕ) → i < 16 → has_bit p.lost.0 i ≡ (has_bit q.lost.0 i || (to.0 == i)))) → (b ≡ false → p ≡ more (slot (start from to)) q) → SumsOf keeps gs ts q s.0 → SumsOf keeps gs (born T child s from to ∷ ts) p s.0
+sums_callee : (T : Tree) (keeps : Scope → Bool) (gs : List Scope) (ts : List Task) (child : TaskId) (s : ScopeId) (from to : PlaceId) (q p : Sums) (b : Bool) → b ≡ is_some (death_of T to) → kept_at keeps gs s.0 (born T child s from to) ≡ true → where_in_range (start from to) → (b ≡ true → (p ≡ with_lost p.lost q) × ((i : ℕ) → i < 16 → has_bit p.lost.0 i ≡ (has_bit q.lost.0 i || (to.0 == i)))) → (b ≡ false → p ≡ more (slot (start from to)) q) → SumsOf keeps gs ts q s.0 → SumsOf keeps gs (born T child s from to ∷ ts) p s.0
 sums_callee T keeps gs ts child s from to q p true e here within lost joins h =
     let b = struck_by T child s from to (sym e) in
     join_lost keeps gs ts (born T child s from to) b.0 q p s.0 here b.1 (lost refl).0 (subst (λ (v : PlaceId). (i : ℕ) → i < 16 → has_bit p.lost.0 i ≡ (has_bit q.lost.0 i || (v.0 == i))) (sym b.2) (lost refl).1) h

@@ -18,7 +18,7 @@ use Rattle.rx_sound.proofs.Changes.{each_more}
 use Rattle.rx_counts.specs.declared.record.Record.{Record}
 use Rattle.rx_counts.specs.declared.ledger.CountLedger.{CountLedger}
 use Rattle.rx_counts.specs.Keeping.{stands_home, is_number, kept_at, same_where, count_of}
-use Rattle.rx_counts.specs.Stands.{slot, in_range, Both, StandsFor, HasScope, record_at, count_in}
+use Rattle.rx_counts.specs.Stands.{slot, where_in_range, Both, StandsFor, HasScope, record_at, count_in}
 use Rattle.rx_counts.specs.Stands.{RecordOf}
 use Rattle.rx_counts.specs.Meaning.{counts_of, CountsStand}
 use Rattle.rx_counts.proofs.Joining.{both_more, number_is}
@@ -64,7 +64,7 @@ lost_is T g p = any_same (λ x. was_lost_at p x && counts_at T g x) (λ x. was_l
 pub scope_record : (l : CountLedger) (T : Tree) (s : ScopeId) → StandsFor l T → HasScope T s → Kept T l.scopes.items s.0
 scope_record l T s st h = kept_some T l.scopes.items s.0 st.fit.scopes (find (has_number s.0) T.scopes) refl h
 
-pub cell_told : (l : CountLedger) (T : Tree) (s : ScopeId) (w : Where) (n : ℕ) → StandsFor l T → HasScope T s → in_range w → IfSome (record_at l.scopes.items s.0) (λ r. n ≡ count_in r.sums (slot w)) → n ≡ count_of (stands_home T.dead) T.scopes T.tasks s.0 w
+pub cell_told : (l : CountLedger) (T : Tree) (s : ScopeId) (w : Where) (n : ℕ) → StandsFor l T → HasScope T s → where_in_range w → IfSome (record_at l.scopes.items s.0) (λ r. n ≡ count_in r.sums (slot w)) → n ≡ count_of (stands_home T.dead) T.scopes T.tasks s.0 w
 cell_told l T s w n st h within e =
     let k : Kept T l.scopes.items s.0 = scope_record l T s st h in
     subst (λ o. IfSome o (λ r. n ≡ count_in r.sums (slot w))) k.found e ∙ k.fits.sums.counts w within ∙ ap (λ (m : ℕ). count_of (stands_home T.dead) T.scopes T.tasks m w) k.number

@@ -24,8 +24,8 @@ use Rattle.rx_counts.specs.declared.record.Record.{Record}
 use Rattle.rx_counts.specs.declared.ledger.CountLedger.{CountLedger}
 use Rattle.rx_counts.specs.Keeping.{stands_home}
 use Rattle.rx_rules.specs.Counts.{has_number}
-use Rattle.rx_counts.specs.Stands.{in_range, AllFit, StandsFor, Pairs, record_at}
-use Rattle.rx_counts.specs.Inside.Dying.{StrikesRecord, MayHit, Passing, until}
+use Rattle.rx_counts.specs.Stands.{where_in_range, AllFit, StandsFor, Pairs, record_at}
+use Rattle.rx_counts.specs.Inside.Dying.{StrikesRecord, MayHit, Passing, given_until}
 use Rattle.rx_counts.proofs.Striking.{all_strike, may_hit}
 use Rattle.rx_counts.proofs.Handing.{all_keeps}
 use Rattle.rx_counts.proofs.Telling.{within_range}
@@ -41,8 +41,8 @@ home_after dead d n g inside =
       | false ↦ λ e. ap is_none (get_or-set_other dead d.0 g.home.0 (Some n) None (eqb-false g.home.0 d.0 e)) ∙ sym (and-true (stands_home dead g))
     ]) refl
 
-places_in : (T : Tree) → Sound T → Each (λ x. in_range x.place) T.tasks
-places_in T h = each_more (TaskFits T.dead T.places T.scopes) (λ x. in_range x.place) (λ (x : Task) f. within_range T.places x.place h.few f.inside) T.tasks h.tasks
+places_in : (T : Tree) → Sound T → Each (λ x. where_in_range x.place) T.tasks
+places_in T h = each_more (TaskFits T.dead T.places T.scopes) (λ x. where_in_range x.place) (λ (x : Task) f. within_range T.places x.place h.few f.inside) T.tasks h.tasks
 
 pub strike_ok : (l : CountLedger) (T : Tree) (d : PlaceId) (n : ℕ) → StandsFor l T → MayStrike T d n → (d.0 < 16) × ((m : ℕ) → IfSome (record_at l.scopes.items m) (MayHit d))
 strike_ok l T d n st may =
@@ -62,7 +62,7 @@ same_length : (b : Blow) (ts : List Task) → length (map (hit b) ts) ≡ length
 same_length b [] = refl
 same_length b (x ∷ xs) = ap suc (same_length b xs)
 
-until_zero : (keeps : Scope → Bool) (d : PlaceId) (gs : List Scope) → Each (λ k. keeps k ≡ until keeps d 0 k) gs
+until_zero : (keeps : Scope → Bool) (d : PlaceId) (gs : List Scope) → Each (λ k. keeps k ≡ given_until keeps d 0 k) gs
 until_zero keeps d [] = tt
 until_zero keeps d (k ∷ ks) = (sym (ap (λ b. keeps k && not ((k.home.0 == d.0) && b)) (le-ltb k.number.0 0 (omega arith)) ∙ ap (λ b. keeps k && not b) (and-false (k.home.0 == d.0)) ∙ and-true (keeps k)), until_zero keeps d ks)
 
@@ -85,10 +85,10 @@ begins l T d n qs st may few_t few_s struck =
       based = based st.reached;
       few_tasks = (let a = tasks_length U.next_task U.tasks k.tasks_fall in let c = st.fit.next_task in omega arith);
       few_scopes = (let a = scopes_length T h in let c = st.fit.next_scope in omega arith);
-      fit = all_keeps (stands_home T.dead) (until (stands_home T.dead) d 0) T.scopes (map (hit b) T.tasks) qs (until_zero (stands_home T.dead) d T.scopes) (λ m g found. each_found (λ g. stands_home T.dead g ≡ until (stands_home T.dead) d 0 g) (has_number m) T.scopes g (until_zero (stands_home T.dead) d T.scopes) found) fit;
+      fit = all_keeps (stands_home T.dead) (given_until (stands_home T.dead) d 0) T.scopes (map (hit b) T.tasks) qs (until_zero (stands_home T.dead) d T.scopes) (λ m g found. each_found (λ g. stands_home T.dead g ≡ given_until (stands_home T.dead) d 0 g) (has_number m) T.scopes g (until_zero (stands_home T.dead) d T.scopes) found) fit;
     }
 
-until_last : (dead now : List (Option ℕ)) (d : PlaceId) (i : ℕ) (gs : List Scope) → ((g : Scope) → stands_home now g ≡ (stands_home dead g && not (g.home.0 == d.0))) → Each (λ g. g.number.0 < i) gs → Each (λ k. until (stands_home dead) d i k ≡ stands_home now k) gs
+until_last : (dead now : List (Option ℕ)) (d : PlaceId) (i : ℕ) (gs : List Scope) → ((g : Scope) → stands_home now g ≡ (stands_home dead g && not (g.home.0 == d.0))) → Each (λ g. g.number.0 < i) gs → Each (λ k. given_until (stands_home dead) d i k ≡ stands_home now k) gs
 until_last dead now d i [] after low = tt
 until_last dead now d i (k ∷ ks) after low = (
   ap (λ b. stands_home dead k && not ((k.home.0 == d.0) && b)) (lt-ltb k.number.0 i low.0) ∙ ap (λ b. stands_home dead k && not b) (and-true (k.home.0 == d.0)) ∙ sym (after k),
@@ -103,7 +103,7 @@ died l m T d n i st may is places dead next_task next_scope len p =
     let U : Tree = strike b T in
     let same_dead : slice_set l.dead d.0 (Some n) ≡ U.dead = ap (λ ds. slice_set ds d.0 (Some n)) st.fit.dead in
     let low : Each (λ g. g.number.0 < i) T.scopes = subst (λ (j : ℕ). Each (λ g. g.number.0 < j) T.scopes) (sym (is ∙ st.fit.numbers)) (each_below T.next_scope T.scopes h.falls) in
-    let same : Each (λ k. until (stands_home T.dead) d i k ≡ stands_home U.dead k) T.scopes = until_last T.dead U.dead d i T.scopes (λ g. ap (λ ds. stands_home ds g) (sym same_dead) ∙ p.after g) low in
+    let same : Each (λ k. given_until (stands_home T.dead) d i k ≡ stands_home U.dead k) T.scopes = until_last T.dead U.dead d i T.scopes (λ g. ap (λ ds. stands_home ds g) (sym same_dead) ∙ p.after g) low in
     record {
       reached = dies b st.reached may.dies may.later;
       fit =
@@ -113,6 +113,6 @@ died l m T d n i st may is places dead next_task next_scope len p =
             next_task = next_task ∙ st.fit.next_task;
             next_scope = next_scope ∙ st.fit.next_scope;
             numbers = len ∙ st.fit.numbers;
-            scopes = all_keeps (until (stands_home T.dead) d i) (stands_home U.dead) T.scopes U.tasks m.scopes.items same (λ j g found. each_found (λ k. until (stands_home T.dead) d i k ≡ stands_home U.dead k) (has_number j) T.scopes g same found) p.fit;
+            scopes = all_keeps (given_until (stands_home T.dead) d i) (stands_home U.dead) T.scopes U.tasks m.scopes.items same (λ j g found. each_found (λ k. given_until (stands_home T.dead) d i k ≡ stands_home U.dead k) (has_number j) T.scopes g same found) p.fit;
           };
     }

@@ -23,7 +23,7 @@ use Rattle.rx_finish.specs.Calls.{IsHindered, landing}
 use Rattle.rx_counts.specs.declared.record.Record.{Record}
 use Rattle.rx_counts.specs.declared.ledger.CountLedger.{CountLedger}
 use Rattle.rx_counts.specs.Keeping.{stands_home, kept_at, same_where, count_of, total_of, orphans_of}
-use Rattle.rx_counts.specs.Stands.{slot, in_range, SumsOf, StandsFor, record_at, count_in}
+use Rattle.rx_counts.specs.Stands.{slot, where_in_range, SumsOf, StandsFor, record_at, count_in}
 use Rattle.rx_counts.specs.Inside.Freeing.{IsLast, Hides, unslot}
 use Rattle.rx_counts.proofs.Counting.{one, count_cons, any_counted}
 use Rattle.rx_counts.proofs.Telling.{keeper_meets, same_self, slot_of_unslot, unslot_in, within_range, one_number}
@@ -56,7 +56,7 @@ some_cell T keeps r n h s pos =
     let found = found_any (λ x. is_none x.struck && kept_at keeps T.scopes n x) T.tasks any in
     let x : Task = found.0 in
     let here = and_parts (is_none x.struck) (kept_at keeps T.scopes n x) (find-passes (λ y. is_none y.struck && kept_at keeps T.scopes n y) T.tasks x found.1) in
-    let within : in_range x.place = within_range T.places x.place h.few (each_found (TaskFits T.dead T.places T.scopes) (λ y. is_none y.struck && kept_at keeps T.scopes n y) T.tasks x h.tasks found.1).inside in
+    let within : where_in_range x.place = within_range T.places x.place h.few (each_found (TaskFits T.dead T.places T.scopes) (λ y. is_none y.struck && kept_at keeps T.scopes n y) T.tasks x h.tasks found.1).inside in
     let part = each_found (λ y. (p : Task → Bool) → one (p y) ≤ count_by p T.tasks) (λ y. is_none y.struck && kept_at keeps T.scopes n y) T.tasks x (each_part T.tasks T.tasks (λ p. omega arith)) found.1 (λ y. (is_none y.struck && same_where x.place y.place) && kept_at keeps T.scopes n y) in
     let mine : (is_none x.struck && same_where x.place x.place) && kept_at keeps T.scopes n x ≡ true = and_from (is_none x.struck && same_where x.place x.place) (kept_at keeps T.scopes n x) (and_from (is_none x.struck) (same_where x.place x.place) here.0 (same_self x.place)) here.1 in
     let is_one = ap one mine in

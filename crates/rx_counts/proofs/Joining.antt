@@ -23,29 +23,29 @@ use Rattle.rx_counts.specs.Keeping.{keeper, is_number, kept_at, same_where}
 use Rattle.rx_base.specs.Sets.{has_bit}
 use Rattle.rx_base.proofs.Elements.{find-passes}
 use Rattle.rx_rules.specs.Counts.{has_number}
-use Rattle.rx_counts.specs.Stands.{slot, in_range, ShapeOf, SumsOf, RecordOf, Both, AllFit, record_at, count_in, more, less, in_sums, with_lost, Changed, ChangedBy, Pairs, Loses}
+use Rattle.rx_counts.specs.Stands.{slot, where_in_range, ShapeOf, SumsOf, RecordOf, Both, AllFit, record_at, count_in, more, less, in_sums, with_lost, Changed, ChangedBy, Pairs, Loses}
 use Rattle.rx_counts.proofs.Counting.{one, count_cons, count_change, count_filter, any_counted, sum_change}
 use Rattle.rx_counts.proofs.Telling.{same_self}
 
 -- Cells of places and pairs differ.
 
-pub same_slot : (v w : Where) → in_range v → in_range w → same_where w v ≡ true → slot v ≡ slot w
+pub same_slot : (v w : Where) → where_in_range v → where_in_range w → same_where w v ≡ true → slot v ≡ slot w
 same_slot (At p) (At q) a b e = eqb-true p.0 q.0 e
 same_slot (At p) (Travel from to) a b e = absurd (true≢false (sym e))
 same_slot (Travel from to) (At q) a b e = absurd (true≢false (sym e))
 same_slot (Travel f t) (Travel p r) a b e = let parts = and_parts (f.0 == p.0) (t.0 == r.0) e in let x : f.0 ≡ p.0 = eqb-true f.0 p.0 parts.0 in let y : t.0 ≡ r.0 = eqb-true t.0 r.0 parts.1 in omega arith
 
-pub slot_same : (v w : Where) → in_range v → in_range w → slot v ≡ slot w → same_where w v ≡ true
+pub slot_same : (v w : Where) → where_in_range v → where_in_range w → slot v ≡ slot w → same_where w v ≡ true
 slot_same (At p) (At q) a b e = eq-eqb p.0 q.0 e
 slot_same (At p) (Travel from to) a b e = absurd (omega arith)
 slot_same (Travel from to) (At q) a b e = absurd (omega arith)
 slot_same (Travel f t) (Travel p r) a b e = let c : t.0 < 16 = a.1 in let d : r.0 < 16 = b.1 in and_from (f.0 == p.0) (t.0 == r.0) (eq-eqb f.0 p.0 (omega arith)) (eq-eqb t.0 r.0 (omega arith))
 
-pub slot_below : (w : Where) → in_range w → slot w < 272
+pub slot_below : (w : Where) → where_in_range w → slot w < 272
 slot_below (At p) h = omega arith
 slot_below (Travel f t) h = let a : f.0 < 16 = h.0 in let b : t.0 < 16 = h.1 in omega arith
 
-pub more_count : (r : Sums) (v w : Where) → length r.counts ≡ 272 → in_range v → in_range w → count_in (more (slot v) r) (slot w) ≡ count_in r (slot w) + one (same_where w v)
+pub more_count : (r : Sums) (v w : Where) → length r.counts ≡ 272 → where_in_range v → where_in_range w → count_in (more (slot v) r) (slot w) ≡ count_in r (slot w) + one (same_where w v)
 more_count r v w len a b =
     (elim (same_where w v) as (λ c. same_where w v ≡ c → count_in (more (slot v) r) (slot w) ≡ count_in r (slot w) + one c) [
       | true ↦ λ e.
@@ -55,7 +55,7 @@ more_count r v w len a b =
       | false ↦ λ e. get_or-set_other r.counts (slot v) (slot w) (count_in r (slot v) + 1) 0 (λ q. true≢false (sym (slot_same v w a b (sym q)) ∙ e)) ∙ omega arith
     ]) refl
 
-pub less_count : (r : Sums) (v w : Where) → length r.counts ≡ 272 → in_range v → in_range w → 1 ≤ count_in r (slot v) → count_in (less (slot v) r) (slot w) + one (same_where w v) ≡ count_in r (slot w)
+pub less_count : (r : Sums) (v w : Where) → length r.counts ≡ 272 → where_in_range v → where_in_range w → 1 ≤ count_in r (slot v) → count_in (less (slot v) r) (slot w) + one (same_where w v) ≡ count_in r (slot w)
 less_count r v w len a b pos =
     (elim (same_where w v) as (λ c. same_where w v ≡ c → count_in (less (slot v) r) (slot w) + one c ≡ count_in r (slot w)) [
       | true ↦ λ e.
@@ -104,7 +104,7 @@ join_other keeps gs ts y q n out h =
     }
 
 -- an unstruck task that is counted here joins
-pub join_here : (keeps : Scope → Bool) (gs : List Scope) (ts : List Task) (y : Task) (q : Sums) (n : ℕ) → kept_at keeps gs n y ≡ true → y.struck ≡ None → in_range y.place → SumsOf keeps gs ts q n → SumsOf keeps gs (y ∷ ts) (more (slot y.place) q) n
+pub join_here : (keeps : Scope → Bool) (gs : List Scope) (ts : List Task) (y : Task) (q : Sums) (n : ℕ) → kept_at keeps gs n y ≡ true → y.struck ≡ None → where_in_range y.place → SumsOf keeps gs ts q n → SumsOf keeps gs (y ∷ ts) (more (slot y.place) q) n
 join_here keeps gs ts y q n here free within h =
     record {
       cells = length-set q.counts (slot y.place) (count_in q (slot y.place) + 1) ∙ h.cells;
@@ -192,7 +192,7 @@ leave_other keeps gs ts y q n out h =
     }
 
 -- who is counted here, is in the count
-pub counted : (keeps : Scope → Bool) (gs : List Scope) (ts : List Task) (y : Task) (q : Sums) (n : ℕ) → kept_at keeps gs n y ≡ true → y.struck ≡ None → in_range y.place → SumsOf keeps gs (y ∷ ts) q n → (1 ≤ count_in q (slot y.place)) × (1 ≤ q.total)
+pub counted : (keeps : Scope → Bool) (gs : List Scope) (ts : List Task) (y : Task) (q : Sums) (n : ℕ) → kept_at keeps gs n y ≡ true → y.struck ≡ None → where_in_range y.place → SumsOf keeps gs (y ∷ ts) q n → (1 ≤ count_in q (slot y.place)) × (1 ≤ q.total)
 counted keeps gs ts y q n here free within h =
     let a = h.counts y.place within in
     let b = count_cons (λ x. (is_none x.struck && same_where y.place x.place) && kept_at keeps gs n x) y ts in
@@ -203,7 +203,7 @@ counted keeps gs ts y q n here free within h =
     let g = kept_one (is_none y.struck) (kept_at keeps gs n y) (ap is_none free) here in
     (omega arith, omega arith)
 
-pub leave_here : (keeps : Scope → Bool) (gs : List Scope) (ts : List Task) (y : Task) (q : Sums) (n : ℕ) → kept_at keeps gs n y ≡ true → y.struck ≡ None → in_range y.place → SumsOf keeps gs (y ∷ ts) q n → SumsOf keeps gs ts (less (slot y.place) q) n
+pub leave_here : (keeps : Scope → Bool) (gs : List Scope) (ts : List Task) (y : Task) (q : Sums) (n : ℕ) → kept_at keeps gs n y ≡ true → y.struck ≡ None → where_in_range y.place → SumsOf keeps gs (y ∷ ts) q n → SumsOf keeps gs ts (less (slot y.place) q) n
 leave_here keeps gs ts y q n here free within h =
     record {
       cells = length-set q.counts (slot y.place) (count_in q (slot y.place) - 1) ∙ h.cells;
@@ -308,14 +308,14 @@ all_sums keeps gs ts us f k rs qs here other c h =
     (λ r g e a. record { shape = a.shape; sums = other r.sums g.number.0 e a.sums; faults = a.faults })
     c h
 
-pub all_join : (keeps : Scope → Bool) (gs : List Scope) (ts : List Task) (y : Task) (k : ℕ) (rs qs : List (Option (Box Record))) → keeper keeps gs (Some y.under) ≡ Some k → y.struck ≡ None → in_range y.place → Changed (in_sums (more (slot y.place))) k rs qs → AllFit keeps gs ts rs → AllFit keeps gs (y ∷ ts) qs
+pub all_join : (keeps : Scope → Bool) (gs : List Scope) (ts : List Task) (y : Task) (k : ℕ) (rs qs : List (Option (Box Record))) → keeper keeps gs (Some y.under) ≡ Some k → y.struck ≡ None → where_in_range y.place → Changed (in_sums (more (slot y.place))) k rs qs → AllFit keeps gs ts rs → AllFit keeps gs (y ∷ ts) qs
 all_join keeps gs ts y k rs qs at free within c h =
     all_sums keeps gs ts (y ∷ ts) (more (slot y.place)) k rs qs
     (λ q a. join_here keeps gs ts y q k (ap (is_number k) at ∙ eq-eqb k k refl) free within a)
     (λ q n e a. join_other keeps gs ts y q n (ap (is_number n) at ∙ ne_eqb k n (λ v. e (sym v))) a)
     c h
 
-pub all_leave : (keeps : Scope → Bool) (gs : List Scope) (ts : List Task) (y : Task) (k : ℕ) (rs qs : List (Option (Box Record))) → keeper keeps gs (Some y.under) ≡ Some k → y.struck ≡ None → in_range y.place → Changed (in_sums (less (slot y.place))) k rs qs → AllFit keeps gs (y ∷ ts) rs → AllFit keeps gs ts qs
+pub all_leave : (keeps : Scope → Bool) (gs : List Scope) (ts : List Task) (y : Task) (k : ℕ) (rs qs : List (Option (Box Record))) → keeper keeps gs (Some y.under) ≡ Some k → y.struck ≡ None → where_in_range y.place → Changed (in_sums (less (slot y.place))) k rs qs → AllFit keeps gs (y ∷ ts) rs → AllFit keeps gs ts qs
 all_leave keeps gs ts y k rs qs at free within c h =
     all_sums keeps gs (y ∷ ts) ts (less (slot y.place)) k rs qs
     (λ q a. leave_here keeps gs ts y q k (ap (is_number k) at ∙ eq-eqb k k refl) free within a)

@@ -22,7 +22,7 @@ use Rattle.rx_counts.specs.Keeping.{stands_home, keeper, is_number, kept_at, sam
 use Rattle.rx_rules.specs.Counts.{has_number}
 use Rattle.rx_counts.specs.Stands.{ShapeOf, SumsOf, RecordOf, AllFit, ChangedBy, IsShaped, record_at}
 use Rattle.rx_counts.specs.Inside.Freeing.{unslot}
-use Rattle.rx_counts.specs.Inside.Dying.{Emptied, Gained, MayGain, until, Passing, parent_there}
+use Rattle.rx_counts.specs.Inside.Dying.{Emptied, Gained, MayGain, given_until, Passing, parent_there}
 use Rattle.rx_counts.proofs.HandOver.{but, heir, never_but, count_heir}
 use Rattle.rx_counts.proofs.Handing.{all_hand, all_keeps, orphans_heir}
 use Rattle.rx_counts.proofs.Walks.{keeper_step, keeper_low, keeper_stands, keeper_exists, OlderThan}
@@ -49,7 +49,7 @@ ltb_same m i apart = ⊎_elim (λ (a : m < i). lt-ltb m i a ∙ sym (lt-ltb m (i
     above m n le apart = ⊎_elim (λ (a : n < m). omega arith) (λ (b : m ≤ n). absurd (apart (omega arith))) (cases_lt n m)
 
 -- who does not have the home, or another number, keeps on
-until_same : (keeps : Scope → Bool) (d : PlaceId) (i : ℕ) (k : Scope) → (k.number.0 ≡ i → k.home.0 == d.0 ≡ false) → until keeps d i k ≡ until keeps d (i + 1) k
+until_same : (keeps : Scope → Bool) (d : PlaceId) (i : ℕ) (k : Scope) → (k.number.0 ≡ i → k.home.0 == d.0 ≡ false) → given_until keeps d i k ≡ given_until keeps d (i + 1) k
 until_same keeps d i k h =
     ⊎_elim
     (λ (e : k.number.0 ≡ i). ap (λ b. keeps k && not (b && ltb k.number.0 i)) (h e) ∙ sym (ap (λ b. keeps k && not (b && ltb k.number.0 (i + 1))) (h e)))
@@ -57,21 +57,21 @@ until_same keeps d i k h =
     (cases_eq k.number.0 i)
 
 -- who is older has given all away, if its home died
-but_low : (keeps : Scope → Bool) (d : PlaceId) (i : ℕ) (h : ScopeId) (k : Scope) → h.0 ≡ i → k.number.0 < i → but h (until keeps d i) k ≡ (keeps k && not (k.home.0 == d.0))
+but_low : (keeps : Scope → Bool) (d : PlaceId) (i : ℕ) (h : ScopeId) (k : Scope) → h.0 ≡ i → k.number.0 < i → but h (given_until keeps d i) k ≡ (keeps k && not (k.home.0 == d.0))
 but_low keeps d i h k e lt =
     ap (λ b. (keeps k && not ((k.home.0 == d.0) && ltb k.number.0 i)) && not b) (ne_eqb k.number.0 h.0 (λ q. absurd (omega arith)))
     ∙ and-true (keeps k && not ((k.home.0 == d.0) && ltb k.number.0 i))
     ∙ ap (λ b. keeps k && not ((k.home.0 == d.0) && b)) (lt-ltb k.number.0 i lt)
     ∙ ap (λ b. keeps k && not b) (and-true (k.home.0 == d.0))
 
-but_next : (keeps : Scope → Bool) (d : PlaceId) (i : ℕ) (h : ScopeId) (k : Scope) → h.0 ≡ i → (k.number.0 ≡ i → k.home.0 == d.0 ≡ true) → but h (until keeps d i) k ≡ until keeps d (i + 1) k
+but_next : (keeps : Scope → Bool) (d : PlaceId) (i : ℕ) (h : ScopeId) (k : Scope) → h.0 ≡ i → (k.number.0 ≡ i → k.home.0 == d.0 ≡ true) → but h (given_until keeps d i) k ≡ given_until keeps d (i + 1) k
 but_next keeps d i h k e home =
     ⊎_elim
     (λ (q : k.number.0 ≡ i).
-    ap (λ b. until keeps d i k && not b) (eq-eqb k.number.0 h.0 (q ∙ sym e)) ∙ and-false (until keeps d i k)
+    ap (λ b. given_until keeps d i k && not b) (eq-eqb k.number.0 h.0 (q ∙ sym e)) ∙ and-false (given_until keeps d i k)
     ∙ sym (ap (λ b. keeps k && not (b && ltb k.number.0 (i + 1))) (home q) ∙ ap (λ b. keeps k && not b) (lt-ltb k.number.0 (i + 1) (omega arith)) ∙ and-false (keeps k)))
     (λ (q : k.number.0 ≡ i → ⊥).
-    ap (λ b. until keeps d i k && not b) (ne_eqb k.number.0 h.0 (λ v. q (v ∙ e))) ∙ and-true (until keeps d i k) ∙ ap (λ b. keeps k && not ((k.home.0 == d.0) && b)) (ltb_same k.number.0 i q))
+    ap (λ b. given_until keeps d i k && not b) (ne_eqb k.number.0 h.0 (λ v. q (v ∙ e))) ∙ and-true (given_until keeps d i k) ∙ ap (λ b. keeps k && not ((k.home.0 == d.0) && b)) (ltb_same k.number.0 i q))
     (cases_eq k.number.0 i)
 
 shaped_by : (T : Tree) (keeps : Scope → Bool) (rs qs : List (Option (Box Record))) → IsShaped T rs → AllFit keeps T.scopes T.tasks qs → IsShaped T qs
@@ -83,10 +83,10 @@ shaped_by T keeps rs qs h fit =
     }
 
 -- the next turn, where the records fit it
-next_turn : (T : Tree) (keeps : Scope → Bool) (dead : List (Option ℕ)) (d : PlaceId) (i : ℕ) (rs qs : List (Option (Box Record))) → Passing T keeps dead d i rs → AllFit (until keeps d (i + 1)) T.scopes T.tasks qs → Passing T keeps dead d (i + 1) qs
+next_turn : (T : Tree) (keeps : Scope → Bool) (dead : List (Option ℕ)) (d : PlaceId) (i : ℕ) (rs qs : List (Option (Box Record))) → Passing T keeps dead d i rs → AllFit (given_until keeps d (i + 1)) T.scopes T.tasks qs → Passing T keeps dead d (i + 1) qs
 next_turn T keeps dead d i rs qs p fit =
     record {
-      shaped = shaped_by T (until keeps d (i + 1)) rs qs p.shaped fit;
+      shaped = shaped_by T (given_until keeps d (i + 1)) rs qs p.shaped fit;
       after = p.after;
       lived = p.lived;
       root = p.root;
@@ -114,9 +114,9 @@ homeless T keeps dead d i rs p none g found =
 
 pub passes_by : (T : Tree) (keeps : Scope → Bool) (dead : List (Option ℕ)) (d : PlaceId) (i : ℕ) (rs : List (Option (Box Record))) → Passing T keeps dead d i rs → parent_there d (record_at rs i) ≡ None → Passing T keeps dead d (i + 1) rs
 passes_by T keeps dead d i rs p none =
-    let same : Each (λ k. until keeps d i k ≡ until keeps d (i + 1) k) T.scopes = each_more (λ k. k.number.0 ≡ i → k.home.0 == d.0 ≡ false) (λ k. until keeps d i k ≡ until keeps d (i + 1) k) (λ (k : Scope) h. until_same keeps d i k h) T.scopes (each_at i T.next_scope (λ k. k.home.0 == d.0 ≡ false) T.scopes p.shaped.falls (homeless T keeps dead d i rs p none)) in
+    let same : Each (λ k. given_until keeps d i k ≡ given_until keeps d (i + 1) k) T.scopes = each_more (λ k. k.number.0 ≡ i → k.home.0 == d.0 ≡ false) (λ k. given_until keeps d i k ≡ given_until keeps d (i + 1) k) (λ (k : Scope) h. until_same keeps d i k h) T.scopes (each_at i T.next_scope (λ k. k.home.0 == d.0 ≡ false) T.scopes p.shaped.falls (homeless T keeps dead d i rs p none)) in
     next_turn T keeps dead d i rs rs p
-    (all_keeps (until keeps d i) (until keeps d (i + 1)) T.scopes T.tasks rs same (λ n k found. each_found (λ k. until keeps d i k ≡ until keeps d (i + 1) k) (has_number n) T.scopes k same found) p.fit)
+    (all_keeps (given_until keeps d i) (given_until keeps d (i + 1)) T.scopes T.tasks rs same (λ n k found. each_found (λ k. given_until keeps d i k ≡ given_until keeps d (i + 1) k) (has_number n) T.scopes k same found) p.fit)
 
 -- Where one has.
 
@@ -136,16 +136,16 @@ pub record Hands (T : Tree) (keeps : Scope → Bool) (d : PlaceId) (i a : ℕ) (
   pub heir_scope : Scope
   pub found_heir : find (has_number a) T.scopes ≡ Some heir_scope
   pub home : scope.home.0 == d.0 ≡ true
-  pub kept : until keeps d i scope ≡ true
-  pub is_heir : heir (until keeps d i) T.scopes h ≡ Some a
+  pub kept : given_until keeps d i scope ≡ true
+  pub is_heir : heir (given_until keeps d i) T.scopes h ≡ Some a
 
 abbrev number_id : ℕ → ScopeId
 number_id n = record { 0 = n }
 
-hands_to : (T : Tree) (keeps : Scope → Bool) (dead : List (Option ℕ)) (d : PlaceId) (i : ℕ) (rs : List (Option (Box Record))) (u : ScopeId) (g : Scope) → Passing T keeps dead d i rs → find (has_number i) T.scopes ≡ Some g → g.parent ≡ Some u → u.0 < i → heir (until keeps d i) T.scopes (number_id i) ≡ keeper (stands_home dead) T.scopes (Some u)
+hands_to : (T : Tree) (keeps : Scope → Bool) (dead : List (Option ℕ)) (d : PlaceId) (i : ℕ) (rs : List (Option (Box Record))) (u : ScopeId) (g : Scope) → Passing T keeps dead d i rs → find (has_number i) T.scopes ≡ Some g → g.parent ≡ Some u → u.0 < i → heir (given_until keeps d i) T.scopes (number_id i) ≡ keeper (stands_home dead) T.scopes (Some u)
 hands_to T keeps dead d i rs u g p found parent older =
     let h : ScopeId = number_id i in
-    let K : Scope → Bool = until keeps d i in
+    let K : Scope → Bool = given_until keeps d i in
     let num : g.number.0 ≡ i = number_is i T.scopes g found in
     let off : but h K g ≡ false = ap (λ b. K g && not b) (eq-eqb g.number.0 i num) ∙ and-false (K g) in
     keeper_step T.tasks (but h K) T.next_scope T.scopes h g p.shaped.falls p.shaped.opened found
@@ -154,7 +154,7 @@ hands_to T keeps dead d i rs u g p found parent older =
     ∙ keeper_low T.tasks (but h K) (stands_home dead) T.next_scope i T.scopes (Some u) p.shaped.falls p.shaped.opened older
     (low_all T.scopes)
   where
-    low_all : (gs : List Scope) → Each (λ k. k.number.0 < i → but (number_id i) (until keeps d i) k ≡ stands_home dead k) gs
+    low_all : (gs : List Scope) → Each (λ k. k.number.0 < i → but (number_id i) (given_until keeps d i) k ≡ stands_home dead k) gs
     low_all [] = tt
     low_all (k ∷ ks) = (λ lt. but_low keeps d i (number_id i) k refl lt ∙ sym (p.after k), low_all ks)
 
@@ -182,10 +182,10 @@ hands T keeps dead d i rs u a p e at =
 pub passes_hand : (T : Tree) (keeps : Scope → Bool) (dead : List (Option ℕ)) (d : PlaceId) (i : ℕ) (rs ps qs : List (Option (Box Record))) (u a : ScopeId) (given : Sums) → Passing T keeps dead d i rs → parent_there d (record_at rs i) ≡ Some u → keeper (stands_home dead) T.scopes (Some u) ≡ Some a.0 → IfSome (record_at rs i) (λ r. given ≡ r.sums) → ChangedBy Emptied i rs ps → ChangedBy (Gained given) a.0 ps qs → Passing T keeps dead d (i + 1) qs
 passes_hand T keeps dead d i rs ps qs u a given p e at took emptied gained =
     let h : Hands T keeps d i a.0 rs (number_id i) = hands T keeps dead d i rs u a p e at in
-    let same : Each (λ k. but (number_id i) (until keeps d i) k ≡ until keeps d (i + 1) k) T.scopes = each_more (λ k. k.number.0 ≡ i → k.home.0 == d.0 ≡ true) (λ k. but (number_id i) (until keeps d i) k ≡ until keeps d (i + 1) k) (λ (k : Scope) v. but_next keeps d i (number_id i) k refl v) T.scopes (each_at i T.next_scope (λ k. k.home.0 == d.0 ≡ true) T.scopes p.shaped.falls (λ g found. let f = h.found in let is : h.scope ≡ g = cc in subst (λ (v : Scope). v.home.0 == d.0 ≡ true) is h.home)) in
+    let same : Each (λ k. but (number_id i) (given_until keeps d i) k ≡ given_until keeps d (i + 1) k) T.scopes = each_more (λ k. k.number.0 ≡ i → k.home.0 == d.0 ≡ true) (λ k. but (number_id i) (given_until keeps d i) k ≡ given_until keeps d (i + 1) k) (λ (k : Scope) v. but_next keeps d i (number_id i) k refl v) T.scopes (each_at i T.next_scope (λ k. k.home.0 == d.0 ≡ true) T.scopes p.shaped.falls (λ g found. let f = h.found in let is : h.scope ≡ g = cc in subst (λ (v : Scope). v.home.0 == d.0 ≡ true) is h.home)) in
     next_turn T keeps dead d i rs qs p
-    (all_keeps (but (number_id i) (until keeps d i)) (until keeps d (i + 1)) T.scopes T.tasks qs same (λ n k found. each_found (λ k. but (number_id i) (until keeps d i) k ≡ until keeps d (i + 1) k) (has_number n) T.scopes k same found)
-    (all_hand (until keeps d i) (number_id i) a.0 T.next_scope T.scopes T.tasks rs ps qs given h.scope h.heir_scope p.shaped.falls h.found h.found_heir h.kept h.is_heir took emptied gained p.fit))
+    (all_keeps (but (number_id i) (given_until keeps d i)) (given_until keeps d (i + 1)) T.scopes T.tasks qs same (λ n k found. each_found (λ k. but (number_id i) (given_until keeps d i) k ≡ given_until keeps d (i + 1) k) (has_number n) T.scopes k same found)
+    (all_hand (given_until keeps d i) (number_id i) a.0 T.next_scope T.scopes T.tasks rs ps qs given h.scope h.heir_scope p.shaped.falls h.found h.found_heir h.kept h.is_heir took emptied gained p.fit))
 
 -- there is always an heir
 pub heir_exists : (T : Tree) (keeps : Scope → Bool) (dead : List (Option ℕ)) (d : PlaceId) (i : ℕ) (rs : List (Option (Box Record))) (u : ScopeId) → Passing T keeps dead d i rs → parent_there d (record_at rs i) ≡ Some u → is_some (keeper (stands_home dead) T.scopes (Some u)) ≡ true
@@ -198,7 +198,7 @@ heir_exists T keeps dead d i rs u p e =
 pub pour_ok : (T : Tree) (keeps : Scope → Bool) (dead : List (Option ℕ)) (d : PlaceId) (i : ℕ) (rs ps : List (Option (Box Record))) (u a : ScopeId) (given : Sums) → Passing T keeps dead d i rs → parent_there d (record_at rs i) ≡ Some u → keeper (stands_home dead) T.scopes (Some u) ≡ Some a.0 → IfSome (record_at rs i) (λ r. given ≡ r.sums) → ChangedBy Emptied i rs ps → (a.0 < length ps) × IfSome (record_at ps a.0) (MayGain given)
 pour_ok T keeps dead d i rs ps u a given p e at took emptied =
     let h : Hands T keeps d i a.0 rs (number_id i) = hands T keeps dead d i rs u a p e at in
-    let K : Scope → Bool = until keeps d i in
+    let K : Scope → Bool = given_until keeps d i in
     let n : ℕ = T.next_scope in
     let apart : a.0 ≡ i → ⊥ = λ v. true≢false (sym (ap (is_number i) h.is_heir ∙ eq-eqb a.0 i v) ∙ never_but K (number_id i) T.scopes (Some (number_id i))) in
     let is : is_number a.0 (heir K T.scopes (number_id i)) ≡ true = ap (is_number a.0) h.is_heir ∙ eq-eqb a.0 a.0 refl in

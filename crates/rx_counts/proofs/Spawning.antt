@@ -27,7 +27,7 @@ use Rattle.rx_finish.proofs.Allowed.{Free, spawn_allowed}
 use Rattle.rx_counts.specs.declared.record.Record.{Record}
 use Rattle.rx_counts.specs.declared.ledger.CountLedger.{CountLedger}
 use Rattle.rx_counts.specs.Keeping.{stands_home, keeper, finishes}
-use Rattle.rx_counts.specs.Stands.{slot, in_range, AllFit, Fit, StandsFor, record_at, count_in, more, in_sums, Loses, Changed, ChangedBy}
+use Rattle.rx_counts.specs.Stands.{slot, where_in_range, AllFit, Fit, StandsFor, record_at, count_in, more, in_sums, Loses, Changed, ChangedBy}
 use Rattle.rx_counts.proofs.Asking.{Kept, kept_at_keeper, place_in, tasks_length, unstruck_of}
 use Rattle.rx_counts.proofs.Joining.{all_join, all_lost, slot_below}
 use Rattle.rx_counts.proofs.Arriving.{room}
@@ -41,17 +41,17 @@ is_lost l T to h = ap (λ d. not (is_none (death_blow d to))) h.dead ∙ ((elim 
 abbrev pub start : PlaceId → PlaceId → Where
 start from to = cond (from.0 == to.0) (At to) (Travel from to)
 
-pub start_in : (from to : PlaceId) → from.0 < 16 → to.0 < 16 → in_range (start from to)
-start_in from to a b = elim (from.0 == to.0) as (λ c. in_range (cond c (At to) (Travel from to))) [ true ↦ b | false ↦ (a, b) ]
+pub start_in : (from to : PlaceId) → from.0 < 16 → to.0 < 16 → where_in_range (start from to)
+start_in from to a b = elim (from.0 == to.0) as (λ c. where_in_range (cond c (At to) (Travel from to))) [ true ↦ b | false ↦ (a, b) ]
 
 pub to_low : (T : Tree) (who : Caller) (to : PlaceId) → Sound T → MayAskTo T who to → to.0 < 16
 to_low T who to h may = let a = may.target in let b = h.few in omega arith
 
-from_low : (w : Where) → in_range w → (place_number w).0 < 16
+from_low : (w : Where) → where_in_range w → (place_number w).0 < 16
 from_low (At p) h = h
 from_low (Travel from to) h = h.0
 
-pub started_in : (T : Tree) (who : Caller) (to : PlaceId) → Sound T → MayAskTo T who to → (f : Free T who IsMoving) → in_range (start (place_number who.place) to)
+pub started_in : (T : Tree) (who : Caller) (to : PlaceId) → Sound T → MayAskTo T who to → (f : Free T who IsMoving) → where_in_range (start (place_number who.place) to)
 started_in T who to h may f = start_in (place_number who.place) to (from_low who.place (place_in T who IsMoving h f)) (to_low T who to h may)
 
 pub bear_ok : (T : Tree) (who : Caller) (to : PlaceId) (rs : List (Option (Box Record))) (k : ℕ) (want : Option ScopeId) → Sound T → MayAskTo T who to → (f : Free T who IsMoving) → keeper (stands_home T.dead) T.scopes want ≡ Some k → AllFit (stands_home T.dead) T.scopes T.tasks rs → (k < length rs) × (to.0 < 16) × (slot (start (place_number who.place) to) < 272) × IfSome (record_at rs k) (λ r. (count_in r.sums (slot (start (place_number who.place) to)) + 1 < 2 ^ 32) × (r.sums.total + 1 < 2 ^ 32))
@@ -78,7 +78,7 @@ struck_none T child s from to e =
     ]) e
 
 -- the records with one more
-pub all_born : (T : Tree) (gs : List Scope) (keeps : Scope → Bool) (ts : List Task) (child : TaskId) (s : ScopeId) (from to : PlaceId) (k : ℕ) (rs qs : List (Option (Box Record))) (b : Bool) → b ≡ is_some (death_of T to) → keeper keeps gs (Some s) ≡ Some k → in_range (start from to) → (b ≡ true → ChangedBy (Loses to) k rs qs) → (b ≡ false → Changed (in_sums (more (slot (start from to)))) k rs qs) → AllFit keeps gs ts rs → AllFit keeps gs (born T child s from to ∷ ts) qs
+pub all_born : (T : Tree) (gs : List Scope) (keeps : Scope → Bool) (ts : List Task) (child : TaskId) (s : ScopeId) (from to : PlaceId) (k : ℕ) (rs qs : List (Option (Box Record))) (b : Bool) → b ≡ is_some (death_of T to) → keeper keeps gs (Some s) ≡ Some k → where_in_range (start from to) → (b ≡ true → ChangedBy (Loses to) k rs qs) → (b ≡ false → Changed (in_sums (more (slot (start from to)))) k rs qs) → AllFit keeps gs ts rs → AllFit keeps gs (born T child s from to ∷ ts) qs
 all_born T gs keeps ts child s from to k rs qs true e at within lost joins h =
     let b = struck_by T child s from to (sym e) in
     all_lost keeps gs ts (born T child s from to) b.0 k rs qs at b.1 (subst (λ (p : PlaceId). ChangedBy (Loses p) k rs qs) (sym b.2) (lost refl)) h

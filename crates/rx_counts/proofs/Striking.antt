@@ -23,7 +23,7 @@ use Rattle.rx_counts.specs.declared.record.Sums.{Sums}
 use Rattle.rx_counts.specs.declared.record.Record.{Record}
 use Rattle.rx_counts.specs.Keeping.{keeper, is_number, kept_at, same_where, count_of, total_of}
 use Rattle.rx_rules.specs.Counts.{has_number}
-use Rattle.rx_counts.specs.Stands.{slot, in_range, ShapeOf, SumsOf, RecordOf, Both, AllFit, Pairs, record_at, count_in, in_sums}
+use Rattle.rx_counts.specs.Stands.{slot, where_in_range, ShapeOf, SumsOf, RecordOf, Both, AllFit, Pairs, record_at, count_in, in_sums}
 use Rattle.rx_counts.specs.Inside.Dying.{hits_cell, hit_sum, hits, Strikes, StrikesRecord, MayHit}
 use Rattle.rx_counts.specs.Inside.Freeing.{unslot}
 use Rattle.rx_counts.proofs.Counting.{one, count_same, count_none, count_split, count_map, any_map, any_counted}
@@ -95,7 +95,7 @@ any_lost : {X : Type 0} (a c k : X → Bool) (e : Bool) (xs : List X) → list_a
 any_lost {X = X} a c k true xs = any_same (λ x. (a x || (c x && true)) && k x) (λ x. (a x || c x) && k x) xs (each_all _ (λ (x : X). ap (λ v. (a x || v) && k x) (and-true (c x))) xs) ∙ any_either a c k xs ∙ ap (λ v. list_any (λ x. a x && k x) xs || v) (sym (and-true (list_any (λ x. c x && k x) xs)))
 any_lost {X = X} a c k false xs = any_same (λ x. (a x || (c x && false)) && k x) (λ x. a x && k x) xs (each_all _ (λ (x : X). ap (λ v. (a x || v) && k x) (and-false (c x)) ∙ ap (λ v. v && k x) (sym (same-or-false (a x)))) xs) ∙ same-or-false (list_any (λ x. a x && k x) xs) ∙ ap (λ v. list_any (λ x. a x && k x) xs || v) (sym (and-false (list_any (λ x. c x && k x) xs)))
 
-pub hits_slot : (d : PlaceId) (w : Where) → in_range w → hits_cell d.0 (slot w) ≡ is_hit d w
+pub hits_slot : (d : PlaceId) (w : Where) → where_in_range w → hits_cell d.0 (slot w) ≡ is_hit d w
 hits_slot d (At p) h = rw (lt-ltb p.0 16 h)
 hits_slot d (Travel f t) h =
     let a : f.0 < 16 = h.0 in
@@ -123,7 +123,7 @@ cell_else c true false k b = omega arith
 cell_else c false u k b = omega arith
 
 -- one more cell
-next_cell : (d : PlaceId) (u k : Bool) (v : Where) (n : ℕ) → n < 272 → in_range v → one (((u && is_hit d v) && k) && ltb (slot v) (suc n)) ≡ one (((u && is_hit d v) && k) && ltb (slot v) n) + one (hits_cell d.0 n && ((u && same_where (unslot n) v) && k))
+next_cell : (d : PlaceId) (u k : Bool) (v : Where) (n : ℕ) → n < 272 → where_in_range v → one (((u && is_hit d v) && k) && ltb (slot v) (suc n)) ≡ one (((u && is_hit d v) && k) && ltb (slot v) n) + one (hits_cell d.0 n && ((u && same_where (unslot n) v) && k))
 next_cell d u k v n low in_v =
     ⊎_elim
     (λ (e : slot v ≡ n).
@@ -143,13 +143,13 @@ count_if : (b : Bool) (p : Task → Bool) (ts : List Task) → count_by (λ x. b
 count_if true p ts = refl
 count_if false p ts = count_none (λ x. false) ts (each_all _ (λ (x : Task). refl) ts)
 
-sum_cells : (d : PlaceId) (keeps : Scope → Bool) (gs : List Scope) (ts : List Task) (q : Sums) (m n : ℕ) → Each (λ x. in_range x.place) ts → SumsOf keeps gs ts q m → n ≤ 272 → hit_sum d.0 q.counts n ≡ count_by (λ x. ((is_none x.struck && is_hit d x.place) && kept_at keeps gs m x) && ltb (slot x.place) n) ts
+sum_cells : (d : PlaceId) (keeps : Scope → Bool) (gs : List Scope) (ts : List Task) (q : Sums) (m n : ℕ) → Each (λ x. where_in_range x.place) ts → SumsOf keeps gs ts q m → n ≤ 272 → hit_sum d.0 q.counts n ≡ count_by (λ x. ((is_none x.struck && is_hit d x.place) && kept_at keeps gs m x) && ltb (slot x.place) n) ts
 sum_cells d keeps gs ts q m zero within h le = sym (count_none (λ x. ((is_none x.struck && is_hit d x.place) && kept_at keeps gs m x) && ltb (slot x.place) 0) ts (each_all _ (λ (x : Task). ap (λ b. ((is_none x.struck && is_hit d x.place) && kept_at keeps gs m x) && b) (le-ltb (slot x.place) 0 (omega arith)) ∙ and-false ((is_none x.struck && is_hit d x.place) && kept_at keeps gs m x)) ts))
 sum_cells d keeps gs ts q m (suc n) within h le =
     let a = sum_cells d keeps gs ts q m n within h (omega arith) in
     let c : slice_index_or q.counts n 0 ≡ count_of keeps gs ts m (unslot n) = ap (λ i. slice_index_or q.counts i 0) (sym (slot_of_unslot n)) ∙ h.counts (unslot n) (unslot_in n (omega arith)) in
     let s = count_split (λ x. ((is_none x.struck && is_hit d x.place) && kept_at keeps gs m x) && ltb (slot x.place) (suc n)) (λ x. ((is_none x.struck && is_hit d x.place) && kept_at keeps gs m x) && ltb (slot x.place) n) (λ x. hits_cell d.0 n && ((is_none x.struck && same_where (unslot n) x.place) && kept_at keeps gs m x)) ts
-    (each_more (λ x. in_range x.place) _ (λ (x : Task) in_x. next_cell d (is_none x.struck) (kept_at keeps gs m x) x.place n (omega arith) in_x) ts within) in
+    (each_more (λ x. where_in_range x.place) _ (λ (x : Task) in_x. next_cell d (is_none x.struck) (kept_at keeps gs m x) x.place n (omega arith) in_x) ts within) in
     let f = count_if (hits_cell d.0 n) (λ x. (is_none x.struck && same_where (unslot n) x.place) && kept_at keeps gs m x) ts in
     let e : cond (hits_cell d.0 n) (slice_index_or q.counts n 0) 0 ≡ cond (hits_cell d.0 n) (count_of keeps gs ts m (unslot n)) 0 = ap (λ v. cond (hits_cell d.0 n) v 0) c in
     omega arith
@@ -158,12 +158,12 @@ sum_cells d keeps gs ts q m (suc n) within h le =
 abbrev pub struck_count : PlaceId → (Scope → Bool) → List Scope → List Task → ℕ → ℕ
 struck_count d keeps gs ts m = count_by (λ x. (is_none x.struck && is_hit d x.place) && kept_at keeps gs m x) ts
 
-pub hits_are : (d : PlaceId) (keeps : Scope → Bool) (gs : List Scope) (ts : List Task) (q : Sums) (m : ℕ) → Each (λ x. in_range x.place) ts → SumsOf keeps gs ts q m → hits d.0 q.counts ≡ struck_count d keeps gs ts m
+pub hits_are : (d : PlaceId) (keeps : Scope → Bool) (gs : List Scope) (ts : List Task) (q : Sums) (m : ℕ) → Each (λ x. where_in_range x.place) ts → SumsOf keeps gs ts q m → hits d.0 q.counts ≡ struck_count d keeps gs ts m
 hits_are d keeps gs ts q m within h =
     let len : length q.counts ≡ 272 = h.cells in
     sum_cells d keeps gs ts q m (length q.counts) within h (omega arith)
     ∙ count_same (λ x. ((is_none x.struck && is_hit d x.place) && kept_at keeps gs m x) && ltb (slot x.place) (length q.counts)) (λ x. (is_none x.struck && is_hit d x.place) && kept_at keeps gs m x) ts
-    (each_more (λ x. in_range x.place) _ (λ (x : Task) in_x. ap (λ b. ((is_none x.struck && is_hit d x.place) && kept_at keeps gs m x) && b) (lt-ltb (slot x.place) (length q.counts) (let low = slot_below x.place in_x in omega arith)) ∙ and-true ((is_none x.struck && is_hit d x.place) && kept_at keeps gs m x)) ts within)
+    (each_more (λ x. where_in_range x.place) _ (λ (x : Task) in_x. ap (λ b. ((is_none x.struck && is_hit d x.place) && kept_at keeps gs m x) && b) (lt-ltb (slot x.place) (length q.counts) (let low = slot_below x.place in_x in omega arith)) ∙ and-true ((is_none x.struck && is_hit d x.place) && kept_at keeps gs m x)) ts within)
 
 -- Totals.
 
@@ -188,7 +188,7 @@ total_strike b keeps gs ts m =
 
 -- The strike of sums, of a record, and of all.
 
-pub sums_strike : (b : Blow) (keeps : Scope → Bool) (gs : List Scope) (ts : List Task) (r q : Sums) (m : ℕ) → Each (λ x. in_range x.place) ts → Strikes b.place r q → SumsOf keeps gs ts r m → SumsOf keeps gs (map (hit b) ts) q m
+pub sums_strike : (b : Blow) (keeps : Scope → Bool) (gs : List Scope) (ts : List Task) (r q : Sums) (m : ℕ) → Each (λ x. where_in_range x.place) ts → Strikes b.place r q → SumsOf keeps gs ts r m → SumsOf keeps gs (map (hit b) ts) q m
 sums_strike b keeps gs ts r q m within s h =
     record {
       cells = s.cells ∙ h.cells;
@@ -213,7 +213,7 @@ sums_strike b keeps gs ts r q m within s h =
           ∙ sym (any_map (λ x. was_lost_at p x && kept_at keeps gs m x) (hit b) ts);
     }
 
-pub all_strike : (b : Blow) (keeps : Scope → Bool) (gs : List Scope) (ts : List Task) (rs qs : List (Option (Box Record))) → Each (λ x. in_range x.place) ts → ((n : ℕ) → Pairs (StrikesRecord b.place) (record_at rs n) (record_at qs n)) → AllFit keeps gs ts rs → AllFit keeps gs (map (hit b) ts) qs
+pub all_strike : (b : Blow) (keeps : Scope → Bool) (gs : List Scope) (ts : List Task) (rs qs : List (Option (Box Record))) → Each (λ x. where_in_range x.place) ts → ((n : ℕ) → Pairs (StrikesRecord b.place) (record_at rs n) (record_at qs n)) → AllFit keeps gs ts rs → AllFit keeps gs (map (hit b) ts) qs
 all_strike b keeps gs ts rs qs within s h n =
     both_pairs (RecordOf keeps gs ts) (RecordOf keeps gs (map (hit b) ts)) (StrikesRecord b.place) (record_at rs n) (record_at qs n) (find (has_number n) gs)
     (λ r q g found k a.
@@ -226,7 +226,7 @@ all_strike b keeps gs ts rs qs within s h n =
     (s n) (h n)
 
 -- no cell that is hit is above the total
-pub may_hit : (d : PlaceId) (keeps : Scope → Bool) (gs : List Scope) (ts : List Task) (rs : List (Option (Box Record))) → Each (λ x. in_range x.place) ts → AllFit keeps gs ts rs → (n : ℕ) → IfSome (record_at rs n) (MayHit d)
+pub may_hit : (d : PlaceId) (keeps : Scope → Bool) (gs : List Scope) (ts : List Task) (rs : List (Option (Box Record))) → Each (λ x. where_in_range x.place) ts → AllFit keeps gs ts rs → (n : ℕ) → IfSome (record_at rs n) (MayHit d)
 may_hit d keeps gs ts rs within h n = may_in (record_at rs n) (find (has_number n) gs) (h n)
   where
     may_in : (o : Option Record) (g : Option Scope) → Both (RecordOf keeps gs ts) o g → IfSome o (MayHit d)

@@ -18,7 +18,7 @@ use Rattle.rx_sound.specs.Blows.{death_blow, blow_at}
 use Rattle.rx_sound.specs.Chains.{meets, Falls}
 use Rattle.rx_counts.specs.Inside.Freeing.{unslot}
 use Rattle.rx_counts.specs.Keeping.{stands_home, keeper, is_number, kept_at, same_where, total_of}
-use Rattle.rx_counts.specs.Stands.{slot, in_range}
+use Rattle.rx_counts.specs.Stands.{slot, where_in_range}
 use Rattle.rx_sound.specs.Sound.{Each, TaskFits, Sound, Inside}
 use Rattle.rx_sound.proofs.Changes.{each_found, each_more}
 use Rattle.rx_counts.proofs.Counting.{count_none, none_counted}
@@ -45,9 +45,9 @@ slot_of_unslot i =
       | false ↦ λ e. let h : 16 ≤ i = ltb-false i 16 e in omega arith
     ]) refl
 
-pub unslot_in : (i : ℕ) → i < 272 → in_range (unslot i)
+pub unslot_in : (i : ℕ) → i < 272 → where_in_range (unslot i)
 unslot_in i lt =
-    (elim (ltb i 16) as (λ b. ltb i 16 ≡ b → in_range (cond b (At (record { 0 = i })) (Travel (record { 0 = (i - 16) / 16 }) (record { 0 = (i - 16) % 16 })))) [
+    (elim (ltb i 16) as (λ b. ltb i 16 ≡ b → where_in_range (cond b (At (record { 0 = i })) (Travel (record { 0 = (i - 16) / 16 }) (record { 0 = (i - 16) % 16 })))) [
       | true ↦ λ e. ltb-true i 16 e
       | false ↦ λ e. let h : 16 ≤ i = ltb-false i 16 e in (omega arith, omega arith)
     ]) refl
@@ -56,7 +56,7 @@ pub same_self : (w : Where) → same_where w w ≡ true
 same_self (At p) = eq-eqb p.0 p.0 refl
 same_self (Travel p r) = and_from (p.0 == p.0) (r.0 == r.0) (eq-eqb p.0 p.0 refl) (eq-eqb r.0 r.0 refl)
 
-pub within_range : (n : ℕ) (w : Where) → n ≤ 16 → Inside n w → in_range w
+pub within_range : (n : ℕ) (w : Where) → n ≤ 16 → Inside n w → where_in_range w
 within_range n (At p) le h = omega arith
 within_range n (Travel p r) le h = (let a : p.0 < n = h.0 in omega arith, let a : r.0 < n = h.1 in omega arith)
 

@@ -26,9 +26,9 @@ abbrev pub slot : Where → ℕ
 slot (At p) = p.0
 slot (Travel from to) = 16 + 16 * from.0 + to.0
 
-abbrev pub in_range : Where → Type 0
-in_range (At p) = p.0 < 16
-in_range (Travel from to) = (from.0 < 16) × (to.0 < 16)
+abbrev pub where_in_range : Where → Type 0
+where_in_range (At p) = p.0 < 16
+where_in_range (Travel from to) = (from.0 < 16) × (to.0 < 16)
 
 -- what a record says of the scope itself
 pub record ShapeOf (gs : List Scope) (r : Record) (g : Scope) : Type 0 where
@@ -39,7 +39,7 @@ pub record ShapeOf (gs : List Scope) (r : Record) (g : Scope) : Type 0 where
 
 -- the sums of scope n, where keeps says which scopes keep counts
 pub record SumsOf (keeps : Scope → Bool) (gs : List Scope) (ts : List Task) (q : Sums) (n : ℕ) : Type 0 where
-  pub counts : (w : Where) → in_range w → slice_index_or q.counts (slot w) 0 ≡ count_of keeps gs ts n w
+  pub counts : (w : Where) → where_in_range w → slice_index_or q.counts (slot w) 0 ≡ count_of keeps gs ts n w
   pub cells : length q.counts ≡ 272
   pub total : q.total ≡ total_of keeps gs ts n
   pub orphans : q.orphans ≡ orphans_of keeps gs n

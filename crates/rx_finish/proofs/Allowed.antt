@@ -17,16 +17,16 @@ use Rattle.rx_rules.specs.Tree.{Tree, is_task, task_of, own_scope, inner, govern
 use Rattle.rx_rules.specs.Entries.{place_number, Acts, IsLive, AllowedAct, MayPrint, Names}
 use Rattle.rx_rules.specs.Reached.{Reached}
 use Rattle.rx_finish.specs.declared.ledger.Caller.{Caller}
-use Rattle.rx_finish.specs.Callers.{MayAsk, Stands, HasLeft, IsMoving, Travels, does_travel, HasFinish, WaitsInside, IsBare, MayAskMoving, MayAskTo, MayAskArrive, MayAskWait, MayAskRelease, MayAskEnd}
+use Rattle.rx_finish.specs.Callers.{MayAsk, CallerStands, HasLeft, IsMoving, Travels, does_travel, HasFinish, WaitsInside, IsBare, MayAskMoving, MayAskTo, MayAskArrive, MayAskWait, MayAskRelease, MayAskEnd}
 use Rattle.rx_finish.specs.Calls.{IsUnstruck, blow_of, landing}
 use Rattle.rx_finish.proofs.Gone.{left_struck}
 
 -- an unstruck caller stands in the tree
 pub record Free (T : Tree) (who : Caller) (P : Task → Type 0) : Type 0 where
-  pub at : Stands T who P
+  pub at : CallerStands T who P
   pub acts : Acts T who.task at.task
 
-free_at : (T : Tree) (who : Caller) (P : Task → Type 0) → Reached T → IsUnstruck T who → Stands T who P ⊎ HasLeft T who → Free T who P
+free_at : (T : Tree) (who : Caller) (P : Task → Type 0) → Reached T → IsUnstruck T who → CallerStands T who P ⊎ HasLeft T who → Free T who P
 free_at T who P r u (inl h) = record { at = h; acts = record { stands = h.stands; unstruck = rw (h.stands, blow_of) at u } }
 free_at T who P r u (inr h) =
     let free : h.task.struck ≡ None = rw (h.none, h.gone, blow_of) at u in

@@ -16,7 +16,7 @@ use Rattle.rx_sound.specs.Blows.{blow_at}
 use Rattle.rx_sound.specs.Sound.{TaskFits, LeftFits, Sound}
 use Rattle.rx_sound.proofs.Changes.{each_found}
 use Rattle.rx_finish.specs.declared.ledger.Caller.{Caller}
-use Rattle.rx_finish.specs.Callers.{gone_of, Stands, HasLeft}
+use Rattle.rx_finish.specs.Callers.{gone_of, CallerStands, HasLeft}
 use Rattle.rx_finish.specs.Calls.{blow_of}
 
 abbrev pub all_struck : List Task → Bool
@@ -78,6 +78,6 @@ pub left_struck : (T : Tree) (t : TaskId) (x : Task) → Reached T → gone_of T
 left_struck T t x r h = found_struck t x T.gone h (gone_struck r)
 
 -- the death that struck a caller is found from its place
-pub blow_known : (T : Tree) (who : Caller) (P : Task → Type 0) → Sound T → Stands T who P ⊎ HasLeft T who → blow_of T who.task ≡ blow_at T.dead who.place
+pub blow_known : (T : Tree) (who : Caller) (P : Task → Type 0) → Sound T → CallerStands T who P ⊎ HasLeft T who → blow_of T who.task ≡ blow_at T.dead who.place
 blow_known T who P h (inl c) = rw (c.stands, blow_of) ((each_found (TaskFits T.dead T.places T.scopes) (is_task who.task) T.tasks c.task h.tasks c.stands).struck ∙ ap (blow_at T.dead) c.says.place)
 blow_known T who P h (inr c) = rw (c.none, blow_of, c.gone) ((each_found (LeftFits T.dead) (is_task who.task) T.gone c.task h.gone c.gone).struck ∙ ap (blow_at T.dead) c.says.place)

@@ -19,7 +19,7 @@ pub record Says (who : Caller) (x : Task) : Type 0 where
   pub place : x.place ≡ who.place
 
 -- the caller is a task of the tree as it says, struck or not, and P holds of it
-pub record Stands (T : Tree) (who : Caller) (P : Task → Type 0) : Type 0 where
+pub record CallerStands (T : Tree) (who : Caller) (P : Task → Type 0) : Type 0 where
   pub task : Task
   pub stands : task_of T who.task ≡ Some task
   pub says : Says who task
@@ -44,7 +44,7 @@ pub record HasNumbers (T : Tree) : Type 0 where
 
 -- The caller stands in the tree as it says, or has left it with a release; and the numbers suffice. P says where the call is allowed.
 pub record MayAsk (T : Tree) (who : Caller) (P : Task → Type 0) : Type 0 where
-  pub caller : Stands T who P ⊎ HasLeft T who
+  pub caller : CallerStands T who P ⊎ HasLeft T who
   pub numbers : HasNumbers T
 
 -- Where the calls are allowed.

@@ -4,7 +4,7 @@ use Rattle.std.proofs.Common.{arith}
 use Rattle.std.proofs.Math.Nat.{mod-le}
 use Rattle.rx_token.specs.Lexical.{most}
 use Rattle.rx_nodes.specs.Grammar.{spellings, Fits, AllFit, IsScriptOf}
-use Rattle.rx_token.specs.Tokens.{InOrder, AreNames}
+use Rattle.rx_token.specs.Tokens.{NamesInOrder, AreNames}
 use Rattle.rx_token.specs.Texts.{AreSpelled}
 use Rattle.rx_script.specs.Writing.{script_text, WrittenReadsBack}
 use Rattle.rx_gen.specs.Lines.{line, lines_from, lines}
@@ -16,7 +16,7 @@ all-fit : (q i n : ℕ) → AllFit (lines_from q i n)
 all-fit q i zero = tt
 all-fit q i (suc n) = (line-fits q i, all-fit q (i + 1) n)
 
-in-order : (q i n : ℕ) → InOrder 0 (spellings (lines_from q i n)) 0
+in-order : (q i n : ℕ) → NamesInOrder 0 (spellings (lines_from q i n)) 0
 in-order q i zero = refl
 in-order q i (suc n) = in-order q (i + 1) n
 

@@ -3,13 +3,13 @@ use Rattle.std.specs.Prelude.{ℕ, ◌+◌, ◌%◌, zero, suc, pos, true}
 use Rattle.rx_rules.specs.Code.{Num, Stmt, Print, AtAsync, Finish, Try, Block, Nothing, Then}
 
 -- a block of one statement
-abbrev pub only : Stmt → Block
-only t = Then t Nothing
+abbrev pub one_statement : Stmt → Block
+one_statement t = Then t Nothing
 
 -- line i over q places: `try { finish { at A async { at B async { print I; } } } } catch dead { }`
 abbrev pub line : ℕ → ℕ → Stmt
-line q i = Try (only (Finish (only (AtAsync (Num (pos (i % q)))
-    (only (AtAsync (Num (pos ((i + 1) % q))) (only (Print (Num (pos i)))))))))) true Nothing
+line q i = Try (one_statement (Finish (one_statement (AtAsync (Num (pos (i % q)))
+    (one_statement (AtAsync (Num (pos ((i + 1) % q))) (one_statement (Print (Num (pos i)))))))))) true Nothing
 
 -- the n lines from line i on
 abbrev pub lines_from : ℕ → ℕ → ℕ → Block

@@ -3,7 +3,7 @@ use Rattle.std.proofs.Common.{◌≡◌, ◌≢◌, ℕ, ◌+◌, ◌-◌, ◌*�
 use Rattle.std.specs.Prelude.{All, slice_index}
 use Rattle.std.proofs.lemmas.Bool.{cases_lt, cases_eq}
 use Rattle.rx_heap.specs.declared.block.Hole.{Hole}
-use Rattle.rx_heap.specs.Region.{Region, Extent, IsLive, InHole, LieApart, IsLaid, IsFree, IsLeastFree}
+use Rattle.rx_heap.specs.Region.{Region, Extent, IsLiveExtent, InHole, LieApart, IsLaid, IsFree, IsLeastFree}
 use Rattle.rx_heap.specs.Inside.HoleEdits.{Cuts, Joins, HasRoom}
 use Rattle.rx_heap.proofs.HoleLists.{InHole-below, run_in_hole, run_not_short, run_begins}
 use Rattle.rx_heap.proofs.Cutting.{split_at}
@@ -82,7 +82,7 @@ laid_take R words holes s n l some c same =
       ];
     }
 
-pub laid_give : (R : Region) (holes : List Hole) (b : Extent) → IsLaid R → IsLive R b → Joins R.holes holes b.start b.len → IsLaid (record { words = R.words; holes = holes; lengths = set R.lengths b.start 0 })
+pub laid_give : (R : Region) (holes : List Hole) (b : Extent) → IsLaid R → IsLiveExtent R b → Joins R.holes holes b.start b.len → IsLaid (record { words = R.words; holes = holes; lengths = set R.lengths b.start 0 })
 laid_give R holes b l live c =
     let s = b.start in
     let n = b.len in
@@ -129,7 +129,7 @@ laid_give R holes b l live c =
     }
 
 -- a live block has room to be given back
-pub give_has_room : (R : Region) (capacity : ℕ) (b : Extent) → IsLaid R → length R.words < 2 ^ 32 → length R.words < 2 * capacity → IsLive R b → HasRoom (length R.words) R.holes capacity b.start b.len
+pub give_has_room : (R : Region) (capacity : ℕ) (b : Extent) → IsLaid R → length R.words < 2 ^ 32 → length R.words < 2 * capacity → IsLiveExtent R b → HasRoom (length R.words) R.holes capacity b.start b.len
 give_has_room R capacity b l small room live =
     let there = live.there in
     let some = live.some in

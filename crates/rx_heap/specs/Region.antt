@@ -14,7 +14,7 @@ pub record Extent : Type 0 where
   pub len : ℕ
 
 -- the block is live in this heap
-pub record IsLive (R : Region) (b : Extent) : Type 0 where
+pub record IsLiveExtent (R : Region) (b : Extent) : Type 0 where
   pub some : 0 < b.len
   pub there : slice_index R.lengths b.start ≡ b.len
 

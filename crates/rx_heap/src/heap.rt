@@ -1,7 +1,7 @@
 // The heap.
 ghost use Rattle.std.specs.Prelude.{◌≡◌, ℕ, ◌+◌, ◌<◌, ◌≤◌, ◌++◌, ◌↔◌, pos, [], ◌∷◌, All, IfOk, IsErr, OnErr, length, take, drop};
 ghost use Rattle.std.specs.Prelude.{replicate, slice_get, slice_set};
-ghost use Rattle.rx_heap.specs.Region.{IsLive, IsFree, IsLeastFree, IsLaid};
+ghost use Rattle.rx_heap.specs.Region.{IsLiveExtent, IsFree, IsLeastFree, IsLaid};
 
 use crate::holes::{cut, fitting, put};
 use crate::{Block, Full, Hole};
@@ -77,7 +77,7 @@ impl Heap {
 
     /// Gives a live block back, and merges it with the holes beside it. It takes no memory.
     pub fn give(&mut self, b: Block)
-        requires { IsLive self.old b }
+        requires { IsLiveExtent self.old b }
         ensures words { self.new.words ≡ self.old.words }
         ensures gone { self.new.lengths ≡ slice_set self.old.lengths b.start 0 }
         ensures laid { IsLaid self.new }
@@ -89,7 +89,7 @@ impl Heap {
 
     /// Word i of a live block.
     pub fn read(&self, b: &Block, i: u32) -> i64
-        requires live { IsLive self.now b.now }
+        requires live { IsLiveExtent self.now b.now }
         requires within { i < b.now.len }
         ensures { slice_get self.now.words (b.now.start + i) ≡ Some result }
     {
@@ -98,7 +98,7 @@ impl Heap {
 
     /// Makes a number word i of a live block.
     pub fn write(&mut self, b: &Block, i: u32, v: i64)
-        requires live { IsLive self.old b.now }
+        requires live { IsLiveExtent self.old b.now }
         requires within { i < b.now.len }
         ensures word { self.new ≡ record self.old { words = slice_set self.old.words (b.now.start + i) v } }
         ensures laid { IsLaid self.new }

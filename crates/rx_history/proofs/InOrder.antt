@@ -5,7 +5,7 @@ use Rattle.std.proofs.lemmas.Bool.Decides.{nat_tests}
 use Rattle.rx_base.specs.declared.ids.Kill.{Kill}
 use Rattle.rx_rules.specs.Run.{ComesAfter, Ascends}
 use Rattle.rx_rules.proofs.Kills.{further}
-use Rattle.rx_history.specs.KillOrder.{IsAscending, is_before, InOrder, OneOrder}
+use Rattle.rx_history.specs.KillOrder.{IsAscending, is_before, OrderedKills, OneOrder}
 
 -- the test tells which kill comes after which
 before-after : (a b : Kill) → is_before a b ≡ true → ComesAfter a b
@@ -111,7 +111,7 @@ put k (x ∷ xs) up = by (which-after k x) (put k xs (ascending-rest x xs up))
     }
 
 -- any kills in order
-pub in_order : (named : List Kill) → InOrder named
+pub in_order : (named : List Kill) → OrderedKills named
 in_order [] = record { kills = []; ascending = tt; all = λ k c. c; only = λ k c. c }
 in_order (x ∷ xs) =
     let rest = in_order xs in

@@ -19,8 +19,8 @@ abbrev pub is_before : Kill → Kill → Bool
 is_before a b = nat_lt a.moment b.moment || (a.moment == b.moment && nat_lt a.place.0 b.place.0)
 
 -- The named kills in order: these kills and no others, each after the one before it. There is such a list for each list of named
--- kills, `in_order` of proofs/InOrder.antt, and no second one.
-pub record InOrder (named : List Kill) : Type 0 where
+-- kills, `in_order` of proofs/OrderedKills.antt, and no second one.
+pub record OrderedKills (named : List Kill) : Type 0 where
   pub kills : List Kill
   pub ascending : IsAscending kills
   pub all : (k : Kill) → Contains named k → Contains kills k
@@ -28,4 +28,4 @@ pub record InOrder (named : List Kill) : Type 0 where
 
 -- two such lists are one
 abbrev pub OneOrder : Type 0
-OneOrder = (named : List Kill) (a b : InOrder named) → a.kills ≡ b.kills
+OneOrder = (named : List Kill) (a b : OrderedKills named) → a.kills ≡ b.kills

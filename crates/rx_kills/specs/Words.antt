@@ -8,8 +8,8 @@ abbrev pub kill_text : Kill → List ℕ
 kill_text kill = natural_text kill.place.0 ++ 64 ∷ natural_text kill.moment
 
 -- two numbers with `@` between them
-abbrev pub joined : ℤ → ℤ → List ℕ
-joined m n = number_text m ++ 64 ∷ number_text n
+abbrev pub with_sign : ℤ → ℤ → List ℕ
+with_sign m n = number_text m ++ 64 ∷ number_text n
 
 -- the bytes are the text of the kill, and its place and its moment are in their ranges
 pub record IsKillWord (bytes : List ℕ) (kill : Kill) : Type 0 where

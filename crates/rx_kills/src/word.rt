@@ -2,7 +2,7 @@
 ghost use Rattle.std.specs.Prelude.{◌≡◌, ℤ, Some, FitsSigned, IfSome};
 ghost use Rattle.std.specs.Int.{w64};
 ghost use Rattle.rx_base.specs.declared.ids.Kill.{Kill};
-ghost use Rattle.rx_kills.specs.Words.{IsKillWord, joined};
+ghost use Rattle.rx_kills.specs.Words.{IsKillWord, with_sign};
 
 use rx_base::{Kill, PlaceId};
 use rx_text::scan_num;
@@ -25,8 +25,8 @@ pub fn read_kill(word: &[u8]) -> Option<Kill>
 
 // The two numbers on both sides of the sign `@`.
 fn numbers_of(word: &[u8]) -> Option<(i64, i64)>
-    ensures spelled { IfSome result (λ x. word.now ≡ joined x.0 x.1) }
-    ensures exact { (m n : ℤ) → FitsSigned w64 m → FitsSigned w64 n → word.now ≡ joined m n → result ≡ Some (m, n) }
+    ensures spelled { IfSome result (λ x. word.now ≡ with_sign x.0 x.1) }
+    ensures exact { (m n : ℤ) → FitsSigned w64 m → FitsSigned w64 n → word.now ≡ with_sign m n → result ≡ Some (m, n) }
 {
     let (first, at) = scan_num(word, 0)?;
     if at == word.len() || word[at] != b'@' {

@@ -19,7 +19,7 @@ use Rattle.rx_rules.specs.Entries.{Allowed, AllowedAct, made}
 use Rattle.rx_rules.specs.Fold.{births_of}
 use Rattle.rx_rules.specs.Run.{Given, IsRun}
 use Rattle.rx_rules.specs.Order.{InOrder, told}
-use Rattle.rx_rules.specs.Laws.{has, walk, links, born_so_far}
+use Rattle.rx_rules.specs.Laws.{is_on, walk, links, born_so_far}
 use Rattle.rx_rules.proofs.Numbers.{next-made}
 use Rattle.rx_laws.proofs.Lines.{bones}
 use Rattle.rx_laws.proofs.Losses.{is_off}
@@ -113,8 +113,8 @@ module _ (code : Block) (starts : List (Term × Vars)) (q n : ℕ) (past : List 
         single = single-kept code starts q past T t act batch told f i s sd a low lives k;
         grow = grow-kept code starts q past T t act batch told f i s sd a low lives k;
         kind = kind-kept code starts q past T t act batch told f i s sd a low lives k;
-        under = λ c h x u at w l o r on other. set_case (λ v. LiesIn v x u → has r (walk (links (Step t act batch ∷ past)) (under_in (born_so_far (Step t act batch ∷ past)) c)) ≡ true) T.next_task c (sd.child d e).term (set_at t.0 sd.after f)
-            (λ b j. subst (λ v. has r (walk (links (Step t act batch ∷ past)) (under_in (born_so_far (Step t act batch ∷ past)) v)) ≡ true) b
+        under = λ c h x u at w l o r on other. set_case (λ v. LiesIn v x u → is_on r (walk (links (Step t act batch ∷ past)) (under_in (born_so_far (Step t act batch ∷ past)) c)) ≡ true) T.next_task c (sd.child d e).term (set_at t.0 sd.after f)
+            (λ b j. subst (λ v. is_on r (walk (links (Step t act batch ∷ past)) (under_in (born_so_far (Step t act batch ∷ past)) v)) ≡ true) b
             (child-under code starts q past T t act batch told f i s sd a low lives k d e (hangs q past T i t act batch a (k.own t.0 (inr lives)) d e) x u at w j o r on))
             (λ b j. under-kept code starts q past T t act batch told f i s sd a low lives k c (was c h b) x u at w j o r on other) l;
       }
@@ -138,7 +138,7 @@ module _ (code : Block) (q n : ℕ) (past : List Entry) (T : Tree) (f : ℕ → 
         all_open = λ c hc h x u at w l. let o = k.all_open c hc (was c h) x u at w l in record { opener = o.opener; is_open = o.is_open };
         own = λ c h.
             ap (own_nums c) (cores-without T the_root) ∙ own-filter (is_off (bones T) 0) c (cores T) ∙ ap (filter (is_off (bones T) 0)) (k.own c (known c h))
-            ∙ stays-own code q past T f i k s.none_open the_root a.0.is_quiet c (known c h) (false_from_ne_true (has 0 (nums_of (opened past c))) (λ g. let o = nums-on 0 (opened past c) g in let b : 0 < 0 = (k.below c 0 o.0 o.1).0 in omega arith));
+            ∙ stays-own code q past T f i k s.none_open the_root a.0.is_quiet c (known c h) (false_from_ne_true (is_on 0 (nums_of (opened past c))) (λ g. let o = nums-on 0 (opened past c) g in let b : 0 < 0 = (k.below c 0 o.0 o.1).0 in omega arith));
         linked = λ c h. k.linked c (was c h);
         below = k.below;
         single = k.single;

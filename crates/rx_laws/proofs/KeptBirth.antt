@@ -1,4 +1,4 @@
--- A task that is born hangs under each scope of another task in whose statement it has an item.
+-- A task that is born hangs under each scope of another task in whose statement it is_on an item.
 use Rattle.std.specs.Prelude.{◌≡◌, ℕ, ◌<◌, ◌≤◌, true, ◌==◌, List, [], ◌∷◌, ◌++◌, Some, None, refl}
 use Rattle.std.proofs.Common.{ap, sym, subst, ◌∙◌, arith, inl, inr, append_assoc, append-nil}
 use Rattle.std.proofs.lemmas.Bool.{eq-eqb, or_left, or_right, cases_eq, true≢false}
@@ -15,7 +15,7 @@ use Rattle.rx_rules.specs.Plays.{started_by}
 use Rattle.rx_rules.specs.Tree.{Tree}
 use Rattle.rx_rules.specs.Entries.{AllowedAct}
 use Rattle.rx_rules.specs.Order.{own_path, is_kept}
-use Rattle.rx_rules.specs.Laws.{has, walk, links, born_so_far}
+use Rattle.rx_rules.specs.Laws.{is_on, walk, links, born_so_far}
 use Rattle.rx_laws.proofs.Straight.{code_at, stmt_at, is_waiter}
 use Rattle.rx_laws.proofs.Paths.{starts-same}
 use Rattle.rx_laws.proofs.Lines.{bones, nums, line}
@@ -40,7 +40,7 @@ use Rattle.rx_laws.proofs.KeptStep.{none_some, same_number, fresh-path}
 -- where a task that an act starts hangs: under the new scope of an `at`, or under the finish that governs its starter
 pub data Hangs (past : List Entry) (T : Tree) (t : TaskId) (act : Act) (batch : List (List ℕ)) : Type 0 where
   calls : (r : ℕ) → scope_in act ≡ Some r → under_in (born_so_far (Step t act batch ∷ past)) T.next_task ≡ r → walk (links (Step t act batch ∷ past)) r ≡ r ∷ walk (links past) (inner_num past t.0) → Hangs past T t act batch
-  spawns : scope_in act ≡ None → (g : ℕ) → under_in (born_so_far (Step t act batch ∷ past)) T.next_task ≡ g → walk (links (Step t act batch ∷ past)) g ≡ walk (links past) g → g ≡ first_num (line (bones T) (Some (inner_num past t.0))) → has g (nums (bones T)) ≡ true → ((x : List ℕ) → Pushes act x → ⊥) → Hangs past T t act batch
+  spawns : scope_in act ≡ None → (g : ℕ) → under_in (born_so_far (Step t act batch ∷ past)) T.next_task ≡ g → walk (links (Step t act batch ∷ past)) g ≡ walk (links past) g → g ≡ first_num (line (bones T) (Some (inner_num past t.0))) → is_on g (nums (bones T)) ≡ true → ((x : List ℕ) → Pushes act x → ⊥) → Hangs past T t act batch
 
 pub hangs : (q : ℕ) (past : List Entry) (T : Tree) → Tied q past T → (t : TaskId) (act : Act) (batch : List (List ℕ)) → AllowedAct T t act → own_nums t.0 (cores T) ≡ nums_of (opened past t.0) → (d : TaskId) → started_by act ≡ Some d → Hangs past T t act batch
 hangs q past T i t (Calling s r c from to x) batch a own d e =
@@ -49,7 +49,7 @@ hangs q past T i t (Calling s r c from to x) batch a own d e =
 hangs q past T i t (Spawn c g from to x) batch a own d e =
     spawns refl g.0 (rw (eq-eqb c.0 T.next_task a.next_task)) refl
     (ap (λ (v : ScopeId). v.0) a.under ∙ governs-first T a.task ∙ ap (λ m. first_num (line (bones T) (Some m))) (inner-of q past T i t own a.task a.live.acts.stands))
-    (subst (λ (v : ScopeId). has v.0 (nums (bones T)) ≡ true) (sym a.under) (governs_stands q past T i t a.task a.live.acts.stands))
+    (subst (λ (v : ScopeId). is_on v.0 (nums (bones T)) ≡ true) (sym a.under) (governs_stands q past T i t a.task a.live.acts.stands))
     (λ y p. p [])
 hangs q past T i t (Open s r x) batch a own d e = cc
 hangs q past T i t (Arrive p) batch a own d e = cc
@@ -85,29 +85,29 @@ module _ (code : Block) (starts : List (Term × Vars)) (q : ℕ) (past : List En
   abbrev m : ℕ
   m = inner_num past t.0
 
-  -- an open scope in whose statement the starter has an item is on the chain of its innermost scope
-  in_inner : (x : List ℕ) (u : Stmt) → code_at code x ≡ Some u → is_waiter u ≡ true → LiesIn (f t.0) x u → (o r : ℕ) → On r x (opened past o) → has r (walk (links past) m) ≡ true
+  -- an open scope in whose statement the starter is_on an item is on the chain of its innermost scope
+  in_inner : (x : List ℕ) (u : Stmt) → code_at code x ≡ Some u → is_waiter u ≡ true → LiesIn (f t.0) x u → (o r : ℕ) → On r x (opened past o) → is_on r (walk (links past) m) ≡ true
   in_inner x u at w l o r on =
       elim (cases_eq o t.0) [
         | inl same ↦ linked-own (walk (links past)) (under_in (born_so_far past) t.0) (nums_of (opened past t.0)) (k.linked t.0 lives) r (on-nums r x (opened past t.0) (subst (λ c. On r x (opened past c)) same on))
         | inr other ↦ linked-under (walk (links past)) (under_in (born_so_far past) t.0) (nums_of (opened past t.0)) (k.linked t.0 lives) r (k.under t.0 lives x u at w l o r on other)
       ]
 
-  inner_there : has m (nums (bones T)) ≡ true
+  inner_there : is_on m (nums (bones T)) ≡ true
   inner_there =
       let actor = acts_by T t act a in
-      subst (λ v. has v (nums (bones T)) ≡ true) (inner-of q past T i t (k.own t.0 (inr lives)) actor.task actor.acts.stands) (inner_stands q past T i t actor.task actor.acts.stands)
+      subst (λ v. is_on v (nums (bones T)) ≡ true) (inner-of q past T i t (k.own t.0 (inr lives)) actor.task actor.acts.stands) (inner_stands q past T i t actor.task actor.acts.stands)
 
   inner_line : nums (line (bones T) (Some m)) ≡ walk (links past) m
   inner_line = (i.scopes m inner_there).walks
 
   -- what stands no further in than a finish of that chain is on the chain of the governing finish
-  governed : (g : ℕ) → g ≡ first_num (line (bones T) (Some m)) → has g (nums (bones T)) ≡ true → (c v r : ℕ) (y : List ℕ) (body : Block) → On v y (opened past c) → code_at code y ≡ Some (Finish body) → r ≤ v → has v (walk (links past) m) ≡ true → has r (walk (links past) m) ≡ true → has r (walk (links past) g) ≡ true
+  governed : (g : ℕ) → g ≡ first_num (line (bones T) (Some m)) → is_on g (nums (bones T)) ≡ true → (c v r : ℕ) (y : List ℕ) (body : Block) → On v y (opened past c) → code_at code y ≡ Some (Finish body) → r ≤ v → is_on v (walk (links past) m) ≡ true → is_on r (walk (links past) m) ≡ true → is_on r (walk (links past) g) ≡ true
   governed g is there c v r y body on at le hv hr =
-      let far : has r (nums (line (bones T) (Some (first_num (line (bones T) (Some m)))))) ≡ true = outer T.next_scope (bones T) i.falls (Some m) v r (finish-bones v T.scopes (k.kind c v y body on at)) le (ap (has v) inner_line ∙ hv) (ap (has r) inner_line ∙ hr) in
-      subst (λ l. has r l ≡ true) (i.scopes g there).walks (subst (λ v. has r (nums (line (bones T) (Some v))) ≡ true) (sym is) far)
+      let far : is_on r (nums (line (bones T) (Some (first_num (line (bones T) (Some m)))))) ≡ true = outer T.next_scope (bones T) i.falls (Some m) v r (finish-bones v T.scopes (k.kind c v y body on at)) le (ap (is_on v) inner_line ∙ hv) (ap (is_on r) inner_line ∙ hr) in
+      subst (λ l. is_on r l ≡ true) (i.scopes g there).walks (subst (λ v. is_on r (nums (line (bones T) (Some v))) ≡ true) (sym is) far)
 
-  module _ (none : (x : List ℕ) → Pushes act x → ⊥) (g : ℕ) (is : g ≡ first_num (line (bones T) (Some m))) (there : has g (nums (bones T)) ≡ true) where
+  module _ (none : (x : List ℕ) → Pushes act x → ⊥) (g : ℕ) (is : g ≡ first_num (line (bones T) (Some m))) (there : is_on g (nums (bones T)) ≡ true) where
     not_path : (y : List ℕ) (v : Stmt) → code_at code y ≡ Some v → is_waiter v ≡ true → y ≡ ch.path → ⊥
     not_path y v at w same =
         none y (sd.pushes code (s.coded t.0 low) y v at w (subst (λ z. own_path act ≡ z ∷ []) (sym same) (sd.child_path d e)))
@@ -120,11 +120,11 @@ module _ (code : Block) (starts : List (Term × Vars)) (q : ℕ) (past : List En
         ]
 
     module _ (x : List ℕ) (u : Stmt) (at : code_at code x ≡ Some u) (w : is_waiter u ≡ true) (l : LiesIn ch.term x u) (o r : ℕ) (on : On r x (opened past o)) where
-      r_inner : has r (walk (links past) m) ≡ true
+      r_inner : is_on r (walk (links past) m) ≡ true
       r_inner = in_inner x u at w (was_in x u at w l) o r on
 
       -- the finish is the statement of the scope itself, or stands in it
-      by_finish : (j : ℕ) (y : List ℕ) (c : ℕ) → ch.path ≡ x ++ j ∷ y → l.head ≡ ch.path ++ c ∷ [] → (z : List ℕ) (i2 : ℕ) (rest : List ℕ) (body : Block) → j ∷ y ≡ z ++ i2 ∷ rest → stmt_at u z ≡ Some (Finish body) → has r (walk (links past) g) ≡ true
+      by_finish : (j : ℕ) (y : List ℕ) (c : ℕ) → ch.path ≡ x ++ j ∷ y → l.head ≡ ch.path ++ c ∷ [] → (z : List ℕ) (i2 : ℕ) (rest : List ℕ) (body : Block) → j ∷ y ≡ z ++ i2 ∷ rest → stmt_at u z ≡ Some (Finish body) → is_on r (walk (links past) g) ≡ true
       by_finish j y c way head [] i2 rest body on_way f_at =
           let at_x : code_at code x ≡ Some (Finish body) = subst (λ v. code_at code v ≡ Some (Finish body)) (append-nil x) (code-on code x u at [] ∙ f_at) in
           governed g is there o r r x body on at_x (omega arith) r_inner r_inner
@@ -141,7 +141,7 @@ module _ (code : Block) (starts : List (Term × Vars)) (q : ℕ) (past : List En
           governed g is there opened_q.opener number.0 r (x ++ b ∷ z) body number.1 at_q (omega arith) (in_inner (x ++ b ∷ z) (Finish body) at_q refl was opened_q.opener number.0 number.1) r_inner
 
       -- on the way from the scope's statement to the `async` a finish stands
-      spawn_under : has r (walk (links past) g) ≡ true
+      spawn_under : is_on r (walk (links past) g) ≡ true
       spawn_under =
           let hd = ch.heads l.head l.is_head in
           elim (part-of ch.path x hd.0 l.next l.rest (sym hd.1 ∙ l.way)) [
@@ -159,18 +159,18 @@ module _ (code : Block) (starts : List (Term × Vars)) (q : ℕ) (past : List En
                 by_finish p.0 p.1 hd.0 p.2 hd.1 fo.path fo.next fo.rest fo.body fo.way fo.at
           ]
 
-  pub child-under : Hangs past T t act batch → (x : List ℕ) (u : Stmt) → code_at code x ≡ Some u → is_waiter u ≡ true → LiesIn ch.term x u → (o r : ℕ) → On r x (opened (Step t act batch ∷ past) o) → has r (walk (links (Step t act batch ∷ past)) (under_in (born_so_far (Step t act batch ∷ past)) T.next_task)) ≡ true
+  pub child-under : Hangs past T t act batch → (x : List ℕ) (u : Stmt) → code_at code x ≡ Some u → is_waiter u ≡ true → LiesIn ch.term x u → (o r : ℕ) → On r x (opened (Step t act batch ∷ past) o) → is_on r (walk (links (Step t act batch ∷ past)) (under_in (born_so_far (Step t act batch ∷ past)) T.next_task)) ≡ true
   child-under (calls c one hung chain) x u at w l o r on =
-      ap (has r) (ap (walk (links (Step t act batch ∷ past))) hung ∙ chain)
+      ap (is_on r) (ap (walk (links (Step t act batch ∷ past))) hung ∙ chain)
       ∙ elim (on-after past t act batch o r x on) [
-        | inl new ↦ or_left (c == r) (has r (walk (links past) m)) (eq-eqb c r (same_number c r (sym one ∙ new.number)))
+        | inl new ↦ or_left (c == r) (is_on r (walk (links past) m)) (eq-eqb c r (same_number c r (sym one ∙ new.number)))
         | inr old ↦ elim (ch.lies code (s.coded t.0 low) x u at w l) [
           | inl same ↦ absurd (fresh-path code starts q past T t act batch told f i s sd a low lives k x x (subst (λ z. own_path act ≡ z ∷ []) (sym same) (sd.child_path d e)) o r old (starts-same x))
-          | inr was ↦ or_right (c == r) (has r (walk (links past) m)) (in_inner x u at w was o r old)
+          | inr was ↦ or_right (c == r) (is_on r (walk (links past) m)) (in_inner x u at w was o r old)
         ]
       ]
   child-under (spawns none g hung chain is there pushes) x u at w l o r on =
-      ap (has r) (ap (walk (links (Step t act batch ∷ past))) hung ∙ chain)
+      ap (is_on r) (ap (walk (links (Step t act batch ∷ past))) hung ∙ chain)
       ∙ elim (on-after past t act batch o r x on) [
         | inl new ↦ absurd (none_some r (sym none ∙ new.number))
         | inr old ↦ spawn_under pushes g is there x u at w l o r old

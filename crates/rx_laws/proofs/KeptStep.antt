@@ -15,7 +15,7 @@ use Rattle.rx_rules.specs.Terms.{Term, Vars}
 use Rattle.rx_rules.specs.Tree.{Tree, quiet, task_of, inner}
 use Rattle.rx_rules.specs.Entries.{AllowedAct, MayRelease, made_act}
 use Rattle.rx_rules.specs.Order.{own_path}
-use Rattle.rx_rules.specs.Laws.{has, walk, links, born_so_far}
+use Rattle.rx_rules.specs.Laws.{is_on, walk, links, born_so_far}
 use Rattle.rx_laws.proofs.Straight.{code_at, is_waiter}
 use Rattle.rx_laws.proofs.Paths.{Starts, Comes, starts-same, starts-trans, starts-not_below, comes-other}
 use Rattle.rx_laws.proofs.Lines.{bones, nums, line}
@@ -60,17 +60,17 @@ none-open past c h = by_list (opened past c) (same-paths past c ∙ h) where
   by_list [] h = refl
   by_list (m ∷ ms) h = cc
 
--- where a scope is quiet, the scopes stay that another task has open
-pub stays-own : (code : Block) (q : ℕ) (past : List Entry) (T : Tree) (f : ℕ → Term) → Tied q past T → Kept code past T f → ((c : ℕ) → T.next_task ≤ c → open_paths past c ≡ []) → (m : ScopeId) → quiet T m ≡ true → (c : ℕ) → Known T c → has m.0 (nums_of (opened past c)) ≡ false → filter (is_off (bones T) m.0) (nums_of (opened past c)) ≡ nums_of (opened past c)
+-- where a scope is quiet, the scopes stay that another task is_on open
+pub stays-own : (code : Block) (q : ℕ) (past : List Entry) (T : Tree) (f : ℕ → Term) → Tied q past T → Kept code past T f → ((c : ℕ) → T.next_task ≤ c → open_paths past c ≡ []) → (m : ScopeId) → quiet T m ≡ true → (c : ℕ) → Known T c → is_on m.0 (nums_of (opened past c)) ≡ false → filter (is_off (bones T) m.0) (nums_of (opened past c)) ≡ nums_of (opened past c)
 stays-own code q past T f i k none_open m still c (inl unborn) none =
     let e : opened past c ≡ [] = none-open past c (none_open c unborn) in
     ap (λ ms. filter (is_off (bones T) m.0) (nums_of ms)) e ∙ ap nums_of (sym e)
 stays-own code q past T f i k none_open m still c (inr alive) none =
     filter-all (is_off (bones T) m.0) (nums_of (opened past c))
     (λ j h.
-    let stands : has j (nums (bones T)) ≡ true = own-stands c j T.scopes (ap (has j) (k.own c (inr alive)) ∙ h) in
-    let off : has m.0 (walk (links past) j) ≡ false = linked-off (walk (links past)) (under_in (born_so_far past) c) (nums_of (opened past c)) (k.linked c alive) m.0 none (quiet-under q past T i m still c alive) j h in
-    not_from_false (has m.0 (nums (line (bones T) (Some j)))) (ap (has m.0) (i.scopes j stands).walks ∙ off))
+    let stands : is_on j (nums (bones T)) ≡ true = own-stands c j T.scopes (ap (is_on j) (k.own c (inr alive)) ∙ h) in
+    let off : is_on m.0 (walk (links past) j) ≡ false = linked-off (walk (links past)) (under_in (born_so_far past) c) (nums_of (opened past c)) (k.linked c alive) m.0 none (quiet-under q past T i m still c alive) j h in
+    not_from_false (is_on m.0 (nums (line (bones T) (Some j)))) (ap (is_on m.0) (i.scopes j stands).walks ∙ off))
 
 module _ (code : Block) (starts : List (Term × Vars)) (q : ℕ) (past : List Entry) (T : Tree) (t : TaskId) (act : Act) (batch told : List (List ℕ)) (f : ℕ → Term) (i : Tied q past T) (s : Shape code past T.next_task f) (sd : Says starts (f t.0) act told) (a : AllowedAct T t act) (low : t.0 < T.next_task) (lives : is_alive T t.0 ≡ true) (k : Kept code past T f) where
   abbrev after : Tree
@@ -167,7 +167,7 @@ module _ (code : Block) (starts : List (Term × Vars)) (q : ℕ) (past : List En
       o (s.apart t.0 c y.0 low hc (todo-starts (f t.0) x y.0 (sd.own_todo x e) in_x) y.1)
 
   abbrev pub HangsUnder : ℕ → ℕ → Type 0
-  HangsUnder r c = has r (walk (links (Step t act batch ∷ past)) (under_in (born_so_far (Step t act batch ∷ past)) c)) ≡ true
+  HangsUnder r c = is_on r (walk (links (Step t act batch ∷ past)) (under_in (born_so_far (Step t act batch ∷ past)) c)) ≡ true
 
   same_chain : (c : ℕ) → c < T.next_task → is_alive T c ≡ true → walk (links (Step t act batch ∷ past)) (under_in (born_so_far (Step t act batch ∷ past)) c) ≡ walk (links past) (under_in (born_so_far past) c)
   same_chain c hc alive =
@@ -177,8 +177,8 @@ module _ (code : Block) (starts : List (Term × Vars)) (q : ℕ) (past : List En
   pub under-kept : (c : ℕ) → is_alive T c ≡ true → (x : List ℕ) (u : Stmt) → code_at code x ≡ Some u → is_waiter u ≡ true → LiesIn (left c) x u → (o r : ℕ) → On r x (opened (Step t act batch ∷ past) o) → (o ≡ c → ⊥) → HangsUnder r c
   under-kept c alive x u e w l o r h other =
       let hc : c < T.next_task = living-born q past T i c alive in
-      ap (has r) (same_chain c hc alive)
-      ∙ set_case (λ v. LiesIn v x u → has r (walk (links past) (under_in (born_so_far past) c)) ≡ true) t.0 c sd.after f
+      ap (is_on r) (same_chain c hc alive)
+      ∙ set_case (λ v. LiesIn v x u → is_on r (walk (links past) (under_in (born_so_far past) c)) ≡ true) t.0 c sd.after f
       (λ m j. elim (on-after past t act batch o r x h) [
         | inl new ↦ absurd (other (sym new.mine ∙ m))
         | inr old ↦ elim (sd.lies code (s.coded t.0 low) x u e w j) [
@@ -193,20 +193,20 @@ module _ (code : Block) (starts : List (Term × Vars)) (q : ℕ) (past : List En
 
   -- the scopes of the tree
 
-  -- what the release of the innermost scope of its task leaves of the scopes that the task has open
+  -- what the release of the innermost scope of its task leaves of the scopes that the task is_on open
   released_own : (m : ScopeId) (lost : PlaceSet) (thrown : List Fault) → act ≡ Release m lost thrown → (ns : List ℕ) → nums_of (opened past t.0) ≡ m.0 ∷ ns → filter (is_off (bones T) m.0) (m.0 ∷ ns) ≡ ns
   released_own m lost thrown is ns e =
       let chains : Linked (walk (links past)) (under_in (born_so_far past) t.0) (m.0 ∷ ns) = subst (Linked (walk (links past)) (under_in (born_so_far past) t.0)) e (k.linked t.0 lives) in
-      let stands_in : (j : ℕ) → has j (m.0 ∷ ns) ≡ true → has j (nums (bones T)) ≡ true = λ j h. own-stands t.0 j T.scopes (ap (has j) (k.own t.0 (inr lives) ∙ e) ∙ h) in
-      let line_m : nums (line (bones T) (Some m.0)) ≡ m.0 ∷ walk (links past) (top (under_in (born_so_far past) t.0) ns) = (i.scopes m.0 (stands_in m.0 (or_left (m.0 == m.0) (has m.0 ns) (eq-eqb m.0 m.0 refl)))).walks ∙ chains.0 in
-      let goes : is_off (bones T) m.0 m.0 ≡ false = ap (λ l. not (has m.0 l)) line_m ∙ ap not (or_left (m.0 == m.0) (has m.0 (walk (links past) (top (under_in (born_so_far past) t.0) ns))) (eq-eqb m.0 m.0 refl)) in
+      let stands_in : (j : ℕ) → is_on j (m.0 ∷ ns) ≡ true → is_on j (nums (bones T)) ≡ true = λ j h. own-stands t.0 j T.scopes (ap (is_on j) (k.own t.0 (inr lives) ∙ e) ∙ h) in
+      let line_m : nums (line (bones T) (Some m.0)) ≡ m.0 ∷ walk (links past) (top (under_in (born_so_far past) t.0) ns) = (i.scopes m.0 (stands_in m.0 (or_left (m.0 == m.0) (is_on m.0 ns) (eq-eqb m.0 m.0 refl)))).walks ∙ chains.0 in
+      let goes : is_off (bones T) m.0 m.0 ≡ false = ap (λ l. not (is_on m.0 l)) line_m ∙ ap not (or_left (m.0 == m.0) (is_on m.0 (walk (links past) (top (under_in (born_so_far past) t.0) ns))) (eq-eqb m.0 m.0 refl)) in
       rw goes
       (filter-all (is_off (bones T) m.0) ns
       (λ j h.
       let less : j < m.0 = tail-below T.next_scope (bones T) i.falls m.0 j (walk (links past) (top (under_in (born_so_far past) t.0) ns)) line_m (linked-own (walk (links past)) (under_in (born_so_far past) t.0) ns chains.1 j h) in
-      let stands : has j (nums (bones T)) ≡ true = stands_in j (or_right (m.0 == j) (has j ns) h) in
-      let off : has m.0 (walk (links past) j) ≡ false = false_from_ne_true (has m.0 (walk (links past) j)) (λ g. let most : m.0 ≤ j = i.older j m.0 g in omega arith) in
-      not_from_false (has m.0 (nums (line (bones T) (Some j)))) (ap (has m.0) (i.scopes j stands).walks ∙ off)))
+      let stands : is_on j (nums (bones T)) ≡ true = stands_in j (or_right (m.0 == j) (is_on j ns) h) in
+      let off : is_on m.0 (walk (links past) j) ≡ false = false_from_ne_true (is_on m.0 (walk (links past) j)) (λ g. let most : m.0 ≤ j = i.older j m.0 g in omega arith) in
+      not_from_false (is_on m.0 (nums (line (bones T) (Some j)))) (ap (is_on m.0) (i.scopes j stands).walks ∙ off)))
 
   -- the number of the scope that is released
   pub top-released : (m : ScopeId) → MayRelease T t m → (ns : List ℕ) × (nums_of (opened past t.0) ≡ m.0 ∷ ns)
@@ -239,9 +239,9 @@ module _ (code : Block) (starts : List (Term × Vars)) (q : ℕ) (past : List En
       let e_c : nums_of (opened past c) ≡ m.0 ∷ tops.0 = subst (λ d. nums_of (opened past d) ≡ m.0 ∷ tops.0) h tops.1 in
       ap (filter (is_off (bones T) m.0)) e_c ∙ released_own m lost thrown is tops.0 tops.1
       ∙ sym (ap (λ v. nums_of (opened_after v (opened past c))) is ∙ tail-of (opened past c) m.0 tops.0 e_c))
-      (λ h. stays-own code q past T f i k s.none_open m may.is_quiet c known (false_from_ne_true (has m.0 (nums_of (opened past c))) (λ g.
+      (λ h. stays-own code q past T f i k s.none_open m may.is_quiet c known (false_from_ne_true (is_on m.0 (nums_of (opened past c))) (λ g.
       let on = nums-on m.0 (opened past c) g in
-      let mine = nums-on m.0 (opened past t.0) (ap (has m.0) tops.1 ∙ or_left (m.0 == m.0) (has m.0 tops.0) (eq-eqb m.0 m.0 refl)) in
+      let mine = nums-on m.0 (opened past t.0) (ap (is_on m.0) tops.1 ∙ or_left (m.0 == m.0) (is_on m.0 tops.0) (eq-eqb m.0 m.0 refl)) in
       h (k.single t.0 c m.0 mine.0 on.0 mine.1 on.1))))
 
   pub own-kept : (c : ℕ) → Known T c → own_nums c (cores after) ≡ nums_of (opened (Step t act batch ∷ past) c)
@@ -249,14 +249,14 @@ module _ (code : Block) (starts : List (Term × Vars)) (q : ℕ) (past : List En
 
   -- chains
 
-  all_low : (c : ℕ) → (j : ℕ) → has j (nums_of (opened past c)) ≡ true → j < T.next_scope
+  all_low : (c : ℕ) → (j : ℕ) → is_on j (nums_of (opened past c)) ≡ true → j < T.next_scope
   all_low c j h = let o = nums-on j (opened past c) h in (k.below c j o.0 o.1).1
 
   inner_low : (c : ℕ) → is_alive T c ≡ true → inner_num past c < T.next_scope
   inner_low c alive = by_list (nums_of (opened past c)) (all_low c) where
-    by_list : (ns : List ℕ) → ((j : ℕ) → has j ns ≡ true → j < T.next_scope) → top (under_in (born_so_far past) c) ns < T.next_scope
+    by_list : (ns : List ℕ) → ((j : ℕ) → is_on j ns ≡ true → j < T.next_scope) → top (under_in (born_so_far past) c) ns < T.next_scope
     by_list [] h = living-low q past T i c alive
-    by_list (j ∷ ns) h = h j (or_left (j == j) (has j ns) (eq-eqb j j refl))
+    by_list (j ∷ ns) h = h j (or_left (j == j) (is_on j ns) (eq-eqb j j refl))
 
   abbrev walk_after : ℕ → List ℕ
   walk_after = walk (links (Step t act batch ∷ past))
@@ -306,7 +306,7 @@ module _ (code : Block) (starts : List (Term × Vars)) (q : ℕ) (past : List En
       let in_p : Starts p y.0 = starts-trans p l.head y.0 (subst (Starts p) (sym l.way) (within-starts p l.next l.rest)) y.2 in
       starts-not_below p y.0 in_p (sd.released m lost thrown is ps p (subst (λ v. Nested (f t.0) (outermost v)) e (s.nested t.0 low)) y.0 y.1))
       (λ h l.
-      let hangs : has m.0 (walk (links past) (under_in (born_so_far past) c)) ≡ true = k.under c alive p u at w l t.0 m.0 on h in
+      let hangs : is_on m.0 (walk (links past) (under_in (born_so_far past) c)) ≡ true = k.under c alive p u at w l t.0 m.0 on h in
       true≢false (sym hangs ∙ quiet-under q past T i m (may-release m lost thrown is).is_quiet c alive))
 
   by_release : (x : List ℕ) (o : IsOpen past x) (m : ScopeId) (lost : PlaceSet) (thrown : List Fault) → act ≡ Release m lost thrown → (p : List ℕ) (ps : List (List ℕ)) → open_paths past t.0 ≡ p ∷ ps → (x ≡ p → ⊥) → Stacked x (open_paths (Step t act batch ∷ past) o.opener)

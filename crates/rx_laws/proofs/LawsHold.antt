@@ -15,7 +15,7 @@ use Rattle.rx_rules.specs.declared.entries.Entry.TheVariants.{Step, Root, Death}
 use Rattle.rx_rules.specs.Tree.{Tree, is_under, quiet, the_root}
 use Rattle.rx_rules.specs.Entries.{Allowed, made, was_lost_at, lost_under}
 use Rattle.rx_rules.specs.Fold.{opening, AllAllowed}
-use Rattle.rx_rules.specs.Laws.{Birth, has, until, born_so_far, AtRelease, EachRelease, AllOver, NamesLost, NoEarlyRelease, LossExact, is_named}
+use Rattle.rx_rules.specs.Laws.{TaskBirth, is_on, until, born_so_far, AtRelease, EachRelease, AllOver, NamesLost, NoEarlyRelease, LossExact, is_named}
 use Rattle.rx_laws.proofs.Lines.{Bone, bones, nums, line, on_chain-line}
 use Rattle.rx_laws.proofs.Aligned.{Facts, facts, blow_place, IsRow, IsOut, ended, gone, Aligned, none, out, row}
 use Rattle.rx_laws.proofs.Ties.{Tied, ScopeOk}
@@ -23,12 +23,12 @@ use Rattle.rx_laws.proofs.Made.{tied-made, release_stands, root_stands}
 use Rattle.rx_rules.specs.declared.tasks.Task.{Task}
 use Rattle.rx_rules.specs.declared.tasks.Blow.{Blow}
 
-abbrev over : Facts → ℕ → Birth → Bool
-over F s b = not (has s (F.walk b.under)) || (F.ended b.task || is_some (F.hit b))
+abbrev over : Facts → ℕ → TaskBirth → Bool
+over F s b = not (is_on s (F.walk b.under)) || (F.ended b.task || is_some (F.hit b))
 
-abbrev named : Facts → ℕ → ℕ → Birth → Bool
+abbrev named : Facts → ℕ → ℕ → TaskBirth → Bool
 named F s p b =
-    (has s (F.walk b.under) && not (list_any F.released (until s (F.walk b.under))))
+    (is_on s (F.walk b.under) && not (list_any F.released (until s (F.walk b.under))))
     && elim (F.hit b) [ Some d ↦ d == p | None ↦ false ]
 
 any-until : (r : ℕ → Bool) (s : ℕ) (l : List ℕ) → list_any r l ≡ false → list_any r (until s l) ≡ false
@@ -37,39 +37,39 @@ any-until r s (g ∷ l) h =
     let c = or_parts (r g) (list_any r l) h in
     cond_both (g == s) [] (g ∷ until s l) (λ m. list_any r m ≡ false) (λ e. refl) (λ e. or_from (r g) (list_any r (until s l)) c.0 (any-until r s l c.1))
 
-module _ (F : Facts) (B : List Bone) (s : ℕ) (there : has s (nums B) ≡ true) (walks : (n : ℕ) → has n (nums B) ≡ true → ScopeOk F B n) where
+module _ (F : Facts) (B : List Bone) (s : ℕ) (there : is_on s (nums B) ≡ true) (walks : (n : ℕ) → is_on n (nums B) ≡ true → ScopeOk F B n) where
   abbrev under_s : Task → Bool
-  under_s x = has s (nums (line B (Some x.under.0)))
+  under_s x = is_on s (nums (line B (Some x.under.0)))
 
-  -- whether the birth's chain has s is whether its row is under s
-  chain_row : (b : Birth) (x : Task) → IsRow F B b x → has s (F.walk b.under) ≡ under_s x
+  -- whether the birth's chain is_on s is whether its row is under s
+  chain_row : (b : TaskBirth) (x : Task) → IsRow F B b x → is_on s (F.walk b.under) ≡ under_s x
   chain_row b x r =
-      ap (has s) (sym (walks b.under r.stands).walks) ∙ ap (λ n. has s (nums (line B (Some n)))) (sym r.under)
+      ap (is_on s) (sym (walks b.under r.stands).walks) ∙ ap (λ n. is_on s (nums (line B (Some n)))) (sym r.under)
 
   hit_row : (o : Option Blow) (h : Option ℕ) → option_map blow_place o ≡ h → is_none o ≡ false → is_some h ≡ true
   hit_row None h e k = cc
   hit_row (Some v) h e k = rw (← e)
 
-  row_over : (b : Birth) (x : Task) (u : Task → Bool) (y z : Bool) → u x ≡ y → is_none x.struck ≡ z → u x ≡ under_s x → (y && z) ≡ false → IsRow F B b x → over F s b ≡ true
+  row_over : (b : TaskBirth) (x : Task) (u : Task → Bool) (y z : Bool) → u x ≡ y → is_none x.struck ≡ z → u x ≡ under_s x → (y && z) ≡ false → IsRow F B b x → over F s b ≡ true
   row_over b x u true true ey ez same q r = absurd (true≢false q)
   row_over b x u true false ey ez same q r =
-      or_right (not (has s (F.walk b.under))) (F.ended b.task || is_some (F.hit b)) (or_right (F.ended b.task) (is_some (F.hit b)) (hit_row x.struck (F.hit b) r.struck ez))
+      or_right (not (is_on s (F.walk b.under))) (F.ended b.task || is_some (F.hit b)) (or_right (F.ended b.task) (is_some (F.hit b)) (hit_row x.struck (F.hit b) r.struck ez))
   row_over b x u false z ey ez same q r =
-      or_left (not (has s (F.walk b.under))) (F.ended b.task || is_some (F.hit b)) (not_from_false (has s (F.walk b.under)) (chain_row b x r ∙ sym same ∙ ey))
+      or_left (not (is_on s (F.walk b.under))) (F.ended b.task || is_some (F.hit b)) (not_from_false (is_on s (F.walk b.under)) (chain_row b x r ∙ sym same ∙ ey))
 
-  out_over : (b : Birth) → IsOut F B b → over F s b ≡ true
-  out_over b (ended e h) = or_right (not (has s (F.walk b.under))) (F.ended b.task || is_some (F.hit b)) (or_left (F.ended b.task) (is_some (F.hit b)) e)
-  out_over b (gone e h) = or_right (not (has s (F.walk b.under))) (F.ended b.task || is_some (F.hit b)) (or_right (F.ended b.task) (is_some (F.hit b)) e)
+  out_over : (b : TaskBirth) → IsOut F B b → over F s b ≡ true
+  out_over b (ended e h) = or_right (not (is_on s (F.walk b.under))) (F.ended b.task || is_some (F.hit b)) (or_left (F.ended b.task) (is_some (F.hit b)) e)
+  out_over b (gone e h) = or_right (not (is_on s (F.walk b.under))) (F.ended b.task || is_some (F.hit b)) (or_right (F.ended b.task) (is_some (F.hit b)) e)
 
-  pub all-over : (u : Task → Bool) → ((x : Task) → u x ≡ under_s x) → {bs : List Birth} {xs : List Task} → list_any (λ x. u x && is_none x.struck) xs ≡ false → Aligned F B bs xs → list_all (over F s) bs ≡ true
+  pub all-over : (u : Task → Bool) → ((x : Task) → u x ≡ under_s x) → {bs : List TaskBirth} {xs : List Task} → list_any (λ x. u x && is_none x.struck) xs ≡ false → Aligned F B bs xs → list_all (over F s) bs ≡ true
   all-over u same q none = refl
   all-over u same q (out {b = b} {bs = bs} o a) = and_from (over F s b) (list_all (over F s) bs) (out_over b o) (all-over u same q a)
   all-over u same q (row {b = b} {x = x} {bs = bs} {xs = xs} r a) =
       let parts = or_parts (u x && is_none x.struck) (list_any (λ x. u x && is_none x.struck) xs) q in
       and_from (over F s b) (list_all (over F s) bs) (row_over b x u (u x) (is_none x.struck) refl refl (same x) parts.0 r) (all-over u same parts.1 a)
 
-  out_named : (p : ℕ) (b : Birth) (y : Bool) → has s (F.walk b.under) ≡ y → IsOut F B b → named F s p b ≡ false
-  out_named p b y e (ended k h) = rw h (and-false (has s (F.walk b.under) && not (list_any F.released (until s (F.walk b.under)))))
+  out_named : (p : ℕ) (b : TaskBirth) (y : Bool) → is_on s (F.walk b.under) ≡ y → IsOut F B b → named F s p b ≡ false
+  out_named p b y e (ended k h) = rw h (and-false (is_on s (F.walk b.under) && not (list_any F.released (until s (F.walk b.under)))))
   out_named p b true e (gone k h) = rw (e, h s there e)
   out_named p b false e (gone k h) = rw e
 
@@ -77,25 +77,25 @@ module _ (F : Facts) (B : List Bone) (s : ℕ) (there : has s (nums B) ≡ true)
   lost_row p None = refl
   lost_row p (Some v) = refl
 
-  row_named : (p : ℕ) (b : Birth) (x : Task) → IsRow F B b x → named F s p b ≡ (under_s x && was_lost_at p x)
+  row_named : (p : ℕ) (b : TaskBirth) (x : Task) → IsRow F B b x → named F s p b ≡ (under_s x && was_lost_at p x)
   row_named p b x r =
-      rw (any-until F.released s (F.walk b.under) (walks b.under r.stands).free, and-true (has s (F.walk b.under)), chain_row b x r, ← r.struck)
+      rw (any-until F.released s (F.walk b.under) (walks b.under r.stands).free, and-true (is_on s (F.walk b.under)), chain_row b x r, ← r.struck)
       (ap (λ y. under_s x && y) (lost_row p x.struck))
 
-  pub all-named : (p : ℕ) (u : Task → Bool) → ((x : Task) → u x ≡ under_s x) → {bs : List Birth} {xs : List Task} → Aligned F B bs xs → list_any (λ x. u x && was_lost_at p x) xs ≡ list_any (named F s p) bs
+  pub all-named : (p : ℕ) (u : Task → Bool) → ((x : Task) → u x ≡ under_s x) → {bs : List TaskBirth} {xs : List Task} → Aligned F B bs xs → list_any (λ x. u x && was_lost_at p x) xs ≡ list_any (named F s p) bs
   all-named p u same none = refl
-  all-named p u same (out {b = b} o a) = rw (out_named p b (has s (F.walk b.under)) refl o) (all-named p u same a)
+  all-named p u same (out {b = b} o a) = rw (out_named p b (is_on s (F.walk b.under)) refl o) (all-named p u same a)
   all-named p u same (row {b = b} {x = x} {bs = bs} {xs = xs} r a) =
       rw (row_named p b x r, same x, all-named p u same a)
 
 -- at a release
 
-at_over : (q : ℕ) (past : List Entry) (T : Tree) → Tied q past T → (s : ScopeId) (lost : PlaceSet) → has s.0 (nums (bones T)) ≡ true → quiet T s ≡ true → AllOver past s.0 lost
+at_over : (q : ℕ) (past : List Entry) (T : Tree) → Tied q past T → (s : ScopeId) (lost : PlaceSet) → is_on s.0 (nums (bones T)) ≡ true → quiet T s ≡ true → AllOver past s.0 lost
 at_over q past T i s lost there still =
     all-over (facts past) (bones T) s.0 there i.scopes (is_under T s) (λ x. on_chain-line T s x.under)
     (not-true (list_any (λ x. is_under T s x && is_none x.struck) T.tasks) still) i.tasks
 
-at_named : (q : ℕ) (past : List Entry) (T : Tree) → Tied q past T → (s : ScopeId) (lost : PlaceSet) → has s.0 (nums (bones T)) ≡ true → members lost ≡ lost_under T s → NamesLost past s.0 lost
+at_named : (q : ℕ) (past : List Entry) (T : Tree) → Tied q past T → (s : ScopeId) (lost : PlaceSet) → is_on s.0 (nums (bones T)) ≡ true → members lost ≡ lost_under T s → NamesLost past s.0 lost
 at_named q past T i s lost there e =
     e
     ∙ filter_agree (λ p. list_any (λ x. is_under T s x && was_lost_at p x) T.tasks) (λ p. list_any (is_named past s.0 p) (born_so_far past))
@@ -125,7 +125,7 @@ both_from q small n past T i (e ∷ es) a =
     ((here.0, rest.0), (here.1, rest.1))
 
 -- the opening tree stands for no entries
-only_zero : (n : ℕ) → has n (0 ∷ []) ≡ true → n ≡ 0
+only_zero : (n : ℕ) → is_on n (0 ∷ []) ≡ true → n ≡ 0
 only_zero n h =
     elim (or_cases (0 == n) false h) [
       | inl e ↦ sym (eqb-true 0 n e)

@@ -7,7 +7,7 @@ use Rattle.std.proofs.lemmas.List.Folds.{list_any-append}
 use Rattle.rx_base.specs.declared.ids.ScopeId.{ScopeId}
 use Rattle.rx_rules.specs.Tree.{Tree, is_finish, chain_in, wants, on_chain, is_scope}
 use Rattle.rx_rules.specs.Entries.{change_first}
-use Rattle.rx_rules.specs.Laws.{has, until}
+use Rattle.rx_rules.specs.Laws.{is_on, until}
 use Rattle.rx_rules.specs.declared.tasks.Scope.{Scope}
 
 pub record Bone : Type 0 where
@@ -56,34 +56,34 @@ chain-bones (g ∷ gs) w = chain_step g gs w (wants w g) refl (chain-bones gs g.
   chain_step g gs w true e up on = rw (e, sym (wants-bone w g) ∙ e) (ap (λ l. bone g ∷ l) up)
   chain_step g gs w false e up on = rw (e, sym (wants-bone w g) ∙ e) on
 
-any-is_scope : (s : ScopeId) (gs : List Scope) → list_any (is_scope s) gs ≡ has s.0 (nums (map bone gs))
+any-is_scope : (s : ScopeId) (gs : List Scope) → list_any (is_scope s) gs ≡ is_on s.0 (nums (map bone gs))
 any-is_scope s [] = refl
 any-is_scope s (g ∷ gs) = ap (λ x. (g.number.0 == s.0) || x) (any-is_scope s gs)
 
-pub on_chain-line : (T : Tree) (s from : ScopeId) → on_chain T s from ≡ has s.0 (nums (line (bones T) (Some from.0)))
-on_chain-line T s from = any-is_scope s (chain_in T.scopes (Some from)) ∙ ap (λ l. has s.0 (nums l)) (chain-bones T.scopes (Some from))
+pub on_chain-line : (T : Tree) (s from : ScopeId) → on_chain T s from ≡ is_on s.0 (nums (line (bones T) (Some from.0)))
+on_chain-line T s from = any-is_scope s (chain_in T.scopes (Some from)) ∙ ap (λ l. is_on s.0 (nums l)) (chain-bones T.scopes (Some from))
 
 -- numbers that stand are below n
-pub has-below : (n k : ℕ) (bs : List Bone) → Falls n bs → has k (nums bs) ≡ true → k < n
+pub has-below : (n k : ℕ) (bs : List Bone) → Falls n bs → is_on k (nums bs) ≡ true → k < n
 has-below n k [] f h = cc
 has-below n k (b ∷ bs) f h =
-    elim (or_cases (b.number == k) (has k (nums bs)) h) [
+    elim (or_cases (b.number == k) (is_on k (nums bs)) h) [
       | inl e ↦ let same : b.number ≡ k = eqb-true b.number k e in let low : b.number < n = f.0 in omega arith
       | inr e ↦ let low : b.number < n = f.0 in let lower : k < b.number = has-below b.number k bs f.1 e in omega arith
     ]
 
 -- what stands on a line stands
-line_step-in : (b : Bone) (bs : List Bone) (w : Option ℕ) (k : ℕ) (x : Bool) → wanted w b ≡ x → (has k (nums (line bs b.parent)) ≡ true → has k (nums bs) ≡ true) → (has k (nums (line bs w)) ≡ true → has k (nums bs) ≡ true) → has k (nums (line (b ∷ bs) w)) ≡ true → has k (nums (b ∷ bs)) ≡ true
+line_step-in : (b : Bone) (bs : List Bone) (w : Option ℕ) (k : ℕ) (x : Bool) → wanted w b ≡ x → (is_on k (nums (line bs b.parent)) ≡ true → is_on k (nums bs) ≡ true) → (is_on k (nums (line bs w)) ≡ true → is_on k (nums bs) ≡ true) → is_on k (nums (line (b ∷ bs) w)) ≡ true → is_on k (nums (b ∷ bs)) ≡ true
 line_step-in b bs w k true e up on h =
-    let g : ((b.number == k) || has k (nums (line bs b.parent))) ≡ true = rw e at h in
-    elim (or_cases (b.number == k) (has k (nums (line bs b.parent))) g) [
-      | inl here ↦ or_left (b.number == k) (has k (nums bs)) here
-      | inr there ↦ or_right (b.number == k) (has k (nums bs)) (up there)
+    let g : ((b.number == k) || is_on k (nums (line bs b.parent))) ≡ true = rw e at h in
+    elim (or_cases (b.number == k) (is_on k (nums (line bs b.parent))) g) [
+      | inl here ↦ or_left (b.number == k) (is_on k (nums bs)) here
+      | inr there ↦ or_right (b.number == k) (is_on k (nums bs)) (up there)
     ]
 line_step-in b bs w k false e up on h =
-    or_right (b.number == k) (has k (nums bs)) (on (rw e at h))
+    or_right (b.number == k) (is_on k (nums bs)) (on (rw e at h))
 
-pub line-in : (bs : List Bone) (w : Option ℕ) (k : ℕ) → has k (nums (line bs w)) ≡ true → has k (nums bs) ≡ true
+pub line-in : (bs : List Bone) (w : Option ℕ) (k : ℕ) → is_on k (nums (line bs w)) ≡ true → is_on k (nums bs) ≡ true
 line-in [] w k h = h
 line-in (b ∷ bs) w k h = line_step-in b bs w k (wanted w b) refl (line-in bs b.parent k) (line-in bs w k) h
 
@@ -92,38 +92,38 @@ line-in (b ∷ bs) w k h = line_step-in b bs w k (wanted w b) refl (line-in bs b
 abbrev Splits : List Bone → Option ℕ → ℕ → Type 0
 Splits bs w k = nums (line bs w) ≡ until k (nums (line bs w)) ++ nums (line bs (Some k))
 
-split_step : (b : Bone) (bs : List Bone) (w : Option ℕ) (k : ℕ) (x y : Bool) → wanted w b ≡ x → (b.number == k) ≡ y → (has k (nums (line bs b.parent)) ≡ true → Splits bs b.parent k) → (has k (nums (line bs w)) ≡ true → Splits bs w k) → (has k (nums (line bs w)) ≡ true → (b.number == k) ≡ false) → has k (nums (line (b ∷ bs) w)) ≡ true → Splits (b ∷ bs) w k
+split_step : (b : Bone) (bs : List Bone) (w : Option ℕ) (k : ℕ) (x y : Bool) → wanted w b ≡ x → (b.number == k) ≡ y → (is_on k (nums (line bs b.parent)) ≡ true → Splits bs b.parent k) → (is_on k (nums (line bs w)) ≡ true → Splits bs w k) → (is_on k (nums (line bs w)) ≡ true → (b.number == k) ≡ false) → is_on k (nums (line (b ∷ bs) w)) ≡ true → Splits (b ∷ bs) w k
 split_step b bs w k true true ex ey up on below h = rw (ex, ey)
 split_step b bs w k true false ex ey up on below h =
-    let there : has k (nums (line bs b.parent)) ≡ true = rw (ex, ey) at h in
+    let there : is_on k (nums (line bs b.parent)) ≡ true = rw (ex, ey) at h in
     rw (ex, ey) (ap (λ l. b.number ∷ l) (up there))
 split_step b bs w k false true ex ey up on below h =
-    let there : has k (nums (line bs w)) ≡ true = rw ex at h in
+    let there : is_on k (nums (line bs w)) ≡ true = rw ex at h in
     absurd (true≢false (sym ey ∙ below there))
 split_step b bs w k false false ex ey up on below h =
-    let there : has k (nums (line bs w)) ≡ true = rw ex at h in
+    let there : is_on k (nums (line bs w)) ≡ true = rw ex at h in
     rw (ex, ey) (on there)
 
-pub split-line : (n : ℕ) (bs : List Bone) → Falls n bs → (w : Option ℕ) (k : ℕ) → has k (nums (line bs w)) ≡ true → nums (line bs w) ≡ until k (nums (line bs w)) ++ nums (line bs (Some k))
+pub split-line : (n : ℕ) (bs : List Bone) → Falls n bs → (w : Option ℕ) (k : ℕ) → is_on k (nums (line bs w)) ≡ true → nums (line bs w) ≡ until k (nums (line bs w)) ++ nums (line bs (Some k))
 split-line n [] f w k h = cc
 split-line n (b ∷ bs) f w k h =
     split_step b bs w k (wanted w b) (b.number == k) refl refl (split-line b.number bs f.1 b.parent k) (split-line b.number bs f.1 w k)
     (λ there. ne_eqb b.number k (λ same. let low : k < b.number = has-below b.number k bs f.1 (line-in bs w k there) in omega arith))
     h
 
--- what a line from k has, a line that passes k has
-pub line_on : (n : ℕ) (bs : List Bone) → Falls n bs → (w : Option ℕ) (k s : ℕ) → has k (nums (line bs w)) ≡ true → has s (nums (line bs w)) ≡ false → has s (nums (line bs (Some k))) ≡ false
+-- what a line from k is_on, a line that passes k is_on
+pub line_on : (n : ℕ) (bs : List Bone) → Falls n bs → (w : Option ℕ) (k s : ℕ) → is_on k (nums (line bs w)) ≡ true → is_on s (nums (line bs w)) ≡ false → is_on s (nums (line bs (Some k))) ≡ false
 line_on n bs f w k s h none =
     let e = split-line n bs f w k h in
-    let parts : (has s (until k (nums (line bs w))) || has s (nums (line bs (Some k)))) ≡ false = sym (list_any-append (λ g. g == s) (until k (nums (line bs w))) (nums (line bs (Some k)))) ∙ ap (has s) (sym e) ∙ none in
-    (or_parts (has s (until k (nums (line bs w)))) (has s (nums (line bs (Some k)))) parts).1
+    let parts : (is_on s (until k (nums (line bs w))) || is_on s (nums (line bs (Some k)))) ≡ false = sym (list_any-append (λ g. g == s) (until k (nums (line bs w))) (nums (line bs (Some k)))) ∙ ap (is_on s) (sym e) ∙ none in
+    (or_parts (is_on s (until k (nums (line bs w)))) (is_on s (nums (line bs (Some k)))) parts).1
 
 -- where s is on the line and not on the line from k, it stands before k
-pub before_on : (n : ℕ) (bs : List Bone) → Falls n bs → (w : Option ℕ) (k s : ℕ) → has k (nums (line bs w)) ≡ true → has s (nums (line bs w)) ≡ true → has s (nums (line bs (Some k))) ≡ false → has s (until k (nums (line bs w))) ≡ true
+pub before_on : (n : ℕ) (bs : List Bone) → Falls n bs → (w : Option ℕ) (k s : ℕ) → is_on k (nums (line bs w)) ≡ true → is_on s (nums (line bs w)) ≡ true → is_on s (nums (line bs (Some k))) ≡ false → is_on s (until k (nums (line bs w))) ≡ true
 before_on n bs f w k s h all none =
     let e = split-line n bs f w k h in
-    let parts : (has s (until k (nums (line bs w))) || has s (nums (line bs (Some k)))) ≡ true = sym (list_any-append (λ g. g == s) (until k (nums (line bs w))) (nums (line bs (Some k)))) ∙ ap (has s) (sym e) ∙ all in
-    elim (or_cases (has s (until k (nums (line bs w)))) (has s (nums (line bs (Some k)))) parts) [
+    let parts : (is_on s (until k (nums (line bs w))) || is_on s (nums (line bs (Some k)))) ≡ true = sym (list_any-append (λ g. g == s) (until k (nums (line bs w))) (nums (line bs (Some k)))) ∙ ap (is_on s) (sym e) ∙ all in
+    elim (or_cases (is_on s (until k (nums (line bs w)))) (is_on s (nums (line bs (Some k)))) parts) [
       | inl e ↦ e
       | inr e ↦ absurd (true≢false (sym e ∙ none))
     ]
@@ -131,7 +131,7 @@ before_on n bs f w k s h all none =
 -- Scopes that go.
 
 abbrev pub stays : List Bone → ℕ → Bone → Bool
-stays bs s b = not (has s (nums (line bs (Some b.number))))
+stays bs s b = not (is_on s (nums (line bs (Some b.number))))
 
 filter_step : (keep : Bone → Bool) (b : Bone) (bs : List Bone) (w : Option ℕ) (x y : Bool) → wanted w b ≡ x → keep b ≡ y → (wanted w b ≡ true → keep b ≡ true) → (wanted w b ≡ true → line (filter keep bs) b.parent ≡ line bs b.parent) → (wanted w b ≡ false → line (filter keep bs) w ≡ line bs w) → line (filter keep (b ∷ bs)) w ≡ line (b ∷ bs) w
 filter_step keep b bs w true true ex ey kept up on = rw (ey, ex) (ap (λ l. b ∷ l) (up ex))
@@ -159,18 +159,18 @@ falls-filter keep n (b ∷ bs) f =
     (λ e. falls-weaker b.number n (filter keep bs) (let low : b.number < n = f.0 in omega arith) (falls-filter keep b.number bs f.1))
 
 -- a number that still stands stood before and passes
-pub has-filter : (test : ℕ → Bool) (bs : List Bone) (k : ℕ) → has k (nums (filter (λ b. test b.number) bs)) ≡ true → (has k (nums bs) ≡ true) × (test k ≡ true)
+pub has-filter : (test : ℕ → Bool) (bs : List Bone) (k : ℕ) → is_on k (nums (filter (λ b. test b.number) bs)) ≡ true → (is_on k (nums bs) ≡ true) × (test k ≡ true)
 has-filter test [] k h = cc
 has-filter test (b ∷ bs) k h = filter_has_step test b bs k (test b.number) refl (has-filter test bs k) h where
-  filter_has_step : (test : ℕ → Bool) (b : Bone) (bs : List Bone) (k : ℕ) (x : Bool) → test b.number ≡ x → (has k (nums (filter (λ b. test b.number) bs)) ≡ true → (has k (nums bs) ≡ true) × (test k ≡ true)) → has k (nums (filter (λ b. test b.number) (b ∷ bs))) ≡ true → (has k (nums (b ∷ bs)) ≡ true) × (test k ≡ true)
+  filter_has_step : (test : ℕ → Bool) (b : Bone) (bs : List Bone) (k : ℕ) (x : Bool) → test b.number ≡ x → (is_on k (nums (filter (λ b. test b.number) bs)) ≡ true → (is_on k (nums bs) ≡ true) × (test k ≡ true)) → is_on k (nums (filter (λ b. test b.number) (b ∷ bs))) ≡ true → (is_on k (nums (b ∷ bs)) ≡ true) × (test k ≡ true)
   filter_has_step test b bs k true e on h =
-      let g : ((b.number == k) || has k (nums (filter (λ b. test b.number) bs))) ≡ true = rw e at h in
-      elim (or_cases (b.number == k) (has k (nums (filter (λ b. test b.number) bs))) g) [
-        | inl here ↦ (or_left (b.number == k) (has k (nums bs)) here, subst (λ n. test n ≡ true) (eqb-true b.number k here) e)
-        | inr there ↦ (or_right (b.number == k) (has k (nums bs)) (on there).0, (on there).1)
+      let g : ((b.number == k) || is_on k (nums (filter (λ b. test b.number) bs))) ≡ true = rw e at h in
+      elim (or_cases (b.number == k) (is_on k (nums (filter (λ b. test b.number) bs))) g) [
+        | inl here ↦ (or_left (b.number == k) (is_on k (nums bs)) here, subst (λ n. test n ≡ true) (eqb-true b.number k here) e)
+        | inr there ↦ (or_right (b.number == k) (is_on k (nums bs)) (on there).0, (on there).1)
       ]
   filter_has_step test b bs k false e on h =
-      let r = on (rw e at h) in (or_right (b.number == k) (has k (nums bs)) r.0, r.1)
+      let r = on (rw e at h) in (or_right (b.number == k) (is_on k (nums bs)) r.0, r.1)
 
 -- a change of a scope that keeps its bone changes no bone
 pub bones-change : (p : Scope → Bool) (f : Scope → Scope) → ((g : Scope) → bone (f g) ≡ bone g) → (gs : List Scope) → map bone (change_first p f gs) ≡ map bone gs
@@ -187,11 +187,11 @@ bones-filter test (g ∷ gs) = bones_filter_step test g gs (test g.number.0) ref
   bones_filter_step test g gs false e ih = rw e ih
 
 -- what a search among the scopes finds stands
-pub find-stands : (p : Scope → Bool) (gs : List Scope) (g : Scope) → find p gs ≡ Some g → has g.number.0 (nums (map bone gs)) ≡ true
+pub find-stands : (p : Scope → Bool) (gs : List Scope) (g : Scope) → find p gs ≡ Some g → is_on g.number.0 (nums (map bone gs)) ≡ true
 find-stands p [] g h = cc
 find-stands p (x ∷ gs) g h = find_step p x gs g (p x) refl (find-stands p gs g) h where
-  find_step : (p : Scope → Bool) (x : Scope) (gs : List Scope) (g : Scope) (b : Bool) → p x ≡ b → (find p gs ≡ Some g → has g.number.0 (nums (map bone gs)) ≡ true) → find p (x ∷ gs) ≡ Some g → has g.number.0 (nums (map bone (x ∷ gs))) ≡ true
+  find_step : (p : Scope → Bool) (x : Scope) (gs : List Scope) (g : Scope) (b : Bool) → p x ≡ b → (find p gs ≡ Some g → is_on g.number.0 (nums (map bone gs)) ≡ true) → find p (x ∷ gs) ≡ Some g → is_on g.number.0 (nums (map bone (x ∷ gs))) ≡ true
   find_step p x gs g true e on h =
       let same : x ≡ g = let k : Some x ≡ Some g = rw e at h in cc in
-      or_left (x.number.0 == g.number.0) (has g.number.0 (nums (map bone gs))) (eq-eqb x.number.0 g.number.0 (ap (λ (v : Scope). v.number.0) same))
-  find_step p x gs g false e on h = or_right (x.number.0 == g.number.0) (has g.number.0 (nums (map bone gs))) (on (rw e at h))
+      or_left (x.number.0 == g.number.0) (is_on g.number.0 (nums (map bone gs))) (eq-eqb x.number.0 g.number.0 (ap (λ (v : Scope). v.number.0) same))
+  find_step p x gs g false e on h = or_right (x.number.0 == g.number.0) (is_on g.number.0 (nums (map bone gs))) (on (rw e at h))

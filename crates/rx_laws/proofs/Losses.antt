@@ -9,7 +9,7 @@ use Rattle.rx_rules.specs.declared.tasks.Where.{Where}
 use Rattle.rx_rules.specs.declared.tasks.Where.TheVariants.{At, Travel}
 use Rattle.rx_rules.specs.Entries.{is_hit}
 use Rattle.rx_rules.specs.Entries.{hit as hit_row}
-use Rattle.rx_rules.specs.Laws.{Birth, has, until}
+use Rattle.rx_rules.specs.Laws.{TaskBirth, is_on, until}
 use Rattle.rx_laws.proofs.Lines.{Bone, nums, line, Falls, has-filter, before_on}
 use Rattle.rx_laws.proofs.Aligned.{Facts, IsWhere, has_moved, blow_place, IsRow, IsOut, ended, gone, Aligned, none, out, row, BirthsOk}
 use Rattle.rx_rules.specs.declared.tasks.Task.{Task}
@@ -17,7 +17,7 @@ use Rattle.rx_rules.specs.declared.tasks.Blow.{Blow}
 
 -- A death of d.
 
-abbrev pub exposed : (ℕ → Bool) → Facts → Birth → ℕ → Bool
+abbrev pub exposed : (ℕ → Bool) → Facts → TaskBirth → ℕ → Bool
 exposed born F b d =
     cond (born b.task) (not (F.ended b.task) && cond (has_moved F b) (b.to == d) ((b.from == d) || (b.to == d))) (b.to == d)
 
@@ -28,16 +28,16 @@ some_or : (o p : Option ℕ) → is_some o ≡ true → is_some (option_or o p) 
 some_or None p h = cc
 some_or (Some x) p h = refl
 
-out-struck : (born : ℕ → Bool) (d : ℕ) (F : Facts) (B : List Bone) (b : Birth) → born b.task ≡ true → IsOut F B b → IsOut (struck_too born d F) B b
+out-struck : (born : ℕ → Bool) (d : ℕ) (F : Facts) (B : List Bone) (b : TaskBirth) → born b.task ≡ true → IsOut F B b → IsOut (struck_too born d F) B b
 out-struck born d F B b k (ended e h) = ended e (rw (h, k, e))
 out-struck born d F B b k (gone e h) = gone (some_or (F.hit b) (cond (exposed born F b d) (Some d) None) e) h
 
-hit-where : (d : PlaceId) (b : Birth) (moved : Bool) (w : Where) → IsWhere moved b w → is_hit d w ≡ cond moved (b.to == d.0) ((b.from == d.0) || (b.to == d.0))
+hit-where : (d : PlaceId) (b : TaskBirth) (moved : Bool) (w : Where) → IsWhere moved b w → is_hit d w ≡ cond moved (b.to == d.0) ((b.from == d.0) || (b.to == d.0))
 hit-where d b moved (At p) h = rw (h.0, h.1)
 hit-where d b moved (Travel from to) h = rw (h.0, h.1, h.2)
 
 -- the row after the death, by what it was struck by before
-struck_step : (born : ℕ → Bool) (F : Facts) (w : Blow) (b : Birth) (x : Task) (s : Option Blow) → x.struck ≡ s → F.ended b.task ≡ false → born b.task ≡ true → IsWhere (has_moved F b) b x.place → option_map blow_place s ≡ F.hit b → option_map blow_place (hit_row w x).struck ≡ option_or (F.hit b) (cond (exposed born F b w.place.0) (Some w.place.0) None)
+struck_step : (born : ℕ → Bool) (F : Facts) (w : Blow) (b : TaskBirth) (x : Task) (s : Option Blow) → x.struck ≡ s → F.ended b.task ≡ false → born b.task ≡ true → IsWhere (has_moved F b) b x.place → option_map blow_place s ≡ F.hit b → option_map blow_place (hit_row w x).struck ≡ option_or (F.hit b) (cond (exposed born F b w.place.0) (Some w.place.0) None)
 struck_step born F w b x (Some v) e g k p h = rw (← h, e)
 struck_step born F w b x None e g k p h =
     let free : is_none x.struck ≡ true = ap is_none e in
@@ -48,7 +48,7 @@ struck_step born F w b x None e g k p h =
     hits true x w e = refl
     hits false x w e = ap (option_map blow_place) e
 
-row-struck : (born : ℕ → Bool) (F : Facts) (B : List Bone) (w : Blow) (b : Birth) (x : Task) → born b.task ≡ true → IsRow F B b x → IsRow (struck_too born w.place.0 F) B b (hit_row w x)
+row-struck : (born : ℕ → Bool) (F : Facts) (B : List Bone) (w : Blow) (b : TaskBirth) (x : Task) → born b.task ≡ true → IsRow F B b x → IsRow (struck_too born w.place.0 F) B b (hit_row w x)
 row-struck born F B w b x k r =
     record {
       number = same_number (is_none x.struck && is_hit w.place x.place) ∙ r.number;
@@ -71,7 +71,7 @@ row-struck born F B w b x k r =
     same_place true = refl
     same_place false = refl
 
-pub aligned-struck : (born : ℕ → Bool) (F : Facts) (B : List Bone) (w : Blow) (n m : ℕ) {bs : List Birth} {xs : List Task} → BirthsOk born n m bs → Aligned F B bs xs → Aligned (struck_too born w.place.0 F) B bs (map (hit_row w) xs)
+pub aligned-struck : (born : ℕ → Bool) (F : Facts) (B : List Bone) (w : Blow) (n m : ℕ) {bs : List TaskBirth} {xs : List Task} → BirthsOk born n m bs → Aligned F B bs xs → Aligned (struck_too born w.place.0 F) B bs (map (hit_row w) xs)
 aligned-struck born F B w n m h none = none
 aligned-struck born F B w n m h (out {b = b} o a) = out (out-struck born w.place.0 F B b h.2 o) (aligned-struck born F B w b.task m h.3 a)
 aligned-struck born F B w n m h (row {b = b} {x = x} r a) =
@@ -90,64 +90,64 @@ any-more s r (g ∷ l) h =
       | inr e ↦ or_right ((s == g) || r g) (list_any (λ g. (s == g) || r g) l) (any-more s r l e)
     ]
 
-any-has : (s : ℕ) (r : ℕ → Bool) (l : List ℕ) → has s l ≡ true → list_any (λ g. (s == g) || r g) l ≡ true
+any-has : (s : ℕ) (r : ℕ → Bool) (l : List ℕ) → is_on s l ≡ true → list_any (λ g. (s == g) || r g) l ≡ true
 any-has s r [] h = cc
 any-has s r (g ∷ l) h =
-    elim (or_cases (g == s) (has s l) h) [
+    elim (or_cases (g == s) (is_on s l) h) [
       | inl e ↦ or_left ((s == g) || r g) (list_any (λ g. (s == g) || r g) l) (or_left (s == g) (r g) (eq-eqb s g (sym (eqb-true g s e))))
       | inr e ↦ or_right ((s == g) || r g) (list_any (λ g. (s == g) || r g) l) (any-has s r l e)
     ]
 
 -- a scope that no release of s takes
-pub any-none : (s : ℕ) (r : ℕ → Bool) (l : List ℕ) → has s l ≡ false → list_any r l ≡ false → list_any (λ g. (s == g) || r g) l ≡ false
+pub any-none : (s : ℕ) (r : ℕ → Bool) (l : List ℕ) → is_on s l ≡ false → list_any r l ≡ false → list_any (λ g. (s == g) || r g) l ≡ false
 any-none s r [] h k = refl
 any-none s r (g ∷ l) h k =
-    let a = or_parts (g == s) (has s l) h in
+    let a = or_parts (g == s) (is_on s l) h in
     let c = or_parts (r g) (list_any r l) k in
     let other : (s == g) ≡ false = ne_eqb s g (λ e. true≢false (sym (eq-eqb g s (sym e)) ∙ a.0)) in
     rw (other, c.0) (any-none s r l a.1 c.1)
 
 -- whether a number is off the line to s
 abbrev pub is_off : List Bone → ℕ → ℕ → Bool
-is_off B s n = not (has s (nums (line B (Some n))))
+is_off B s n = not (is_on s (nums (line B (Some n))))
 
 abbrev pub left_of : List Bone → ℕ → List Bone
 left_of B s = filter (λ b. is_off B s b.number) B
 
-pub has-left : (test : ℕ → Bool) (bs : List Bone) (k : ℕ) → has k (nums bs) ≡ true → test k ≡ true → has k (nums (filter (λ b. test b.number) bs)) ≡ true
+pub has-left : (test : ℕ → Bool) (bs : List Bone) (k : ℕ) → is_on k (nums bs) ≡ true → test k ≡ true → is_on k (nums (filter (λ b. test b.number) bs)) ≡ true
 has-left test [] k h t = h
-has-left test (b ∷ bs) k h t = left_step test b bs k (test b.number) refl (or_cases (b.number == k) (has k (nums bs)) h) t (λ g. has-left test bs k g t) where
-  left_step : (test : ℕ → Bool) (b : Bone) (bs : List Bone) (k : ℕ) (y : Bool) → test b.number ≡ y → ((b.number == k) ≡ true) ⊎ (has k (nums bs) ≡ true) → test k ≡ true → (has k (nums bs) ≡ true → has k (nums (filter (λ b. test b.number) bs)) ≡ true) → has k (nums (filter (λ b. test b.number) (b ∷ bs))) ≡ true
+has-left test (b ∷ bs) k h t = left_step test b bs k (test b.number) refl (or_cases (b.number == k) (is_on k (nums bs)) h) t (λ g. has-left test bs k g t) where
+  left_step : (test : ℕ → Bool) (b : Bone) (bs : List Bone) (k : ℕ) (y : Bool) → test b.number ≡ y → ((b.number == k) ≡ true) ⊎ (is_on k (nums bs) ≡ true) → test k ≡ true → (is_on k (nums bs) ≡ true → is_on k (nums (filter (λ b. test b.number) bs)) ≡ true) → is_on k (nums (filter (λ b. test b.number) (b ∷ bs))) ≡ true
   left_step test b bs k true e (inl here) t on = rw (e, here)
-  left_step test b bs k true e (inr there) t on = rw e (or_right (b.number == k) (has k (nums (filter (λ b. test b.number) bs))) (on there))
+  left_step test b bs k true e (inr there) t on = rw e (or_right (b.number == k) (is_on k (nums (filter (λ b. test b.number) bs))) (on there))
   left_step test b bs k false e (inl here) t on = absurd (true≢false (sym t ∙ ap test (sym (eqb-true b.number k here)) ∙ e))
   left_step test b bs k false e (inr there) t on = rw e (on there)
 
 abbrev pub LinesWalk : Facts → List Bone → Type 0
-LinesWalk F B = (n : ℕ) → has n (nums B) ≡ true → nums (line B (Some n)) ≡ F.walk n
+LinesWalk F B = (n : ℕ) → is_on n (nums B) ≡ true → nums (line B (Some n)) ≡ F.walk n
 
 module _ (F : Facts) (B : List Bone) (k s : ℕ) (falls : Falls k B) (walks : LinesWalk F B) where
-  out-left : (b : Birth) → IsOut F B b → IsOut (released_too s F) (left_of B s) b
+  out-left : (b : TaskBirth) → IsOut F B b → IsOut (released_too s F) (left_of B s) b
   out-left b (ended e h) = ended e h
   out-left b (gone e h) =
       gone e (λ n n_in on. any-more s F.released (until n (F.walk b.under)) (h n (has-filter (is_off B s) B n n_in).0 on))
 
   -- a task under s that was lost
-  row-goes : (b : Birth) (x : Task) → has s (nums (line B (Some x.under.0))) ≡ true → is_none x.struck ≡ false → IsRow F B b x → IsOut (released_too s F) (left_of B s) b
+  row-goes : (b : TaskBirth) (x : Task) → is_on s (nums (line B (Some x.under.0))) ≡ true → is_none x.struck ≡ false → IsRow F B b x → IsOut (released_too s F) (left_of B s) b
   row-goes b x under_s lost r =
       let w : nums (line B (Some b.under)) ≡ F.walk b.under = walks b.under r.stands in
-      let here : has s (nums (line B (Some b.under))) ≡ true = subst (λ u. has s (nums (line B (Some u))) ≡ true) r.under under_s in
+      let here : is_on s (nums (line B (Some b.under))) ≡ true = subst (λ u. is_on s (nums (line B (Some u))) ≡ true) r.under under_s in
       gone (subst (λ o. is_some o ≡ true) r.struck (is_lost x.struck lost))
       (λ n n_in on.
       let off = has-filter (is_off B s) B n n_in in
-      let before : has s (until n (nums (line B (Some b.under)))) ≡ true = before_on k B falls (Some b.under) n s (ap (has n) w ∙ on) here (not-true (has s (nums (line B (Some n)))) off.1) in
-      any-has s F.released (until n (F.walk b.under)) (ap (λ l. has s (until n l)) (sym w) ∙ before))
+      let before : is_on s (until n (nums (line B (Some b.under)))) ≡ true = before_on k B falls (Some b.under) n s (ap (is_on n) w ∙ on) here (not-true (is_on s (nums (line B (Some n)))) off.1) in
+      any-has s F.released (until n (F.walk b.under)) (ap (λ l. is_on s (until n l)) (sym w) ∙ before))
     where
       is_lost : (o : Option Blow) → is_none o ≡ false → is_some (option_map blow_place o) ≡ true
       is_lost None h = cc
       is_lost (Some v) h = refl
 
-  row-left : (b : Birth) (x : Task) → has s (nums (line B (Some x.under.0))) ≡ false → IsRow F B b x → IsRow (released_too s F) (left_of B s) b x
+  row-left : (b : TaskBirth) (x : Task) → is_on s (nums (line B (Some x.under.0))) ≡ false → IsRow F B b x → IsRow (released_too s F) (left_of B s) b x
   row-left b x off r =
       record {
         number = r.number;
@@ -155,18 +155,18 @@ module _ (F : Facts) (B : List Bone) (k s : ℕ) (falls : Falls k B) (walks : Li
         place = r.place;
         struck = r.struck;
         going = r.going;
-        stands = has-left (is_off B s) B b.under r.stands (not_from_false (has s (nums (line B (Some b.under)))) (subst (λ u. has s (nums (line B (Some u))) ≡ false) r.under off));
+        stands = has-left (is_off B s) B b.under r.stands (not_from_false (is_on s (nums (line B (Some b.under)))) (subst (λ u. is_on s (nums (line B (Some u))) ≡ false) r.under off));
       }
 
   abbrev under_s : Task → Bool
-  under_s x = has s (nums (line B (Some x.under.0)))
+  under_s x = is_on s (nums (line B (Some x.under.0)))
 
-  release_step : (u : Task → Bool) (b : Birth) (x : Task) (bs : List Birth) (xs : List Task) (y z : Bool) → u x ≡ y → is_none x.struck ≡ z → is_some x.struck ≡ not z → u x ≡ under_s x → ((y && z) ≡ false) → IsRow F B b x → Aligned (released_too s F) (left_of B s) bs (filter (λ x. not (u x && is_some x.struck)) xs) → Aligned (released_too s F) (left_of B s) (b ∷ bs) (filter (λ x. not (u x && is_some x.struck)) (x ∷ xs))
+  release_step : (u : Task → Bool) (b : TaskBirth) (x : Task) (bs : List TaskBirth) (xs : List Task) (y z : Bool) → u x ≡ y → is_none x.struck ≡ z → is_some x.struck ≡ not z → u x ≡ under_s x → ((y && z) ≡ false) → IsRow F B b x → Aligned (released_too s F) (left_of B s) bs (filter (λ x. not (u x && is_some x.struck)) xs) → Aligned (released_too s F) (left_of B s) (b ∷ bs) (filter (λ x. not (u x && is_some x.struck)) (x ∷ xs))
   release_step u b x bs xs true true ey ez es same q r on = absurd (true≢false q)
   release_step u b x bs xs true false ey ez es same q r on = rw (ey, es) (out (row-goes b x (sym same ∙ ey) ez r) on)
   release_step u b x bs xs false z ey ez es same q r on = rw ey (row (row-left b x (sym same ∙ ey) r) on)
 
-  pub aligned-release : (u : Task → Bool) → ((x : Task) → u x ≡ under_s x) → {bs : List Birth} {xs : List Task} → list_any (λ x. u x && is_none x.struck) xs ≡ false → Aligned F B bs xs → Aligned (released_too s F) (left_of B s) bs (filter (λ x. not (u x && is_some x.struck)) xs)
+  pub aligned-release : (u : Task → Bool) → ((x : Task) → u x ≡ under_s x) → {bs : List TaskBirth} {xs : List Task} → list_any (λ x. u x && is_none x.struck) xs ≡ false → Aligned F B bs xs → Aligned (released_too s F) (left_of B s) bs (filter (λ x. not (u x && is_some x.struck)) xs)
   aligned-release u same q none = none
   aligned-release u same q (out {b = b} o a) = out (out-left b o) (aligned-release u same q a)
   aligned-release u same q (row {b = b} {x = x} {bs = bs} {xs = xs} r a) =

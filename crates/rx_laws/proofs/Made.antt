@@ -16,7 +16,7 @@ use Rattle.rx_rules.specs.declared.entries.Entry.{Entry}
 use Rattle.rx_rules.specs.declared.entries.Entry.TheVariants.{Step, Root, Death}
 use Rattle.rx_rules.specs.Tree.{Tree, is_task, is_finish, task_of, scope_of, own_scope, inner, governs, chain_in, on_chain, is_under, quiet, death_of, the_root, is_scope}
 use Rattle.rx_rules.specs.Entries.{change_first, change_scope, born, waiting, resumed, without, after_end, made, Allowed, MayRelease}
-use Rattle.rx_rules.specs.Laws.{Birth, has, is_born, born_so_far, hit, has_landed, has_ended}
+use Rattle.rx_rules.specs.Laws.{TaskBirth, is_on, is_born, born_so_far, hit_at, has_landed, has_ended}
 use Rattle.rx_laws.proofs.Lines.{Bone, bone, bones, nums, line, has_finish, line-in, find-stands, chain-bones, on_chain-line, bones-change, bones-filter}
 use Rattle.rx_laws.proofs.Aligned.{Facts, facts, IsWhere, blow_place, IsRow, found, aligned-change, ended_too, is_other}
 use Rattle.rx_laws.proofs.Losses.{is_off, left_of, released_too}
@@ -27,7 +27,7 @@ use Rattle.rx_rules.specs.declared.tasks.Scope.{Scope}
 use Rattle.rx_rules.proofs.Lookups.{number-of}
 
 -- a change of a row in what no birth tells, and of scopes in what no bone tells
-pub ties-change : (q : ℕ) (F : Facts) (born died : ℕ → Bool) (bs : List Birth) (next_task next_scope places : ℕ) (dead : List (Option ℕ)) (B C : List Bone) (xs : List Task) → C ≡ B → (p : Task → Bool) (f : Task → Task) → ((b : Birth) (x : Task) → IsRow F B b x → IsRow F B b (f x)) → Ties q F born died bs next_task next_scope places dead B xs → Ties q F born died bs next_task next_scope places dead C (change_first p f xs)
+pub ties-change : (q : ℕ) (F : Facts) (born died : ℕ → Bool) (bs : List TaskBirth) (next_task next_scope places : ℕ) (dead : List (Option ℕ)) (B C : List Bone) (xs : List Task) → C ≡ B → (p : Task → Bool) (f : Task → Task) → ((b : TaskBirth) (x : Task) → IsRow F B b x → IsRow F B b (f x)) → Ties q F born died bs next_task next_scope places dead B xs → Ties q F born died bs next_task next_scope places dead C (change_first p f xs)
 ties-change q F born died bs next_task next_scope places dead B C xs e p f same i =
     subst (λ D. Ties q F born died bs next_task next_scope places dead D (change_first p f xs)) (sym e)
     (record {
@@ -43,41 +43,41 @@ ties-change q F born died bs next_task next_scope places dead B C xs e p f same 
       same_places = i.same_places;
     })
 
-row-waits : (F : Facts) (B : List Bone) (y : Bool) (b : Birth) (x : Task) → IsRow F B b x → IsRow F B b (record x { waits = y })
+row-waits : (F : Facts) (B : List Bone) (y : Bool) (b : TaskBirth) (x : Task) → IsRow F B b x → IsRow F B b (record x { waits = y })
 row-waits F B y b x r =
     record { number = r.number; under = r.under; place = r.place; struck = r.struck; going = r.going; stands = r.stands }
 
 -- the scope that a standing task works in stands
-pub inner_stands : (q : ℕ) (past : List Entry) (T : Tree) → Tied q past T → (t : TaskId) (x : Task) → task_of T t ≡ Some x → has (inner T x).0 (nums (bones T)) ≡ true
+pub inner_stands : (q : ℕ) (past : List Entry) (T : Tree) → Tied q past T → (t : TaskId) (x : Task) → task_of T t ≡ Some x → is_on (inner T x).0 (nums (bones T)) ≡ true
 inner_stands q past T i t x h = by_own (own_scope T x.number) refl where
-  by_own : (o : Option Scope) → own_scope T x.number ≡ o → has (elim o as (λ _. ScopeId) [ Some g ↦ g.number | None ↦ x.under ]).0 (nums (bones T)) ≡ true
+  by_own : (o : Option Scope) → own_scope T x.number ≡ o → is_on (elim o as (λ _. ScopeId) [ Some g ↦ g.number | None ↦ x.under ]).0 (nums (bones T)) ≡ true
   by_own (Some g) e = find-stands _ T.scopes g e
   by_own None e =
       let f = found (facts past) (bones T) (is_task t) i.tasks x h in
-      subst (λ n. has n (nums (bones T)) ≡ true) (sym f.is_row.under) f.is_row.stands
+      subst (λ n. is_on n (nums (bones T)) ≡ true) (sym f.is_row.under) f.is_row.stands
 
 -- and so does the finish that governs it
 abbrev first_finish : List Scope → ScopeId → ScopeId
 first_finish gs root = elim (find (λ g. is_finish g.kind) gs) as (λ _. ScopeId) [ Some g ↦ g.number | None ↦ root ]
 
-finds_step : (g : Scope) (gs : List Scope) (root : ScopeId) (y : Bool) → is_finish g.kind ≡ y → has_finish (map bone (g ∷ gs)) ≡ true → (has_finish (map bone gs) ≡ true → has (first_finish gs root).0 (nums (map bone gs)) ≡ true) → has (first_finish (g ∷ gs) root).0 (nums (map bone (g ∷ gs))) ≡ true
+finds_step : (g : Scope) (gs : List Scope) (root : ScopeId) (y : Bool) → is_finish g.kind ≡ y → has_finish (map bone (g ∷ gs)) ≡ true → (has_finish (map bone gs) ≡ true → is_on (first_finish gs root).0 (nums (map bone gs)) ≡ true) → is_on (first_finish (g ∷ gs) root).0 (nums (map bone (g ∷ gs))) ≡ true
 finds_step g gs root true e h on =
     let it : first_finish (g ∷ gs) root ≡ g.number = rw (e, first_finish) in
-    subst (λ (v : ScopeId). has v.0 (nums (map bone (g ∷ gs))) ≡ true) (sym it) (or_left (g.number.0 == g.number.0) (has g.number.0 (nums (map bone gs))) (eq-eqb g.number.0 g.number.0 refl))
+    subst (λ (v : ScopeId). is_on v.0 (nums (map bone (g ∷ gs))) ≡ true) (sym it) (or_left (g.number.0 == g.number.0) (is_on g.number.0 (nums (map bone gs))) (eq-eqb g.number.0 g.number.0 refl))
 finds_step g gs root false e h on =
     let it : first_finish (g ∷ gs) root ≡ first_finish gs root = rw (e, first_finish) in
-    subst (λ (v : ScopeId). has v.0 (nums (map bone (g ∷ gs))) ≡ true) (sym it) (or_right (g.number.0 == (first_finish gs root).0) (has (first_finish gs root).0 (nums (map bone gs))) (on (rw e at h)))
+    subst (λ (v : ScopeId). is_on v.0 (nums (map bone (g ∷ gs))) ≡ true) (sym it) (or_right (g.number.0 == (first_finish gs root).0) (is_on (first_finish gs root).0 (nums (map bone gs))) (on (rw e at h)))
 
-finds_some : (gs : List Scope) → has_finish (map bone gs) ≡ true → (root : ScopeId) → has (first_finish gs root).0 (nums (map bone gs)) ≡ true
+finds_some : (gs : List Scope) → has_finish (map bone gs) ≡ true → (root : ScopeId) → is_on (first_finish gs root).0 (nums (map bone gs)) ≡ true
 finds_some [] h root = cc
 finds_some (g ∷ gs) h root = finds_step g gs root (is_finish g.kind) refl h (λ k. finds_some gs k root)
 
-pub governs_stands : (q : ℕ) (past : List Entry) (T : Tree) → Tied q past T → (t : TaskId) (x : Task) → task_of T t ≡ Some x → has (governs T x).0 (nums (bones T)) ≡ true
+pub governs_stands : (q : ℕ) (past : List Entry) (T : Tree) → Tied q past T → (t : TaskId) (x : Task) → task_of T t ≡ Some x → is_on (governs T x).0 (nums (bones T)) ≡ true
 governs_stands q past T i t x h =
     let o : ScopeOk (facts past) (bones T) (inner T x).0 = i.scopes (inner T x).0 (inner_stands q past T i t x h) in
     let e : map bone (chain_in T.scopes (Some (inner T x))) ≡ line (bones T) (Some (inner T x).0) = chain-bones T.scopes (Some (inner T x)) in
-    let on : has (governs T x).0 (nums (map bone (chain_in T.scopes (Some (inner T x))))) ≡ true = finds_some (chain_in T.scopes (Some (inner T x))) (ap has_finish e ∙ o.finish) the_root in
-    line-in (bones T) (Some (inner T x).0) (governs T x).0 (subst (λ l. has (governs T x).0 (nums l) ≡ true) e on)
+    let on : is_on (governs T x).0 (nums (map bone (chain_in T.scopes (Some (inner T x))))) ≡ true = finds_some (chain_in T.scopes (Some (inner T x))) (ap has_finish e ∙ o.finish) the_root in
+    line-in (bones T) (Some (inner T x).0) (governs T x).0 (subst (λ l. is_on (governs T x).0 (nums l) ≡ true) e on)
 
 -- the row of a task that is born
 born_struck : (o : Option ℕ) (d : Bool) (to : PlaceId) → is_some o ≡ d → option_map blow_place (option_map (λ n. record { place = to; entry = n }) o) ≡ cond d (Some to.0) None
@@ -88,7 +88,7 @@ born_where : (from to : PlaceId) (y landed : Bool) → (from.0 == to.0) ≡ y �
 born_where from to true landed e h = rw e (refl, refl)
 born_where from to false landed e h = rw e (h, refl, refl)
 
-row-born : (q : ℕ) (past : List Entry) (T : Tree) → Tied q past T → (F : Facts) (B : List Bone) → F.ended ≡ has_ended past → F.landed ≡ has_landed past → F.hit ≡ hit past → (c : TaskId) (s : ScopeId) (from to : PlaceId) → c.0 ≡ T.next_task → to.0 < 16 → has s.0 (nums B) ≡ true → IsRow F B (record { task = c.0; under = s.0; from = from.0; to = to.0 }) (born T c s from to)
+row-born : (q : ℕ) (past : List Entry) (T : Tree) → Tied q past T → (F : Facts) (B : List Bone) → F.ended ≡ has_ended past → F.landed ≡ has_landed past → F.hit ≡ hit_at past → (c : TaskId) (s : ScopeId) (from to : PlaceId) → c.0 ≡ T.next_task → to.0 < 16 → is_on s.0 (nums B) ≡ true → IsRow F B (record { task = c.0; under = s.0; from = from.0; to = to.0 }) (born T c s from to)
 row-born q past T i F B fe fl fh c s from to e low there =
     let u = i.later c.0 (omega arith) in
     record {
@@ -117,13 +117,13 @@ module _ (q : ℕ) (small : q ≤ 16) (n : ℕ) (past : List Entry) (T : Tree) (
 
   makes_open : (t : TaskId) (s r : ScopeId) (path : List ℕ) (batch : List (List ℕ)) → Keeps (Step t (Open s r path) batch)
   makes_open t s r path batch a =
-      let there : has r.0 (nums (bones T)) ≡ true = subst (λ (v : ScopeId). has v.0 (nums (bones T)) ≡ true) (sym a.parent) (inner_stands q past T i t a.task a.live.acts.stands) in
+      let there : is_on r.0 (nums (bones T)) ≡ true = subst (λ (v : ScopeId). is_on v.0 (nums (bones T)) ≡ true) (sym a.parent) (inner_stands q past T i t a.task a.live.acts.stands) in
       ties-open q (facts past) (is_born past) (has_died past) (born_so_far past) T.next_task T.next_scope T.places T.dead (bones T) T.tasks i
       (record { number = s.0; parent = Some r.0; finish = true }) r.0 a.next refl there
 
   makes_spawn : (t c : TaskId) (s : ScopeId) (from to : PlaceId) (path : List ℕ) (batch : List (List ℕ)) → Keeps (Step t (Spawn c s from to path) batch)
   makes_spawn t c s from to path batch a =
-      let there : has s.0 (nums (bones T)) ≡ true = subst (λ (v : ScopeId). has v.0 (nums (bones T)) ≡ true) (sym a.under) (governs_stands q past T i t a.task a.live.acts.stands) in
+      let there : is_on s.0 (nums (bones T)) ≡ true = subst (λ (v : ScopeId). is_on v.0 (nums (bones T)) ≡ true) (sym a.under) (governs_stands q past T i t a.task a.live.acts.stands) in
       let low : to.0 < 16 = let k : to.0 < T.places = a.target in let e : T.places ≡ q = i.same_places in omega arith in
       ties-born q (facts past) (is_born past) (has_died past) (born_so_far past) T.next_task T.next_scope T.places T.dead (bones T) T.tasks i
       (record { task = c.0; under = s.0; from = from.0; to = to.0 }) (born T c s from to) a.next_task there
@@ -131,12 +131,12 @@ module _ (q : ℕ) (small : q ≤ 16) (n : ℕ) (past : List Entry) (T : Tree) (
 
   makes_call : (t : TaskId) (s r : ScopeId) (c : TaskId) (from to : PlaceId) (path : List ℕ) (batch : List (List ℕ)) → Keeps (Step t (Calls s r c from to path) batch)
   makes_call t s r c from to path batch a =
-      let there : has r.0 (nums (bones T)) ≡ true = subst (λ (v : ScopeId). has v.0 (nums (bones T)) ≡ true) (sym a.parent) (inner_stands q past T i t a.task a.live.acts.stands) in
+      let there : is_on r.0 (nums (bones T)) ≡ true = subst (λ (v : ScopeId). is_on v.0 (nums (bones T)) ≡ true) (sym a.parent) (inner_stands q past T i t a.task a.live.acts.stands) in
       let low : to.0 < 16 = let k : to.0 < T.places = a.target in let e : T.places ≡ q = i.same_places in omega arith in
       let P : Bone = record { number = s.0; parent = Some r.0; finish = false } in
       let F : Facts = walks_too s.0 r.0 (facts past) in
       let o = ties-open q (facts past) (is_born past) (has_died past) (born_so_far past) T.next_task T.next_scope T.places T.dead (bones T) T.tasks i P r.0 a.next refl there in
-      let new : has s.0 (nums (P ∷ bones T)) ≡ true = or_left (s.0 == s.0) (has s.0 (nums (bones T))) (eq-eqb s.0 s.0 refl) in
+      let new : is_on s.0 (nums (P ∷ bones T)) ≡ true = or_left (s.0 == s.0) (is_on s.0 (nums (bones T))) (eq-eqb s.0 s.0 refl) in
       let b = ties-born q F (is_born past) (has_died past) (born_so_far past) T.next_task (suc T.next_scope) T.places T.dead (P ∷ bones T) T.tasks o
       (record { task = c.0; under = s.0; from = from.0; to = to.0 }) (born T c s from to) a.next_task new
       (row-born q past T i F (P ∷ bones T) refl refl refl c s from to a.next_task low new) in
@@ -166,16 +166,16 @@ module _ (q : ℕ) (small : q ≤ 16) (n : ℕ) (past : List Entry) (T : Tree) (
         filter-bones : (gs : List Scope) → ((g : Scope) → not (on_chain T s g.number) ≡ is_off (bones T) s.0 g.number.0) → map bone (filter (λ g. not (on_chain T s g.number)) gs) ≡ filter (λ b. is_off (bones T) s.0 b.number) (map bone gs)
         filter-bones gs same = ap (map bone) (filter_agree (λ g. not (on_chain T s g.number)) (λ g. is_off (bones T) s.0 g.number.0) same gs) ∙ bones-filter (is_off (bones T) s.0) gs
 
-  released : (s : ScopeId) → has s.0 (nums (bones T)) ≡ true → quiet T s ≡ true → Ties q (released_too s.0 (facts past)) (is_born past) (has_died past) (born_so_far past) T.next_task T.next_scope T.places T.dead (bones (without T s)) (without T s).tasks
+  released : (s : ScopeId) → is_on s.0 (nums (bones T)) ≡ true → quiet T s ≡ true → Ties q (released_too s.0 (facts past)) (is_born past) (has_died past) (born_so_far past) T.next_task T.next_scope T.places T.dead (bones (without T s)) (without T s).tasks
   released s there still =
       subst (λ C. Ties q (released_too s.0 (facts past)) (is_born past) (has_died past) (born_so_far past) T.next_task T.next_scope T.places T.dead C (without T s).tasks) (sym (without_bones s))
       (ties-release q (facts past) (is_born past) (has_died past) (born_so_far past) T.next_task T.next_scope T.places T.dead (bones T) T.tasks i s.0 there
       (is_under T s) (λ x. on_chain-line T s x.under) (not-true (list_any (λ x. is_under T s x && is_none x.struck) T.tasks) still))
 
   -- a scope that may be released stands
-  pub release_stands : (t : TaskId) (s : ScopeId) → MayRelease T t s → has s.0 (nums (bones T)) ≡ true
+  pub release_stands : (t : TaskId) (s : ScopeId) → MayRelease T t s → is_on s.0 (nums (bones T)) ≡ true
   release_stands t s a =
-      subst (λ (v : ScopeId). has v.0 (nums (bones T)) ≡ true) a.is_it (find-stands _ T.scopes a.scope a.own)
+      subst (λ (v : ScopeId). is_on v.0 (nums (bones T)) ≡ true) a.is_it (find-stands _ T.scopes a.scope a.own)
 
   makes_release : (t : TaskId) (s : ScopeId) (lost : PlaceSet) (thrown : List Fault) (batch : List (List ℕ)) → Keeps (Step t (Release s lost thrown) batch)
   makes_release t s lost thrown batch a =
@@ -183,9 +183,9 @@ module _ (q : ℕ) (small : q ≤ 16) (n : ℕ) (past : List Entry) (T : Tree) (
       (is_task t) resumed (row-waits (released_too s.0 (facts past)) (bones (without T s)) false)
       (released s (release_stands t s a.0) a.0.is_quiet)
 
-  pub root_stands : (g : Scope) → scope_of T the_root ≡ Some g → has 0 (nums (bones T)) ≡ true
+  pub root_stands : (g : Scope) → scope_of T the_root ≡ Some g → is_on 0 (nums (bones T)) ≡ true
   root_stands g h =
-      subst (λ k. has k (nums (bones T)) ≡ true) (eqb-true g.number.0 0 (find-passes (is_scope the_root) T.scopes g h)) (find-stands _ T.scopes g h)
+      subst (λ k. is_on k (nums (bones T)) ≡ true) (eqb-true g.number.0 0 (find-passes (is_scope the_root) T.scopes g h)) (find-stands _ T.scopes g h)
 
   makes_root : (lost : PlaceSet) (thrown : List Fault) → Keeps (Root lost thrown)
   makes_root lost thrown a = released the_root (root_stands a.0.root a.0.stands) a.0.is_quiet

@@ -1,4 +1,4 @@
--- The scopes that a task has opened and not released, with their numbers: `open_paths` has the paths alone.
+-- The scopes that a task is_on opened and not released, with their numbers: `open_paths` is_on the paths alone.
 use Rattle.std.specs.Prelude.{◌≡◌, ◌⊎◌, ℕ, Bool, true, false, cond, ◌==◌, List, [], ◌∷◌, Option, Some, None, refl}
 use Rattle.std.proofs.Common.{ap, sym, ◌∙◌, inl, inr}
 use Rattle.std.proofs.lemmas.Bool.{eqb-true, eq-eqb, cond_both, or_cases, or_left, or_right, true≢false}
@@ -7,7 +7,7 @@ use Rattle.rx_rules.specs.declared.entries.Act.{Act}
 use Rattle.rx_rules.specs.declared.entries.Act.TheVariants.{Open, At as Calling, Spawn, Arrive, Wait, Release, End, Print as Printed}
 use Rattle.rx_rules.specs.declared.entries.Entry.{Entry}
 use Rattle.rx_rules.specs.declared.entries.Entry.TheVariants.{Step, Root, Death}
-use Rattle.rx_rules.specs.Laws.{has}
+use Rattle.rx_rules.specs.Laws.{is_on}
 use Rattle.rx_rules.specs.Order.{own_path}
 use Rattle.rx_laws.proofs.Stacks.{stack_after, open_paths, Stacked}
 
@@ -77,15 +77,15 @@ on-stacked s x [] h = absurd h
 on-stacked s x (m ∷ ms) (inl e) = inl e.1
 on-stacked s x (m ∷ ms) (inr h) = inr (on-stacked s x ms h)
 
-pub on-nums : (s : ℕ) (x : List ℕ) (ms : List (ℕ × List ℕ)) → On s x ms → has s (nums_of ms) ≡ true
+pub on-nums : (s : ℕ) (x : List ℕ) (ms : List (ℕ × List ℕ)) → On s x ms → is_on s (nums_of ms) ≡ true
 on-nums s x [] h = absurd h
-on-nums s x (m ∷ ms) (inl e) = or_left (m.0 == s) (has s (nums_of ms)) (eq-eqb m.0 s (sym e.0))
-on-nums s x (m ∷ ms) (inr h) = or_right (m.0 == s) (has s (nums_of ms)) (on-nums s x ms h)
+on-nums s x (m ∷ ms) (inl e) = or_left (m.0 == s) (is_on s (nums_of ms)) (eq-eqb m.0 s (sym e.0))
+on-nums s x (m ∷ ms) (inr h) = or_right (m.0 == s) (is_on s (nums_of ms)) (on-nums s x ms h)
 
-pub nums-on : (s : ℕ) (ms : List (ℕ × List ℕ)) → has s (nums_of ms) ≡ true → (x : List ℕ) × On s x ms
+pub nums-on : (s : ℕ) (ms : List (ℕ × List ℕ)) → is_on s (nums_of ms) ≡ true → (x : List ℕ) × On s x ms
 nums-on s [] h = cc
 nums-on s (m ∷ ms) h =
-    elim (or_cases (m.0 == s) (has s (nums_of ms)) h) [
+    elim (or_cases (m.0 == s) (is_on s (nums_of ms)) h) [
       | inl e ↦ (m.1, inl (sym (eqb-true m.0 s e), refl))
       | inr k ↦ let r = nums-on s ms k in (r.0, inr r.1)
     ]

@@ -14,7 +14,7 @@ use Rattle.rx_rules.specs.declared.entries.Act.{Act}
 use Rattle.rx_rules.specs.declared.entries.Act.TheVariants.{Open, At as Calling, Spawn, Arrive, Wait, Release, End, Print as Printed}
 use Rattle.rx_rules.specs.Tree.{Tree, is_finish, is_task, task_of, opened_by, own_scope, inner, on_chain, is_scope}
 use Rattle.rx_rules.specs.Entries.{AllowedAct, made_act, after_end, change_first, change_scope, without}
-use Rattle.rx_rules.specs.Laws.{has}
+use Rattle.rx_rules.specs.Laws.{is_on}
 use Rattle.rx_laws.proofs.Lines.{bone, bones, nums, on_chain-line}
 use Rattle.rx_laws.proofs.Losses.{is_off}
 use Rattle.rx_laws.proofs.Opening.{is_opening}
@@ -77,15 +77,15 @@ inner-top T x = by_own (own_scope T x.number) refl where
   by_own None e = ap (top x.under.0) (sym (find-none x.number T.scopes e))
 
 -- what a task opened stands
-pub own-stands : (c n : ℕ) (gs : List Scope) → has n (own_nums c (map core gs)) ≡ true → has n (nums (map bone gs)) ≡ true
+pub own-stands : (c n : ℕ) (gs : List Scope) → is_on n (own_nums c (map core gs)) ≡ true → is_on n (nums (map bone gs)) ≡ true
 own-stands c n [] h = cc
 own-stands c n (g ∷ gs) h =
-    cond_both (owns c (option_map task_number g.opener)) (g.number.0 ∷ own_nums c (map core gs)) (own_nums c (map core gs)) (λ l. has n l ≡ true → has n (nums (map bone (g ∷ gs))) ≡ true)
-    (λ e k. elim (or_cases (g.number.0 == n) (has n (own_nums c (map core gs))) k) [
-      | inl a ↦ or_left (g.number.0 == n) (has n (nums (map bone gs))) a
-      | inr b ↦ or_right (g.number.0 == n) (has n (nums (map bone gs))) (own-stands c n gs b)
+    cond_both (owns c (option_map task_number g.opener)) (g.number.0 ∷ own_nums c (map core gs)) (own_nums c (map core gs)) (λ l. is_on n l ≡ true → is_on n (nums (map bone (g ∷ gs))) ≡ true)
+    (λ e k. elim (or_cases (g.number.0 == n) (is_on n (own_nums c (map core gs))) k) [
+      | inl a ↦ or_left (g.number.0 == n) (is_on n (nums (map bone gs))) a
+      | inr b ↦ or_right (g.number.0 == n) (is_on n (nums (map bone gs))) (own-stands c n gs b)
     ])
-    (λ e k. or_right (g.number.0 == n) (has n (nums (map bone gs))) (own-stands c n gs k)) h
+    (λ e k. or_right (g.number.0 == n) (is_on n (nums (map bone gs))) (own-stands c n gs k)) h
 
 -- Changes.
 
@@ -121,7 +121,7 @@ cores-end T t thrown x e =
     let made_so : after_end T t thrown ≡ change_scope (λ g. record g { ends = g.ends ++ thrown }) x.under (record T { tasks = filter (λ y. not (is_task t y)) T.tasks }) = rw (e, after_end) in
     ap cores made_so ∙ cores-change (is_scope x.under) (λ g. record g { ends = g.ends ++ thrown }) (λ g. refl) T.scopes
 
--- what an act makes of the scopes, and of those that its task has open: it leaves them, opens one, or releases some
+-- what an act makes of the scopes, and of those that its task is_on open: it leaves them, opens one, or releases some
 pub data Became (T : Tree) (t : TaskId) : Act → List Core → Type 0 where
   leaves : {act : Act} {ks : List Core} → scope_in act ≡ None → ((ms : List (ℕ × List ℕ)) → opened_after act ms ≡ ms) → ks ≡ cores T → Became T t act ks
   opens : {act : Act} {ks : List Core} (s : ℕ) → scope_in act ≡ Some s → s ≡ T.next_scope → ((ms : List (ℕ × List ℕ)) → nums_of (opened_after act ms) ≡ s ∷ nums_of ms) → ks ≡ record { number = s; opener = Some t.0; finish = is_opening act } ∷ cores T → Became T t act ks

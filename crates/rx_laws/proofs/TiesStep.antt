@@ -9,7 +9,7 @@ use Rattle.rx_base.specs.declared.ids.TaskId.{TaskId}
 use Rattle.rx_rules.specs.Tree.{is_task}
 use Rattle.rx_rules.specs.Entries.{change_first}
 use Rattle.rx_rules.specs.Entries.{hit as hit_row}
-use Rattle.rx_rules.specs.Laws.{Birth, has}
+use Rattle.rx_rules.specs.Laws.{TaskBirth, is_on}
 use Rattle.rx_laws.proofs.Lines.{Bone, nums, line, has_finish, has-below, has-filter, line_on, line-filter, falls-filter}
 use Rattle.rx_laws.proofs.Aligned.{Facts, found, landed_too, arrived, TravelsTo, aligned-arrive, ended_too, is_other, Unstruck, aligned-end}
 use Rattle.rx_laws.proofs.Losses.{is_off, left_of, released_too, any-none, aligned-release, struck_too, aligned-struck}
@@ -17,13 +17,13 @@ use Rattle.rx_laws.proofs.Ties.{Ties, births-below}
 use Rattle.rx_rules.specs.declared.tasks.Task.{Task}
 use Rattle.rx_rules.specs.declared.tasks.Blow.{Blow}
 
-all_off : (test : ℕ → Bool) (l : List Bone) → ((k : ℕ) → has k (nums l) ≡ true → test k ≡ true) → list_all (λ b. test b.number) l ≡ true
+all_off : (test : ℕ → Bool) (l : List Bone) → ((k : ℕ) → is_on k (nums l) ≡ true → test k ≡ true) → list_all (λ b. test b.number) l ≡ true
 all_off test [] h = refl
 all_off test (b ∷ l) h =
-    and_from (test b.number) (list_all (λ b. test b.number) l) (h b.number (or_left (b.number == b.number) (has b.number (nums l)) (eq-eqb b.number b.number refl)))
-    (all_off test l (λ k m. h k (or_right (b.number == k) (has k (nums l)) m)))
+    and_from (test b.number) (list_all (λ b. test b.number) l) (h b.number (or_left (b.number == b.number) (is_on b.number (nums l)) (eq-eqb b.number b.number refl)))
+    (all_off test l (λ k m. h k (or_right (b.number == k) (is_on k (nums l)) m)))
 
-module _ (q : ℕ) (F : Facts) (born died : ℕ → Bool) (bs : List Birth) (next_task next_scope places : ℕ) (dead : List (Option ℕ)) (B : List Bone) (xs : List Task) (i : Ties q F born died bs next_task next_scope places dead B xs) where
+module _ (q : ℕ) (F : Facts) (born died : ℕ → Bool) (bs : List TaskBirth) (next_task next_scope places : ℕ) (dead : List (Option ℕ)) (B : List Bone) (xs : List Task) (i : Ties q F born died bs next_task next_scope places dead B xs) where
   -- a task that is found is not yet to be born
   pub found_older : (t : TaskId) (x : Task) → find (is_task t) xs ≡ Some x → x.number.0 ≡ t.0 → t.0 < next_task
   found_older t x h same =
@@ -91,18 +91,18 @@ module _ (q : ℕ) (F : Facts) (born died : ℕ → Bool) (bs : List Birth) (nex
         same_places = i.same_places;
       }
 
-  pub ties-release : (s : ℕ) → has s (nums B) ≡ true → (u : Task → Bool) → ((x : Task) → u x ≡ has s (nums (line B (Some x.under.0)))) → list_any (λ x. u x && is_none x.struck) xs ≡ false → Ties q (released_too s F) born died bs next_task next_scope places dead (left_of B s) (filter (λ x. not (u x && is_some x.struck)) xs)
+  pub ties-release : (s : ℕ) → is_on s (nums B) ≡ true → (u : Task → Bool) → ((x : Task) → u x ≡ is_on s (nums (line B (Some x.under.0)))) → list_any (λ x. u x && is_none x.struck) xs ≡ false → Ties q (released_too s F) born died bs next_task next_scope places dead (left_of B s) (filter (λ x. not (u x && is_some x.struck)) xs)
   ties-release s there u same quiet =
       record {
         falls = falls-filter (λ b. is_off B s b.number) next_scope B i.falls;
         scopes = λ n k.
             let old = has-filter (is_off B s) B n k in
             let o = i.scopes n old.0 in
-            let off : has s (nums (line B (Some n))) ≡ false = not-true (has s (nums (line B (Some n)))) old.1 in
-            let stay : line (left_of B s) (Some n) ≡ line B (Some n) = line-filter (λ b. is_off B s b.number) B (Some n) (all_off (is_off B s) (line B (Some n)) (λ m on. not_from_false (has s (nums (line B (Some m)))) (line_on next_scope B i.falls (Some n) m s on off))) in
+            let off : is_on s (nums (line B (Some n))) ≡ false = not-true (is_on s (nums (line B (Some n)))) old.1 in
+            let stay : line (left_of B s) (Some n) ≡ line B (Some n) = line-filter (λ b. is_off B s b.number) B (Some n) (all_off (is_off B s) (line B (Some n)) (λ m on. not_from_false (is_on s (nums (line B (Some m)))) (line_on next_scope B i.falls (Some n) m s on off))) in
             record {
               walks = ap nums stay ∙ o.walks;
-              free = any-none s F.released (F.walk n) (ap (has s) (sym o.walks) ∙ off) o.free;
+              free = any-none s F.released (F.walk n) (ap (is_on s) (sym o.walks) ∙ off) o.free;
               finish = ap has_finish stay ∙ o.finish;
             };
         older = i.older;

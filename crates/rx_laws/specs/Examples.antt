@@ -35,7 +35,7 @@ script =
     Then (Finish (Then (AtAsync (Num (pos 1)) (Then (Print (Num (pos 7))) Nothing)) Nothing))
     (Then (Print (Num (pos 8))) Nothing)
 
--- the finish is opened, its child is on its way, and its body has ended
+-- the finish is opened, its child_entries is on its way, and its body has ended
 abbrev pub start : List Entry
 start =
     Step (task 0) (Open (scope 1) (scope 0) (0 ∷ [])) []
@@ -43,9 +43,9 @@ start =
     ∷ Step (task 0) (Wait (scope 1) []) []
     ∷ []
 
--- the child arrives, prints and ends
-abbrev pub child : List Entry
-child =
+-- the child_entries arrives, prints and ends
+abbrev pub child_entries : List Entry
+child_entries =
     Step (task 1) (Arrive (place 1)) []
     ∷ Step (task 1) (Prints (pos 7) (0 ∷ 0 ∷ 0 ∷ [])) []
     ∷ Step (task 1) (End []) []
@@ -65,9 +65,9 @@ released lost = Step (task 0) (Release (scope 1) (places lost) []) [] ∷ []
 
 -- a run without deaths
 abbrev pub ordinary : List Entry
-ordinary = start ++ child ++ released 0 ++ close
+ordinary = start ++ child_entries ++ released 0 ++ close
 
--- a run in which the child is lost on its way to place 1
+-- a run in which the child_entries is lost on its way to place 1
 abbrev pub lost_in_transit : List Entry
 lost_in_transit =
     start
@@ -77,11 +77,11 @@ lost_in_transit =
     ∷ Root (places 0) (Dead (place 1) ∷ [])
     ∷ []
 
--- the finish is released while the child is on its way
+-- the finish is released while the child_entries is on its way
 abbrev pub early : List Entry
 early = start ++ released 0
 
--- the finish is released while the child is at place 1
+-- the finish is released while the child_entries is at place 1
 abbrev pub early_at_work : List Entry
 early_at_work = start ++ Step (task 1) (Arrive (place 1)) [] ∷ released 0
 
@@ -89,13 +89,13 @@ early_at_work = start ++ Step (task 1) (Arrive (place 1)) [] ∷ released 0
 abbrev pub early_elsewhere : List Entry
 early_elsewhere = start ++ Death (place 2) ∷ released 0
 
--- the child is lost and not named
+-- the child_entries is lost and not named
 abbrev pub unnamed : List Entry
 unnamed = start ++ Death (place 1) ∷ released 0
 
--- the place of a child that had ended is named
+-- the place of a child_entries that had ended is named
 abbrev pub names_finished : List Entry
-names_finished = start ++ child ++ Death (place 1) ∷ released 2
+names_finished = start ++ child_entries ++ Death (place 1) ∷ released 2
 
 -- the root names a loss that the finish inside it has named
 abbrev pub named_again : List Entry
@@ -107,7 +107,7 @@ twice_by_one = ordinary ++ Step (task 0) (Prints (pos 8) (1 ∷ [])) [] ∷ []
 
 -- two tasks tell one print
 abbrev pub twice_by_two : List Entry
-twice_by_two = start ++ child ++ Step (task 0) (Prints (pos 7) (0 ∷ 0 ∷ 0 ∷ [])) [] ∷ []
+twice_by_two = start ++ child_entries ++ Step (task 0) (Prints (pos 7) (0 ∷ 0 ∷ 0 ∷ [])) [] ∷ []
 
 -- a batch holds the statement of its own entry
 abbrev pub twice_in_entry : List Entry
@@ -115,14 +115,14 @@ twice_in_entry = Step (task 0) (Prints (pos 8) (1 ∷ [])) ((1 ∷ []) ∷ []) �
 
 -- the last print stands before the print for which the finish waits
 abbrev pub print_too_soon : List Entry
-print_too_soon = start ++ close ++ child
+print_too_soon = start ++ close ++ child_entries
 
 -- the last print stands in the batch of an entry before that print
 abbrev pub batch_too_soon : List Entry
 batch_too_soon =
     Step (task 0) (Open (scope 1) (scope 0) (0 ∷ [])) []
     ∷ Step (task 0) (Wait (scope 1) []) ((1 ∷ []) ∷ [])
-    ∷ child
+    ∷ child_entries
 
 -- two places without events
 abbrev pub no_events : List (List PlaceEvent)

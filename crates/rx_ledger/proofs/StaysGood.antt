@@ -18,12 +18,12 @@ use Rattle.rx_rules.proofs.Append.{made-places, tree-places}
 use Rattle.rx_sound.specs.Sound.{Each}
 use Rattle.rx_sound.proofs.Histories.{reached_now, dead-now, none_yet}
 use Rattle.rx_finish.specs.declared.ledger.Caller.{Caller}
-use Rattle.rx_finish.specs.Callers.{Stands, HasLeft, HasNumbers, MayAskTo, IsMoving, Travels, HasFinish, WaitsInside, IsBare, does_travel}
+use Rattle.rx_finish.specs.Callers.{CallerStands, HasLeft, HasNumbers, MayAskTo, IsMoving, Travels, HasFinish, WaitsInside, IsBare, does_travel}
 use Rattle.rx_ticket.specs.declared.tickets.AnyTicket.{AnyTicket}
 use Rattle.rx_ticket.specs.declared.tickets.AnyTicket.TheVariants.{Moving, Running, Held, Host}
 use Rattle.rx_history.specs.declared.asks.Ask.{Ask}
 use Rattle.rx_history.specs.declared.asks.Ask.TheVariants.{Open, At as Calls, Spawn, Arrive, Wait, Release, End, Print, Root}
-use Rattle.rx_ledger.specs.Asking.{MayAskFor, IsMoving as Moves, IsRunning, IsHeld}
+use Rattle.rx_ledger.specs.Asking.{MayAskFor, IsTravelling as Moves, IsRunning, IsHeld}
 use Rattle.rx_ledger.specs.Staying.{NotBy, NotOf, EntryKeepsTicket, TicketsStayGood}
 use Rattle.rx_ledger.proofs.Linking.{Link, link, links, top, inner_top}
 use Rattle.rx_ledger.proofs.Others.{Stays, entry_lasts, left_lasts}
@@ -79,7 +79,7 @@ module _ (n : ℕ) (T : Tree) (e : Entry) (who : Caller) (r : Reached T) (may : 
       ∙ (ap (λ (ls : List Link). top ls x.under) s.owns
       ∙ (ap (λ (t : TaskId). top (links T t) x.under) (sym his) ∙ sym (inner_top T x)))))
 
-  caller_stays : (P Q : Task → Type 0) → ((x : Task) (s : Stays T (made n T e) who.task x) → P x → Q s.kept.task) → Stands T who P ⊎ HasLeft T who → Stands (made n T e) who Q ⊎ HasLeft (made n T e) who
+  caller_stays : (P Q : Task → Type 0) → ((x : Task) (s : Stays T (made n T e) who.task x) → P x → Q s.kept.task) → CallerStands T who P ⊎ HasLeft T who → CallerStands (made n T e) who Q ⊎ HasLeft (made n T e) who
   caller_stays P Q f (inl h) =
       elim (entry_lasts n T e who.task h.task r may other h.stands) [
         | inl s ↦ inl (record {
@@ -122,7 +122,7 @@ module _ (n : ℕ) (T : Tree) (e : Entry) (who : Caller) (r : Reached T) (may : 
 
 -- the caller stands as it says, or has left
 abbrev pub Caught : Tree → Caller → (Task → Type 0) → Type 0
-Caught T who P = Stands T who P ⊎ HasLeft T who
+Caught T who P = CallerStands T who P ⊎ HasLeft T who
 
 -- the same of each request, and that its place exists
 abbrev pub Serves : Tree → AnyTicket → Ask → Type 0

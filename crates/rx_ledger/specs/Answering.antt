@@ -33,12 +33,12 @@ abbrev pub Asks : Request → AnyTicket → Ask → Option (List ℕ) → Type 0
 Asks q ticket ask path = q ≡ record { ticket = ticket; ask = ask; batch = q.batch; path = path }
 
 -- a caller that hangs under the scope and has opened none
-abbrev pub fresh : TaskId → ScopeId → Where → Caller
-fresh task s place = record { task = task; scope = s; inner = s; place = place }
+abbrev pub fresh_caller : TaskId → ScopeId → Where → Caller
+fresh_caller task s place = record { task = task; scope = s; inner = s; place = place }
 
 -- the main activity, before its first entry
 abbrev pub main_caller : Caller
-main_caller = fresh (record { 0 = 0 }) the_root (At (record { 0 = 0 }))
+main_caller = fresh_caller (record { 0 = 0 }) the_root (At (record { 0 = 0 }))
 
 -- one entry is appended, which is allowed
 pub record Appends (T : Tree) (es : List Entry) (who : Caller) (act : Act) (batch : List (List ℕ)) (es' : List Entry) : Type 0 where
@@ -48,7 +48,7 @@ pub record Appends (T : Tree) (es : List Entry) (who : Caller) (act : Act) (batc
 -- the ticket of a task that is started under the scope at `from` for `to`, unless it is lost
 abbrev pub ticket_at : Bool → TaskId → ScopeId → PlaceId → PlaceId → Option AnyTicket
 ticket_at lost task s from to =
-    cond lost None (Some (cond (from.0 == to.0) (Running (fresh task s (At to))) (Moving (fresh task s (Travel from to)))))
+    cond lost None (Some (cond (from.0 == to.0) (Running (fresh_caller task s (At to))) (Moving (fresh_caller task s (Travel from to)))))
 
 -- it is lost where that place is dead
 abbrev pub ticket_of : Tree → TaskId → ScopeId → PlaceId → PlaceId → Option AnyTicket
@@ -81,7 +81,7 @@ pub record OpensAt (T : Tree) (es : List Entry) (q : Request) (ticket : Caller) 
   pub callee_is : callee ≡ ticket_of T child scope (place_number who.place) to
 
 -- a task starts
-pub record Starts (T : Tree) (es : List Entry) (q : Request) (ticket : Caller) (started : Option AnyTicket)
+pub record StartsTask (T : Tree) (es : List Entry) (q : Request) (ticket : Caller) (started : Option AnyTicket)
     (es' : List Entry) : Type 0 where
   pub who : Caller
   pub to : PlaceId
@@ -161,7 +161,7 @@ pub record IsLost (T : Tree) (q : Request) (place : PlaceId) (at : ℕ) : Type 0
 abbrev pub Answers : Tree → List Entry → Request → Reply → List Entry → Type 0
 Answers T es q (Opened ticket scope) es' = OpensFinish T es q ticket scope es'
 Answers T es q (Called ticket callee) es' = OpensAt T es q ticket callee es'
-Answers T es q (Spawned ticket child) es' = Starts T es q ticket child es'
+Answers T es q (Spawned ticket child) es' = StartsTask T es q ticket child es'
 Answers T es q (Landed ticket) es' = Lands T es q ticket es'
 Answers T es q (Waits ticket) es' = WaitsThere T es q ticket es'
 Answers T es q (Released ticket outcome) es' = Releases T es q ticket outcome.lost outcome.thrown es'

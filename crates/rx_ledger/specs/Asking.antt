@@ -10,11 +10,11 @@ use Rattle.rx_history.specs.declared.asks.Ask.TheVariants.{Open, At as Calls, Sp
 use Rattle.rx_ledger.specs.declared.asks.Request.{Request}
 
 -- the ticket is of a task that travels, and P holds of the caller
-abbrev pub IsMoving : AnyTicket → (Caller → Type 0) → Type 0
-IsMoving (Moving who) P = P who
-IsMoving (Running who) P = ⊥
-IsMoving (Held who) P = ⊥
-IsMoving Host P = ⊥
+abbrev pub IsTravelling : AnyTicket → (Caller → Type 0) → Type 0
+IsTravelling (Moving who) P = P who
+IsTravelling (Running who) P = ⊥
+IsTravelling (Held who) P = ⊥
+IsTravelling Host P = ⊥
 
 -- of one that is at a place and does not wait
 abbrev pub IsRunning : AnyTicket → (Caller → Type 0) → Type 0
@@ -53,7 +53,7 @@ abbrev pub MayAskFor : Tree → AnyTicket → Option (List ℕ) → Ask → Type
 MayAskFor T ticket path Open = IsRunning ticket (MayAskMoving T) × HasPath path
 MayAskFor T ticket path (Calls to) = IsRunning ticket (λ who. MayAskTo T who to) × HasPath path
 MayAskFor T ticket path (Spawn to) = IsRunning ticket (λ who. MayAskTo T who to) × HasPath path
-MayAskFor T ticket path Arrive = IsMoving ticket (MayAskArrive T) × NoPath path
+MayAskFor T ticket path Arrive = IsTravelling ticket (MayAskArrive T) × NoPath path
 MayAskFor T ticket path (Wait thrown) = IsRunning ticket (MayAskWait T) × NoPath path
 MayAskFor T ticket path Release = IsHeld ticket (MayAskRelease T) × NoPath path
 MayAskFor T ticket path (End thrown) = IsRunning ticket (MayAskEnd T) × NoPath path

@@ -1,8 +1,8 @@
 // A request where no death is due.
 ghost use Rattle.std.specs.Prelude.{◌≡◌, ◌<◌, Some};
 ghost use Rattle.rx_ticket.specs.declared.tickets.AnyTicket.TheVariants.{Moving, Running, Held, Host};
-ghost use Rattle.rx_ledger.specs.Asking.{MayApply, IsMoving, IsRunning, IsHeld, HasPath};
-ghost use Rattle.rx_ledger.specs.Inside.Doing.{tree_in, Calm, Did};
+ghost use Rattle.rx_ledger.specs.Asking.{MayApply, IsTravelling, IsRunning, IsHeld, HasPath};
+ghost use Rattle.rx_ledger.specs.Inside.Doing.{books_tree, Calm, DidRequest};
 
 use crate::asks::{Reply, Request};
 use crate::books::Books;
@@ -16,8 +16,8 @@ impl<L: FinishLedger> Books<L> {
     pub(crate) fn answer(&mut self, request: Request) -> Reply
         requires room { 0 < self.old.history.spare }
         requires calm { Calm L.stands self.old }
-        requires asks { MayApply (tree_in self.old) request }
-        ensures { Did L.stands self.old request result self.new }
+        requires asks { MayApply (books_tree self.old) request }
+        ensures { DidRequest L.stands self.old request result self.new }
     {
         let Request {
             ticket,
@@ -44,7 +44,7 @@ impl<L: FinishLedger> Books<L> {
 
 /// The ticket of a task that travels.
 fn moving(ticket: AnyTicket) -> Ticket<InTransit>
-    requires { IsMoving ticket (λ who. Unit {0}) }
+    requires { IsTravelling ticket (λ who. Unit {0}) }
     ensures { ticket ≡ Moving result }
 {
     match ticket {

@@ -3,7 +3,7 @@ ghost use Rattle.std.specs.Prelude.{◌≡◌, ◌<◌, Some, None};
 ghost use Rattle.rx_finish.specs.Callers.{MayAskMoving, MayAskArrive};
 ghost use Rattle.rx_ticket.specs.declared.tickets.AnyTicket.TheVariants.{Running, Moving};
 ghost use Rattle.rx_history.specs.declared.asks.Ask.TheVariants.{Arrive, Print};
-ghost use Rattle.rx_ledger.specs.Inside.Doing.{request_of, tree_in, Calm, Did};
+ghost use Rattle.rx_ledger.specs.Inside.Doing.{request_of, books_tree, Calm, DidRequest};
 
 use crate::asks::Reply;
 use crate::books::Books;
@@ -18,8 +18,8 @@ impl<L: FinishLedger> Books<L> {
     pub(crate) fn arrive(&mut self, ticket: Ticket<InTransit>, batch: Batch) -> Reply
         requires room { 0 < self.old.history.spare }
         requires calm { Calm L.stands self.old }
-        requires asks { MayAskArrive (tree_in self.old) ticket }
-        ensures { Did L.stands self.old (request_of (Moving ticket) Arrive batch None) result self.new }
+        requires asks { MayAskArrive (books_tree self.old) ticket }
+        ensures { DidRequest L.stands self.old (request_of (Moving ticket) Arrive batch None) result self.new }
     {
         let who = ticket.caller();
         match self.ledger.arrive(who) {
@@ -54,8 +54,8 @@ impl<L: FinishLedger> Books<L> {
     ) -> Reply
         requires room { 0 < self.old.history.spare }
         requires calm { Calm L.stands self.old }
-        requires asks { MayAskMoving (tree_in self.old) ticket }
-        ensures { Did L.stands self.old (request_of (Running ticket) (Print value) batch (Some path)) result self.new }
+        requires asks { MayAskMoving (books_tree self.old) ticket }
+        ensures { DidRequest L.stands self.old (request_of (Running ticket) (Print value) batch (Some path)) result self.new }
     {
         let who = ticket.caller();
         match self.ledger.print(who) {

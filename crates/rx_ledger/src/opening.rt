@@ -3,7 +3,7 @@ ghost use Rattle.std.specs.Prelude.{◌≡◌, ◌<◌, false, Some};
 ghost use Rattle.rx_finish.specs.Callers.{MayAskMoving, MayAskTo};
 ghost use Rattle.rx_ticket.specs.declared.tickets.AnyTicket.TheVariants.{Running};
 ghost use Rattle.rx_history.specs.declared.asks.Ask.TheVariants.{Open, At, Spawn};
-ghost use Rattle.rx_ledger.specs.Inside.Doing.{request_of, tree_in, Calm, Did};
+ghost use Rattle.rx_ledger.specs.Inside.Doing.{request_of, books_tree, Calm, DidRequest};
 
 use crate::asks::{Reply, Request};
 use crate::books::{Books, Note};
@@ -19,8 +19,8 @@ impl<L: FinishLedger> Books<L> {
     pub(crate) fn open(&mut self, ticket: Ticket<Live>, batch: Batch, path: Path) -> Reply
         requires room { 0 < self.old.history.spare }
         requires calm { Calm L.stands self.old }
-        requires asks { MayAskMoving (tree_in self.old) ticket }
-        ensures { Did L.stands self.old (request_of (Running ticket) Open batch (Some path)) result self.new }
+        requires asks { MayAskMoving (books_tree self.old) ticket }
+        ensures { DidRequest L.stands self.old (request_of (Running ticket) Open batch (Some path)) result self.new }
     {
         if self.scopes.reserve(1).is_err() {
             return Reply::NoMemory {
@@ -79,8 +79,8 @@ impl<L: FinishLedger> Books<L> {
     ) -> Reply
         requires room { 0 < self.old.history.spare }
         requires calm { Calm L.stands self.old }
-        requires asks { MayAskTo (tree_in self.old) ticket to }
-        ensures { Did L.stands self.old (request_of (Running ticket) (At to) batch (Some path)) result self.new }
+        requires asks { MayAskTo (books_tree self.old) ticket to }
+        ensures { DidRequest L.stands self.old (request_of (Running ticket) (At to) batch (Some path)) result self.new }
     {
         if self.scopes.reserve(1).is_err() {
             return Reply::NoMemory {
@@ -143,8 +143,8 @@ impl<L: FinishLedger> Books<L> {
     ) -> Reply
         requires room { 0 < self.old.history.spare }
         requires calm { Calm L.stands self.old }
-        requires asks { MayAskTo (tree_in self.old) ticket to }
-        ensures { Did L.stands self.old (request_of (Running ticket) (Spawn to) batch (Some path)) result self.new }
+        requires asks { MayAskTo (books_tree self.old) ticket to }
+        ensures { DidRequest L.stands self.old (request_of (Running ticket) (Spawn to) batch (Some path)) result self.new }
     {
         let who = ticket.caller();
         let from = place_of(who.place);

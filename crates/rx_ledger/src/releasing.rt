@@ -3,7 +3,7 @@ ghost use Rattle.std.specs.Prelude.{◌≡◌, ◌<◌, Some, None};
 ghost use Rattle.rx_finish.specs.Callers.{MayAskRelease};
 ghost use Rattle.rx_ticket.specs.declared.tickets.AnyTicket.TheVariants.{Held, Host};
 ghost use Rattle.rx_history.specs.declared.asks.Ask.TheVariants.{Release, Root};
-ghost use Rattle.rx_ledger.specs.Inside.Doing.{request_of, tree_in, Calm, Did};
+ghost use Rattle.rx_ledger.specs.Inside.Doing.{request_of, books_tree, Calm, DidRequest};
 
 use crate::asks::{Reply, Request};
 use crate::books::Books;
@@ -19,8 +19,8 @@ impl<L: FinishLedger> Books<L> {
     pub(crate) fn release(&mut self, ticket: Ticket<Waiting>, batch: Batch) -> Reply
         requires room { 0 < self.old.history.spare }
         requires calm { Calm L.stands self.old }
-        requires asks { MayAskRelease (tree_in self.old) ticket }
-        ensures { Did L.stands self.old (request_of (Held ticket) Release batch None) result self.new }
+        requires asks { MayAskRelease (books_tree self.old) ticket }
+        ensures { DidRequest L.stands self.old (request_of (Held ticket) Release batch None) result self.new }
     {
         let who = ticket.caller();
         let Ok(room) = Vec::with_capacity(self.alloc, faults_of(&self.scopes, who.inner) as usize)
@@ -79,7 +79,7 @@ impl<L: FinishLedger> Books<L> {
     pub(crate) fn root(&mut self, batch: Batch) -> Reply
         requires room { 0 < self.old.history.spare }
         requires calm { Calm L.stands self.old }
-        ensures { Did L.stands self.old (request_of Host Root batch None) result self.new }
+        ensures { DidRequest L.stands self.old (request_of Host Root batch None) result self.new }
     {
         rx_sound::root_stands_until_released();
         if self.ended {

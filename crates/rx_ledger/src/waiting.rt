@@ -3,7 +3,7 @@ ghost use Rattle.std.specs.Prelude.{◌≡◌, ◌<◌, Some, None};
 ghost use Rattle.rx_finish.specs.Callers.{MayAskWait, MayAskEnd};
 ghost use Rattle.rx_ticket.specs.declared.tickets.AnyTicket.TheVariants.{Running};
 ghost use Rattle.rx_history.specs.declared.asks.Ask.TheVariants.{Wait, End};
-ghost use Rattle.rx_ledger.specs.Inside.Doing.{request_of, tree_in, Calm, Did};
+ghost use Rattle.rx_ledger.specs.Inside.Doing.{request_of, books_tree, Calm, DidRequest};
 
 use crate::asks::{Reply, Request};
 use crate::books::Books;
@@ -19,8 +19,8 @@ impl<L: FinishLedger> Books<L> {
     pub(crate) fn wait(&mut self, ticket: Ticket<Live>, thrown: Faults, batch: Batch) -> Reply
         requires room { 0 < self.old.history.spare }
         requires calm { Calm L.stands self.old }
-        requires asks { MayAskWait (tree_in self.old) ticket }
-        ensures { Did L.stands self.old (request_of (Running ticket) (Wait thrown) batch None) result self.new }
+        requires asks { MayAskWait (books_tree self.old) ticket }
+        ensures { DidRequest L.stands self.old (request_of (Running ticket) (Wait thrown) batch None) result self.new }
     {
         let who = ticket.caller();
         let (Ok(told), Ok(faults)) = (
@@ -71,8 +71,8 @@ impl<L: FinishLedger> Books<L> {
     pub(crate) fn end(&mut self, ticket: Ticket<Live>, thrown: Faults, batch: Batch) -> Reply
         requires room { 0 < self.old.history.spare }
         requires calm { Calm L.stands self.old }
-        requires asks { MayAskEnd (tree_in self.old) ticket }
-        ensures { Did L.stands self.old (request_of (Running ticket) (End thrown) batch None) result self.new }
+        requires asks { MayAskEnd (books_tree self.old) ticket }
+        ensures { DidRequest L.stands self.old (request_of (Running ticket) (End thrown) batch None) result self.new }
     {
         let who = ticket.caller();
         let (Ok(told), Ok(faults)) = (

@@ -16,11 +16,11 @@ use Rattle.rx_history.specs.Logs.{Log}
 use Rattle.rx_history.specs.Events.{AllEvents}
 use Rattle.rx_nodes.specs.Shape.{Shape, Stands}
 use Rattle.rx_machine.specs.declared.machine.Machine.{Machine}
-use Rattle.rx_machine.specs.Holds.{Holds, Finished, Makes}
+use Rattle.rx_machine.specs.Holds.{Holds, Finished, LeadsTo}
 use Rattle.rx_machine.specs.Runs.{WentOn, picks_in, Gives}
 use Rattle.rx_machine.proofs.Whole.{turn-uses}
 use Rattle.rx_live.specs.Inside.Picking.{another, number_from}
-use Rattle.rx_live.specs.Rounds.{Begins, IsMade, PlaysOn, HasEnded, Keeps, IsOver}
+use Rattle.rx_live.specs.Rounds.{BeginsPicks, IsMade, PlaysOn, RunHasEnded, Keeps, RunIsOver}
 use Rattle.rx_live.specs.declared.round.Round.{Round}
 use Rattle.rx_live.specs.declared.live.Job.{Job}
 use Rattle.rx_check.specs.Checked.{Checked}
@@ -47,7 +47,7 @@ turns-more U picks n j i G G' G'' used e (more {G' = A} {used = u} stood first t
 
 -- Lists that begin picks.
 
-begins-front : (ks : List ℕ) (k : ℕ) (picks : ℕ → ℕ) → Begins (ks ++ k ∷ []) picks → Begins ks picks × (picks (length ks) ≡ k)
+begins-front : (ks : List ℕ) (k : ℕ) (picks : ℕ → ℕ) → BeginsPicks (ks ++ k ∷ []) picks → BeginsPicks ks picks × (picks (length ks) ≡ k)
 begins-front [] k picks h = (tt, h.0)
 begins-front (x ∷ xs) k picks h = let r = begins-front xs k (λ j. picks (suc j)) h.1 in ((h.0, r.0), r.1)
 
@@ -56,7 +56,7 @@ numbers [] j = 0
 numbers (k ∷ ks) zero = k
 numbers (k ∷ ks) (suc j) = numbers ks j
 
-begins-own : (ks : List ℕ) → Begins ks (numbers ks)
+begins-own : (ks : List ℕ) → BeginsPicks ks (numbers ks)
 begins-own [] = tt
 begins-own (k ∷ ks) = (refl, begins-own ks)
 
@@ -98,7 +98,7 @@ pub plays-on : {L : Type 0} (stands : L → Tree → Type 0) (shape : Shape) (co
 plays-on stands shape code U m m' ks k used r a =
     record { game = a.0; made = made-goes code U ks k r.game a.0 used r.made r.holds.unreleased a.1; holds = a.2 }
 
-pub has-ended : {L : Type 0} (stands : L → Tree → Type 0) (shape : Shape) (code : Block) (U : Given) (m m' : Machine L) (ks : List ℕ) (k : ℕ) → (r : PlaysOn stands shape code U ks m) → Makes (Turn U k r.game false) (Finished stands U m') → HasEnded stands code U ks m'
+pub has-ended : {L : Type 0} (stands : L → Tree → Type 0) (shape : Shape) (code : Block) (U : Given) (m m' : Machine L) (ks : List ℕ) (k : ℕ) → (r : PlaysOn stands shape code U ks m) → LeadsTo (Turn U k r.game false) (Finished stands U m') → RunHasEnded stands code U ks m'
 has-ended stands shape code U m m' ks k r a =
     record { game = a.0; made = made-goes code U ks k r.game a.0 false r.made r.holds.unreleased a.1; finished = a.2 }
 
@@ -130,7 +130,7 @@ next-pick false used given pick n e f h = h ∙ ap (λ k. number_from false k (u
 
 -- The end.
 
-pub is-over : {L : Type 0} (stands : L → Tree → Type 0) (code : Block) (U : Given) (m : Machine L) (ks : List ℕ) (r : Log × AllEvents × L) → PickedIsRun → Proper U → (h : HasEnded stands code U ks m) → Gives stands U h.game r → IsOver stands code U r
+pub is-over : {L : Type 0} (stands : L → Tree → Type 0) (code : Block) (U : Given) (m : Machine L) (ks : List ℕ) (r : Log × AllEvents × L) → PickedIsRun → Proper U → (h : RunHasEnded stands code U ks m) → Gives stands U h.game r → RunIsOver stands code U r
 is-over stands code U m ks r law proper h g =
     record {
       run = law code U (numbers ks) r.0.entries _ proper (record { turns = h.made.turns; game = h.game; made = h.made.made (numbers ks) (begins-own ks); ended = h.finished.ended; entries = g.entries; journals = g.journals });
@@ -152,13 +152,13 @@ keeps-moved stands shape U r r' pick k used h whole going goes same items moved 
     }
 
 -- so does the one that releases the root
-pub keeps-ended : {L : Type 0} (stands : L → Tree → Type 0) (shape : Shape) (U : Given) (r r' : Round L) (k : ℕ) → Keeps stands shape U r → r.machine.failed ≡ false → r.ended ≡ false → r'.ended ≡ true → r'.picks.items ≡ r.picks.items → ((code : Block) (V : Given) (G : Game) → Holds stands shape code V r.machine G → Makes (Turn V k G false) (Finished stands V r'.machine)) → Keeps stands shape U r'
+pub keeps-ended : {L : Type 0} (stands : L → Tree → Type 0) (shape : Shape) (U : Given) (r r' : Round L) (k : ℕ) → Keeps stands shape U r → r.machine.failed ≡ false → r.ended ≡ false → r'.ended ≡ true → r'.picks.items ≡ r.picks.items → ((code : Block) (V : Given) (G : Game) → Holds stands shape code V r.machine G → LeadsTo (Turn V k G false) (Finished stands V r'.machine)) → Keeps stands shape U r'
 keeps-ended stands shape U r r' k h whole going stops items ended =
     record {
       going = λ f e. absurd (not-both r'.ended stops e);
       over = λ e code st. (let p = h.going whole going code st in
           let last = has-ended stands shape code U r.machine r'.machine r.picks.items k p (ended code U p.game p.holds) in
-          subst (λ (ks : List ℕ). HasEnded stands code U ks r'.machine) (sym items) last);
+          subst (λ (ks : List ℕ). RunHasEnded stands code U ks r'.machine) (sym items) last);
     }
 
 -- what follows from each result

@@ -3,7 +3,7 @@ ghost use Rattle.std.specs.Prelude.{◌≡◌, ◌||◌, not, true, false, [], I
 ghost use Rattle.rx_rules.specs.Code.{Block};
 ghost use Rattle.rx_rules.specs.Run.{Given, Proper};
 ghost use Rattle.rx_nodes.specs.Shape.{Stands};
-ghost use Rattle.rx_live.specs.Rounds.{Keeps, IsOver};
+ghost use Rattle.rx_live.specs.Rounds.{Keeps, RunIsOver};
 
 use crate::once::Once;
 use rx_base::NoMemory;
@@ -85,7 +85,7 @@ impl<L: FinishLedger> Round<L> {
     ) -> Result<(History, Journals, L), NoMemory>
         requires { (code : Block) × (U : Given) × Stands p.now.script code × Keeps L.stands p.now.script U self }
         ensures { IfOk result (λ r. (code : Block) (U : Given) → Stands p.now.script code → Proper U →
-            Keeps L.stands p.now.script U self → IsOver L.stands code U r) }
+            Keeps L.stands p.now.script U self → RunIsOver L.stands code U r) }
     {
         for _turn in rt.forever() {
             if !self.go_on(p, 0) {
@@ -98,7 +98,7 @@ impl<L: FinishLedger> Round<L> {
     // The run, where it has ended.
     fn into_run(self, p: &Program) -> Result<(History, Journals, L), NoMemory>
         ensures { IfOk result (λ r. (code : Block) (U : Given) → Stands p.now.script code → Proper U →
-            Keeps L.stands p.now.script U self → IsOver L.stands code U r) }
+            Keeps L.stands p.now.script U self → RunIsOver L.stands code U r) }
     {
         let _ = p;
         picked_run_is_run();

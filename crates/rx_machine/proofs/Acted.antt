@@ -27,7 +27,7 @@ use Rattle.rx_machine.specs.declared.machine.Machine.{Machine}
 use Rattle.rx_machine.specs.declared.seat.Seat.{Seat}
 use Rattle.rx_machine.specs.Slots.{live_task, SlotIs, IsSeat, seat_at, seat_in}
 use Rattle.rx_stores.specs.Kepts.{StoresAre}
-use Rattle.rx_machine.specs.Holds.{Shares, Seated, HoldsBut, IsPick, HasGone, Makes}
+use Rattle.rx_machine.specs.Holds.{Shares, Seated, HoldsBut, IsPick, HasGone, LeadsTo}
 use Rattle.rx_machine.specs.Inside.Acts.{HasClosed}
 use Rattle.rx_machine.proofs.Finding.{same_or_not, get_other}
 use Rattle.rx_machine.proofs.Own.{SameOwn, slot-on}
@@ -102,7 +102,7 @@ pub seat_other : (xs : List (Option Seat)) (i n : ℕ) (o : Option Seat) → n �
 seat_other xs i n o apart = ap seat_in (get_other xs i n o apart)
 
 -- An entry that starts no task: the seat goes back changed, and all others stay.
-pub acted : {L : Type 0} (stands : L → Tree → Type 0) (shape : Shape) (code : Block) (U : Given) (m m' : Machine L) (k i : ℕ) (here : PlaceId) (p q : Player) (S Z : State) (j : List PlaceEvent) (seat seat' : Seat) (G : Game) (act : Act) → HoldsBut stands shape code U m i G → IsPick U k i seat G → HasGone shape U i here p q S Z j seat G → Fits here q.term (does q.vars here.0 U.places q.term) act → AllowedAct (tree_in U G) seat.row.number act → started_by act ≡ None → ((n : ℕ) → n ≢ i → live_task (made_act (tree_in U G) seat.row.number act) n ≡ live_task (tree_in U G) n) → ((n : ℕ) → n ≢ i → (x : Task) → live_task (tree_in U G) n ≡ Some x → SameOwn (tree_in U G) (made_act (tree_in U G) seat.row.number act) n) → (made_act (tree_in U G) seat.row.number act).next_task ≡ (tree_in U G).next_task → IsSeat shape (made_act (tree_in U G) seat.row.number act) i (granted_player q act) seat' → Went stands m m' (made_act (tree_in U G) seat.row.number act) (Step seat.row.number act q.batch) → i < length m.seats.items → m'.seats.items ≡ slice_set m.seats.items i (Some seat') → StoresAre U.heap 0 m.stores.items (slice_set G.journals here.0 j) → Makes (Turn U k G true) (Seated stands shape code U m')
+pub acted : {L : Type 0} (stands : L → Tree → Type 0) (shape : Shape) (code : Block) (U : Given) (m m' : Machine L) (k i : ℕ) (here : PlaceId) (p q : Player) (S Z : State) (j : List PlaceEvent) (seat seat' : Seat) (G : Game) (act : Act) → HoldsBut stands shape code U m i G → IsPick U k i seat G → HasGone shape U i here p q S Z j seat G → Fits here q.term (does q.vars here.0 U.places q.term) act → AllowedAct (tree_in U G) seat.row.number act → started_by act ≡ None → ((n : ℕ) → n ≢ i → live_task (made_act (tree_in U G) seat.row.number act) n ≡ live_task (tree_in U G) n) → ((n : ℕ) → n ≢ i → (x : Task) → live_task (tree_in U G) n ≡ Some x → SameOwn (tree_in U G) (made_act (tree_in U G) seat.row.number act) n) → (made_act (tree_in U G) seat.row.number act).next_task ≡ (tree_in U G).next_task → IsSeat shape (made_act (tree_in U G) seat.row.number act) i (granted_player q act) seat' → Went stands m m' (made_act (tree_in U G) seat.row.number act) (Step seat.row.number act q.batch) → i < length m.seats.items → m'.seats.items ≡ slice_set m.seats.items i (Some seat') → StoresAre U.heap 0 m.stores.items (slice_set G.journals here.0 j) → LeadsTo (Turn U k G true) (Seated stands shape code U m')
 acted stands shape code U m m' k i here p q S Z j seat seat' G act but pick gone fits may childless live own next new went inside back stored =
     let T : Tree = tree_in U G in
     let T' : Tree = made_act T seat.row.number act in

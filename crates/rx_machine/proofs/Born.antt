@@ -37,7 +37,7 @@ use Rattle.rx_machine.specs.Held.{is_held, HeldInFront}
 use Rattle.rx_machine.specs.Spine.{Spine}
 use Rattle.rx_machine.specs.Slots.{live_task, if_unstruck, own_scopes, own_kinds, SlotIs, IsSeat, seat_at, seat_in}
 use Rattle.rx_stores.specs.Kepts.{StoresAre}
-use Rattle.rx_machine.specs.Holds.{Seated, HoldsBut, IsPick, HasGone, Makes}
+use Rattle.rx_machine.specs.Holds.{Seated, HoldsBut, IsPick, HasGone, LeadsTo}
 use Rattle.rx_machine.proofs.Acted.{Went, granted_player, game_after, tree-after, turned, shared}
 use Rattle.rx_machine.proofs.Finding.{same_or_not, get_other, get_before}
 use Rattle.rx_machine.proofs.Granting.{unheld-child}
@@ -118,7 +118,7 @@ new-is shape T players n p None player h = h
 new-is shape T players n p (Some seat) player h = (p, player, h)
 
 -- An entry that starts a task: the seat goes back changed, the child gets a slot of its own at the end, and all others stay.
-pub started : {L : Type 0} (stands : L → Tree → Type 0) (shape : Shape) (code : Block) (U : Given) (m m' : Machine L) (k i : ℕ) (here : PlaceId) (p q : Player) (S Z : State) (j : List PlaceEvent) (seat seat' : Seat) (slot : Option Seat) (G : Game) (act : Act) (c : TaskId) → HoldsBut stands shape code U m i G → IsPick U k i seat G → HasGone shape U i here p q S Z j seat G → Fits here q.term (does q.vars here.0 U.places q.term) act → AllowedAct (tree_in U G) seat.row.number act → started_by act ≡ Some c → length G.players ≡ (tree_in U G).next_task → ((n : ℕ) → n ≢ i → n ≢ (tree_in U G).next_task → live_task (made_act (tree_in U G) seat.row.number act) n ≡ live_task (tree_in U G) n) → ((n : ℕ) → n ≢ i → n ≢ (tree_in U G).next_task → SameOwn (tree_in U G) (made_act (tree_in U G) seat.row.number act) n) → (made_act (tree_in U G) seat.row.number act).next_task ≡ suc (tree_in U G).next_task → IsSeat shape (made_act (tree_in U G) seat.row.number act) i (granted_player q act) seat' → NewSlot shape (made_act (tree_in U G) seat.row.number act) (tree_in U G).next_task (child_player q) slot → Went stands m m' (made_act (tree_in U G) seat.row.number act) (Step seat.row.number act q.batch) → i < length m.seats.items → m'.seats.items ≡ slice_set m.seats.items i (Some seat') ++ slot ∷ [] → StoresAre U.heap 0 m.stores.items (slice_set G.journals here.0 j) → Makes (Turn U k G true) (Seated stands shape code U m')
+pub started : {L : Type 0} (stands : L → Tree → Type 0) (shape : Shape) (code : Block) (U : Given) (m m' : Machine L) (k i : ℕ) (here : PlaceId) (p q : Player) (S Z : State) (j : List PlaceEvent) (seat seat' : Seat) (slot : Option Seat) (G : Game) (act : Act) (c : TaskId) → HoldsBut stands shape code U m i G → IsPick U k i seat G → HasGone shape U i here p q S Z j seat G → Fits here q.term (does q.vars here.0 U.places q.term) act → AllowedAct (tree_in U G) seat.row.number act → started_by act ≡ Some c → length G.players ≡ (tree_in U G).next_task → ((n : ℕ) → n ≢ i → n ≢ (tree_in U G).next_task → live_task (made_act (tree_in U G) seat.row.number act) n ≡ live_task (tree_in U G) n) → ((n : ℕ) → n ≢ i → n ≢ (tree_in U G).next_task → SameOwn (tree_in U G) (made_act (tree_in U G) seat.row.number act) n) → (made_act (tree_in U G) seat.row.number act).next_task ≡ suc (tree_in U G).next_task → IsSeat shape (made_act (tree_in U G) seat.row.number act) i (granted_player q act) seat' → NewSlot shape (made_act (tree_in U G) seat.row.number act) (tree_in U G).next_task (child_player q) slot → Went stands m m' (made_act (tree_in U G) seat.row.number act) (Step seat.row.number act q.batch) → i < length m.seats.items → m'.seats.items ≡ slice_set m.seats.items i (Some seat') ++ slot ∷ [] → StoresAre U.heap 0 m.stores.items (slice_set G.journals here.0 j) → LeadsTo (Turn U k G true) (Seated stands shape code U m')
 started stands shape code U m m' k i here p q S Z j seat seat' slot G act c but pick gone fits may starts count live own next new born_so went inside back stored =
     let T : Tree = tree_in U G in
     let T' : Tree = made_act T seat.row.number act in

@@ -33,7 +33,7 @@ use Rattle.rx_runs.proofs.Pairs.{pairs-get}
 use Rattle.rx_runs.proofs.Rows.{row-found}
 use Rattle.rx_nodes.specs.Shape.{Shape}
 use Rattle.rx_store.specs.Kept.{Kept, state_from, state_of, closed_from, ends_closed, stamp_from, last_stamp}
-use Rattle.rx_store.specs.Answers.{event_of}
+use Rattle.rx_store.specs.Answers.{event_told}
 use Rattle.rx_store.specs.declared.calls.Mark.{Mark}
 use Rattle.rx_store.proofs.Running.{state_done, closed_done, stamp_done}
 use Rattle.rx_control.specs.declared.step.CellOp.{CellOp}
@@ -44,7 +44,7 @@ use Rattle.rx_control.specs.Stands.{StandsFor}
 use Rattle.rx_machine.specs.declared.machine.Machine.{Machine}
 use Rattle.rx_machine.specs.declared.seat.Seat.{Seat}
 use Rattle.rx_machine.specs.Held.{is_held, HeldInFront}
-use Rattle.rx_machine.specs.Spine.{Flat, Spine}
+use Rattle.rx_machine.specs.Spine.{NoScopeOpen, Spine}
 use Rattle.rx_machine.specs.Slots.{IsSeat, live_task, own_kinds}
 use Rattle.rx_stores.specs.Kepts.{StoresAre}
 use Rattle.rx_machine.specs.Holds.{Acting}
@@ -188,7 +188,7 @@ begun_is (Trying inside o b y rest) x e = begun_is inside x e
 begun_is (Body inside rest) x e = begun_is inside x e
 begun_is (Held rest) x e = absurd (let f : ⊥ = cc in f)
 
-flat-after : (t : Term) (ks : List Kind) → Spine t ks → Flat (after_it t)
+flat-after : (t : Term) (ks : List Kind) → Spine t ks → NoScopeOpen (after_it t)
 flat-after Empty ks h = tt
 flat-after (Run stmt x rest) ks h = h.1
 flat-after (Raise faults) ks h = tt
@@ -341,7 +341,7 @@ answered-seat shape T i here places q seat seat' x ans s b free term vars batch 
     answer-spine (Fails fault) t ks h b = spine-answer ks t (Raise (fault ∷ [])) h tt b
 
 -- the mark's event
-event-is : (n : ℕ) (t : TaskId) (x : List ℕ) (es : List PlaceEvent) (mark : Mark) (cell : Cell) → mark.task ≡ t → mark.stamp ≡ n → mark.path ≡ x → last_stamp es ≤ n → event_of es mark cell ≡ Did t n cell x
+event-is : (n : ℕ) (t : TaskId) (x : List ℕ) (es : List PlaceEvent) (mark : Mark) (cell : Cell) → mark.task ≡ t → mark.stamp ≡ n → mark.path ≡ x → last_stamp es ≤ n → event_told es mark cell ≡ Did t n cell x
 event-is n t x es mark cell task stamp path last =
     let most : max mark.stamp (last_stamp es) ≡ n = ap (λ v. max v (last_stamp es)) stamp ∙ max-left n (last_stamp es) last in
     ap (λ v. Did v (max mark.stamp (last_stamp es)) cell mark.path) task ∙ (ap (λ v. Did t v cell mark.path) most ∙ ap (λ v. Did t n cell v) path)
@@ -358,7 +358,7 @@ call-told stands shape code U m k i here q seat G op answer x old new mark items
     let state : state_of old.events ≡ a.left = ap state_of is.events ∙ is.journal.state in
     let may : MayCell U.heap a.left cell = subst (λ (S : State). MayCell U.heap S cell) state (subst (λ (w : ℕ). MayCell w (state_of old.events) cell) is.words asked.law) in
     let last : last_stamp old.events ≤ length G.entries = (let w : last_stamp old.events ≡ last_stamp a.events = ap last_stamp is.events in let v : last_stamp a.events ≤ length G.entries = is.journal.last in omega (arith, w, v)) in
-    let event : event_of old.events mark cell ≡ Did seat.row.number (length G.entries) cell x = event-is (length G.entries) seat.row.number x old.events mark cell task stamp path last in
+    let event : event_told old.events mark cell ≡ Did seat.row.number (length G.entries) cell x = event-is (length G.entries) seat.row.number x old.events mark cell task stamp path last in
     let longer : List PlaceEvent = a.events ++ Did seat.row.number (length G.entries) cell x ∷ [] in
     let events : new.events ≡ longer = asked.events ∙ (ap (λ v. old.events ++ v ∷ []) event ∙ ap (λ l. l ++ Did seat.row.number (length G.entries) cell x ∷ []) is.events) in
     let place : new.place.0 ≡ 0 + here.0 = (let w : new.place.0 ≡ here.0 = ap (λ (p : PlaceId). p.0) (asked.place ∙ is.place) in omega (arith, w)) in

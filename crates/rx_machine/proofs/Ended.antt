@@ -33,7 +33,7 @@ use Rattle.rx_machine.specs.Inside.Callers.{caller}
 use Rattle.rx_machine.specs.Slots.{IsSeat, SlotIs, live_task, own_kinds, seat_at}
 use Rattle.rx_machine.specs.Held.{is_held}
 use Rattle.rx_stores.specs.Kepts.{StoresAre}
-use Rattle.rx_machine.specs.Holds.{Seated, Acting, Makes}
+use Rattle.rx_machine.specs.Holds.{Seated, Acting, LeadsTo}
 use Rattle.rx_machine.proofs.Finding.{same_or_not}
 use Rattle.rx_machine.proofs.Live.{live_number, live_stands, less-same, less-other, without_task}
 use Rattle.rx_machine.proofs.Own.{end-tasks, end-own, slot-on}
@@ -81,7 +81,7 @@ end-refused T who thrown (NotYet place, back) S free h = absurd h
 end-next : (T : Tree) (t : TaskId) (thrown : List Fault) (x : Task) → task_of T t ≡ Some x → (after_end T t thrown).next_task ≡ T.next_task
 end-next T t thrown x h = rw (h, after_end) refl
 
-pub ended : {L : Type 0} (stands : L → Tree → Type 0) (shape : Shape) (code : Block) (U : Given) (m m' : Machine L) (k i : ℕ) (here : PlaceId) (q : Player) (seat : Seat) (G : Game) (fs : List Fault) → Acting stands shape code U m k i here q seat G → does q.vars here.0 U.places q.term ≡ Done fs → MayEnd (tree_in U G) seat.row.number → Went stands m m' (made_act (tree_in U G) seat.row.number (End fs)) (Step seat.row.number (End fs) seat.batch) → m'.seats.items ≡ m.seats.items → Makes (Turn U k G true) (Seated stands shape code U m')
+pub ended : {L : Type 0} (stands : L → Tree → Type 0) (shape : Shape) (code : Block) (U : Given) (m m' : Machine L) (k i : ℕ) (here : PlaceId) (q : Player) (seat : Seat) (G : Game) (fs : List Fault) → Acting stands shape code U m k i here q seat G → does q.vars here.0 U.places q.term ≡ Done fs → MayEnd (tree_in U G) seat.row.number → Went stands m m' (made_act (tree_in U G) seat.row.number (End fs)) (Step seat.row.number (End fs) seat.batch) → m'.seats.items ≡ m.seats.items → LeadsTo (Turn U k G true) (Seated stands shape code U m')
 ended stands shape code U m m' k i here q seat G fs a asks may went back =
     let T : Tree = tree_in U G in
     let t : TaskId = seat.row.number in

@@ -30,7 +30,7 @@ use Rattle.rx_machine.specs.declared.enabled.Ready.{Ready}
 use Rattle.rx_machine.specs.declared.seat.Seat.{Seat}
 use Rattle.rx_machine.specs.Slots.{live_task, SlotIs, IsSeat, seat_at}
 use Rattle.rx_stores.specs.Kepts.{StoresAre}
-use Rattle.rx_machine.specs.Holds.{Seated, Landing, Finished, Releasing, Makes}
+use Rattle.rx_machine.specs.Holds.{Seated, Landing, Finished, Releasing, LeadsTo}
 use Rattle.rx_machine.proofs.Asking.{not_lost}
 use Rattle.rx_machine.proofs.Finding.{same_or_not}
 use Rattle.rx_machine.proofs.Live.{change-other, change-same, live_stands}
@@ -53,7 +53,7 @@ root-refused T (NotYet place) S calm h = absurd (let f : true ≡ false = sym ca
 abbrev there : PlaceId → Task → Task
 there to x = record x { place = At to }
 
-pub landed : {L : Type 0} (stands : L → Tree → Type 0) (shape : Shape) (code : Block) (U : Given) (m m' : Machine L) (k i : ℕ) (to : PlaceId) (seat seat' : Seat) (G : Game) → Landing stands shape code U m k i to seat G → AllowedAct (tree_in U G) seat.row.number (Arrive to) → seat'.row ≡ there to seat.row → seat'.scopes ≡ seat.scopes → seat'.control ≡ seat.control → seat'.batch ≡ seat.batch → Went stands m m' (made_act (tree_in U G) seat.row.number (Arrive to)) (Step seat.row.number (Arrive to) []) → m'.seats.items ≡ slice_set m.seats.items i (Some seat') → Makes (Turn U k G true) (Seated stands shape code U m')
+pub landed : {L : Type 0} (stands : L → Tree → Type 0) (shape : Shape) (code : Block) (U : Given) (m m' : Machine L) (k i : ℕ) (to : PlaceId) (seat seat' : Seat) (G : Game) → Landing stands shape code U m k i to seat G → AllowedAct (tree_in U G) seat.row.number (Arrive to) → seat'.row ≡ there to seat.row → seat'.scopes ≡ seat.scopes → seat'.control ≡ seat.control → seat'.batch ≡ seat.batch → Went stands m m' (made_act (tree_in U G) seat.row.number (Arrive to)) (Step seat.row.number (Arrive to) []) → m'.seats.items ≡ slice_set m.seats.items i (Some seat') → LeadsTo (Turn U k G true) (Seated stands shape code U m')
 landed stands shape code U m m' k i to seat seat' G a may row scopes control batch went back =
     let T : Tree = tree_in U G in
     let t : TaskId = seat.row.number in
@@ -107,7 +107,7 @@ landed stands shape code U m m' k i to seat seat' G a may row scopes control bat
 none-left : (T : Tree) → T.tasks ≡ [] → enabled T ≡ []
 none-left T e = ap (λ (xs : List Task). reverse (filter (is_enabled T) xs)) e
 
-pub finished : {L : Type 0} (stands : L → Tree → Type 0) (shape : Shape) (code : Block) (U : Given) (m m' : Machine L) (k : ℕ) (G : Game) (lost : PlaceSet) (thrown : List Fault) → Releasing stands shape code U m G → NoRoot G.entries → Allowed (tree_in U G) (Root lost thrown) → m'.history.entries ≡ m.history.entries ++ Root lost thrown ∷ [] → m'.history.setup ≡ m.history.setup → m'.stores ≡ m.stores → m'.ready ≡ m.ready → stands m'.ledger (without (tree_in U G) the_root) → Makes (Turn U k G false) (Finished stands U m')
+pub finished : {L : Type 0} (stands : L → Tree → Type 0) (shape : Shape) (code : Block) (U : Given) (m m' : Machine L) (k : ℕ) (G : Game) (lost : PlaceSet) (thrown : List Fault) → Releasing stands shape code U m G → NoRoot G.entries → Allowed (tree_in U G) (Root lost thrown) → m'.history.entries ≡ m.history.entries ++ Root lost thrown ∷ [] → m'.history.setup ≡ m.history.setup → m'.stores ≡ m.stores → m'.ready ≡ m.ready → stands m'.ledger (without (tree_in U G) the_root) → LeadsTo (Turn U k G false) (Finished stands U m')
 finished stands shape code U m m' k G lost thrown a open_still may entries setup stores ready ledger =
     let G' : Game = record G { entries = G.entries ++ Root lost thrown ∷ [] } in
     let h = a.holds.shares in

@@ -30,7 +30,7 @@ use Rattle.rx_machine.specs.declared.enabled.Ready.{Ready}
 use Rattle.rx_machine.specs.declared.enabled.Origin.{Origin}
 use Rattle.rx_machine.specs.declared.seat.Seat.{Seat}
 use Rattle.rx_machine.specs.Slots.{live_task, SlotIs, seat_at}
-use Rattle.rx_machine.specs.Picking.{slot_able, has, IsReady}
+use Rattle.rx_machine.specs.Picking.{slot_able, is_listed, IsReady}
 use Rattle.rx_machine.specs.Origins.{TellsOrigins, origin_in, origin_by}
 use Rattle.rx_machine.specs.Holds.{Seated, Holds, CanTurn}
 use Rattle.rx_machine.specs.Runs.{HasMoved, HasDied, AfterTurn, WentOn, Taken}
@@ -145,20 +145,20 @@ module _ {L : Type 0} (stands : L → Tree → Type 0) (shape : Shape) (code : B
   now-able : (n : ℕ) → slot_able (tree_in U H) (seat_at m.seats.items n) ≡ able (tree_in U H) (record { 0 = n })
   now-able n = slot_task shape (tree_in U H) H.players n (seat_at m.seats.items n) (h.can.holds.seats n)
 
-  was-not : (n : ℕ) → before ≤ n → has n m.ready.tasks.members ≡ false
+  was-not : (n : ℕ) → before ≤ n → is_listed n m.ready.tasks.members ≡ false
   was-not n high = h.ready.1 n ∙ able_high (tree_in U G) n (sound (tree_in U G) h.reached) (let z = h.slots in omega (arith, high, z))
 
   is-not : (n : ℕ) → length m.seats.items ≤ n → able (tree_in U H) (record { 0 = n }) ≡ false
   is-not n high = able_high (tree_in U H) n (sound (tree_in U H) h.can.reached) (let z = h.can.holds.shares.slots in omega (arith, high, z))
 
-  -- the task has moved and started no other
+  -- the task is_listed moved and started no other
   pub noted-one : OthersStay → (seat : Seat) → seat_at m.seats.items i ≡ Some seat → length m.seats.items ≤ before → (ns : List ℕ) → ns ≡ marked (slot_able (tree_in U H) (seat_at m.seats.items i)) i m.ready.tasks.members → IsReady (tree_in U H) ns
   noted-one stay seat at few ns e =
       let b : Bool = slot_able (tree_in U H) (seat_at m.seats.items i) in
       subst (IsReady (tree_in U H)) (sym e) (
         ascends_marked b i m.ready.tasks.members h.ready.0,
         λ n. elim (same_or_not n i) [
-          | inl w ↦ subst (λ (v : ℕ). has v (marked b i m.ready.tasks.members) ≡ able (tree_in U H) (record { 0 = v })) (sym w) (marked_same b i m.ready.tasks.members ∙ now-able i)
+          | inl w ↦ subst (λ (v : ℕ). is_listed v (marked b i m.ready.tasks.members) ≡ able (tree_in U H) (record { 0 = v })) (sym w) (marked_same b i m.ready.tasks.members ∙ now-able i)
           | inr apart ↦ marked_other b i n m.ready.tasks.members apart ∙ (elim (cases_lt n before) [
             | inl low ↦ h.ready.1 n ∙ sym (others-stay stay seat at n apart low)
             | inr high ↦ was-not n high ∙ sym (is-not n (omega (arith, few, high)))
@@ -166,7 +166,7 @@ module _ {L : Type 0} (stands : L → Tree → Type 0) (shape : Shape) (code : B
         ],
       )
 
-  -- the task has moved and started another
+  -- the task is_listed moved and started another
   pub noted-two : OthersStay → (seat : Seat) → seat_at m.seats.items i ≡ Some seat → (ns : List ℕ) → ns ≡ marked (slot_able (tree_in U H) (seat_at m.seats.items before)) before (marked (slot_able (tree_in U H) (seat_at m.seats.items i)) i m.ready.tasks.members) → IsReady (tree_in U H) ns
   noted-two stay seat at ns e =
       let b : Bool = slot_able (tree_in U H) (seat_at m.seats.items i) in
@@ -175,9 +175,9 @@ module _ {L : Type 0} (stands : L → Tree → Type 0) (shape : Shape) (code : B
       subst (IsReady (tree_in U H)) (sym e) (
         ascends_marked c before old (ascends_marked b i m.ready.tasks.members h.ready.0),
         λ n. elim (same_or_not n before) [
-          | inl w ↦ subst (λ (v : ℕ). has v (marked c before old) ≡ able (tree_in U H) (record { 0 = v })) (sym w) (marked_same c before old ∙ now-able before)
+          | inl w ↦ subst (λ (v : ℕ). is_listed v (marked c before old) ≡ able (tree_in U H) (record { 0 = v })) (sym w) (marked_same c before old ∙ now-able before)
           | inr other ↦ marked_other c before n old other ∙ (elim (same_or_not n i) [
-            | inl w ↦ subst (λ (v : ℕ). has v old ≡ able (tree_in U H) (record { 0 = v })) (sym w) (marked_same b i m.ready.tasks.members ∙ now-able i)
+            | inl w ↦ subst (λ (v : ℕ). is_listed v old ≡ able (tree_in U H) (record { 0 = v })) (sym w) (marked_same b i m.ready.tasks.members ∙ now-able i)
             | inr apart ↦ marked_other b i n m.ready.tasks.members apart ∙ (elim (cases_lt n before) [
               | inl low ↦ h.ready.1 n ∙ sym (others-stay stay seat at n apart low)
               | inr high ↦ was-not n high ∙ sym (is-not n (let z = h.can.holds.shares.slots in let y = h.slots in let most = (turn-grows U k true G H h.turn).most in omega (arith, z, y, most, high, other)))
@@ -186,7 +186,7 @@ module _ {L : Type 0} (stands : L → Tree → Type 0) (shape : Shape) (code : B
         ],
       )
 
-  -- The task has ended.
+  -- The task is_listed ended.
 
   pub has-ended : seat_at m.seats.items i ≡ None → (thrown : List Fault) × (mine.act ≡ End thrown)
   has-ended gone =
@@ -233,7 +233,7 @@ module _ {L : Type 0} (stands : L → Tree → Type 0) (shape : Shape) (code : B
       subst (IsReady (tree_in U H)) (sym e) (
         ascends_marked b i m.ready.tasks.members h.ready.0,
         λ n. elim (same_or_not n i) [
-          | inl w ↦ subst (λ (v : ℕ). has v (marked b i m.ready.tasks.members) ≡ able (tree_in U H) (record { 0 = v })) (sym w) (marked_same b i m.ready.tasks.members ∙ now-able i)
+          | inl w ↦ subst (λ (v : ℕ). is_listed v (marked b i m.ready.tasks.members) ≡ able (tree_in U H) (record { 0 = v })) (sym w) (marked_same b i m.ready.tasks.members ∙ now-able i)
           | inr apart ↦ marked_other b i n m.ready.tasks.members apart ∙ (h.ready.1 n ∙ sym (others-free law gone n apart (λ k. let f : None ≡ Some (record { 0 = n }) = sym none ∙ k in cc)))
         ],
       )
@@ -247,9 +247,9 @@ module _ {L : Type 0} (stands : L → Tree → Type 0) (shape : Shape) (code : B
       subst (IsReady (tree_in U H)) (sym e) (
         ascends_marked c o.0 old (ascends_marked b i m.ready.tasks.members h.ready.0),
         λ n. elim (same_or_not n o.0) [
-          | inl w ↦ subst (λ (v : ℕ). has v (marked c o.0 old) ≡ able (tree_in U H) (record { 0 = v })) (sym w) (marked_same c o.0 old ∙ now-able o.0)
+          | inl w ↦ subst (λ (v : ℕ). is_listed v (marked c o.0 old) ≡ able (tree_in U H) (record { 0 = v })) (sym w) (marked_same c o.0 old ∙ now-able o.0)
           | inr other ↦ marked_other c o.0 n old other ∙ (elim (same_or_not n i) [
-            | inl w ↦ subst (λ (v : ℕ). has v old ≡ able (tree_in U H) (record { 0 = v })) (sym w) (marked_same b i m.ready.tasks.members ∙ now-able i)
+            | inl w ↦ subst (λ (v : ℕ). is_listed v old ≡ able (tree_in U H) (record { 0 = v })) (sym w) (marked_same b i m.ready.tasks.members ∙ now-able i)
             | inr apart ↦ marked_other b i n m.ready.tasks.members apart ∙ (h.ready.1 n ∙ sym (others-free law gone n apart (λ k.
                 let f : Some o ≡ Some (record { 0 = n }) = sym near ∙ k in
                 let g : o ≡ record { 0 = n } = cc in
@@ -275,7 +275,7 @@ moved-same stands shape code U m r k i under before G H same h =
     }
 
 -- every task was asked
-pub noted-all : (shape : Shape) (T T' : Tree) (ps : List Player) (os : List (Option Seat)) (old ns : List ℕ) → Sound T → Sound T' → Grows T T' → length os ≡ T'.next_task → ((n : ℕ) → SlotIs shape T' ps n (seat_at os n)) → IsReady T old → (Ascends 0 old → Ascends 0 ns) → ((n : ℕ) → n < length os → has n ns ≡ slot_able T' (seat_at os n)) → ((n : ℕ) → length os ≤ n → has n ns ≡ has n old) → IsReady T' ns
+pub noted-all : (shape : Shape) (T T' : Tree) (ps : List Player) (os : List (Option Seat)) (old ns : List ℕ) → Sound T → Sound T' → Grows T T' → length os ≡ T'.next_task → ((n : ℕ) → SlotIs shape T' ps n (seat_at os n)) → IsReady T old → (Ascends 0 old → Ascends 0 ns) → ((n : ℕ) → n < length os → is_listed n ns ≡ slot_able T' (seat_at os n)) → ((n : ℕ) → length os ≤ n → is_listed n ns ≡ is_listed n old) → IsReady T' ns
 noted-all shape T T' ps os old ns before after more size slots ready ascends noted others = (
   ascends ready.0,
   λ n. elim (cases_lt n (length os)) [
@@ -340,7 +340,7 @@ turn-tells U k G H origins (root lost thrown none_due none may) h =
     subst (λ (T : Tree). TellsOrigins T origins) (sym (tree-push U.places G.entries (Root lost thrown))) (tells_without (tree_in U G) the_root origins h)
 
 -- the death was noted
-pub died-on : {L : Type 0} (stands : L → Tree → Type 0) (shape : Shape) (code : Block) (U : Given) (m m' : Machine L) (k : ℕ) (G : Game) (old : List ℕ) → ReachedSound → Reached (tree_in U G) → (a : HasDied stands shape code U m k G) → CanTurn stands shape code U m a.0 → IsReady (tree_in U G) old → m' ≡ record m { ready = m'.ready } → (Ascends 0 old → Ascends 0 m'.ready.tasks.members) → ((n : ℕ) → n < length m.seats.items → has n m'.ready.tasks.members ≡ slot_able (tree_in U a.0) (seat_at m.seats.items n)) → ((n : ℕ) → length m.seats.items ≤ n → has n m'.ready.tasks.members ≡ has n old) → TellsOrigins (tree_in U G) m'.ready.origins.items → WentOn stands shape code U m' k false G
+pub died-on : {L : Type 0} (stands : L → Tree → Type 0) (shape : Shape) (code : Block) (U : Given) (m m' : Machine L) (k : ℕ) (G : Game) (old : List ℕ) → ReachedSound → Reached (tree_in U G) → (a : HasDied stands shape code U m k G) → CanTurn stands shape code U m a.0 → IsReady (tree_in U G) old → m' ≡ record m { ready = m'.ready } → (Ascends 0 old → Ascends 0 m'.ready.tasks.members) → ((n : ℕ) → n < length m.seats.items → is_listed n m'.ready.tasks.members ≡ slot_able (tree_in U a.0) (seat_at m.seats.items n)) → ((n : ℕ) → length m.seats.items ≤ n → is_listed n m'.ready.tasks.members ≡ is_listed n old) → TellsOrigins (tree_in U G) m'.ready.origins.items → WentOn stands shape code U m' k false G
 died-on {L = L} stands shape code U m m' k G old sound reached a can ready same ascends noted others told = (
   a.0,
   a.1,

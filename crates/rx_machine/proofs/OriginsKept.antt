@@ -26,7 +26,7 @@ use Rattle.rx_nodes.specs.Shape.{Shape}
 use Rattle.rx_machine.specs.declared.enabled.Origin.{Origin}
 use Rattle.rx_machine.specs.declared.seat.Seat.{Seat}
 use Rattle.rx_machine.specs.Slots.{live_task, live_in, SlotIs, seat_at, seat_in}
-use Rattle.rx_machine.specs.Origins.{IsTold, TellsOrigins, origin_in}
+use Rattle.rx_machine.specs.Origins.{OriginIsTold, TellsOrigins, origin_in}
 use Rattle.rx_machine.proofs.Finding.{get_before}
 use Rattle.rx_machine.proofs.Live.{live_stands, stands_live, change-same, add-other, release-live}
 
@@ -37,9 +37,9 @@ abbrev pub with_row : Option Origin → List Origin → List Origin
 with_row None origins = origins
 with_row (Some x) origins = origins ++ x ∷ []
 
-told_still : (origins : List Origin) (x : Origin) (gs : List Scope) → Each (IsTold origins) gs → Each (IsTold (origins ++ x ∷ [])) gs
+told_still : (origins : List Origin) (x : Origin) (gs : List Scope) → Each (OriginIsTold origins) gs → Each (OriginIsTold (origins ++ x ∷ [])) gs
 told_still origins x gs h =
-    each_more (IsTold origins) (IsTold (origins ++ x ∷ []))
+    each_more (OriginIsTold origins) (OriginIsTold (origins ++ x ∷ []))
     (λ (g : Scope) told o p eo ep.
     let row = told o p eo ep in
     let inside : g.number.0 < length origins = slice_get_within origins g.number.0 (record { opener = o; parent = p }) row in
@@ -76,26 +76,26 @@ tells_act T t (Calls s r callee from to path) origins may h =
 tells_act T t (Spawn child s from to path) origins may h = record { size = h.size; tells = h.tells }
 tells_act T t (Arrive p) origins may h = record { size = h.size; tells = h.tells }
 tells_act T t (Wait s thrown) origins may h =
-    record { size = h.size; tells = each_change (IsTold origins) (is_scope s) (λ g. record g { body = thrown }) T.scopes (λ g k old. old) h.tells }
+    record { size = h.size; tells = each_change (OriginIsTold origins) (is_scope s) (λ g. record g { body = thrown }) T.scopes (λ g k old. old) h.tells }
 tells_act T t (Release s lost thrown) origins may h =
-    record { size = h.size; tells = each_filter (IsTold origins) (λ g. not (on_chain T s g.number)) T.scopes h.tells }
+    record { size = h.size; tells = each_filter (OriginIsTold origins) (λ g. not (on_chain T s g.number)) T.scopes h.tells }
 tells_act T t (End thrown) origins may h = of_end (task_of T t) refl where
   of_end : (o : Option Task) → task_of T t ≡ o → TellsOrigins (after_end T t thrown) origins
-  of_end (Some x) e = rw (e, after_end) (record { size = h.size; tells = each_change (IsTold origins) (is_scope x.under) (λ g. record g { ends = g.ends ++ thrown }) T.scopes (λ g k old. old) h.tells })
+  of_end (Some x) e = rw (e, after_end) (record { size = h.size; tells = each_change (OriginIsTold origins) (is_scope x.under) (λ g. record g { ends = g.ends ++ thrown }) T.scopes (λ g k old. old) h.tells })
   of_end None e = rw (e, after_end) h
 tells_act T t (Print value path) origins may h = h
 
 -- a release of the root takes rows of none
 pub tells_without : (T : Tree) (s : ScopeId) (origins : List Origin) → TellsOrigins T origins → TellsOrigins (without T s) origins
 tells_without T s origins h =
-    record { size = h.size; tells = each_filter (IsTold origins) (λ g. not (on_chain T s g.number)) T.scopes h.tells }
+    record { size = h.size; tells = each_filter (OriginIsTold origins) (λ g. not (on_chain T s g.number)) T.scopes h.tells }
 
 -- before the first turn the root stands alone
 pub tells_root : (origins : List Origin) (T : Tree) (g : Scope) → T.scopes ≡ g ∷ [] → T.next_scope ≡ 1 → g.opener ≡ None → length origins ≡ 1 → TellsOrigins T origins
 tells_root origins T g alone next none size =
     record {
       size = size ∙ sym next;
-      tells = subst (Each (IsTold origins)) (sym alone) ((λ o p eo ep. (let f : None ≡ Some o = sym none ∙ eo in cc)), tt);
+      tells = subst (Each (OriginIsTold origins)) (sym alone) ((λ o p eo ep. (let f : None ≡ Some o = sym none ∙ eo in cc)), tt);
     }
 
 -- The walk.
@@ -115,7 +115,7 @@ left_slot shape T ps n None none = off (task_of T (record { 0 = n })) none where
 -- what the table tells of the scope at which the walk is
 pub row_at : (T : Tree) (s : ScopeId) (origins : List Origin) → TellsOrigins T origins → (u : GoesUp T s) → slice_get origins s.0 ≡ Some (record { opener = u.opener; parent = u.parent })
 row_at T s origins h u =
-    let told : IsTold origins u.scope = each_found (IsTold origins) (is_scope s) T.scopes u.scope h.tells u.stands in
+    let told : OriginIsTold origins u.scope = each_found (OriginIsTold origins) (is_scope s) T.scopes u.scope h.tells u.stands in
     let number : u.scope.number.0 ≡ s.0 = eqb-true u.scope.number.0 s.0 (find-passes (is_scope s) T.scopes u.scope u.stands) in
     sym (ap (λ (n : ℕ). slice_get origins n) number) ∙ told u.opener u.parent u.is_opener u.is_parent
 

@@ -21,7 +21,7 @@ use Rattle.rx_machine.specs.declared.machine.Machine.{Machine}
 use Rattle.rx_machine.specs.declared.seat.Seat.{Seat}
 use Rattle.rx_machine.specs.Slots.{own_kinds}
 use Rattle.rx_machine.specs.Held.{is_held}
-use Rattle.rx_machine.specs.Holds.{Seated, Acting, Makes}
+use Rattle.rx_machine.specs.Holds.{Seated, Acting, LeadsTo}
 use Rattle.rx_machine.proofs.Acted.{Went, acted}
 use Rattle.rx_machine.proofs.Asking.{not_lost}
 use Rattle.rx_machine.proofs.Beginning.{Begins, begins-so}
@@ -46,7 +46,7 @@ print-granted T who NoMemory free h = h
 print-granted T who (Lost place at) free h = not_lost T who.task (record { place = place; entry = at }) free h
 print-granted T who (NotYet place) free h = h
 
-pub printed : {L : Type 0} (stands : L → Tree → Type 0) (shape : Shape) (code : Block) (U : Given) (m m' : Machine L) (k i : ℕ) (here : PlaceId) (q : Player) (seat seat' : Seat) (G : Game) (z : ℤ) (x : List ℕ) → Acting stands shape code U m k i here q seat G → does q.vars here.0 U.places q.term ≡ Prints z → begins q.term ≡ Some x → MayPrint (tree_in U G) seat.row.number → StandsFor shape seat'.control (granted [] q.term) → seat'.control.vars ≡ seat.control.vars → seat'.row ≡ seat.row → seat'.scopes ≡ seat.scopes → seat'.batch ≡ [] → Went stands m m' (tree_in U G) (Step seat.row.number (Print z x) seat.batch) → m'.seats.items ≡ slice_set m.seats.items i (Some seat') → Makes (Turn U k G true) (Seated stands shape code U m')
+pub printed : {L : Type 0} (stands : L → Tree → Type 0) (shape : Shape) (code : Block) (U : Given) (m m' : Machine L) (k i : ℕ) (here : PlaceId) (q : Player) (seat seat' : Seat) (G : Game) (z : ℤ) (x : List ℕ) → Acting stands shape code U m k i here q seat G → does q.vars here.0 U.places q.term ≡ Prints z → begins q.term ≡ Some x → MayPrint (tree_in U G) seat.row.number → StandsFor shape seat'.control (granted [] q.term) → seat'.control.vars ≡ seat.control.vars → seat'.row ≡ seat.row → seat'.scopes ≡ seat.scopes → seat'.batch ≡ [] → Went stands m m' (tree_in U G) (Step seat.row.number (Print z x) seat.batch) → m'.seats.items ≡ slice_set m.seats.items i (Some seat') → LeadsTo (Turn U k G true) (Seated stands shape code U m')
 printed stands shape code U m m' k i here q seat seat' G z x a asks path may term vars row scopes batch went back =
     let T : Tree = tree_in U G in
     let s = a.gone.seat_is in

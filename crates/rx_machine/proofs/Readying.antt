@@ -12,20 +12,20 @@ use Rattle.rx_sound.proofs.Reach.{task_below}
 use Rattle.rx_nodes.specs.Shape.{Shape}
 use Rattle.rx_machine.specs.declared.seat.Seat.{Seat}
 use Rattle.rx_machine.specs.Slots.{live_in, SlotIs, seat_at}
-use Rattle.rx_machine.specs.Picking.{slot_able, has, IsReady}
+use Rattle.rx_machine.specs.Picking.{slot_able, is_listed, IsReady}
 use Rattle.rx_machine.proofs.Live.{live_stands}
 use Rattle.rx_machine.proofs.EnabledTasks.{able_from}
 
 -- A number put in or taken out.
 
-inserted_same : (x : ℕ) (ys : List ℕ) → has x (inserted x ys) ≡ true
+inserted_same : (x : ℕ) (ys : List ℕ) → is_listed x (inserted x ys) ≡ true
 unfolding inserted
 inserted_same x [] = rw (eq-eqb x x refl) refl
 inserted_same x (y ∷ ys) =
-    (elim (ltb x y) as (λ b. has x (cond b (x ∷ y ∷ ys) (cond (eqb x y) (y ∷ ys) (y ∷ inserted x ys))) ≡ true) [
+    (elim (ltb x y) as (λ b. is_listed x (cond b (x ∷ y ∷ ys) (cond (eqb x y) (y ∷ ys) (y ∷ inserted x ys))) ≡ true) [
       | true ↦ rw (eq-eqb x x refl) refl
       | false ↦
-          (elim (eqb x y) as (λ c. eqb x y ≡ c → has x (cond c (y ∷ ys) (y ∷ inserted x ys)) ≡ true) [
+          (elim (eqb x y) as (λ c. eqb x y ≡ c → is_listed x (cond c (y ∷ ys) (y ∷ inserted x ys)) ≡ true) [
             | true ↦ λ e. let f : eqb y x ≡ true = eq-eqb y x (sym (eqb-true x y e)) in rw f refl
             | false ↦ λ e. ap (λ v. (y == x) || v) (inserted_same x ys) ∙ or_true (y == x)
           ]) refl
@@ -39,41 +39,41 @@ pub inserted_none : (x : ℕ) → inserted x [] ≡ x ∷ []
 unfolding inserted
 inserted_none x = refl
 
-inserted_other : (x n : ℕ) (ys : List ℕ) → n ≢ x → has n (inserted x ys) ≡ has n ys
+inserted_other : (x n : ℕ) (ys : List ℕ) → n ≢ x → is_listed n (inserted x ys) ≡ is_listed n ys
 unfolding inserted
 inserted_other x n [] apart = let f : (x == n) ≡ false = ne_eqb x n (λ e. apart (sym e)) in rw f refl
 inserted_other x n (y ∷ ys) apart =
     let f : (x == n) ≡ false = ne_eqb x n (λ e. apart (sym e)) in
-    elim (ltb x y) as (λ b. has n (cond b (x ∷ y ∷ ys) (cond (eqb x y) (y ∷ ys) (y ∷ inserted x ys))) ≡ has n (y ∷ ys)) [
+    elim (ltb x y) as (λ b. is_listed n (cond b (x ∷ y ∷ ys) (cond (eqb x y) (y ∷ ys) (y ∷ inserted x ys))) ≡ is_listed n (y ∷ ys)) [
       | true ↦ rw f refl
       | false ↦
-          elim (eqb x y) as (λ c. has n (cond c (y ∷ ys) (y ∷ inserted x ys)) ≡ has n (y ∷ ys)) [
+          elim (eqb x y) as (λ c. is_listed n (cond c (y ∷ ys) (y ∷ inserted x ys)) ≡ is_listed n (y ∷ ys)) [
             | true ↦ refl
             | false ↦ ap (λ v. (y == n) || v) (inserted_other x n ys apart)
           ]
     ]
 
-removed_same : (x : ℕ) (ys : List ℕ) → has x (removed x ys) ≡ false
+removed_same : (x : ℕ) (ys : List ℕ) → is_listed x (removed x ys) ≡ false
 removed_same x [] = refl
 removed_same x (y ∷ ys) =
-    (elim (y == x) as (λ b. (y == x) ≡ b → has x (cond (not b) (y ∷ removed x ys) (removed x ys)) ≡ false) [
+    (elim (y == x) as (λ b. (y == x) ≡ b → is_listed x (cond (not b) (y ∷ removed x ys) (removed x ys)) ≡ false) [
       | true ↦ λ e. removed_same x ys
       | false ↦ λ e. rw e (removed_same x ys)
     ]) refl
 
-removed_other : (x n : ℕ) (ys : List ℕ) → n ≢ x → has n (removed x ys) ≡ has n ys
+removed_other : (x n : ℕ) (ys : List ℕ) → n ≢ x → is_listed n (removed x ys) ≡ is_listed n ys
 removed_other x n [] apart = refl
 removed_other x n (y ∷ ys) apart =
-    (elim (y == x) as (λ b. (y == x) ≡ b → has n (cond (not b) (y ∷ removed x ys) (removed x ys)) ≡ has n (y ∷ ys)) [
+    (elim (y == x) as (λ b. (y == x) ≡ b → is_listed n (cond (not b) (y ∷ removed x ys) (removed x ys)) ≡ is_listed n (y ∷ ys)) [
       | true ↦ λ e. let f : (y == n) ≡ false = ne_eqb y n (λ k. apart (sym k ∙ eqb-true y x e)) in rw f (removed_other x n ys apart)
       | false ↦ λ e. ap (λ v. (y == n) || v) (removed_other x n ys apart)
     ]) refl
 
-pub marked_same : (b : Bool) (x : ℕ) (ys : List ℕ) → has x (marked b x ys) ≡ b
+pub marked_same : (b : Bool) (x : ℕ) (ys : List ℕ) → is_listed x (marked b x ys) ≡ b
 marked_same true x ys = inserted_same x ys
 marked_same false x ys = removed_same x ys
 
-pub marked_other : (b : Bool) (x n : ℕ) (ys : List ℕ) → n ≢ x → has n (marked b x ys) ≡ has n ys
+pub marked_other : (b : Bool) (x n : ℕ) (ys : List ℕ) → n ≢ x → is_listed n (marked b x ys) ≡ is_listed n ys
 marked_other true x n ys apart = inserted_other x n ys apart
 marked_other false x n ys apart = removed_other x n ys apart
 
@@ -115,18 +115,18 @@ ascends_marked true x ys h = ascends_inserted 0 x ys (omega arith) h
 ascends_marked false x ys h = ascends_removed 0 x ys h
 
 -- what is below the list is not in it
-has_below : (a n : ℕ) (ys : List ℕ) → Ascends a ys → n < a → has n ys ≡ false
+has_below : (a n : ℕ) (ys : List ℕ) → Ascends a ys → n < a → is_listed n ys ≡ false
 has_below a n [] h less = refl
 has_below a n (y ∷ ys) h less =
     let low : a ≤ y = h.0 in
     let f : (y == n) ≡ false = ne_eqb y n (λ e. absurd (omega (arith, low, less, e))) in
     rw f (has_below (y + 1) n ys h.1 (omega (arith, low, less)))
 
-has_first : (x : ℕ) (xs : List ℕ) → has x (x ∷ xs) ≡ true
+has_first : (x : ℕ) (xs : List ℕ) → is_listed x (x ∷ xs) ≡ true
 has_first x xs = rw (eq-eqb x x refl) refl
 
 -- ascending lists of the same numbers are the same
-pub ascends_same : (a : ℕ) (xs ys : List ℕ) → Ascends a xs → Ascends a ys → ((n : ℕ) → has n xs ≡ has n ys) → xs ≡ ys
+pub ascends_same : (a : ℕ) (xs ys : List ℕ) → Ascends a xs → Ascends a ys → ((n : ℕ) → is_listed n xs ≡ is_listed n ys) → xs ≡ ys
 ascends_same a [] [] h k e = refl
 ascends_same a [] (y ∷ ys) h k e = absurd (true≢false (sym (has_first y ys) ∙ sym (e y)))
 ascends_same a (x ∷ xs) [] h k e = absurd (true≢false (sym (has_first x xs) ∙ e x))
@@ -138,12 +138,12 @@ ascends_same a (x ∷ xs) (y ∷ ys) h k e =
         | inr less ↦ omega (arith, more, less)
       ]
     ] in
-    let rest : (n : ℕ) → has n xs ≡ has n ys = λ n. elim (cases_lt n (x + 1)) [
+    let rest : (n : ℕ) → is_listed n xs ≡ is_listed n ys = λ n. elim (cases_lt n (x + 1)) [
       | inl low ↦ has_below (x + 1) n xs h.1 low ∙ sym (has_below (y + 1) n ys k.1 (omega (arith, low, same)))
       | inr high ↦
           let f : (x == n) ≡ false = ne_eqb x n (λ w. absurd (omega (arith, high, w))) in
           let g : (y == n) ≡ false = ne_eqb y n (λ w. absurd (omega (arith, high, w, same))) in
-          sym (ap (λ b. b || has n xs) f) ∙ (e n ∙ ap (λ b. b || has n ys) g)
+          sym (ap (λ b. b || is_listed n xs) f) ∙ (e n ∙ ap (λ b. b || is_listed n ys) g)
     ] in
     ap (λ v. v ∷ xs) same ∙ ap (λ v. y ∷ v) (ascends_same (y + 1) xs ys (subst (λ (v : ℕ). Ascends (v + 1) xs) same h.1) k.1 rest)
 
@@ -157,21 +157,21 @@ able_ascends T i (o ∷ os) =
       | false ↦ ascends_less (suc i) i (able_from T (suc i) os) (omega arith) (able_ascends T (suc i) os)
     ]
 
-able_has : (T : Tree) (i j : ℕ) (os : List (Option Seat)) → has (i + j) (able_from T i os) ≡ slot_able T (seat_at os j)
+able_has : (T : Tree) (i j : ℕ) (os : List (Option Seat)) → is_listed (i + j) (able_from T i os) ≡ slot_able T (seat_at os j)
 able_has T i j [] = refl
 able_has T i zero (o ∷ os) =
     let z : i + 0 ≡ i = omega arith in
-    ap (λ (v : ℕ). has v (able_from T i (o ∷ os))) z
-    ∙ elim (slot_able T o) as (λ b. has i (cond b (i ∷ able_from T (suc i) os) (able_from T (suc i) os)) ≡ b) [
+    ap (λ (v : ℕ). is_listed v (able_from T i (o ∷ os))) z
+    ∙ elim (slot_able T o) as (λ b. is_listed i (cond b (i ∷ able_from T (suc i) os) (able_from T (suc i) os)) ≡ b) [
       | true ↦ has_first i (able_from T (suc i) os)
       | false ↦ has_below (suc i) i (able_from T (suc i) os) (able_ascends T (suc i) os) (omega arith)
     ]
 able_has T i (suc j) (o ∷ os) =
     let z : i + suc j ≡ suc i + j = omega arith in
     let f : (i == suc i + j) ≡ false = ne_eqb i (suc i + j) (λ w. absurd (omega (arith, w))) in
-    ap (λ (v : ℕ). has v (able_from T i (o ∷ os))) z
-    ∙ (elim (slot_able T o) as (λ b. has (suc i + j) (cond b (i ∷ able_from T (suc i) os) (able_from T (suc i) os)) ≡ has (suc i + j) (able_from T (suc i) os)) [
-      | true ↦ ap (λ b. b || has (suc i + j) (able_from T (suc i) os)) f
+    ap (λ (v : ℕ). is_listed v (able_from T i (o ∷ os))) z
+    ∙ (elim (slot_able T o) as (λ b. is_listed (suc i + j) (cond b (i ∷ able_from T (suc i) os) (able_from T (suc i) os)) ≡ is_listed (suc i + j) (able_from T (suc i) os)) [
+      | true ↦ ap (λ b. b || is_listed (suc i + j) (able_from T (suc i) os)) f
       | false ↦ refl
     ] ∙ able_has T (suc i) j os)
 
@@ -195,9 +195,9 @@ able_high T n h high =
       | Some x ↦ λ e. let low : n < T.next_task = task_below T.next_task T.tasks (record { 0 = n }) x h.tasks_fall e in absurd (omega (arith, low, high))
     ]) refl
 
--- the set has the numbers of the slots that are enabled
+-- the set is_listed the numbers of the slots that are enabled
 pub ready_slots : (shape : Shape) (T : Tree) (ps : List Player) (os : List (Option Seat)) (ns : List ℕ) → ((n : ℕ) → SlotIs shape T ps n (seat_at os n)) → IsReady T ns → ns ≡ able_from T 0 os
 ready_slots shape T ps os ns slots r =
     ascends_same 0 ns (able_from T 0 os) r.0 (able_ascends T 0 os) (λ n.
     let z : n ≡ 0 + n = omega arith in
-    r.1 n ∙ (sym (slot_task shape T ps n (seat_at os n) (slots n)) ∙ (sym (able_has T 0 n os) ∙ ap (λ (v : ℕ). has v (able_from T 0 os)) (sym z))))
+    r.1 n ∙ (sym (slot_task shape T ps n (seat_at os n) (slots n)) ∙ (sym (able_has T 0 n os) ∙ ap (λ (v : ℕ). is_listed v (able_from T 0 os)) (sym z))))

@@ -8,7 +8,7 @@ use Rattle.rx_rules.specs.declared.tasks.Kind.{Kind}
 use Rattle.rx_rules.specs.declared.tasks.Kind.TheVariants.{Finish as OfFinish, Call as OfCall}
 use Rattle.rx_rules.specs.Code.{Block, Stmt, SetTo, New, Get, Put, Forget, Print, Throw, Async, AtAsync, At, Finish, If, Repeat, Try}
 use Rattle.rx_rules.specs.Terms.{Vars, Term, Empty, Run, Raise, Turns, Trying, Body, Held, items, at, Does, Local, Makes, Gets, Puts, Forgets, Opens, Calls, Spawns, Waits, Releases, Prints, Done, raise, bound, value_of, ref_in, eval, target_of, is_zero, with_number, with_place, stmt_does, within, does, stmt_granted, or_raise, granted, stmt_child, child, replaced}
-use Rattle.rx_machine.specs.Spine.{Flat, Spine}
+use Rattle.rx_machine.specs.Spine.{NoScopeOpen, Spine}
 use Rattle.rx_machine.proofs.Spines.{flat-spine, flat-items}
 
 -- what stands after each request: a scope more, one less, or the same; a wait is at a finish, and what is done has none open
@@ -38,7 +38,7 @@ on-test : (ks : List Kind) (b : Bool) (d e : Does) (t : Term) → GrantsSpine ks
 on-test ks true d e t h k = h
 on-test ks false d e t h k = k
 
-of_stmt : (vars : Vars) (here places : ℕ) (stmt : Stmt) (x : List ℕ) (rest : Term) → Flat rest → GrantsSpine [] (stmt_does vars here places stmt x rest) (stmt_granted stmt x rest)
+of_stmt : (vars : Vars) (here places : ℕ) (stmt : Stmt) (x : List ℕ) (rest : Term) → NoScopeOpen rest → GrantsSpine [] (stmt_does vars here places stmt x rest) (stmt_granted stmt x rest)
 of_stmt vars here places (SetTo name value) x rest h = on-number [] vars (eval vars here value) (λ z. Local rest (bound name (Number z) vars)) rest (λ z. tt)
 of_stmt vars here places (New name words) x rest h = tt
 of_stmt vars here places (Get name target index) x rest h =
@@ -63,7 +63,7 @@ of_stmt vars here places (If test first other) x rest h =
 of_stmt vars here places (Repeat times body) x rest h = tt
 of_stmt vars here places (Try body dead_only handler) x rest h = tt
 
-in-try : (ks : List Kind) (o : Bool) (b : Block) (x : List ℕ) (rest : Term) (d : Does) (t : Term) → Flat rest → GrantsSpine ks d t → GrantsSpine ks (within (λ t. Trying t o b x rest) d) (Trying t o b x rest)
+in-try : (ks : List Kind) (o : Bool) (b : Block) (x : List ℕ) (rest : Term) (d : Does) (t : Term) → NoScopeOpen rest → GrantsSpine ks d t → GrantsSpine ks (within (λ t. Trying t o b x rest) d) (Trying t o b x rest)
 in-try ks o b x rest (Local left vars) t u h = tt
 in-try ks o b x rest (Makes name words) t u h = tt
 in-try ks o b x rest (Gets name target index) t u h = tt
@@ -77,7 +77,7 @@ in-try ks o b x rest Releases t u h = (h.0, h.1, h.2, (h.3, u))
 in-try ks o b x rest (Prints value) t u h = (h, u)
 in-try ks o b x rest (Done faults) t u h = tt
 
-in-body : (ks : List Kind) (rest : Term) (d : Does) (t : Term) → Flat rest → GrantsSpine ks d t → GrantsSpine (OfFinish ∷ ks) (within (λ t. Body t rest) d) (Body t rest)
+in-body : (ks : List Kind) (rest : Term) (d : Does) (t : Term) → NoScopeOpen rest → GrantsSpine ks d t → GrantsSpine (OfFinish ∷ ks) (within (λ t. Body t rest) d) (Body t rest)
 in-body ks rest (Local left vars) t u h = tt
 in-body ks rest (Makes name words) t u h = tt
 in-body ks rest (Gets name target index) t u h = tt
@@ -91,12 +91,12 @@ in-body ks rest Releases t u h = (OfFinish ∷ h.0, h.1, ap (λ v. OfFinish ∷ 
 in-body ks rest (Prints value) t u h = (refl, h, u)
 in-body ks rest (Done faults) t u h = tt
 
-raised : (faults : List Fault) (rest : Term) → Flat rest → Spine (or_raise faults rest) []
+raised : (faults : List Fault) (rest : Term) → NoScopeOpen rest → Spine (or_raise faults rest) []
 raised [] rest h = flat-spine rest h
 raised (f ∷ fs) rest h = refl
 
 -- a body that is over or raised waits at its finish
-waits-now : (ks : List Kind) (rest : Term) → ks ≡ [] → Flat rest → Spine (Held rest) (OfFinish ∷ ks) × ((front : List Kind) × (OfFinish ∷ ks ≡ front ++ OfFinish ∷ []))
+waits-now : (ks : List Kind) (rest : Term) → ks ≡ [] → NoScopeOpen rest → Spine (Held rest) (OfFinish ∷ ks) × ((front : List Kind) × (OfFinish ∷ ks ≡ front ++ OfFinish ∷ []))
 waits-now ks rest e u = (subst (λ (v : List Kind). Spine (Held rest) (OfFinish ∷ v)) (sym e) u, ([], ap (λ v. OfFinish ∷ v) e))
 
 pub spine-grant : (ks : List Kind) (vars : Vars) (here places : ℕ) (faults : List Fault) (t : Term) → Spine t ks → GrantsSpine ks (does vars here places t) (granted faults t)
@@ -257,7 +257,7 @@ spine-done ks vars here places (Body inside rest) h = undone-empty ks (does vars
 spine-done ks vars here places (Held rest) h = tt
 
 -- a store's answer leaves the open scopes
-pub spine-answer : (ks : List Kind) (t new : Term) → Spine t ks → Flat new → IsBegun t → Spine (replaced t new) ks
+pub spine-answer : (ks : List Kind) (t new : Term) → Spine t ks → NoScopeOpen new → IsBegun t → Spine (replaced t new) ks
 spine-answer ks Empty new h u b = absurd b
 spine-answer ks (Run stmt x rest) new h u b = subst (λ (v : List Kind). Spine new v) (sym h.0) (flat-spine new u)
 spine-answer ks (Raise faults) new h u b = absurd b
@@ -267,7 +267,7 @@ spine-answer [] (Body inside rest) new h u b = absurd h
 spine-answer (k ∷ ks) (Body inside rest) new h u b = (h.0, spine-answer ks inside new h.1 u b, h.2)
 spine-answer ks (Held rest) new h u b = absurd b
 
-flat_child : (stmt : Stmt) (x : List ℕ) → Flat (stmt_child stmt x)
+flat_child : (stmt : Stmt) (x : List ℕ) → NoScopeOpen (stmt_child stmt x)
 flat_child (SetTo name value) x = tt
 flat_child (New name words) x = tt
 flat_child (Get name target index) x = tt
@@ -284,7 +284,7 @@ flat_child (Repeat times body) x = tt
 flat_child (Try body dead_only handler) x = tt
 
 -- a new task has no scope open
-pub flat-child : (t : Term) → Flat (child t)
+pub flat-child : (t : Term) → NoScopeOpen (child t)
 flat-child Empty = tt
 flat-child (Run stmt x rest) = flat_child stmt x
 flat-child (Raise faults) = tt

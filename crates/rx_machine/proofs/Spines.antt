@@ -8,10 +8,10 @@ use Rattle.rx_rules.specs.declared.tasks.Kind.{Kind}
 use Rattle.rx_rules.specs.declared.tasks.Kind.TheVariants.{Finish as OfFinish}
 use Rattle.rx_rules.specs.Code.{Block, Nothing, Then, Stmt, SetTo, New, Get, Put, Forget, Print, Throw, Async, AtAsync, At, Finish, If, Repeat, Try}
 use Rattle.rx_rules.specs.Terms.{Vars, Term, Empty, Run, Raise, Turns, Trying, Body, Held, items, items_from, at, Does, Local, Makes, Gets, Puts, Forgets, Opens, Calls, Spawns, Waits, Releases, Prints, Done, raise, bound, value_of, ref_in, eval, target_of, is_zero, catches, with_number, with_place, stmt_does, within, does}
-use Rattle.rx_machine.specs.Spine.{Flat, Spine}
+use Rattle.rx_machine.specs.Spine.{NoScopeOpen, Spine}
 
 -- where no scope is open the spine is empty
-pub flat-spine : (t : Term) → Flat t → Spine t []
+pub flat-spine : (t : Term) → NoScopeOpen t → Spine t []
 flat-spine Empty h = refl
 flat-spine (Run stmt x rest) h = (refl, h)
 flat-spine (Raise faults) h = refl
@@ -21,7 +21,7 @@ flat-spine (Body inside rest) h = absurd h
 flat-spine (Held rest) h = absurd h
 
 -- statements open no scope before they begin
-pub flat-items : (b : Block) (x : List ℕ) (i : ℕ) (rest : Term) → Flat rest → Flat (items_from b x i rest)
+pub flat-items : (b : Block) (x : List ℕ) (i : ℕ) (rest : Term) → NoScopeOpen rest → NoScopeOpen (items_from b x i rest)
 flat-items Nothing x i rest h = h
 flat-items (Then first more) x i rest h = flat-items more x (suc i) rest h
 
@@ -52,14 +52,14 @@ on-test : (ks : List Kind) (b : Bool) (d e : Does) → LeavesSpine ks d → Leav
 on-test ks true d e h k = h
 on-test ks false d e h k = k
 
-flat-at : (ks : List Kind) (t : Term) → ks ≡ [] → Flat t → Spine t ks
+flat-at : (ks : List Kind) (t : Term) → ks ≡ [] → NoScopeOpen t → Spine t ks
 flat-at ks t e h = subst (λ (v : List Kind). Spine t v) (sym e) (flat-spine t h)
 
 chosen : (ks : List Kind) (b : Bool) (t u : Term) (vars : Vars) → Spine t ks → Spine u ks → LeavesSpine ks (Local (cond b t u) vars)
 chosen ks true t u vars h k = h
 chosen ks false t u vars h k = k
 
-of_stmt : (ks : List Kind) (vars : Vars) (here places : ℕ) (stmt : Stmt) (x : List ℕ) (rest : Term) → ks ≡ [] → Flat rest → LeavesSpine ks (stmt_does vars here places stmt x rest)
+of_stmt : (ks : List Kind) (vars : Vars) (here places : ℕ) (stmt : Stmt) (x : List ℕ) (rest : Term) → ks ≡ [] → NoScopeOpen rest → LeavesSpine ks (stmt_does vars here places stmt x rest)
 of_stmt ks vars here places (SetTo name value) x rest e h = on-number ks vars (eval vars here value) (λ z. Local rest (bound name (Number z) vars)) e (λ z. flat-at ks rest e h)
 of_stmt ks vars here places (New name words) x rest e h = tt
 of_stmt ks vars here places (Get name target index) x rest e h =
@@ -85,7 +85,7 @@ of_stmt ks vars here places (If test first other) x rest e h =
 of_stmt ks vars here places (Repeat times body) x rest e h = (e, h)
 of_stmt ks vars here places (Try body dead_only handler) x rest e h = (flat-at ks (items body (at x 0) Empty) e (flat-items body (at x 0) 0 Empty tt), h)
 
-in-try : (ks : List Kind) (o : Bool) (b : Block) (x : List ℕ) (rest : Term) (d : Does) → Flat rest → LeavesSpine ks d → LeavesSpine ks (within (λ t. Trying t o b x rest) d)
+in-try : (ks : List Kind) (o : Bool) (b : Block) (x : List ℕ) (rest : Term) (d : Does) → NoScopeOpen rest → LeavesSpine ks d → LeavesSpine ks (within (λ t. Trying t o b x rest) d)
 in-try ks o b x rest (Local left vars) u h = (h, u)
 in-try ks o b x rest (Makes name words) u h = tt
 in-try ks o b x rest (Gets name target index) u h = tt
@@ -99,7 +99,7 @@ in-try ks o b x rest Releases u h = tt
 in-try ks o b x rest (Prints value) u h = tt
 in-try ks o b x rest (Done faults) u h = tt
 
-in-body : (k : Kind) (ks : List Kind) (rest : Term) (d : Does) → k ≡ OfFinish → Flat rest → LeavesSpine ks d → LeavesSpine (k ∷ ks) (within (λ t. Body t rest) d)
+in-body : (k : Kind) (ks : List Kind) (rest : Term) (d : Does) → k ≡ OfFinish → NoScopeOpen rest → LeavesSpine ks d → LeavesSpine (k ∷ ks) (within (λ t. Body t rest) d)
 in-body k ks rest (Local left vars) e u h = (e, h, u)
 in-body k ks rest (Makes name words) e u h = tt
 in-body k ks rest (Gets name target index) e u h = tt

@@ -20,7 +20,7 @@ use Rattle.rx_history.specs.Setups.{given}
 use Rattle.rx_nodes.specs.Shape.{Shape}
 use Rattle.rx_machine.specs.declared.machine.Machine.{Machine}
 use Rattle.rx_stores.proofs.Journals.{journals_are}
-use Rattle.rx_machine.specs.Holds.{Holds, Finished, Makes}
+use Rattle.rx_machine.specs.Holds.{Holds, Finished, LeadsTo}
 use Rattle.rx_machine.specs.Runs.{WentOn, picks_in, RanFrom, Gives}
 
 -- Turns that move tasks.
@@ -147,7 +147,7 @@ gives-finished stands U m G r history events ledger f =
       ledger = subst (λ x. stands x (tree_in U G)) (sym ledger) f.ledger;
     }
 
-pub run-ends : {L : Type 0} (stands : L → Tree → Type 0) (shape : Shape) (code : Block) (U : Given) (picks : ℕ → ℕ) (G : Game) (m m' : Machine L) (i j k : ℕ) (left : ℕ → ℕ) → GamesCome → (r : RunTo stands shape code U picks G m i j) → k ≡ picks j → ((n : ℕ) → left n ≡ picks (j + n)) → (a : Makes (Turn U k r.game false) (Finished stands U m')) → (parts : Log × AllEvents × L) → Gives stands U a.0 parts → RanFrom stands code U picks left G parts
+pub run-ends : {L : Type 0} (stands : L → Tree → Type 0) (shape : Shape) (code : Block) (U : Given) (picks : ℕ → ℕ) (G : Game) (m m' : Machine L) (i j k : ℕ) (left : ℕ → ℕ) → GamesCome → (r : RunTo stands shape code U picks G m i j) → k ≡ picks j → ((n : ℕ) → left n ≡ picks (j + n)) → (a : LeadsTo (Turn U k r.game false) (Finished stands U m')) → (parts : Log × AllEvents × L) → Gives stands U a.0 parts → RanFrom stands code U picks left G parts
 run-ends stands shape code U picks G m m' i j k left come r e are a parts gives =
     let t : Turn U (picks j) r.game false a.0 = subst (λ x. Turn U x r.game false a.0) e a.1 in
     let last = turn-adds U k r.game a.0 false a.1 in

@@ -79,8 +79,8 @@ pub record HasGone (shape : Shape) (U : Given) (i : ℕ) (here : PlaceId) (p q :
   pub seat_is : IsSeat shape (tree_in U G) i q seat
 
 -- a turn that leads to a game with P
-abbrev pub Makes : (Game → Type 0) → (Game → Type 0) → Type 0
-Makes Turned P = (G : Game) × Turned G × P G
+abbrev pub LeadsTo : (Game → Type 0) → (Game → Type 0) → Type 0
+LeadsTo Turned P = (G : Game) × Turned G × P G
 
 -- task i, which the pick k moves and which was taken out of its slot, has come to the player q
 pub record Acting {L : Type 0} (stands : L → Tree → Type 0) (shape : Shape) (code : Block) (U : Given) (m : Machine L) (k i : ℕ)

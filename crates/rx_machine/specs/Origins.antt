@@ -12,15 +12,15 @@ use Rattle.rx_sound.specs.Sound.{Each}
 use Rattle.rx_machine.specs.declared.enabled.Origin.{Origin}
 
 -- the table tells of a scope who opened it, and inside which scope
-abbrev pub IsTold : List Origin → Scope → Type 0
-IsTold origins g =
+abbrev pub OriginIsTold : List Origin → Scope → Type 0
+OriginIsTold origins g =
     (o : TaskId) (p : ScopeId) → g.opener ≡ Some o → g.parent ≡ Some p
     → slice_get origins g.number.0 ≡ Some (record { opener = o; parent = p })
 
 -- it has as many rows as there were scopes, and tells of each that stands
 pub record TellsOrigins (T : Tree) (origins : List Origin) : Type 0 where
   pub size : length origins ≡ T.next_scope
-  pub tells : Each (IsTold origins) T.scopes
+  pub tells : Each (OriginIsTold origins) T.scopes
 
 -- the origin of the scope that an act of task t opens
 abbrev pub origin_in : TaskId → Act → Option Origin

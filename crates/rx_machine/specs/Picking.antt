@@ -13,9 +13,9 @@ slot_able T None = false
 slot_able T (Some seat) = is_enabled T seat.row
 
 -- the number is in the list
-abbrev pub has : ℕ → List ℕ → Bool
-has n ns = list_any (λ m. m == n) ns
+abbrev pub is_listed : ℕ → List ℕ → Bool
+is_listed n ns = list_any (λ m. m == n) ns
 
 -- the numbers are those of the enabled tasks, in ascending order
 abbrev pub IsReady : Tree → List ℕ → Type 0
-IsReady T ns = Ascends 0 ns × ((n : ℕ) → has n ns ≡ able T (record { 0 = n }))
+IsReady T ns = Ascends 0 ns × ((n : ℕ) → is_listed n ns ≡ able T (record { 0 = n }))

@@ -19,7 +19,7 @@ use Rattle.rx_machine.specs.declared.seat.Seat.{Seat}
 use Rattle.rx_machine.specs.Slots.{seat_at}
 use Rattle.rx_machine.specs.Picking.{IsReady}
 use Rattle.rx_machine.specs.Origins.{TellsOrigins}
-use Rattle.rx_machine.specs.Holds.{Seated, Holds, Finished, CanTurn, Makes}
+use Rattle.rx_machine.specs.Holds.{Seated, Holds, Finished, CanTurn, LeadsTo}
 use Rattle.rx_machine.specs.Refusals.{HasFailed}
 
 -- a turn can be made, no kill is due, and it is told which tasks are enabled
@@ -63,15 +63,15 @@ pub record HasMoved {L : Type 0} (stands : L → Tree → Type 0) (shape : Shape
 
 -- a turn with the pick k leads to a game for which the machine stands, but for what tells which tasks are enabled
 abbrev pub AfterTurn : {L : Type 0} → (L → Tree → Type 0) → Shape → Block → Given → Machine L → ℕ → Game → Type 0
-AfterTurn stands shape code U m k G = Makes (Turn U k G true) (Seated stands shape code U m)
+AfterTurn stands shape code U m k G = LeadsTo (Turn U k G true) (Seated stands shape code U m)
 
 -- the same of a death, after which the root stands
 abbrev pub HasDied : {L : Type 0} → (L → Tree → Type 0) → Shape → Block → Given → Machine L → ℕ → Game → Type 0
-HasDied stands shape code U m k G = Makes (Turn U k G false) (λ G'. Seated stands shape code U m G' × NoRoot G'.entries)
+HasDied stands shape code U m k G = LeadsTo (Turn U k G false) (λ G'. Seated stands shape code U m G' × NoRoot G'.entries)
 
 -- a turn, with the pick or as a death, leads to a game for which the machine stands
 abbrev pub WentOn : {L : Type 0} → (L → Tree → Type 0) → Shape → Block → Given → Machine L → ℕ → Bool → Game → Type 0
-WentOn stands shape code U m k used G = Makes (Turn U k G used) (Holds stands shape code U m)
+WentOn stands shape code U m k used G = LeadsTo (Turn U k G used) (Holds stands shape code U m)
 
 -- there is a game for which the machine stands
 abbrev pub CanRun : {L : Type 0} → (L → Tree → Type 0) → Shape → Machine L → Type 0
@@ -87,7 +87,7 @@ HasGoneOn stands shape m m' picks left =
 -- from each game for which the machine stood, the root was released
 abbrev pub HasEnded : {L : Type 0} → (L → Tree → Type 0) → Shape → Machine L → Machine L → ℕ → Type 0
 HasEnded stands shape m m' k =
-    (code : Block) (U : Given) (G : Game) → Holds stands shape code U m G → Makes (Turn U k G false) (Finished stands U m')
+    (code : Block) (U : Given) (G : Game) → Holds stands shape code U m G → LeadsTo (Turn U k G false) (Finished stands U m')
 
 -- from each game for which the machine stood, a turn with the pick k was refused
 abbrev pub WasRefused : {L : Type 0} → (L → Tree → Type 0) → Shape → Machine L → Machine L → ℕ → Type 0

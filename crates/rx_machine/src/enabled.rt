@@ -11,7 +11,7 @@ ghost use Rattle.rx_machine.specs.Slots.{seat_at};
 ghost use Rattle.rx_machine.specs.Holds.{Holds, CanTurn, Finished};
 ghost use Rattle.rx_machine.specs.Inside.Games.{SomeTurning, EachTurning, SomeMoved, EachMoved};
 ghost use Rattle.rx_machine.specs.Refusals.{HasFailed};
-ghost use Rattle.rx_machine.specs.Picking.{slot_able, has, IsReady};
+ghost use Rattle.rx_machine.specs.Picking.{slot_able, is_listed, IsReady};
 ghost use Rattle.rx_machine.specs.Origins.{TellsOrigins, origin_in as told_in, origin_by as told_by};
 
 use crate::machine::Machine;
@@ -69,7 +69,7 @@ impl<L: FinishLedger> Machine<L> {
         self.ready.tasks.len()
     }
 
-    /// Notes what the turn of a task has changed: who opened a scope, and which tasks are enabled now. The task hung under that
+    /// Notes what the turn of a task is_listed changed: who opened a scope, and which tasks are enabled now. The task hung under that
     /// scope, and before the turn there were so many slots.
     pub(crate) fn note_turn(&mut self, i: usize, under: ScopeId, before: usize)
         requires room { length self.old.seats.items ≤ self.old.ready.tasks.room }
@@ -103,7 +103,7 @@ impl<L: FinishLedger> Machine<L> {
         }
     }
 
-    /// Notes which tasks are enabled after the turn of a task. It asks of that task, and of one that it started, or where it has
+    /// Notes which tasks are enabled after the turn of a task. It asks of that task, and of one that it started, or where it is_listed
     /// ended of the one that this may free.
     fn note_tasks(&mut self, i: usize, under: ScopeId, before: usize)
         requires room { length self.old.seats.items ≤ self.old.ready.tasks.room }
@@ -179,9 +179,9 @@ impl<L: FinishLedger> Machine<L> {
         ensures origins { self.new.ready.origins ≡ self.old.ready.origins }
         ensures ascends { Ascends 0 self.old.ready.tasks.members → Ascends 0 self.new.ready.tasks.members }
         ensures noted { EachTurning L.stands self.old (λ U G. (n : ℕ) → n < length self.old.seats.items
-            → has n self.new.ready.tasks.members ≡ slot_able (tree_in U G) (seat_at self.old.seats.items n)) }
+            → is_listed n self.new.ready.tasks.members ≡ slot_able (tree_in U G) (seat_at self.old.seats.items n)) }
         ensures others { (n : ℕ) → length self.old.seats.items ≤ n
-            → has n self.new.ready.tasks.members ≡ has n self.old.ready.tasks.members }
+            → is_listed n self.new.ready.tasks.members ≡ is_listed n self.old.ready.tasks.members }
     {
         for i in 0..self.seats.len() {
             self.note(i);

@@ -5,7 +5,7 @@ ghost use Rattle.rx_rules.specs.Terms.{Releases};
 ghost use Rattle.rx_rules.specs.Plays.{raised_by};
 ghost use Rattle.rx_rules.specs.Picked.{Turn};
 ghost use Rattle.rx_machine.specs.Refusals.{NothingTold};
-ghost use Rattle.rx_machine.specs.Holds.{Finished, Makes};
+ghost use Rattle.rx_machine.specs.Holds.{Finished, LeadsTo};
 ghost use Rattle.rx_machine.specs.Inside.Games.{SomeDoing, SomeReleasing, EachReleasing};
 ghost use Rattle.rx_machine.specs.Inside.Acts.{HasDone};
 
@@ -56,7 +56,7 @@ impl<L: FinishLedger> Machine<L> {
         requires room { 0 < self.old.history.spare }
         requires game { SomeReleasing L.stands self.old }
         ensures made { OnOk result (EachReleasing L.stands self.old (λ U G.
-            (k : ℕ) → Makes (Turn U k G false) (Finished L.stands U self.new))) }
+            (k : ℕ) → LeadsTo (Turn U k G false) (Finished L.stands U self.new))) }
         ensures refused { OnErr result (NothingTold self.old self.new) }
         ensures ready { self.new.ready ≡ self.old.ready }
     {

@@ -8,7 +8,7 @@ use Rattle.rx_token.specs.declared.token.Token.TheVariants.{Key, Called, Number,
 use Rattle.rx_token.specs.declared.token.Keyword.TheVariants.{Async as KAsync, Else as KElse}
 use Rattle.rx_token.specs.declared.token.Sign.TheVariants.{OpenBrace as LBrace, CloseBrace as RBrace, CloseParen as RParen, CloseSquare as RSquare, Equals, Semicolon}
 use Rattle.rx_nodes.specs.Grammar.{spell, spelling, spellings, catch_words, sign_of}
-use Rattle.rx_token.specs.Tokens.{InOrder}
+use Rattle.rx_token.specs.Tokens.{NamesInOrder}
 use Rattle.rx_nodes.specs.Named.{Uses, StmtMentions, Mentions, NamesAreNumbered}
 
 -- each name of the tokens is so
@@ -146,7 +146,7 @@ mutual
 
 -- Numbers in the order of first appearance.
 
-wider : (next last : ℕ) (ts : List Token) → InOrder next ts last → next ≤ last
+wider : (next last : ℕ) (ts : List Token) → NamesInOrder next ts last → next ≤ last
 wider next last [] h = omega (arith, h)
 wider next last (Called n ∷ ts) (inl h) = wider next last ts h.1
 wider next last (Called n ∷ ts) (inr h) = let more : next + 1 ≤ last = wider (next + 1) last ts h.1 in omega arith
@@ -156,7 +156,7 @@ wider next last (Oper o ∷ ts) h = wider next last ts h
 wider next last (Mark s ∷ ts) h = wider next last ts h
 wider next last (Bad ∷ ts) h = wider next last ts h
 
-below : (next last : ℕ) (ts : List Token) → InOrder next ts last → EachName (λ n. n < last) ts
+below : (next last : ℕ) (ts : List Token) → NamesInOrder next ts last → EachName (λ n. n < last) ts
 below next last [] h = tt
 below next last (Called n ∷ ts) (inl h) =
     let less : n < next = h.0 in let le : next ≤ last = wider next last ts h.1 in ((let x : n < last = omega arith in x), below next last ts h.1)
@@ -168,7 +168,7 @@ below next last (Oper o ∷ ts) h = below next last ts h
 below next last (Mark s ∷ ts) h = below next last ts h
 below next last (Bad ∷ ts) h = below next last ts h
 
-appears : (P : ℕ → Type 0) (next last : ℕ) (ts : List Token) (k : ℕ) → InOrder next ts last → EachName P ts → next ≤ k → k < last → P k
+appears : (P : ℕ → Type 0) (next last : ℕ) (ts : List Token) (k : ℕ) → NamesInOrder next ts last → EachName P ts → next ≤ k → k < last → P k
 appears P next last [] k h e low high = absurd (omega (arith, h, low, high))
 appears P next last (Called n ∷ ts) k (inl h) e low high = appears P next last ts k h.1 e.1 low high
 appears P next last (Called n ∷ ts) k (inr h) e low high =

@@ -3,7 +3,7 @@ ghost use Rattle.std.specs.Prelude.{◌≡◌, ◌<◌, ℕ, List, MatchOption, 
 ghost use Rattle.rx_rules.specs.Code.{Stmt as Tree, Block};
 ghost use Rattle.rx_rules.specs.Order.{is_kept, is_kept_in};
 ghost use Rattle.rx_nodes.specs.Shape.{Shape, StmtIs, BlockStands};
-ghost use Rattle.rx_order.specs.Inside.Parts.{is_kept_along, Goes, IsOpen};
+ghost use Rattle.rx_order.specs.Inside.Parts.{is_kept_along, WalkGoes, IsOpen};
 
 use crate::parts::{Walk, part_of, stmt_at};
 use rx_base::Path;
@@ -32,7 +32,7 @@ pub(crate) fn is_kept(script: &Script, top: BlockId, x: &Path, first: usize) -> 
 // From the statement at a position on. The path goes on at `at`.
 fn step(script: &Script, block: BlockId, i: u32, x: &Path, at: usize) -> Walk
     requires { (b : Block) × BlockStands script.now block b }
-    ensures { (b : Block) → BlockStands script.now block b → Goes script.now at result (is_kept_in b i (drop at x.now))
+    ensures { (b : Block) → BlockStands script.now block b → WalkGoes script.now at result (is_kept_in b i (drop at x.now))
         (λ c k. is_kept_along c (drop k x.now)) }
 {
     match stmt_at(script, block, i) {
@@ -43,7 +43,7 @@ fn step(script: &Script, block: BlockId, i: u32, x: &Path, at: usize) -> Walk
 
 // From a statement on.
 fn from(stmt: Stmt, x: &Path, at: usize) -> Walk
-    ensures { (s : Shape) (t : Tree) → StmtIs s stmt t → Goes s at result (is_kept t (drop at x.now))
+    ensures { (s : Shape) (t : Tree) → StmtIs s stmt t → WalkGoes s at result (is_kept t (drop at x.now))
         (λ c k. is_kept_along c (drop k x.now)) }
 {
     match kept_by(stmt) {
@@ -62,7 +62,7 @@ fn from(stmt: Stmt, x: &Path, at: usize) -> Walk
 fn inside(stmt: Stmt, x: &Path, at: usize) -> Walk
     requires { at < length x.now }
     ensures { (s : Shape) (t : Tree) → StmtIs s stmt t → IsOpen t
-        → Goes s at result (is_kept t (drop at x.now)) (λ c k. is_kept_along c (drop k x.now)) }
+        → WalkGoes s at result (is_kept t (drop at x.now)) (λ c k. is_kept_along c (drop k x.now)) }
 {
     match part_of(stmt, x, at) {
         None => Walk::Over(false),

@@ -3,7 +3,7 @@ ghost use Rattle.std.specs.Prelude.{◌≡◌, ◌<◌, ◌+◌, drop, length};
 ghost use Rattle.rx_rules.specs.Code.{Stmt as Tree, Block};
 ghost use Rattle.rx_rules.specs.Order.{comes_before, is_before};
 ghost use Rattle.rx_nodes.specs.Shape.{Shape, Stands, StmtIs, BlockStands};
-ghost use Rattle.rx_order.specs.Inside.Parts.{Goes, is_ordered};
+ghost use Rattle.rx_order.specs.Inside.Parts.{WalkGoes, is_ordered};
 
 use crate::kept::is_kept;
 use crate::parts::{Walk, part_of, stmt_at};
@@ -36,7 +36,7 @@ pub fn before(p: &Program, x: &Path, y: &Path) -> bool
 fn step(script: &Script, block: BlockId, x: &Path, y: &Path, at: usize) -> Walk
     requires block { (b : Block) × BlockStands script.now block b }
     requires at { at < length x.now }
-    ensures { (b : Block) → BlockStands script.now block b → Goes script.now (at + 1) result (comes_before b (drop at x.now)
+    ensures { (b : Block) → BlockStands script.now block b → WalkGoes script.now (at + 1) result (comes_before b (drop at x.now)
         (drop at y.now)) (λ c k. comes_before c (drop k x.now) (drop k y.now)) }
 {
     if at >= y.len() {
@@ -59,7 +59,7 @@ fn step(script: &Script, block: BlockId, x: &Path, y: &Path, at: usize) -> Walk
 // From inside a statement on, along which both go.
 fn inside(script: &Script, stmt: Stmt, x: &Path, y: &Path, at: usize) -> Walk
     requires { (t : Tree) × StmtIs script.now stmt t }
-    ensures { (t : Tree) → StmtIs script.now stmt t → Goes script.now at result (is_before t (drop at x.now) (drop at y.now))
+    ensures { (t : Tree) → StmtIs script.now stmt t → WalkGoes script.now at result (is_before t (drop at x.now) (drop at y.now))
         (λ c k. comes_before c (drop k x.now) (drop k y.now)) }
 {
     match part_of(stmt, x, at) {

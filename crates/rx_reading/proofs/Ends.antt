@@ -13,7 +13,7 @@ use Rattle.rx_history.specs.Setups.{given}
 use Rattle.rx_trace.specs.Text.{trace_text}
 use Rattle.rx_reading.specs.Inside.FieldWords.{number_of, number_at}
 use Rattle.rx_history.specs.KillOrder.{is_before}
-use Rattle.rx_reading.specs.Inside.Machine.{State, may_follow, read_line}
+use Rattle.rx_reading.specs.Inside.Machine.{ReadingState, may_follow, read_line}
 use Rattle.rx_reading.specs.Reading.{IsBadLine}
 use Rattle.rx_reading.specs.Inside.Stages.{state_of}
 use Rattle.rx_reading.specs.Words.{Lacks}
@@ -56,13 +56,13 @@ comes-last (k ∷ []) kill e = after-is k kill (and_parts (is_before k kill) (no
 comes-last (k ∷ j ∷ ks) kill e = comes-last (j ∷ ks) kill (and_parts (comes k kill) (may_follow (j ∷ ks) kill) e).1
 
 -- the lines before the line of this number have been read
-abbrev pub At : List ℕ → ℕ → State → List ℕ → Type 0
+abbrev pub At : List ℕ → ℕ → ReadingState → List ℕ → Type 0
 At bytes number s rest = (n : ℕ) × (number ≡ suc n) × HasRead bytes n s rest × (n + length rest ≤ length bytes)
 
-moved : (bytes : List ℕ) (n : ℕ) (s : State) (rest line tail : List ℕ) → rest ≡ line ++ 10 ∷ tail → HasRead bytes n s rest → HasRead bytes n s (ended line ++ tail)
+moved : (bytes : List ℕ) (n : ℕ) (s : ReadingState) (rest line tail : List ℕ) → rest ≡ line ++ 10 ∷ tail → HasRead bytes n s rest → HasRead bytes n s (ended line ++ tail)
 moved bytes n s rest line tail is h = subst (HasRead bytes n s) (is ∙ sym (ended-more line tail)) h
 
-pub at-more : (bytes : List ℕ) (number : ℕ) (s next : State) (rest line tail : List ℕ) → At bytes number s rest → rest ≡ line ++ 10 ∷ tail → Lacks 10 line → read_line s line ≡ Some next → At bytes (number + 1) next tail
+pub at-more : (bytes : List ℕ) (number : ℕ) (s next : ReadingState) (rest line tail : List ℕ) → At bytes number s rest → rest ≡ line ++ 10 ∷ tail → Lacks 10 line → read_line s line ≡ Some next → At bytes (number + 1) next tail
 at-more bytes number s next rest line tail at is lacks e = (
   suc at.0,
   (let same : number ≡ suc at.0 = at.1 in omega arith),
@@ -70,11 +70,11 @@ at-more bytes number s next rest line tail at is lacks e = (
   (let low : at.0 + length rest ≤ length bytes = at.3 in omega (arith, ap length is, length-append line (10 ∷ tail))),
 )
 
-pub at-bad : (bytes : List ℕ) (number : ℕ) (s : State) (rest line tail : List ℕ) → At bytes number s rest → rest ≡ line ++ 10 ∷ tail → Lacks 10 line → read_line s line ≡ None → IsBadLine bytes number
+pub at-bad : (bytes : List ℕ) (number : ℕ) (s : ReadingState) (rest line tail : List ℕ) → At bytes number s rest → rest ≡ line ++ 10 ∷ tail → Lacks 10 line → read_line s line ≡ None → IsBadLine bytes number
 at-bad bytes number s rest line tail at is lacks e =
     subst (IsBadLine bytes) (sym at.1) (bad-here bytes at.0 s line tail (moved bytes at.0 s rest line tail is at.2) lacks e)
 
-pub at-end : (bytes : List ℕ) (number : ℕ) (s : State) (rest : List ℕ) → At bytes number s rest → Lacks 10 rest → IsOpen s rest → IsBadLine bytes number
+pub at-end : (bytes : List ℕ) (number : ℕ) (s : ReadingState) (rest : List ℕ) → At bytes number s rest → Lacks 10 rest → IsOpen s rest → IsBadLine bytes number
 at-end bytes number s rest at lacks is_open = subst (IsBadLine bytes) (sym at.1) (bad-end bytes at.0 s rest at.2 lacks is_open)
 
 nothing : (xs : List ℕ) → true ≡ (length xs == 0) → xs ≡ []
@@ -91,7 +91,7 @@ at-all bytes number s rest h j at is none =
     let read : HasRead bytes at.0 (state_of (stages.Over h j)) [] = subst (λ x. HasRead bytes at.0 (state_of x) []) is (subst (HasRead bytes at.0 (state_of s)) (nothing rest none) at.2) in
     (read-all bytes at.0 (given h.setup) h.entries (events_of j) read).0
 
-pub open-some : (s : State) (rest : List ℕ) → false ≡ (length rest == 0) → IsOpen s rest
+pub open-some : (s : ReadingState) (rest : List ℕ) → false ≡ (length rest == 0) → IsOpen s rest
 open-some s rest some U es js is none = something rest some none
 
 pub open-unless : (s : Stage) (rest : List ℕ) → ((h : Log) (j : AllEvents) → s ≡ stages.Over h j → ⊥) → IsOpen (state_of s) rest

@@ -19,8 +19,8 @@ use Rattle.rx_trace.specs.Parts.{lost_part, thrown_part, batch_part}
 use Rattle.rx_reading.specs.Limits.{IsShort, FitsPath, FitsFault, FitsAct, FitsEntry}
 use Rattle.rx_reading.specs.Words.{fields}
 use Rattle.rx_reading.specs.Inside.Readers.{Reader, either}
-use Rattle.rx_reading.specs.Inside.FieldWords.{number_below, number_of, place_of, task_of, scope_of, path_of, fault_of, number_at, place_at, task_at, scope_at, path_at}
-use Rattle.rx_reading.specs.Inside.PartWords.{lost_at, thrown_at, batch_at}
+use Rattle.rx_reading.specs.Inside.FieldWords.{number_below, number_of, place_of, task_spelt, scope_spelt, path_of, fault_of, number_at, place_at, task_at, scope_at, path_at}
+use Rattle.rx_reading.specs.Inside.PartWords.{lost_read, thrown_at, batch_at}
 use Rattle.rx_reading.specs.Inside.EntryWords.{open_at, at_at, spawn_at, arrive_at, wait_at, release_at, end_at, print_at, step_at, root_at, death_at, entry_at}
 use Rattle.rx_reading.proofs.Cuts.{Plain, all-map}
 use Rattle.rx_reading.proofs.Faults.{plain-word-is, fault-item, fault-takes}
@@ -45,10 +45,10 @@ abbrev pub Told : {A : Type 0} → (A → List ℕ) → (A → Type 0) → A →
 Told spell P a t = (t ≡ spell a) × P a
 
 pub scope-one : Takes scope_at (Told scope_field IsScope)
-scope-one = one-word scope_of scope_field IsScope scope-takes
+scope-one = one-word scope_spelt scope_field IsScope scope-takes
 
 pub task-one : Takes task_at (Told task_field IsTask)
-task-one = one-word task_of task_field IsTask task-takes
+task-one = one-word task_spelt task_field IsTask task-takes
 
 pub place-one : (places : ℕ) → Takes (place_at places) (Told place_field (IsPlace places))
 place-one places = one-word (place_of places) place_field (IsPlace places) (place-takes places)
@@ -126,7 +126,7 @@ wait-takes places =
 release-takes : (places : ℕ) → places ≤ 16 → Takes (release_at places) (IsAct places (codes "release"))
 release-takes places few =
     takes-followed scope_at _ scope_field IsScope (IsAct places (codes "release")) scope-one (λ scope a.
-    takes-followed (lost_at places) _ lost_part (λ s. s.0 < 2 ^ places) _ (lost-takes places few) (λ lost b.
+    takes-followed (lost_read places) _ lost_part (λ s. s.0 < 2 ^ places) _ (lost-takes places few) (λ lost b.
     takes-followed (thrown_at places) _ thrown_part (AllByRecursion (FitsFault places)) _ (thrown-one places) (λ thrown c.
     takes-done (Release scope lost thrown) _ (flat-release (scope_field scope) (lost_part lost) (thrown_part thrown), ((a, b, c), refl)))))
 
@@ -156,7 +156,7 @@ step-takes places key act_at h =
 root-takes : (places : ℕ) → places ≤ 16 → Takes (root_at places) (λ e t. IsAfter places (codes "release") e ((32 ∷ codes "host") ++ t))
 root-takes places few =
     takes-keyed (codes "s0") _ (λ e t. IsAfter places (codes "release") e ((32 ∷ codes "host") ++ t)) (
-    takes-followed (lost_at places) _ lost_part (λ s. s.0 < 2 ^ places) _ (lost-takes places few) (λ lost a.
+    takes-followed (lost_read places) _ lost_part (λ s. s.0 < 2 ^ places) _ (lost-takes places few) (λ lost a.
     takes-followed (thrown_at places) _ thrown_part (AllByRecursion (FitsFault places)) _ (thrown-one places) (λ thrown b.
     takes-done (Root lost thrown) _ (flat-release (codes " release host s0") (lost_part lost) (thrown_part thrown), (a, b)))))
 
@@ -219,10 +219,10 @@ batch-only [] rest s e = end-only rest e
 batch-only (w ∷ front) rest s e = s
 
 scope-again : (s : ScopeId) → IsScope s → Again scope_at s (scope_field s) Any
-scope-again s fits = word-again scope_of scope_field s (scope-item s fits)
+scope-again s fits = word-again scope_spelt scope_field s (scope-item s fits)
 
 pub task-again : (t : TaskId) → IsTask t → Again task_at t (task_field t) Any
-task-again t fits = word-again task_of task_field t (task-item t fits)
+task-again t fits = word-again task_spelt task_field t (task-item t fits)
 
 place-once : (places : ℕ) (p : PlaceId) → places ≤ 16 → IsPlace places p → Again (place_at places) p (place_field p) Any
 place-once places p few fits = word-again (place_of places) place_field p (place-item places p few fits)
@@ -311,7 +311,7 @@ release-again : (places : ℕ) (scope : ScopeId) (lost : PlaceSet) (thrown : Lis
 release-again places scope lost thrown few fits =
     let last = again-last (thrown_at places) (releasing scope lost) thrown _ _ _ OnlyBatch (only-thrown places) (thrown-again places thrown few fits.2) in
     again-field scope_at _ scope (Release scope lost thrown) (scope_field scope) (lost_part lost ++ thrown_part thrown) OnlyBatch (scope-again scope fits.0) (
-    again-followed (lost_at places) _ lost (Release scope lost thrown) (lost_part lost) (thrown_part thrown) _ OnlyBatch (lost-again places lost few fits.1) last.again
+    again-followed (lost_read places) _ lost (Release scope lost thrown) (lost_part lost) (thrown_part thrown) _ OnlyBatch (lost-again places lost few fits.1) last.again
     (λ rest o. only-lost places last.again.front rest few last.starts o))
 
 abbrev stepped : TaskId → Act → List (List ℕ) → Entry
@@ -345,7 +345,7 @@ root-again : (places : ℕ) (lost : PlaceSet) (thrown : List Fault) → places �
 root-again places lost thrown few fits =
     let last = again-last (thrown_at places) (rooted lost) thrown _ _ _ IsEnd (λ rest e. only-thrown places rest (end-only rest e)) (thrown-again places thrown few fits.1) in
     again-keyed (codes "s0") _ (Root lost thrown) (lost_part lost ++ thrown_part thrown) IsEnd (plain-word-is (codes "s0") refl) (
-    again-followed (lost_at places) _ lost (Root lost thrown) (lost_part lost) (thrown_part thrown) _ IsEnd (lost-again places lost few fits.0) last.again
+    again-followed (lost_read places) _ lost (Root lost thrown) (lost_part lost) (thrown_part thrown) _ IsEnd (lost-again places lost few fits.0) last.again
     (λ rest e. only-lost places last.again.front rest few last.starts (end-only rest e)))
 
 death-again : (places : ℕ) (place : PlaceId) → places ≤ 16 → place.0 < places → Again (death_at places) (Death place) (place_field place) IsEnd

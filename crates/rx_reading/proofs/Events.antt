@@ -19,8 +19,8 @@ use Rattle.rx_trace.specs.Fields.{natural_field, number_field, path_field, task_
 use Rattle.rx_reading.specs.Limits.{IsShort, FitsPath, FitsBlock, FitsCell, FitsEvent}
 use Rattle.rx_reading.specs.Words.{fields}
 use Rattle.rx_reading.specs.Inside.Readers.{Reader, after, done, keyed}
-use Rattle.rx_reading.specs.Inside.FieldWords.{next, natural_of, task_of, natural_at, number_at, path_at, block_at}
-use Rattle.rx_reading.specs.Inside.EventWords.{made_at, make_at, got_at, get_at, written_at, put_at, forgotten_at, forget_at, cell_at, done_at, close_at, event_of, event_at}
+use Rattle.rx_reading.specs.Inside.FieldWords.{next, natural_of, task_spelt, natural_at, number_at, path_at, block_at}
+use Rattle.rx_reading.specs.Inside.EventWords.{made_at, make_at, got_at, get_at, written_at, put_at, forgotten_at, forget_at, cell_at, done_at, close_at, event_from, event_at}
 use Rattle.rx_reading.proofs.Cuts.{Plain}
 use Rattle.rx_reading.proofs.Faults.{plain-word-is}
 use Rattle.rx_reading.proofs.Fields.{natural-item, natural-takes, task-item, task-takes, one-word, word-again}
@@ -134,7 +134,7 @@ close-takes home =
 pub event-takes : (home : ℕ) → Takes (event_at home) (IsEvent home)
 event-takes home = record { takes = t }
   where
-    by : (w : List ℕ) (ws : List (List ℕ)) (e : PlaceEvent) (rest : List (List ℕ)) (o : Option TaskId) → task_of w ≡ o → event_of home o w ws ≡ Some (e, rest) → Read (IsEvent home) (w ∷ ws) e rest
+    by : (w : List ℕ) (ws : List (List ℕ)) (e : PlaceEvent) (rest : List (List ℕ)) (o : Option TaskId) → task_spelt w ≡ o → event_from home o w ws ≡ Some (e, rest) → Read (IsEvent home) (w ∷ ws) e rest
     by w ws e rest None is h = (close-takes home).takes (w ∷ ws) e rest h
     by w ws e rest (Some task) is h =
         let known = task-takes w task is in
@@ -147,7 +147,7 @@ event-takes home = record { takes = t }
 
     t : (ws : List (List ℕ)) (e : PlaceEvent) (rest : List (List ℕ)) → event_at home ws ≡ Some (e, rest) → Read (IsEvent home) ws e rest
     t [] e rest h = absurd (none-some (e, rest) h)
-    t (w ∷ ws) e rest h = by w ws e rest (task_of w) refl h
+    t (w ∷ ws) e rest h = by w ws e rest (task_spelt w) refl h
 
 natural-once : (n : ℕ) → IsShort n → Again natural_at n (natural_field n) Any
 natural-once n short = word-again natural_of natural_field n (natural-item n short)
@@ -244,7 +244,7 @@ abbrev task_numbered : ℕ → TaskId
 task_numbered n = record { 0 = n }
 
 -- a number is no task
-no-task : (w : List ℕ) → is_ascii_digit (slice_index (w ++ []) 0) ≡ true → task_of w ≡ None
+no-task : (w : List ℕ) → is_ascii_digit (slice_index (w ++ []) 0) ≡ true → task_spelt w ≡ None
 no-task [] e = refl
 no-task (b ∷ bs) e = ap (λ t. option_map task_numbered (next (cond t (Some bs) None) natural_of)) (ne_eqb b 116 apart)
   where
@@ -265,7 +265,7 @@ event-again home (Done task stamp cell path) fits =
       spelled = ap (λ v. v ++ fields h.front) t.spelled ∙ ap (λ v. task_field task ++ v) h.spelled
           ∙ flat-done (task_field task) (natural_field stamp) (call_text cell) (answer_text cell) (path_field path);
       plain = (t.plain, h.plain);
-      reads = λ rest n. ap (λ o. event_of home o t.text (h.front ++ rest)) t.reads ∙ h.reads rest n;
+      reads = λ rest n. ap (λ o. event_from home o t.text (h.front ++ rest)) t.reads ∙ h.reads rest n;
     }
 event-again home (Close stamp) fits =
     let e : PlaceEvent = Close stamp in
@@ -278,7 +278,7 @@ event-again home (Close stamp) fits =
       front = text ∷ last.front;
       spelled = ap (λ v. natural_field stamp ++ v) last.spelled;
       plain = (natural-plain stamp (omega arith), last.plain);
-      reads = λ rest n. ap (λ o. event_of home o text (last.front ++ rest)) none
+      reads = λ rest n. ap (λ o. event_from home o text (last.front ++ rest)) none
           ∙ ap (λ o. after (option_map (λ a. (a, last.front ++ rest)) o) (λ s. keyed (codes "close") (done (Close s)))) (below-again (2 ^ 32) stamp low (omega arith))
           ∙ last.reads rest n;
     }

@@ -11,7 +11,7 @@ use Rattle.rx_text.specs.Numbers.{natural_text, number_text}
 use Rattle.rx_trace.specs.Fields.{fault_field}
 use Rattle.rx_reading.specs.Limits.{FitsFault}
 use Rattle.rx_reading.specs.Words.{stripped}
-use Rattle.rx_reading.specs.Inside.FieldWords.{next, or_else, place_of, number_of, plain_fault, dead_of, thrown_of, fault_of}
+use Rattle.rx_reading.specs.Inside.FieldWords.{next, or_else, place_of, number_of, plain_fault, dead_of, fault_spelt, fault_of}
 use Rattle.rx_reading.proofs.Cuts.{IsPlain, Plain, all-append, stripped-is, stripped-again, bytes-same}
 use Rattle.rx_reading.proofs.Figures.{number-takes, number-again, number-plain, natural-plain}
 use Rattle.rx_reading.proofs.Fields.{next-is, map-is, place-again, place-takes}
@@ -53,7 +53,7 @@ dead-takes places w g e =
     subst (λ (x : Fault). IsFault places w x) m.is
     (ap (λ v. 32 ∷ v) (stripped-is (codes "dead:") w two.first two.was) ∙ ap (λ v. codes " dead:" ++ v) tail, place.1)
 
-thrown-takes : (places : ℕ) (w : List ℕ) (g : Fault) → thrown_of w ≡ Some g → IsFault places w g
+thrown-takes : (places : ℕ) (w : List ℕ) (g : Fault) → fault_spelt w ≡ Some g → IsFault places w g
 thrown-takes places w g e =
     let m = map-is thrown_with (next (stripped (codes "code:") w) number_of) g e in
     let two = next-is (stripped (codes "code:") w) number_of m.value m.was in
@@ -64,12 +64,12 @@ thrown-takes places w g e =
 pub fault-takes : (places : ℕ) (w : List ℕ) (g : Fault) → fault_of places w ≡ Some g → (32 ∷ w ≡ fault_field g) × FitsFault places g
 fault-takes places w g e = first (dead_of places w) refl e
   where
-    second : (o : Option Fault) → thrown_of w ≡ o → or_else o (plain_fault w) ≡ Some g → IsFault places w g
+    second : (o : Option Fault) → fault_spelt w ≡ o → or_else o (plain_fault w) ≡ Some g → IsFault places w g
     second None was is = plain-takes places w g is
     second (Some f) was is = thrown-takes places w g (was ∙ is)
 
-    first : (o : Option Fault) → dead_of places w ≡ o → or_else o (or_else (thrown_of w) (plain_fault w)) ≡ Some g → IsFault places w g
-    first None was is = second (thrown_of w) refl is
+    first : (o : Option Fault) → dead_of places w ≡ o → or_else o (or_else (fault_spelt w) (plain_fault w)) ≡ Some g → IsFault places w g
+    first None was is = second (fault_spelt w) refl is
     first (Some f) was is = dead-takes places w g (was ∙ is)
 
 -- the word is plain by its bytes
@@ -97,8 +97,8 @@ fault-item places (Dead p) few fits =
       text = codes "dead:" ++ natural_text p.0;
       spelled = refl;
       plain = all-append IsPlain (codes "dead:") (natural_text p.0) (plain-word-is (codes "dead:") refl) (natural-plain p.0 (omega arith));
-      reads = ap (λ o. or_else (option_map dead_at (next o (place_of places))) (or_else (thrown_of (codes "dead:" ++ natural_text p.0)) (plain_fault (codes "dead:" ++ natural_text p.0)))) (stripped-again (codes "dead:") (natural_text p.0))
-          ∙ ap (λ o. or_else (option_map dead_at o) (or_else (thrown_of (codes "dead:" ++ natural_text p.0)) (plain_fault (codes "dead:" ++ natural_text p.0)))) (place-again places p few fits);
+      reads = ap (λ o. or_else (option_map dead_at (next o (place_of places))) (or_else (fault_spelt (codes "dead:" ++ natural_text p.0)) (plain_fault (codes "dead:" ++ natural_text p.0)))) (stripped-again (codes "dead:") (natural_text p.0))
+          ∙ ap (λ o. or_else (option_map dead_at o) (or_else (fault_spelt (codes "dead:" ++ natural_text p.0)) (plain_fault (codes "dead:" ++ natural_text p.0)))) (place-again places p few fits);
     }
 fault-item places (Thrown v) few fits = record {
   text = codes "code:" ++ number_text v;

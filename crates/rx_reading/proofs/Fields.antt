@@ -18,7 +18,7 @@ use Rattle.rx_reading.specs.Words.{Lacks, pieces, stripped}
 use Rattle.rx_reading.specs.Inside.Readers.{word}
 use Rattle.rx_kills.specs.Words.{IsKillWord}
 use Rattle.rx_kills.proofs.Spelling.{spelling}
-use Rattle.rx_reading.specs.Inside.FieldWords.{next, number_below, number_of, natural_of, place_of, task_of, scope_of, naturals_of, path_of, kill_of}
+use Rattle.rx_reading.specs.Inside.FieldWords.{next, number_below, number_of, natural_of, place_of, task_spelt, scope_spelt, naturals_of, path_of, kill_of}
 use Rattle.rx_reading.proofs.Cuts.{IsPlain, Plain, Together, marked, all-append, all-map, pieces-cut, pieces-one, pieces-marked, pieces-together, stripped-is, stripped-again}
 use Rattle.rx_reading.proofs.Figures.{IsFigure, below-takes, below-again, number-takes, number-again, number-plain, natural-plain, natural-figures}
 use Rattle.rx_reading.proofs.Spelt.{Takes, takes-word, Again, Any, again-word, again-as, Item}
@@ -84,7 +84,7 @@ letter-again key n short = ap (λ o. next o natural_of) (stripped-again key (nat
 abbrev task_numbered : ℕ → TaskId
 task_numbered n = record { 0 = n }
 
-pub task-item : (t : TaskId) → IsShort t.0 → Item task_of task_field t
+pub task-item : (t : TaskId) → IsShort t.0 → Item task_spelt task_field t
 task-item t short = record {
   text = codes "t" ++ natural_text t.0;
   spelled = refl;
@@ -92,7 +92,7 @@ task-item t short = record {
   reads = ap (option_map task_numbered) (letter-again (codes "t") t.0 short);
 }
 
-pub task-takes : (w : List ℕ) (t : TaskId) → task_of w ≡ Some t → (32 ∷ w ≡ task_field t) × IsShort t.0
+pub task-takes : (w : List ℕ) (t : TaskId) → task_spelt w ≡ Some t → (32 ∷ w ≡ task_field t) × IsShort t.0
 task-takes w t e =
     let m = map-is task_numbered (next (stripped (codes "t") w) natural_of) t e in
     let is = lettered (codes "t") w m.value m.was in
@@ -101,7 +101,7 @@ task-takes w t e =
 abbrev scope_numbered : ℕ → ScopeId
 scope_numbered n = record { 0 = n }
 
-pub scope-item : (s : ScopeId) → IsShort s.0 → Item scope_of scope_field s
+pub scope-item : (s : ScopeId) → IsShort s.0 → Item scope_spelt scope_field s
 scope-item s short = record {
   text = codes "s" ++ natural_text s.0;
   spelled = refl;
@@ -109,7 +109,7 @@ scope-item s short = record {
   reads = ap (option_map scope_numbered) (letter-again (codes "s") s.0 short);
 }
 
-pub scope-takes : (w : List ℕ) (s : ScopeId) → scope_of w ≡ Some s → (32 ∷ w ≡ scope_field s) × IsShort s.0
+pub scope-takes : (w : List ℕ) (s : ScopeId) → scope_spelt w ≡ Some s → (32 ∷ w ≡ scope_field s) × IsShort s.0
 scope-takes w s e =
     let m = map-is scope_numbered (next (stripped (codes "s") w) natural_of) s e in
     let is = lettered (codes "s") w m.value m.was in

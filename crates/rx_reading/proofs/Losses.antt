@@ -21,7 +21,7 @@ use Rattle.rx_trace.proofs.Places.{some-member}
 use Rattle.rx_reading.specs.Words.{fields}
 use Rattle.rx_reading.specs.Inside.FieldWords.{place_of}
 use Rattle.rx_reading.specs.Inside.Readers.{done}
-use Rattle.rx_reading.specs.Inside.PartWords.{set_of, joined, places_at, some_place, lost_at}
+use Rattle.rx_reading.specs.Inside.PartWords.{set_of, place_joined, places_at, some_place, lost_read}
 use Rattle.rx_reading.proofs.Cuts.{Plain, bytes-same}
 use Rattle.rx_reading.proofs.Faults.{plain-word-is}
 use Rattle.rx_reading.proofs.Fields.{place-takes, place-again}
@@ -60,7 +60,7 @@ bit-above m p i low above =
 bit-high : (m p i : ℕ) → m < 2 ^ p → p ≤ i → has_bit m i ≡ false
 bit-high m p i low above = ap (λ b. b == 1) (bit_at_above m p i low above)
 
--- each bit of a set that a place above all others joined
+-- each bit of a set that a place above all others place_joined
 pub joined-bit : (m p i : ℕ) → m < 2 ^ p → has_bit (m + 2 ^ p) i ≡ (has_bit m i || (p == i))
 joined-bit m p i low = by (p == i) refl
   where
@@ -132,7 +132,7 @@ record Gone (places set : ℕ) (ws : List (List ℕ)) (s : PlaceSet) (rest : Lis
   pub whole : told set ++ fields ws ≡ told s.0 ++ fields rest
   pub low : s.0 < 2 ^ places
 
-place-joined : (places : ℕ) (w : List ℕ) (ws : List (List ℕ)) (set : ℕ) (s : PlaceSet) (rest : List (List ℕ)) (o : Option PlaceId) → place_of places w ≡ o → places ≤ 16 → set < 2 ^ places → ((n : ℕ) → n < 2 ^ places → places_at places n ws ≡ Some (s, rest) → Gone places n ws s rest) → joined o set w ws (λ n. places_at places n ws) ≡ Some (s, rest) → Gone places set (w ∷ ws) s rest
+place-joined : (places : ℕ) (w : List ℕ) (ws : List (List ℕ)) (set : ℕ) (s : PlaceSet) (rest : List (List ℕ)) (o : Option PlaceId) → place_of places w ≡ o → places ≤ 16 → set < 2 ^ places → ((n : ℕ) → n < 2 ^ places → places_at places n ws ≡ Some (s, rest) → Gone places n ws s rest) → place_joined o set w ws (λ n. places_at places n ws) ≡ Some (s, rest) → Gone places set (w ∷ ws) s rest
 place-joined places w ws set s rest None is few low more e =
     let same = same_Some (set_of set, w ∷ ws) (s, rest) e in
     let value : set_of set ≡ s = ap (λ x. x.0) same in
@@ -164,7 +164,7 @@ places-take places [] set s rest few low e =
 places-take places (w ∷ ws) set s rest few low e =
     place-joined places w ws set s rest (place_of places w) refl few low (λ n small f. places-take places ws n s rest few small f) e
 
-pub lost-takes : (places : ℕ) → places ≤ 16 → Takes (lost_at places) (λ s t. (t ≡ lost_part s) × (s.0 < 2 ^ places))
+pub lost-takes : (places : ℕ) → places ≤ 16 → Takes (lost_read places) (λ s t. (t ≡ lost_part s) × (s.0 < 2 ^ places))
 unfolding lost_part
 lost-takes places few = record { takes = t }
   where
@@ -201,7 +201,7 @@ lost-takes places few = record { takes = t }
     by w ws s rest true is e = behind S (codes "lost") w ws s rest (bytes-same w (codes "lost") is) (some ws s rest (places_at places 0 ws) refl e)
     by w ws s rest false is e = nothing (w ∷ ws) s rest e
 
-    t : (ws : List (List ℕ)) (s : PlaceSet) (rest : List (List ℕ)) → lost_at places ws ≡ Some (s, rest) → Read S ws s rest
+    t : (ws : List (List ℕ)) (s : PlaceSet) (rest : List (List ℕ)) → lost_read places ws ≡ Some (s, rest) → Read S ws s rest
     t [] s rest e = nothing [] s rest e
     t (w ∷ ws) s rest e = by w ws s rest (bytes_eq w (codes "lost")) refl e
 
@@ -263,16 +263,16 @@ texts-plain places (p ∷ ps) set few r = let inside : p < places = r.1 in (natu
 
 places-end : (places set : ℕ) (rest : List (List ℕ)) → NoItem (place_of places) rest → places_at places set rest ≡ Some (set_of set, rest)
 places-end places set [] n = refl
-places-end places set (w ∷ ws) n = ap (λ o. joined o set w ws (λ m. places_at places m ws)) n
+places-end places set (w ∷ ws) n = ap (λ o. place_joined o set w ws (λ m. places_at places m ws)) n
 
 places-again : (places : ℕ) (ps : List ℕ) (set : ℕ) (rest : List (List ℕ)) → places ≤ 16 → Rising places set ps → NoItem (place_of places) rest → places_at places set (place_texts ps ++ rest) ≡ Some (set_of (set_after set ps), rest)
 places-again places [] set rest few r n = places-end places set rest n
 places-again places (p ∷ ps) set rest few r n =
-    ap (λ o. joined o set (natural_text p) (place_texts ps ++ rest) (λ m. places_at places m (place_texts ps ++ rest))) (place-again places (record { 0 = p }) few r.1)
+    ap (λ o. place_joined o set (natural_text p) (place_texts ps ++ rest) (λ m. places_at places m (place_texts ps ++ rest))) (place-again places (record { 0 = p }) few r.1)
     ∙ ap (λ b. cond b (places_at places (set + 2 ^ p) (place_texts ps ++ rest)) None) (lt-ltb set (2 ^ p) r.0)
     ∙ places-again places ps (set + 2 ^ p) rest few r.2 n
 
-lost-none : (places : ℕ) (rest : List (List ℕ)) → AfterPart (codes "lost") (place_of places) rest → lost_at places rest ≡ Some (set_of 0, rest)
+lost-none : (places : ℕ) (rest : List (List ℕ)) → AfterPart (codes "lost") (place_of places) rest → lost_read places rest ≡ Some (set_of 0, rest)
 lost-none places [] n = refl
 lost-none places (w ∷ ws) n = ap (λ b. cond b (some_place (places_at places 0 ws)) (Some (set_of 0, w ∷ ws))) n.0
 
@@ -280,7 +280,7 @@ no-place : (places : ℕ) (rest : List (List ℕ)) → AfterPart (codes "lost") 
 no-place places [] n = tt
 no-place places (w ∷ ws) n = n.1
 
-pub lost-again : (places : ℕ) (s : PlaceSet) → places ≤ 16 → s.0 < 2 ^ places → Again (lost_at places) s (lost_part s) (AfterPart (codes "lost") (place_of places))
+pub lost-again : (places : ℕ) (s : PlaceSet) → places ≤ 16 → s.0 < 2 ^ places → Again (lost_read places) s (lost_part s) (AfterPart (codes "lost") (place_of places))
 unfolding lost_part
 lost-again places s few low = by (s.0 == 0) refl
   where
@@ -290,10 +290,10 @@ lost-again places s few low = by (s.0 == 0) refl
     ps : List ℕ
     ps = members s
 
-    by : (b : Bool) → (s.0 == 0) ≡ b → Again (lost_at places) s (lost_part s) N
+    by : (b : Bool) → (s.0 == 0) ≡ b → Again (lost_read places) s (lost_part s) N
     by true e =
         let zero_is : set_of 0 ≡ s = ap set_of (sym (eqb-true s.0 0 e)) in
-        subst (λ (x : PlaceSet). Again (lost_at places) x (lost_part x) N) zero_is (record { front = []; spelled = refl; plain = tt; reads = lost-none places })
+        subst (λ (x : PlaceSet). Again (lost_read places) x (lost_part x) N) zero_is (record { front = []; spelled = refl; plain = tt; reads = lost-none places })
     by false e =
         let most : 2 ^ places ≤ 2 ^ 16 = pow-le places 16 few in
         let not_zero : s.0 ≡ 0 → ⊥ = λ z. (let t : (s.0 == 0) ≡ true = eq-eqb s.0 0 z in cc) in

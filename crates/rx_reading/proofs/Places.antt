@@ -18,7 +18,7 @@ use Rattle.rx_trace.specs.EventLines.{event_text}
 use Rattle.rx_trace.specs.Fields.{kill_field}
 use Rattle.rx_trace.specs.Text.{trace_text}
 use Rattle.rx_reading.specs.Limits.{FitsEntry, FitsEvent, FitJournals, FitsSetup, IsWithin}
-use Rattle.rx_reading.specs.Inside.Machine.{State, Untitled, Titled, Sized, Planned, Entering, Logging, Over, begins_journal, entry_of, event_of, state_with_sizes, read_line}
+use Rattle.rx_reading.specs.Inside.Machine.{ReadingState, Untitled, Titled, Sized, Planned, Entering, Logging, Over, begins_journal, entry_of, event_line_of, state_with_sizes, read_line}
 use Rattle.rx_reading.specs.Reading.{IsText, BeginsText, IsLine, AreLines, IsBadLine, TextsTellThePair, TextsHaveNoBadLine}
 use Rattle.rx_reading.specs.Words.{Lacks}
 use Rattle.rx_reading.proofs.Cuts.{IsPlain, bytes-same, all-append, all-map}
@@ -30,13 +30,13 @@ use Rattle.rx_reading.proofs.Wholes.{LineAgain, entry-line-again, event-line-aga
 abbrev all_ended : List (List ℕ) → List ℕ
 all_ended lines = flat_map ended lines
 
-abbrev then_read : Option State → List (List ℕ) → Option State
+abbrev then_read : Option ReadingState → List (List ℕ) → Option ReadingState
 then_read o [] = o
 then_read None (l ∷ ls) = None
 then_read (Some s) (l ∷ ls) = then_read (read_line s l) ls
 
 -- these lines were read
-record Reached (s : State) : Type 0 where
+record Reached (s : ReadingState) : Type 0 where
   pub lines : List (List ℕ)
   pub spelled : all_ended lines ≡ state_text s
   pub lacks : AllByRecursion (Lacks 10) lines
@@ -46,7 +46,7 @@ none-read : (ls : List (List ℕ)) → then_read None ls ≡ None
 none-read [] = refl
 none-read (l ∷ ls) = refl
 
-read-append : (o : Option State) (ls ms : List (List ℕ)) → then_read o (ls ++ ms) ≡ then_read (then_read o ls) ms
+read-append : (o : Option ReadingState) (ls ms : List (List ℕ)) → then_read o (ls ++ ms) ≡ then_read (then_read o ls) ms
 read-append o [] ms = refl
 read-append None (l ∷ ls) ms = sym (none-read ms)
 read-append (Some s) (l ∷ ls) ms = read-append (read_line s l) ls ms
@@ -56,7 +56,7 @@ ended-append [] ms = refl
 ended-append (l ∷ ls) ms = ap (λ r. ended l ++ r) (ended-append ls ms) ∙ sym (append_assoc (ended l) (all_ended ls) (all_ended ms))
 
 -- one line more
-reached-more : (s : State) (line : List ℕ) (next : State) → SoFar s → Reached s → LineAgain (read_line s line) next line → Reached next
+reached-more : (s : ReadingState) (line : List ℕ) (next : ReadingState) → SoFar s → Reached s → LineAgain (read_line s line) next line → Reached next
 reached-more s line next so r again =
     let step = stepped s line next so again.reads in
     record {
@@ -67,7 +67,7 @@ reached-more s line next so r again =
     }
 
 -- a line of fixed words
-fixed : (key : List ℕ) (next : State) (other : Option State) → Lacks 10 key → LineAgain (cond (bytes_eq key key) (Some next) other) next key
+fixed : (key : List ℕ) (next : ReadingState) (other : Option ReadingState) → Lacks 10 key → LineAgain (cond (bytes_eq key key) (Some next) other) next key
 fixed key next other lacks = record { reads = ap (λ b. cond b (Some next) other) (same-bytes key); lacks = lacks }
 
 abbrev lacks_line : List ℕ → Bool
@@ -164,10 +164,10 @@ r-logs U es so =
     reached-more (Entering U es) (codes "journal " ++ natural_text 0) (Logging U es [] []) so (r-entries U es so)
     (fixed (codes "journal " ++ natural_text 0) (Logging U es [] []) _ (journal-lacks 0))
 
-abbrev event_answer : Given → List Entry → List (List PlaceEvent) → List PlaceEvent → List ℕ → Option State
-event_answer U es js j line = option_map (λ e. Logging U es js (j ++ e ∷ [])) (event_of (length js) (length j) line)
+abbrev event_answer : Given → List Entry → List (List PlaceEvent) → List PlaceEvent → List ℕ → Option ReadingState
+event_answer U es js j line = option_map (λ e. Logging U es js (j ++ e ∷ [])) (event_line_of (length js) (length j) line)
 
-abbrev last_answer : Given → List Entry → List (List PlaceEvent) → List PlaceEvent → List ℕ → Option State
+abbrev last_answer : Given → List Entry → List (List PlaceEvent) → List PlaceEvent → List ℕ → Option ReadingState
 last_answer U es js j line = cond (bytes_eq line (codes "done") && length js + 1 == U.places) (Some (Over U es (js ++ j ∷ []))) (event_answer U es js j line)
 
 -- the lines of events
@@ -252,7 +252,7 @@ r-over U es (j ∷ js) so =
     (reached-more (Logging U es l.front l.last) (codes "done") (Over U es (l.front ++ l.last ∷ [])) here (r-logged U es l.front l.last here) (over-again U es l.front l.last count))
 
 -- what keeps the limits can be read
-reached : (s : State) → SoFar s → Reached s
+reached : (s : ReadingState) → SoFar s → Reached s
 reached Untitled so = r-untitled
 reached Titled so = r-titled
 reached (Sized places heap) so = r-sized places heap so
@@ -265,7 +265,7 @@ reached (Over U es js) so = r-over U es js so
 more-begins : (front line : List ℕ) → BeginsText (front ++ line) → BeginsText front
 more-begins front line b = (line ++ b.0, subst IsText (append_assoc front line b.0) b.1)
 
-begins-from : (s : State) (line : List ℕ) (next : State) → SoFar s → read_line s line ≡ Some next → (SoFar next → BeginsText (state_text next)) → BeginsText (state_text s)
+begins-from : (s : ReadingState) (line : List ℕ) (next : ReadingState) → SoFar s → read_line s line ≡ Some next → (SoFar next → BeginsText (state_text next)) → BeginsText (state_text s)
 begins-from s line next so e b =
     let step = stepped s line next so e in
     more-begins (state_text s) (ended line) (subst BeginsText step.text (b step.so_far))
@@ -306,7 +306,7 @@ titled-begins =
     begins-from Titled (sizes_text 1 1) (Sized 1 1) tt (sized-again 1 1 ((one, few), (one, small))).reads (λ k. sized-begins 1 1 k)
 
 -- what has been read begins a text
-pub begins : (s : State) → SoFar s → BeginsText (state_text s)
+pub begins : (s : ReadingState) → SoFar s → BeginsText (state_text s)
 begins Untitled so = begins-from Untitled (codes "rx10 trace 1") Titled tt refl (λ k. titled-begins)
 begins Titled so = titled-begins
 begins (Sized places heap) so = sized-begins places heap so
@@ -366,7 +366,7 @@ cut-end (l ∷ L) (m ∷ M) rest a b c e =
     (ap (λ x. x ∷ L) same.0 ∙ ap (λ xs. m ∷ xs) more.0, more.1)
 
 -- a line that is refused after others begins no text with them
-pub stops : (s : State) (line : List ℕ) → SoFar s → Lacks 10 line → read_line s line ≡ None → BeginsText (state_text s ++ ended line) → ⊥
+pub stops : (s : ReadingState) (line : List ℕ) → SoFar s → Lacks 10 line → read_line s line ≡ None → BeginsText (state_text s ++ ended line) → ⊥
 stops s line so lacks none (rest, (U, es, js, within, is)) =
     let r = reached s so in
     let t = reached (Over U es js) within in
@@ -378,7 +378,7 @@ stops s line so lacks none (rest, (U, es, js, within, is)) =
     none-some (Over U es js) (sym run ∙ t.runs)
 
 -- where lines were read and no other line follows, and this is a text, everything has been read
-pub ends : (s : State) (rest : List ℕ) → SoFar s → Lacks 10 rest → (t : IsText (state_text s ++ rest)) → (s ≡ Over t.0 t.1 t.2) × (rest ≡ [])
+pub ends : (s : ReadingState) (rest : List ℕ) → SoFar s → Lacks 10 rest → (t : IsText (state_text s ++ rest)) → (s ≡ Over t.0 t.1 t.2) × (rest ≡ [])
 ends s rest so lacks (U, es, js, within, is) =
     let r = reached s so in
     let t = reached (Over U es js) within in
@@ -404,7 +404,7 @@ lines-more (suc n) front line (first, rest, one, whole, more) is =
     (first, rest ++ line, one, ap (λ f. f ++ line) whole ∙ append_assoc first rest line, lines-more n rest line more is)
 
 -- where the lines so far have been read, and what is left of the bytes
-pub record HasRead (bytes : List ℕ) (n : ℕ) (s : State) (rest : List ℕ) : Type 0 where
+pub record HasRead (bytes : List ℕ) (n : ℕ) (s : ReadingState) (rest : List ℕ) : Type 0 where
   pub so_far : SoFar s
   pub whole : bytes ≡ state_text s ++ rest
   pub lines : AreLines n (state_text s)
@@ -416,7 +416,7 @@ line-is : (line : List ℕ) → Lacks 10 line → IsLine (ended line)
 line-is line lacks = (line, lacks, refl)
 
 -- one line more was read
-pub read-more : (bytes : List ℕ) (n : ℕ) (s next : State) (line rest : List ℕ) → HasRead bytes n s (ended line ++ rest) → Lacks 10 line → read_line s line ≡ Some next → HasRead bytes (suc n) next rest
+pub read-more : (bytes : List ℕ) (n : ℕ) (s next : ReadingState) (line rest : List ℕ) → HasRead bytes n s (ended line ++ rest) → Lacks 10 line → read_line s line ≡ Some next → HasRead bytes (suc n) next rest
 read-more bytes n s next line rest h lacks e =
     let step = stepped s line next h.so_far e in
     record {
@@ -426,7 +426,7 @@ read-more bytes n s next line rest h lacks e =
     }
 
 -- the next line is the first bad one
-pub bad-here : (bytes : List ℕ) (n : ℕ) (s : State) (line rest : List ℕ) → HasRead bytes n s (ended line ++ rest) → Lacks 10 line → read_line s line ≡ None → IsBadLine bytes (suc n)
+pub bad-here : (bytes : List ℕ) (n : ℕ) (s : ReadingState) (line rest : List ℕ) → HasRead bytes n s (ended line ++ rest) → Lacks 10 line → read_line s line ≡ None → IsBadLine bytes (suc n)
 bad-here bytes n s line rest h lacks e = record {
   earlier = n;
   counted = refl;
@@ -443,11 +443,11 @@ bad-here bytes n s line rest h lacks e = record {
 }
 
 -- not everything has been read where nothing is left
-abbrev pub IsOpen : State → List ℕ → Type 0
+abbrev pub IsOpen : ReadingState → List ℕ → Type 0
 IsOpen s rest = (U : Given) (es : List Entry) (js : List (List PlaceEvent)) → s ≡ Over U es js → rest ≡ [] → ⊥
 
 -- the end comes too early, or after a part of a line
-pub bad-end : (bytes : List ℕ) (n : ℕ) (s : State) (rest : List ℕ) → HasRead bytes n s rest → Lacks 10 rest → IsOpen s rest → IsBadLine bytes (suc n)
+pub bad-end : (bytes : List ℕ) (n : ℕ) (s : ReadingState) (rest : List ℕ) → HasRead bytes n s rest → Lacks 10 rest → IsOpen s rest → IsBadLine bytes (suc n)
 bad-end bytes n s rest h lacks is_open = record {
   earlier = n;
   counted = refl;

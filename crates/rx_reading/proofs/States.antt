@@ -17,7 +17,7 @@ use Rattle.rx_trace.specs.Text.{setup_lines, trace_text}
 use Rattle.rx_reading.specs.Limits.{FitsEntry, FitsEvent, FitJournals, FitsSetup, IsWithin}
 use Rattle.rx_reading.specs.Inside.Readers.{all_read}
 use Rattle.rx_reading.specs.Words.{pieces}
-use Rattle.rx_reading.specs.Inside.Machine.{State, Untitled, Titled, Sized, Planned, Entering, Logging, Over, sizes_at, kills_line_of, entry_of, event_of, begins_journal, state_with_sizes, read_line}
+use Rattle.rx_reading.specs.Inside.Machine.{ReadingState, Untitled, Titled, Sized, Planned, Entering, Logging, Over, sizes_at, kills_line_of, entry_of, event_line_of, begins_journal, state_with_sizes, read_line}
 use Rattle.rx_reading.proofs.Cuts.{bytes-same, all-append}
 use Rattle.rx_reading.proofs.Fields.{map-is}
 use Rattle.rx_reading.proofs.Plans.{IsCount, sizes_text, sizes-take, KillsLine, kills-take}
@@ -30,7 +30,7 @@ abbrev entries_text : Given → List Entry → List ℕ
 entries_text U es = title ++ setup_lines U ++ codes "history\n" ++ entry_lines 0 es
 
 -- the text of what has been read
-abbrev pub state_text : State → List ℕ
+abbrev pub state_text : ReadingState → List ℕ
 state_text Untitled = []
 state_text Titled = title
 state_text (Sized places heap) = title ++ (sizes_text places heap ++ codes "\n")
@@ -43,7 +43,7 @@ abbrev pub FitEntries : Given → List Entry → Type 0
 FitEntries U es = FitsSetup U × (length es ≤ 2 ^ 32) × AllByRecursion (FitsEntry U.places) es
 
 -- what has been read keeps the limits
-abbrev pub SoFar : State → Type 0
+abbrev pub SoFar : ReadingState → Type 0
 SoFar Untitled = Unit {0}
 SoFar Titled = Unit {0}
 SoFar (Sized places heap) = IsCount 16 places × IsCount 4096 heap
@@ -56,21 +56,21 @@ abbrev pub ended : List ℕ → List ℕ
 ended line = line ++ 10 ∷ []
 
 -- one line more
-pub record Stepped (s : State) (line : List ℕ) (next : State) : Type 0 where
+pub record Stepped (s : ReadingState) (line : List ℕ) (next : ReadingState) : Type 0 where
   pub text : state_text next ≡ state_text s ++ ended line
   pub so_far : SoFar next
 
-same-line : (line key : List ℕ) (s next after : State) (other : Option State) → (other ≡ Some after → Stepped s line after) → (line ≡ key → Stepped s line next) → cond (bytes_eq line key) (Some next) other ≡ Some after → Stepped s line after
+same-line : (line key : List ℕ) (s next after : ReadingState) (other : Option ReadingState) → (other ≡ Some after → Stepped s line after) → (line ≡ key → Stepped s line next) → cond (bytes_eq line key) (Some next) other ≡ Some after → Stepped s line after
 same-line line key s next after other more here e = by (bytes_eq line key) refl e
   where
     by : (b : Bool) → bytes_eq line key ≡ b → cond b (Some next) other ≡ Some after → Stepped s line after
     by true h f = subst (λ x. Stepped s line x) (same_Some next after f) (here (bytes-same line key h))
     by false h f = more f
 
-refused : (s : State) (line : List ℕ) (after : State) → None ≡ Some after → Stepped s line after
+refused : (s : ReadingState) (line : List ℕ) (after : ReadingState) → None ≡ Some after → Stepped s line after
 refused s line after e = absurd (none-some after e)
 
-sized : (line : List ℕ) (after : State) (o : Option (ℕ × ℕ)) → all_read (sizes_at (pieces 32 line)) ≡ o → state_with_sizes o ≡ Some after → Stepped Titled line after
+sized : (line : List ℕ) (after : ReadingState) (o : Option (ℕ × ℕ)) → all_read (sizes_at (pieces 32 line)) ≡ o → state_with_sizes o ≡ Some after → Stepped Titled line after
 sized line after None is e = refused Titled line after e
 sized line after (Some x) is e =
     let known = sizes-take line x is in
@@ -89,7 +89,7 @@ planned-text places heap kills line is =
 planned-fits : (places heap : ℕ) (kills : List Kill) (line : List ℕ) → IsCount 16 places → IsCount 4096 heap → KillsLine places line kills → FitsSetup (given_of places heap kills)
 planned-fits places heap kills line a b k = (record { some = a.0; few = a.1; words = b.0; small = b.1; kills = k.all }, k.moments)
 
-planned : (places heap : ℕ) (line : List ℕ) (after : State) → SoFar (Sized places heap) → read_line (Sized places heap) line ≡ Some after → Stepped (Sized places heap) line after
+planned : (places heap : ℕ) (line : List ℕ) (after : ReadingState) → SoFar (Sized places heap) → read_line (Sized places heap) line ≡ Some after → Stepped (Sized places heap) line after
 planned places heap line after so e =
     let m = map-is (λ kills. Planned (given_of places heap kills)) (kills_line_of places (pieces 32 line)) after e in
     let known = kills-take places line m.value m.was in
@@ -147,7 +147,7 @@ entry-text U es line e is =
     ∙ sym (append_assoc front (entry_lines 0 es) (entry_line (length es) e))
     ∙ ap (λ l. entries_text U es ++ ended l) (sym is)
 
-entered : (U : Given) (es : List Entry) (line : List ℕ) (after : State) → SoFar (Entering U es) → option_map (λ e. Entering U (es ++ e ∷ [])) (entry_of U.places (length es) line) ≡ Some after → Stepped (Entering U es) line after
+entered : (U : Given) (es : List Entry) (line : List ℕ) (after : ReadingState) → SoFar (Entering U es) → option_map (λ e. Entering U (es ++ e ∷ [])) (entry_of U.places (length es) line) ≡ Some after → Stepped (Entering U es) line after
 entered U es line after so e =
     let m = map-is (λ x. Entering U (es ++ x ∷ [])) (entry_of U.places (length es) line) after e in
     let known = entry-line-takes U.places (length es) line m.value so.0.0.few m.was in
@@ -189,12 +189,12 @@ next-text U es js j line is =
 over-text : (U : Given) (es : List Entry) (js : List (List PlaceEvent)) (j : List PlaceEvent) (line : List ℕ) → line ≡ codes "done" → state_text (Over U es (js ++ j ∷ [])) ≡ state_text (Logging U es js j) ++ ended line
 over-text U es js j line is = ap (λ l. state_text (Logging U es js j) ++ ended l) (sym is)
 
-abbrev event_answer : Given → List Entry → List (List PlaceEvent) → List PlaceEvent → List ℕ → Option State
-event_answer U es js j line = option_map (λ e. Logging U es js (j ++ e ∷ [])) (event_of (length js) (length j) line)
+abbrev event_answer : Given → List Entry → List (List PlaceEvent) → List PlaceEvent → List ℕ → Option ReadingState
+event_answer U es js j line = option_map (λ e. Logging U es js (j ++ e ∷ [])) (event_line_of (length js) (length j) line)
 
-logged : (U : Given) (es : List Entry) (js : List (List PlaceEvent)) (j : List PlaceEvent) (line : List ℕ) (after : State) → SoFar (Logging U es js j) → event_answer U es js j line ≡ Some after → Stepped (Logging U es js j) line after
+logged : (U : Given) (es : List Entry) (js : List (List PlaceEvent)) (j : List PlaceEvent) (line : List ℕ) (after : ReadingState) → SoFar (Logging U es js j) → event_answer U es js j line ≡ Some after → Stepped (Logging U es js j) line after
 logged U es js j line after so e =
-    let m = map-is (λ x. Logging U es js (j ++ x ∷ [])) (event_of (length js) (length j) line) after e in
+    let m = map-is (λ x. Logging U es js (j ++ x ∷ [])) (event_line_of (length js) (length j) line) after e in
     let known = event-line-takes (length js) (length j) line m.value m.was in
     subst (λ s. Stepped (Logging U es js j) line s) m.is
     (record { text = event-text U es js j line m.value known.text; so_far = (so.0, so.1, so.2, all-push (FitsEvent (length js)) j m.value so.3 known.fits) })
@@ -208,10 +208,10 @@ over-within U es js j so all = record {
   journals_fit = journals-fit-end js j so.2 so.3;
 }
 
-logging : (U : Given) (es : List Entry) (js : List (List PlaceEvent)) (j : List PlaceEvent) (line : List ℕ) (after : State) → SoFar (Logging U es js j) → read_line (Logging U es js j) line ≡ Some after → Stepped (Logging U es js j) line after
+logging : (U : Given) (es : List Entry) (js : List (List PlaceEvent)) (j : List PlaceEvent) (line : List ℕ) (after : ReadingState) → SoFar (Logging U es js j) → read_line (Logging U es js j) line ≡ Some after → Stepped (Logging U es js j) line after
 logging U es js j line after so e = by (begins_journal (length js + 1) line && nat_lt (length js + 1) U.places) refl e
   where
-    s : State
+    s : ReadingState
     s = Logging U es js j
 
     last : (b : Bool) → (bytes_eq line (codes "done") && length js + 1 == U.places) ≡ b → cond b (Some (Over U es (js ++ j ∷ []))) (event_answer U es js j line) ≡ Some after → Stepped s line after
@@ -231,7 +231,7 @@ logging U es js j line after so e = by (begins_journal (length js + 1) line && n
         (record { text = next-text U es js j line (bytes-same line _ both.0); so_far = (so.0, long, journals-fit-end js j so.2 so.3, tt) })
 
 -- what is read of a line is its text
-pub stepped : (s : State) (line : List ℕ) (after : State) → SoFar s → read_line s line ≡ Some after → Stepped s line after
+pub stepped : (s : ReadingState) (line : List ℕ) (after : ReadingState) → SoFar s → read_line s line ≡ Some after → Stepped s line after
 stepped Untitled line after so e = same-line line (codes "rx10 trace 1") Untitled Titled after None (refused Untitled line after) (λ is. record { text = ap ended (sym is); so_far = tt }) e
 stepped Titled line after so e = sized line after (all_read (sizes_at (pieces 32 line))) refl e
 stepped (Sized places heap) line after so e = planned places heap line after so e

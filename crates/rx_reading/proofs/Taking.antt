@@ -14,7 +14,7 @@ use Rattle.std.proofs.lemmas.Option.{same_Some, none-some}
 use Rattle.rx_reading.specs.Inside.FieldWords.{place_of}
 use Rattle.rx_reading.specs.Inside.Readers.{Reader, gathered, many, one_or_more, part}
 use Rattle.rx_reading.specs.Words.{first_word, next_of}
-use Rattle.rx_reading.specs.Inside.PartWords.{set_of, joined, places_at, key_of, left_of, item_of}
+use Rattle.rx_reading.specs.Inside.PartWords.{set_of, place_joined, places_at, key_of, left_of, item_of}
 use Rattle.rx_reading.proofs.Cuts.{bytes-same}
 use Rattle.rx_reading.proofs.Fields.{place-takes}
 use Rattle.rx_reading.proofs.Losses.{joined-low, joined-bit}
@@ -137,7 +137,7 @@ joined-more places set result p ws new all few left e low small bits =
     let t = took (place_of places) ws new p e in
     let inside : p.0 < places = (place-takes places t.text p t.reads).1 in
     ap (λ n. places_at places n new) (set-joined set result p.0 low (omega arith) small bits)
-    ∙ sym (ap (places_at places set.0) t.whole ∙ ap (λ o. joined o set.0 t.text new (λ n. places_at places n new)) t.reads ∙ ap (λ b. cond b (places_at places (set.0 + 2 ^ p.0) new) None) (lt-ltb set.0 (2 ^ p.0) low))
+    ∙ sym (ap (places_at places set.0) t.whole ∙ ap (λ o. place_joined o set.0 t.text new (λ n. places_at places n new)) t.reads ∙ ap (λ b. cond b (places_at places (set.0 + 2 ^ p.0) new) None) (lt-ltb set.0 (2 ^ p.0) low))
     ∙ left
 
 -- what the answer of a call is

@@ -18,7 +18,7 @@ use Rattle.rx_reading.specs.Words.{Lacks, pieces, fields}
 use Rattle.rx_reading.specs.Inside.Readers.{Reader, keyed, all_read}
 use Rattle.rx_reading.specs.Inside.EntryWords.{entry_at}
 use Rattle.rx_reading.specs.Inside.EventWords.{event_at}
-use Rattle.rx_reading.specs.Inside.Machine.{entry_of, event_of}
+use Rattle.rx_reading.specs.Inside.Machine.{entry_of, event_line_of}
 use Rattle.rx_text.proofs.Digits.{digits-all}
 use Rattle.rx_reading.proofs.Cuts.{IsPlain, Plain, all-append, all-map, marked-together, pieces-marked, pieces-together}
 use Rattle.rx_reading.proofs.Entries.{IsEnd, entry-takes, entry-again}
@@ -105,7 +105,7 @@ pub record EventRead (home n : ℕ) (line : List ℕ) (e : PlaceEvent) : Type 0 
   pub fits : FitsEvent home e
 
 -- the line of an event
-pub event-line-takes : (home n : ℕ) (line : List ℕ) (e : PlaceEvent) → event_of home n line ≡ Some e → EventRead home n line e
+pub event-line-takes : (home n : ℕ) (line : List ℕ) (e : PlaceEvent) → event_line_of home n line ≡ Some e → EventRead home n line e
 event-line-takes home n line e f =
     let event = event-takes home in
     let shifted : Takes (event_at home) (λ x t. IsEventLine home n x ((32 ∷ natural_text n) ++ t)) = record {
@@ -117,7 +117,7 @@ event-line-takes home n line e f =
     let got = line-takes (keyed (natural_text n) (event_at home)) (IsEventLine home n) line e (takes-keyed (natural_text n) (event_at home) (IsEventLine home n) shifted) f in
     record { text = rest-is 32 line (natural_text n ++ event_text e) got.0; fits = got.1 }
 
-pub event-line-again : (home n : ℕ) (e : PlaceEvent) → FitsEvent home e → LineAgain (event_of home n (natural_text n ++ event_text e)) e (natural_text n ++ event_text e)
+pub event-line-again : (home n : ℕ) (e : PlaceEvent) → FitsEvent home e → LineAgain (event_line_of home n (natural_text n ++ event_text e)) e (natural_text n ++ event_text e)
 event-line-again home n e fits =
     line-again (keyed (natural_text n) (event_at home)) e (natural_text n ++ event_text e) Any tt
     (again-keyed (natural_text n) (event_at home) e (event_text e) Any (number-plain-all n) (event-again home e fits))

@@ -46,6 +46,6 @@ next_of [] = None
 next_of (w ∷ ws) = Some w
 
 -- what a reader answers that leaves these words
-abbrev pub answered : {A : Type 0} → Option A → List (List ℕ) → Option (A × List (List ℕ))
-answered None ws = None
-answered (Some a) ws = Some (a, ws)
+abbrev pub answer_left : {A : Type 0} → Option A → List (List ℕ) → Option (A × List (List ℕ))
+answer_left None ws = None
+answer_left (Some a) ws = Some (a, ws)

@@ -1,6 +1,6 @@
 // What an entry of a task tells of it, after the task.
 ghost use Rattle.std.specs.Prelude.{◌≡◌, ◌≤◌, codes, IfOk};
-ghost use Rattle.rx_reading.specs.Words.{answered};
+ghost use Rattle.rx_reading.specs.Words.{answer_left};
 ghost use Rattle.rx_reading.specs.Inside.EntryWords.{open_at, at_at, spawn_at, arrive_at, wait_at, release_at, end_at, print_at, act_at};
 
 use crate::parts::{
@@ -32,7 +32,7 @@ pub(crate) fn act(
     kind: Kind,
 ) -> Result<Option<Act>, NoMemory>
     requires { places ≤ 16 }
-    ensures { IfOk result (λ act. answered act words.new ≡ act_at places kind words.old) }
+    ensures { IfOk result (λ act. answer_left act words.new ≡ act_at places kind words.old) }
 {
     match kind {
         Kind::Open => open(alloc, words),
@@ -47,7 +47,7 @@ pub(crate) fn act(
 }
 
 fn open(alloc: Global, words: &mut Words<'_>) -> Result<Option<Act>, NoMemory>
-    ensures { IfOk result (λ act. answered act words.new ≡ open_at words.old) }
+    ensures { IfOk result (λ act. answer_left act words.new ≡ open_at words.old) }
 {
     let Some(scope) = scope_field(words) else {
         return Ok(None);
@@ -69,7 +69,7 @@ fn open(alloc: Global, words: &mut Words<'_>) -> Result<Option<Act>, NoMemory>
 }
 
 fn at(alloc: Global, words: &mut Words<'_>, places: u8) -> Result<Option<Act>, NoMemory>
-    ensures { IfOk result (λ act. answered act words.new ≡ at_at places words.old) }
+    ensures { IfOk result (λ act. answer_left act words.new ≡ at_at places words.old) }
 {
     let Some(scope) = scope_field(words) else {
         return Ok(None);
@@ -103,7 +103,7 @@ fn at(alloc: Global, words: &mut Words<'_>, places: u8) -> Result<Option<Act>, N
 }
 
 fn spawn(alloc: Global, words: &mut Words<'_>, places: u8) -> Result<Option<Act>, NoMemory>
-    ensures { IfOk result (λ act. answered act words.new ≡ spawn_at places words.old) }
+    ensures { IfOk result (λ act. answer_left act words.new ≡ spawn_at places words.old) }
 {
     let Some(child) = task_field(words) else {
         return Ok(None);
@@ -133,14 +133,14 @@ fn spawn(alloc: Global, words: &mut Words<'_>, places: u8) -> Result<Option<Act>
 }
 
 fn arrive(words: &mut Words<'_>, places: u8) -> Option<Act>
-    ensures { answered result words.new ≡ arrive_at places words.old }
+    ensures { answer_left result words.new ≡ arrive_at places words.old }
 {
     let place = place_field(words, places)?;
     Some(Act::Arrive { place })
 }
 
 fn wait(alloc: Global, words: &mut Words<'_>, places: u8) -> Result<Option<Act>, NoMemory>
-    ensures { IfOk result (λ act. answered act words.new ≡ wait_at places words.old) }
+    ensures { IfOk result (λ act. answer_left act words.new ≡ wait_at places words.old) }
 {
     let Some(scope) = scope_field(words) else {
         return Ok(None);
@@ -153,7 +153,7 @@ fn wait(alloc: Global, words: &mut Words<'_>, places: u8) -> Result<Option<Act>,
 
 fn release(alloc: Global, words: &mut Words<'_>, places: u8) -> Result<Option<Act>, NoMemory>
     requires { places ≤ 16 }
-    ensures { IfOk result (λ act. answered act words.new ≡ release_at places words.old) }
+    ensures { IfOk result (λ act. answer_left act words.new ≡ release_at places words.old) }
 {
     let Some(scope) = scope_field(words) else {
         return Ok(None);
@@ -172,7 +172,7 @@ fn release(alloc: Global, words: &mut Words<'_>, places: u8) -> Result<Option<Ac
 }
 
 fn end(alloc: Global, words: &mut Words<'_>, places: u8) -> Result<Option<Act>, NoMemory>
-    ensures { IfOk result (λ act. answered act words.new ≡ end_at places words.old) }
+    ensures { IfOk result (λ act. answer_left act words.new ≡ end_at places words.old) }
 {
     let Some(thrown) = thrown_part(alloc, words, places)? else {
         return Ok(None);
@@ -181,7 +181,7 @@ fn end(alloc: Global, words: &mut Words<'_>, places: u8) -> Result<Option<Act>, 
 }
 
 fn print(alloc: Global, words: &mut Words<'_>) -> Result<Option<Act>, NoMemory>
-    ensures { IfOk result (λ act. answered act words.new ≡ print_at words.old) }
+    ensures { IfOk result (λ act. answer_left act words.new ≡ print_at words.old) }
 {
     let Some(value) = number_field(words) else {
         return Ok(None);

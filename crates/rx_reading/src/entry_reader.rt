@@ -1,6 +1,6 @@
 // The words of an entry.
 ghost use Rattle.std.specs.Prelude.{◌≡◌, ◌≤◌, codes, IfOk};
-ghost use Rattle.rx_reading.specs.Words.{answered};
+ghost use Rattle.rx_reading.specs.Words.{answer_left};
 ghost use Rattle.rx_reading.specs.Inside.EntryWords.{act_at, step_at, release_or_root_at, root_at, death_at, entry_at};
 
 use crate::acts::{Kind, act};
@@ -17,7 +17,7 @@ pub(crate) fn entry(
     places: u8,
 ) -> Result<Option<Entry>, NoMemory>
     requires { places ≤ 16 }
-    ensures { IfOk result (λ entry. answered entry words.new ≡ entry_at places words.old) }
+    ensures { IfOk result (λ entry. answer_left entry words.new ≡ entry_at places words.old) }
 {
     let Some(word) = words.next() else {
         return Ok(None);
@@ -53,7 +53,7 @@ fn step(
     kind: Kind,
 ) -> Result<Option<Entry>, NoMemory>
     requires { places ≤ 16 }
-    ensures { IfOk result (λ entry. answered entry words.new ≡ step_at (act_at places kind) words.old) }
+    ensures { IfOk result (λ entry. answer_left entry words.new ≡ step_at (act_at places kind) words.old) }
 {
     let Some(task) = task_field(words) else {
         return Ok(None);
@@ -70,7 +70,7 @@ fn step(
 // A release by the host or by a task.
 fn release(alloc: Global, words: &mut Words<'_>, places: u8) -> Result<Option<Entry>, NoMemory>
     requires { places ≤ 16 }
-    ensures { IfOk result (λ entry. answered entry words.new ≡ release_or_root_at places words.old) }
+    ensures { IfOk result (λ entry. answer_left entry words.new ≡ release_or_root_at places words.old) }
 {
     if keyword(words, b"host") {
         root(alloc, words, places)
@@ -82,7 +82,7 @@ fn release(alloc: Global, words: &mut Words<'_>, places: u8) -> Result<Option<En
 // The host's release of the root.
 fn root(alloc: Global, words: &mut Words<'_>, places: u8) -> Result<Option<Entry>, NoMemory>
     requires { places ≤ 16 }
-    ensures { IfOk result (λ entry. answered entry words.new ≡ root_at places words.old) }
+    ensures { IfOk result (λ entry. answer_left entry words.new ≡ root_at places words.old) }
 {
     if !keyword(words, b"s0") {
         return Ok(None);
@@ -97,7 +97,7 @@ fn root(alloc: Global, words: &mut Words<'_>, places: u8) -> Result<Option<Entry
 }
 
 fn death(words: &mut Words<'_>, places: u8) -> Option<Entry>
-    ensures { answered result words.new ≡ death_at places words.old }
+    ensures { answer_left result words.new ≡ death_at places words.old }
 {
     let place = place_field(words, places)?;
     Some(Entry::Death { place })

@@ -1,7 +1,7 @@
 // The words of an event.
 ghost use Rattle.std.specs.Prelude.{◌≡◌, ◌≤◌, codes, IfOk};
-ghost use Rattle.rx_reading.specs.Words.{answered};
-ghost use Rattle.rx_reading.specs.Inside.FieldWords.{task_of};
+ghost use Rattle.rx_reading.specs.Words.{answer_left};
+ghost use Rattle.rx_reading.specs.Inside.FieldWords.{task_spelt};
 ghost use Rattle.rx_reading.specs.Inside.PartWords.{item_of};
 ghost use Rattle.rx_reading.specs.Inside.EventWords.{made_at, make_at, got_at, indexed_at, get_at, written_at, put_at, forgotten_at};
 ghost use Rattle.rx_reading.specs.Inside.EventWords.{forget_at, cell_at, done_at, close_at, event_at};
@@ -19,7 +19,7 @@ pub(crate) fn event(
     words: &mut Words<'_>,
     home: u8,
 ) -> Result<Option<PlaceEvent>, NoMemory>
-    ensures { IfOk result (λ event. answered event words.new ≡ event_at home words.old) }
+    ensures { IfOk result (λ event. answer_left event words.new ≡ event_at home words.old) }
 {
     match next_task(words) {
         Some(task) => done(alloc, words, home, task),
@@ -29,7 +29,7 @@ pub(crate) fn event(
 
 // Takes the next word where it is a task.
 fn next_task(words: &mut Words<'_>) -> Option<TaskId>
-    ensures { (result, words.new) ≡ item_of task_of words.old }
+    ensures { (result, words.new) ≡ item_of task_spelt words.old }
 {
     let task = task(words.peek()?)?;
     let _ = words.next();
@@ -43,7 +43,7 @@ fn done(
     home: u8,
     task: TaskId,
 ) -> Result<Option<PlaceEvent>, NoMemory>
-    ensures { IfOk result (λ event. answered event words.new ≡ done_at home task words.old) }
+    ensures { IfOk result (λ event. answer_left event words.new ≡ done_at home task words.old) }
 {
     let Some(stamp) = natural_field(words) else {
         return Ok(None);
@@ -63,7 +63,7 @@ fn done(
 }
 
 fn close(words: &mut Words<'_>) -> Option<PlaceEvent>
-    ensures { answered result words.new ≡ close_at words.old }
+    ensures { answer_left result words.new ≡ close_at words.old }
 {
     let stamp = natural_field(words)?;
     if keyword(words, b"close") {
@@ -75,7 +75,7 @@ fn close(words: &mut Words<'_>) -> Option<PlaceEvent>
 
 // A store call and its answer.
 fn cell(words: &mut Words<'_>, home: u8) -> Option<Cell>
-    ensures { answered result words.new ≡ cell_at home words.old }
+    ensures { answer_left result words.new ≡ cell_at home words.old }
 {
     let word = words.next()?;
     if word == b"make".as_slice() {
@@ -92,7 +92,7 @@ fn cell(words: &mut Words<'_>, home: u8) -> Option<Cell>
 }
 
 fn make(words: &mut Words<'_>) -> Option<Cell>
-    ensures { answered result words.new ≡ make_at words.old }
+    ensures { answer_left result words.new ≡ make_at words.old }
 {
     let count = natural_field(words)?;
     made(words, count)
@@ -100,7 +100,7 @@ fn make(words: &mut Words<'_>) -> Option<Cell>
 
 // Whether a block was made, and where.
 fn made(words: &mut Words<'_>, count: u32) -> Option<Cell>
-    ensures { answered result words.new ≡ made_at count words.old }
+    ensures { answer_left result words.new ≡ made_at count words.old }
 {
     if keyword(words, b"at") {
         let start = natural_field(words)?;
@@ -119,7 +119,7 @@ fn made(words: &mut Words<'_>, count: u32) -> Option<Cell>
 }
 
 fn get(words: &mut Words<'_>, home: u8) -> Option<Cell>
-    ensures { answered result words.new ≡ get_at home words.old }
+    ensures { answer_left result words.new ≡ get_at home words.old }
 {
     let target = block_field(words, home)?;
     indexed(words, target)
@@ -127,7 +127,7 @@ fn get(words: &mut Words<'_>, home: u8) -> Option<Cell>
 
 // The index of a word that was to be read, and the answer.
 fn indexed(words: &mut Words<'_>, target: GlobalRef) -> Option<Cell>
-    ensures { answered result words.new ≡ indexed_at target words.old }
+    ensures { answer_left result words.new ≡ indexed_at target words.old }
 {
     let index = number_field(words)?;
     got(words, target, index)
@@ -135,7 +135,7 @@ fn indexed(words: &mut Words<'_>, target: GlobalRef) -> Option<Cell>
 
 // The word that was read, or why none was.
 fn got(words: &mut Words<'_>, target: GlobalRef, index: i64) -> Option<Cell>
-    ensures { answered result words.new ≡ got_at target index words.old }
+    ensures { answer_left result words.new ≡ got_at target index words.old }
 {
     if keyword(words, b"is") {
         let value = number_field(words)?;
@@ -164,7 +164,7 @@ fn got(words: &mut Words<'_>, target: GlobalRef, index: i64) -> Option<Cell>
 }
 
 fn put(words: &mut Words<'_>, home: u8) -> Option<Cell>
-    ensures { answered result words.new ≡ put_at home words.old }
+    ensures { answer_left result words.new ≡ put_at home words.old }
 {
     let target = block_field(words, home)?;
     let index = number_field(words)?;
@@ -174,7 +174,7 @@ fn put(words: &mut Words<'_>, home: u8) -> Option<Cell>
 
 // That a word was written, or why none was.
 fn written(words: &mut Words<'_>, target: GlobalRef, index: i64, value: i64) -> Option<Cell>
-    ensures { answered result words.new ≡ written_at target index value words.old }
+    ensures { answer_left result words.new ≡ written_at target index value words.old }
 {
     if keyword(words, b"ok") {
         return Some(Cell::Put {
@@ -204,7 +204,7 @@ fn written(words: &mut Words<'_>, target: GlobalRef, index: i64, value: i64) -> 
 }
 
 fn forget(words: &mut Words<'_>, home: u8) -> Option<Cell>
-    ensures { answered result words.new ≡ forget_at home words.old }
+    ensures { answer_left result words.new ≡ forget_at home words.old }
 {
     let target = block_field(words, home)?;
     forgotten(words, target)
@@ -212,7 +212,7 @@ fn forget(words: &mut Words<'_>, home: u8) -> Option<Cell>
 
 // That a block was forgotten, or was before.
 fn forgotten(words: &mut Words<'_>, target: GlobalRef) -> Option<Cell>
-    ensures { answered result words.new ≡ forgotten_at target words.old }
+    ensures { answer_left result words.new ≡ forgotten_at target words.old }
 {
     if keyword(words, b"ok") {
         return Some(Cell::Forget { target });

@@ -1,7 +1,8 @@
 // What a word is as a field of a line.
 ghost use Rattle.std.specs.Prelude.{◌≡◌, ◌≤◌, option_map, IfOk};
 ghost use Rattle.rx_reading.specs.Words.{stripped};
-ghost use Rattle.rx_reading.specs.Inside.FieldWords.{place_of, task_of, scope_of, path_of, plain_fault, dead_of, thrown_of, fault_of};
+ghost use Rattle.rx_reading.specs.Inside.FieldWords.{place_of, task_spelt, scope_spelt, path_of, plain_fault, dead_of, fault_spelt};
+ghost use Rattle.rx_reading.specs.Inside.FieldWords.{fault_of};
 ghost use Rattle.rx_reading.specs.Inside.FieldWords.{kill_of};
 
 use crate::numbers::{below, natural, number};
@@ -26,14 +27,14 @@ pub(crate) fn place(word: &[u8], places: u8) -> Option<PlaceId>
 }
 
 pub(crate) fn task(word: &[u8]) -> Option<TaskId>
-    ensures { result ≡ task_of word.now }
+    ensures { result ≡ task_spelt word.now }
 {
     let n = natural(strip(word, b"t")?)?;
     Some(TaskId(n))
 }
 
 pub(crate) fn scope(word: &[u8]) -> Option<ScopeId>
-    ensures { result ≡ scope_of word.now }
+    ensures { result ≡ scope_spelt word.now }
 {
     let n = natural(strip(word, b"s")?)?;
     Some(ScopeId(n))
@@ -82,7 +83,7 @@ fn dead(word: &[u8], places: u8) -> Option<Fault>
 }
 
 fn thrown(word: &[u8]) -> Option<Fault>
-    ensures { result ≡ thrown_of word.now }
+    ensures { result ≡ fault_spelt word.now }
 {
     let value = number(strip(word, b"code:")?)?;
     Some(Fault::Thrown(value))

@@ -1,9 +1,9 @@
 // The fields of a line, and the parts that are there only where their list is not empty.
 ghost use Rattle.std.specs.Prelude.{◌≡◌, ◌≤◌, ◌<◌, ◌^◌, IfOk};
-ghost use Rattle.rx_reading.specs.Words.{answered};
+ghost use Rattle.rx_reading.specs.Words.{answer_left};
 ghost use Rattle.rx_reading.specs.Inside.FieldWords.{natural_at, number_at, place_at, task_at, scope_at, path_at, block_at, fault_of};
 ghost use Rattle.rx_reading.specs.Inside.FieldWords.{path_of, place_of};
-ghost use Rattle.rx_reading.specs.Inside.PartWords.{set_of, places_at, lost_at, thrown_at, batch_at, item_of, key_of, left_of};
+ghost use Rattle.rx_reading.specs.Inside.PartWords.{set_of, places_at, lost_read, thrown_at, batch_at, item_of, key_of, left_of};
 
 use crate::items::{fault, path, place, scope, task};
 use crate::numbers::{natural, number};
@@ -14,37 +14,37 @@ use rx_base::{
 use std::alloc::Global;
 
 pub(crate) fn natural_field(words: &mut Words<'_>) -> Option<u32>
-    ensures { answered result words.new ≡ natural_at words.old }
+    ensures { answer_left result words.new ≡ natural_at words.old }
 {
     natural(words.next()?)
 }
 
 pub(crate) fn number_field(words: &mut Words<'_>) -> Option<i64>
-    ensures { answered result words.new ≡ number_at words.old }
+    ensures { answer_left result words.new ≡ number_at words.old }
 {
     number(words.next()?)
 }
 
 pub(crate) fn place_field(words: &mut Words<'_>, places: u8) -> Option<PlaceId>
-    ensures { answered result words.new ≡ place_at places words.old }
+    ensures { answer_left result words.new ≡ place_at places words.old }
 {
     place(words.next()?, places)
 }
 
 pub(crate) fn task_field(words: &mut Words<'_>) -> Option<TaskId>
-    ensures { answered result words.new ≡ task_at words.old }
+    ensures { answer_left result words.new ≡ task_at words.old }
 {
     task(words.next()?)
 }
 
 pub(crate) fn scope_field(words: &mut Words<'_>) -> Option<ScopeId>
-    ensures { answered result words.new ≡ scope_at words.old }
+    ensures { answer_left result words.new ≡ scope_at words.old }
 {
     scope(words.next()?)
 }
 
 pub(crate) fn path_field(alloc: Global, words: &mut Words<'_>) -> Result<Option<Path>, NoMemory>
-    ensures { IfOk result (λ path. answered path words.new ≡ path_at words.old) }
+    ensures { IfOk result (λ path. answer_left path words.new ≡ path_at words.old) }
 {
     match words.next() {
         Some(word) => path(alloc, word),
@@ -54,7 +54,7 @@ pub(crate) fn path_field(alloc: Global, words: &mut Words<'_>) -> Result<Option<
 
 // A block of this place.
 pub(crate) fn block_field(words: &mut Words<'_>, home: u8) -> Option<GlobalRef>
-    ensures { answered result words.new ≡ block_at home words.old }
+    ensures { answer_left result words.new ≡ block_at home words.old }
 {
     let start = natural_field(words)?;
     let generation = natural_field(words)?;
@@ -120,7 +120,7 @@ fn next_path(alloc: Global, words: &mut Words<'_>) -> Result<Option<Path>, NoMem
 // The places that lost tasks, in ascending order.
 pub(crate) fn lost_part(words: &mut Words<'_>, places: u8) -> Option<PlaceSet>
     requires { places ≤ 16 }
-    ensures { answered result words.new ≡ lost_at places words.old }
+    ensures { answer_left result words.new ≡ lost_read places words.old }
 {
     if !keyword(words, b"lost") {
         return Some(PlaceSet::empty());
@@ -132,7 +132,7 @@ pub(crate) fn lost_part(words: &mut Words<'_>, places: u8) -> Option<PlaceSet>
 // The set of the places that follow, each above those before it.
 fn place_set(words: &mut Words<'_>, places: u8) -> Option<PlaceSet>
     requires { places ≤ 16 }
-    ensures { answered result words.new ≡ places_at places 0 words.old }
+    ensures { answer_left result words.new ≡ places_at places 0 words.old }
 {
     let mut set = PlaceSet(0);
     'places: while let Some(place) = next_place(words, places) {
@@ -150,7 +150,7 @@ pub(crate) fn thrown_part(
     words: &mut Words<'_>,
     places: u8,
 ) -> Result<Option<Faults>, NoMemory>
-    ensures { IfOk result (λ thrown. answered thrown words.new ≡ thrown_at places words.old) }
+    ensures { IfOk result (λ thrown. answer_left thrown words.new ≡ thrown_at places words.old) }
 {
     let mut thrown = Faults::open(alloc);
     if !keyword(words, b"thrown") {
@@ -167,7 +167,7 @@ pub(crate) fn thrown_part(
 
 // The paths of the statements that a task has begun.
 pub(crate) fn batch_part(alloc: Global, words: &mut Words<'_>) -> Result<Option<Batch>, NoMemory>
-    ensures { IfOk result (λ batch. answered batch words.new ≡ batch_at words.old) }
+    ensures { IfOk result (λ batch. answer_left batch words.new ≡ batch_at words.old) }
 {
     let mut batch = Batch::open(alloc);
     if !keyword(words, b"|") {

@@ -1,7 +1,7 @@
 // The lines of the setup.
 ghost use Rattle.std.specs.Prelude.{◌≡◌, ◌<◌, ◌==◌, ◌&&◌, not, IfOk};
 ghost use Rattle.rx_history.specs.KillOrder.{ComesLast};
-ghost use Rattle.rx_reading.specs.Words.{answered, pieces};
+ghost use Rattle.rx_reading.specs.Words.{answer_left, pieces};
 ghost use Rattle.rx_reading.specs.Inside.Readers.{word, all_read};
 ghost use Rattle.rx_history.specs.KillOrder.{is_before};
 ghost use Rattle.rx_reading.specs.Inside.Machine.{count_of, sizes_at, may_follow, kills_line_of};
@@ -25,7 +25,7 @@ fn count(word: &[u8], most: u32) -> Option<u32>
 
 fn count_field(words: &mut Words<'_>, most: u32) -> Option<u32>
     requires { most < 5000 }
-    ensures { answered result words.new ≡ word (count_of most) words.old }
+    ensures { answer_left result words.new ≡ word (count_of most) words.old }
 {
     count(words.next()?, most)
 }

@@ -1,11 +1,11 @@
 // Reading a text line by line.
 ghost use Rattle.std.specs.Prelude.{◌≡◌, ◌≤◌, ◌<◌, ◌&&◌, ◌==◌, nat_lt, ◌++◌, ◌∷◌, [], Some, codes, option_map, IfOk, length};
 ghost use Rattle.std.specs.Str.{bytes_eq};
-ghost use Rattle.rx_reading.specs.Words.{answered, pieces};
+ghost use Rattle.rx_reading.specs.Words.{answer_left, pieces};
 ghost use Rattle.rx_history.specs.Events.{events_of};
 ghost use Rattle.rx_history.specs.Setups.{given};
 ghost use Rattle.rx_reading.specs.Inside.Machine.{Untitled, Titled, Sized, Planned, Entering, Logging, Over, begins_journal, entry_of};
-ghost use Rattle.rx_reading.specs.Inside.Machine.{event_of, read_line};
+ghost use Rattle.rx_reading.specs.Inside.Machine.{event_line_of, read_line};
 ghost use Rattle.rx_reading.specs.Inside.Stages.{state_of, IsReady};
 
 use crate::entry_reader::entry;
@@ -69,7 +69,7 @@ fn read_event(
     n: usize,
     home: u8,
 ) -> Result<Option<PlaceEvent>, NoMemory>
-    ensures { IfOk result (λ event. event ≡ event_of home n line.now) }
+    ensures { IfOk result (λ event. event ≡ event_line_of home n line.now) }
 {
     let (number, mut words) = split_words(line);
     if !is_number(number, n) {

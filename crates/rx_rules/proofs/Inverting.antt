@@ -13,7 +13,7 @@ use Rattle.rx_rules.specs.Plays.{Plays, local, stores, asks, ends, stops, Fits, 
 use Rattle.rx_rules.specs.Code.{Block}
 use Rattle.rx_rules.specs.Run.{Given, IsRun}
 use Rattle.rx_rules.specs.Fold.{births}
-use Rattle.rx_rules.specs.Inversions.{EndsLast, ArrivesFirst, NeverArrived, UpTo, FromOn, acts_of, events_of}
+use Rattle.rx_rules.specs.Inversions.{EndsLast, ArrivesFirst, NeverArrived, UpTo, FromOn, acts_of, events_of_task}
 
 -- no request is an end
 pub asks_no_end : (here : PlaceId) (t : Term) (d : Does) (thrown : List Fault) → Fits here t d (End thrown) → ⊥
@@ -65,23 +65,23 @@ end_last [] n thrown last after stops h = absurd (let f : ⊥ = cc in f)
 end_last (m ∷ before) n thrown last after stops h = absurd (let f : ⊥ = cc in f)
 
 -- what stands at a position of the list is played
-played_at : (starts : List (Term × Vars)) (places : ℕ) (es : List Entry) (js : List (List PlaceEvent)) (n : ℕ) (more : List (Term × Vars)) (k : ℕ) → k < length more → EachPlays starts places es js n more → (s : Term × Vars) × Begins starts (birth_of es (n + k)).to places (travels (birth_of es (n + k))) (birth_of es (n + k)).low s.1 s.0 (events_of es js (n + k)) (acts_of es (n + k))
+played_at : (starts : List (Term × Vars)) (places : ℕ) (es : List Entry) (js : List (List PlaceEvent)) (n : ℕ) (more : List (Term × Vars)) (k : ℕ) → k < length more → EachPlays starts places es js n more → (s : Term × Vars) × Begins starts (birth_of es (n + k)).to places (travels (birth_of es (n + k))) (birth_of es (n + k)).low s.1 s.0 (events_of_task es js (n + k)) (acts_of es (n + k))
 played_at starts places es js n [] k h each = absurd (omega arith)
 played_at starts places es js n (s ∷ more) zero h each =
-    let e : n + 0 ≡ n = omega arith in (s, subst (λ (i : ℕ). Begins starts (birth_of es i).to places (travels (birth_of es i)) (birth_of es i).low s.1 s.0 (events_of es js i) (acts_of es i)) (sym e) each.0)
+    let e : n + 0 ≡ n = omega arith in (s, subst (λ (i : ℕ). Begins starts (birth_of es i).to places (travels (birth_of es i)) (birth_of es i).low s.1 s.0 (events_of_task es js i) (acts_of es i)) (sym e) each.0)
 played_at starts places es js n (s ∷ more) (suc k) h each =
     let inside : k < length more = omega arith in
     let r = played_at starts places es js (suc n) more k inside each.1 in
-    let e : suc n + k ≡ n + suc k = omega arith in (r.0, subst (λ (i : ℕ). Begins starts (birth_of es i).to places (travels (birth_of es i)) (birth_of es i).low r.0.1 r.0.0 (events_of es js i) (acts_of es i)) e r.1)
+    let e : suc n + k ≡ n + suc k = omega arith in (r.0, subst (λ (i : ℕ). Begins starts (birth_of es i).to places (travels (birth_of es i)) (birth_of es i).low r.0.1 r.0.0 (events_of_task es js i) (acts_of es i)) e r.1)
 
 -- each task that was born plays its events and entries
-task_plays : (code : Block) (U : Given) (es : List Entry) (js : List (List PlaceEvent)) (t : ℕ) (run : IsRun code U es js) → t < 1 + births es → (s : Term × Vars) × Begins run.played.starts (birth_of es t).to U.places (travels (birth_of es t)) (birth_of es t).low s.1 s.0 (events_of es js t) (acts_of es t)
+task_plays : (code : Block) (U : Given) (es : List Entry) (js : List (List PlaceEvent)) (t : ℕ) (run : IsRun code U es js) → t < 1 + births es → (s : Term × Vars) × Begins run.played.starts (birth_of es t).to U.places (travels (birth_of es t)) (birth_of es t).low s.1 s.0 (events_of_task es js t) (acts_of es t)
 task_plays code U es js t run h =
     let all : length run.played.starts ≡ 1 + births es = run.played.all in
     let inside : t < length run.played.starts = omega (arith, all, h) in
     let z : 0 + t ≡ t = omega arith in
     let r = played_at run.played.starts U.places es js 0 run.played.starts t inside run.played.each in
-    (r.0, subst (λ (i : ℕ). Begins run.played.starts (birth_of es i).to U.places (travels (birth_of es i)) (birth_of es i).low r.0.1 r.0.0 (events_of es js i) (acts_of es i)) z r.1)
+    (r.0, subst (λ (i : ℕ). Begins run.played.starts (birth_of es i).to U.places (travels (birth_of es i)) (birth_of es i).low r.0.1 r.0.0 (events_of_task es js i) (acts_of es i)) z r.1)
 
 -- an end stands last also where an arrival comes first
 end_of : (starts : List (Term × Vars)) (here : PlaceId) (places : ℕ) (travels : Bool) (low : ℕ) (vars : Vars) (t : Term) (cells : List (ℕ × Cell × List ℕ)) (moves before : List (ℕ × Act × List (List ℕ))) (n : ℕ) (thrown : List Fault) (last : List (List ℕ)) (after : List (ℕ × Act × List (List ℕ))) → Begins starts here places travels low vars t cells moves → moves ≡ before ++ (n, End thrown, last) ∷ after → (after ≡ []) × UpTo n cells
@@ -104,7 +104,7 @@ end_of starts here places true low vars t cells ((k, Print value x, batch) ∷ m
 pub ends_last : EndsLast
 ends_last code U es js t n thrown batch before after run born h =
     let b = task_plays code U es js t run born in
-    end_of run.played.starts (birth_of es t).to U.places (travels (birth_of es t)) (birth_of es t).low b.0.1 b.0.0 (events_of es js t) (acts_of es t) before n thrown batch after b.1 h
+    end_of run.played.starts (birth_of es t).to U.places (travels (birth_of es t)) (birth_of es t).low b.0.1 b.0.0 (events_of_task es js t) (acts_of es t) before n thrown batch after b.1 h
 
 -- the first entry of a task that was started for another place
 first_of : (starts : List (Term × Vars)) (here : PlaceId) (places low : ℕ) (vars : Vars) (t : Term) (cells : List (ℕ × Cell × List ℕ)) (first : ℕ × Act × List (List ℕ)) (more : List (ℕ × Act × List (List ℕ))) → Begins starts here places true low vars t cells (first ∷ more) → (p : PlaceId) × (first.1 ≡ Arrive p) × FromOn (suc first.0) cells
@@ -120,12 +120,12 @@ first_of starts here places low vars t cells (k, Print value x, batch) more b = 
 pub arrives_first : ArrivesFirst
 arrives_first code U es js t first more run born away h =
     let b = task_plays code U es js t run born in
-    let one = subst (λ (w : Bool). Begins run.played.starts (birth_of es t).to U.places w (birth_of es t).low b.0.1 b.0.0 (events_of es js t) (acts_of es t)) away b.1 in
-    first_of run.played.starts (birth_of es t).to U.places (birth_of es t).low b.0.1 b.0.0 (events_of es js t) first more
-    (subst (λ (ms : List (ℕ × Act × List (List ℕ))). Begins run.played.starts (birth_of es t).to U.places true (birth_of es t).low b.0.1 b.0.0 (events_of es js t) ms) h one)
+    let one = subst (λ (w : Bool). Begins run.played.starts (birth_of es t).to U.places w (birth_of es t).low b.0.1 b.0.0 (events_of_task es js t) (acts_of es t)) away b.1 in
+    first_of run.played.starts (birth_of es t).to U.places (birth_of es t).low b.0.1 b.0.0 (events_of_task es js t) first more
+    (subst (λ (ms : List (ℕ × Act × List (List ℕ))). Begins run.played.starts (birth_of es t).to U.places true (birth_of es t).low b.0.1 b.0.0 (events_of_task es js t) ms) h one)
 
 pub never_arrived : NeverArrived
 never_arrived code U es js t run born away h =
     let b = task_plays code U es js t run born in
-    let one = subst (λ (w : Bool). Begins run.played.starts (birth_of es t).to U.places w (birth_of es t).low b.0.1 b.0.0 (events_of es js t) (acts_of es t)) away b.1 in
-    subst (λ (ms : List (ℕ × Act × List (List ℕ))). Begins run.played.starts (birth_of es t).to U.places true (birth_of es t).low b.0.1 b.0.0 (events_of es js t) ms) h one
+    let one = subst (λ (w : Bool). Begins run.played.starts (birth_of es t).to U.places w (birth_of es t).low b.0.1 b.0.0 (events_of_task es js t) (acts_of es t)) away b.1 in
+    subst (λ (ms : List (ℕ × Act × List (List ℕ))). Begins run.played.starts (birth_of es t).to U.places true (birth_of es t).low b.0.1 b.0.0 (events_of_task es js t) ms) h one

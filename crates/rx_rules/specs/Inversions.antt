@@ -36,8 +36,8 @@ abbrev pub acts_of : List Entry → ℕ → List (ℕ × Act × List (List ℕ))
 acts_of es t = moves_from 0 es t
 
 -- the events of task t in the journals: stamp, cell and path
-abbrev pub events_of : List Entry → List (List PlaceEvent) → ℕ → List (ℕ × Cell × List ℕ)
-events_of es js t = filter_map (cell_of t) (journal_at js (birth_of es t).to.0)
+abbrev pub events_of_task : List Entry → List (List PlaceEvent) → ℕ → List (ℕ × Cell × List ℕ)
+events_of_task es js t = filter_map (cell_of t) (journal_at js (birth_of es t).to.0)
 
 -- no stamp of the events is above n
 abbrev pub UpTo : ℕ → List (ℕ × Cell × List ℕ) → Type 0
@@ -54,20 +54,20 @@ abbrev pub EndsLast : Type 0
 EndsLast =
     (code : Block) (U : Given) (es : List Entry) (js : List (List PlaceEvent)) (t n : ℕ) (thrown : List Fault)
     (batch : List (List ℕ)) (before after : List (ℕ × Act × List (List ℕ))) → IsRun code U es js → t < 1 + births es
-    → acts_of es t ≡ before ++ (n, End thrown, batch) ∷ after → (after ≡ []) × UpTo n (events_of es js t)
+    → acts_of es t ≡ before ++ (n, End thrown, batch) ∷ after → (after ≡ []) × UpTo n (events_of_task es js t)
 
 -- of a task that was started for another place the first entry is its arrival, and each event comes after that
 abbrev pub ArrivesFirst : Type 0
 ArrivesFirst =
     (code : Block) (U : Given) (es : List Entry) (js : List (List PlaceEvent)) (t : ℕ) (first : ℕ × Act × List (List ℕ))
     (more : List (ℕ × Act × List (List ℕ))) → IsRun code U es js → t < 1 + births es → travels (birth_of es t) ≡ true
-    → acts_of es t ≡ first ∷ more → (p : PlaceId) × (first.1 ≡ Arrive p) × FromOn (suc first.0) (events_of es js t)
+    → acts_of es t ≡ first ∷ more → (p : PlaceId) × (first.1 ≡ Arrive p) × FromOn (suc first.0) (events_of_task es js t)
 
 -- a task that never arrived has no events
 abbrev pub NeverArrived : Type 0
 NeverArrived =
     (code : Block) (U : Given) (es : List Entry) (js : List (List PlaceEvent)) (t : ℕ) → IsRun code U es js → t < 1 + births es
-    → travels (birth_of es t) ≡ true → acts_of es t ≡ [] → events_of es js t ≡ []
+    → travels (birth_of es t) ≡ true → acts_of es t ≡ [] → events_of_task es js t ≡ []
 
 -- the task that an entry brings
 abbrev pub born_in : Entry → Option ℕ

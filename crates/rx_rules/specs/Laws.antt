@@ -31,34 +31,34 @@ walk [] s = s ∷ []
 walk (l ∷ ls) s = cond (l.scope == s) (s ∷ walk ls l.parent) (walk ls s)
 
 -- a task's birth: its number, the scope that it hangs under, and the ends of its travel
-pub record Birth : Type 0 where
+pub record TaskBirth : Type 0 where
   pub task : ℕ
   pub under : ℕ
   pub from : ℕ
   pub to : ℕ
 
 -- the birth that an entry tells
-abbrev pub birth_in : Entry → Option Birth
-birth_in (Step t (Calls s r c from to path) batch) = Some (record { task = c.0; under = s.0; from = from.0; to = to.0 })
-birth_in (Step t (Spawn c s from to path) batch) = Some (record { task = c.0; under = s.0; from = from.0; to = to.0 })
-birth_in _ = None
+abbrev pub birth_told : Entry → Option TaskBirth
+birth_told (Step t (Calls s r c from to path) batch) = Some (record { task = c.0; under = s.0; from = from.0; to = to.0 })
+birth_told (Step t (Spawn c s from to path) batch) = Some (record { task = c.0; under = s.0; from = from.0; to = to.0 })
+birth_told _ = None
 
 -- t0 is there from the start: no entry tells its birth
-abbrev pub main_birth : Birth
+abbrev pub main_birth : TaskBirth
 main_birth = record { task = 0; under = 0; from = 0; to = 0 }
 
 -- the births so far, the newest first
-abbrev pub born_so_far : List Entry → List Birth
+abbrev pub born_so_far : List Entry → List TaskBirth
 born_so_far [] = main_birth ∷ []
-born_so_far (e ∷ past) = cons_option (birth_in e) (born_so_far past)
+born_so_far (e ∷ past) = cons_option (birth_told e) (born_so_far past)
 
 -- the scopes that a task is under, from the one that it hangs under
-abbrev pub chain_of : List Entry → Birth → List ℕ
+abbrev pub chain_of : List Entry → TaskBirth → List ℕ
 chain_of past b = walk (links past) b.under
 
 -- s is on the chain
-abbrev pub has : ℕ → List ℕ → Bool
-has s gs = list_any (λ g. g == s) gs
+abbrev pub is_on : ℕ → List ℕ → Bool
+is_on s gs = list_any (λ g. g == s) gs
 
 -- the part of a chain before s
 abbrev pub until : ℕ → List ℕ → List ℕ
@@ -76,23 +76,23 @@ lands_task t (Step u (Arrive p) batch) = u.0 == t
 lands_task t _ = false
 
 -- the birth is that of task t
-abbrev pub is_birth_of : ℕ → Birth → Bool
+abbrev pub is_birth_of : ℕ → TaskBirth → Bool
 is_birth_of t b = b.task == t
 
 -- task t is born
 abbrev pub is_born : List Entry → ℕ → Bool
 is_born past t = list_any (is_birth_of t) (born_so_far past)
 
--- task t has ended
+-- task t is_on ended
 abbrev pub has_ended : List Entry → ℕ → Bool
 has_ended past t = list_any (ends_task t) past
 
--- task t has arrived
+-- task t is_on arrived
 abbrev pub has_landed : List Entry → ℕ → Bool
 has_landed past t = list_any (lands_task t) past
 
 -- a death of d touches a task that is yet to be born for d, is at d, or is on its way from or to d
-abbrev pub is_exposed : List Entry → Birth → ℕ → Bool
+abbrev pub is_exposed : List Entry → TaskBirth → ℕ → Bool
 is_exposed past b d =
     cond (is_born past b.task)
     (not (has_ended past b.task)
@@ -100,10 +100,10 @@ is_exposed past b d =
     (b.to == d)
 
 -- the place of the first death that touches the task
-abbrev pub hit : List Entry → Birth → Option ℕ
-hit [] b = None
-hit (Death d ∷ past) b = option_or (hit past b) (cond (is_exposed past b d.0) (Some d.0) None)
-hit (e ∷ past) b = hit past b
+abbrev pub hit_at : List Entry → TaskBirth → Option ℕ
+hit_at [] b = None
+hit_at (Death d ∷ past) b = option_or (hit_at past b) (cond (is_exposed past b d.0) (Some d.0) None)
+hit_at (e ∷ past) b = hit_at past b
 
 -- the entry releases the scope
 abbrev pub releases : ℕ → Entry → Bool
@@ -126,23 +126,23 @@ abbrev pub EachRelease : (List Entry → ℕ → PlaceSet → Type 0) → List E
 EachRelease P past [] = Unit {0}
 EachRelease P past (e ∷ es) = AtRelease P past e × EachRelease P (e ∷ past) es
 
--- a task under s has ended or is hit
-abbrev pub is_over : List Entry → ℕ → Birth → Bool
-is_over past s b = not (has s (chain_of past b)) || (has_ended past b.task || is_some (hit past b))
+-- a task under s is_on ended or is hit_at
+abbrev pub is_over : List Entry → ℕ → TaskBirth → Bool
+is_over past s b = not (is_on s (chain_of past b)) || (has_ended past b.task || is_some (hit_at past b))
 
 -- every task under s is over
 abbrev pub AllOver : List Entry → ℕ → PlaceSet → Type 0
 AllOver past s lost = list_all (is_over past s) (born_so_far past) ≡ true
 
--- each task born before a release of s, whose chain has s, has ended before it or is hit before it
+-- each task born before a release of s, whose chain is_on s, is_on ended before it or is hit_at before it
 abbrev pub NoEarlyRelease : List Entry → Type 0
 NoEarlyRelease es = EachRelease AllOver [] es
 
 -- the task was lost at p, and no scope before s on its chain was released
-abbrev pub is_named : List Entry → ℕ → ℕ → Birth → Bool
+abbrev pub is_named : List Entry → ℕ → ℕ → TaskBirth → Bool
 is_named past s p b =
-    (has s (chain_of past b) && not (list_any (was_released past) (until s (chain_of past b))))
-    && elim (hit past b) [ Some d ↦ d == p | None ↦ false ]
+    (is_on s (chain_of past b) && not (list_any (was_released past) (until s (chain_of past b))))
+    && elim (hit_at past b) [ Some d ↦ d == p | None ↦ false ]
 
 -- the places named are those at which such tasks were lost
 abbrev pub NamesLost : List Entry → ℕ → PlaceSet → Type 0

@@ -18,7 +18,7 @@ use Rattle.rx_rules.specs.Terms.{Term, Done, does, granted}
 use Rattle.rx_rules.specs.Plays.{Birth, Plays, Fits, StartsSo, birth_of, moves_from, journal_at, cell_of, travels, brought}
 use Rattle.rx_rules.specs.Store.{State}
 use Rattle.rx_rules.specs.Picked.{Player}
-use Rattle.rx_runs.specs.Segments.{Goes, stays, asks}
+use Rattle.rx_runs.specs.Segments.{StandGoes, stays, asks}
 use Rattle.rx_runs.specs.Ties.{Moves, HasLanded, has_end}
 use Rattle.rx_runs.specs.Games.{TaskSo, away, going, over, PlayerSo, Landed, stand, fresh}
 use Rattle.rx_runs.proofs.Segments.{joined, ended}
@@ -55,7 +55,7 @@ pub record Going (starts : Starts) (q size : ℕ) (b : Birth) (s : Term × Vars)
   pub now : ℕ
   pub rest : Moves
   pub lands : Landed b moves low rest
-  pub goes : Goes starts b.to q (stand low (fresh s)) cells rest (stand now p)
+  pub goes : StandGoes starts b.to q (stand low (fresh s)) cells rest (stand now p)
   pub below : now ≤ size
 
 pub going_of : {starts : Starts} {q size : ℕ} {b : Birth} {s : Term × Vars} {cells : Cells} {moves : Moves} {p : Player} → TaskSo starts q size b s cells moves p → HasLanded b moves → has_end moves ≡ false → Going starts q size b s cells moves p
@@ -68,9 +68,9 @@ landed-push b moves rest low m (inl h) = inl (h.0, ap (λ (v : Moves). v ++ m �
 landed-push b moves rest low m (inr h) = inr (h.0, h.1, ap (λ (v : Moves). v ++ m ∷ []) h.2, h.3)
 
 -- up to the entry of the turn
-pub walked : {starts more : Starts} {q size heap : ℕ} {b : Birth} {s : Term × Vars} {cells : Cells} {moves : Moves} {p r : Player} {t : TaskId} {here : PlaceId} {S Z : State} {j k : List PlaceEvent} → Keeps starts more → b.to ≡ here → (g : Going starts q size b s cells moves p) → (c : Piece more q heap size t here g.now p S j r Z k) → Goes more b.to q (stand g.low (fresh s)) (cells ++ filter_map (cell_of t.0) c.new) (g.rest ++ []) (stand c.now r)
+pub walked : {starts more : Starts} {q size heap : ℕ} {b : Birth} {s : Term × Vars} {cells : Cells} {moves : Moves} {p r : Player} {t : TaskId} {here : PlaceId} {S Z : State} {j k : List PlaceEvent} → Keeps starts more → b.to ≡ here → (g : Going starts q size b s cells moves p) → (c : Piece more q heap size t here g.now p S j r Z k) → StandGoes more b.to q (stand g.low (fresh s)) (cells ++ filter_map (cell_of t.0) c.new) (g.rest ++ []) (stand c.now r)
 walked {more = more} {q = q} {p = p} {r = r} {t = t} keeps e g c =
-    joined (goes_wider more keeps g.goes) (subst (λ (h : PlaceId). Goes more h q (stand g.now p) (filter_map (cell_of t.0) c.new) [] (stand c.now r)) (sym e) c.goes)
+    joined (goes_wider more keeps g.goes) (subst (λ (h : PlaceId). StandGoes more h q (stand g.now p) (filter_map (cell_of t.0) c.new) [] (stand c.now r)) (sym e) c.goes)
 
 pub acted : (starts more : Starts) (q size heap : ℕ) (b : Birth) (s : Term × Vars) (cells : Cells) (moves : Moves) (p r : Player) (t : TaskId) (here : PlaceId) (S Z : State) (j k : List PlaceEvent) (act : Act) → Keeps starts more → b.to ≡ here → (g : Going starts q size b s cells moves p) → (c : Piece more q heap size t here g.now p S j r Z k) → Fits here r.term (does r.vars here.0 q r.term) act → StartsSo more r.term r.vars act → TaskSo more q (suc size) b s (cells ++ filter_map (cell_of t.0) c.new) (moves ++ (size, act, r.batch) ∷ []) (record { term = granted (brought act) r.term; vars = r.vars; batch = [] })
 acted starts more q size heap b s cells moves p r t here S Z j k act keeps e g c fits so =
@@ -78,10 +78,10 @@ acted starts more q size heap b s cells moves p r t here S Z j k act keeps e g c
     let last : Player = record { term = granted (brought act) r.term; vars = r.vars; batch = [] } in
     let m : ℕ × Act × List (List ℕ) = (size, act, r.batch) in
     let fit : Fits b.to r.term (does r.vars b.to.0 q r.term) act = subst (λ (h : PlaceId). Fits h r.term (does r.vars h.0 q r.term) act) (sym e) fits in
-    let step : Goes more b.to q (stand c.now r) [] (m ∷ []) (stand (suc size) last) = asks c.low_now fit so stays in
-    let all : Goes more b.to q (stand g.low (fresh s)) ((cells ++ new) ++ []) ((g.rest ++ []) ++ m ∷ []) (stand (suc size) last) = joined (walked keeps e g c) step in
-    let one : Goes more b.to q (stand g.low (fresh s)) (cells ++ new) ((g.rest ++ []) ++ m ∷ []) (stand (suc size) last) = subst (λ (v : Cells). Goes more b.to q (stand g.low (fresh s)) v ((g.rest ++ []) ++ m ∷ []) (stand (suc size) last)) (append-nil (cells ++ new)) all in
-    let two : Goes more b.to q (stand g.low (fresh s)) (cells ++ new) (g.rest ++ m ∷ []) (stand (suc size) last) = subst (λ (v : Moves). Goes more b.to q (stand g.low (fresh s)) (cells ++ new) (v ++ m ∷ []) (stand (suc size) last)) (append-nil g.rest) one in
+    let step : StandGoes more b.to q (stand c.now r) [] (m ∷ []) (stand (suc size) last) = asks c.low_now fit so stays in
+    let all : StandGoes more b.to q (stand g.low (fresh s)) ((cells ++ new) ++ []) ((g.rest ++ []) ++ m ∷ []) (stand (suc size) last) = joined (walked keeps e g c) step in
+    let one : StandGoes more b.to q (stand g.low (fresh s)) (cells ++ new) ((g.rest ++ []) ++ m ∷ []) (stand (suc size) last) = subst (λ (v : Cells). StandGoes more b.to q (stand g.low (fresh s)) v ((g.rest ++ []) ++ m ∷ []) (stand (suc size) last)) (append-nil (cells ++ new)) all in
+    let two : StandGoes more b.to q (stand g.low (fresh s)) (cells ++ new) (g.rest ++ m ∷ []) (stand (suc size) last) = subst (λ (v : Moves). StandGoes more b.to q (stand g.low (fresh s)) (cells ++ new) (v ++ m ∷ []) (stand (suc size) last)) (append-nil g.rest) one in
     going g.low (suc size) (g.rest ++ m ∷ []) (landed-push b moves g.rest g.low m g.lands) two (omega arith)
 
 pub finished : (starts : Starts) (q size heap : ℕ) (b : Birth) (s : Term × Vars) (cells : Cells) (moves : Moves) (p r : Player) (t : TaskId) (here : PlaceId) (S Z : State) (j k : List PlaceEvent) (faults : List Fault) → b.to ≡ here → (g : Going starts q size b s cells moves p) → (c : Piece starts q heap size t here g.now p S j r Z k) → does r.vars here.0 q r.term ≡ Done faults → has_end (moves ++ (size, End faults, r.batch) ∷ []) ≡ true → (last : Player) → TaskSo starts q (suc size) b s (cells ++ filter_map (cell_of t.0) c.new) (moves ++ (size, End faults, r.batch) ∷ []) last
@@ -96,7 +96,7 @@ finished starts q size heap b s cells moves p r t here S Z j k faults e g c d en
 -- an arrival
 pub arrived : (starts : Starts) (q size : ℕ) (b : Birth) (s : Term × Vars) (cells : Cells) (moves : Moves) (p : Player) (to : PlaceId) → TaskSo starts q size b s cells moves p → b.to ≡ to → travels b ≡ true → moves ≡ [] → TaskSo starts q (suc size) b s cells (moves ++ (size, Arrive to, []) ∷ []) p
 arrived starts q size b s cells moves p to (away t m c e le) same tr none =
-    let here : Goes starts b.to q (stand (suc size) (fresh s)) cells [] (stand (suc size) p) = subst (λ (v : Cells). Goes starts b.to q (stand (suc size) (fresh s)) v [] (stand (suc size) p)) (sym c) (subst (λ (v : Player). Goes starts b.to q (stand (suc size) (fresh s)) [] [] (stand (suc size) v)) (sym e) stays) in
+    let here : StandGoes starts b.to q (stand (suc size) (fresh s)) cells [] (stand (suc size) p) = subst (λ (v : Cells). StandGoes starts b.to q (stand (suc size) (fresh s)) v [] (stand (suc size) p)) (sym c) (subst (λ (v : Player). StandGoes starts b.to q (stand (suc size) (fresh s)) [] [] (stand (suc size) v)) (sym e) stays) in
     going (suc size) (suc size) [] (inr (size, tr, ap (λ (v : Moves). v ++ (size, Arrive to, []) ∷ []) none ∙ ap (λ (v : PlaceId). (size, Arrive v, []) ∷ []) (sym same), refl)) here (omega arith)
 arrived starts q size b s cells moves p to (going low now rest (inl l) g le) same tr none = absurd (true≢false (sym tr ∙ l.0))
 arrived starts q size b s cells moves p to (going low now rest (inr l) g le) same tr none = absurd (let u : (l.0, Arrive b.to, []) ∷ rest ≡ [] = sym l.2 ∙ none in cc)

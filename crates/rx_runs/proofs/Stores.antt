@@ -16,7 +16,7 @@ use Rattle.rx_rules.specs.Plays.{birth_of, cell_of}
 use Rattle.rx_rules.specs.Store.{State}
 use Rattle.rx_rules.specs.Picked as picked
 use Rattle.rx_rules.specs.Picked.{Player}
-use Rattle.rx_runs.specs.Segments.{Goes, stays, local, stores}
+use Rattle.rx_runs.specs.Segments.{StandGoes, stays, local, stores}
 use Rattle.rx_runs.specs.Games.{stand, Leads, rests, steps, NotAbove}
 use Rattle.rx_rules.specs.Run.{AtHome, NotFalling, close_in}
 
@@ -27,7 +27,7 @@ pub record Piece (starts : List (Term × Vars)) (places heap n : ℕ) (t : TaskI
   pub added : k ≡ j ++ new
   pub leads : Leads heap S new Z
   pub low_now : now ≤ n
-  pub goes : Goes starts here places (stand low p) (filter_map (cell_of t.0) new) [] (stand now q)
+  pub goes : StandGoes starts here places (stand low p) (filter_map (cell_of t.0) new) [] (stand now q)
   pub home : (es : List Entry) (r : ℕ) → t.0 < 1 + births es → (birth_of es t.0).to.0 ≡ r → AtHome es r new
   pub rising : NotFalling n new
   pub top : NotAbove n new

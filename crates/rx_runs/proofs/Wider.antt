@@ -11,7 +11,7 @@ use Rattle.rx_rules.specs.Terms.{Term, child}
 use Rattle.rx_rules.specs.Plays as rules
 use Rattle.rx_rules.specs.Plays.{Birth, Plays, Begins, started_by}
 use Rattle.rx_rules.specs.Picked.{Player}
-use Rattle.rx_runs.specs.Segments.{Stand, Goes, stays, local, stores, asks}
+use Rattle.rx_runs.specs.Segments.{Stand, StandGoes, stays, local, stores, asks}
 use Rattle.rx_runs.specs.Games.{TaskSo, away, going, over}
 
 -- each start of the one stands in the other
@@ -25,7 +25,7 @@ so_wider : (starts more : List (Term × Vars)) → Keeps starts more → (t : Te
 so_wider starts more keeps t vars None h = h
 so_wider starts more keeps t vars (Some c) h = keeps c.0 (child t, vars) h
 
-pub goes_wider : {starts : List (Term × Vars)} (more : List (Term × Vars)) → Keeps starts more → {here : PlaceId} {places : ℕ} {a z : Stand} {cells : List (ℕ × Cell × List ℕ)} {moves : List (ℕ × Act × List (List ℕ))} → Goes starts here places a cells moves z → Goes more here places a cells moves z
+pub goes_wider : {starts : List (Term × Vars)} (more : List (Term × Vars)) → Keeps starts more → {here : PlaceId} {places : ℕ} {a z : Stand} {cells : List (ℕ × Cell × List ℕ)} {moves : List (ℕ × Act × List (List ℕ))} → StandGoes starts here places a cells moves z → StandGoes more here places a cells moves z
 goes_wider more keeps stays = stays
 goes_wider more keeps (local e p) = local e (goes_wider more keeps p)
 goes_wider more keeps (stores answer le tells b p) = stores answer le tells b (goes_wider more keeps p)

@@ -17,7 +17,7 @@ use Rattle.rx_rules.specs.Store.{State, IsStoreRun, opening_state, MayCell, afte
 use Rattle.rx_rules.specs.Run.{Given, Folds, AtHome, NotFalling, ClosesAt, stamp_of, death_number}
 use Rattle.rx_rules.specs.Picked.{Player, Game, Turn, start_game}
 use Rattle.rx_rules.specs.Fold.{tree_of}
-use Rattle.rx_runs.specs.Segments.{Stand, Goes, kills_left}
+use Rattle.rx_runs.specs.Segments.{Stand, StandGoes, kills_left}
 use Rattle.rx_rules.specs.Run.{NoRoot}
 use Rattle.rx_runs.specs.Ties.{has_end, Ties, MayCome}
 use Rattle.rx_rules.specs.Run.{Proper}
@@ -40,7 +40,7 @@ pub data TaskSo (starts : List (Term × Vars)) (places size : ℕ) (b : Birth) (
     (cells : List (ℕ × Cell × List ℕ)) (moves : List (ℕ × Act × List (List ℕ))) (p : Player) : Type 0 where
   away : travels b ≡ true → moves ≡ [] → cells ≡ [] → p ≡ fresh start → b.low ≤ size → TaskSo starts places size b start cells moves p
   going : (low now : ℕ) (rest : List (ℕ × Act × List (List ℕ))) → Landed b moves low rest
-      → Goes starts b.to places (stand low (fresh start)) cells rest (stand now p) → now ≤ size
+      → StandGoes starts b.to places (stand low (fresh start)) cells rest (stand now p) → now ≤ size
       → TaskSo starts places size b start cells moves p
   over : has_end moves ≡ true → Begins starts b.to places (travels b) b.low start.1 start.0 cells moves
       → TaskSo starts places size b start cells moves p

@@ -20,33 +20,33 @@ pub record Stand : Type 0 where
   pub batch : List (List ℕ)
 
 -- from one stand to another, with these events and moves
-pub data Goes (starts : List (Term × Vars)) (here : PlaceId) (places : ℕ) : Stand → List (ℕ × Cell × List ℕ)
+pub data StandGoes (starts : List (Term × Vars)) (here : PlaceId) (places : ℕ) : Stand → List (ℕ × Cell × List ℕ)
     → List (ℕ × Act × List (List ℕ)) → Stand → Type 0 where
-  stays : {a : Stand} → Goes starts here places a [] [] a
+  stays : {a : Stand} → StandGoes starts here places a [] [] a
   local : {a z : Stand} {cells : List (ℕ × Cell × List ℕ)} {moves : List (ℕ × Act × List (List ℕ))} {after : Term} {left : Vars}
-      → does a.vars here.0 places a.term ≡ Local after left → Goes starts here places (record {
+      → does a.vars here.0 places a.term ≡ Local after left → StandGoes starts here places (record {
         low = a.low;
         vars = left;
         term = after;
         batch = begun a.term a.batch;
-      }) cells moves z → Goes starts here places a cells moves z
+      }) cells moves z → StandGoes starts here places a cells moves z
   stores : {a z : Stand} {cells : List (ℕ × Cell × List ℕ)} {moves : List (ℕ × Act × List (List ℕ))} {stamp : ℕ} {cell : Cell}
       {x : List ℕ} (answer : Answer) → a.low ≤ stamp → Tells (does a.vars here.0 places a.term) here cell answer
-      → begins a.term ≡ Some x → Goes starts here places (record {
+      → begins a.term ≡ Some x → StandGoes starts here places (record {
         low = stamp;
         vars = vars_after answer a.vars;
         term = answered answer a.term;
         batch = begun a.term a.batch;
       }) cells moves z
-      → Goes starts here places a ((stamp, cell, x) ∷ cells) moves z
+      → StandGoes starts here places a ((stamp, cell, x) ∷ cells) moves z
   asks : {a z : Stand} {cells : List (ℕ × Cell × List ℕ)} {moves : List (ℕ × Act × List (List ℕ))} {n : ℕ} {act : Act} → a.low ≤ n
       → Fits here a.term (does a.vars here.0 places a.term) act → StartsSo starts a.term a.vars act
-      → Goes starts here places (record {
+      → StandGoes starts here places (record {
         low = suc n;
         vars = a.vars;
         term = granted (brought act) a.term;
         batch = [];
-      }) cells moves z → Goes starts here places a cells ((n, act, a.batch) ∷ moves) z
+      }) cells moves z → StandGoes starts here places a cells ((n, act, a.batch) ∷ moves) z
 
 -- the kills that are left after the entries
 abbrev pub kills_left : List Kill → List Entry → List Kill

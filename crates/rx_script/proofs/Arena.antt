@@ -8,9 +8,9 @@ use Rattle.rx_base.proofs.Elements.{get-last, more-at}
 use Rattle.rx_rules.specs.Code.{Expr, Num, Name, Here, Bin, Stmt, SetTo, New, Get, Put, Forget, Print, Throw, Async, AtAsync, At, Finish, If, Repeat, Try, Block, Nothing, Then}
 use Rattle.rx_nodes.specs.Shape.{Shape, IsSmall, ExprStands, StmtIs, ListStands, BlockStands}
 use Rattle.rx_script.specs.Inside.Items.{Opener, ByAsync, ByAtAsync, ByAt, ByFinish, ByIf, ByRepeat, ByTry, Whole, Close}
-use Rattle.rx_script.specs.Inside.Machine.{added, Frame, Fore, Other, Handler, Waits, Free, ForElse, ForCatch, State, free, ended, stepped}
+use Rattle.rx_script.specs.Inside.Machine.{added, Frame, Fore, Other, Handler, Waits, Free, ForElse, ForCatch, BlocksRead, free, ended, item_stepped}
 use Rattle.rx_script.specs.Inside.Pieces.{Grows, only, OpenerStands}
-use Rattle.rx_script.specs.Inside.Arena.{OwnerStands, WaitingStands, Framed, Holds, Takes, Adds, Opens, Shuts, BeginsWait, Makes, Counts, blocks_of, shape_of}
+use Rattle.rx_script.specs.Inside.Arena.{OwnerStands, WaitingStands, Framed, ReaderHolds, Takes, Adds, Opens, Shuts, BeginsWait, BlockMakes, GrowsByOne, blocks_of, shape_of}
 use Rattle.rx_script.specs.declared.items.Opener.{Opener as Front}
 use Rattle.rx_script.specs.declared.items.Opener.TheVariants as fronts
 use Rattle.rx_script.specs.declared.items.Item.TheVariants as pieces
@@ -144,7 +144,7 @@ same-extends old new a b d =
     (no-more _ _ (same-blocks old new d))
 
 -- more expressions
-pub holds-exprs : (r : Reader) (es : Vec Part Global) (s : State) → Grows r.exprs.items es.items → Holds r s → Holds (record r { exprs = es }) s
+pub holds-exprs : (r : Reader) (es : Vec Part Global) (s : BlocksRead) → Grows r.exprs.items es.items → ReaderHolds r s → ReaderHolds (record r { exprs = es }) s
 holds-exprs r es s g h =
     let new : Reader = record r { exprs = es } in
     let x : Extends (shape_of r) (shape_of new) = extends-by (shape_of r) (shape_of new) [] g.0 [] (sym (append-nil _)) g.1 (sym (append-nil _)) in
@@ -157,7 +157,7 @@ add-extends old new node a =
     (no-more _ _ (same-items new.exprs old.exprs a.exprs))
     (no-more _ _ (same-blocks old new a.blocks))
 
-add-holds : (old new : Reader) (node : Node) (u : Stmt) (outer : List (Block × Frame)) (ts : Block) → Adds old node new → StmtIs (shape_of old) node u → Holds old (free outer ts) → Holds new (free outer (added ts u))
+add-holds : (old new : Reader) (node : Node) (u : Stmt) (outer : List (Block × Frame)) (ts : Block) → Adds old node new → StmtIs (shape_of old) node u → ReaderHolds old (free outer ts) → ReaderHolds new (free outer (added ts u))
 add-holds old new node u outer ts a i h =
     let s = shape_of old in
     let t = shape_of new in
@@ -170,7 +170,7 @@ add-holds old new node u outer ts a i h =
     )
 
 -- a first block waits
-wait-holds : (old new : Reader) (waiting : Waiting) (w : Waits) (outer : List (Block × Frame)) (ts : Block) → BeginsWait old waiting new → WaitingStands (shape_of old) waiting w → Framed (shape_of old) old.frames.items old.pending.items outer ts → Holds new (record { outer = outer; so_far = ts; waits = w })
+wait-holds : (old new : Reader) (waiting : Waiting) (w : Waits) (outer : List (Block × Frame)) (ts : Block) → BeginsWait old waiting new → WaitingStands (shape_of old) waiting w → Framed (shape_of old) old.frames.items old.pending.items outer ts → ReaderHolds new (record { outer = outer; so_far = ts; waits = w })
 wait-holds old new waiting w outer ts b i h =
     let s = shape_of old in
     let t = shape_of new in
@@ -181,7 +181,7 @@ wait-holds old new waiting w outer ts b i h =
     )
 
 -- what a block and what it belongs to make
-front-holds : (old new : Reader) (front : Front) (k : BlockId) (o : Opener) (b : Block) (outer : List (Block × Frame)) (ts : Block) → Makes old (owners.Front front) k new → OpenerStands old.exprs.items front o → BlockStands (shape_of old) k b → Holds old (free outer ts) → Holds new (ended outer ts (Fore o) b)
+front-holds : (old new : Reader) (front : Front) (k : BlockId) (o : Opener) (b : Block) (outer : List (Block × Frame)) (ts : Block) → BlockMakes old (owners.Front front) k new → OpenerStands old.exprs.items front o → BlockStands (shape_of old) k b → ReaderHolds old (free outer ts) → ReaderHolds new (ended outer ts (Fore o) b)
 front-holds old new fronts.Async k ByAsync b outer ts m i n h = add-holds old new _ (Async b) outer ts m n h
 front-holds old new (fronts.AtAsync p) k (ByAtAsync e) b outer ts m i n h = add-holds old new _ (AtAsync e b) outer ts m (n.0, n.1, n.2, i) h
 front-holds old new (fronts.At p) k (ByAt e) b outer ts m i n h = add-holds old new _ (At e b) outer ts m (n.0, n.1, n.2, i) h
@@ -191,7 +191,7 @@ front-holds old new (fronts.Repeat times) k (ByRepeat c) b outer ts m i n h = ad
 front-holds old new fronts.Try k ByTry b outer ts m i n h = wait-holds old new _ (ForCatch b) outer ts m n h.0
 front-holds old new _ k _ b outer ts m i n h = absurd i
 
-makes-holds : (old new : Reader) (owner : Owner) (k : BlockId) (f : Frame) (b : Block) (outer : List (Block × Frame)) (ts : Block) → Makes old owner k new → OwnerStands (shape_of old) owner f → BlockStands (shape_of old) k b → Holds old (free outer ts) → Holds new (ended outer ts f b)
+makes-holds : (old new : Reader) (owner : Owner) (k : BlockId) (f : Frame) (b : Block) (outer : List (Block × Frame)) (ts : Block) → BlockMakes old owner k new → OwnerStands (shape_of old) owner f → BlockStands (shape_of old) k b → ReaderHolds old (free outer ts) → ReaderHolds new (ended outer ts f b)
 makes-holds old new (owners.Front front) k (Fore o) b outer ts m i n h = front-holds old new front k o b outer ts m i n h
 makes-holds old new (owners.Other test first) k (Other e a) b outer ts m i n h =
     add-holds old new _ (If e a b) outer ts m (i.1.0, i.1.1, i.1.2, (n.0, n.1, n.2), i.0) h
@@ -212,7 +212,7 @@ framed-shut s opened front last pending f outer b e h =
     )
 
 -- the innermost block has ended
-close-holds : (old mid new : Reader) (left : Vec Opened Global) (last : Opened) (k : BlockId) (f : Block × Frame) (outer : List (Block × Frame)) (b : Block) → old.frames.items ≡ left.items ++ last ∷ [] → Shuts (record old { frames = left }) last.start mid → k.0 ≡ length (blocks_of old) → Makes mid last.owner k new → Holds old (free (f ∷ outer) b) → Holds new (ended outer f.0 f.1 b)
+close-holds : (old mid new : Reader) (left : Vec Opened Global) (last : Opened) (k : BlockId) (f : Block × Frame) (outer : List (Block × Frame)) (b : Block) → old.frames.items ≡ left.items ++ last ∷ [] → Shuts (record old { frames = left }) last.start mid → k.0 ≡ length (blocks_of old) → BlockMakes mid last.owner k new → ReaderHolds old (free (f ∷ outer) b) → ReaderHolds new (ended outer f.0 f.1 b)
 close-holds old mid new left last k f outer b e u p m h =
     let front = left.items in
     let s = shape_of old in
@@ -226,13 +226,13 @@ close-holds old mid new left last k f outer b e u p m h =
     )
 
 -- what an item does
-at-state : (r : Reader) (s t : State) → Some s ≡ Some t → Holds r s → Holds r t
-at-state r s t e h = subst (λ (u : State). Holds r u) (same_Some s t e) h
+at-state : (r : Reader) (s t : BlocksRead) → Some s ≡ Some t → ReaderHolds r s → ReaderHolds r t
+at-state r s t e h = subst (λ (u : BlocksRead). ReaderHolds r u) (same_Some s t e) h
 
 whole-grows : (r : Reader) (node : Node) (u : Stmt) → StmtIs (only r.exprs.items) node u → StmtIs (shape_of r) node u
 whole-grows r node u i = stmt-grows (only r.exprs.items) (shape_of r) (extends-by (only r.exprs.items) (shape_of r) r.stmts.items [] (blocks_of r) refl (sym (append-nil _)) refl) node u i
 
-take-whole : (old new : Reader) (node : Node) (u : Stmt) (outer : List (Block × Frame)) (ts : Block) (w : Waits) (t : State) → Adds old node new → StmtIs (only old.exprs.items) node u → Holds old (record { outer = outer; so_far = ts; waits = w }) → stepped outer ts w (Whole u) ≡ Some t → Holds new t
+take-whole : (old new : Reader) (node : Node) (u : Stmt) (outer : List (Block × Frame)) (ts : Block) (w : Waits) (t : BlocksRead) → Adds old node new → StmtIs (only old.exprs.items) node u → ReaderHolds old (record { outer = outer; so_far = ts; waits = w }) → item_stepped outer ts w (Whole u) ≡ Some t → ReaderHolds new t
 take-whole old new node u outer ts Free t a i h e = at-state new _ t e (add-holds old new node u outer ts a (whole-grows old node u i) h)
 take-whole old new node u outer ts (ForElse c b) t a i h e = cc
 take-whole old new node u outer ts (ForCatch b) t a i h e = cc
@@ -241,13 +241,13 @@ pub takes-whole : (old new : Reader) (node : Node) → Adds old node new → Tak
 takes-whole old new node a s t (Whole u) h i e = take-whole old new node u s.outer s.so_far s.waits t a i h e
 takes-whole old new node a s t _ h i e = absurd i
 
-take-close : (old mid new : Reader) (left : Vec Opened Global) (last : Opened) (k : BlockId) (outer : List (Block × Frame)) (b : Block) (w : Waits) (t : State) → old.frames.items ≡ left.items ++ last ∷ [] → Shuts (record old { frames = left }) last.start mid → k.0 ≡ length (blocks_of old) → Makes mid last.owner k new → Holds old (record { outer = outer; so_far = b; waits = w }) → stepped outer b w Close ≡ Some t → Holds new t
+take-close : (old mid new : Reader) (left : Vec Opened Global) (last : Opened) (k : BlockId) (outer : List (Block × Frame)) (b : Block) (w : Waits) (t : BlocksRead) → old.frames.items ≡ left.items ++ last ∷ [] → Shuts (record old { frames = left }) last.start mid → k.0 ≡ length (blocks_of old) → BlockMakes mid last.owner k new → ReaderHolds old (record { outer = outer; so_far = b; waits = w }) → item_stepped outer b w Close ≡ Some t → ReaderHolds new t
 take-close old mid new left last k [] b Free t e u p m h x = cc
 take-close old mid new left last k (f ∷ outer) b Free t e u p m h x = at-state new _ t x (close-holds old mid new left last k f outer b e u p m h)
 take-close old mid new left last k outer b (ForElse c a) t e u p m h x = cc
 take-close old mid new left last k outer b (ForCatch a) t e u p m h x = cc
 
-pub takes-close : (old mid new : Reader) (left : Vec Opened Global) (last : Opened) (k : BlockId) → old.frames.items ≡ left.items ++ last ∷ [] → Shuts (record old { frames = left }) last.start mid → k.0 ≡ length (blocks_of old) → Makes mid last.owner k new → Takes old pieces.Close new
+pub takes-close : (old mid new : Reader) (left : Vec Opened Global) (last : Opened) (k : BlockId) → old.frames.items ≡ left.items ++ last ∷ [] → Shuts (record old { frames = left }) last.start mid → k.0 ≡ length (blocks_of old) → BlockMakes mid last.owner k new → Takes old pieces.Close new
 takes-close old mid new left last k e u p m s t Close h i x = take-close old mid new left last k s.outer s.so_far s.waits t e u p m h x
 takes-close old mid new left last k e u p m s t _ h i x = absurd i
 
@@ -276,7 +276,7 @@ small-none k ids e = absurd (none k ids e)
 small-at : (old new : Reader) → blocks_of new ≡ blocks_of old → IsSmall (blocks_of old) → IsSmall (blocks_of new)
 small-at old new e h = subst (λ (bs : List (List StmtId)). IsSmall bs) (sym e) h
 
-pub counts-add : (old new : Reader) (node : Node) → Adds old node new → Counts old new
+pub counts-add : (old new : Reader) (node : Node) → Adds old node new → GrowsByOne old new
 counts-add old new node a = record {
   stmts = omega (arith, ap length a.stmts, length-append old.stmts.items (node ∷ []));
   exprs = a.exprs;
@@ -285,7 +285,7 @@ counts-add old new node a = record {
   small = λ h n. small-at old new (same-blocks old new a.blocks) h;
 }
 
-pub counts-open : (old new : Reader) (owner : Owner) → Opens old owner new → Counts old new
+pub counts-open : (old new : Reader) (owner : Owner) → Opens old owner new → GrowsByOne old new
 counts-open old new owner a = record {
   stmts = omega (arith, ap length (same-items new.stmts old.stmts a.stmts));
   exprs = a.exprs;
@@ -311,7 +311,7 @@ few-wait old new waiting a = record {
   pending = omega (arith, ap length (same-items new.pending old.pending a.pending));
 }
 
-few-front : (old new : Reader) (front : Front) (k : BlockId) → Makes old (owners.Front front) k new → Few old new
+few-front : (old new : Reader) (front : Front) (k : BlockId) → BlockMakes old (owners.Front front) k new → Few old new
 few-front old new fronts.Async k m = few-add old new _ m
 few-front old new (fronts.AtAsync p) k m = few-add old new _ m
 few-front old new (fronts.At p) k m = few-add old new _ m
@@ -320,12 +320,12 @@ few-front old new (fronts.If p) k m = few-wait old new _ m
 few-front old new (fronts.Repeat times) k m = few-add old new _ m
 few-front old new fronts.Try k m = few-wait old new _ m
 
-few-makes : (old new : Reader) (owner : Owner) (k : BlockId) → Makes old owner k new → Few old new
+few-makes : (old new : Reader) (owner : Owner) (k : BlockId) → BlockMakes old owner k new → Few old new
 few-makes old new (owners.Front front) k m = few-front old new front k m
 few-makes old new (owners.Other test first) k m = few-add old new _ m
 few-makes old new (owners.Handler body dead_only) k m = few-add old new _ m
 
-pub counts-close : (old mid new : Reader) (left : Vec Opened Global) (start : ℕ) (owner : Owner) (k : BlockId) → Shuts (record old { frames = left }) start mid → Makes mid owner k new → Counts old new
+pub counts-close : (old mid new : Reader) (left : Vec Opened Global) (start : ℕ) (owner : Owner) (k : BlockId) → Shuts (record old { frames = left }) start mid → BlockMakes mid owner k new → GrowsByOne old new
 counts-close old mid new left start owner k u m =
     let w = few-makes mid new owner k m in
     let ids = drop start old.pending.items in

@@ -6,10 +6,10 @@ use Rattle.rx_rules.specs.Code.{Stmt, SetTo, New, Get, Put, Forget, Print, Throw
 use Rattle.rx_nodes.specs.Shape.{Shape, IsSmall, ListStands, BlockStands}
 use Rattle.rx_nodes.specs.Grammar.{spelling}
 use Rattle.rx_script.specs.Inside.Items.{Opener, ByAsync, ByAtAsync, ByAt, ByFinish, ByIf, ByRepeat, ByTry, Item, Whole, Open, Close, Else, Catch, item_words, opener_words, item_at, Mode, Outermost}
-use Rattle.rx_script.specs.Inside.Machine.{Frame, Waits, Free, ForElse, ForCatch, State, free, step, run, mode_in, mode}
+use Rattle.rx_script.specs.Inside.Machine.{Frame, Waits, Free, ForElse, ForCatch, BlocksRead, free, step, items_run, mode_in, mode}
 use Rattle.rx_script.specs.Inside.Pieces.{mode_of, Grows, ItemStands, IsItemAnswer}
 use Rattle.rx_script.specs.Places.{IsPlace}
-use Rattle.rx_script.specs.Inside.Arena.{Holds, MayTake, Takes, Counts, IsRead, blocks_of}
+use Rattle.rx_script.specs.Inside.Arena.{ReaderHolds, MayTake, Takes, GrowsByOne, IsRead, blocks_of}
 use Rattle.rx_token.specs.declared.token.Token.{Token}
 use Rattle.rx_script.specs.declared.items.Item.{Item as Piece}
 use Rattle.rx_script.specs.declared.items.Mode.{Mode as Stand}
@@ -24,8 +24,8 @@ use Rattle.rx_script.proofs.Arena.{Extends, extends-by, list-grows, holds-exprs}
 
 pub record HasRead (r : Reader) (tokens rest : List Token) : Type 0 where
   pub items : List Item
-  pub state : State
-  pub holds : Holds r state
+  pub state : BlocksRead
+  pub holds : ReaderHolds r state
   pub whole : tokens ≡ words items ++ rest
   pub runs : HasRun items state
   pub stmts : length r.stmts.items + length rest ≤ length tokens
@@ -74,10 +74,10 @@ shorter m rest after x e =
     omega (arith, ap length k.1, length-append (item_words x) after, item-some x)
 
 -- the step of the last item
-last-step : (xs : List Item) (s t : State) (x : Item) → run start xs ≡ Some s → run start (xs ++ x ∷ []) ≡ Some t → step s x ≡ Some t
+last-step : (xs : List Item) (s t : BlocksRead) (x : Item) → items_run start xs ≡ Some s → items_run start (xs ++ x ∷ []) ≡ Some t → step s x ≡ Some t
 last-step xs s t x e f =
-    let one : run s (x ∷ []) ≡ Some t = ap (option_and_then (λ v. run v (x ∷ []))) (sym e) ∙ sym (run-append start xs (x ∷ [])) ∙ f in
-    let m = some-and (step s x) (λ v. run v []) t one in
+    let one : items_run s (x ∷ []) ≡ Some t = ap (option_and_then (λ v. items_run v (x ∷ []))) (sym e) ∙ sym (run-append start xs (x ∷ [])) ∙ f in
+    let m = some-and (step s x) (λ v. items_run v []) t one in
     m.1 ∙ m.2
 
 -- an item was read, with these expressions
@@ -114,7 +114,7 @@ may-take r es tokens rest after piece i a =
     }
 
 -- one item more
-pub reads-more : (r : Reader) (es : Vec Part Global) (new : Reader) (tokens rest after : List Token) (piece : Piece) (i : HasRead r tokens rest) → Reads r es (mode i.state) rest after piece → vec_len es + length after ≤ vec_len r.exprs + length rest → Takes (record r { exprs = es }) piece new → Counts (record r { exprs = es }) new → length tokens < 2 ^ 31 → HasRead new tokens after
+pub reads-more : (r : Reader) (es : Vec Part Global) (new : Reader) (tokens rest after : List Token) (piece : Piece) (i : HasRead r tokens rest) → Reads r es (mode i.state) rest after piece → vec_len es + length after ≤ vec_len r.exprs + length rest → Takes (record r { exprs = es }) piece new → GrowsByOne (record r { exprs = es }) new → length tokens < 2 ^ 31 → HasRead new tokens after
 reads-more r es new tokens rest after piece i a few k n short =
     let t = run-more i.items i.state rest a.item after i.runs a.reads in
     let l = shorter (mode i.state) rest after a.item a.reads in
@@ -143,18 +143,18 @@ outermost-in Free (f ∷ outer) e = cc
 outermost-in (ForElse c a) outer e = cc
 outermost-in (ForCatch a) outer e = cc
 
-state-is : (s : State) → mode s ≡ Outermost → s ≡ free [] s.so_far
+state-is : (s : BlocksRead) → mode s ≡ Outermost → s ≡ free [] s.so_far
 state-is s e =
     let p = outermost-in s.waits s.outer e in
     let one : s ≡ record { outer = []; so_far = s.so_far; waits = s.waits } = ap (λ (o : List (Block × Frame)). record { outer = o; so_far = s.so_far; waits = s.waits }) p.1 in
     one ∙ ap (λ (w : Waits). record { outer = []; so_far = s.so_far; waits = w }) p.0
 
 -- the tokens are the script's where none is left and no block is open
-pub all-read : (r : Reader) (tokens rest : List Token) → HasRead r tokens rest → (m : (s : State) → Holds r s → mode s ≡ Outermost) → rest ≡ [] → length tokens < 2 ^ 31 → IsRead tokens r
+pub all-read : (r : Reader) (tokens rest : List Token) → HasRead r tokens rest → (m : (s : BlocksRead) → ReaderHolds r s → mode s ≡ Outermost) → rest ≡ [] → length tokens < 2 ^ 31 → IsRead tokens r
 all-read r tokens rest i m n short =
     let e = state-is i.state (m i.state i.holds) in
     let t = i.state.so_far in
-    let h : Holds r (free [] t) = subst (λ (s : State). Holds r s) e i.holds in
+    let h : ReaderHolds r (free [] t) = subst (λ (s : BlocksRead). ReaderHolds r s) e i.holds in
     let k = script-read i.items t (record { items = i.runs.items; runs = i.runs.runs ∙ ap Some e }) in
     record {
       script = t;

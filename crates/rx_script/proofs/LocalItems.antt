@@ -8,7 +8,7 @@ use Rattle.rx_token.specs.declared.token.Keyword.TheVariants.{Set as KSet, New a
 use Rattle.rx_token.specs.declared.token.Sign.TheVariants.{OpenBrace as LBrace, CloseBrace as RBrace, OpenSquare as LSquare, CloseSquare as RSquare, Equals, Semicolon}
 use Rattle.rx_script.specs.Inside.Readers.{Reader, done, choose}
 use Rattle.rx_script.specs.Inside.Exprs.{expr}
-use Rattle.rx_script.specs.Inside.Items.{ByAsync, ByAtAsync, ByAt, ByFinish, ByIf, ByRepeat, ByTry, Item, Whole, Open, Close, Else, Catch, called, in_range, counted, brace, semicolon, equals, square, end_square, ends, opens, set_at, new_at, get_at, put_at, forget_at, print_at, throw_at, at_body, at_at, if_at, repeat_at, statement, statement_or_end, else_word, dead_word, catch_word, Mode, Outermost, Inside, AfterFirst, AfterBody, item_at}
+use Rattle.rx_script.specs.Inside.Items.{ByAsync, ByAtAsync, ByAt, ByFinish, ByIf, ByRepeat, ByTry, Item, Whole, Open, Close, Else, Catch, called, number_in_range, counted, brace, semicolon, equals_then, square, end_square, ends, opens, set_at, new_at, get_at, put_at, forget_at, print_at, throw_at, at_body, at_at, if_at, repeat_at, statement, statement_or_end, else_word, dead_word, catch_word, Mode, Outermost, Inside, AfterFirst, AfterBody, item_at}
 use Rattle.rx_script.proofs.Local.{IsLocal, IsLocalPick, local-done, local-choose, local-then}
 use Rattle.rx_script.proofs.LocalExprs.{local-expr}
 
@@ -19,7 +19,7 @@ called-picks _ = tt
 local-called : IsLocal (choose called)
 local-called = local-choose called (Called 0) (done 0) refl (local-done 0) called-picks
 
-range-picks : (b : Bool) (n : ℕ) → IsLocalPick (in_range b n)
+range-picks : (b : Bool) (n : ℕ) → IsLocalPick (number_in_range b n)
 range-picks true n = local-done n
 range-picks false n = tt
 
@@ -28,7 +28,7 @@ counted-picks ok (Number (pos n)) = range-picks (ok n) n
 counted-picks ok _ = tt
 
 local-counted : (ok : ℕ → Bool) → ok 1 ≡ true → IsLocal (choose (counted ok))
-local-counted ok one = local-choose (counted ok) (Number (pos 1)) (done 1) (ap (λ b. in_range b 1) one) (local-done 1) (counted-picks ok)
+local-counted ok one = local-choose (counted ok) (Number (pos 1)) (done 1) (ap (λ b. number_in_range b 1) one) (local-done 1) (counted-picks ok)
 
 brace-picks : {A : Type 0} (r : Reader A) → IsLocal r → (t : Token) → IsLocalPick (brace r t)
 brace-picks r l (Mark LBrace) = l
@@ -44,12 +44,12 @@ semicolon-picks r l _ = tt
 local-semicolon : {A : Type 0} (r : Reader A) → IsLocal r → IsLocal (choose (semicolon r))
 local-semicolon r l = local-choose (semicolon r) (Mark Semicolon) r refl l (semicolon-picks r l)
 
-equals-picks : {A : Type 0} (r : Reader A) → IsLocal r → (t : Token) → IsLocalPick (equals r t)
+equals-picks : {A : Type 0} (r : Reader A) → IsLocal r → (t : Token) → IsLocalPick (equals_then r t)
 equals-picks r l (Mark Equals) = l
 equals-picks r l _ = tt
 
-local-equals : {A : Type 0} (r : Reader A) → IsLocal r → IsLocal (choose (equals r))
-local-equals r l = local-choose (equals r) (Mark Equals) r refl l (equals-picks r l)
+local-equals : {A : Type 0} (r : Reader A) → IsLocal r → IsLocal (choose (equals_then r))
+local-equals r l = local-choose (equals_then r) (Mark Equals) r refl l (equals-picks r l)
 
 square-picks : {A : Type 0} (r : Reader A) → IsLocal r → (t : Token) → IsLocalPick (square r t)
 square-picks r l (Mark LSquare) = l

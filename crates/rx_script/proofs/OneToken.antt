@@ -7,7 +7,7 @@ use Rattle.rx_rules.specs.Code.{Expr, Num, Name, Here, Bin}
 use Rattle.rx_nodes.specs.Shape.{ExprStands, op_of}
 use Rattle.rx_script.specs.Inside.Exprs.{Pair, First, Second, whole}
 use Rattle.rx_script.specs.Inside.Pieces.{Grows}
-use Rattle.rx_script.specs.Inside.Turns.{PairStands, PairsStand, Reads}
+use Rattle.rx_script.specs.Inside.Turns.{PairStands, PairsStand, ExprReads}
 use Rattle.rx_nodes.specs.declared.nodes.ExprId.{ExprId}
 use Rattle.rx_nodes.specs.declared.nodes.NameId.{NameId}
 use Rattle.rx_token.specs.declared.token.Op.{Op as Sign}
@@ -38,13 +38,13 @@ one-more : (es : List Part) (x : Part) → Grows es (es ++ x ∷ [])
 one-more es x = (x ∷ [], refl)
 
 -- an operand that is one token
-pub reads-number : (es : List Part) (ps : List OpenPair) (z : ℤ) (ts : List Token) (o : Result (Expr × List Token) (List Token)) → Reads es ps turns.Operand (Number z ∷ ts) o → Reads (es ++ parts.Num z ∷ []) ps (turns.After (next_id es)) ts o
+pub reads-number : (es : List Part) (ps : List OpenPair) (z : ℤ) (ts : List Token) (o : Result (Expr × List Token) (List Token)) → ExprReads es ps turns.Operand (Number z ∷ ts) o → ExprReads (es ++ parts.Num z ∷ []) ps (turns.After (next_id es)) ts o
 reads-number es ps z ts o h = (h.0, Num z, pairs-grow es _ (one-more es _) ps h.0 h.1, get-last es _ (length es) refl, h.2)
 
-pub reads-name : (es : List Part) (ps : List OpenPair) (name : NameId) (ts : List Token) (o : Result (Expr × List Token) (List Token)) → Reads es ps turns.Operand (Called name.0 ∷ ts) o → Reads (es ++ parts.Name name ∷ []) ps (turns.After (next_id es)) ts o
+pub reads-name : (es : List Part) (ps : List OpenPair) (name : NameId) (ts : List Token) (o : Result (Expr × List Token) (List Token)) → ExprReads es ps turns.Operand (Called name.0 ∷ ts) o → ExprReads (es ++ parts.Name name ∷ []) ps (turns.After (next_id es)) ts o
 reads-name es ps name ts o h = (h.0, Name name.0, pairs-grow es _ (one-more es _) ps h.0 h.1, (name, get-last es _ (length es) refl, refl), h.2)
 
-pub reads-here : (es : List Part) (ps : List OpenPair) (ts : List Token) (o : Result (Expr × List Token) (List Token)) → Reads es ps turns.Operand (Key KHere ∷ ts) o → Reads (es ++ parts.Here ∷ []) ps (turns.After (next_id es)) ts o
+pub reads-here : (es : List Part) (ps : List OpenPair) (ts : List Token) (o : Result (Expr × List Token) (List Token)) → ExprReads es ps turns.Operand (Key KHere ∷ ts) o → ExprReads (es ++ parts.Here ∷ []) ps (turns.After (next_id es)) ts o
 reads-here es ps ts o h = (h.0, Here, pairs-grow es _ (one-more es _) ps h.0 h.1, get-last es _ (length es) refl, h.2)
 
 second-first : (left : ExprId) (sign : Sign) → pairs.Second left sign ≡ pairs.First → ⊥
@@ -57,7 +57,7 @@ second-sign : (left other : ExprId) (sign also : Sign) → pairs.Second left sig
 second-sign left other sign also e = cc
 
 -- the pair that ends
-closes-by : (es : List Part) (ps : List OpenPair) (left : ExprId) (sign : Sign) (id : ExprId) (ts : List Token) (o : Result (Expr × List Token) (List Token)) (qs : List Pair) (e : Expr) → PairsStand es (ps ++ pairs.Second left sign ∷ []) qs → ExprStands es id e → whole (Mark RParen ∷ ts) qs e ≡ o → Reads (es ++ parts.Bin sign left id ∷ []) ps (turns.After (next_id es)) ts o
+closes-by : (es : List Part) (ps : List OpenPair) (left : ExprId) (sign : Sign) (id : ExprId) (ts : List Token) (o : Result (Expr × List Token) (List Token)) (qs : List Pair) (e : Expr) → PairsStand es (ps ++ pairs.Second left sign ∷ []) qs → ExprStands es id e → whole (Mark RParen ∷ ts) qs e ≡ o → ExprReads (es ++ parts.Bin sign left id ∷ []) ps (turns.After (next_id es)) ts o
 closes-by es ps left sign id ts o [] e h x w = absurd (push-not-nil ps _ h)
 closes-by es ps left sign id ts o (First ∷ qs) e h x w =
     let s = same_from_push ps h.0 _ h.1 h.2 in
@@ -86,5 +86,5 @@ closes-by es ps left sign id ts o (Second a p ∷ qs) e h x w =
       w,
     )
 
-pub reads-close : (es : List Part) (ps : List OpenPair) (left : ExprId) (sign : Sign) (id : ExprId) (ts : List Token) (o : Result (Expr × List Token) (List Token)) → Reads es (ps ++ pairs.Second left sign ∷ []) (turns.After id) (Mark RParen ∷ ts) o → Reads (es ++ parts.Bin sign left id ∷ []) ps (turns.After (next_id es)) ts o
+pub reads-close : (es : List Part) (ps : List OpenPair) (left : ExprId) (sign : Sign) (id : ExprId) (ts : List Token) (o : Result (Expr × List Token) (List Token)) → ExprReads es (ps ++ pairs.Second left sign ∷ []) (turns.After id) (Mark RParen ∷ ts) o → ExprReads (es ++ parts.Bin sign left id ∷ []) ps (turns.After (next_id es)) ts o
 reads-close es ps left sign id ts o h = closes-by es ps left sign id ts o h.0 h.1 h.2 h.3 h.4

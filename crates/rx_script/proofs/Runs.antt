@@ -1,4 +1,4 @@
--- What a run over items says of the trees that the items spell, and of the tokens.
+-- What a items_run over items says of the trees that the items spell, and of the tokens.
 use Rattle.std.proofs.Common.{◌≡◌, List, [], ◌∷◌, ◌++◌, refl, ap, sym, ◌∙◌, append_assoc, append-nil}
 use Rattle.std.specs.Prelude.{Option, Some, None, option_and_then}
 use Rattle.rx_token.specs.declared.token.Token.{Token}
@@ -7,7 +7,7 @@ use Rattle.rx_token.specs.declared.token.Sign.TheVariants.{CloseBrace as RBrace}
 use Rattle.rx_rules.specs.Code.{Stmt, Block, Nothing, Then, SetTo, New, Get, Put, Forget, Print, Throw, Async, AtAsync, At, Finish, If, Repeat, Try}
 use Rattle.rx_nodes.specs.Grammar.{spelling, spellings}
 use Rattle.rx_script.specs.Inside.Items.{Opener, ByAsync, ByAtAsync, ByAt, ByFinish, ByIf, ByRepeat, ByTry, Item, Whole, Open, Close, Else, Catch, item_words, opener_words}
-use Rattle.rx_script.specs.Inside.Machine.{added, Frame, Fore, Other, Handler, State, free, step, run}
+use Rattle.rx_script.specs.Inside.Machine.{added, Frame, Fore, Other, Handler, BlocksRead, free, step, items_run}
 
 -- the items of a statement with one block
 abbrev pub block_items : Opener → List Item → List Item
@@ -91,12 +91,12 @@ joined-added : (ds : Block) (t : Stmt) (ts : Block) → joined (added ds t) ts �
 joined-added Nothing t ts = refl
 joined-added (Then d ds) t ts = ap (Then d) (joined-added ds t ts)
 
-run-body : (b : Block) (outer : List (Block × Frame)) (more rest : List Item) → run (free outer Nothing) (all_items b ++ Close ∷ (more ++ rest)) ≡ run (free outer b) (Close ∷ (more ++ rest)) → run (free outer Nothing) ((all_items b ++ Close ∷ more) ++ rest) ≡ run (free outer b) (Close ∷ (more ++ rest))
-run-body b outer more rest e = ap (run (free outer Nothing)) (append_assoc (all_items b) (Close ∷ more) rest) ∙ e
+run-body : (b : Block) (outer : List (Block × Frame)) (more rest : List Item) → items_run (free outer Nothing) (all_items b ++ Close ∷ (more ++ rest)) ≡ items_run (free outer b) (Close ∷ (more ++ rest)) → items_run (free outer Nothing) ((all_items b ++ Close ∷ more) ++ rest) ≡ items_run (free outer b) (Close ∷ (more ++ rest))
+run-body b outer more rest e = ap (items_run (free outer Nothing)) (append_assoc (all_items b) (Close ∷ more) rest) ∙ e
 
--- each script is run to its own statements
+-- each script is items_run to its own statements
 mutual
-  run-stmt : (t : Stmt) (outer : List (Block × Frame)) (ds : Block) (rest : List Item) → run (free outer ds) (items_of t ++ rest) ≡ run (free outer (added ds t)) rest
+  run-stmt : (t : Stmt) (outer : List (Block × Frame)) (ds : Block) (rest : List Item) → items_run (free outer ds) (items_of t ++ rest) ≡ items_run (free outer (added ds t)) rest
   run-stmt (SetTo n e) outer ds rest = refl
   run-stmt (New n k) outer ds rest = refl
   run-stmt (Get n t e) outer ds rest = refl
@@ -112,29 +112,29 @@ mutual
   run-stmt (Repeat n b) outer ds rest = run-body b ((ds, Fore (ByRepeat n)) ∷ outer) [] rest (run-all b ((ds, Fore (ByRepeat n)) ∷ outer) Nothing (Close ∷ ([] ++ rest)))
   run-stmt (Try a d b) outer ds rest = run-body a ((ds, Fore ByTry) ∷ outer) (Catch d ∷ (all_items b ++ Close ∷ [])) rest (run-all a ((ds, Fore ByTry) ∷ outer) Nothing (Close ∷ ((Catch d ∷ (all_items b ++ Close ∷ [])) ++ rest))) ∙ run-body b ((ds, Handler a d) ∷ outer) [] rest (run-all b ((ds, Handler a d) ∷ outer) Nothing (Close ∷ ([] ++ rest)))
 
-  run-all : (ts : Block) (outer : List (Block × Frame)) (ds : Block) (rest : List Item) → run (free outer ds) (all_items ts ++ rest) ≡ run (free outer (joined ds ts)) rest
-  run-all Nothing outer ds rest = ap (λ d. run (free outer d) rest) (sym (joined-nothing ds))
+  run-all : (ts : Block) (outer : List (Block × Frame)) (ds : Block) (rest : List Item) → items_run (free outer ds) (all_items ts ++ rest) ≡ items_run (free outer (joined ds ts)) rest
+  run-all Nothing outer ds rest = ap (λ d. items_run (free outer d) rest) (sym (joined-nothing ds))
   run-all (Then t ts) outer ds rest =
-      ap (run (free outer ds)) (append_assoc (items_of t) (all_items ts) rest)
+      ap (items_run (free outer ds)) (append_assoc (items_of t) (all_items ts) rest)
       ∙ run-stmt t outer ds (all_items ts ++ rest)
       ∙ run-all ts outer (added ds t) rest
-      ∙ ap (λ d. run (free outer d) rest) (joined-added ds t ts)
+      ∙ ap (λ d. items_run (free outer d) rest) (joined-added ds t ts)
 
 -- a state that has read nothing, and one that has read a whole script
-abbrev pub start : State
+abbrev pub start : BlocksRead
 start = free [] Nothing
 
-pub run-whole : (ts : Block) → run start (all_items ts) ≡ Some (free [] ts)
-run-whole ts = ap (run start) (sym (append-nil (all_items ts))) ∙ run-all ts [] Nothing []
+pub run-whole : (ts : Block) → items_run start (all_items ts) ≡ Some (free [] ts)
+run-whole ts = ap (items_run start) (sym (append-nil (all_items ts))) ∙ run-all ts [] Nothing []
 
-pub run-append : (s : State) (xs ys : List Item) → run s (xs ++ ys) ≡ option_and_then (λ t. run t ys) (run s xs)
+pub run-append : (s : BlocksRead) (xs ys : List Item) → items_run s (xs ++ ys) ≡ option_and_then (λ t. items_run t ys) (items_run s xs)
 run-append s [] ys = refl
 run-append s (x ∷ xs) ys = append-step (step s x) xs ys (λ t. run-append t xs ys)
   where
-    append-step : (o : Option State) (xs ys : List Item) → ((t : State) → run t (xs ++ ys) ≡ option_and_then (λ u. run u ys) (run t xs)) → option_and_then (λ t. run t (xs ++ ys)) o ≡ option_and_then (λ u. run u ys) (option_and_then (λ t. run t xs) o)
+    append-step : (o : Option BlocksRead) (xs ys : List Item) → ((t : BlocksRead) → items_run t (xs ++ ys) ≡ option_and_then (λ u. items_run u ys) (items_run t xs)) → option_and_then (λ t. items_run t (xs ++ ys)) o ≡ option_and_then (λ u. items_run u ys) (option_and_then (λ t. items_run t xs) o)
     append-step None xs ys h = refl
     append-step (Some t) xs ys h = h t
 
--- one run after another
-pub run-on : (s t : State) (xs ys : List Item) (o : Option State) → run s xs ≡ Some t → run t ys ≡ o → run s (xs ++ ys) ≡ o
-run-on s t xs ys o e f = run-append s xs ys ∙ ap (option_and_then (λ u. run u ys)) e ∙ f
+-- one items_run after another
+pub run-on : (s t : BlocksRead) (xs ys : List Item) (o : Option BlocksRead) → items_run s xs ≡ Some t → items_run t ys ≡ o → items_run s (xs ++ ys) ≡ o
+run-on s t xs ys o e f = run-append s xs ys ∙ ap (option_and_then (λ u. items_run u ys)) e ∙ f

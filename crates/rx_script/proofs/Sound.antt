@@ -1,11 +1,11 @@
--- Items that run to a list of statements are its items.
+-- Items that items_run to a list of statements are its items.
 use Rattle.std.proofs.Common.{◌≡◌, List, [], ◌∷◌, ◌++◌, refl, ap, sym, ◌∙◌, subst, append_assoc, append-nil}
 use Rattle.std.specs.Prelude.{Some}
 use Rattle.std.proofs.lemmas.Option.{same_Some}
 use Rattle.rx_rules.specs.Code.{Stmt, Block, Nothing, Then, SetTo, New, Get, Put, Forget, Print, Throw, Async, AtAsync, At, Finish, If, Repeat, Try}
 use Rattle.rx_nodes.specs.Grammar.{Fits, AllFit}
 use Rattle.rx_script.specs.Inside.Items.{ByAsync, ByAtAsync, ByAt, ByFinish, ByIf, ByRepeat, ByTry, Item, Whole, Open, Close, Else, Catch, IsItem, IsSimple}
-use Rattle.rx_script.specs.Inside.Machine.{added, Frame, Fore, Other, Handler, Waits, Free, ForElse, ForCatch, State, free, ended, closed, stepped, step, run}
+use Rattle.rx_script.specs.Inside.Machine.{added, Frame, Fore, Other, Handler, Waits, Free, ForElse, ForCatch, BlocksRead, free, ended, closed, item_stepped, step, items_run}
 use Rattle.rx_script.proofs.Runs.{items_of, all_items, some-and, start}
 
 -- each of them is an item that a script can have
@@ -28,7 +28,7 @@ abbrev before : List (Block × Frame) → List Item
 before [] = []
 before (f ∷ outer) = (before outer ++ all_items f.0) ++ frame_items f.1
 
-abbrev read_by : State → List Item
+abbrev read_by : BlocksRead → List Item
 read_by s = (before s.outer ++ all_items s.so_far) ++ waits_items s.waits
 
 items-added : (ts : Block) (t : Stmt) → all_items (added ts t) ≡ all_items ts ++ items_of t
@@ -74,9 +74,9 @@ read-ended outer ts (Fore ByTry) b = waits-end (before outer ++ all_items ts) (a
 read-ended outer ts (Other e a) b = read-end outer ts (If e a b) (frame_items (Other e a)) b (ap (λ us. Open (ByIf e) ∷ us) (sym (append_assoc (all_items a) (Close ∷ Else ∷ []) (all_items b ++ Close ∷ []))))
 read-ended outer ts (Handler a d) b = read-end outer ts (Try a d b) (frame_items (Handler a d)) b (ap (λ us. Open ByTry ∷ us) (sym (append_assoc (all_items a) (Close ∷ Catch d ∷ []) (all_items b ++ Close ∷ []))))
 
-read-closed : (outer : List (Block × Frame)) (b : Block) (t : State) → closed outer b ≡ Some t → read_by t ≡ ((before outer ++ all_items b) ++ []) ++ Close ∷ []
+read-closed : (outer : List (Block × Frame)) (b : Block) (t : BlocksRead) → closed outer b ≡ Some t → read_by t ≡ ((before outer ++ all_items b) ++ []) ++ Close ∷ []
 read-closed [] b t e = cc
-read-closed (f ∷ outer) b t e = subst (λ (u : State). read_by u ≡ ((before (f ∷ outer) ++ all_items b) ++ []) ++ Close ∷ []) (same_Some _ t e) (read-ended outer f.0 f.1 b)
+read-closed (f ∷ outer) b t e = subst (λ (u : BlocksRead). read_by u ≡ ((before (f ∷ outer) ++ all_items b) ++ []) ++ Close ∷ []) (same_Some _ t e) (read-ended outer f.0 f.1 b)
 
 adds-whole : (p q all : List Item) (x : Item) → all ≡ q ++ x ∷ [] → (p ++ all) ++ [] ≡ ((p ++ q) ++ []) ++ x ∷ []
 adds-whole p q all x e = ap (λ us. (p ++ us) ++ []) e ∙ (simp (append_assoc, append-nil))
@@ -84,30 +84,30 @@ adds-whole p q all x e = ap (λ us. (p ++ us) ++ []) e ∙ (simp (append_assoc, 
 adds-open : (p : List Item) (x : Item) → ((p ++ x ∷ []) ++ []) ++ [] ≡ (p ++ []) ++ x ∷ []
 adds-open p x = simp (append_assoc, append-nil)
 
-read-stepped : (outer : List (Block × Frame)) (ts : Block) (w : Waits) (x : Item) (t : State) → IsItem x → stepped outer ts w x ≡ Some t → read_by t ≡ ((before outer ++ all_items ts) ++ waits_items w) ++ x ∷ []
+read-stepped : (outer : List (Block × Frame)) (ts : Block) (w : Waits) (x : Item) (t : BlocksRead) → IsItem x → item_stepped outer ts w x ≡ Some t → read_by t ≡ ((before outer ++ all_items ts) ++ waits_items w) ++ x ∷ []
 read-stepped outer ts Free (Whole s) t i e =
-    subst (λ (u : State). read_by u ≡ ((before outer ++ all_items ts) ++ []) ++ Whole s ∷ []) (same_Some _ t e)
+    subst (λ (u : BlocksRead). read_by u ≡ ((before outer ++ all_items ts) ++ []) ++ Whole s ∷ []) (same_Some _ t e)
     (adds-whole (before outer) (all_items ts) (all_items (added ts s)) (Whole s) (items-added ts s ∙ ap (λ us. all_items ts ++ us) (items-simple s i)))
 read-stepped outer ts Free (Open o) t i e =
-    subst (λ (u : State). read_by u ≡ ((before outer ++ all_items ts) ++ []) ++ Open o ∷ []) (same_Some _ t e)
+    subst (λ (u : BlocksRead). read_by u ≡ ((before outer ++ all_items ts) ++ []) ++ Open o ∷ []) (same_Some _ t e)
     (adds-open (before outer ++ all_items ts) (Open o))
 read-stepped outer ts Free Close t i e = read-closed outer ts t e
 read-stepped outer ts (ForElse c a) Else t i e =
-    subst (λ (u : State). read_by u ≡ ((before outer ++ all_items ts) ++ waits_items (ForElse c a)) ++ Else ∷ []) (same_Some _ t e)
+    subst (λ (u : BlocksRead). read_by u ≡ ((before outer ++ all_items ts) ++ waits_items (ForElse c a)) ++ Else ∷ []) (same_Some _ t e)
     (waits-on (before outer ++ all_items ts) (all_items a) (Open (ByIf c)) Else)
 read-stepped outer ts (ForCatch a) (Catch d) t i e =
-    subst (λ (u : State). read_by u ≡ ((before outer ++ all_items ts) ++ waits_items (ForCatch a)) ++ Catch d ∷ []) (same_Some _ t e)
+    subst (λ (u : BlocksRead). read_by u ≡ ((before outer ++ all_items ts) ++ waits_items (ForCatch a)) ++ Catch d ∷ []) (same_Some _ t e)
     (waits-on (before outer ++ all_items ts) (all_items a) (Open ByTry) (Catch d))
 read-stepped outer ts _ _ t i e = cc
 
-read-run : (s : State) (xs : List Item) (t : State) → AllItems xs → run s xs ≡ Some t → read_by t ≡ read_by s ++ xs
-read-run s [] t i e = subst (λ (u : State). read_by u ≡ read_by s ++ []) (same_Some _ t e) (sym (append-nil (read_by s)))
+read-run : (s : BlocksRead) (xs : List Item) (t : BlocksRead) → AllItems xs → items_run s xs ≡ Some t → read_by t ≡ read_by s ++ xs
+read-run s [] t i e = subst (λ (u : BlocksRead). read_by u ≡ read_by s ++ []) (same_Some _ t e) (sym (append-nil (read_by s)))
 read-run s (x ∷ xs) t i e =
-    let m = some-and (step s x) (λ u. run u xs) t e in
+    let m = some-and (step s x) (λ u. items_run u xs) t e in
     read-run m.0 xs t i.1 m.2 ∙ ap (λ ys. ys ++ xs) (read-stepped s.outer s.so_far s.waits x m.0 i.0 m.1) ∙ append_assoc (read_by s) (x ∷ []) xs
 
--- items that run to a list of statements are its items
-pub sound : (xs : List Item) (ts : Block) → AllItems xs → run start xs ≡ Some (free [] ts) → xs ≡ all_items ts
+-- items that items_run to a list of statements are its items
+pub sound : (xs : List Item) (ts : Block) → AllItems xs → items_run start xs ≡ Some (free [] ts) → xs ≡ all_items ts
 sound xs ts i e = sym (read-run start xs (free [] ts) i e) ∙ append-nil (all_items ts)
 
 pub all-append : (xs ys : List Item) → AllItems xs → AllItems ys → AllItems (xs ++ ys)

@@ -14,7 +14,7 @@ use Rattle.rx_nodes.specs.Shape.{op_of}
 use Rattle.rx_nodes.specs.Grammar.{sign_of}
 use Rattle.rx_script.specs.Inside.Readers.{Reader, after, then, done, picked, choose}
 use Rattle.rx_script.specs.Inside.Exprs.{Pair, First, Second, operand, whole, expr}
-use Rattle.rx_script.specs.Inside.Items.{Opener, ByAsync, ByAtAsync, ByAt, ByFinish, ByIf, ByRepeat, ByTry, Item, Whole, Open, Close, Else, Catch, IsItem, IsSimple, IsOpener, item_words, called, in_range, counted, brace, semicolon, equals, square, end_square, ends, opens, at_body, statement, statement_or_end, else_word, dead_word, catch_word, Mode, Outermost, Inside, AfterFirst, AfterBody, item_at, Stands}
+use Rattle.rx_script.specs.Inside.Items.{Opener, ByAsync, ByAtAsync, ByAt, ByFinish, ByIf, ByRepeat, ByTry, Item, Whole, Open, Close, Else, Catch, IsItem, IsSimple, IsOpener, item_words, called, number_in_range, counted, brace, semicolon, equals_then, square, end_square, ends, opens, at_body, statement, statement_or_end, else_word, dead_word, catch_word, Mode, Outermost, Inside, AfterFirst, AfterBody, item_at, MayStand}
 
 op-of-sign : (o : Op) → op_of (sign_of o) ≡ o
 op-of-sign Add = refl
@@ -110,7 +110,7 @@ after-called P pre f g (t ∷ ts) = tt
 gives-called : (P : Item → Type 0) (pre : List Token) (f : ℕ → Reader Item) → ((n : ℕ) → Gives P (pre ++ Called n ∷ []) (f n)) → Gives P pre (then (choose called) f)
 gives-called P pre f g = record { given = after-called P pre f g }
 
-gives-range : (P : Item → Type 0) (all : List Token) (f : ℕ → Reader Item) (n : ℕ) (ts : List Token) (b : Bool) → (b ≡ true → IsGiven P all (f n ts)) → IsGiven P all (after (picked (in_range b n) (Number (pos n)) ts) f)
+gives-range : (P : Item → Type 0) (all : List Token) (f : ℕ → Reader Item) (n : ℕ) (ts : List Token) (b : Bool) → (b ≡ true → IsGiven P all (f n ts)) → IsGiven P all (after (picked (number_in_range b n) (Number (pos n)) ts) f)
 gives-range P all f n ts true g = g refl
 gives-range P all f n ts false g = tt
 
@@ -143,11 +143,11 @@ semicolon-gives P pre r g _ = tt
 gives-ends : (P : Item → Type 0) (pre : List Token) (x : Item) → P x → pre ++ Mark Semicolon ∷ [] ≡ item_words x → Gives P pre (ends x)
 gives-ends P pre x p e = gives-choose P pre _ (semicolon-gives P pre (done x) (gives-done P _ x p e))
 
-equals-gives : (P : Item → Type 0) (pre : List Token) (r : Reader Item) → Gives P (pre ++ Mark Equals ∷ []) r → (t : Token) → GivesPick P (pre ++ t ∷ []) (equals r t)
+equals-gives : (P : Item → Type 0) (pre : List Token) (r : Reader Item) → Gives P (pre ++ Mark Equals ∷ []) r → (t : Token) → GivesPick P (pre ++ t ∷ []) (equals_then r t)
 equals-gives P pre r g (Mark Equals) = g
 equals-gives P pre r g _ = tt
 
-gives-equals : (P : Item → Type 0) (pre : List Token) (r : Reader Item) → Gives P (pre ++ Mark Equals ∷ []) r → Gives P pre (choose (equals r))
+gives-equals : (P : Item → Type 0) (pre : List Token) (r : Reader Item) → Gives P (pre ++ Mark Equals ∷ []) r → Gives P pre (choose (equals_then r))
 gives-equals P pre r g = gives-choose P pre _ (equals-gives P pre r g)
 
 square-gives : (P : Item → Type 0) (pre : List Token) (r : Reader Item) → Gives P (pre ++ Mark LSquare ∷ []) r → (t : Token) → GivesPick P (pre ++ t ∷ []) (square r t)
@@ -204,7 +204,7 @@ catch-gives P p _ = tt
 
 -- an item that may stand here
 abbrev pub IsHere : Mode → Item → Type 0
-IsHere m x = IsItem x × Stands m x
+IsHere m x = IsItem x × MayStand m x
 
 item-gives : (m : Mode) → Gives (IsHere m) [] (item_at m)
 item-gives Outermost = gives-choose _ [] _ (statement-gives _ (λ s i. (i, tt)) (λ o i. (i, tt)))
@@ -221,7 +221,7 @@ back : {A : Type 0} (f : Expr → Reader A) (e : Expr) (tail rest : List Token) 
 back f e tail rest o h = ap (λ us. after (operand us []) f) (append_assoc (spell e) tail rest) ∙ ap (λ p. after p f) (again-expr e (tail ++ rest) []) ∙ h
 
 back-range : {A : Type 0} (ok : ℕ → Bool) (f : ℕ → Reader A) (n : ℕ) (ts : List Token) (o : Result (A × List Token) (List Token)) → ok n ≡ true → f n ts ≡ o → then (choose (counted ok)) f (Number (pos n) ∷ ts) ≡ o
-back-range ok f n ts o e h = ap (λ b. after (picked (in_range b n) (Number (pos n)) ts) f) e ∙ h
+back-range ok f n ts o e h = ap (λ b. after (picked (number_in_range b n) (Number (pos n)) ts) f) e ∙ h
 
 abbrev Again : (Token → Option (Reader Item)) → Item → Type 0
 Again pick x = (rest : List Token) → choose pick (item_words x ++ rest) ≡ Ok (x, rest)
@@ -230,7 +230,7 @@ again-simple : (s : Stmt) → IsSimple s → Again statement (Whole s)
 again-simple (SetTo n e) i rest = back (λ e. ends (Whole (SetTo n e))) e _ rest _ refl
 again-simple (New n k) i rest = back-range may_hold (λ k. ends (Whole (New n k))) k _ _ i refl
 again-simple (Get n t e) i rest = back (λ e. choose (end_square (ends (Whole (Get n t e))))) e _ rest _ refl
-again-simple (Put t p e) i rest = back (λ i. choose (end_square (choose (equals (then expr (λ e. ends (Whole (Put t i e)))))))) p _ rest _ (back (λ e. ends (Whole (Put t p e))) e _ rest _ refl)
+again-simple (Put t p e) i rest = back (λ i. choose (end_square (choose (equals_then (then expr (λ e. ends (Whole (Put t i e)))))))) p _ rest _ (back (λ e. ends (Whole (Put t p e))) e _ rest _ refl)
 again-simple (Forget t) i rest = refl
 again-simple (Print e) i rest = back (λ e. ends (Whole (Print e))) e _ rest _ refl
 again-simple (Throw e) i rest = back (λ e. ends (Whole (Throw e))) e _ rest _ refl

@@ -24,7 +24,7 @@ use Rattle.rx_script.specs.declared.writer.Part.TheVariants.{One, Value, From}
 use Rattle.rx_nodes.specs.Shape.{Shape, ExprStands, StmtIs, ListStands, Stands}
 use Rattle.rx_nodes.specs.Grammar.{spell, catch_words, spelling, spellings}
 use Rattle.rx_token.specs.Texts.{spaced}
-use Rattle.rx_script.specs.Inside.Unwritten.{PartStands, PartsStand, front_of, rest_of, block_parts, catch_parts, expr_front, expr_rest, Wrote}
+use Rattle.rx_script.specs.Inside.Unwritten.{PartStands, PartsStand, front_of, parts_after, block_parts, catch_parts, expr_front, expr_rest, Wrote}
 use Rattle.rx_script.proofs.Spelt.{sign-of-op}
 
 -- parts one after another stand for their tokens one after another
@@ -71,7 +71,7 @@ handler : (s : Shape) (d : Bool) (k : BlockId) (ids : List StmtId) (b : Block) �
 handler s false k ids b at x = one s (Key KCatch) _ _ (body s k ids b _ _ at x (brace s))
 handler s true k ids b at x = one s (Key KCatch) _ _ (one s (Key KDead) _ _ (body s k ids b _ _ at x (brace s)))
 
-pub stmt-parts : (s : Shape) (node : Node) (t : Stmt) → StmtIs s node t → After s (front_of node) (rest_of node) (spelling t)
+pub stmt-parts : (s : Shape) (node : Node) (t : Stmt) → StmtIs s node t → After s (front_of node) (parts_after node) (spelling t)
 stmt-parts s (nodes.Set name index) (SetTo n e) h = record { left = Called name.0 ∷ Mark Equals ∷ (spell e ++ Mark Semicolon ∷ []); whole = ap (λ m. spelling (SetTo m e)) h.0; stands = one s _ _ _ (one s _ _ _ (value s index e _ _ h.1 (semicolon s))) }
 stmt-parts s (nodes.New name words) (New n w) h = record { left = Called name.0 ∷ Mark Equals ∷ Number (pos words) ∷ Mark Semicolon ∷ []; whole = ap (λ m. spelling (New m w)) h.0 ∙ ap (λ m. spelling (New name.0 m)) h.1; stands = one s _ _ _ (one s _ _ _ (one s _ _ _ (semicolon s))) }
 stmt-parts s (nodes.Get name target index) (Get n t e) h = record { left = Called name.0 ∷ Mark Equals ∷ Called target.0 ∷ Mark LSquare ∷ (spell e ++ Mark RSquare ∷ Mark Semicolon ∷ []); whole = ap (λ m. spelling (Get m t e)) h.0 ∙ ap (λ m. spelling (Get name.0 m e)) h.1; stands = one s _ _ _ (one s _ _ _ (one s _ _ _ (one s _ _ _ (value s index e _ _ h.2 (one s _ _ _ (semicolon s)))))) }
@@ -96,7 +96,7 @@ stmt-parts s (nodes.Try first dead_only second) (Try a d b) h = record {
 }
 stmt-parts s _ _ h = absurd h
 
-few : (s : Node) → length (rest_of s) ≤ 8
+few : (s : Node) → length (parts_after s) ≤ 8
 few (nodes.Set name index) = omega arith
 few (nodes.New name words) = omega arith
 few (nodes.Get name target index) = omega arith
@@ -161,20 +161,20 @@ pub value-after : (s : Shape) (id : ExprId) (node : Leaf) (us : List Token) → 
 value-after s id node us at h = subst (λ (ts : List Token). After s (expr_front node) (expr_rest node) ts) (sym h.2) (expr-parts s id node h.0 at h.1)
 
 -- the statement in front of a block, and the others
-item-parts : (s : Shape) (k : BlockId) (i : ℕ) (ids : List StmtId) (id : StmtId) (node : Node) (b : Block) → slice_get s.blocks k.0 ≡ Some ids → slice_get s.stmts id.0 ≡ Some node → ListStands s (id ∷ drop (i + 1) ids) b → After s (front_of node) (rest_of node ++ From k (i + 1) ∷ []) (spellings b)
+item-parts : (s : Shape) (k : BlockId) (i : ℕ) (ids : List StmtId) (id : StmtId) (node : Node) (b : Block) → slice_get s.blocks k.0 ≡ Some ids → slice_get s.stmts id.0 ≡ Some node → ListStands s (id ∷ drop (i + 1) ids) b → After s (front_of node) (parts_after node ++ From k (i + 1) ∷ []) (spellings b)
 item-parts s k i ids id node Nothing in_blocks in_stmts h = absurd h
 item-parts s k i ids id node (Then t ts) in_blocks in_stmts h =
     let e : h.0.0 ≡ node = cc in
     let a = stmt-parts s node t (subst (λ (n : Node). StmtIs s n t) e h.0.2) in
     let others : PartsStand s (From k (i + 1) ∷ []) (spellings ts) = (spellings ts, [], sym (append-nil (spellings ts)), (ids, ts, in_blocks, h.1, refl), refl) in
-    record { left = a.left ++ spellings ts; whole = ap (λ us. us ++ spellings ts) a.whole; stands = record { held = parts-append s (rest_of node) (From k (i + 1) ∷ []) a.left (spellings ts) a.stands.held others } }
+    record { left = a.left ++ spellings ts; whole = ap (λ us. us ++ spellings ts) a.whole; stands = record { held = parts-append s (parts_after node) (From k (i + 1) ∷ []) a.left (spellings ts) a.stands.held others } }
 
-pub item-after : (s : Shape) (k : BlockId) (i : ℕ) (ids : List StmtId) (id : StmtId) (node : Node) (us : List Token) → slice_get s.blocks k.0 ≡ Some ids → slice_get ids i ≡ Some id → slice_get s.stmts id.0 ≡ Some node → PartStands s (From k i) us → After s (front_of node) (rest_of node ++ From k (i + 1) ∷ []) us
+pub item-after : (s : Shape) (k : BlockId) (i : ℕ) (ids : List StmtId) (id : StmtId) (node : Node) (us : List Token) → slice_get s.blocks k.0 ≡ Some ids → slice_get ids i ≡ Some id → slice_get s.stmts id.0 ≡ Some node → PartStands s (From k i) us → After s (front_of node) (parts_after node ++ From k (i + 1) ∷ []) us
 item-after s k i ids id node us in_blocks in_ids in_stmts h =
     let e : ids ≡ h.0 = cc in
     let f : drop i h.0 ≡ id ∷ drop (i + 1) ids = ap (drop i) (sym e) ∙ drop-suc ids i id in_ids ∙ ap (λ j. id ∷ drop j ids) (sym (add-one i)) in
     let x : ListStands s (id ∷ drop (i + 1) ids) h.1 = subst (λ (js : List StmtId). ListStands s js h.1) f h.3 in
-    subst (λ (ts : List Token). After s (front_of node) (rest_of node ++ From k (i + 1) ∷ []) ts) (sym h.4) (item-parts s k i ids id node h.1 in_blocks in_stmts x)
+    subst (λ (ts : List Token). After s (front_of node) (parts_after node ++ From k (i + 1) ∷ []) ts) (sym h.4) (item-parts s k i ids id node h.1 in_blocks in_stmts x)
 
 none-left : (s : Shape) (b : Block) → ListStands s [] b → spellings b ≡ []
 none-left s Nothing h = refl
@@ -206,12 +206,12 @@ item-known s k i id ts h at =
     let here : slice_get h.0 i ≡ Some id = at-list s.blocks k.0 h.0 (λ ids. slice_get ids i ≡ Some id) h.2 at in
     first-known s id (drop (suc i) h.0) h.1 (subst (λ (js : List StmtId). ListStands s js h.1) (drop-suc h.0 i id here) h.3)
 
-pub item-wrote : (s : Shape) (k : BlockId) (i : ℕ) (id : StmtId) (node : Node) (old new : List ℕ) (ps ns qs : List Part) (ts : List Token) → IfSome (slice_get s.blocks k.0) (λ ids. slice_get ids i ≡ Some id) → slice_get s.stmts id.0 ≡ Some node → ns ≡ ps ++ From k (i + 1) ∷ [] → new ≡ old ++ spaced s.names (front_of node) → qs ≡ ns ++ reverse (rest_of node) → PartsStand s (From k i ∷ reverse ps) ts → Wrote s old new (reverse qs) ts
+pub item-wrote : (s : Shape) (k : BlockId) (i : ℕ) (id : StmtId) (node : Node) (old new : List ℕ) (ps ns qs : List Part) (ts : List Token) → IfSome (slice_get s.blocks k.0) (λ ids. slice_get ids i ≡ Some id) → slice_get s.stmts id.0 ≡ Some node → ns ≡ ps ++ From k (i + 1) ∷ [] → new ≡ old ++ spaced s.names (front_of node) → qs ≡ ns ++ reverse (parts_after node) → PartsStand s (From k i ∷ reverse ps) ts → Wrote s old new (reverse qs) ts
 item-wrote s k i id node old new ps ns qs ts at in_stmts pushed text parts h =
     let in_blocks : slice_get s.blocks k.0 ≡ Some h.3.0 = h.3.2 in
     let in_ids : slice_get h.3.0 i ≡ Some id = at-list s.blocks k.0 h.3.0 (λ ids. slice_get ids i ≡ Some id) in_blocks at in
-    let order : reverse qs ≡ (rest_of node ++ From k (i + 1) ∷ []) ++ reverse ps = ap reverse (parts ∙ ap (λ ms. ms ++ reverse (rest_of node)) pushed) ∙ reverse-more (ps ++ From k (i + 1) ∷ []) (rest_of node) ∙ ap (λ ms. rest_of node ++ ms) (reverse-append ps (From k (i + 1) ∷ [])) ∙ sym (append_assoc (rest_of node) (From k (i + 1) ∷ []) (reverse ps)) in
-    went-on s old new (From k i) (front_of node) (rest_of node ++ From k (i + 1) ∷ []) (reverse ps) (reverse qs) ts (λ us. item-after s k i h.3.0 id node us in_blocks in_ids in_stmts) text order h
+    let order : reverse qs ≡ (parts_after node ++ From k (i + 1) ∷ []) ++ reverse ps = ap reverse (parts ∙ ap (λ ms. ms ++ reverse (parts_after node)) pushed) ∙ reverse-more (ps ++ From k (i + 1) ∷ []) (parts_after node) ∙ ap (λ ms. parts_after node ++ ms) (reverse-append ps (From k (i + 1) ∷ [])) ∙ sym (append_assoc (parts_after node) (From k (i + 1) ∷ []) (reverse ps)) in
+    went-on s old new (From k i) (front_of node) (parts_after node ++ From k (i + 1) ∷ []) (reverse ps) (reverse qs) ts (λ us. item-after s k i h.3.0 id node us in_blocks in_ids in_stmts) text order h
 
 pub value-known : (s : Shape) (id : ExprId) (ts : List Token) → PartStands s (Value id) ts → id.0 < length s.exprs
 value-known s id ts h = let p = leaf-parts s id h.0 h.1 in slice_get_within s.exprs id.0 p.0 p.1

@@ -3,11 +3,11 @@ use Rattle.std.specs.Prelude.{ℕ, List, [], ◌∷◌, ◌++◌}
 use Rattle.rx_rules.specs.Code.{Block}
 use Rattle.rx_nodes.specs.Grammar.{spellings, AllFit, IsScriptOf}
 use Rattle.rx_token.specs.Tokens.{AreNames}
-use Rattle.rx_token.specs.Texts.{joined, AreSpelled}
+use Rattle.rx_token.specs.Texts.{with_blanks, AreSpelled}
 
 -- the text of a script with these names: its tokens and a newline
 abbrev pub script_text : List (List ℕ) → Block → List ℕ
-script_text names b = joined names (spellings b) ++ 10 ∷ []
+script_text names b = with_blanks names (spellings b) ++ 10 ∷ []
 
 -- what was written is a script with the same names and the same tree
 abbrev pub WrittenReadsBack : Type 0

@@ -1,9 +1,9 @@
-// Reads an expression with the open pairs of parentheses on a list, without recursion.
+// ExprReads an expression with the open pairs of parentheses on a list, without recursion.
 ghost use Rattle.std.specs.Prelude.{◌≡◌, ◌+◌, ◌^◌, ◌<◌, ◌≤◌, List, [], ◌∷◌, ◌++◌, Result, length, vec_len, IfOk, OnOk};
 ghost use Rattle.rx_rules.specs.Code.{Expr as Tree};
 ghost use Rattle.rx_script.specs.Inside.Exprs.{expr};
 ghost use Rattle.rx_script.specs.Inside.Pieces.{Grows, IsExprAnswer};
-ghost use Rattle.rx_script.specs.Inside.Turns.{Reads, Steps};
+ghost use Rattle.rx_script.specs.Inside.Turns.{ExprReads, Steps};
 ghost use Rattle.rx_script.specs.declared.exprs.Turn.TheVariants as turns;
 
 use rx_base::NoMemory;
@@ -43,7 +43,7 @@ fn operand_step(
     requires { vec_len exprs.old < 2 ^ 32 }
     ensures grows { OnOk result (Grows exprs.old.items exprs.new.items) }
     ensures step { IfOk result (λ went. (ts : List Token) (o : Result (Tree × List Token) (List Token))
-        → Reads exprs.old.items pairs.old.items turns.Operand (token ∷ ts) o
+        → ExprReads exprs.old.items pairs.old.items turns.Operand (token ∷ ts) o
         → Steps exprs.new.items pairs.new.items went token ts o) }
     ensures few { OnOk result (vec_len exprs.new ≤ vec_len exprs.old + 1) }
 {
@@ -70,7 +70,7 @@ fn whole_step(
     requires { vec_len exprs.old < 2 ^ 32 }
     ensures grows { OnOk result (Grows exprs.old.items exprs.new.items) }
     ensures step { IfOk result (λ went. (ts : List Token) (o : Result (Tree × List Token) (List Token))
-        → Reads exprs.old.items (pairs.old.items ++ pair ∷ []) (turns.After id) (token ∷ ts) o
+        → ExprReads exprs.old.items (pairs.old.items ++ pair ∷ []) (turns.After id) (token ∷ ts) o
         → Steps exprs.new.items pairs.new.items went token ts o) }
     ensures few { OnOk result (vec_len exprs.new ≤ vec_len exprs.old + 1) }
 {
@@ -98,7 +98,7 @@ fn whole_step(
     }
 }
 
-// Reads the expression in front, or answers what is left from the token that can't go on.
+// ExprReads the expression in front, or answers what is left from the token that can't go on.
 pub(crate) fn expression<'a>(
     exprs: &mut Vec<Expr>,
     tokens: &'a [Token],

@@ -11,9 +11,10 @@ ghost use Rattle.rx_script.specs.Faults.{IsFaultAt};
 ghost use Rattle.rx_token.specs.Texts.{AreSpelled};
 ghost use Rattle.rx_nodes.specs.Shape.{Stands, ListStands, IsSmall};
 ghost use Rattle.rx_token.specs.Tables.{names_of};
-ghost use Rattle.rx_script.specs.Inside.Machine.{State, mode};
+ghost use Rattle.rx_script.specs.Inside.Machine.{BlocksRead, mode};
 ghost use Rattle.rx_script.specs.Inside.Pieces.{mode_of};
-ghost use Rattle.rx_script.specs.Inside.Arena.{Holds, MayTake, Takes, Adds, Opens, Shuts, Makes, Counts, IsParsed, blocks_of, shape_of};
+ghost use Rattle.rx_script.specs.Inside.Arena.{ReaderHolds, MayTake, Takes, Adds, Opens, Shuts, BlockMakes, GrowsByOne, IsParsed};
+ghost use Rattle.rx_script.specs.Inside.Arena.{blocks_of, shape_of};
 
 use crate::items::{Item, Mode, Opener, next_item};
 use rx_base::NoMemory;
@@ -111,7 +112,7 @@ fn open(reader: &mut Reader, owner: Owner) -> Result<(), NoMemory>
     Ok(())
 }
 
-// Makes a block of the statements that are pending from there on.
+// BlockMakes a block of the statements that are pending from there on.
 fn shut(alloc: Global, reader: &mut Reader, start: usize) -> Result<BlockId, NoMemory>
     requires start { start ≤ vec_len reader.old.pending }
     requires blocks { vec_len reader.old.blocks < 2 ^ 31 }
@@ -125,10 +126,10 @@ fn shut(alloc: Global, reader: &mut Reader, start: usize) -> Result<BlockId, NoM
     Ok(block)
 }
 
-// Makes what the front of a statement and its block are.
+// BlockMakes what the front of a statement and its block are.
 fn end_front(reader: &mut Reader, opener: Opener, body: BlockId) -> Result<(), NoMemory>
     requires { vec_len reader.old.stmts < 2 ^ 31 }
-    ensures { OnOk result (Makes reader.old (Front opener) body reader.new) }
+    ensures { OnOk result (BlockMakes reader.old (Front opener) body reader.new) }
 {
     match opener {
         Opener::Async => add(reader, Stmt::Async { body }),
@@ -147,10 +148,10 @@ fn end_front(reader: &mut Reader, opener: Opener, body: BlockId) -> Result<(), N
     }
 }
 
-// Makes what a block belongs to, now that the block is whole.
+// BlockMakes what a block belongs to, now that the block is whole.
 fn end_block(reader: &mut Reader, owner: Owner, block: BlockId) -> Result<(), NoMemory>
     requires { vec_len reader.old.stmts < 2 ^ 31 }
-    ensures { OnOk result (Makes reader.old owner block reader.new) }
+    ensures { OnOk result (BlockMakes reader.old owner block reader.new) }
 {
     match owner {
         Owner::Front(opener) => end_front(reader, opener, block),
@@ -179,7 +180,7 @@ fn close(alloc: Global, reader: &mut Reader) -> Result<(), NoMemory>
     requires blocks { vec_len reader.old.blocks < 2 ^ 31 }
     requires may { MayTake reader.old Close }
     ensures takes { OnOk result (Takes reader.old Close reader.new) }
-    ensures counts { OnOk result (Counts reader.old reader.new) }
+    ensures counts { OnOk result (GrowsByOne reader.old reader.new) }
 {
     match reader.frames.pop() {
         None => unreachable!(),
@@ -194,7 +195,7 @@ fn close(alloc: Global, reader: &mut Reader) -> Result<(), NoMemory>
 fn open_else(reader: &mut Reader) -> Result<(), NoMemory>
     requires { MayTake reader.old Else }
     ensures takes { OnOk result (Takes reader.old Else reader.new) }
-    ensures counts { OnOk result (Counts reader.old reader.new) }
+    ensures counts { OnOk result (GrowsByOne reader.old reader.new) }
 {
     match reader.waiting {
         Waiting::Free => unreachable!(),
@@ -207,7 +208,7 @@ fn open_else(reader: &mut Reader) -> Result<(), NoMemory>
 fn open_handler(reader: &mut Reader, dead_only: bool) -> Result<(), NoMemory>
     requires { MayTake reader.old (Catch dead_only) }
     ensures takes { OnOk result (Takes reader.old (Catch dead_only) reader.new) }
-    ensures counts { OnOk result (Counts reader.old reader.new) }
+    ensures counts { OnOk result (GrowsByOne reader.old reader.new) }
 {
     match reader.waiting {
         Waiting::Free => unreachable!(),
@@ -222,7 +223,7 @@ fn take_item(alloc: Global, reader: &mut Reader, item: Item) -> Result<(), NoMem
     requires blocks { vec_len reader.old.blocks < 2 ^ 31 }
     requires may { MayTake reader.old item }
     ensures takes { OnOk result (Takes reader.old item reader.new) }
-    ensures counts { OnOk result (Counts reader.old reader.new) }
+    ensures counts { OnOk result (GrowsByOne reader.old reader.new) }
 {
     match item {
         Item::Whole(stmt) => add(reader, stmt),
@@ -235,7 +236,7 @@ fn take_item(alloc: Global, reader: &mut Reader, item: Item) -> Result<(), NoMem
 
 // Where the next item stands.
 fn next_mode(reader: &Reader) -> Mode
-    ensures { (s : State) → Holds reader.now s → mode_of result ≡ mode s }
+    ensures { (s : BlocksRead) → ReaderHolds reader.now s → mode_of result ≡ mode s }
 {
     match reader.waiting {
         Waiting::Free => {
@@ -289,7 +290,7 @@ fn parse(alloc: Global, tokens: &[Token]) -> Result<Result<Reader, usize>, NoMem
     Ok(Ok(reader))
 }
 
-// Makes a script of what was read, where no block is open.
+// BlockMakes a script of what was read, where no block is open.
 fn finish(reader: Reader, names: Vec<Vec<u8>>) -> Result<Script, NoMemory>
     requires blocks { vec_len reader.blocks < 2 ^ 31 }
     requires pending { vec_len reader.pending < 2 ^ 31 }

@@ -9,7 +9,7 @@ ghost use Rattle.rx_nodes.specs.Grammar.{spellings, IsScriptOf};
 ghost use Rattle.rx_token.specs.declared.token.Token.{Token};
 ghost use Rattle.rx_token.specs.Texts.{spaced};
 ghost use Rattle.rx_script.specs.Writing.{script_text};
-ghost use Rattle.rx_script.specs.Inside.Unwritten.{PartStands, PartsStand, front_of, rest_of, named as named_part, block_parts};
+ghost use Rattle.rx_script.specs.Inside.Unwritten.{PartStands, PartsStand, front_of, parts_after, named as named_part, block_parts};
 ghost use Rattle.rx_script.specs.Inside.Unwritten.{catch_parts, expr_front, expr_rest, Wrote, turns_left};
 
 use rx_base::NoMemory;
@@ -148,7 +148,7 @@ fn put_catch(parts: &mut Vec<Part>, dead_only: bool) -> Result<(), NoMemory>
 // Puts the parts of a statement after its first token in front of the others.
 #[tactic(auto, using(std::proofs::Common::append_assoc))]
 fn put_rest(parts: &mut Vec<Part>, stmt: Stmt) -> Result<(), NoMemory>
-    ensures { OnOk result (parts.new.items ≡ parts.old.items ++ reverse (rest_of stmt)) }
+    ensures { OnOk result (parts.new.items ≡ parts.old.items ++ reverse (parts_after stmt)) }
 {
     match stmt {
         Stmt::Set { name, value } => put_parts(

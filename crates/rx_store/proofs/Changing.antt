@@ -5,10 +5,10 @@ use Rattle.std.proofs.lemmas.Bool.{cases_lt, cases_eq, and_parts, and_from, eqb-
 use Rattle.std.proofs.lemmas.List.{get_or-append_right, get_or_append_left, get_or-replicate, length-replicate}
 use Rattle.std.proofs.lemmas.Option.{same_Some, none-some}
 use Rattle.rx_base.specs.declared.ids.GlobalRef.{GlobalRef}
-use Rattle.rx_heap.specs.Region.{Region, IsLive, IsLaid, IsFree}
+use Rattle.rx_heap.specs.Region.{Region, IsLiveExtent, IsLaid, IsFree}
 use Rattle.rx_rules.specs.Store.{Live, is_block, set_word}
 use Rattle.rx_store.specs.declared.table.Held.{Held}
-use Rattle.rx_store.specs.Table.{slot_at, extent_of, Backs, BacksAll, Lists, Holds, AllLive}
+use Rattle.rx_store.specs.Table.{slot_at, extent_of, Backs, BacksAll, Lists, TableHolds, AllLive}
 use Rattle.rx_store.proofs.Giving.{slot_within}
 use Rattle.rx_store.proofs.Holding.{all_live}
 
@@ -23,7 +23,7 @@ elsewhere R slots r h b at same other backs e =
     true-false (sym (and_from _ _ (eq-eqb _ _ e) (eq-eqb _ _ generation)) ∙ other)
 
 -- the words of a block are words of the heap
-block_inside : (R : Region) (b : Live) → IsLaid R → IsLive R (extent_of b) → b.start + length b.words ≤ length R.words
+block_inside : (R : Region) (b : Live) → IsLaid R → IsLiveExtent R (extent_of b) → b.start + length b.words ≤ length R.words
 block_inside R b laid live =
     let there = live.there in
     let some = live.some in
@@ -38,7 +38,7 @@ blocks_apart R s n t k i j laid es et ne li lj e = elim (cases_lt s t) [
 ]
 
 -- forgotten: the block of the reference is out of the table and not live
-pub forget_holds : (R S : Region) (slots : List (Option Held)) (bs : List Live) (r : GlobalRef) (h : Held) → Holds R slots bs → IsLaid S → S.words ≡ R.words → slot_at slots r.start ≡ Some h → h.generation ≡ r.generation → S.lengths ≡ set R.lengths h.block.start 0 → Holds S (set slots r.start None) (filter (λ b. not (is_block r b)) bs)
+pub forget_holds : (R S : Region) (slots : List (Option Held)) (bs : List Live) (r : GlobalRef) (h : Held) → TableHolds R slots bs → IsLaid S → S.words ≡ R.words → slot_at slots r.start ≡ Some h → h.generation ≡ r.generation → S.lengths ≡ set R.lengths h.block.start 0 → TableHolds S (set slots r.start None) (filter (λ b. not (is_block r b)) bs)
 forget_holds R S slots bs r h holds laid words at same gone =
     let begins = (all_live R slots bs holds).starts r.start h at in
     let within = slot_within slots r.start h at in
@@ -94,7 +94,7 @@ forget_holds R S slots bs r h holds laid words at same gone =
         ]
 
 -- written: word k of the block of the reference
-pub put_holds : (R S : Region) (slots : List (Option Held)) (bs : List Live) (r : GlobalRef) (h : Held) (k : ℕ) (v : ℤ) → Holds R slots bs → IsLaid S → S.lengths ≡ R.lengths → S.words ≡ set R.words (h.block.start + k) v → slot_at slots r.start ≡ Some h → h.generation ≡ r.generation → k < h.block.len → Holds S slots (map (λ b. cond (is_block r b) (set_word (pos k) v b) b) bs)
+pub put_holds : (R S : Region) (slots : List (Option Held)) (bs : List Live) (r : GlobalRef) (h : Held) (k : ℕ) (v : ℤ) → TableHolds R slots bs → IsLaid S → S.lengths ≡ R.lengths → S.words ≡ set R.words (h.block.start + k) v → slot_at slots r.start ≡ Some h → h.generation ≡ r.generation → k < h.block.len → TableHolds S slots (map (λ b. cond (is_block r b) (set_word (pos k) v b) b) bs)
 put_holds R S slots bs r h k v holds laid lengths words at same lt = record {
   size = holds.size ∙ sym (ap (λ (z : List ℤ). length z) words ∙ length-set R.words (h.block.start + k) v);
   laid = laid;
@@ -196,7 +196,7 @@ made_zero ws s n i inside lt =
     ∙ get_or-replicate n i (pos 0) (pos 0) lt
 
 -- made: n words at s, which were free
-pub make_holds : (R S : Region) (slots : List (Option Held)) (bs : List Live) (s n g : ℕ) → Holds R slots bs → IsLaid S → 0 < n → IsFree R n s → S.lengths ≡ set R.lengths s n → S.words ≡ take s R.words ++ (replicate n (pos 0) ++ drop (s + n) R.words) → length S.words ≡ length R.words → Holds S (set slots s (Some (record { generation = g; block = record { start = s; len = n } }))) (record { start = s; generation = g; words = replicate n (pos 0) } ∷ bs)
+pub make_holds : (R S : Region) (slots : List (Option Held)) (bs : List Live) (s n g : ℕ) → TableHolds R slots bs → IsLaid S → 0 < n → IsFree R n s → S.lengths ≡ set R.lengths s n → S.words ≡ take s R.words ++ (replicate n (pos 0) ++ drop (s + n) R.words) → length S.words ≡ length R.words → TableHolds S (set slots s (Some (record { generation = g; block = record { start = s; len = n } }))) (record { start = s; generation = g; words = replicate n (pos 0) } ∷ bs)
 make_holds R S slots bs s n g holds laid some free lengths words same = record {
   size = length-set slots s _ ∙ holds.size ∙ sym same;
   laid = laid;
@@ -259,7 +259,7 @@ none_if None never = refl
 none_if (Some h) never = absurd (never h refl)
 
 -- where words are free the table has no block
-pub free_slot : (R : Region) (slots : List (Option Held)) (bs : List Live) (s n : ℕ) → Holds R slots bs → 0 < n → IsFree R n s → slot_at slots s ≡ None
+pub free_slot : (R : Region) (slots : List (Option Held)) (bs : List Live) (s n : ℕ) → TableHolds R slots bs → 0 < n → IsFree R n s → slot_at slots s ≡ None
 free_slot R slots bs s n holds some free = none_if (slot_at slots s) (λ h e.
     let live = all_live R slots bs holds in
     let begins = live.starts s h e in

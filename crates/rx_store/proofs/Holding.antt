@@ -5,11 +5,11 @@ use Rattle.std.specs.List.{find, list_all}
 use Rattle.std.proofs.lemmas.Bool.{cases_lt, and_parts, and_from, eqb-true, eq-eqb, leb-true, le-leb, or_cases, or_left, cases_Bool, or_right, false_from_ne_true}
 use Rattle.std.proofs.lemmas.Option.{same_Some}
 use Rattle.rx_base.specs.declared.ids.GlobalRef.{GlobalRef}
-use Rattle.rx_heap.specs.Region.{Region, Extent, IsLive, IsFree, IsLeastFree}
+use Rattle.rx_heap.specs.Region.{Region, Extent, IsLiveExtent, IsFree, IsLeastFree}
 use Rattle.rx_rules.specs.Store.{Live, State, is_block, block_of, is_apart, fits, set_word}
 use Rattle.rx_rules.specs.Store as law
 use Rattle.rx_store.specs.declared.table.Held.{Held}
-use Rattle.rx_store.specs.Table.{slot_at, Backs, BacksAll, Lists, Holds, AllLive}
+use Rattle.rx_store.specs.Table.{slot_at, Backs, BacksAll, Lists, TableHolds, AllLive}
 
 -- the listed block with this start and generation, which is in the table
 record Listed (R : Region) (slots : List (Option Held)) (bs : List Live) (s g : ℕ) : Type 0 where
@@ -36,7 +36,7 @@ find_listed R slots (b ∷ bs) r all l = elim (cases_Bool (is_block r b)) [
     true-false q = cc
 
 -- the block of a reference, where the table has it
-pub found : (R : Region) (slots : List (Option Held)) (S : State) (r : GlobalRef) (h : Held) → Holds R slots S.blocks → slot_at slots r.start ≡ Some h → h.generation ≡ r.generation → (b : Live) × (block_of S r ≡ Some b) × (b.start ≡ r.start) × (b.generation ≡ r.generation) × Backs R slots b
+pub found : (R : Region) (slots : List (Option Held)) (S : State) (r : GlobalRef) (h : Held) → TableHolds R slots S.blocks → slot_at slots r.start ≡ Some h → h.generation ≡ r.generation → (b : Live) × (block_of S r ≡ Some b) × (b.start ≡ r.start) × (b.generation ≡ r.generation) × Backs R slots b
 found R slots S r h holds at same =
     let L : ℕ → Type 0 = λ z. Lists S.blocks r.start z in
     find_listed R slots S.blocks r holds.backed (subst L same (holds.listed r.start h at))
@@ -53,7 +53,7 @@ not_found R slots (b ∷ bs) r all none = elim (cases_Bool (is_block r b)) [
 ]
 
 -- each block of the table is live
-pub all_live : (R : Region) (slots : List (Option Held)) (bs : List Live) → Holds R slots bs → AllLive R slots
+pub all_live : (R : Region) (slots : List (Option Held)) (bs : List Live) → TableHolds R slots bs → AllLive R slots
 all_live R slots bs holds = record {
   starts = λ k h e.
       let b = listed k h e in
@@ -62,7 +62,7 @@ all_live R slots bs holds = record {
   live = λ k h e.
       let b = listed k h e in
       let same = same_Some _ _ (sym e ∙ ap (slot_at slots) (sym b.start) ∙ b.backs.slot) in
-      let V : Extent → Type 0 = λ z. IsLive R z in
+      let V : Extent → Type 0 = λ z. IsLiveExtent R z in
       subst V (sym (ap (λ (z : Held). z.block) same)) b.backs.live;
 }
   where
@@ -98,7 +98,7 @@ fits_from_free R slots S n a all some f = and_from _ _ (le-leb _ _ f.inside) (ap
         ]
 
 -- and the other way
-pub free_from_fits : (R : Region) (slots : List (Option Held)) (S : State) (n a : ℕ) → Holds R slots S.blocks → fits (length R.words) S n a ≡ true → IsFree R n a
+pub free_from_fits : (R : Region) (slots : List (Option Held)) (S : State) (n a : ℕ) → TableHolds R slots S.blocks → fits (length R.words) S n a ≡ true → IsFree R n a
 free_from_fits R slots S n a holds t =
     let parts = and_parts _ _ t in
     record {
@@ -121,10 +121,10 @@ free_from_fits R slots S n a holds t =
           | inr e ↦ let le : b.start + length b.words ≤ a = leb-true (b.start + length b.words) a e in omega arith
         ]
 
-pub none_fits : (R : Region) (slots : List (Option Held)) (S : State) (n : ℕ) → Holds R slots S.blocks → ((a : ℕ) → IsFree R n a → ⊥) → (a : ℕ) → fits (length R.words) S n a ≡ false
+pub none_fits : (R : Region) (slots : List (Option Held)) (S : State) (n : ℕ) → TableHolds R slots S.blocks → ((a : ℕ) → IsFree R n a → ⊥) → (a : ℕ) → fits (length R.words) S n a ≡ false
 none_fits R slots S n holds none a = false_from_ne_true _ (λ t. none a (free_from_fits R slots S n a holds t))
 
-pub least_fits : (R : Region) (slots : List (Option Held)) (S : State) (n a : ℕ) → Holds R slots S.blocks → 0 < n → IsLeastFree R n a → law.IsLeastFree (length R.words) S n a
+pub least_fits : (R : Region) (slots : List (Option Held)) (S : State) (n a : ℕ) → TableHolds R slots S.blocks → 0 < n → IsLeastFree R n a → law.IsLeastFree (length R.words) S n a
 least_fits R slots S n a holds some least = record {
   here = fits_from_free R slots S n a holds.backed some least.here;
   least = λ b less. false_from_ne_true _ (λ t. least.least b less (free_from_fits R slots S n b holds t));

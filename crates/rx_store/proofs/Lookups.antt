@@ -7,14 +7,14 @@ use Rattle.rx_heap.specs.Region.{Region}
 use Rattle.rx_rules.specs.declared.events.Cell.TheVariants.{Get}
 use Rattle.rx_rules.specs.Store.{Live, State, block_of, is_index, word_at, Reads, Refuses, MayCell}
 use Rattle.rx_store.specs.declared.table.Held.{Held}
-use Rattle.rx_store.specs.Table.{slot_at, Backs, Holds, IsLocated, IsUnlocated}
+use Rattle.rx_store.specs.Table.{slot_at, Backs, TableHolds, IsLocated, IsUnlocated}
 use Rattle.rx_store.proofs.Holding.{found, not_found}
 
 -- the list that the code reads is the table
 pub at_table : (slots now : List (Option Held)) (s : ℕ) (h : Held) → now ≡ slots → slot_at now s ≡ Some h → slot_at slots s ≡ Some h
 at_table slots now s h e at = let P : List (Option Held) → Type 0 = λ z. slot_at z s ≡ Some h in subst P e at
 
-pub law_stale : (R : Region) (slots now : List (Option Held)) (S : State) (r : GlobalRef) → Holds R slots S.blocks → now ≡ slots → ((h : Held) → slot_at now r.start ≡ Some h → h.generation ≡ r.generation → ⊥) → block_of S r ≡ None
+pub law_stale : (R : Region) (slots now : List (Option Held)) (S : State) (r : GlobalRef) → TableHolds R slots S.blocks → now ≡ slots → ((h : Held) → slot_at now r.start ≡ Some h → h.generation ≡ r.generation → ⊥) → block_of S r ≡ None
 law_stale R slots now S r holds e none =
     let P : List (Option Held) → Type 0 = λ z. (h : Held) → slot_at z r.start ≡ Some h → h.generation ≡ r.generation → ⊥ in
     not_found R slots S.blocks r holds.backed (subst P e none)
@@ -28,7 +28,7 @@ pub record IsFound (R : Region) (slots : List (Option Held)) (S : State) (r : Gl
   pub len : h.block.len ≡ length block.words
   pub backs : Backs R slots block
 
-pub is_found : (R : Region) (slots : List (Option Held)) (S : State) (r : GlobalRef) (h : Held) → Holds R slots S.blocks → slot_at slots r.start ≡ Some h → h.generation ≡ r.generation → IsFound R slots S r h
+pub is_found : (R : Region) (slots : List (Option Held)) (S : State) (r : GlobalRef) (h : Held) → TableHolds R slots S.blocks → slot_at slots r.start ≡ Some h → h.generation ≡ r.generation → IsFound R slots S r h
 is_found R slots S r h holds at same =
     let b = found R slots S r h holds at same in
     let held = same_Some _ _ (sym at ∙ ap (slot_at slots) (sym b.2) ∙ b.4.slot) in
@@ -47,13 +47,13 @@ law_index R slots S r h i f outside =
     (f.block, f.is, subst I f.len outside)
 
 -- what the code could not locate the law refuses
-pub law_refused : (R : Region) (slots now : List (Option Held)) (S : State) (r : GlobalRef) (i : ℤ) (stale : Bool) → Holds R slots S.blocks → now ≡ slots → IsUnlocated now r i stale → Refuses S r i stale
+pub law_refused : (R : Region) (slots now : List (Option Held)) (S : State) (r : GlobalRef) (i : ℤ) (stale : Bool) → TableHolds R slots S.blocks → now ≡ slots → IsUnlocated now r i stale → Refuses S r i stale
 law_refused R slots now S r i true holds e none = law_stale R slots now S r holds e none
 law_refused R slots now S r i false holds e (h, at, same, outside) =
     law_index R slots S r h i (is_found R slots S r h holds (at_table slots now r.start h e at) same) outside
 
 -- what the code has located is found
-pub located_found : (R : Region) (slots now : List (Option Held)) (S : State) (r : GlobalRef) (i : ℤ) (h : Held) (at : ℕ) → Holds R slots S.blocks → now ≡ slots → IsLocated now r i h at → IsFound R slots S r h
+pub located_found : (R : Region) (slots now : List (Option Held)) (S : State) (r : GlobalRef) (i : ℤ) (h : Held) (at : ℕ) → TableHolds R slots S.blocks → now ≡ slots → IsLocated now r i h at → IsFound R slots S r h
 located_found R slots now S r i h at holds e l = is_found R slots S r h holds (at_table slots now r.start h e l.slot) l.generation
 
 index_true : (k n : ℕ) → k < n → (int_le (pos 0) (pos k) && int_lt (pos k) (pos n)) ≡ true

@@ -11,8 +11,8 @@ use Rattle.rx_history.specs.Events.{Events}
 use Rattle.rx_store.specs.declared.calls.Mark.{Mark}
 use Rattle.rx_store.specs.declared.table.Held.{Held}
 use Rattle.rx_store.specs.Kept.{Kept, state_of, ends_closed}
-use Rattle.rx_store.specs.Answers.{Tells}
-use Rattle.rx_store.specs.Table.{Holds, IsSteady}
+use Rattle.rx_store.specs.Answers.{StoreTells}
+use Rattle.rx_store.specs.Table.{TableHolds, IsSteady}
 use Rattle.rx_store.proofs.Running.{run_done, state_done, closed_done, stamp_done, run_close, closed_close, stamp_close, state_close}
 use Rattle.rx_store.proofs.Holding.{all_live}
 
@@ -32,7 +32,7 @@ pub record IsTold (R S : Region) (J K : Events) (last late : ℕ) (closed : Bool
   pub words : length S.words ≡ length R.words
   pub law : MayCell (length R.words) (state_of J.events) cell
 
-pub told_steady : (R S : Region) (slots slots' : List (Option Held)) (made made' : ℕ) (J K : Events) (last late : ℕ) (closed : Bool) (m : Mark) (cell : Cell) → IsTold R S J K last late closed m cell → IsSteady R slots made J.events J.spare last closed → Holds S slots' (after_cell (state_of J.events) cell).blocks → made' ≡ (after_cell (state_of J.events) cell).made → IsSteady S slots' made' K.events K.spare late closed
+pub told_steady : (R S : Region) (slots slots' : List (Option Held)) (made made' : ℕ) (J K : Events) (last late : ℕ) (closed : Bool) (m : Mark) (cell : Cell) → IsTold R S J K last late closed m cell → IsSteady R slots made J.events J.spare last closed → TableHolds S slots' (after_cell (state_of J.events) cell).blocks → made' ≡ (after_cell (state_of J.events) cell).made → IsSteady S slots' made' K.events K.spare late closed
 told_steady R S slots slots' made made' J K last late closed m cell t s h made_is =
     let stamp = max m.stamp last in
     let K' : Events = record { events = J.events ++ Done m.task stamp cell m.path ∷ []; spare = J.spare - 1 } in
@@ -41,7 +41,7 @@ told_steady R S slots slots' made made' J K last late closed m cell t s h made_i
     let is_open = sym s.closed_is ∙ t.open' in
     let room' : 0 < J.spare - 1 = (let C : Bool → Type 0 = λ z. 0 < cond z J.spare (J.spare - 1) in subst C t.open' t.room) in
     let after = state_done opening_state J.events m.task stamp cell m.path in
-    let H : State → Type 0 = λ z. Holds S slots' z.blocks in
+    let H : State → Type 0 = λ z. TableHolds S slots' z.blocks in
     let made : P K' = record {
       run = subst W (sym t.words) (run_done (length R.words) opening_state false J.events m.task stamp cell m.path s.run is_open t.law);
       closed_is = t.open' ∙ sym (closed_done false J.events m.task stamp cell m.path);
@@ -60,11 +60,11 @@ told_steady R S slots slots' made made' J K last late closed m cell t s h made_i
 same_kept : (place : PlaceId) (w v p q : ℕ) (es fs : List PlaceEvent) → w ≡ v → es ≡ fs → p ≡ q → Kept-is place w es p ≡ Kept-is place v fs q
 same_kept place w v p q es fs a b c = ap (λ z. Kept-is place z es p) a ∙ ap (λ z. Kept-is place v z p) b ∙ ap (λ z. Kept-is place v fs z) c
 
-pub told_tells : (place : PlaceId) (R S : Region) (slots : List (Option Held)) (made : ℕ) (J K : Events) (last late : ℕ) (closed : Bool) (m : Mark) (cell : Cell) → IsTold R S J K last late closed m cell → IsSteady R slots made J.events J.spare last closed → Tells (seen place R J closed) (seen place S K closed) m cell
+pub told_tells : (place : PlaceId) (R S : Region) (slots : List (Option Held)) (made : ℕ) (J K : Events) (last late : ℕ) (closed : Bool) (m : Mark) (cell : Cell) → IsTold R S J K last late closed m cell → IsSteady R slots made J.events J.spare last closed → StoreTells (seen place R J closed) (seen place S K closed) m cell
 told_tells place R S slots made J K last late closed m cell t s =
     let stamp = max m.stamp last in
     let K' : Events = record { events = J.events ++ Done m.task stamp cell m.path ∷ []; spare = J.spare - 1 } in
-    let P : Events → Type 0 = λ z. Tells (seen place R J closed) (seen place S z closed) m cell in
+    let P : Events → Type 0 = λ z. StoreTells (seen place R J closed) (seen place S z closed) m cell in
     let C : Bool → Type 0 = λ z. cond z (J.spare - 1) (J.spare - 1 - 1) ≡ cond z J.spare (J.spare - 1) - 1 in
     let spare : C closed = subst C (sym t.open') refl in
     let made : P K' = record {

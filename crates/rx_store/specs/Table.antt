@@ -3,7 +3,7 @@ use Rattle.std.specs.Prelude.{◌≡◌, ℕ, ◌+◌, ◌<◌, ◌⊎◌, ℤ, 
 use Rattle.std.specs.Prelude.{slice_index, slice_index_or, Option}
 use Rattle.std.specs.Prelude.{Some, None}
 use Rattle.rx_base.specs.declared.ids.GlobalRef.{GlobalRef}
-use Rattle.rx_heap.specs.Region.{Region, Extent, IsLive, IsLaid}
+use Rattle.rx_heap.specs.Region.{Region, Extent, IsLiveExtent, IsLaid}
 use Rattle.rx_rules.specs.declared.events.PlaceEvent.{PlaceEvent}
 use Rattle.rx_rules.specs.Store.{Live, opening_state, IsStoreRun}
 use Rattle.rx_store.specs.declared.table.Held.{Held}
@@ -20,7 +20,7 @@ extent_of b = record { start = b.start; len = length b.words }
 -- the block of the law is in the table and live in the heap, and the heap has its words
 pub record Backs (R : Region) (slots : List (Option Held)) (b : Live) : Type 0 where
   pub slot : slot_at slots b.start ≡ Some (record { generation = b.generation; block = extent_of b })
-  pub live : IsLive R (extent_of b)
+  pub live : IsLiveExtent R (extent_of b)
   pub words : (i : ℕ) → i < length b.words → slice_index_or R.words (b.start + i) (pos 0) ≡ slice_index_or b.words i (pos 0)
 
 -- so it is for each block
@@ -34,7 +34,7 @@ Lists [] s g = ⊥
 Lists (b ∷ bs) s g = ((b.start ≡ s) × (b.generation ≡ g)) ⊎ Lists bs s g
 
 -- the table and the heap stand for these blocks
-pub record Holds (R : Region) (slots : List (Option Held)) (blocks : List Live) : Type 0 where
+pub record TableHolds (R : Region) (slots : List (Option Held)) (blocks : List Live) : Type 0 where
   pub size : length slots ≡ length R.words
   pub laid : IsLaid R
   pub backed : BacksAll R slots blocks
@@ -44,7 +44,7 @@ pub record Holds (R : Region) (slots : List (Option Held)) (blocks : List Live) 
 -- each block of the table is live in the heap, at its place
 pub record AllLive (R : Region) (slots : List (Option Held)) : Type 0 where
   pub starts : (k : ℕ) (h : Held) → slot_at slots k ≡ Some h → h.block.start ≡ k
-  pub live : (k : ℕ) (h : Held) → slot_at slots k ≡ Some h → IsLive R h.block
+  pub live : (k : ℕ) (h : Held) → slot_at slots k ≡ Some h → IsLiveExtent R h.block
 
 -- the block is the reference's, and the index names this word of it
 pub record IsLocated (slots : List (Option Held)) (r : GlobalRef) (i : ℤ) (h : Held) (at : ℕ) : Type 0 where
@@ -70,5 +70,5 @@ pub record IsSteady (R : Region) (slots : List (Option Held)) (made : ℕ) (even
   pub made_is : made ≡ (state_of events).made
   pub live : AllLive R slots
   pub room : closed ≡ false → 0 < spare
-  pub holds : closed ≡ false → Holds R slots (state_of events).blocks
+  pub holds : closed ≡ false → TableHolds R slots (state_of events).blocks
   pub none_left : closed ≡ true → slots ≡ []

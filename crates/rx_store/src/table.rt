@@ -1,7 +1,7 @@
 // The table of live blocks, by the word at which each begins.
 ghost use Rattle.std.specs.Prelude.{◌≡◌, ℕ, ◌+◌, ◌<◌, ◌≤◌, ◌&&◌, pos, false, Some, None, [], length, slice_set, replicate, vec_len};
 ghost use Rattle.std.specs.Prelude.{int_le, int_lt, IfOk, IfErr, IfSome, IfNone, MatchOption};
-ghost use Rattle.rx_heap.specs.Region.{IsLive, IsLaid};
+ghost use Rattle.rx_heap.specs.Region.{IsLiveExtent, IsLaid};
 ghost use Rattle.rx_store.specs.Table.{slot_at, AllLive, IsLocated, IsUnlocated};
 
 use rx_base::{GlobalRef, NoMemory};

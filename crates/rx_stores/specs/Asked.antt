@@ -8,7 +8,7 @@ use Rattle.rx_rules.specs.Store.{MayCell}
 use Rattle.rx_rules.specs.Terms.{Does, Local, Makes, Gets, Puts, Forgets, Opens, Calls, Spawns, Waits, Releases, Prints, Done, answer_of}
 use Rattle.rx_rules.specs.Plays.{Tells}
 use Rattle.rx_store.specs.Kept.{Kept, state_of}
-use Rattle.rx_store.specs.Answers.{event_of}
+use Rattle.rx_store.specs.Answers.{event_told}
 use Rattle.rx_store.specs.declared.calls.Mark.{Mark}
 use Rattle.rx_control.specs.declared.step.CellOp.{CellOp}
 use Rattle.rx_control.specs.declared.step.CellOp.TheVariants.{Make, Get, Put, Forget}
@@ -38,15 +38,15 @@ Receives (Prints value) o = Unit {0}
 Receives (Done faults) o = Unit {0}
 
 -- a task that makes the call is told what the event tells
-abbrev pub IsTold : PlaceId → CellOp → Result (Option Value) Fault → Cell → Type 0
-IsTold here op answer cell =
+abbrev pub CallIsTold : PlaceId → CellOp → Result (Option Value) Fault → Cell → Type 0
+CallIsTold here op answer cell =
     (d : Does) (o : Option ℕ) → next_of d ≡ CellStep op → Receives d o → Tells d here cell (answer_of o answer)
 
 -- the store, which was open, has made the call and its journal has the event
 pub record Asked (old new : Kept) (m : Mark) (op : CellOp) (answer : Result (Option Value) Fault) : Type 0 where
   pub cell : Cell
   pub law : MayCell old.words (state_of old.events) cell
-  pub events : new.events ≡ old.events ++ event_of old.events m cell ∷ []
+  pub events : new.events ≡ old.events ++ event_told old.events m cell ∷ []
   pub place : new.place ≡ old.place
   pub words : new.words ≡ old.words
-  pub told : IsTold old.place op answer cell
+  pub told : CallIsTold old.place op answer cell

@@ -6,9 +6,9 @@ use Rattle.rx_token.specs.declared.token.Token.TheVariants.{Key, Called, Number,
 use Rattle.rx_token.specs.declared.token.Lexeme.{Lexeme}
 use Rattle.rx_token.specs.declared.token.Lexeme.TheVariants as lexemes
 use Rattle.rx_token.specs.Lexical.{skipped, padded, token_at}
-use Rattle.rx_token.specs.Tokens.{lexeme_of, InOrder, AreDistinct, IsName, AreNames}
+use Rattle.rx_token.specs.Tokens.{lexeme_of, NamesInOrder, AreDistinct, IsName, AreNames}
 use Rattle.rx_token.specs.Scans.{Scans}
-use Rattle.rx_token.specs.Names.{Counts}
+use Rattle.rx_token.specs.Names.{NamesUpTo}
 use Rattle.rx_token.proofs.Naming.{some-none}
 use Rattle.rx_token.proofs.Naming.{one-name}
 
@@ -60,18 +60,18 @@ told-is names (Oper o) x e = inl (ap told (sym (same_Some _ x e)))
 told-is names (Mark s) x e = inl (ap told (sym (same_Some _ x e)))
 told-is names Bad x e = cc
 
-told-counts : (k j : ℕ) (x : Lexeme) (t : Token) → told x ≡ Some t → Counts k t j → j ≡ k
-told-counts k j (lexemes.Word w) t e c = subst (λ u. Counts k u j) (sym (same_Some _ t e)) c
+told-counts : (k j : ℕ) (x : Lexeme) (t : Token) → told x ≡ Some t → NamesUpTo k t j → j ≡ k
+told-counts k j (lexemes.Word w) t e c = subst (λ u. NamesUpTo k u j) (sym (same_Some _ t e)) c
 told-counts k j (lexemes.Name n) t e c = cc
-told-counts k j (lexemes.Number n) t e c = subst (λ u. Counts k u j) (sym (same_Some _ t e)) c
-told-counts k j (lexemes.Oper o) t e c = subst (λ u. Counts k u j) (sym (same_Some _ t e)) c
-told-counts k j (lexemes.Mark s) t e c = subst (λ u. Counts k u j) (sym (same_Some _ t e)) c
+told-counts k j (lexemes.Number n) t e c = subst (λ u. NamesUpTo k u j) (sym (same_Some _ t e)) c
+told-counts k j (lexemes.Oper o) t e c = subst (λ u. NamesUpTo k u j) (sym (same_Some _ t e)) c
+told-counts k j (lexemes.Mark s) t e c = subst (λ u. NamesUpTo k u j) (sym (same_Some _ t e)) c
 
 -- the same token, the same count of names after it, and the names agree up to there
 abbrev AreSame : List (List ℕ) → List (List ℕ) → Token → Token → ℕ → ℕ → Type 0
 AreSame names other t u j l = (t ≡ u) × (j ≡ l) × Agree j names other
 
-same-name : (names other : List (List ℕ)) (k m p j l : ℕ) (v w : List ℕ) → AreListed names → AreListed other → Agree k names other → slice_get names m ≡ Some v → slice_get other p ≡ Some w → v ≡ w → Counts k (Called m) j → Counts k (Called p) l → AreSame names other (Called m) (Called p) j l
+same-name : (names other : List (List ℕ)) (k m p j l : ℕ) (v w : List ℕ) → AreListed names → AreListed other → Agree k names other → slice_get names m ≡ Some v → slice_get other p ≡ Some w → v ≡ w → NamesUpTo k (Called m) j → NamesUpTo k (Called p) l → AreSame names other (Called m) (Called p) j l
 same-name names other k m p j l v w ln lo a f g e (inl c) (inl d) =
     let same : m ≡ p = lo.distinct m p w (sym (a m c.0) ∙ f ∙ ap (λ x. Some x) e) g in
     (ap Called same, c.1 ∙ sym d.1, subst (λ n. Agree n names other) (sym c.1) a)
@@ -86,7 +86,7 @@ same-name names other k m p j l v w ln lo a f g e (inr c) (inr d) =
     (ap Called (c.0 ∙ sym d.0), c.1 ∙ sym d.1, subst (λ n. Agree n names other) (sym c.1) (agree-more k names other a here))
 
 same-token : (names other : List (List ℕ)) (k : ℕ) (t u : Token) (x : Lexeme) (j l : ℕ) → AreListed names → AreListed other → Agree k names other
-    → (told x ≡ Some t) ⊎ IsNamed names t x → (told x ≡ Some u) ⊎ IsNamed other u x → Counts k t j → Counts k u l → AreSame names other t u j l
+    → (told x ≡ Some t) ⊎ IsNamed names t x → (told x ≡ Some u) ⊎ IsNamed other u x → NamesUpTo k t j → NamesUpTo k u l → AreSame names other t u j l
 same-token names other k t u x j l ln lo a (inl e) (inl f) c d =
     let first : j ≡ k = told-counts k j x t e c in
     (same_Some t u (sym e ∙ f), first ∙ sym (told-counts k l x u f d), subst (λ n. Agree n names other) (sym first) a)
@@ -95,7 +95,7 @@ same-token names other k t u x j l ln lo a (inr e) (inl f) c d = absurd (some-no
 same-token names other k t u x j l ln lo a (inr e) (inr f) c d =
     let filled : padded e.1 ≡ padded f.1 = name-is _ _ (sym e.4 ∙ f.4) in
     let same : e.1 ≡ f.1 = one-name e.1 f.1 (ln.are_names e.0 e.1 e.3) (lo.are_names f.0 f.1 f.3) filled in
-    let r = same-name names other k e.0 f.0 j l e.1 f.1 ln lo a e.3 f.3 same (subst (λ (v : Token). Counts k v j) e.2 c) (subst (λ (v : Token). Counts k v l) f.2 d) in
+    let r = same-name names other k e.0 f.0 j l e.1 f.1 ln lo a e.3 f.3 same (subst (λ (v : Token). NamesUpTo k v j) e.2 c) (subst (λ (v : Token). NamesUpTo k v l) f.2 d) in
     (e.2 ∙ r.0 ∙ sym f.2, r.1, r.2)
   where
     name-is : (p q : List ℕ) → lexemes.Name p ≡ lexemes.Name q → p ≡ q
@@ -131,7 +131,7 @@ some-left names n bytes t ts (at ∷ starts) s e = by (first names n bytes t ts 
     by (inr b) = b.3 e
 
 -- how many names there are after the first token
-order-first : (k last : ℕ) (t : Token) (ts : List Token) → InOrder k (t ∷ ts) last → (j : ℕ) × Counts k t j × InOrder j ts last
+order-first : (k last : ℕ) (t : Token) (ts : List Token) → NamesInOrder k (t ∷ ts) last → (j : ℕ) × NamesUpTo k t j × NamesInOrder j ts last
 order-first k last (Key x) ts o = (k, refl, o)
 order-first k last (Called x) ts (inl o) = (k, inl (o.0, refl), o.1)
 order-first k last (Called x) ts (inr o) = (k + 1, inr (o.0, refl), o.1)
@@ -140,10 +140,10 @@ order-first k last (Oper x) ts o = (k, refl, o)
 order-first k last (Mark x) ts o = (k, refl, o)
 order-first k last Bad ts o = (k, refl, o)
 
-bad-order : (k last : ℕ) (t : Token) (ts : List Token) → t ≡ Bad → ts ≡ [] → InOrder k (t ∷ ts) last → k ≡ last
+bad-order : (k last : ℕ) (t : Token) (ts : List Token) → t ≡ Bad → ts ≡ [] → NamesInOrder k (t ∷ ts) last → k ≡ last
 bad-order k last t ts e f o =
-    let p : InOrder k (Bad ∷ ts) last = subst (λ (u : Token). InOrder k (u ∷ ts) last) e o in
-    let q : InOrder k (Bad ∷ []) last = subst (λ (us : List Token). InOrder k (Bad ∷ us) last) f p in
+    let p : NamesInOrder k (Bad ∷ ts) last = subst (λ (u : Token). NamesInOrder k (u ∷ ts) last) e o in
+    let q : NamesInOrder k (Bad ∷ []) last = subst (λ (us : List Token). NamesInOrder k (Bad ∷ us) last) f p in
     q
 
 same-start : (n at to : ℕ) (left : List ℕ) → at + length left ≡ n → to + length left ≡ n → at ≡ to
@@ -154,8 +154,8 @@ abbrev OneScan : List (List ℕ) → List (List ℕ) → List Token → List Tok
 OneScan names other ts us starts more = (names ≡ other) × (ts ≡ us) × (starts ≡ more)
 
 one-more : (names other : List (List ℕ)) (n k : ℕ) (bytes : List ℕ) (t u : Token) (ts us : List Token) (at to : ℕ) (starts more : List ℕ) → AreListed names → AreListed other → Agree k names other
-    → ((j : ℕ) (after : List ℕ) → Agree j names other → Scans names n after ts starts → InOrder j ts (length names) → Scans other n after us more → InOrder j us (length other) → OneScan names other ts us starts more)
-    → InOrder k (t ∷ ts) (length names) → InOrder k (u ∷ us) (length other)
+    → ((j : ℕ) (after : List ℕ) → Agree j names other → Scans names n after ts starts → NamesInOrder j ts (length names) → Scans other n after us more → NamesInOrder j us (length other) → OneScan names other ts us starts more)
+    → NamesInOrder k (t ∷ ts) (length names) → NamesInOrder k (u ∷ us) (length other)
     → IsFirst names n bytes t ts at starts ⊎ IsBad n bytes t ts at starts → IsFirst other n bytes u us to more ⊎ IsBad n bytes u us to more
     → OneScan names other (t ∷ ts) (u ∷ us) (at ∷ starts) (to ∷ more)
 one-more names other n k bytes t u ts us at to starts more ln lo a rest o p (inl s) (inl r) =
@@ -165,7 +165,7 @@ one-more names other n k bytes t u ts us at to starts more ln lo a rest o p (inl
     let q = order-first k (length names) t ts o in
     let w = order-first k (length other) u us p in
     let same = same-token names other k t u s.0 q.0 w.0 ln lo a (told-is names t s.0 s.2) (told-is other u s.0 (r.2 ∙ ap (λ (x : Lexeme). Some x) (sym lexeme))) q.1 w.1 in
-    let all = rest q.0 s.1 same.2 s.5 q.2 (subst (λ bs. Scans other n bs us more) (sym after) r.5) (subst (λ j. InOrder j us (length other)) (sym same.1) w.2) in
+    let all = rest q.0 s.1 same.2 s.5 q.2 (subst (λ bs. Scans other n bs us more) (sym after) r.5) (subst (λ j. NamesInOrder j us (length other)) (sym same.1) w.2) in
     let start : at ≡ to = same-start n at to (skipped false bytes) s.4 r.4 in
     (all.0, ap (λ v. v ∷ ts) same.0 ∙ ap (λ vs. u ∷ vs) all.1, ap (λ v. v ∷ starts) start ∙ ap (λ vs. to ∷ vs) all.2)
 one-more names other n k bytes t u ts us at to starts more ln lo a rest o p (inl s) (inr r) = absurd (some-none (s.0, s.1) (sym s.3 ∙ r.4))
@@ -178,7 +178,7 @@ one-more names other n k bytes t u ts us at to starts more ln lo a rest o p (inr
     )
 
 one-from : (names other : List (List ℕ)) (n k : ℕ) (bytes : List ℕ) (ts us : List Token) (starts more : List ℕ) → AreListed names → AreListed other → Agree k names other
-    → Scans names n bytes ts starts → InOrder k ts (length names) → Scans other n bytes us more → InOrder k us (length other) → OneScan names other ts us starts more
+    → Scans names n bytes ts starts → NamesInOrder k ts (length names) → Scans other n bytes us more → NamesInOrder k us (length other) → OneScan names other ts us starts more
 one-from names other n k bytes [] [] starts more ln lo a s o r p = (all-agree k names other a o p, refl, s.1 ∙ sym r.1)
 one-from names other n k bytes [] (u ∷ us) starts more ln lo a s o r p = absurd (some-left other n bytes u us more r s.0)
 one-from names other n k bytes (t ∷ ts) [] starts more ln lo a s o r p = absurd (some-left names n bytes t ts starts s r.0)

@@ -20,9 +20,9 @@ use Rattle.rx_token.specs.declared.token.Token.{Token}
 use Rattle.rx_token.specs.declared.token.Token.TheVariants.{Key, Called, Number, Oper, Mark, Bad}
 use Rattle.rx_token.specs.declared.token.Lexeme.{Lexeme}
 use Rattle.rx_token.specs.declared.token.Lexeme.TheVariants as lexemes
-use Rattle.rx_token.specs.Lexical.{is_blank, skipped, is_word_byte, is_word_start, most, is_number, number_of_run, padded, keyword_of, word_or_name, run_token, equals, token_of, token_at}
-use Rattle.rx_token.specs.Tokens.{lexeme_of, Begins, InOrder, IsName}
-use Rattle.rx_token.specs.Texts.{keyword_text, name_text, token_text, spaced, joined, AreSpelled}
+use Rattle.rx_token.specs.Lexical.{is_blank, skipped, is_word_byte, is_word_start, most, is_number, number_of_run, padded, keyword_of, word_or_name, run_token, equals_sign, token_of, token_at}
+use Rattle.rx_token.specs.Tokens.{lexeme_of, TextBegins, NamesInOrder, IsName}
+use Rattle.rx_token.specs.Texts.{keyword_text, name_text, token_text, spaced, with_blanks, AreSpelled}
 
 -- neither a byte of a word or number nor a `=` is in front
 pub record Stops (rest : List ℕ) : Type 0 where
@@ -149,7 +149,7 @@ number-run n small =
     ∙ ap (λ b. option_map (λ m. lexemes.Number m) (cond b (Some (pos (digits_value 10 (decimal n)))) None)) (is-number n small)
     ∙ ap (λ m. Some (lexemes.Number (pos m))) (digits_value-decimal own n low)
 
-equals-alone : (rest : List ℕ) → (slice_index rest 0 == 61) ≡ false → equals rest ≡ (lexemes.Mark signs.Equals, rest)
+equals-alone : (rest : List ℕ) → (slice_index rest 0 == 61) ≡ false → equals_sign rest ≡ (lexemes.Mark signs.Equals, rest)
 equals-alone [] stop = refl
 equals-alone (b ∷ bs) stop = rw stop refl
 
@@ -195,19 +195,19 @@ stops-after : (names : List (List ℕ)) (ts : List Token) → Stops (others name
 stops-after names [] = record { no_word = refl; no_equals = refl }
 stops-after names (t ∷ ts) = record { no_word = refl; no_equals = refl }
 
-spaced-begin : (names : List (List ℕ)) (ts : List Token) → AllPlain names ts → Begins names (others names ts) ts []
+spaced-begin : (names : List (List ℕ)) (ts : List Token) → AllPlain names ts → TextBegins names (others names ts) ts []
 spaced-begin names [] h = refl
 spaced-begin names (t ∷ ts) h =
     let s = scan-token names t (others names ts) h.0 (stops-after names ts) in
     (s.lexeme, others names ts, s.is_lexeme, ap (λ bs. token_at (skipped false bs)) (append_assoc (token_text names t) (flat_map (spaced names) ts) (10 ∷ [])) ∙ ap token_at s.shows ∙ s.token, spaced-begin names ts h.1)
 
 -- a text begins with the tokens that it was written from
-pub joined-begin : (names : List (List ℕ)) (ts : List Token) → AllPlain names ts → Begins names (joined names ts ++ 10 ∷ []) ts []
+pub joined-begin : (names : List (List ℕ)) (ts : List Token) → AllPlain names ts → TextBegins names (with_blanks names ts ++ 10 ∷ []) ts []
 joined-begin names [] h = refl
 joined-begin names (t ∷ ts) h = spaced-begin names (t ∷ ts) h
 
 -- the next number is never less
-in-order-le : (ts : List Token) (next last : ℕ) → InOrder next ts last → next ≤ last
+in-order-le : (ts : List Token) (next last : ℕ) → NamesInOrder next ts last → next ≤ last
 in-order-le [] next last h = omega arith
 in-order-le (Called n ∷ ts) next last (inl h) = in-order-le ts next last h.1
 in-order-le (Called n ∷ ts) next last (inr h) = omega (arith, in-order-le ts (next + 1) last h.1)
@@ -224,7 +224,7 @@ known : (names : List (List ℕ)) (n : ℕ) → Named names → n < length names
 known names n are here = let e = slice_get-get_or names n [] here in (_, e, are n _ e)
 
 -- the tokens of a tree with its names are such tokens
-pub all-plain : (names : List (List ℕ)) (ts : List Token) (next : ℕ) → Named names → InOrder next ts (length names) → AreSpelled ts → AllPlain names ts
+pub all-plain : (names : List (List ℕ)) (ts : List Token) (next : ℕ) → Named names → NamesInOrder next ts (length names) → AreSpelled ts → AllPlain names ts
 all-plain names [] next are order h = tt
 all-plain names (Called n ∷ ts) next are (inl order) h = (known names n are (omega (arith, order.0, in-order-le ts next (length names) order.1)), all-plain names ts next are order.1 h)
 all-plain names (Called n ∷ ts) next are (inr order) h = (known names n are (omega (arith, order.0, in-order-le ts (next + 1) (length names) order.1)), all-plain names ts (next + 1) are order.1 h)

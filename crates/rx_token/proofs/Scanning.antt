@@ -11,10 +11,10 @@ use Rattle.rx_token.specs.declared.token.Token.{Token}
 use Rattle.rx_token.specs.declared.token.Token.TheVariants.{Key, Called, Number, Oper, Mark, Bad}
 use Rattle.rx_token.specs.declared.token.Lexeme.{Lexeme}
 use Rattle.rx_token.specs.declared.token.Lexeme.TheVariants as lexemes
-use Rattle.rx_token.specs.Lexical.{is_blank, skipped, is_word_byte, is_word_start, padded, keyword_of, word_or_name, number_of_run, run_token, equals, sign_of_byte, sign_at, token_of, token_at}
-use Rattle.rx_token.specs.Tokens.{lexeme_of, Begins, InOrder, IsName}
+use Rattle.rx_token.specs.Lexical.{is_blank, skipped, is_word_byte, is_word_start, padded, keyword_of, word_or_name, number_of_run, run_token, equals_sign, sign_of_byte, sign_at, token_of, token_at}
+use Rattle.rx_token.specs.Tokens.{lexeme_of, TextBegins, NamesInOrder, IsName}
 use Rattle.rx_token.specs.Scans.{Scans}
-use Rattle.rx_token.specs.Names.{Numbers, Counts, IsNumbered}
+use Rattle.rx_token.specs.Names.{Numbers, NamesUpTo, IsNumbered}
 
 mapped : {A B : Type 0} (f : A → B) (o : Option A) (y : B) → option_map f o ≡ Some y → (x : A) × (o ≡ Some x) × (f x ≡ y)
 mapped f None y e = cc
@@ -50,7 +50,7 @@ sign-byte b =
     one-sign (b == 42) _ _ refl (
     one-sign (b == 60) _ _ refl (λ x e. cc))))))))))))
 
-sign-equals : (bs : List ℕ) → IsSign (length bs) (equals bs)
+sign-equals : (bs : List ℕ) → IsSign (length bs) (equals_sign bs)
 sign-equals [] = (refl, omega arith)
 sign-equals (b ∷ bs) = by (b == 61)
   where
@@ -62,8 +62,8 @@ sign-front : (bs : List ℕ) (x : Lexeme × List ℕ) → sign_at bs ≡ Some x 
 sign-front [] x e = cc
 sign-front (b ∷ bs) x e = by (b == 61) e
   where
-    by : (c : Bool) → (if c then Some (equals bs) else option_map (λ y. (y, bs)) (sign_of_byte b)) ≡ Some x → IsSign (suc (length bs)) x
-    by true e = let s = sign-equals bs in subst (IsSign (suc (length bs))) (same_Some (equals bs) x e) (s.0, omega (arith, s.1))
+    by : (c : Bool) → (if c then Some (equals_sign bs) else option_map (λ y. (y, bs)) (sign_of_byte b)) ≡ Some x → IsSign (suc (length bs)) x
+    by true e = let s = sign-equals bs in subst (IsSign (suc (length bs))) (same_Some (equals_sign bs) x e) (s.0, omega (arith, s.1))
     by false e = let m = mapped (λ (y : Lexeme). (y, bs)) (sign_of_byte b) x e in subst (IsSign (suc (length bs))) m.2 (sign-byte b m.0 m.1, omega arith)
 
 -- what is left after a token is no longer
@@ -188,7 +188,7 @@ goes-more old new n bytes ts starts rest t at x after g i e a = record {
 }
 
 -- the numbers of names with one token more
-order-one : (k m : ℕ) (t : Token) → Counts k t m → InOrder k (t ∷ []) m
+order-one : (k m : ℕ) (t : Token) → NamesUpTo k t m → NamesInOrder k (t ∷ []) m
 order-one k m (Key x) c = sym c
 order-one k m (Called x) (inl c) = inl (c.0, sym c.1)
 order-one k m (Called x) (inr c) = inr (c.0, sym c.1)
@@ -197,8 +197,8 @@ order-one k m (Oper x) c = sym c
 order-one k m (Mark x) c = sym c
 order-one k m Bad c = sym c
 
-pub order-more : (k m l : ℕ) (ts : List Token) (t : Token) → InOrder k ts m → Counts m t l → InOrder k (ts ++ t ∷ []) l
-order-more k m l [] t o c = order-one k l t (subst (λ n. Counts n t l) (sym o) c)
+pub order-more : (k m l : ℕ) (ts : List Token) (t : Token) → NamesInOrder k ts m → NamesUpTo m t l → NamesInOrder k (ts ++ t ∷ []) l
+order-more k m l [] t o c = order-one k l t (subst (λ n. NamesUpTo n t l) (sym o) c)
 order-more k m l (Key x ∷ ts) t o c = order-more k m l ts t o c
 order-more k m l (Called x ∷ ts) t (inl o) c = inl (o.0, order-more k m l ts t o.1 c)
 order-more k m l (Called x ∷ ts) t (inr o) c = inr (o.0, order-more (k + 1) m l ts t o.1 c)
@@ -208,7 +208,7 @@ order-more k m l (Mark x ∷ ts) t o c = order-more k m l ts t o c
 order-more k m l (Bad ∷ ts) t o c = order-more k m l ts t o c
 
 -- a token is one name more at most
-pub few-more : (m l : ℕ) (t : Token) → Counts m t l → l ≤ m + 1
+pub few-more : (m l : ℕ) (t : Token) → NamesUpTo m t l → l ≤ m + 1
 few-more m l (Key x) c = omega (arith, c)
 few-more m l (Called x) (inl c) = omega (arith, c.1)
 few-more m l (Called x) (inr c) = omega (arith, c.1)
@@ -233,7 +233,7 @@ skip-shorter false (b ∷ bs) = by (b == 35) (is_blank b) (skip-shorter false bs
     by false false h k = omega arith
 
 -- tokens have starts
-pub begins-scans : (names : List (List ℕ)) (n : ℕ) (bytes : List ℕ) (ts : List Token) → length bytes ≤ n → Begins names bytes ts [] → (starts : List ℕ) × Scans names n bytes ts starts
+pub begins-scans : (names : List (List ℕ)) (n : ℕ) (bytes : List ℕ) (ts : List Token) → length bytes ≤ n → TextBegins names bytes ts [] → (starts : List ℕ) × Scans names n bytes ts starts
 begins-scans names n bytes [] l b = (n ∷ [], (b, refl))
 begins-scans names n bytes (t ∷ ts) l b =
     let s = skip-shorter false bytes in
@@ -256,7 +256,7 @@ no-bad-more (Mark x ∷ ts) us b c = no-bad-more ts us b c
 no-bad-more (Bad ∷ ts) us b c = absurd b
 
 -- tokens without a bad one begin the bytes, and nothing is left
-pub scans-begins : (names : List (List ℕ)) (n : ℕ) (bytes : List ℕ) (ts : List Token) (starts : List ℕ) → NoBad ts → Scans names n bytes ts starts → Begins names bytes ts []
+pub scans-begins : (names : List (List ℕ)) (n : ℕ) (bytes : List ℕ) (ts : List Token) (starts : List ℕ) → NoBad ts → Scans names n bytes ts starts → TextBegins names bytes ts []
 scans-begins names n bytes [] starts b s = s.0
 scans-begins names n bytes (t ∷ ts) [] b s = absurd s
 scans-begins names n bytes (Key x ∷ ts) (at ∷ starts) b s = (s.0, s.1, s.2, s.3, scans-begins names n s.1 ts starts b s.5)

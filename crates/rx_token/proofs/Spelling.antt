@@ -13,8 +13,8 @@ use Rattle.rx_token.specs.declared.token.Token.{Token}
 use Rattle.rx_token.specs.declared.token.Token.TheVariants.{Key, Called, Number, Oper, Mark, Bad}
 use Rattle.rx_token.specs.declared.token.Lexeme.{Lexeme}
 use Rattle.rx_token.specs.declared.token.Lexeme.TheVariants as lexemes
-use Rattle.rx_token.specs.Lexical.{skipped, is_word_byte, is_word_start, most, is_number, keyword_of, word_or_name, run_token, equals, sign_of_byte, sign_at, token_of, token_at}
-use Rattle.rx_token.specs.Tokens.{Begins}
+use Rattle.rx_token.specs.Lexical.{skipped, is_word_byte, is_word_start, most, is_number, keyword_of, word_or_name, run_token, equals_sign, sign_of_byte, sign_at, token_of, token_at}
+use Rattle.rx_token.specs.Tokens.{TextBegins}
 use Rattle.rx_token.specs.Texts.{AreSpelled}
 
 -- a number is from 0 to the greatest
@@ -58,7 +58,7 @@ run-fine run =
     (either (nat_le (length run) 16) (Some (word_or_name (keyword_of run) run)) None (word-fine (keyword_of run) run) tt)
     (number-fine run (is_number run) refl)
 
-equals-fine : (bs : List ℕ) → Fine (equals bs).0
+equals-fine : (bs : List ℕ) → Fine (equals_sign bs).0
 equals-fine [] = tt
 equals-fine (b ∷ bs) = elim (b == 61) as (λ c. Fine (cond {A = Lexeme × List ℕ} c (lexemes.Oper ops.Equal, bs) (lexemes.Mark signs.Equals, b ∷ bs)).0) [ true ↦ tt | false ↦ tt ]
 
@@ -69,7 +69,7 @@ sign-fine b =
 
 sign-at-fine : (bytes : List ℕ) → FineAnswer (sign_at bytes)
 sign-at-fine [] = tt
-sign-at-fine (b ∷ bs) = elim (b == 61) as (λ c. FineAnswer (cond c (Some (equals bs)) (option_map (λ x. (x, bs)) (sign_of_byte b)))) [ true ↦ equals-fine bs | false ↦ with-rest (sign_of_byte b) bs (sign-fine b) ]
+sign-at-fine (b ∷ bs) = elim (b == 61) as (λ c. FineAnswer (cond c (Some (equals_sign bs)) (option_map (λ x. (x, bs)) (sign_of_byte b)))) [ true ↦ equals-fine bs | false ↦ with-rest (sign_of_byte b) bs (sign-fine b) ]
 
 token-of-fine : (n : ℕ) (bytes : List ℕ) → FineAnswer (token_of n bytes)
 token-of-fine zero bytes = sign-at-fine bytes
@@ -79,7 +79,7 @@ token-of-fine (suc n) bytes = with-rest (run_token (take (suc n) bytes)) (drop (
 token-fine : (bytes after : List ℕ) (x : Lexeme) → token_at bytes ≡ Some (x, after) → Fine x
 token-fine bytes after x e = subst (λ (o : Option (Lexeme × List ℕ)). FineAnswer o) e (token-of-fine (prefix_len is_word_byte bytes) bytes)
 
-pub begins-spelled : (names : List (List ℕ)) (bytes : List ℕ) (ts : List Token) (rest : List ℕ) → Begins names bytes ts rest → AreSpelled ts
+pub begins-spelled : (names : List (List ℕ)) (bytes : List ℕ) (ts : List Token) (rest : List ℕ) → TextBegins names bytes ts rest → AreSpelled ts
 begins-spelled names bytes [] rest h = tt
 begins-spelled names bytes (Key k ∷ ts) rest h = begins-spelled names h.1 ts rest h.4
 begins-spelled names bytes (Called n ∷ ts) rest h = begins-spelled names h.1 ts rest h.4

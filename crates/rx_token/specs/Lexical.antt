@@ -84,9 +84,9 @@ run_token run =
     else option_map (λ n. Number n) (number_of_run run)
 
 -- the longest sign after a `=`
-abbrev pub equals : List ℕ → Lexeme × List ℕ
-equals [] = (Mark Equals, [])
-equals (b ∷ bs) = if b == 61 then (Oper Equal, bs) else (Mark Equals, b ∷ bs)
+abbrev pub equals_sign : List ℕ → Lexeme × List ℕ
+equals_sign [] = (Mark Equals, [])
+equals_sign (b ∷ bs) = if b == 61 then (Oper Equal, bs) else (Mark Equals, b ∷ bs)
 
 -- the sign of one byte
 abbrev pub sign_of_byte : ℕ → Option Lexeme
@@ -107,7 +107,7 @@ sign_of_byte b =
 -- the longest sign in front, and what is left after it
 abbrev pub sign_at : List ℕ → Option (Lexeme × List ℕ)
 sign_at [] = None
-sign_at (b ∷ bs) = if b == 61 then Some (equals bs) else option_map (λ x. (x, bs)) (sign_of_byte b)
+sign_at (b ∷ bs) = if b == 61 then Some (equals_sign bs) else option_map (λ x. (x, bs)) (sign_of_byte b)
 
 -- the token in front where n bytes of words and numbers stand there, and what is left after it
 abbrev pub token_of : ℕ → List ℕ → Option (Lexeme × List ℕ)

@@ -19,17 +19,17 @@ abbrev pub Numbers : List (List ℕ) → ℕ → List (List ℕ) → Type 0
 Numbers old n new = ((n < length old) × (new ≡ old)) ⊎ ((n ≡ length old) × ((name : List ℕ) × (new ≡ old ++ name ∷ [])))
 
 -- how many names stand up to a token, where this many stand before it
-abbrev pub Counts : ℕ → Token → ℕ → Type 0
-Counts old (Called n) new = ((n < old) × (new ≡ old)) ⊎ ((n ≡ old) × (new ≡ old + 1))
-Counts old (Key k) new = new ≡ old
-Counts old (Number n) new = new ≡ old
-Counts old (Oper o) new = new ≡ old
-Counts old (Mark s) new = new ≡ old
-Counts old Bad new = new ≡ old
+abbrev pub NamesUpTo : ℕ → Token → ℕ → Type 0
+NamesUpTo old (Called n) new = ((n < old) × (new ≡ old)) ⊎ ((n ≡ old) × (new ≡ old + 1))
+NamesUpTo old (Key k) new = new ≡ old
+NamesUpTo old (Number n) new = new ≡ old
+NamesUpTo old (Oper o) new = new ≡ old
+NamesUpTo old (Mark s) new = new ≡ old
+NamesUpTo old Bad new = new ≡ old
 
 -- the token spells so with the new names, which begin with the old
 pub record IsNumbered (old : List (List ℕ)) (lexeme : Lexeme) (t : Token) (new : List (List ℕ)) : Type 0 where
   pub spelled : lexeme_of new t ≡ Some lexeme
-  pub counts : Counts (length old) t (length new)
+  pub counts : NamesUpTo (length old) t (length new)
   pub more : List (List ℕ)
   pub grows : new ≡ old ++ more

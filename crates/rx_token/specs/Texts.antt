@@ -73,9 +73,9 @@ abbrev pub spaced : List (List ℕ) → Token → List ℕ
 spaced names t = 32 ∷ token_text names t
 
 -- the tokens with one blank between two
-abbrev pub joined : List (List ℕ) → List Token → List ℕ
-joined names [] = []
-joined names (t ∷ ts) = token_text names t ++ flat_map (spaced names) ts
+abbrev pub with_blanks : List (List ℕ) → List Token → List ℕ
+with_blanks names [] = []
+with_blanks names (t ∷ ts) = token_text names t ++ flat_map (spaced names) ts
 
 -- tokens that bytes can spell: no bad one, and numbers from 0 to the greatest
 abbrev pub AreSpelled : List Token → Type 0

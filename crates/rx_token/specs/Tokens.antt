@@ -17,21 +17,21 @@ lexeme_of names (Mark s) = Some (lexemes.Mark s)
 lexeme_of names Bad = None
 
 -- The bytes begin with these tokens and with blanks and comments, and go on with the rest, in front of which none stand.
-abbrev pub Begins : List (List ℕ) → List ℕ → List Token → List ℕ → Type 0
-Begins names bytes [] rest = skipped false bytes ≡ rest
-Begins names bytes (t ∷ ts) rest =
+abbrev pub TextBegins : List (List ℕ) → List ℕ → List Token → List ℕ → Type 0
+TextBegins names bytes [] rest = skipped false bytes ≡ rest
+TextBegins names bytes (t ∷ ts) rest =
     (x : Lexeme) × (after : List ℕ) × (lexeme_of names t ≡ Some x) × (token_at (skipped false bytes) ≡ Some (x, after))
-    × Begins names after ts rest
+    × TextBegins names after ts rest
 
 -- names are numbered from the first number in the order of first appearance, and the last number is the next one
-abbrev pub InOrder : ℕ → List Token → ℕ → Type 0
-InOrder next [] last = next ≡ last
-InOrder next (Called n ∷ ts) last = ((n < next) × InOrder next ts last) ⊎ ((n ≡ next) × InOrder (next + 1) ts last)
-InOrder next (Key k ∷ ts) last = InOrder next ts last
-InOrder next (Number n ∷ ts) last = InOrder next ts last
-InOrder next (Oper o ∷ ts) last = InOrder next ts last
-InOrder next (Mark s ∷ ts) last = InOrder next ts last
-InOrder next (Bad ∷ ts) last = InOrder next ts last
+abbrev pub NamesInOrder : ℕ → List Token → ℕ → Type 0
+NamesInOrder next [] last = next ≡ last
+NamesInOrder next (Called n ∷ ts) last = ((n < next) × NamesInOrder next ts last) ⊎ ((n ≡ next) × NamesInOrder (next + 1) ts last)
+NamesInOrder next (Key k ∷ ts) last = NamesInOrder next ts last
+NamesInOrder next (Number n ∷ ts) last = NamesInOrder next ts last
+NamesInOrder next (Oper o ∷ ts) last = NamesInOrder next ts last
+NamesInOrder next (Mark s ∷ ts) last = NamesInOrder next ts last
+NamesInOrder next (Bad ∷ ts) last = NamesInOrder next ts last
 
 -- no name stands twice
 abbrev pub AreDistinct : List (List ℕ) → Type 0
@@ -46,9 +46,9 @@ pub record IsName (name : List ℕ) : Type 0 where
 pub record AreNames (names : List (List ℕ)) (ts : List Token) : Type 0 where
   pub are_names : (i : ℕ) (name : List ℕ) → slice_get names i ≡ Some name → IsName name
   pub distinct : AreDistinct names
-  pub in_order : InOrder 0 ts (length names)
+  pub in_order : NamesInOrder 0 ts (length names)
 
 -- the bytes are these tokens, with blanks and comments, and with these names
 pub record Lexes (names : List (List ℕ)) (bytes : List ℕ) (ts : List Token) : Type 0 where
-  pub begins : Begins names bytes ts []
+  pub begins : TextBegins names bytes ts []
   pub are_names : AreNames names ts

@@ -1,7 +1,7 @@
 // From bytes to tokens.
 ghost use Rattle.std.specs.Prelude.{◌≡◌, ◌<◌, ◌≤◌, false, length, option_map, IfSome};
 ghost use Rattle.std.specs.List.{prefix_len};
-ghost use Rattle.rx_token.specs.Lexical.{skipped, is_word_byte, number_of_run, padded, keyword_of, run_token, equals, sign_of_byte};
+ghost use Rattle.rx_token.specs.Lexical.{skipped, is_word_byte, number_of_run, padded, keyword_of, run_token, equals_sign, sign_of_byte};
 ghost use Rattle.rx_token.specs.Lexical.{sign_at, token_at};
 
 use crate::token::{Keyword, Lexeme, Op, Sign};
@@ -170,7 +170,7 @@ fn sign_of(byte: u8) -> Option<Lexeme>
 
 // The longest sign after a `=`.
 fn after_equals(tail: &[u8]) -> (Lexeme, &[u8])
-    ensures sign { (result.0, result.1.now) ≡ equals tail.now }
+    ensures sign { (result.0, result.1.now) ≡ equals_sign tail.now }
     ensures shorter { length result.1.now ≤ length tail.now }
 {
     match tail.split_first() {

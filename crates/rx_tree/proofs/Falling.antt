@@ -14,7 +14,7 @@ use Rattle.rx_rules.specs.Tree.{Tree, is_under, is_scope, wants, is_finish, the_
 use Rattle.rx_sound.specs.Chains.{Falls}
 use Rattle.rx_sound.specs.Sound.{TasksFall, Sound, ReachedSound}
 use Rattle.rx_sound.proofs.Stay.{fall_filter}
-use Rattle.rx_tree.specs.Inside.Positions.{IsFirst, PassesNone, FallsIn, TasksFallIn, ScopesFallIn, InOrder, BeginsAt}
+use Rattle.rx_tree.specs.Inside.Positions.{IsFirst, PassesNone, FallsIn, TasksFallIn, ScopesFallIn, RowsInOrder, BeginsAt}
 
 -- the elements above t stand in front
 pub parted : {X : Type 0} (f : X → ℕ) (t : ℕ) (xs : List X) → FallsIn f xs → IsPartitionedBy (λ x. ltb t (f x)) xs
@@ -207,7 +207,7 @@ scopes_fall_in n (g ∷ gs) falls = falls_more (λ g. g.number.0) g gs (scopes_f
 pub kept_sound : (K : Tree) (M : Tree → Type 0) → ReachedSound → (T : Tree) × ((K ≡ T) × Reached T) × M T → Sound K
 kept_sound K M law w = law K (subst Reached (sym w.1.0) w.1.1)
 
-pub in_order : (K : Tree) (M : Tree → Type 0) → ReachedSound → (T : Tree) × ((K ≡ T) × Reached T) × M T → InOrder K
+pub in_order : (K : Tree) (M : Tree → Type 0) → ReachedSound → (T : Tree) × ((K ≡ T) × Reached T) × M T → RowsInOrder K
 in_order K M law w =
     let sound : Sound K = kept_sound K M law w in
     record {

@@ -6,7 +6,7 @@ ghost use Rattle.rx_rules.specs.Fold.{opening};
 ghost use Rattle.rx_rules.specs.Reached.{Reached};
 ghost use Rattle.rx_finish.specs.Calls.{blow_of, landing};
 ghost use Rattle.rx_tree.specs.Kept.{kept};
-ghost use Rattle.rx_tree.specs.Inside.Positions.{InOrder};
+ghost use Rattle.rx_tree.specs.Inside.Positions.{RowsInOrder};
 ghost use Rattle.rx_tree.specs.Inside.Removal.{LeaveReply};
 
 use crate::changes::{
@@ -74,7 +74,7 @@ impl TreeLedger {
 
     /// Whether no unstruck task is under the scope. A plain body: it goes up the scopes for each unstruck task.
     fn is_quiet(&self, s: ScopeId) -> bool
-        requires { InOrder (kept self.now) }
+        requires { RowsInOrder (kept self.now) }
         ensures { result ≡ quiet (kept self.now) s }
     {
         for x in &self.tasks {
@@ -87,7 +87,7 @@ impl TreeLedger {
 
     /// Where an unstruck task under the scope is or goes, if there is one. A plain body, as that of `is_quiet`.
     fn hindrance(&self, s: ScopeId) -> Option<PlaceId>
-        requires { InOrder (kept self.now) }
+        requires { RowsInOrder (kept self.now) }
         ensures { result ≡ option_map (λ x. landing x.place)
             (find (λ x. is_under (kept self.now) s x && is_none x.struck) self.now.tasks.items) }
     {
@@ -101,7 +101,7 @@ impl TreeLedger {
 
     /// The faults of the scope's body and then of the tasks that ended in it.
     fn thrown_in(&self, s: ScopeId) -> Result<Faults, NoMemory>
-        requires { InOrder (kept self.now) }
+        requires { RowsInOrder (kept self.now) }
         ensures { IfOk result (λ f. f ≡ thrown_of (kept self.now) s) }
     {
         match scope_row(&self.scopes, s) {
@@ -115,7 +115,7 @@ impl TreeLedger {
 
     /// Releases the scope where nothing hinders it: what is below it leaves with it.
     fn leave(&mut self, s: ScopeId) -> Result<Outcome, LedgerFault>
-        requires { InOrder (kept self.old) }
+        requires { RowsInOrder (kept self.old) }
         ensures { LeaveReply (kept self.old) s result (kept self.new) }
     {
         if let Some(place) = self.hindrance(s) {
@@ -141,7 +141,7 @@ impl TreeLedger {
 
     /// The death that struck the task, if one did.
     fn blow(&self, t: TaskId) -> Option<Blow>
-        requires { InOrder (kept self.now) }
+        requires { RowsInOrder (kept self.now) }
         ensures { result ≡ blow_of (kept self.now) t }
     {
         match find_task(&self.tasks, t) {

@@ -2,7 +2,7 @@
 use Rattle.std.proofs.Common.{◌≡◌, ℕ, suc, ◌≤◌, ◌^◌, ◌-◌, List, [], ◌∷◌, Option, Some, None, refl, arith}
 use Rattle.std.specs.Prelude.{IfSome, Bool, true, false, bytes_eq, codes, if◌then◌else◌}
 use Rattle.rx_rules.specs.Run.{Proper}
-use Rattle.rx_words.specs.Words.{number_of, kill_of, picks_of, Wants, nothing_yet, Taken, NotAnOption, BadValue, Takes, good, taken, choice, or_else, bad_kill, setup_of, source, Step, Gen, Check, Live, BadWord, unless_bad, generated, settled, cut_off, options, alone, asked}
+use Rattle.rx_words.specs.Words.{number_of, kill_of, pick_list_of, Wants, nothing_yet, Taken, NotAnOption, BadValue, Takes, good, taken, choice, or_else, bad_kill, setup_of, source, Step, Gen, Check, Live, BadWord, unless_bad, generated, settled, cut_off, options, alone, asked}
 use Rattle.rx_words.specs.declared.said.Verb.{Verb}
 use Rattle.rx_words.specs.declared.said.Verb.TheVariants as verbs
 use Rattle.rx_words.specs.declared.kind.Kind.{Kind}
@@ -32,7 +32,7 @@ taken-ranged kinds.Size w k value r = good-ranged (number_of 1 10000 value) _ (�
 taken-ranged kinds.Places w k value r = good-ranged (number_of 1 16 value) _ (λ n e. record { places = let t = number-spelled 1 16 n value e in (t.1, t.2); heap = r.heap })
 taken-ranged kinds.Heap w k value r = good-ranged (number_of 1 4096 value) _ (λ n e. record { places = r.places; heap = let t = number-spelled 1 4096 n value e in (t.1, t.2) })
 taken-ranged kinds.Kill w k value r = good-ranged (kill_of value) _ (λ kill e. record { places = r.places; heap = r.heap })
-taken-ranged kinds.Pick w k value r = good-ranged (picks_of value) _ (λ list e. record { places = r.places; heap = r.heap })
+taken-ranged kinds.Pick w k value r = good-ranged (pick_list_of value) _ (λ list e. record { places = r.places; heap = r.heap })
 taken-ranged kinds.Seed w k value r = good-ranged (number_of 0 (2 ^ 64 - 1) value) _ (λ n e. record { places = r.places; heap = r.heap })
 taken-ranged kinds.Workers w k value r = good-ranged (number_of 1 8 value) _ (λ n e. record { places = r.places; heap = r.heap })
 

@@ -1,7 +1,7 @@
 // A pick list: numbers joined by commas.
 ghost use Rattle.std.specs.Prelude.{◌≡◌, ◌≤◌, ◌∷◌, ◌==◌, not, length, Some, IfOk, option_map};
 ghost use Rattle.std.specs.List.{prefix_len};
-ghost use Rattle.rx_words.specs.Words.{number_of, parts, picks_of, not_too_many};
+ghost use Rattle.rx_words.specs.Words.{number_of, parts, pick_list_of, not_too_many};
 ghost use Rattle.rx_words.specs.Commands.{later, Extends};
 
 use crate::number::number;
@@ -10,7 +10,7 @@ use std::alloc::Global;
 
 // The pick list that a word spells.
 pub(crate) fn pick_list(alloc: Global, word: &[u8]) -> Result<Option<Vec<u32>>, NoMemory>
-    ensures { IfOk result (λ list. option_map (λ v. v.items) list ≡ picks_of word.now) }
+    ensures { IfOk result (λ list. option_map (λ v. v.items) list ≡ pick_list_of word.now) }
 {
     let mut list = Vec::new(alloc);
     let (first, after) = cut(word);

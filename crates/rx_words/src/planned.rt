@@ -5,7 +5,7 @@ ghost use Rattle.rx_rules.specs.Run.{AreKills, Proper};
 ghost use Rattle.rx_history.specs.KillOrder.{is_before};
 ghost use Rattle.rx_history.specs.Setups.{given};
 ghost use Rattle.rx_base.specs.Lists.{has};
-ghost use Rattle.rx_words.specs.Words.{setup_of, bad_kill, first_bad_kill, ordered, told};
+ghost use Rattle.rx_words.specs.Words.{setup_of, bad_kill, first_bad_kill, ordered, told_number};
 ghost use Rattle.rx_words.specs.declared.command.WordFault.TheVariants.{Bad};
 ghost use Rattle.rx_words.specs.Commands.{IsInRange, wants_of, place_of, kill_in};
 
@@ -79,7 +79,8 @@ pub(crate) fn setup(alloc: Global, said: &Said) -> Result<Setup, WordFault>
     requires { IsInRange said.now }
     ensures ok { IfOk result (λ s. (given s ≡ setup_of (wants_of said.now)) × Proper (given s)) }
     ensures none { IfOk result (λ _. first_bad_kill (wants_of said.now) ≡ None) }
-    ensures bad { (word : ℕ) → IsErrOf result (Bad word) → (k : ℕ) × (first_bad_kill (wants_of said.now) ≡ Some k) × (word ≡ told k) }
+    ensures bad { (word : ℕ) → IsErrOf result (Bad word) → (k : ℕ) × (first_bad_kill (wants_of said.now) ≡ Some k)
+        × (word ≡ told_number k) }
 {
     let places = said.places.unwrap_or(2);
     let heap = said.heap.unwrap_or(256);

@@ -1,7 +1,7 @@
 // The words of a command, read.
 ghost use Rattle.std.specs.Prelude.{◌≡◌, ℕ, None, IfOk, IfSome, IsErrOf};
-ghost use Rattle.rx_words.specs.Words.{asked, asked_any, BadWord, told};
-ghost use Rattle.rx_words.specs.Commands.{IsAsked, IsProper, IsLive};
+ghost use Rattle.rx_words.specs.Words.{asked, asked_any, BadWord, told_number};
+ghost use Rattle.rx_words.specs.Commands.{IsAsked, IsProper, IsLiveCommand};
 ghost use Rattle.rx_words.specs.declared.command.WordFault.TheVariants.{Bad};
 
 use crate::command::{Command, LiveWords, WordFault};
@@ -12,7 +12,7 @@ use std::alloc::Global;
 /// Reads the words of a command that starts no thread. `Bad` comes exactly where they are none.
 pub fn read_words(alloc: Global, words: &[RxWord]) -> Result<Command, WordFault>
     ensures ok { IfOk result (λ c. IsAsked c (asked words.now) × IsProper c) }
-    ensures bad { (word : ℕ) → IsErrOf result (Bad word) → (k : ℕ) × (asked words.now ≡ BadWord k) × (word ≡ told k) }
+    ensures bad { (word : ℕ) → IsErrOf result (Bad word) → (k : ℕ) × (asked words.now ≡ BadWord k) × (word ≡ told_number k) }
 {
     let Some((first, more)) = words.split_first() else {
         return Err(WordFault::Bad { word: 0 });
@@ -36,9 +36,9 @@ pub fn read_words(alloc: Global, words: &[RxWord]) -> Result<Command, WordFault>
 /// Reads the words of `live`; none where their first word is another one. `Bad` comes exactly where they begin with `live` and are
 /// no command.
 pub fn read_live(alloc: Global, words: &[RxWord]) -> Result<Option<LiveWords>, WordFault>
-    ensures live { IfOk result (λ o. IfSome o (λ l. IsLive l (asked_any words.now))) }
+    ensures live { IfOk result (λ o. IfSome o (λ l. IsLiveCommand l (asked_any words.now))) }
     ensures other { IfOk result (λ o. o ≡ None → asked_any words.now ≡ asked words.now) }
-    ensures bad { (word : ℕ) → IsErrOf result (Bad word) → (k : ℕ) × (asked_any words.now ≡ BadWord k) × (word ≡ told k) }
+    ensures bad { (word : ℕ) → IsErrOf result (Bad word) → (k : ℕ) × (asked_any words.now ≡ BadWord k) × (word ≡ told_number k) }
 {
     let Some((first, more)) = words.split_first() else {
         return Ok(None);

@@ -15,7 +15,7 @@ use Rattle.rx_rules.specs.Plays.{Plays, local, stores, asks, ends, Begins, EachP
 use Rattle.rx_rules.specs.Store.{Live, fits, word_at}
 use Rattle.rx_rules.specs.Run.{IsRun}
 use Rattle.rx_rules.specs.Examples.{p, ordinary_setup, kill_setup, loss_in_transit_journals}
-use Rattle.rx_rules.specs.Inversions.{BeginsNoRun, acts_of, events_of}
+use Rattle.rx_rules.specs.Inversions.{BeginsNoRun, acts_of, events_of_task}
 use Rattle.rx_rules.proofs.Worked.{at_front}
 use Rattle.rx_worked.specs.Statements.{StoresNoRun, no_events, turns_script, turns, copied_script, copied, dead_script, not_caught, any_script, caught, in_order_script, in_order, too_large_script, too_large, used_away_script, used_away, used_away_journals, values_block, values_script, values, kept_script, kept, kept_journals, nowhere_script, nowhere, full_beside_hole, not_at_least, another_word, mixed_script, mixed, swallows_fault, value_script, IsNoRun, other_value, ends_early}
 
@@ -148,10 +148,10 @@ swallowed_excluded code heap kills rest js h =
     let e : ◌≡◌ {A = List Fault} [] (Thrown (pos 1) ∷ []) = h.folds.allowed.1.1.1.1.0.1.faults in cc
 
 -- task 0 plays the whole script
-main_plays : (starts more : List (Term × Vars)) (s : Term × Vars) (places : ℕ) (es : List Entry) (js : List (List PlaceEvent)) → slice_get more 0 ≡ Some s → EachPlays starts places es js 0 more → Begins starts (birth_of es 0).to places (travels (birth_of es 0)) (birth_of es 0).low s.1 s.0 (events_of es js 0) (acts_of es 0)
+main_plays : (starts more : List (Term × Vars)) (s : Term × Vars) (places : ℕ) (es : List Entry) (js : List (List PlaceEvent)) → slice_get more 0 ≡ Some s → EachPlays starts places es js 0 more → Begins starts (birth_of es 0).to places (travels (birth_of es 0)) (birth_of es 0).low s.1 s.0 (events_of_task es js 0) (acts_of es 0)
 main_plays starts [] s places es js h each = absurd (let f : ⊥ = cc in f)
 main_plays starts (x ∷ more) s places es js h each =
-    let e : x ≡ s = cc in subst (λ (y : Term × Vars). Begins starts (birth_of es 0).to places (travels (birth_of es 0)) (birth_of es 0).low y.1 y.0 (events_of es js 0) (acts_of es 0)) e each.0
+    let e : x ≡ s = cc in subst (λ (y : Term × Vars). Begins starts (birth_of es 0).to places (travels (birth_of es 0)) (birth_of es 0).low y.1 y.0 (events_of_task es js 0) (acts_of es 0)) e each.0
 
 -- a print of 7 makes no print of 8
 prints_no_other : {starts : List (Term × Vars)} {cells : List (ℕ × Cell × List ℕ)} {more : List (ℕ × Act × List (List ℕ))} → Plays starts (p 0) 2 0 no_vars (items value_script [] Empty) [] cells ((0, Prints (pos 8) (0 ∷ []), []) ∷ more) → ⊥

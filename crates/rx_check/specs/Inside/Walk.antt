@@ -70,18 +70,18 @@ seen_with None seen = seen
 abbrev pub noted : Option (ℕ × Kind) → Sofar → Sofar
 noted a st = record { seen = seen_with a st.seen; count = suc st.count }
 
-abbrev pub stepped : Option ℕ → Option (ℕ × Kind) → Sofar → Result Sofar (ℕ × ℕ)
-stepped (Some rule) a st = Err (rule, st.count)
-stepped None a st = Ok (noted a st)
+abbrev pub sight_stepped : Option ℕ → Option (ℕ × Kind) → Sofar → Result Sofar (ℕ × ℕ)
+sight_stepped (Some rule) a st = Err (rule, st.count)
+sight_stepped None a st = Ok (noted a st)
 
 abbrev pub and_on : Result Sofar (ℕ × ℕ) → (Sofar → Result Sofar (ℕ × ℕ)) → Result Sofar (ℕ × ℕ)
 and_on (Ok st) f = f st
 and_on (Err e) f = Err e
 
 -- the statements are gone through up to the first that fails a rule
-abbrev pub run : Sofar → List Sight → Result Sofar (ℕ × ℕ)
-run st [] = Ok st
-run st (s ∷ ss) = and_on (stepped (rule_with st.seen s) (assigned s.stmt) st) (λ next. run next ss)
+abbrev pub sights_run : Sofar → List Sight → Result Sofar (ℕ × ℕ)
+sights_run st [] = Ok st
+sights_run st (s ∷ ss) = and_on (sight_stepped (rule_with st.seen s) (assigned s.stmt) st) (λ next. sights_run next ss)
 
 -- what the code's values mean
 abbrev pub kind_as : Made → Kind

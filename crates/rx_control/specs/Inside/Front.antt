@@ -18,30 +18,30 @@ abbrev pub lifted : List Level → Does → Does
 lifted s d = within (λ t. wrap t s) d
 
 -- the levels that a granted statement with the path x leaves, over those after it
-abbrev pub opened : Stmt → List ℕ → List Level → List Level
-opened (Finish body) x ls = More body x 0 ∷ Inside ∷ ls
-opened (At place body) x ls = Waiting ∷ ls
-opened (SetTo name value) x ls = ls
-opened (New name words) x ls = ls
-opened (Get name target index) x ls = ls
-opened (Put target index value) x ls = ls
-opened (Forget target) x ls = ls
-opened (Print value) x ls = ls
-opened (Throw value) x ls = ls
-opened (Async body) x ls = ls
-opened (AtAsync place body) x ls = ls
-opened (If test first other) x ls = ls
-opened (Repeat times body) x ls = ls
-opened (Try body dead_only handler) x ls = ls
+abbrev pub levels_opened : Stmt → List ℕ → List Level → List Level
+levels_opened (Finish body) x ls = More body x 0 ∷ Inside ∷ ls
+levels_opened (At place body) x ls = Waiting ∷ ls
+levels_opened (SetTo name value) x ls = ls
+levels_opened (New name words) x ls = ls
+levels_opened (Get name target index) x ls = ls
+levels_opened (Put target index value) x ls = ls
+levels_opened (Forget target) x ls = ls
+levels_opened (Print value) x ls = ls
+levels_opened (Throw value) x ls = ls
+levels_opened (Async body) x ls = ls
+levels_opened (AtAsync place body) x ls = ls
+levels_opened (If test first other) x ls = ls
+levels_opened (Repeat times body) x ls = ls
+levels_opened (Try body dead_only handler) x ls = ls
 
 -- whether a level is a block without statements left
-abbrev pub IsOver : Bool → Level → Type 0
-IsOver over (More Nothing x i) = over ≡ true
-IsOver over (More (Then stmt more) x i) = over ≡ false
-IsOver over (Again body x k times) = over ≡ false
-IsOver over (Tried dead_only handler x) = over ≡ false
-IsOver over Inside = over ≡ false
-IsOver over Waiting = over ≡ false
+abbrev pub LevelIsOver : Bool → Level → Type 0
+LevelIsOver over (More Nothing x i) = over ≡ true
+LevelIsOver over (More (Then stmt more) x i) = over ≡ false
+LevelIsOver over (Again body x k times) = over ≡ false
+LevelIsOver over (Tried dead_only handler x) = over ≡ false
+LevelIsOver over Inside = over ≡ false
+LevelIsOver over Waiting = over ≡ false
 
 -- whether a level is that of a try or a finish
 abbrev pub IsCatch : Bool → Level → Type 0

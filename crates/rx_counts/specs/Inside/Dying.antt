@@ -85,8 +85,8 @@ abbrev pub MayGain : Sums → Record → Type 0
 MayGain given r = CanGain given r.sums
 
 -- who keeps counts while the scopes with home d give theirs away, from the oldest on: those below i have done so
-abbrev pub until : (Scope → Bool) → PlaceId → ℕ → Scope → Bool
-until keeps d i g = keeps g && not ((g.home.0 == d.0) && ltb g.number.0 i)
+abbrev pub given_until : (Scope → Bool) → PlaceId → ℕ → Scope → Bool
+given_until keeps d i g = keeps g && not ((g.home.0 == d.0) && ltb g.number.0 i)
 
 -- so far the records fit, where `dead` has the death of d
 pub record Passing (T : Tree) (keeps : Scope → Bool) (dead : List (Option ℕ)) (d : PlaceId) (i : ℕ) (rs : List (Option (Box Record))) : Type 0 where
@@ -97,7 +97,7 @@ pub record Passing (T : Tree) (keeps : Scope → Bool) (dead : List (Option ℕ)
   pub based : Each (λ g. g.parent ≡ None → g.number.0 ≡ 0) T.scopes
   pub few_tasks : length T.tasks < 2 ^ 32
   pub few_scopes : length T.scopes < 2 ^ 32
-  pub fit : AllFit (until keeps d i) T.scopes T.tasks rs
+  pub fit : AllFit (given_until keeps d i) T.scopes T.tasks rs
 
 -- the parent of the record, where its home is d
 abbrev pub parent_there : PlaceId → Option Record → Option ScopeId

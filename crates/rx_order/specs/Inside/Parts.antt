@@ -68,9 +68,9 @@ IsPart s path at (Some r) None = ⊥
 IsPart s path at (Some r) (Some p) = (r.number ≡ p.0) × BlockStands s r.block p.1 × (drop r.at path ≡ p.2) × (r.at ≡ at)
 
 -- the walk is over with this answer, or this is the answer further inside
-abbrev pub Goes : Shape → ℕ → Walk → Bool → (Block → ℕ → Bool) → Type 0
-Goes s at (Over answer) value f = answer ≡ value
-Goes s at (On r) value f = (b : Block) × BlockStands s r.block b × (value ≡ f b r.at) × (at ≤ r.at)
+abbrev pub WalkGoes : Shape → ℕ → Walk → Bool → (Block → ℕ → Bool) → Type 0
+WalkGoes s at (Over answer) value f = answer ≡ value
+WalkGoes s at (On r) value f = (b : Block) × BlockStands s r.block b × (value ≡ f b r.at) × (at ≤ r.at)
 
 -- the statement neither starts a task nor is a finish, and has blocks
 abbrev pub IsOpen : Stmt → Type 0

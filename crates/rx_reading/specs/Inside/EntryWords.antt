@@ -7,7 +7,7 @@ use Rattle.rx_rules.specs.declared.entries.Entry.TheVariants.{Step, Root, Death}
 use Rattle.rx_reading.specs.declared.acts.Kind.{Kind}
 use Rattle.rx_reading.specs.declared.acts.Kind.TheVariants as kinds
 use Rattle.rx_reading.specs.Inside.FieldWords.{number_at, place_at, task_at, scope_at, path_at}
-use Rattle.rx_reading.specs.Inside.PartWords.{lost_at, thrown_at, batch_at}
+use Rattle.rx_reading.specs.Inside.PartWords.{lost_read, thrown_at, batch_at}
 use Rattle.rx_reading.specs.Inside.Readers.{Reader, followed, done, keyed, either}
 
 abbrev pub open_at : Reader Act
@@ -31,7 +31,7 @@ abbrev pub wait_at : ℕ → Reader Act
 wait_at places = followed scope_at (λ scope. followed (thrown_at places) (λ thrown. done (Wait scope thrown)))
 
 abbrev pub release_at : ℕ → Reader Act
-release_at places = followed scope_at (λ scope. followed (lost_at places)
+release_at places = followed scope_at (λ scope. followed (lost_read places)
     (λ lost. followed (thrown_at places) (λ thrown. done (Release scope lost thrown))))
 
 abbrev pub end_at : ℕ → Reader Act
@@ -57,7 +57,7 @@ step_at act_at = followed task_at (λ task. followed act_at (λ act. followed ba
 
 -- the host's release of the root
 abbrev pub root_at : ℕ → Reader Entry
-root_at places = keyed (codes "s0") (followed (lost_at places) (λ lost. followed (thrown_at places) (λ thrown. done (Root lost thrown))))
+root_at places = keyed (codes "s0") (followed (lost_read places) (λ lost. followed (thrown_at places) (λ thrown. done (Root lost thrown))))
 
 abbrev pub death_at : ℕ → Reader Entry
 death_at places = followed (place_at places) (λ place. done (Death place))

@@ -6,7 +6,7 @@ use Rattle.rx_rules.specs.declared.events.Cell.{Cell}
 use Rattle.rx_rules.specs.declared.events.Cell.TheVariants.{Make, MakeFull, Get, Put, Forget, GetRefused, PutRefused, ForgetStale}
 use Rattle.rx_rules.specs.declared.events.PlaceEvent.{PlaceEvent}
 use Rattle.rx_rules.specs.declared.events.PlaceEvent.TheVariants.{Done, Close}
-use Rattle.rx_reading.specs.Inside.FieldWords.{natural_at, number_at, task_of, path_at, block_at}
+use Rattle.rx_reading.specs.Inside.FieldWords.{natural_at, number_at, task_spelt, path_at, block_at}
 use Rattle.rx_reading.specs.Inside.Readers.{Reader, followed, done, keyed, either}
 
 -- whether a block was made, and where
@@ -65,11 +65,11 @@ abbrev pub close_at : Reader PlaceEvent
 close_at = followed natural_at (λ stamp. keyed (codes "close") (done (Close stamp)))
 
 -- an event that begins with a task, or else a close
-abbrev pub event_of : ℕ → Option TaskId → List ℕ → List (List ℕ) → Option (PlaceEvent × List (List ℕ))
-event_of home None w ws = close_at (w ∷ ws)
-event_of home (Some task) w ws = done_at home task ws
+abbrev pub event_from : ℕ → Option TaskId → List ℕ → List (List ℕ) → Option (PlaceEvent × List (List ℕ))
+event_from home None w ws = close_at (w ∷ ws)
+event_from home (Some task) w ws = done_at home task ws
 
 -- the words of an event after its number
 abbrev pub event_at : ℕ → Reader PlaceEvent
 event_at home [] = None
-event_at home (w ∷ ws) = event_of home (task_of w) w ws
+event_at home (w ∷ ws) = event_from home (task_spelt w) w ws

@@ -47,11 +47,11 @@ natural_of w = number_below (2 ^ 32) w
 abbrev pub place_of : ℕ → List ℕ → Option PlaceId
 place_of places w = option_map (λ n. record { 0 = n }) (number_below places w)
 
-abbrev pub task_of : List ℕ → Option TaskId
-task_of w = option_map (λ n. record { 0 = n }) (next (stripped (codes "t") w) natural_of)
+abbrev pub task_spelt : List ℕ → Option TaskId
+task_spelt w = option_map (λ n. record { 0 = n }) (next (stripped (codes "t") w) natural_of)
 
-abbrev pub scope_of : List ℕ → Option ScopeId
-scope_of w = option_map (λ n. record { 0 = n }) (next (stripped (codes "s") w) natural_of)
+abbrev pub scope_spelt : List ℕ → Option ScopeId
+scope_spelt w = option_map (λ n. record { 0 = n }) (next (stripped (codes "s") w) natural_of)
 
 -- one number for each piece
 abbrev pub naturals_of : List (List ℕ) → Option (List ℕ)
@@ -80,11 +80,11 @@ or_else (Some a) b = Some a
 abbrev pub dead_of : ℕ → List ℕ → Option Fault
 dead_of places w = option_map (λ p. Dead p) (next (stripped (codes "dead:") w) (place_of places))
 
-abbrev pub thrown_of : List ℕ → Option Fault
-thrown_of w = option_map (λ n. Thrown n) (next (stripped (codes "code:") w) number_of)
+abbrev pub fault_spelt : List ℕ → Option Fault
+fault_spelt w = option_map (λ n. Thrown n) (next (stripped (codes "code:") w) number_of)
 
 abbrev pub fault_of : ℕ → List ℕ → Option Fault
-fault_of places w = or_else (dead_of places w) (or_else (thrown_of w) (plain_fault w))
+fault_of places w = or_else (dead_of places w) (or_else (fault_spelt w) (plain_fault w))
 
 -- the kill that a word spells, where its place is one of so many
 abbrev pub kill_of : ℕ → List ℕ → Option Kill
@@ -100,10 +100,10 @@ abbrev pub place_at : ℕ → Reader PlaceId
 place_at places = word (place_of places)
 
 abbrev pub task_at : Reader TaskId
-task_at = word task_of
+task_at = word task_spelt
 
 abbrev pub scope_at : Reader ScopeId
-scope_at = word scope_of
+scope_at = word scope_spelt
 
 abbrev pub path_at : Reader (List ℕ)
 path_at = word path_of

@@ -15,21 +15,21 @@ use Rattle.rx_reading.specs.Inside.EntryWords.{entry_at}
 use Rattle.rx_reading.specs.Inside.EventWords.{event_at}
 
 -- what has been read
-pub data State : Type 0 where
+pub data ReadingState : Type 0 where
   -- nothing
-  Untitled : State
+  Untitled : ReadingState
   -- the title
-  Titled : State
+  Titled : ReadingState
   -- the numbers of places and of words of a heap
-  Sized : ℕ → ℕ → State
+  Sized : ℕ → ℕ → ReadingState
   -- the setup
-  Planned : Given → State
+  Planned : Given → ReadingState
   -- the setup, and these entries
-  Entering : Given → List Entry → State
+  Entering : Given → List Entry → ReadingState
   -- the setup, the entries, the journals before, and the events so far of one more
-  Logging : Given → List Entry → List (List PlaceEvent) → List PlaceEvent → State
+  Logging : Given → List Entry → List (List PlaceEvent) → List PlaceEvent → ReadingState
   -- everything
-  Over : Given → List Entry → List (List PlaceEvent) → State
+  Over : Given → List Entry → List (List PlaceEvent) → ReadingState
 
 -- a number from 1 to a limit
 abbrev pub count_of : ℕ → List ℕ → Option ℕ
@@ -64,19 +64,19 @@ abbrev pub entry_of : ℕ → ℕ → List ℕ → Option Entry
 entry_of places n line = if nat_lt n (2 ^ 32) then all_read (keyed (natural_text n) (entry_at places) (pieces 32 line)) else None
 
 -- the line of an event
-abbrev pub event_of : ℕ → ℕ → List ℕ → Option PlaceEvent
-event_of home n line = all_read (keyed (natural_text n) (event_at home) (pieces 32 line))
+abbrev pub event_line_of : ℕ → ℕ → List ℕ → Option PlaceEvent
+event_line_of home n line = all_read (keyed (natural_text n) (event_at home) (pieces 32 line))
 
 -- whether the line begins the journal of a place
 abbrev pub begins_journal : ℕ → List ℕ → Bool
 begins_journal p line = bytes_eq line (codes "journal " ++ natural_text p)
 
-abbrev pub state_with_sizes : Option (ℕ × ℕ) → Option State
+abbrev pub state_with_sizes : Option (ℕ × ℕ) → Option ReadingState
 state_with_sizes None = None
 state_with_sizes (Some x) = Some (Sized x.0 x.1)
 
 -- what has been read after one line more, or None where the line may not come next
-abbrev pub read_line : State → List ℕ → Option State
+abbrev pub read_line : ReadingState → List ℕ → Option ReadingState
 read_line Untitled line = if bytes_eq line (codes "rx10 trace 1") then Some Titled else None
 read_line Titled line = state_with_sizes (all_read (sizes_at (pieces 32 line)))
 read_line (Sized places heap) line =
@@ -90,5 +90,5 @@ read_line (Logging setup entries journals events) line =
     then Some (Logging setup entries (journals ++ events ∷ []) [])
     else (if bytes_eq line (codes "done") && length journals + 1 == setup.places
     then Some (Over setup entries (journals ++ events ∷ []))
-    else option_map (λ e. Logging setup entries journals (events ++ e ∷ [])) (event_of (length journals) (length events) line))
+    else option_map (λ e. Logging setup entries journals (events ++ e ∷ [])) (event_line_of (length journals) (length events) line))
 read_line (Over setup entries journals) line = None

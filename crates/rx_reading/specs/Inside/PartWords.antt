@@ -12,24 +12,24 @@ abbrev pub set_of : ℕ → PlaceSet
 set_of set = record { 0 = set }
 
 -- a place joins the set where it is above all that are in it
-abbrev pub joined : Option PlaceId → ℕ → List ℕ → List (List ℕ) → (ℕ → Option (PlaceSet × List (List ℕ)))
+abbrev pub place_joined : Option PlaceId → ℕ → List ℕ → List (List ℕ) → (ℕ → Option (PlaceSet × List (List ℕ)))
     → Option (PlaceSet × List (List ℕ))
-joined None set w ws more = Some (set_of set, w ∷ ws)
-joined (Some p) set w ws more = if nat_lt set (2 ^ p.0) then more (set + 2 ^ p.0) else None
+place_joined None set w ws more = Some (set_of set, w ∷ ws)
+place_joined (Some p) set w ws more = if nat_lt set (2 ^ p.0) then more (set + 2 ^ p.0) else None
 
 -- places in ascending order, which join the set
 abbrev pub places_at : ℕ → ℕ → Reader PlaceSet
 places_at places set [] = Some (set_of set, [])
-places_at places set (w ∷ ws) = joined (place_of places w) set w ws (λ s. places_at places s ws)
+places_at places set (w ∷ ws) = place_joined (place_of places w) set w ws (λ s. places_at places s ws)
 
 abbrev pub some_place : Option (PlaceSet × List (List ℕ)) → Option (PlaceSet × List (List ℕ))
 some_place None = None
 some_place (Some x) = if x.0.0 == 0 then None else Some x
 
 -- the places that lost tasks
-abbrev pub lost_at : ℕ → Reader PlaceSet
-lost_at places [] = Some (set_of 0, [])
-lost_at places (w ∷ ws) = if bytes_eq w (codes "lost") then some_place (places_at places 0 ws) else Some (set_of 0, w ∷ ws)
+abbrev pub lost_read : ℕ → Reader PlaceSet
+lost_read places [] = Some (set_of 0, [])
+lost_read places (w ∷ ws) = if bytes_eq w (codes "lost") then some_place (places_at places 0 ws) else Some (set_of 0, w ∷ ws)
 
 -- faults in their order
 abbrev pub thrown_at : ℕ → Reader (List Fault)

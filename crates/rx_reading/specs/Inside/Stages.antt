@@ -4,9 +4,9 @@ use Rattle.rx_history.specs.Events.{events_of}
 use Rattle.rx_history.specs.Setups.{given}
 use Rattle.rx_reading.specs.declared.stage.Stage.{Stage}
 use Rattle.rx_reading.specs.declared.stage.Stage.TheVariants as stages
-use Rattle.rx_reading.specs.Inside.Machine.{State, Untitled, Titled, Sized, Planned, Entering, Logging, Over}
+use Rattle.rx_reading.specs.Inside.Machine.{ReadingState, Untitled, Titled, Sized, Planned, Entering, Logging, Over}
 
-abbrev pub state_of : Stage → State
+abbrev pub state_of : Stage → ReadingState
 state_of stages.Untitled = Untitled
 state_of stages.Titled = Titled
 state_of (stages.Sized places heap) = Sized places heap

@@ -4,7 +4,7 @@ use Rattle.rx_rules.specs.Code.{Block}
 use Rattle.rx_nodes.specs.Shape.{Shape, IsSmall, ExprStands, ListStands, BlockStands}
 use Rattle.rx_nodes.specs.Grammar.{AllFit, spellings}
 use Rattle.rx_script.specs.Inside.Items.{Item}
-use Rattle.rx_script.specs.Inside.Machine.{Frame, Fore, Other, Handler, Waits, Free, ForElse, ForCatch, State, step}
+use Rattle.rx_script.specs.Inside.Machine.{Frame, Fore, Other, Handler, Waits, Free, ForElse, ForCatch, BlocksRead, step}
 use Rattle.rx_script.specs.Inside.Pieces.{OpenerStands, ItemStands}
 use Rattle.rx_script.specs.Places.{IsPlace}
 use Rattle.rx_script.specs.declared.items.Opener.TheVariants as fronts
@@ -53,21 +53,22 @@ Framed s opened pending (f ∷ outer) so_far =
     × ListStands s ids so_far × Framed s front before outer f.0
 
 -- the reader has read this
-abbrev pub Holds : Reader → State → Type 0
-Holds r s = Framed (shape_of r) r.frames.items r.pending.items s.outer s.so_far × WaitingStands (shape_of r) r.waiting s.waits
+abbrev pub ReaderHolds : Reader → BlocksRead → Type 0
+ReaderHolds r s = Framed (shape_of r) r.frames.items r.pending.items s.outer s.so_far × WaitingStands (shape_of r) r.waiting s.waits
 
 -- an item may stand next
 pub record MayTake (r : Reader) (piece : Piece) : Type 0 where
-  pub state : State
-  pub next : State
+  pub state : BlocksRead
+  pub next : BlocksRead
   pub item : Item
-  pub holds : Holds r state
+  pub holds : ReaderHolds r state
   pub stands : ItemStands r.exprs.items piece item
   pub steps : step state item ≡ Some next
 
 -- the reader after one item more
 abbrev pub Takes : Reader → Piece → Reader → Type 0
-Takes old piece new = (s t : State) (x : Item) → Holds old s → ItemStands old.exprs.items piece x → step s x ≡ Some t → Holds new t
+Takes old piece new = (s t : BlocksRead) (x : Item) → ReaderHolds old s → ItemStands old.exprs.items piece x → step s x ≡ Some t
+    → ReaderHolds new t
 
 -- one statement more, which is pending
 pub record Adds (old : Reader) (node : Node) (new : Reader) : Type 0 where
@@ -106,19 +107,19 @@ pub record BeginsWait (old : Reader) (waiting : Waiting) (new : Reader) : Type 0
   pub waits : new.waiting ≡ waiting
 
 -- what a whole block and what it belongs to make
-abbrev pub Makes : Reader → Owner → BlockId → Reader → Type 0
-Makes old (owners.Front fronts.Async) k new = Adds old (AsyncNode k) new
-Makes old (owners.Front (fronts.AtAsync place)) k new = Adds old (AtAsyncNode place k) new
-Makes old (owners.Front (fronts.At place)) k new = Adds old (AtNode place k) new
-Makes old (owners.Front fronts.Finish) k new = Adds old (FinishNode k) new
-Makes old (owners.Front (fronts.If test)) k new = BeginsWait old (waitings.ForElse test k) new
-Makes old (owners.Front (fronts.Repeat times)) k new = Adds old (RepeatNode times k) new
-Makes old (owners.Front fronts.Try) k new = BeginsWait old (waitings.ForCatch k) new
-Makes old (owners.Other test first) k new = Adds old (IfNode test first k) new
-Makes old (owners.Handler body dead_only) k new = Adds old (TryNode body dead_only k) new
+abbrev pub BlockMakes : Reader → Owner → BlockId → Reader → Type 0
+BlockMakes old (owners.Front fronts.Async) k new = Adds old (AsyncNode k) new
+BlockMakes old (owners.Front (fronts.AtAsync place)) k new = Adds old (AtAsyncNode place k) new
+BlockMakes old (owners.Front (fronts.At place)) k new = Adds old (AtNode place k) new
+BlockMakes old (owners.Front fronts.Finish) k new = Adds old (FinishNode k) new
+BlockMakes old (owners.Front (fronts.If test)) k new = BeginsWait old (waitings.ForElse test k) new
+BlockMakes old (owners.Front (fronts.Repeat times)) k new = Adds old (RepeatNode times k) new
+BlockMakes old (owners.Front fronts.Try) k new = BeginsWait old (waitings.ForCatch k) new
+BlockMakes old (owners.Other test first) k new = Adds old (IfNode test first k) new
+BlockMakes old (owners.Handler body dead_only) k new = Adds old (TryNode body dead_only k) new
 
 -- one statement, block and pending statement more at most, and blocks stay small
-pub record Counts (old new : Reader) : Type 0 where
+pub record GrowsByOne (old new : Reader) : Type 0 where
   pub stmts : length new.stmts.items ≤ length old.stmts.items + 1
   pub exprs : new.exprs ≡ old.exprs
   pub blocks : length (blocks_of new) ≤ length (blocks_of old) + 1

@@ -85,12 +85,12 @@ abbrev pub called : Token → Option (Reader ℕ)
 called (Called n) = Some (done n)
 called _ = None
 
-abbrev pub in_range : Bool → ℕ → Option (Reader ℕ)
-in_range true n = Some (done n)
-in_range false n = None
+abbrev pub number_in_range : Bool → ℕ → Option (Reader ℕ)
+number_in_range true n = Some (done n)
+number_in_range false n = None
 
 abbrev pub counted : (ℕ → Bool) → Token → Option (Reader ℕ)
-counted ok (Number (pos n)) = in_range (ok n) n
+counted ok (Number (pos n)) = number_in_range (ok n) n
 counted ok _ = None
 
 abbrev pub brace : {A : Type 0} → Reader A → Token → Option (Reader A)
@@ -101,9 +101,9 @@ abbrev pub semicolon : {A : Type 0} → Reader A → Token → Option (Reader A)
 semicolon r (Mark Semicolon) = Some r
 semicolon r _ = None
 
-abbrev pub equals : {A : Type 0} → Reader A → Token → Option (Reader A)
-equals r (Mark Equals) = Some r
-equals r _ = None
+abbrev pub equals_then : {A : Type 0} → Reader A → Token → Option (Reader A)
+equals_then r (Mark Equals) = Some r
+equals_then r _ = None
 
 abbrev pub square : {A : Type 0} → Reader A → Token → Option (Reader A)
 square r (Mark LSquare) = Some r
@@ -122,20 +122,20 @@ opens x = choose (brace (done x))
 
 -- after a keyword
 abbrev pub set_at : Reader Item
-set_at = then (choose called) (λ n. choose (equals (then expr (λ e. ends (Whole (SetTo n e))))))
+set_at = then (choose called) (λ n. choose (equals_then (then expr (λ e. ends (Whole (SetTo n e))))))
 
 abbrev pub new_at : Reader Item
-new_at = then (choose called) (λ n. choose (equals (then (choose (counted may_hold)) (λ k. ends (Whole (New n k))))))
+new_at = then (choose called) (λ n. choose (equals_then (then (choose (counted may_hold)) (λ k. ends (Whole (New n k))))))
 
 abbrev pub get_at : Reader Item
 get_at =
-    then (choose called) (λ n. choose (equals (then (choose called) (λ t.
+    then (choose called) (λ n. choose (equals_then (then (choose called) (λ t.
     choose (square (then expr (λ e. choose (end_square (ends (Whole (Get n t e)))))))))))
 
 abbrev pub put_at : Reader Item
 put_at =
     then (choose called) (λ t. choose (square (then expr (λ i.
-    choose (end_square (choose (equals (then expr (λ e. ends (Whole (Put t i e)))))))))))
+    choose (end_square (choose (equals_then (then expr (λ e. ends (Whole (Put t i e)))))))))))
 
 abbrev pub forget_at : Reader Item
 forget_at = then (choose called) (λ t. ends (Whole (Forget t)))
@@ -212,12 +212,12 @@ abbrev pub item_at : Mode → Reader Item
 item_at m = choose (may_begin m)
 
 -- an item may stand here
-abbrev pub Stands : Mode → Item → Type 0
-Stands Outermost (Whole s) = Unit {0}
-Stands Outermost (Open o) = Unit {0}
-Stands Inside (Whole s) = Unit {0}
-Stands Inside (Open o) = Unit {0}
-Stands Inside Close = Unit {0}
-Stands AfterFirst Else = Unit {0}
-Stands AfterBody (Catch d) = Unit {0}
-Stands _ _ = ⊥
+abbrev pub MayStand : Mode → Item → Type 0
+MayStand Outermost (Whole s) = Unit {0}
+MayStand Outermost (Open o) = Unit {0}
+MayStand Inside (Whole s) = Unit {0}
+MayStand Inside (Open o) = Unit {0}
+MayStand Inside Close = Unit {0}
+MayStand AfterFirst Else = Unit {0}
+MayStand AfterBody (Catch d) = Unit {0}
+MayStand _ _ = ⊥

@@ -22,16 +22,16 @@ pub data Waits : Type 0 where
   ForCatch : Block → Waits
 
 -- the statements before an open block and what it belongs to, the innermost first, the innermost statements so far, and what waits there
-pub record State : Type 0 where
+pub record BlocksRead : Type 0 where
   pub outer : List (Block × Frame)
   pub so_far : Block
   pub waits : Waits
 
-abbrev pub free : List (Block × Frame) → Block → State
+abbrev pub free : List (Block × Frame) → Block → BlocksRead
 free outer ts = record { outer = outer; so_far = ts; waits = Free }
 
 -- the innermost block with this front is whole
-abbrev pub ended : List (Block × Frame) → Block → Frame → Block → State
+abbrev pub ended : List (Block × Frame) → Block → Frame → Block → BlocksRead
 ended outer ts (Fore ByAsync) b = free outer (added ts (Async b))
 ended outer ts (Fore (ByAtAsync e)) b = free outer (added ts (AtAsync e b))
 ended outer ts (Fore (ByAt e)) b = free outer (added ts (At e b))
@@ -42,25 +42,25 @@ ended outer ts (Fore ByTry) b = record { outer = outer; so_far = ts; waits = For
 ended outer ts (Other e a) b = free outer (added ts (If e a b))
 ended outer ts (Handler a d) b = free outer (added ts (Try a d b))
 
-abbrev pub closed : List (Block × Frame) → Block → Option State
+abbrev pub closed : List (Block × Frame) → Block → Option BlocksRead
 closed [] b = None
 closed (f ∷ outer) b = Some (ended outer f.0 f.1 b)
 
-abbrev pub stepped : List (Block × Frame) → Block → Waits → Item → Option State
-stepped outer ts Free (Whole s) = Some (free outer (added ts s))
-stepped outer ts Free (Open o) = Some (free ((ts, Fore o) ∷ outer) Nothing)
-stepped outer ts Free Close = closed outer ts
-stepped outer ts (ForElse e a) Else = Some (free ((ts, Other e a) ∷ outer) Nothing)
-stepped outer ts (ForCatch a) (Catch d) = Some (free ((ts, Handler a d) ∷ outer) Nothing)
-stepped outer ts _ _ = None
+abbrev pub item_stepped : List (Block × Frame) → Block → Waits → Item → Option BlocksRead
+item_stepped outer ts Free (Whole s) = Some (free outer (added ts s))
+item_stepped outer ts Free (Open o) = Some (free ((ts, Fore o) ∷ outer) Nothing)
+item_stepped outer ts Free Close = closed outer ts
+item_stepped outer ts (ForElse e a) Else = Some (free ((ts, Other e a) ∷ outer) Nothing)
+item_stepped outer ts (ForCatch a) (Catch d) = Some (free ((ts, Handler a d) ∷ outer) Nothing)
+item_stepped outer ts _ _ = None
 
 -- one item more, where it may stand
-abbrev pub step : State → Item → Option State
-step s x = stepped s.outer s.so_far s.waits x
+abbrev pub step : BlocksRead → Item → Option BlocksRead
+step s x = item_stepped s.outer s.so_far s.waits x
 
-abbrev pub run : State → List Item → Option State
-run s [] = Some s
-run s (x ∷ xs) = option_and_then (λ t. run t xs) (step s x)
+abbrev pub items_run : BlocksRead → List Item → Option BlocksRead
+items_run s [] = Some s
+items_run s (x ∷ xs) = option_and_then (λ t. items_run t xs) (step s x)
 
 abbrev pub mode_in : Waits → List (Block × Frame) → Mode
 mode_in Free [] = Outermost
@@ -68,5 +68,5 @@ mode_in Free (f ∷ outer) = Inside
 mode_in (ForElse e a) outer = AfterFirst
 mode_in (ForCatch a) outer = AfterBody
 
-abbrev pub mode : State → Mode
+abbrev pub mode : BlocksRead → Mode
 mode s = mode_in s.waits s.outer

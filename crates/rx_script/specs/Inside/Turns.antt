@@ -23,11 +23,11 @@ PairsStand es ps (q ∷ qs) =
     (front : List OpenPair) × (last : OpenPair) × (ps ≡ front ++ last ∷ []) × PairStands es last q × PairsStand es front qs
 
 -- what is left is read to this answer
-abbrev pub Reads : List Part → List OpenPair → Turn → List Token → Result (Expr × List Token) (List Token) → Type 0
-Reads es ps turns.Operand ts o = (qs : List Pair) × PairsStand es ps qs × (operand ts qs ≡ o)
-Reads es ps (turns.After i) ts o = (qs : List Pair) × (e : Expr) × PairsStand es ps qs × ExprStands es i e × (whole ts qs e ≡ o)
+abbrev pub ExprReads : List Part → List OpenPair → Turn → List Token → Result (Expr × List Token) (List Token) → Type 0
+ExprReads es ps turns.Operand ts o = (qs : List Pair) × PairsStand es ps qs × (operand ts qs ≡ o)
+ExprReads es ps (turns.After i) ts o = (qs : List Pair) × (e : Expr) × PairsStand es ps qs × ExprStands es i e × (whole ts qs e ≡ o)
 
 -- one token was taken, or can't go on
 abbrev pub Steps : List Part → List OpenPair → Option Turn → Token → List Token → Result (Expr × List Token) (List Token) → Type 0
 Steps es ps None t ts o = o ≡ Err (t ∷ ts)
-Steps es ps (Some turn) t ts o = Reads es ps turn ts o
+Steps es ps (Some turn) t ts o = ExprReads es ps turn ts o

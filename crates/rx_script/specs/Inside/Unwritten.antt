@@ -68,23 +68,23 @@ catch_parts false = One (Key KCatch) ∷ []
 catch_parts true = One (Key KCatch) ∷ One (Key KDead) ∷ []
 
 -- the parts of a statement after its first token
-abbrev pub rest_of : Stmt → List Part
-rest_of (Set name value) = named name ∷ One (Mark Equals) ∷ Value value ∷ One (Mark Semicolon) ∷ []
-rest_of (New name words) = named name ∷ One (Mark Equals) ∷ One (Number (pos words)) ∷ One (Mark Semicolon) ∷ []
-rest_of (Get name target index) =
+abbrev pub parts_after : Stmt → List Part
+parts_after (Set name value) = named name ∷ One (Mark Equals) ∷ Value value ∷ One (Mark Semicolon) ∷ []
+parts_after (New name words) = named name ∷ One (Mark Equals) ∷ One (Number (pos words)) ∷ One (Mark Semicolon) ∷ []
+parts_after (Get name target index) =
     named name ∷ One (Mark Equals) ∷ named target ∷ One (Mark LSquare) ∷ Value index ∷ One (Mark RSquare) ∷ One (Mark Semicolon) ∷ []
-rest_of (Put target index value) =
+parts_after (Put target index value) =
     named target ∷ One (Mark LSquare) ∷ Value index ∷ One (Mark RSquare) ∷ One (Mark Equals) ∷ Value value ∷ One (Mark Semicolon) ∷ []
-rest_of (Forget target) = named target ∷ One (Mark Semicolon) ∷ []
-rest_of (Print value) = Value value ∷ One (Mark Semicolon) ∷ []
-rest_of (Throw value) = Value value ∷ One (Mark Semicolon) ∷ []
-rest_of (Async body) = block_parts body
-rest_of (AtAsync place body) = Value place ∷ One (Key KAsync) ∷ block_parts body
-rest_of (At place body) = Value place ∷ block_parts body
-rest_of (Finish body) = block_parts body
-rest_of (If test first other) = Value test ∷ (block_parts first ++ One (Key KElse) ∷ block_parts other)
-rest_of (Repeat times body) = One (Number (pos times)) ∷ block_parts body
-rest_of (Try body dead_only handler) = block_parts body ++ (catch_parts dead_only ++ block_parts handler)
+parts_after (Forget target) = named target ∷ One (Mark Semicolon) ∷ []
+parts_after (Print value) = Value value ∷ One (Mark Semicolon) ∷ []
+parts_after (Throw value) = Value value ∷ One (Mark Semicolon) ∷ []
+parts_after (Async body) = block_parts body
+parts_after (AtAsync place body) = Value place ∷ One (Key KAsync) ∷ block_parts body
+parts_after (At place body) = Value place ∷ block_parts body
+parts_after (Finish body) = block_parts body
+parts_after (If test first other) = Value test ∷ (block_parts first ++ One (Key KElse) ∷ block_parts other)
+parts_after (Repeat times body) = One (Number (pos times)) ∷ block_parts body
+parts_after (Try body dead_only handler) = block_parts body ++ (catch_parts dead_only ++ block_parts handler)
 
 -- the first token of an expression
 abbrev pub expr_front : Expr → Token

@@ -27,7 +27,7 @@ abbrev pub ScopesFallIn : List Scope → Type 0
 ScopesFallIn gs = FallsIn (λ g. g.number.0) gs
 
 -- the rows of a tree stand in the order of their numbers, the newest first
-pub record InOrder (T : Tree) : Type 0 where
+pub record RowsInOrder (T : Tree) : Type 0 where
   pub tasks : TasksFallIn T.tasks
   pub scopes : ScopesFallIn T.scopes
 

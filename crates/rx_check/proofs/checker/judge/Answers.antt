@@ -6,7 +6,7 @@ use Rattle.rx_nodes.specs.Shape.{BlockStands}
 use Rattle.rx_nodes.specs.declared.nodes.BlockId.{BlockId}
 use Rattle.rx_nodes.specs.declared.nodes.NameId.{NameId}
 use Rattle.rx_check.specs.Rules.{nodes}
-use Rattle.rx_check.specs.Inside.Walk.{is_in, run, seen_all, Knows}
+use Rattle.rx_check.specs.Inside.Walk.{is_in, sights_run, seen_all, Knows}
 use Rattle.rx_check.specs.declared.checker.CheckCause.{CheckCause}
 use Rattle.rx_check.specs.declared.checker.CheckCause.TheVariants.{Bad}
 use Rattle.rx_check.specs.declared.names.Seen.{Seen}
@@ -28,7 +28,7 @@ pub returns-clause-ok : goal.returns-clause-ok
 returns-clause-ok c t h =
     let B : BlockId → Type 0 = λ k. BlockStands c.args.script.now k t in
     let o = c.in_ok-work.ensures.ok t [] (knows-none _ c.new-2.ensures.items) (subst B (sym c.top.ensures) h) in
-    let e = ap (λ (ss : List Seen). run (record { seen = seen_all ss; count = 0 }) (nodes t)) (sym c.new.ensures.items) ∙ o.0 in
+    let e = ap (λ (ss : List Seen). sights_run (record { seen = seen_all ss; count = 0 }) (nodes t)) (sym c.new.ensures.items) ∙ o.0 in
     verdict-none t _ c.in_ok-work.work e o.1 c.if-work-gt100000.false
 
 pub returns-in_err-work-clause-bad : goal.returns-in_err-work-clause-bad
@@ -36,7 +36,7 @@ returns-in_err-work-clause-bad c rule node h t b =
     let B : BlockId → Type 0 = λ k. BlockStands c.args.script.now k t in
     let p = err_from_is_err_and c.from_residual.result c.from_residual.ensures.1 in
     let f = c.in_err-work.ensures.bad rule node (passed c.from_residual.result p.0 c.in_err-work.field-0.0 rule node p.1 p.2 h) t [] (knows-none _ c.new-2.ensures.items) (subst B (sym c.top.ensures) b) in
-    verdict-bad t (rule, node) (ap (λ (ss : List Seen). run (record { seen = seen_all ss; count = 0 }) (nodes t)) (sym c.new.ensures.items) ∙ f)
+    verdict-bad t (rule, node) (ap (λ (ss : List Seen). sights_run (record { seen = seen_all ss; count = 0 }) (nodes t)) (sym c.new.ensures.items) ∙ f)
 
 -- the rule and the node of a fault
 abbrev pair_in : Result ℕ CheckCause → ℕ × ℕ
@@ -47,5 +47,5 @@ pub returns-then-work-gt100000-clause-bad : goal.returns-then-work-gt100000-clau
 returns-then-work-gt100000-clause-bad c rule node h t b =
     let B : BlockId → Type 0 = λ k. BlockStands c.args.script.now k t in
     let o = c.in_ok-work.ensures.ok t [] (knows-none _ c.new-2.ensures.items) (subst B (sym c.top.ensures) b) in
-    let e = ap (λ (ss : List Seen). run (record { seen = seen_all ss; count = 0 }) (nodes t)) (sym c.new.ensures.items) ∙ o.0 in
+    let e = ap (λ (ss : List Seen). sights_run (record { seen = seen_all ss; count = 0 }) (nodes t)) (sym c.new.ensures.items) ∙ o.0 in
     verdict-work t _ c.in_ok-work.work e o.1 c.if-work-gt100000.true ∙ ap (λ r. Some (pair_in r)) h

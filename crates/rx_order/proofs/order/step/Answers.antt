@@ -2,7 +2,7 @@ use Rattle.std.proofs.Common.{◌≡◌, ◌+◌, ◌∙◌, Bool, Some, sym, su
 use Rattle.rx_rules.specs.Code.{Stmt as Tree}
 use Rattle.rx_rules.specs.Order.{comes_before}
 use Rattle.rx_nodes.specs.Shape.{StmtIs}
-use Rattle.rx_order.specs.Inside.Parts.{item_of, Goes}
+use Rattle.rx_order.specs.Inside.Parts.{item_of, WalkGoes}
 use Rattle.rx_order.proofs.Positions.{before-none, before-some, before-less, before-more}
 use Rattle.rx_order.proofs.Keeping.{kept-at}
 use Rattle.rx_order.proofs.Ordering.{before-at, before-same, is-more}
@@ -25,7 +25,7 @@ returns-in-Some c b h =
     let x = c.args.x.now in
     let y = c.args.y.now in
     let k : (t : Tree) × StmtIs c.args.script.now c.in-Some.stmt t × (item_of b c.item-i.result ≡ Some t) = rw c.in-Some.is at c.stmt_at.ensures b h in
-    let P : Bool → Type 0 = λ v. Goes c.args.script.now (c.args.at + 1) c.inside.result v (λ d m. comes_before d (drop m x) (drop m y)) in
+    let P : Bool → Type 0 = λ v. WalkGoes c.args.script.now (c.args.at + 1) c.inside.result v (λ d m. comes_before d (drop m x) (drop m y)) in
     let e = before-same b x y c.args.at c.item-i.result c.item-j.result c.item-i.ensures c.item-j.ensures c.if-i-j.true ∙ before-some b c.item-i.result (drop (c.args.at + 1) x) (drop (c.args.at + 1) y) k.0 k.2 in
     subst P (sym e) (c.inside.ensures k.0 k.1)
 

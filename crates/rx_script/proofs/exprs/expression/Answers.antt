@@ -2,7 +2,7 @@ use Rattle.std.proofs.Common.{◌≡◌, List, ◌∷◌, subst, sym, ◌∙◌,
 use Rattle.std.specs.Prelude.{Option, Some, None, Result, Err}
 use Rattle.rx_rules.specs.Code.{Expr}
 use Rattle.rx_script.specs.Inside.Exprs.{expr}
-use Rattle.rx_script.specs.Inside.Turns.{Reads, Steps}
+use Rattle.rx_script.specs.Inside.Turns.{ExprReads, Steps}
 use Rattle.rx_nodes.specs.declared.nodes.Expr.{Expr as Part}
 use Rattle.rx_token.specs.declared.token.Token.{Token}
 use Rattle.rx_script.specs.declared.exprs.OpenPair.{OpenPair}
@@ -12,13 +12,13 @@ use Rattle.rx_script.proofs.Growing.{grows-on}
 use Rattle.rx_script.proofs.exprs.expression.Goals as goal
 
 -- what is left begins with this token
-taken : (es : List Part) (ps qs : List OpenPair) (t u : Turn) (ts : List Token) (a : Token) (us : List Token) (o : Result (Expr × List Token) (List Token)) → ps ≡ qs → t ≡ u → ts ≡ a ∷ us → Reads es ps t ts o → Reads es qs u (a ∷ us) o
+taken : (es : List Part) (ps qs : List OpenPair) (t u : Turn) (ts : List Token) (a : Token) (us : List Token) (o : Result (Expr × List Token) (List Token)) → ps ≡ qs → t ≡ u → ts ≡ a ∷ us → ExprReads es ps t ts o → ExprReads es qs u (a ∷ us) o
 taken es ps qs t u ts a us o e f g h =
-    let one : Reads es qs t ts o = subst (λ (p : List OpenPair). Reads es p t ts o) e h in
-    let two : Reads es qs u ts o = subst (λ (p : Turn). Reads es qs p ts o) f one in
-    subst (λ (p : List Token). Reads es qs u p o) g two
+    let one : ExprReads es qs t ts o = subst (λ (p : List OpenPair). ExprReads es p t ts o) e h in
+    let two : ExprReads es qs u ts o = subst (λ (p : Turn). ExprReads es qs p ts o) f one in
+    subst (λ (p : List Token). ExprReads es qs u p o) g two
 
-went-on : (es : List Part) (ps : List OpenPair) (w : Option Turn) (v : Turn) (a : Token) (us : List Token) (o : Result (Expr × List Token) (List Token)) → w ≡ Some v → Steps es ps w a us o → Reads es ps v us o
+went-on : (es : List Part) (ps : List OpenPair) (w : Option Turn) (v : Turn) (a : Token) (us : List Token) (o : Result (Expr × List Token) (List Token)) → w ≡ Some v → Steps es ps w a us o → ExprReads es ps v us o
 went-on es ps w v a us o e h = subst (λ (x : Option Turn). Steps es ps x a us o) e h
 
 stopped : (es : List Part) (ps : List OpenPair) (w : Option Turn) (a : Token) (us ts : List Token) (o : Result (Expr × List Token) (List Token)) → w ≡ None → ts ≡ a ∷ us → Steps es ps w a us o → o ≡ Err ts

@@ -1,7 +1,7 @@
 use Rattle.std.proofs.Common.{◌≡◌, ◌++◌, ◌∷◌, ◌+◌, ◌-◌, false, refl, [], length, ap, sym, ◌∙◌, subst, subst₂, append_assoc, arith}
 use Rattle.rx_token.specs.declared.token.Token.TheVariants.{Bad}
 use Rattle.rx_token.specs.Lexical.{skipped, token_at}
-use Rattle.rx_token.specs.Tokens.{InOrder}
+use Rattle.rx_token.specs.Tokens.{NamesInOrder}
 use Rattle.rx_token.specs.Scans.{Scans}
 use Rattle.rx_token.specs.Tables.{names_of}
 use Rattle.rx_token.proofs.Scanning.{Goes, goes-end, goes-bad, goes-more, order-more, is-empty, not-empty, few-more}
@@ -30,7 +30,7 @@ returns-in_default-clause-names c =
     record {
       are_names = i.table.are_names;
       distinct = i.table.distinct;
-      in_order = subst (λ us. InOrder 0 us (length (names_of c.tokens.table.names))) (sym c.in_ok-push-2.ensures.items) (order-more 0 _ _ c.tokens.tokens.items Bad i.in_order refl);
+      in_order = subst (λ us. NamesInOrder 0 us (length (names_of c.tokens.table.names))) (sym c.in_ok-push-2.ensures.items) (order-more 0 _ _ c.tokens.tokens.items Bad i.in_order refl);
     }
 
 pub tokens-preserved : goal.tokens-preserved
@@ -43,7 +43,7 @@ tokens-preserved c =
       goes = subst₂ (λ us ss. Goes (names_of c.numbered.new.table.names) (length c.args.bytes.now) c.args.bytes.now us ss c.in-Some.after.now) (sym c.in_ok-push-4.ensures.items) (sym c.in_ok-push.ensures.items) (
           goes-more _ _ _ c.args.bytes.now _ _ c.tokens.rest.now c.in_ok-next.next _ c.in-Some.lexeme c.in-Some.after.now i.goes t (ap token_at (sym left) ∙ sym c.in-Some.ensures.token) at);
       table = c.in_ok-next.ensures.table;
-      in_order = subst (λ us. InOrder 0 us (length (names_of c.numbered.new.table.names))) (sym c.in_ok-push-4.ensures.items) (order-more 0 _ _ c.tokens.tokens.items c.in_ok-next.next i.in_order t.counts);
+      in_order = subst (λ us. NamesInOrder 0 us (length (names_of c.numbered.new.table.names))) (sym c.in_ok-push-4.ensures.items) (order-more 0 _ _ c.tokens.tokens.items c.in_ok-next.next i.in_order t.counts);
       short = omega (arith, i.short, c.skip-here.ensures.shorter, c.in-Some.ensures.shorter, c.in_ok-push-4.ensures.len);
       few = omega (arith, i.few, few-more _ _ _ t.counts, c.in_ok-push-4.ensures.len);
     }

@@ -1,6 +1,6 @@
 use Rattle.std.proofs.Common.{◌≤◌, ◌+◌, length, vec_len}
 use Rattle.rx_token.specs.Names.{IsTable}
-use Rattle.rx_token.specs.Tokens.{InOrder}
+use Rattle.rx_token.specs.Tokens.{NamesInOrder}
 use Rattle.rx_token.specs.Tables.{names_of}
 use Rattle.rx_token.proofs.Scanning.{Goes}
 use Rattle.rx_token.proofs.scanner.scan.Given as goal
@@ -10,7 +10,7 @@ abbrev pub invariant-tokens : goal.invariant-tokens
 invariant-tokens l = record {
   goes : Goes (names_of l.table.names) (length l.bytes) l.bytes l.tokens.items l.starts.items l.rest;
   table : IsTable l.table;
-  in_order : InOrder 0 l.tokens.items (length (names_of l.table.names));
+  in_order : NamesInOrder 0 l.tokens.items (length (names_of l.table.names));
   short : vec_len l.tokens + length l.rest ≤ length l.bytes;
   few : length (names_of l.table.names) ≤ vec_len l.tokens;
 }

@@ -5,7 +5,7 @@ use Rattle.std.proofs.lemmas.Result.{err_from_is_err_and}
 use Rattle.rx_rules.specs.Code.{work}
 use Rattle.rx_nodes.specs.declared.nodes.NameId.{NameId}
 use Rattle.rx_check.specs.Rules.{Kind, Sight, assigned, inside, learned, sights}
-use Rattle.rx_check.specs.Inside.Walk.{Sofar, cap, known_with, noted, run, rule_with, seen_all, seen_as, sofar_of, work_with, Knows}
+use Rattle.rx_check.specs.Inside.Walk.{Sofar, cap, known_with, noted, sights_run, rule_with, seen_all, seen_as, sofar_of, work_with, Knows}
 use Rattle.rx_check.specs.declared.checker.CheckCause.{CheckCause}
 use Rattle.rx_check.specs.declared.checker.CheckCause.TheVariants.{Bad}
 use Rattle.rx_check.specs.declared.parts.Bodies.{Bodies}
@@ -80,7 +80,7 @@ inside-returns-in_err-work-in-One-clause-bad t c rule node h u known k b =
     let y = subst P (sym c.in-One.ensures) (bodies-are c.args.script.now c.args.stmt u b) in
     let p = err_from_is_err_and c.from_residual.result c.from_residual.ensures.1 in
     let f = c.in_err-work-in-One.ensures.bad rule node (passed c.from_residual.result p.0 c.in_err-work-in-One.field-0.0 rule node p.1 p.2 h) y.0 known k y.1 in
-    ap (run st) (y.2 known c.args.depth) ∙ (ap (λ d. run st (sights known d y.0)) (sym (one-more c.args.depth)) ∙ f)
+    ap (sights_run st) (y.2 known c.args.depth) ∙ (ap (λ d. sights_run st (sights known d y.0)) (sym (one-more c.args.depth)) ∙ f)
 
 pub inside-returns-in_err-first-in-Two-clause-bad : goal.inside-returns-in_err-first-in-Two-clause-bad
 inside-returns-in_err-first-in-Two-clause-bad t c rule node h u known k b =
@@ -91,7 +91,7 @@ inside-returns-in_err-first-in-Two-clause-bad t c rule node h u known k b =
     let p = err_from_is_err_and r.result r.ensures.1 in
     let f = c.in_err-first-in-Two.ensures.bad rule node (passed r.result p.0 c.in_err-first-in-Two.field-0.0 rule node p.1 p.2 h) y.0 known k y.2 in
     let d : ℕ = c.args.depth in
-    ap (run st) (y.4 known d) ∙ run-bad st (sights known (suc d) y.0) (sights known (suc d) y.1) (rule, node) (ap (λ m. run st (sights known m y.0)) (sym (one-more d)) ∙ f)
+    ap (sights_run st) (y.4 known d) ∙ run-bad st (sights known (suc d) y.0) (sights known (suc d) y.1) (rule, node) (ap (λ m. sights_run st (sights known m y.0)) (sym (one-more d)) ∙ f)
 
 pub inside-returns-in_err-second-in-Two-clause-bad : goal.inside-returns-in_err-second-in-Two-clause-bad
 inside-returns-in_err-second-in-Two-clause-bad t c rule node h u known k b =
@@ -103,15 +103,15 @@ inside-returns-in_err-second-in-Two-clause-bad t c rule node h u known k b =
     let p = err_from_is_err_and r.result r.ensures.1 in
     let q = c.in_err-second-in-Two.ensures.bad rule node (passed r.result p.0 c.in_err-second-in-Two.field-0.0 rule node p.1 p.2 h) y.1 known (knows-same c.block-in-Two.new.self.known.items c.args.self.now.known.items known c.in_ok-first-in-Two.ensures.kept k) y.3 in
     let d : ℕ = c.args.depth in
-    let e = ap (λ m. run st (sights known m y.0)) (sym (one-more d)) ∙ o.0 in
-    let f = ap (λ m. run (sofar_of c.block-in-Two.new.self) (sights known m y.1)) (sym (one-more d)) ∙ q in
-    ap (run st) (y.4 known d) ∙ (run-on st (sofar_of c.block-in-Two.new.self) (sights known (suc d) y.0) (sights known (suc d) y.1) e ∙ f)
+    let e = ap (λ m. sights_run st (sights known m y.0)) (sym (one-more d)) ∙ o.0 in
+    let f = ap (λ m. sights_run (sofar_of c.block-in-Two.new.self) (sights known m y.1)) (sym (one-more d)) ∙ q in
+    ap (sights_run st) (y.4 known d) ∙ (run-on st (sofar_of c.block-in-Two.new.self) (sights known (suc d) y.0) (sights known (suc d) y.1) e ∙ f)
 
 pub inside-returns-in-No-clause-ok : goal.inside-returns-in-No-clause-ok
 inside-returns-in-No-clause-ok t c u known k b =
     let P : Bodies → Type 0 = λ o. BodiesAre c.args.script.now o c.args.stmt u in
     let y = subst P (sym c.in-No.ensures) (bodies-are c.args.script.now c.args.stmt u b) in
-    (ap (run (sofar_of c.args.self.now)) (y.0 known c.args.depth), c.total.ensures.total ∙ ap cap (sym y.1))
+    (ap (sights_run (sofar_of c.args.self.now)) (y.0 known c.args.depth), c.total.ensures.total ∙ ap cap (sym y.1))
 
 pub inside-returns-in_ok-work-in-One-clause-ok : goal.inside-returns-in_ok-work-in-One-clause-ok
 inside-returns-in_ok-work-in-One-clause-ok t c u known k b =
@@ -119,7 +119,7 @@ inside-returns-in_ok-work-in-One-clause-ok t c u known k b =
     let P : Bodies → Type 0 = λ o. BodiesAre c.args.script.now o c.args.stmt u in
     let y = subst P (sym c.in-One.ensures) (bodies-are c.args.script.now c.args.stmt u b) in
     let o = c.in_ok-work-in-One.ensures.ok y.0 known k y.1 in (
-      ap (run st) (y.2 known c.args.depth) ∙ (ap (λ d. run st (sights known d y.0)) (sym (one-more c.args.depth)) ∙ o.0),
+      ap (sights_run st) (y.2 known c.args.depth) ∙ (ap (λ d. sights_run st (sights known d y.0)) (sym (one-more c.args.depth)) ∙ o.0),
       c.total-in-One.ensures.total ∙ (ap (λ w. cap (work_with c.args.stmt w 0)) o.1 ∙ (cap-with c.args.stmt (work y.0) 0 ∙ ap cap (sym y.3))),
     )
 
@@ -131,9 +131,9 @@ inside-returns-in_ok-second-in-Two-clause-ok t c u known k b =
     let o = c.in_ok-first-in-Two.ensures.ok y.0 known k y.2 in
     let q = c.in_ok-second-in-Two.ensures.ok y.1 known (knows-same c.block-in-Two.new.self.known.items c.args.self.now.known.items known c.in_ok-first-in-Two.ensures.kept k) y.3 in
     let d : ℕ = c.args.depth in
-    let e = ap (λ m. run st (sights known m y.0)) (sym (one-more d)) ∙ o.0 in
-    let f = ap (λ m. run (sofar_of c.block-in-Two.new.self) (sights known m y.1)) (sym (one-more d)) ∙ q.0 in (
-      ap (run st) (y.4 known d) ∙ (run-on st (sofar_of c.block-in-Two.new.self) (sights known (suc d) y.0) (sights known (suc d) y.1) e ∙ f),
+    let e = ap (λ m. sights_run st (sights known m y.0)) (sym (one-more d)) ∙ o.0 in
+    let f = ap (λ m. sights_run (sofar_of c.block-in-Two.new.self) (sights known m y.1)) (sym (one-more d)) ∙ q.0 in (
+      ap (sights_run st) (y.4 known d) ∙ (run-on st (sofar_of c.block-in-Two.new.self) (sights known (suc d) y.0) (sights known (suc d) y.1) e ∙ f),
       c.total-in-Two.ensures.total ∙ (ap (λ w. cap (work_with c.args.stmt w c.in_ok-second-in-Two.second)) o.1 ∙ (ap (λ w. cap (work_with c.args.stmt (cap (work y.0)) w)) q.1 ∙ (cap-with c.args.stmt (work y.0) (work y.1) ∙ ap cap (sym y.5)))),
     )
 
@@ -152,7 +152,7 @@ statement-returns-in_err-work-clause-bad t c rule node h u known k b =
     let st = sofar_of w in
     let x : Sight = record { stmt = u; depth = c.args.depth; known = known } in
     let r : rule_with (seen_all w.seen.items) x ≡ None = sym (c.in_ok-rule.ensures.rule u known k b) ∙ c.in_default.is in
-    let F : Sofar → Result Sofar (ℕ × ℕ) = λ next. run next (inside known c.args.depth u) in
+    let F : Sofar → Result Sofar (ℕ × ℕ) = λ next. sights_run next (inside known c.args.depth u) in
     let y = parts-stand c.args.script.now c.args.stmt u b in
     let a : option_map seen_as c.split.result.assigned ≡ assigned u = ap (λ (p : Parts). option_map seen_as p.assigned) c.split.ensures ∙ sym y.assigns in
     let n : sofar_of c.note.new.self ≡ noted (assigned u) st = c.in_ok-note.ensures.noted ∙ ap (λ o. noted o st) a in
@@ -167,7 +167,7 @@ statement-returns-clause-ok t c u known k b =
     let st = sofar_of w in
     let x : Sight = record { stmt = u; depth = c.args.depth; known = known } in
     let r : rule_with (seen_all w.seen.items) x ≡ None = sym (c.in_ok-rule.ensures.rule u known k b) ∙ c.in_default.is in
-    let F : Sofar → Result Sofar (ℕ × ℕ) = λ next. run next (inside known c.args.depth u) in
+    let F : Sofar → Result Sofar (ℕ × ℕ) = λ next. sights_run next (inside known c.args.depth u) in
     let y = parts-stand c.args.script.now c.args.stmt u b in
     let a : option_map seen_as c.split.result.assigned ≡ assigned u = ap (λ (p : Parts). option_map seen_as p.assigned) c.split.ensures ∙ sym y.assigns in
     let a2 : option_map seen_as c.split-2.result.assigned ≡ assigned u = ap (λ (p : Parts). option_map seen_as p.assigned) c.split-2.ensures ∙ sym y.assigns in

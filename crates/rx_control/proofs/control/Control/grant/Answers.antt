@@ -6,7 +6,7 @@ use Rattle.rx_control.specs.declared.frame.Frame.{Frame}
 use Rattle.rx_control.specs.declared.frame.Frame.TheVariants.{Seq, Turns, Try, Body, Held}
 use Rattle.rx_control.specs.declared.control.Control.{Control}
 use Rattle.rx_control.specs.Stands.{path_of, FramesStand, StandsFor}
-use Rattle.rx_control.specs.Inside.Front.{opened, SettlesTo}
+use Rattle.rx_control.specs.Inside.Front.{levels_opened, SettlesTo}
 use Rattle.rx_control.proofs.Standing.{at-top, at-statement, at-turns, at-tried, at-inside, at-waiting, calm-seq, calm-turns, calm-held, settled-stands}
 use Rattle.rx_control.proofs.Steps.{went}
 use Rattle.rx_control.proofs.Answering.{granted-front, granted-inside, granted-waiting, granted-turns, granted-tried, raised-or, calm-or}
@@ -67,8 +67,8 @@ returns-in-Some-Seq-clause-stands c t h =
     let ls = More a.more x (suc c.in-Some-Seq.next) ∷ a.others in
     let w = went c.args.script.now c.args.self.now t e.0 c.go_on.new.frames.items c.in-Some-Seq.block c.in-Some-Seq.next c.following-after.result c.in-Some-Seq.part a (c.go_on.ensures.items e.0 (Seq c.in-Some-Seq.block c.in-Some-Seq.next c.in-Some-Seq.part) e.1) c.following-after.ensures in
     let d : Control = record { base = c.args.self.now.base; frames = c.open_after.new.frames; raised = c.args.self.now.raised; vars = c.args.self.now.vars } in
-    let g = ap (granted c.args.faults) a.is ∙ granted-front c.args.faults a.stmt a.more x c.in-Some-Seq.next a.others ∙ ap (λ y. term_of None (opened a.stmt y ls)) (sym w.path) in
-    settled-stands c.args.script.now d (opened a.stmt (path_of c.args.self.now.base c.go_on.new.frames.items) ls) None (granted c.args.faults t) r (c.open_after.ensures c.args.self.now.base ls a.stmt w.stands (c.at_hand-stmt.ensures a.stmt a.more a.awaits)) g
+    let g = ap (granted c.args.faults) a.is ∙ granted-front c.args.faults a.stmt a.more x c.in-Some-Seq.next a.others ∙ ap (λ y. term_of None (levels_opened a.stmt y ls)) (sym w.path) in
+    settled-stands c.args.script.now d (levels_opened a.stmt (path_of c.args.self.now.base c.go_on.new.frames.items) ls) None (granted c.args.faults t) r (c.open_after.ensures c.args.self.now.base ls a.stmt w.stands (c.at_hand-stmt.ensures a.stmt a.more a.awaits)) g
 
 pub returns-in-Some-Body-clause-stands : goal.returns-in-Some-Body-clause-stands
 returns-in-Some-Body-clause-stands c t h =

@@ -7,7 +7,7 @@ use Rattle.rx_rank.specs.Numbers.{Ascends, marked}
 use Rattle.rx_machine.specs.declared.machine.Machine.{Machine}
 use Rattle.rx_machine.specs.Slots.{seat_at}
 use Rattle.rx_machine.specs.Holds.{CanTurn}
-use Rattle.rx_machine.specs.Picking.{slot_able, has}
+use Rattle.rx_machine.specs.Picking.{slot_able, is_listed}
 use Rattle.rx_machine.proofs.Finding.{same_or_not}
 use Rattle.rx_machine.proofs.Readying.{marked_same, marked_other, ascends_marked}
 use Rattle.rx_machine.proofs.Noting.{can-same}
@@ -31,12 +31,12 @@ loop-i-preserved g c =
       c.note.ensures.room ∙ c.loop-i.invariant.2,
       λ a. subst (Ascends 0) (sym first) (ascends_marked (able w.2 w.3) i old (c.loop-i.invariant.3 a)),
       λ shape code U G h n low.
-          ap (has n) (told shape code U G h)
+          ap (is_listed n) (told shape code U G h)
           ∙ elim (same_or_not n i) [
-            | inl e ↦ subst (λ (v : ℕ). has v (marked (able U G) i old) ≡ slot_able (tree_in U G) (seat_at m.seats.items v)) (sym e) (marked_same (able U G) i old)
+            | inl e ↦ subst (λ (v : ℕ). is_listed v (marked (able U G) i old) ≡ slot_able (tree_in U G) (seat_at m.seats.items v)) (sym e) (marked_same (able U G) i old)
             | inr apart ↦ marked_other (able U G) i n old apart ∙ c.loop-i.invariant.4 shape code U G h n (omega (arith, low, apart))
           ],
-      λ n high. ap (has n) first ∙ (marked_other (able w.2 w.3) i n old (λ e. omega (arith, e, high)) ∙ c.loop-i.invariant.5 n (omega (arith, high))),
+      λ n high. ap (is_listed n) first ∙ (marked_other (able w.2 w.3) i n old (λ e. omega (arith, e, high)) ∙ c.loop-i.invariant.5 n (omega (arith, high))),
     )
 
 pub returns-clause-noted : goal.returns-clause-noted

@@ -6,7 +6,7 @@ use Rattle.rx_rank.specs.Numbers.{Ascends}
 use Rattle.rx_nodes.specs.Shape.{Shape}
 use Rattle.rx_machine.specs.Slots.{seat_at}
 use Rattle.rx_machine.specs.Holds.{CanTurn}
-use Rattle.rx_machine.specs.Picking.{slot_able, has}
+use Rattle.rx_machine.specs.Picking.{slot_able, is_listed}
 use Rattle.rx_machine.proofs.machine.Machine.note_all.Given as goal
 
 -- of the slots before i it is noted whether they are enabled
@@ -16,5 +16,5 @@ invariant-loop-i g l =
     × (l.self.ready.origins ≡ l.initial.self.ready.origins)
     × (l.self.ready.tasks.room ≡ l.initial.self.ready.tasks.room)
     × (Ascends 0 l.initial.self.ready.tasks.members → Ascends 0 l.self.ready.tasks.members)
-    × ((shape : Shape) (code : Block) (U : Given) (G : Game) → CanTurn g.L.FinishLedger.stands shape code U l.initial.self G → (n : ℕ) → n < l.i → has n l.self.ready.tasks.members ≡ slot_able (tree_in U G) (seat_at l.initial.self.seats.items n))
-    × ((n : ℕ) → l.i ≤ n → has n l.self.ready.tasks.members ≡ has n l.initial.self.ready.tasks.members)
+    × ((shape : Shape) (code : Block) (U : Given) (G : Game) → CanTurn g.L.FinishLedger.stands shape code U l.initial.self G → (n : ℕ) → n < l.i → is_listed n l.self.ready.tasks.members ≡ slot_able (tree_in U G) (seat_at l.initial.self.seats.items n))
+    × ((n : ℕ) → l.i ≤ n → is_listed n l.self.ready.tasks.members ≡ is_listed n l.initial.self.ready.tasks.members)

@@ -4,8 +4,8 @@ use Rattle.rx_rules.specs.declared.events.Cell.TheVariants.{Forget, ForgetStale}
 use Rattle.rx_rules.specs.Store.{is_block}
 use Rattle.rx_store.specs.declared.table.Held.{Held}
 use Rattle.rx_store.specs.Kept.{Kept, state_of}
-use Rattle.rx_store.specs.Answers.{Tells}
-use Rattle.rx_store.specs.Table.{Holds}
+use Rattle.rx_store.specs.Answers.{StoreTells}
+use Rattle.rx_store.specs.Table.{TableHolds}
 use Rattle.rx_store.proofs.Holding.{all_live}
 use Rattle.rx_store.proofs.Steps.{IsTold, seen, told_steady, told_tells, told_run}
 use Rattle.rx_store.proofs.Lookups.{is_found, law_stale}
@@ -27,12 +27,12 @@ stale c = record {
 
 pub invariant_of-self : goal.invariant_of-self
 invariant_of-self c =
-    let H : List (Option Held) → Type 0 = λ z. Holds c.self.inside.heap z (state_of c.self.inside.journal.events).blocks in
+    let H : List (Option Held) → Type 0 = λ z. TableHolds c.self.inside.heap z (state_of c.self.inside.journal.events).blocks in
     told_steady _ _ _ _ _ _ _ _ _ _ _ _ _ (stale c) c.self.invariant (subst H (sym c.in_default.ensures.same) (c.self.invariant.holds c.if-self.false)) c.self.invariant.made_is
 
 pub returns-in_default-clause-answer : goal.returns-in_default-clause-answer
 returns-in_default-clause-answer c =
-    let T : Kept → Type 0 = λ z. Tells z (seen c.self.inside.place c.self.inside.heap c.tell.new.journal c.self.inside.closed) c.args.m (ForgetStale c.args.r) in
+    let T : Kept → Type 0 = λ z. StoreTells z (seen c.self.inside.place c.self.inside.heap c.tell.new.journal c.self.inside.closed) c.args.m (ForgetStale c.args.r) in
     subst T c.self.view_is (told_tells c.self.inside.place _ _ _ _ _ _ _ _ _ _ _ (stale c) c.self.invariant)
 
 pub returns-in_default-clause-run : goal.returns-in_default-clause-run
@@ -60,13 +60,13 @@ pub invariant_of-self-2 : goal.invariant_of-self-2
 invariant_of-self-2 c =
     let some = c.in-Some.ensures.some in
     let bs = (state_of c.self.inside.journal.events).blocks in
-    let H : List (Option Held) → Type 0 = λ z. Holds c.give.new.self z (filter (λ b. not (is_block c.args.r b)) bs) in
+    let H : List (Option Held) → Type 0 = λ z. TableHolds c.give.new.self z (filter (λ b. not (is_block c.args.r b)) bs) in
     let holds = forget_holds c.self.inside.heap c.give.new.self c.self.inside.slots.items bs c.args.r c.in-Some.held (c.self.invariant.holds c.if-self.false) c.give.ensures.laid c.give.ensures.words some.0 some.1 c.give.ensures.gone in
     told_steady _ _ _ _ _ _ _ _ _ _ _ _ _ (done c) c.self.invariant (subst H (sym c.in-Some.ensures.gone) holds) c.self.invariant.made_is
 
 pub returns-clause-answer : goal.returns-clause-answer
 returns-clause-answer c =
-    let T : Kept → Type 0 = λ z. Tells z (seen c.self.inside.place c.give.new.self c.tell-2.new.journal c.self.inside.closed) c.args.m (Forget c.args.r) in
+    let T : Kept → Type 0 = λ z. StoreTells z (seen c.self.inside.place c.give.new.self c.tell-2.new.journal c.self.inside.closed) c.args.m (Forget c.args.r) in
     subst T c.self.view_is (told_tells c.self.inside.place _ _ _ _ _ _ _ _ _ _ _ (done c) c.self.invariant)
 
 pub returns-clause-run : goal.returns-clause-run

@@ -11,7 +11,7 @@ use Rattle.rx_store.specs.Kept.{Kept, state_of}
 use Rattle.rx_store.specs.declared.calls.Mark.{Mark}
 use Rattle.rx_store.specs.declared.calls.StoreFault.{StoreFault}
 use Rattle.rx_store.specs.declared.calls.StoreFault.TheVariants.{Stale, Index}
-use Rattle.rx_store.specs.Answers.{Tells, GetAnswers}
+use Rattle.rx_store.specs.Answers.{StoreTells, GetAnswers}
 use Rattle.rx_store.specs.Table.{IsLocated, IsUnlocated}
 use Rattle.rx_store.proofs.Steps.{IsTold, seen, told_steady, told_tells, told_run}
 use Rattle.rx_store.proofs.Lookups.{law_refused, located_found, law_get}
@@ -20,7 +20,7 @@ use Rattle.rx_store.proofs.store.Store.get.Goals as goal
 abbrev HasRoom : Kept → Type 0
 HasRoom k = 0 < k.spare
 
-refusal : (old new : Kept) (m : Mark) (r : GlobalRef) (i : ℤ) (stale : Bool) → Tells old new m (GetRefused r i stale) → GetAnswers old new m r i (Err (cond stale Stale Index))
+refusal : (old new : Kept) (m : Mark) (r : GlobalRef) (i : ℤ) (stale : Bool) → StoreTells old new m (GetRefused r i stale) → GetAnswers old new m r i (Err (cond stale Stale Index))
 refusal old new m r i true t = t
 refusal old new m r i false t = t
 
@@ -42,7 +42,7 @@ invariant_of-self-in-Err c = told_steady _ _ _ _ _ _ _ _ _ _ _ _ _ (refused c) c
 
 pub returns-in-Err-clause-answer : goal.returns-in-Err-clause-answer
 returns-in-Err-clause-answer c =
-    let T : Kept → Type 0 = λ z. Tells z (seen c.self.inside.place c.self.inside.heap c.tell-in-Err.new.journal c.self.inside.closed) c.args.m (GetRefused c.args.r c.args.i c.in-Err.stale) in
+    let T : Kept → Type 0 = λ z. StoreTells z (seen c.self.inside.place c.self.inside.heap c.tell-in-Err.new.journal c.self.inside.closed) c.args.m (GetRefused c.args.r c.args.i c.in-Err.stale) in
     let F : StoreFault → Type 0 = λ f. GetAnswers c.args.self.now (seen c.self.inside.place c.self.inside.heap c.tell-in-Err.new.journal c.self.inside.closed) c.args.m c.args.r c.args.i (Err f) in
     subst F (sym c.unlocated.ensures) (refusal _ _ _ _ _ c.in-Err.stale (subst T c.self.view_is (told_tells c.self.inside.place _ _ _ _ _ _ _ _ _ _ _ (refused c) c.self.invariant)))
 
@@ -73,7 +73,7 @@ invariant_of-self c = told_steady _ _ _ _ _ _ _ _ _ _ _ _ _ (done c) c.self.inva
 
 pub returns-in-Ok-clause-answer : goal.returns-in-Ok-clause-answer
 returns-in-Ok-clause-answer c =
-    let T : Kept → Type 0 = λ z. Tells z (seen c.self.inside.place c.self.inside.heap c.tell.new.journal c.self.inside.closed) c.args.m (Get c.args.r c.args.i (to_z w64 (of_z w64 c.read-value.result))) in
+    let T : Kept → Type 0 = λ z. StoreTells z (seen c.self.inside.place c.self.inside.heap c.tell.new.journal c.self.inside.closed) c.args.m (Get c.args.r c.args.i (to_z w64 (of_z w64 c.read-value.result))) in
     subst T c.self.view_is (told_tells c.self.inside.place _ _ _ _ _ _ _ _ _ _ _ (done c) c.self.invariant)
 
 pub returns-in-Ok-clause-run : goal.returns-in-Ok-clause-run

@@ -5,8 +5,8 @@ use Rattle.rx_rules.specs.declared.events.Cell.TheVariants.{Make, MakeFull}
 use Rattle.rx_rules.specs.Store.{opening_state, IsLeastFree}
 use Rattle.rx_store.specs.declared.table.Held.{Held}
 use Rattle.rx_store.specs.Kept.{Kept, state_of}
-use Rattle.rx_store.specs.Answers.{Tells}
-use Rattle.rx_store.specs.Table.{Holds}
+use Rattle.rx_store.specs.Answers.{StoreTells}
+use Rattle.rx_store.specs.Table.{TableHolds}
 use Rattle.rx_store.proofs.Holding.{none_fits, least_fits}
 use Rattle.rx_store.proofs.Running.{made_from}
 use Rattle.rx_store.proofs.Steps.{IsTold, seen, told_steady, told_tells, told_run}
@@ -49,16 +49,16 @@ invariant_of-self c =
     let n = c.args.n in
     let g = c.self.inside.made + 1 in
     let holds = make_holds c.self.inside.heap c.take.new.self c.self.inside.slots.items S.blocks s n g (c.self.invariant.holds c.if-self.false) c.in-Ok.ensures.laid c.requires.some c.in-Ok.ensures.least.here c.in-Ok.ensures.live c.in-Ok.ensures.words (done c).words in
-    let N : ℕ → Type 0 = λ z. Holds c.take.new.self (set c.self.inside.slots.items s (Some (record { generation = g; block = record { start = s; len = z } }))) (record { start = s; generation = g; words = replicate n (pos 0) } ∷ S.blocks) in
-    let K : List (Option Held) → Type 0 = λ z. Holds c.take.new.self z (record { start = s; generation = g; words = replicate n (pos 0) } ∷ S.blocks) in
-    let B : ℕ → Type 0 = λ z. Holds c.take.new.self c.keep.new.slots.items (record { start = z; generation = g; words = replicate n (pos 0) } ∷ S.blocks) in
+    let N : ℕ → Type 0 = λ z. TableHolds c.take.new.self (set c.self.inside.slots.items s (Some (record { generation = g; block = record { start = s; len = z } }))) (record { start = s; generation = g; words = replicate n (pos 0) } ∷ S.blocks) in
+    let K : List (Option Held) → Type 0 = λ z. TableHolds c.take.new.self z (record { start = s; generation = g; words = replicate n (pos 0) } ∷ S.blocks) in
+    let B : ℕ → Type 0 = λ z. TableHolds c.take.new.self c.keep.new.slots.items (record { start = z; generation = g; words = replicate n (pos 0) } ∷ S.blocks) in
     told_steady _ _ _ _ _ _ _ _ _ _ _ _ _ (done c) c.self.invariant
     (subst B (sym c.start-start.ensures) (subst K (sym c.keep.ensures) (subst N (sym c.in-Ok.ensures.len) holds)))
     (add-one c.self.inside.made ∙ ap suc c.self.invariant.made_is)
 
 pub returns-in-Ok-clause-answer : goal.returns-in-Ok-clause-answer
 returns-in-Ok-clause-answer c =
-    let T : Kept → Type 0 = λ z. Tells z (seen c.self.inside.place c.take.new.self c.tell.new.journal c.self.inside.closed) c.args.m (Make c.args.n c.start-start.result (c.self.inside.made + 1)) in
+    let T : Kept → Type 0 = λ z. StoreTells z (seen c.self.inside.place c.take.new.self c.tell.new.journal c.self.inside.closed) c.args.m (Make c.args.n c.start-start.result (c.self.inside.made + 1)) in
     (ap (λ (z : Kept). z.place) c.self.view_is, subst T c.self.view_is (told_tells c.self.inside.place _ _ _ _ _ _ _ _ _ _ _ (done c) c.self.invariant))
 
 pub returns-in-Ok-clause-run : goal.returns-in-Ok-clause-run
@@ -76,12 +76,12 @@ full c = record {
 
 pub invariant_of-self-in-Err : goal.invariant_of-self-in-Err
 invariant_of-self-in-Err c =
-    let H : Region → Type 0 = λ z. Holds z c.self.inside.slots.items (state_of c.self.inside.journal.events).blocks in
+    let H : Region → Type 0 = λ z. TableHolds z c.self.inside.slots.items (state_of c.self.inside.journal.events).blocks in
     told_steady _ _ _ _ _ _ _ _ _ _ _ _ _ (full c) c.self.invariant (subst H (sym c.in-Err.ensures.err) (c.self.invariant.holds c.if-self.false)) c.self.invariant.made_is
 
 pub returns-in-Err-clause-answer : goal.returns-in-Err-clause-answer
 returns-in-Err-clause-answer c =
-    let T : Kept → Type 0 = λ z. Tells z (seen c.self.inside.place c.take.new.self c.tell-in-Err.new.journal c.self.inside.closed) c.args.m (MakeFull c.args.n) in
+    let T : Kept → Type 0 = λ z. StoreTells z (seen c.self.inside.place c.take.new.self c.tell-in-Err.new.journal c.self.inside.closed) c.args.m (MakeFull c.args.n) in
     subst T c.self.view_is (told_tells c.self.inside.place _ _ _ _ _ _ _ _ _ _ _ (full c) c.self.invariant)
 
 pub returns-in-Err-clause-run : goal.returns-in-Err-clause-run

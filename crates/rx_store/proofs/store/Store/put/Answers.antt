@@ -11,19 +11,19 @@ use Rattle.rx_store.specs.Kept.{Kept, state_of}
 use Rattle.rx_store.specs.declared.calls.Mark.{Mark}
 use Rattle.rx_store.specs.declared.calls.StoreFault.{StoreFault}
 use Rattle.rx_store.specs.declared.calls.StoreFault.TheVariants.{Stale, Index}
-use Rattle.rx_store.specs.Answers.{Tells, PutAnswers}
+use Rattle.rx_store.specs.Answers.{StoreTells, PutAnswers}
 use Rattle.rx_store.proofs.Steps.{IsTold, seen, told_steady, told_tells, told_run}
 use Rattle.rx_store.proofs.Lookups.{is_found, at_table, law_refused, law_reads}
 use Rattle.rx_heap.specs.Region.{Region}
 use Rattle.rx_rules.specs.Store.{is_block, set_word}
-use Rattle.rx_store.specs.Table.{slot_at, Holds, IsLocated, IsUnlocated}
+use Rattle.rx_store.specs.Table.{slot_at, TableHolds, IsLocated, IsUnlocated}
 use Rattle.rx_store.proofs.Changing.{put_holds}
 use Rattle.rx_store.proofs.store.Store.put.Goals as goal
 
 abbrev HasRoom : Kept → Type 0
 HasRoom k = 0 < k.spare
 
-refusal : (T : Type 0) (old new : Kept) (m : Mark) (r : GlobalRef) (i v : ℤ) (stale : Bool) → Tells old new m (PutRefused r i v stale) → PutAnswers {T = T} old new m r i v (Err (cond stale Stale Index))
+refusal : (T : Type 0) (old new : Kept) (m : Mark) (r : GlobalRef) (i v : ℤ) (stale : Bool) → StoreTells old new m (PutRefused r i v stale) → PutAnswers {T = T} old new m r i v (Err (cond stale Stale Index))
 refusal T old new m r i v true t = t
 refusal T old new m r i v false t = t
 
@@ -46,7 +46,7 @@ invariant_of-self-in-Err c = told_steady _ _ _ _ _ _ _ _ _ _ _ _ _ (refused c) c
 
 pub returns-in-Err-clause-answer : goal.returns-in-Err-clause-answer
 returns-in-Err-clause-answer c =
-    let T : Kept → Type 0 = λ z. Tells z (seen c.self.inside.place c.self.inside.heap c.tell-in-Err.new.journal c.self.inside.closed) c.args.m (PutRefused c.args.r c.args.i c.args.v c.in-Err.stale) in
+    let T : Kept → Type 0 = λ z. StoreTells z (seen c.self.inside.place c.self.inside.heap c.tell-in-Err.new.journal c.self.inside.closed) c.args.m (PutRefused c.args.r c.args.i c.args.v c.in-Err.stale) in
     let F : StoreFault → Type 0 = λ f. PutAnswers {T = Unit {0}} c.args.self.now (seen c.self.inside.place c.self.inside.heap c.tell-in-Err.new.journal c.self.inside.closed) c.args.m c.args.r c.args.i c.args.v (Err f) in
     subst F (sym c.unlocated.ensures) (refusal (Unit {0}) _ _ _ _ _ _ c.in-Err.stale (subst T c.self.view_is (told_tells c.self.inside.place _ _ _ _ _ _ _ _ _ _ _ (refused c) c.self.invariant)))
 
@@ -81,13 +81,13 @@ done c =
 pub invariant_of-self : goal.invariant_of-self
 invariant_of-self c =
     let bs = (state_of c.self.inside.journal.events).blocks in
-    let H : ℤ → Type 0 = λ z. Holds c.write.new.self c.self.inside.slots.items (map (λ b. cond (is_block c.args.r b) (set_word z c.args.v b) b) bs) in
+    let H : ℤ → Type 0 = λ z. TableHolds c.write.new.self c.self.inside.slots.items (map (λ b. cond (is_block c.args.r b) (set_word z c.args.v b) b) bs) in
     let holds = put_holds c.self.inside.heap c.write.new.self c.self.inside.slots.items bs c.args.r c.in-Ok.held.now c.in-Ok.word c.args.v (c.self.invariant.holds c.if-self.false) c.write.ensures.laid (ap (λ (z : Region). z.lengths) (wrote c)) (ap (λ (z : Region). z.words) (wrote c)) (in-table c) (located c).generation (located c).within in
     told_steady _ _ _ _ _ _ _ _ _ _ _ _ _ (done c) c.self.invariant (subst H (sym (located c).index) holds) c.self.invariant.made_is
 
 pub returns-in-Ok-clause-answer : goal.returns-in-Ok-clause-answer
 returns-in-Ok-clause-answer c =
-    let T : Kept → Type 0 = λ z. Tells z (seen c.self.inside.place c.write.new.self c.tell.new.journal c.self.inside.closed) c.args.m (Put c.args.r c.args.i c.args.v) in
+    let T : Kept → Type 0 = λ z. StoreTells z (seen c.self.inside.place c.write.new.self c.tell.new.journal c.self.inside.closed) c.args.m (Put c.args.r c.args.i c.args.v) in
     subst T c.self.view_is (told_tells c.self.inside.place _ _ _ _ _ _ _ _ _ _ _ (done c) c.self.invariant)
 
 pub returns-in-Ok-clause-run : goal.returns-in-Ok-clause-run

@@ -1,3 +1,4 @@
+pub mod Causes
 pub mod Lawful
 pub mod Few
 pub mod Safe

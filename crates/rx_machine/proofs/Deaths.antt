@@ -12,15 +12,15 @@ use Rattle.rx_rules.specs.declared.events.PlaceEvent.{PlaceEvent}
 use Rattle.rx_rules.specs.declared.events.PlaceEvent.TheVariants.{Close}
 use Rattle.rx_rules.specs.Code.{Block, work}
 use Rattle.rx_rules.specs.Tree.{Tree}
-use Rattle.rx_rules.specs.Entries.{made, strike, is_hit}
-use Rattle.rx_rules.specs.Fold.{fold_from, opening}
+use Rattle.rx_rules.specs.Entries.{strike, is_hit}
+use Rattle.rx_rules.specs.Fold.{opening}
 use Rattle.rx_rules.specs.Plays.{journal_at}
 use Rattle.rx_rules.specs.Reached.{IsOlder}
 use Rattle.rx_rules.specs.Store.{opening_state}
 use Rattle.rx_rules.specs.Run.{Given, IsDue, rest_of, death_number}
 use Rattle.rx_rules.specs.Picked.{Game, Player, Turn, dies, turns, tree_in}
 use Rattle.rx_rules.proofs.Append.{no_root-death, tree-push}
-use Rattle.rx_sound.proofs.Histories.{dead-now, none_yet}
+use Rattle.rx_sound.proofs.Histories.{none_yet, older-from}
 use Rattle.rx_runs.specs.Coming.{CameTo, GamesCome}
 use Rattle.rx_runs.specs.Games.{JournalSo, Leads}
 use Rattle.rx_runs.specs.Ties.{MayCome}
@@ -50,13 +50,6 @@ due-so : (q n : ℕ) (es : List Entry) (d : PlaceId) (ks : List Kill) → IsDue 
 due-so q n es d [] due h = absurd due
 due-so q n es d (k ∷ ks) due h =
     let so : DueSo q es k.place = record { inside = h.0; not_zero = h.1; lives = h.2 } in subst (λ (p : PlaceId). DueSo q es p) due.0 so
-
--- the deaths of a tree are older than the next entry
-pub older-from : (n : ℕ) (T : Tree) (es : List Entry) → All (IsOlder n) T.dead → All (IsOlder (n + length es)) (fold_from n T es).dead
-older-from n T [] o = let e : n ≡ n + 0 = omega arith in subst (λ (m : ℕ). All (IsOlder m) T.dead) e o
-older-from n T (x ∷ es) o =
-    let e : suc n + length es ≡ n + length (x ∷ es) = omega arith in
-    subst (λ (m : ℕ). All (IsOlder m) (fold_from (suc n) (made n T x) es).dead) e (older-from (suc n) (made n T x) es (dead-now n T x o))
 
 -- The slots.
 

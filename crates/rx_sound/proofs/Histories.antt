@@ -1,5 +1,5 @@
 -- A history of allowed entries folds to a tree that can be reached, and its dead are those that the history tells.
-use Rattle.std.specs.Prelude.{◌≡◌, ℕ, zero, suc, ◌<◌, ◌≤◌, ◌==◌, cond, Bool, true, false, length, List, [], ◌∷◌, ◌++◌, not, filter, replicate, slice_index_or, slice_set, Option, Some, None, All, refl}
+use Rattle.std.specs.Prelude.{◌≡◌, ℕ, zero, suc, ◌+◌, ◌<◌, ◌≤◌, ◌==◌, cond, Bool, true, false, length, List, [], ◌∷◌, ◌++◌, not, filter, replicate, slice_index_or, slice_set, Option, Some, None, All, refl}
 use Rattle.std.proofs.Common.{sym, subst, ap, ◌∙◌, arith}
 use Rattle.std.proofs.lemmas.Bool.{eqb-true, eqb-false}
 use Rattle.std.proofs.lemmas.List.{get_or-set_same, get_or-set_other}
@@ -53,6 +53,13 @@ pub dead-now : (n : ℕ) (T : Tree) (e : Entry) → All (IsOlder n) T.dead → A
 dead-now n T (Step t act batch) h = subst (λ (xs : List (Option ℕ)). All (IsOlder (suc n)) xs) (sym (dead-act T t act)) (all_older n T.dead h)
 dead-now n T (Root lost thrown) h = all_older n T.dead h
 dead-now n T (Death d) h = All-set (IsOlder (suc n)) T.dead d.0 (Some n) (omega arith) (all_older n T.dead h)
+
+-- the deaths of a tree are older than the next entry
+pub older-from : (n : ℕ) (T : Tree) (es : List Entry) → All (IsOlder n) T.dead → All (IsOlder (n + length es)) (fold_from n T es).dead
+older-from n T [] o = let e : n ≡ n + 0 = omega arith in subst (λ (m : ℕ). All (IsOlder m) T.dead) e o
+older-from n T (x ∷ es) o =
+    let e : suc n + length es ≡ n + length (x ∷ es) = omega arith in
+    subst (λ (m : ℕ). All (IsOlder m) (fold_from (suc n) (made n T x) es).dead) e (older-from (suc n) (made n T x) es (dead-now n T x o))
 
 pub reached_now : (n : ℕ) (T : Tree) (e : Entry) → Reached T → All (IsOlder n) T.dead → Allowed T e → Reached (made n T e)
 reached_now n T (Step t act batch) r o h = acts t act r h

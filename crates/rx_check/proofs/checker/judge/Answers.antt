@@ -1,5 +1,5 @@
 use Rattle.std.proofs.Common.{◌≡◌, ℕ, List, [], ap, sym, ◌∙◌, subst}
-use Rattle.std.specs.Prelude.{Some, Result, Err, IsErrOf}
+use Rattle.std.specs.Prelude.{Some, Result, Err}
 use Rattle.std.proofs.lemmas.Result.{err_from_is_err_and}
 use Rattle.rx_rules.specs.Code.{Block}
 use Rattle.rx_nodes.specs.Shape.{BlockStands}
@@ -12,13 +12,11 @@ use Rattle.rx_check.specs.declared.checker.CheckCause.TheVariants.{Bad}
 use Rattle.rx_check.specs.declared.names.Seen.{Seen}
 use Rattle.rx_check.proofs.Judging.{verdict-bad, verdict-none, verdict-work}
 use Rattle.rx_check.proofs.checker.judge.Goals as goal
+use Rattle.rx_check.proofs.Causes.{passed}
 
 pub block-requires-clause-stands : goal.block-requires-clause-stands
 block-requires-clause-stands c =
     let P : BlockId → Type 0 = λ k. (t : Block) × BlockStands c.args.script.now k t in subst P (sym c.top.ensures) (c.whole.ensures.0, c.whole.ensures.1)
-
-passed : (r : Result ℕ CheckCause) (e f : CheckCause) (rule node : ℕ) → r ≡ Err e → e ≡ f → IsErrOf r (Bad rule node) → IsErrOf {T = ℕ} (Err f) (Bad rule node)
-passed r e f rule node p q h = let F : CheckCause → Result ℕ CheckCause = λ x. Err x in sym (ap F q) ∙ (sym p ∙ h)
 
 -- nothing is known or assigned yet
 knows-none : (ns : List NameId) → ns ≡ [] → Knows ns []

@@ -1,13 +1,11 @@
 use Rattle.std.proofs.Common.{◌≡◌, ℕ, suc, ◌+◌, [], ap, sym, ◌∙◌, subst, arith, Vec, Global}
-use Rattle.std.specs.Prelude.{Option, None, option_map, Result, Err, IsErrOf}
+use Rattle.std.specs.Prelude.{Option, None, option_map, Result}
 use Rattle.std.proofs.lemmas.Option.{slice_get_within}
 use Rattle.std.proofs.lemmas.Result.{err_from_is_err_and}
 use Rattle.rx_rules.specs.Code.{work}
 use Rattle.rx_nodes.specs.declared.nodes.NameId.{NameId}
 use Rattle.rx_check.specs.Rules.{Kind, Sight, assigned, inside, learned, sights}
 use Rattle.rx_check.specs.Inside.Walk.{Sofar, cap, known_with, noted, sights_run, rule_with, seen_all, seen_as, sofar_of, work_with, Knows}
-use Rattle.rx_check.specs.declared.checker.CheckCause.{CheckCause}
-use Rattle.rx_check.specs.declared.checker.CheckCause.TheVariants.{Bad}
 use Rattle.rx_check.specs.declared.parts.Bodies.{Bodies}
 use Rattle.rx_check.specs.declared.parts.Parts.{Parts}
 use Rattle.rx_check.proofs.Blocks.{BodiesAre, bodies-are}
@@ -15,10 +13,7 @@ use Rattle.rx_check.proofs.Capping.{cap-with}
 use Rattle.rx_check.proofs.Going.{Going, knows-same, append-none, extends-trans, going-all, going-bad, going-end, going-next, going-on, knows-more, knows-own, not-deep, numbers, one-more, points, run-bad, run-on, stepped-none}
 use Rattle.rx_check.proofs.Statements.{parts-stand}
 use Rattle.rx_check.proofs.walk.Walk.+walk.Goals as goal
-
--- a fault that is handed on
-passed : (r : Result ℕ CheckCause) (e f : CheckCause) (rule node : ℕ) → r ≡ Err e → e ≡ f → IsErrOf r (Bad rule node) → IsErrOf {T = ℕ} (Err f) (Bad rule node)
-passed r e f rule node p q h = let F : CheckCause → Result ℕ CheckCause = λ x. Err x in sym (ap F q) ∙ (sym p ∙ h)
+use Rattle.rx_check.proofs.Causes.{passed}
 
 pub block-items-init : goal.block-items-init
 block-items-init t c = (λ u known k b. going-all c.args.script.now c.args.block c.args.depth c.args.self.now u known k b, ([], append-none c.args.self.now.known.items), omega arith)

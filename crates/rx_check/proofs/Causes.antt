@@ -1,0 +1,8 @@
+-- A fault that is handed on.
+use Rattle.std.specs.Prelude.{◌≡◌, ℕ, Result, Err, IsErrOf}
+use Rattle.std.proofs.Common.{ap, sym, ◌∙◌}
+use Rattle.rx_check.specs.declared.checker.CheckCause.{CheckCause}
+use Rattle.rx_check.specs.declared.checker.CheckCause.TheVariants.{Bad}
+
+pub passed : (r : Result ℕ CheckCause) (e f : CheckCause) (rule node : ℕ) → r ≡ Err e → e ≡ f → IsErrOf r (Bad rule node) → IsErrOf {T = ℕ} (Err f) (Bad rule node)
+passed r e f rule node p q h = let F : CheckCause → Result ℕ CheckCause = λ x. Err x in sym (ap F q) ∙ (sym p ∙ h)

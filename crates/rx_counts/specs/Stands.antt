@@ -1,5 +1,6 @@
 -- The records of a count ledger stand for a tree.
-use Rattle.std.specs.Prelude.{◌≡◌, ℕ, ◌<◌, ◌+◌, ◌++◌, ◌*◌, ◌-◌, Bool, true, cond, ◌&&◌, ◌||◌, ◌==◌, List, Option, Some, None, is_some, slice_index_or, length, option_map, slice_set, box_value}
+use Rattle.std.specs.Prelude.{◌≡◌, ℕ, ◌<◌, ◌+◌, ◌++◌, ◌*◌, ◌-◌, Bool, true, cond, ◌&&◌, ◌||◌, ◌==◌, List, Option, Some, None, is_some}
+use Rattle.std.specs.Prelude.{slice_index_or, length, option_map, slice_set, box_value}
 use Rattle.std.specs.Global.{Box}
 use Rattle.std.specs.List.{find, list_any}
 use Rattle.rx_base.specs.Sets.{has_bit}
@@ -125,7 +126,8 @@ with_lost lost q = record q { lost = lost }
 
 -- a task that counts in the record was lost at the place
 abbrev pub Loses : PlaceId → Record → Record → Type 0
-Loses p r q = (q ≡ in_sums (with_lost q.sums.lost) r) × ((i : ℕ) → i < 16 → has_bit q.sums.lost.0 i ≡ (has_bit r.sums.lost.0 i || (p.0 == i)))
+Loses p r q = (q ≡ in_sums (with_lost q.sums.lost) r) × ((i : ℕ) → i < 16
+    → has_bit q.sums.lost.0 i ≡ (has_bit r.sums.lost.0 i || (p.0 == i)))
 
 -- faults join the ends, or are dropped
 abbrev pub ends_if : Bool → List Fault → Record → Record

@@ -1,10 +1,12 @@
 // What a death does to the records.
-ghost use Rattle.std.specs.Prelude.{◌≡◌, ◌<◌, ◌≤◌, ◌^◌, ◌+◌, ◌||◌, ◌&&◌, ◌==◌, ℕ, Bool, ltb, cond, length, slice_index_or, IfSome, Some, None, option_map, box_value};
+ghost use Rattle.std.specs.Prelude.{◌≡◌, ◌<◌, ◌≤◌, ◌^◌, ◌+◌, ◌||◌, ◌&&◌, ◌==◌, ℕ, Bool, ltb, cond, length, slice_index_or, IfSome, Some};
+ghost use Rattle.std.specs.Prelude.{None, option_map, box_value};
 ghost use Rattle.rx_base.specs.Sets.{has_bit};
 ghost use Rattle.rx_rules.specs.Tree.{Tree};
 ghost use Rattle.rx_rules.specs.declared.tasks.Scope.{Scope};
 ghost use Rattle.rx_counts.specs.Stands.{record_at, Pairs, ChangedBy};
-ghost use Rattle.rx_counts.specs.Inside.Dying.{hits_cell, hits, Strikes, StrikesRecord, MayHit, Emptied, Gained, MayGain, CanGain, Gains, Passing, parent_there};
+ghost use Rattle.rx_counts.specs.Inside.Dying.{hits_cell, hits, Strikes, StrikesRecord, MayHit, Emptied, Gained, MayGain, CanGain};
+ghost use Rattle.rx_counts.specs.Inside.Dying.{Gains, Passing, parent_there};
 
 use crate::record::{Record, Sums, nothing};
 use crate::table::keeper_of;
@@ -41,7 +43,8 @@ fn clear_one(counts: &mut [u32], cell: usize, d: PlaceId) -> u32
 fn clear_hit(counts: &mut [u32], d: PlaceId) -> u32
     requires { hits d.0 counts.old < 2 ^ 32 }
     ensures sum { result ≡ hits d.0 counts.old }
-    ensures cleared { (k : ℕ) → k < length counts.old → slice_index_or counts.new k 0 ≡ cond (hits_cell d.0 k) 0 (slice_index_or counts.old k 0) }
+    ensures cleared { (k : ℕ) → k < length counts.old → slice_index_or counts.new k 0
+        ≡ cond (hits_cell d.0 k) 0 (slice_index_or counts.old k 0) }
 {
     let mut sum = 0;
     for cell in 0..counts.len() {
@@ -125,7 +128,8 @@ fn take_at(scopes: &mut Vec<Option<Box<Record>>>, i: usize, alloc: Global) -> Su
 
 /// Adds the counts of another scope.
 fn add_counts(counts: &mut [u32], given: &[u32])
-    requires { (length counts.old ≡ 272) × (length given.now ≡ 272) × ((k : ℕ) → k < 272 → slice_index_or counts.old k 0 + slice_index_or given.now k 0 < 2 ^ 32) }
+    requires { (length counts.old ≡ 272) × (length given.now ≡ 272)
+        × ((k : ℕ) → k < 272 → slice_index_or counts.old k 0 + slice_index_or given.now k 0 < 2 ^ 32) }
     ensures { (k : ℕ) → k < 272 → slice_index_or counts.new k 0 ≡ slice_index_or counts.old k 0 + slice_index_or given.now k 0 }
 {
     for cell in 0..counts.len() {
@@ -189,7 +193,8 @@ fn hand_over(
 )
     requires { (i < length scopes.old.items) × (T : Tree) × (keeps : (Scope → Bool)) × Passing T keeps dead.now d i scopes.old.items }
     ensures len { length scopes.new.items ≡ length scopes.old.items }
-    ensures passes { (T : Tree) (keeps : Scope → Bool) → Passing T keeps dead.now d i scopes.old.items → Passing T keeps dead.now d (i + 1) scopes.new.items }
+    ensures passes { (T : Tree) (keeps : Scope → Bool) → Passing T keeps dead.now d i scopes.old.items
+        → Passing T keeps dead.now d (i + 1) scopes.new.items }
 {
     if let Some(parent) = parent_at(scopes, i, d) {
         if let Some(heir) = keeper_of(scopes, dead, parent) {
@@ -208,7 +213,8 @@ pub fn hand_over_all(
 )
     requires { (T : Tree) × (keeps : (Scope → Bool)) × Passing T keeps dead.now d 0 scopes.old.items }
     ensures len { length scopes.new.items ≡ length scopes.old.items }
-    ensures passes { (T : Tree) (keeps : Scope → Bool) → Passing T keeps dead.now d 0 scopes.old.items → Passing T keeps dead.now d (length scopes.old.items) scopes.new.items }
+    ensures passes { (T : Tree) (keeps : Scope → Bool) → Passing T keeps dead.now d 0 scopes.old.items
+        → Passing T keeps dead.now d (length scopes.old.items) scopes.new.items }
 {
     for i in 0..scopes.len() {
         hand_over(scopes, dead, d, i, alloc);

@@ -86,7 +86,8 @@ impl CountLedger {
     /// The nearest scope with a living home, from the scope itself along parents.
     pub fn adopter_of(&self, s: ScopeId) -> ScopeId
         requires { (T : Tree) × StandsFor self.now T × HasScope T s }
-        ensures { (T : Tree) → StandsFor self.now T → HasScope T s → IfSome (adopter T s) (λ g. result ≡ g.number) × (is_some (adopter T s) ≡ true) }
+        ensures { (T : Tree) → StandsFor self.now T → HasScope T s → IfSome (adopter T s) (λ g. result ≡ g.number)
+            × (is_some (adopter T s) ≡ true) }
     {
         match keeper_of(&self.scopes, &self.dead, s) {
             Some(keeper) => keeper,

@@ -1,5 +1,6 @@
 // What is kept of a scope.
-ghost use Rattle.std.specs.Prelude.{◌≡◌, ◌+◌, ◌-◌, ◌<◌, ◌≤◌, ◌^◌, [], true, false, ◌||◌, ◌==◌, ℕ, length, slice_index_or, slice_set, replicate};
+ghost use Rattle.std.specs.Prelude.{◌≡◌, ◌+◌, ◌-◌, ◌<◌, ◌≤◌, ◌^◌, [], true, false, ◌||◌, ◌==◌, ℕ, length, slice_index_or, slice_set};
+ghost use Rattle.std.specs.Prelude.{replicate};
 ghost use Rattle.rx_base.specs.Sets.{has_bit};
 ghost use Rattle.rx_counts.specs.Stands.{more, less, with_lost, count_in};
 
@@ -75,7 +76,8 @@ impl Sums {
     /// A task that is born: for a dead place, or else into a cell.
     pub fn bear(&mut self, is_lost: bool, cell: usize, to: PlaceId)
         requires { (to.0 < 16) × (cell < 272) × (count_in self.old cell + 1 < 2 ^ 32) × (self.old.total + 1 < 2 ^ 32) }
-        ensures lost { is_lost ≡ true → (self.new ≡ with_lost self.new.lost self.old) × ((i : ℕ) → i < 16 → has_bit self.new.lost.0 i ≡ (has_bit self.old.lost.0 i || (to.0 == i))) }
+        ensures lost { is_lost ≡ true → (self.new ≡ with_lost self.new.lost self.old)
+            × ((i : ℕ) → i < 16 → has_bit self.new.lost.0 i ≡ (has_bit self.old.lost.0 i || (to.0 == i))) }
         ensures joins { is_lost ≡ false → self.new ≡ more cell self.old }
     {
         if is_lost {

@@ -1,8 +1,10 @@
 // The records of the scopes that stand, by number.
-ghost use Rattle.std.specs.Prelude.{◌≡◌, ◌+◌, ◌<◌, ◌≤◌, ◌^◌, ◌++◌, ◌∷◌, [], length, None, Some, option_map, box_value, slice_index_or, MatchOption, IfSome, OnOk, IfErr, true, false};
+ghost use Rattle.std.specs.Prelude.{◌≡◌, ◌+◌, ◌<◌, ◌≤◌, ◌^◌, ◌++◌, ◌∷◌, [], length, None, Some, option_map, box_value, slice_index_or};
+ghost use Rattle.std.specs.Prelude.{MatchOption, IfSome, OnOk, IfErr, true, false};
 ghost use Rattle.rx_rules.specs.Tree.{Tree};
 ghost use Rattle.rx_counts.specs.Keeping.{keeper, stands_home};
-ghost use Rattle.rx_counts.specs.Stands.{record_at, more, less, in_sums, count_in, Changed, ChangedBy, Pairs, Loses, IsShaped, Pushed, with_body, ends_if};
+ghost use Rattle.rx_counts.specs.Stands.{record_at, more, less, in_sums, count_in, Changed, ChangedBy, Pairs, Loses, IsShaped, Pushed};
+ghost use Rattle.rx_counts.specs.Stands.{with_body, ends_if};
 
 use crate::places::lives;
 use crate::record::Record;
@@ -21,7 +23,8 @@ pub fn look(scopes: &[Option<Box<Record>>], s: ScopeId) -> Option<&Record>
 }
 
 fn join_in(entry: &mut Option<Box<Record>>, cell: usize)
-    requires { (cell < 272) × IfSome (option_map box_value entry.old) (λ r. (count_in r.sums cell + 1 < 2 ^ 32) × (r.sums.total + 1 < 2 ^ 32)) }
+    requires { (cell < 272) × IfSome (option_map box_value entry.old)
+        (λ r. (count_in r.sums cell + 1 < 2 ^ 32) × (r.sums.total + 1 < 2 ^ 32)) }
     ensures { option_map box_value entry.new ≡ option_map (in_sums (more cell)) (option_map box_value entry.old) }
 {
     if let Some(kept) = entry {
@@ -40,7 +43,8 @@ fn leave_in(entry: &mut Option<Box<Record>>, cell: usize)
 
 /// One task more in a cell of the record of a scope.
 pub fn join(scopes: &mut Vec<Option<Box<Record>>>, s: ScopeId, cell: usize)
-    requires { (s.0 < length scopes.old.items) × (cell < 272) × IfSome (record_at scopes.old.items s.0) (λ r. (count_in r.sums cell + 1 < 2 ^ 32) × (r.sums.total + 1 < 2 ^ 32)) }
+    requires { (s.0 < length scopes.old.items) × (cell < 272)
+        × IfSome (record_at scopes.old.items s.0) (λ r. (count_in r.sums cell + 1 < 2 ^ 32) × (r.sums.total + 1 < 2 ^ 32)) }
     ensures { Changed (in_sums (more cell)) s.0 scopes.old.items scopes.new.items }
 {
     join_in(&mut scopes[s.0 as usize], cell);
@@ -48,14 +52,16 @@ pub fn join(scopes: &mut Vec<Option<Box<Record>>>, s: ScopeId, cell: usize)
 
 /// One task less in a cell of the record of a scope.
 pub fn leave(scopes: &mut Vec<Option<Box<Record>>>, s: ScopeId, cell: usize)
-    requires { (s.0 < length scopes.old.items) × (cell < 272) × IfSome (record_at scopes.old.items s.0) (λ r. (1 ≤ count_in r.sums cell) × (1 ≤ r.sums.total)) }
+    requires { (s.0 < length scopes.old.items) × (cell < 272)
+        × IfSome (record_at scopes.old.items s.0) (λ r. (1 ≤ count_in r.sums cell) × (1 ≤ r.sums.total)) }
     ensures { Changed (in_sums (less cell)) s.0 scopes.old.items scopes.new.items }
 {
     leave_in(&mut scopes[s.0 as usize], cell);
 }
 
 fn bear_in(entry: &mut Option<Box<Record>>, is_lost: bool, cell: usize, to: PlaceId)
-    requires { (to.0 < 16) × (cell < 272) × IfSome (option_map box_value entry.old) (λ r. (count_in r.sums cell + 1 < 2 ^ 32) × (r.sums.total + 1 < 2 ^ 32)) }
+    requires { (to.0 < 16) × (cell < 272) × IfSome (option_map box_value entry.old)
+        (λ r. (count_in r.sums cell + 1 < 2 ^ 32) × (r.sums.total + 1 < 2 ^ 32)) }
     ensures lost { is_lost ≡ true → Pairs (Loses to) (option_map box_value entry.old) (option_map box_value entry.new) }
     ensures joins { is_lost ≡ false → option_map box_value entry.new ≡ option_map (in_sums (more cell)) (option_map box_value entry.old) }
 {
@@ -72,7 +78,8 @@ pub fn bear(
     cell: usize,
     to: PlaceId,
 )
-    requires { (s.0 < length scopes.old.items) × (to.0 < 16) × (cell < 272) × IfSome (record_at scopes.old.items s.0) (λ r. (count_in r.sums cell + 1 < 2 ^ 32) × (r.sums.total + 1 < 2 ^ 32)) }
+    requires { (s.0 < length scopes.old.items) × (to.0 < 16) × (cell < 272)
+        × IfSome (record_at scopes.old.items s.0) (λ r. (count_in r.sums cell + 1 < 2 ^ 32) × (r.sums.total + 1 < 2 ^ 32)) }
     ensures lost { is_lost ≡ true → ChangedBy (Loses to) s.0 scopes.old.items scopes.new.items }
     ensures joins { is_lost ≡ false → Changed (in_sums (more cell)) s.0 scopes.old.items scopes.new.items }
 {

@@ -1,5 +1,6 @@
 -- What a death does to the records.
-use Rattle.std.specs.Prelude.{◌≡◌, ℕ, zero, suc, ◌<◌, ◌≤◌, ◌^◌, not, ◌+◌, ◌-◌, ◌/◌, ◌%◌, Bool, true, false, cond, ◌||◌, ◌&&◌, ◌==◌, ltb, length, slice_index_or, List, Option, Some, None}
+use Rattle.std.specs.Prelude.{◌≡◌, ℕ, zero, suc, ◌<◌, ◌≤◌, ◌^◌, not, ◌+◌, ◌-◌, ◌/◌, ◌%◌, Bool, true, false, cond, ◌||◌, ◌&&◌, ◌==◌, ltb}
+use Rattle.std.specs.Prelude.{length, slice_index_or, List, Option, Some, None}
 use Rattle.std.specs.List.{list_any}
 use Rattle.std.specs.Global.{Box}
 use Rattle.rx_base.specs.Sets.{has_bit}
@@ -89,7 +90,8 @@ abbrev pub given_until : (Scope → Bool) → PlaceId → ℕ → Scope → Bool
 given_until keeps d i g = keeps g && not ((g.home.0 == d.0) && ltb g.number.0 i)
 
 -- so far the records fit, where `dead` has the death of d
-pub record Passing (T : Tree) (keeps : Scope → Bool) (dead : List (Option ℕ)) (d : PlaceId) (i : ℕ) (rs : List (Option (Box Record))) : Type 0 where
+pub record Passing (T : Tree) (keeps : Scope → Bool) (dead : List (Option ℕ)) (d : PlaceId) (i : ℕ)
+    (rs : List (Option (Box Record))) : Type 0 where
   pub shaped : IsShaped T rs
   pub after : (g : Scope) → stands_home dead g ≡ (keeps g && not (g.home.0 == d.0))
   pub lived : (g : Scope) → g.home.0 == d.0 ≡ true → keeps g ≡ true

@@ -1,5 +1,6 @@
 -- A release, by a caller or by the host.
-use Rattle.std.specs.Prelude.{◌≡◌, ℕ, ◌<◌, ◌≤◌, ◌-◌, ◌/◌, ◌%◌, Bool, true, false, cond, ltb, ◌&&◌, not, List, Option, Some, None, is_none, slice_index_or, count_by, ◌+◌, Result, Ok, Err}
+use Rattle.std.specs.Prelude.{◌≡◌, ℕ, ◌<◌, ◌≤◌, ◌-◌, ◌/◌, ◌%◌, Bool, true, false, cond, ltb, ◌&&◌, not, List, Option, Some, None}
+use Rattle.std.specs.Prelude.{is_none, slice_index_or, count_by, ◌+◌, Result, Ok, Err}
 use Rattle.std.specs.Global.{Box}
 use Rattle.std.specs.List.{find, list_any}
 use Rattle.rx_base.specs.declared.ids.TaskId.{TaskId}
@@ -25,7 +26,8 @@ pub record IsLast (T : Tree) (s : ScopeId) : Type 0 where
   pub scope : Scope
   pub stands : scope_of T s ≡ Some scope
   pub keeps_it : list_any (λ h. is_scope s h && not (stands_home T.dead h)) T.scopes ≡ false
-  pub last : (o : TaskId) (h : Scope) → list_any (λ x. is_scope s x && opened_by o x) T.scopes ≡ true → find (opened_by o) T.scopes ≡ Some h → h.number.0 ≤ s.0
+  pub last : (o : TaskId) (h : Scope) → list_any (λ x. is_scope s x && opened_by o x) T.scopes ≡ true
+      → find (opened_by o) T.scopes ≡ Some h → h.number.0 ≤ s.0
 
 -- what a release names, and how many scopes with a dead home go with it
 abbrev pub OutcomeReply : Tree → ScopeId → Result (Outcome × ℕ) LedgerFault → Type 0
@@ -58,4 +60,5 @@ unslot i = cond (ltb i 16) (At (record { 0 = i })) (Travel (record { 0 = (i - 16
 
 -- where a cell is above 0, the place is where the tasks of such a cell are or go
 abbrev pub Hides : List ℕ → PlaceId → Type 0
-Hides counts p = (k : ℕ) → k < 272 → 0 < slice_index_or counts k 0 → (i : ℕ) × (i < 272) × (0 < slice_index_or counts i 0) × (p ≡ landing (unslot i))
+Hides counts p = (k : ℕ) → k < 272 → 0 < slice_index_or counts k 0 → (i : ℕ) × (i < 272) × (0 < slice_index_or counts i 0)
+    × (p ≡ landing (unslot i))

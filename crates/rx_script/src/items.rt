@@ -186,7 +186,8 @@ fn opens(item: Item, tokens: &[Token]) -> Read<'_, Item>
 
 // A name and the sign that assigns to it.
 fn assigned(tokens: &[Token]) -> Read<'_, NameId>
-    ensures answer { Leads result (λ s. s.now) (λ n. n.0) (λ f. then (choose read.called) (λ n. choose (read.equals_then (f n))) tokens.now) }
+    ensures answer { Leads result (λ s. s.now) (λ n. n.0) (λ f. then (choose read.called)
+        (λ n. choose (read.equals_then (f n))) tokens.now) }
     ensures shorter { IfOk result (λ x. length x.1.now ≤ length tokens.now) }
 {
     match called(tokens) {

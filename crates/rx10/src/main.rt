@@ -4,7 +4,8 @@
 //! the rules, that what was written is the trace of a run of it, that nothing was released early in it, that its losses are exact and
 //! that the order of statements was kept. `rx10_step` has the commands that start no thread, takes no runtime and always returns. `laws`
 //! says that outcomes are determined. `main` makes the words, the source and the sink of what the system gives, and says the status. It
-//! stands on rx_words, rx_script, rx_check, rx_machine, rx_live, rx_gen, rx_counts and rx_trace, and on the laws of rx_runs and rx_laws.
+//! stands on rx_words, rx_script, rx_check, rx_machine, rx_picks, rx_live, rx_gen, rx_counts, rx_history and rx_trace, and on the laws of
+//! rx_runs and rx_laws.
 #![tactic(auto)]
 
 pub mod laws;

@@ -19,7 +19,7 @@ abbrev pub is_before : Kill → Kill → Bool
 is_before a b = nat_lt a.moment b.moment || (a.moment == b.moment && nat_lt a.place.0 b.place.0)
 
 -- The named kills in order: these kills and no others, each after the one before it. There is such a list for each list of named
--- kills, `in_order` of proofs/OrderedKills.antt, and no second one.
+-- kills, `in_order` of proofs/InOrder.antt, and no second one.
 pub record OrderedKills (named : List Kill) : Type 0 where
   pub kills : List Kill
   pub ascending : IsAscending kills

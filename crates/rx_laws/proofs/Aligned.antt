@@ -39,7 +39,7 @@ has_moved F b = (b.from == b.to) || F.landed b.task
 abbrev pub blow_place : Blow → ℕ
 blow_place w = w.place.0
 
--- the task that was born so is_on this row
+-- the task that was born so has this row
 pub record IsRow (F : Facts) (B : List Bone) (b : TaskBirth) (x : Task) : Type 0 where
   pub number : x.number.0 ≡ b.task
   pub under : x.under.0 ≡ b.under
@@ -48,7 +48,7 @@ pub record IsRow (F : Facts) (B : List Bone) (b : TaskBirth) (x : Task) : Type 0
   pub going : F.ended b.task ≡ false
   pub stands : is_on b.under (nums B) ≡ true
 
--- the task that was born so is_on no row any more: it is_on ended and no death touched it, or it was lost and a release took it
+-- the task that was born so has no row any more: it has ended and no death touched it, or it was lost and a release took it
 -- away. In the second case a scope was released that comes before each standing scope of its chain.
 pub data IsOut (F : Facts) (B : List Bone) (b : TaskBirth) : Type 0 where
   ended : F.ended b.task ≡ true → F.hit b ≡ None → IsOut F B b

@@ -106,7 +106,7 @@ outer k [] falls w m s f le hm hs = cc
 outer k (b ∷ bs) falls w m s f le hm hs =
     outer_step b bs w m s (wanted w b) b.finish refl refl falls.1 le f.0 f.1 (outer b.number bs falls.1 b.parent m s f.1 le) (outer b.number bs falls.1 w m s f.1 le) hm hs
 
--- what a line from s is_on beyond s is below s
+-- what a line from s has beyond s is below s
 tail_step : (b : Bone) (bs : List Bone) (s n : ℕ) (l : List ℕ) (y : Bool) → (b.number == s) ≡ y → Falls b.number bs → (nums (line bs (Some s)) ≡ s ∷ l → is_on n l ≡ true → n < s) → nums (line (b ∷ bs) (Some s)) ≡ s ∷ l → is_on n l ≡ true → n < s
 tail_step b bs s n l true e falls on h k =
     let g : b.number ∷ nums (line bs b.parent) ≡ s ∷ l = rw e at h in

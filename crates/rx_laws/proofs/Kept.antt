@@ -48,7 +48,7 @@ finish-filter test m (k ∷ ks) h =
     cond_both (test k.number) (k ∷ filter (λ k. test k.number) ks) (filter (λ k. test k.number) ks) (AllFinish m) (λ e. (h.0, finish-filter test m ks h.1))
     (λ e. finish-filter test m ks h.1)
 
--- no scope is_on a number from n on
+-- no scope has a number from n on
 pub finish-fresh : (n m : ℕ) (gs : List Scope) → Falls n (map bone gs) → n ≤ m → AllFinish m (map core gs)
 finish-fresh n m [] f h = tt
 finish-fresh n m (g ∷ gs) f h =
@@ -58,13 +58,13 @@ finish-fresh n m (g ∷ gs) f h =
 abbrev pub Known : Tree → ℕ → Type 0
 Known T c = (T.next_task ≤ c) ⊎ (is_alive T c ≡ true)
 
--- the scope that a task is_on open where it is inside the innermost, and else the one that it hangs under
+-- the scope that a task has open where it is inside the innermost, and else the one that it hangs under
 abbrev pub inner_num : List Entry → ℕ → ℕ
 inner_num past c = top (under_in (born_so_far past) c) (nums_of (opened past c))
 
 pub record Kept (code : Block) (past : List Entry) (T : Tree) (f : ℕ → Term) : Type 0 where
   pub all_open : AllOpen code past T f
-  -- the scopes of the tree that a task opened are those that it is_on open, in order
+  -- the scopes of the tree that a task opened are those that it has open, in order
   pub own : (c : ℕ) → Known T c → own_nums c (cores T) ≡ nums_of (opened past c)
   -- the parent of each is the next, and of the last the scope that the task hangs under
   pub linked : (c : ℕ) → is_alive T c ≡ true → Linked (walk (links past)) (under_in (born_so_far past) c) (nums_of (opened past c))
@@ -73,7 +73,7 @@ pub record Kept (code : Block) (past : List Entry) (T : Tree) (f : ℕ → Term)
   -- numbers grow with the depth of the path
   pub grow : (c d s r : ℕ) (x y : List ℕ) → On s x (opened past c) → On r y (opened past d) → Within x y → s < r
   pub kind : (c s : ℕ) (x : List ℕ) (body : Block) → On s x (opened past c) → code_at code x ≡ Some (Finish body) → AllFinish s (cores T)
-  -- a living task that is_on an item in the statement of an open scope of another task hangs under that scope
+  -- a living task that has an item in the statement of an open scope of another task hangs under that scope
   pub under : (c : ℕ) → is_alive T c ≡ true → (x : List ℕ) (u : Stmt) → code_at code x ≡ Some u → is_waiter u ≡ true → LiesIn (f c) x u → (o s : ℕ) → On s x (opened past o) → (o ≡ c → ⊥) → is_on s (walk (links past) (under_in (born_so_far past) c)) ≡ true
 
 short_path : (x : List ℕ) (m j : ℕ) (r : List ℕ) → m ∷ [] ≡ x ++ j ∷ r → x ≡ []
@@ -154,7 +154,7 @@ under-same past T t (Release s lost thrown) batch a c h = refl
 under-same past T t (End thrown) batch a c h = refl
 under-same past T t (Printed value x) batch a c h = refl
 
--- the scope that a task works in is the innermost that it is_on open, or the one that it hangs under
+-- the scope that a task works in is the innermost that it has open, or the one that it hangs under
 pub inner-of : (q : ℕ) (past : List Entry) (T : Tree) → Tied q past T → (t : TaskId) → own_nums t.0 (cores T) ≡ nums_of (opened past t.0) → (x : Task) → task_of T t ≡ Some x → (inner T x).0 ≡ inner_num past t.0
 inner-of q past T i t own x h =
     inner-top T x ∙ ap (λ n. top x.under.0 (own_nums n (cores T))) (number-of T t x h) ∙ ap (top x.under.0) own ∙ ap (λ u. top u (nums_of (opened past t.0))) (task-under q past T i t x h)

@@ -1,4 +1,4 @@
--- A task that is born hangs under each scope of another task in whose statement it is_on an item.
+-- A task that is born hangs under each scope of another task in whose statement it has an item.
 use Rattle.std.specs.Prelude.{◌≡◌, ℕ, ◌<◌, ◌≤◌, true, ◌==◌, List, [], ◌∷◌, ◌++◌, Some, None, refl}
 use Rattle.std.proofs.Common.{ap, sym, subst, ◌∙◌, arith, inl, inr, append_assoc, append-nil}
 use Rattle.std.proofs.lemmas.Bool.{eq-eqb, or_left, or_right, cases_eq, true≢false}
@@ -85,7 +85,7 @@ module _ (code : Block) (starts : List (Term × Vars)) (q : ℕ) (past : List En
   abbrev m : ℕ
   m = inner_num past t.0
 
-  -- an open scope in whose statement the starter is_on an item is on the chain of its innermost scope
+  -- an open scope in whose statement the starter has an item is on the chain of its innermost scope
   in_inner : (x : List ℕ) (u : Stmt) → code_at code x ≡ Some u → is_waiter u ≡ true → LiesIn (f t.0) x u → (o r : ℕ) → On r x (opened past o) → is_on r (walk (links past) m) ≡ true
   in_inner x u at w l o r on =
       elim (cases_eq o t.0) [

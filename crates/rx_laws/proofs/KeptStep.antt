@@ -60,7 +60,7 @@ none-open past c h = by_list (opened past c) (same-paths past c ∙ h) where
   by_list [] h = refl
   by_list (m ∷ ms) h = cc
 
--- where a scope is quiet, the scopes stay that another task is_on open
+-- where a scope is quiet, the scopes stay that another task has open
 pub stays-own : (code : Block) (q : ℕ) (past : List Entry) (T : Tree) (f : ℕ → Term) → Tied q past T → Kept code past T f → ((c : ℕ) → T.next_task ≤ c → open_paths past c ≡ []) → (m : ScopeId) → quiet T m ≡ true → (c : ℕ) → Known T c → is_on m.0 (nums_of (opened past c)) ≡ false → filter (is_off (bones T) m.0) (nums_of (opened past c)) ≡ nums_of (opened past c)
 stays-own code q past T f i k none_open m still c (inl unborn) none =
     let e : opened past c ≡ [] = none-open past c (none_open c unborn) in
@@ -193,7 +193,7 @@ module _ (code : Block) (starts : List (Term × Vars)) (q : ℕ) (past : List En
 
   -- the scopes of the tree
 
-  -- what the release of the innermost scope of its task leaves of the scopes that the task is_on open
+  -- what the release of the innermost scope of its task leaves of the scopes that the task has open
   released_own : (m : ScopeId) (lost : PlaceSet) (thrown : List Fault) → act ≡ Release m lost thrown → (ns : List ℕ) → nums_of (opened past t.0) ≡ m.0 ∷ ns → filter (is_off (bones T) m.0) (m.0 ∷ ns) ≡ ns
   released_own m lost thrown is ns e =
       let chains : Linked (walk (links past)) (under_in (born_so_far past) t.0) (m.0 ∷ ns) = subst (Linked (walk (links past)) (under_in (born_so_far past) t.0)) e (k.linked t.0 lives) in

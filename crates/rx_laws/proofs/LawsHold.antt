@@ -41,7 +41,7 @@ module _ (F : Facts) (B : List Bone) (s : ℕ) (there : is_on s (nums B) ≡ tru
   abbrev under_s : Task → Bool
   under_s x = is_on s (nums (line B (Some x.under.0)))
 
-  -- whether the birth's chain is_on s is whether its row is under s
+  -- whether the birth's chain has s is whether its row is under s
   chain_row : (b : TaskBirth) (x : Task) → IsRow F B b x → is_on s (F.walk b.under) ≡ under_s x
   chain_row b x r =
       ap (is_on s) (sym (walks b.under r.stands).walks) ∙ ap (λ n. is_on s (nums (line B (Some n)))) (sym r.under)

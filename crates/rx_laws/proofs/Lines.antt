@@ -111,7 +111,7 @@ split-line n (b ∷ bs) f w k h =
     (λ there. ne_eqb b.number k (λ same. let low : k < b.number = has-below b.number k bs f.1 (line-in bs w k there) in omega arith))
     h
 
--- what a line from k is_on, a line that passes k is_on
+-- what a line from k has, a line that passes k has
 pub line_on : (n : ℕ) (bs : List Bone) → Falls n bs → (w : Option ℕ) (k s : ℕ) → is_on k (nums (line bs w)) ≡ true → is_on s (nums (line bs w)) ≡ false → is_on s (nums (line bs (Some k))) ≡ false
 line_on n bs f w k s h none =
     let e = split-line n bs f w k h in

@@ -1,4 +1,4 @@
--- The scopes that a task is_on opened and not released, with their numbers: `open_paths` is_on the paths alone.
+-- The scopes that a task has opened and not released, with their numbers: `open_paths` has the paths alone.
 use Rattle.std.specs.Prelude.{◌≡◌, ◌⊎◌, ℕ, Bool, true, false, cond, ◌==◌, List, [], ◌∷◌, Option, Some, None, refl}
 use Rattle.std.proofs.Common.{ap, sym, ◌∙◌, inl, inr}
 use Rattle.std.proofs.lemmas.Bool.{eqb-true, eq-eqb, cond_both, or_cases, or_left, or_right, true≢false}

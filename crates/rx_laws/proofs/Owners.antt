@@ -121,7 +121,7 @@ cores-end T t thrown x e =
     let made_so : after_end T t thrown ≡ change_scope (λ g. record g { ends = g.ends ++ thrown }) x.under (record T { tasks = filter (λ y. not (is_task t y)) T.tasks }) = rw (e, after_end) in
     ap cores made_so ∙ cores-change (is_scope x.under) (λ g. record g { ends = g.ends ++ thrown }) (λ g. refl) T.scopes
 
--- what an act makes of the scopes, and of those that its task is_on open: it leaves them, opens one, or releases some
+-- what an act makes of the scopes, and of those that its task has open: it leaves them, opens one, or releases some
 pub data Became (T : Tree) (t : TaskId) : Act → List Core → Type 0 where
   leaves : {act : Act} {ks : List Core} → scope_in act ≡ None → ((ms : List (ℕ × List ℕ)) → opened_after act ms ≡ ms) → ks ≡ cores T → Became T t act ks
   opens : {act : Act} {ks : List Core} (s : ℕ) → scope_in act ≡ Some s → s ≡ T.next_scope → ((ms : List (ℕ × List ℕ)) → nums_of (opened_after act ms) ≡ s ∷ nums_of ms) → ks ≡ record { number = s; opener = Some t.0; finish = is_opening act } ∷ cores T → Became T t act ks

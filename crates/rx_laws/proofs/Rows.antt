@@ -136,7 +136,7 @@ module _ (q : ℕ) (past : List Entry) (T : Tree) (i : Tied q past T) where
       and_first true z e f = absurd (true≢false (sym e ∙ f))
       and_first false z e f = refl
 
--- Chains of the scopes that a task is_on opened, the newest first: each goes on with the next, the last with u.
+-- Chains of the scopes that a task has opened, the newest first: each goes on with the next, the last with u.
 
 abbrev pub Linked : (ℕ → List ℕ) → ℕ → List ℕ → Type 0
 Linked w u [] = Unit {0}

@@ -20,7 +20,7 @@ is_death p _ = false
 abbrev pub has_died : List Entry → ℕ → Bool
 has_died past p = list_any (is_death p) past
 
--- a scope that stands: its chain in the tree is that of the entries, no scope of it was released, and it is_on a finish
+-- a scope that stands: its chain in the tree is that of the entries, no scope of it was released, and it has a finish
 pub record ScopeOk (F : Facts) (B : List Bone) (n : ℕ) : Type 0 where
   pub walks : nums (line B (Some n)) ≡ F.walk n
   pub free : list_any F.released (F.walk n) ≡ false
@@ -49,7 +49,7 @@ abbrev pub Tied : ℕ → List Entry → Tree → Type 0
 Tied q past T =
     Ties q (facts past) (is_born past) (has_died past) (born_so_far past) T.next_task T.next_scope T.places T.dead (bones T) T.tasks
 
--- A task that is yet to be born is hit_at exactly where the place that it is born for is_on died.
+-- A task that is yet to be born is hit exactly where the place that it is born for has died.
 
 hit_by : (was : Bool) (to d : ℕ) → option_or (cond was (Some to) None) (cond (to == d) (Some d) None) ≡ cond ((d == to) || was) (Some to) None
 hit_by true to d = rw (or_right (d == to) true refl)

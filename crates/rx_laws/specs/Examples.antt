@@ -35,7 +35,7 @@ script =
     Then (Finish (Then (AtAsync (Num (pos 1)) (Then (Print (Num (pos 7))) Nothing)) Nothing))
     (Then (Print (Num (pos 8))) Nothing)
 
--- the finish is opened, its child_entries is on its way, and its body has ended
+-- the finish is opened, its child is on its way, and its body has ended
 abbrev pub start : List Entry
 start =
     Step (task 0) (Open (scope 1) (scope 0) (0 ∷ [])) []
@@ -43,7 +43,7 @@ start =
     ∷ Step (task 0) (Wait (scope 1) []) []
     ∷ []
 
--- the child_entries arrives, prints and ends
+-- the child arrives, prints and ends
 abbrev pub child_entries : List Entry
 child_entries =
     Step (task 1) (Arrive (place 1)) []
@@ -67,7 +67,7 @@ released lost = Step (task 0) (Release (scope 1) (places lost) []) [] ∷ []
 abbrev pub ordinary : List Entry
 ordinary = start ++ child_entries ++ released 0 ++ close
 
--- a run in which the child_entries is lost on its way to place 1
+-- a run in which the child is lost on its way to place 1
 abbrev pub lost_in_transit : List Entry
 lost_in_transit =
     start
@@ -77,11 +77,11 @@ lost_in_transit =
     ∷ Root (places 0) (Dead (place 1) ∷ [])
     ∷ []
 
--- the finish is released while the child_entries is on its way
+-- the finish is released while the child is on its way
 abbrev pub early : List Entry
 early = start ++ released 0
 
--- the finish is released while the child_entries is at place 1
+-- the finish is released while the child is at place 1
 abbrev pub early_at_work : List Entry
 early_at_work = start ++ Step (task 1) (Arrive (place 1)) [] ∷ released 0
 
@@ -89,11 +89,11 @@ early_at_work = start ++ Step (task 1) (Arrive (place 1)) [] ∷ released 0
 abbrev pub early_elsewhere : List Entry
 early_elsewhere = start ++ Death (place 2) ∷ released 0
 
--- the child_entries is lost and not named
+-- the child is lost and not named
 abbrev pub unnamed : List Entry
 unnamed = start ++ Death (place 1) ∷ released 0
 
--- the place of a child_entries that had ended is named
+-- the place of a child that had ended is named
 abbrev pub names_finished : List Entry
 names_finished = start ++ child_entries ++ Death (place 1) ∷ released 2
 

@@ -151,7 +151,7 @@ module _ {L : Type 0} (stands : L → Tree → Type 0) (shape : Shape) (code : B
   is-not : (n : ℕ) → length m.seats.items ≤ n → able (tree_in U H) (record { 0 = n }) ≡ false
   is-not n high = able_high (tree_in U H) n (sound (tree_in U H) h.can.reached) (let z = h.can.holds.shares.slots in omega (arith, high, z))
 
-  -- the task is_listed moved and started no other
+  -- the task has moved and started no other
   pub noted-one : OthersStay → (seat : Seat) → seat_at m.seats.items i ≡ Some seat → length m.seats.items ≤ before → (ns : List ℕ) → ns ≡ marked (slot_able (tree_in U H) (seat_at m.seats.items i)) i m.ready.tasks.members → IsReady (tree_in U H) ns
   noted-one stay seat at few ns e =
       let b : Bool = slot_able (tree_in U H) (seat_at m.seats.items i) in
@@ -166,7 +166,7 @@ module _ {L : Type 0} (stands : L → Tree → Type 0) (shape : Shape) (code : B
         ],
       )
 
-  -- the task is_listed moved and started another
+  -- the task has moved and started another
   pub noted-two : OthersStay → (seat : Seat) → seat_at m.seats.items i ≡ Some seat → (ns : List ℕ) → ns ≡ marked (slot_able (tree_in U H) (seat_at m.seats.items before)) before (marked (slot_able (tree_in U H) (seat_at m.seats.items i)) i m.ready.tasks.members) → IsReady (tree_in U H) ns
   noted-two stay seat at ns e =
       let b : Bool = slot_able (tree_in U H) (seat_at m.seats.items i) in
@@ -186,7 +186,7 @@ module _ {L : Type 0} (stands : L → Tree → Type 0) (shape : Shape) (code : B
         ],
       )
 
-  -- The task is_listed ended.
+  -- The task has ended.
 
   pub has-ended : seat_at m.seats.items i ≡ None → (thrown : List Fault) × (mine.act ≡ End thrown)
   has-ended gone =

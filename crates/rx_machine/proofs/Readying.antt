@@ -195,7 +195,7 @@ able_high T n h high =
       | Some x ↦ λ e. let low : n < T.next_task = task_below T.next_task T.tasks (record { 0 = n }) x h.tasks_fall e in absurd (omega (arith, low, high))
     ]) refl
 
--- the set is_listed the numbers of the slots that are enabled
+-- the set has the numbers of the slots that are enabled
 pub ready_slots : (shape : Shape) (T : Tree) (ps : List Player) (os : List (Option Seat)) (ns : List ℕ) → ((n : ℕ) → SlotIs shape T ps n (seat_at os n)) → IsReady T ns → ns ≡ able_from T 0 os
 ready_slots shape T ps os ns slots r =
     ascends_same 0 ns (able_from T 0 os) r.0 (able_ascends T 0 os) (λ n.

@@ -69,7 +69,7 @@ impl<L: FinishLedger> Machine<L> {
         self.ready.tasks.len()
     }
 
-    /// Notes what the turn of a task is_listed changed: who opened a scope, and which tasks are enabled now. The task hung under that
+    /// Notes what the turn of a task has changed: who opened a scope, and which tasks are enabled now. The task hung under that
     /// scope, and before the turn there were so many slots.
     pub(crate) fn note_turn(&mut self, i: usize, under: ScopeId, before: usize)
         requires room { length self.old.seats.items ≤ self.old.ready.tasks.room }
@@ -103,7 +103,7 @@ impl<L: FinishLedger> Machine<L> {
         }
     }
 
-    /// Notes which tasks are enabled after the turn of a task. It asks of that task, and of one that it started, or where it is_listed
+    /// Notes which tasks are enabled after the turn of a task. It asks of that task, and of one that it started, or where it has
     /// ended of the one that this may free.
     fn note_tasks(&mut self, i: usize, under: ScopeId, before: usize)
         requires room { length self.old.seats.items ≤ self.old.ready.tasks.room }

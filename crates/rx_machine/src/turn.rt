@@ -30,7 +30,7 @@ pub enum Turn {
 }
 
 impl<L: FinishLedger> Machine<L> {
-    /// LeadsTo the next turn of the picked run, with the program that the machine was opened with; the run has not ended. `Ended`
+    /// Makes the next turn of the picked run, with the program that the machine was opened with; the run has not ended. `Ended`
     /// comes exactly with the release of the root, which uses no pick. After `NoMemory` the machine has failed, and every later turn
     /// answers `NoMemory`, changes nothing and uses no pick; the history and the journals begin with those of the turns before, and
     /// begin those that the refused turn leads to, and `enabled` tells what it told before that turn.
@@ -59,7 +59,7 @@ impl<L: FinishLedger> Machine<L> {
         }
     }
 
-    /// LeadsTo one turn: true where an enabled task has moved or a place has died, false where the root is released.
+    /// Makes one turn: true where an enabled task has moved or a place has died, false where the root is released.
     pub(crate) fn make_turn<P: Picks>(
         &mut self,
         p: &Program,
@@ -87,7 +87,7 @@ impl<L: FinishLedger> Machine<L> {
         }
     }
 
-    // LeadsTo room for what a turn adds: one entry, the number of one task, and the origin of one scope.
+    // Makes room for what a turn adds: one entry, the number of one task, and the origin of one scope.
     fn make_room(&mut self) -> Result<(), NoMemory>
         requires { length self.old.seats.items < 2 ^ 31 }
         ensures same { self.new ≡ record self.old { history = self.new.history; ready = self.new.ready } }
@@ -104,7 +104,7 @@ impl<L: FinishLedger> Machine<L> {
         Ok(())
     }
 
-    // LeadsTo the death of a place. It may free many tasks that wait, and asks of every slot: a run has at most 15 deaths.
+    // Makes the death of a place. It may free many tasks that wait, and asks of every slot: a run has at most 15 deaths.
     fn make_death(&mut self, place: PlaceId)
         requires room { 0 < self.old.history.spare }
         requires slots { length self.old.seats.items < self.old.ready.tasks.room }
@@ -120,7 +120,7 @@ impl<L: FinishLedger> Machine<L> {
         self.note_all();
     }
 
-    // LeadsTo the turn of a pick, no kill being due: true where an enabled task has moved, false where none is enabled and the root is
+    // Makes the turn of a pick, no kill being due: true where an enabled task has moved, false where none is enabled and the root is
     // released.
     fn take_pick<P: Picks>(&mut self, p: &Program, picks: &mut P) -> Result<bool, NoMemory>
         requires room { 0 < self.old.history.spare }

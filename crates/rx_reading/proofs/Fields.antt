@@ -1,6 +1,6 @@
 -- The fields of a line, each of one word.
 use Rattle.std.proofs.Common.{◌≡◌, ℕ, ◌<◌, ◌≤◌, ◌^◌, Bool, true, false, cond, nat_le, List, [], ◌∷◌, ◌++◌, length, refl, ap, sym, ◌∙◌, subst, arith, append-nil, append_assoc}
-use Rattle.std.specs.Prelude.{◌≢◌, Option, Some, None, option_map, codes, ℤ, FitsSigned}
+use Rattle.std.specs.Prelude.{◌≢◌, nat_lt, IfSome, Option, Some, None, option_map, codes, ℤ, FitsSigned}
 use Rattle.std.specs.Int.{w64}
 use Rattle.std.specs.List.{AllByRecursion, flat_map}
 use Rattle.std.proofs.lemmas.Bool.{eqb-false, le-leb}

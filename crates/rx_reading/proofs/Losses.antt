@@ -60,7 +60,7 @@ bit-above m p i low above =
 bit-high : (m p i : ℕ) → m < 2 ^ p → p ≤ i → has_bit m i ≡ false
 bit-high m p i low above = ap (λ b. b == 1) (bit_at_above m p i low above)
 
--- each bit of a set that a place above all others place_joined
+-- each bit of a set that a place above all others joined
 pub joined-bit : (m p i : ℕ) → m < 2 ^ p → has_bit (m + 2 ^ p) i ≡ (has_bit m i || (p == i))
 joined-bit m p i low = by (p == i) refl
   where

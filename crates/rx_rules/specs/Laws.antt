@@ -83,11 +83,11 @@ is_birth_of t b = b.task == t
 abbrev pub is_born : List Entry → ℕ → Bool
 is_born past t = list_any (is_birth_of t) (born_so_far past)
 
--- task t is_on ended
+-- task t has ended
 abbrev pub has_ended : List Entry → ℕ → Bool
 has_ended past t = list_any (ends_task t) past
 
--- task t is_on arrived
+-- task t has arrived
 abbrev pub has_landed : List Entry → ℕ → Bool
 has_landed past t = list_any (lands_task t) past
 
@@ -126,7 +126,7 @@ abbrev pub EachRelease : (List Entry → ℕ → PlaceSet → Type 0) → List E
 EachRelease P past [] = Unit {0}
 EachRelease P past (e ∷ es) = AtRelease P past e × EachRelease P (e ∷ past) es
 
--- a task under s is_on ended or is hit_at
+-- a task under s has ended or is hit
 abbrev pub is_over : List Entry → ℕ → TaskBirth → Bool
 is_over past s b = not (is_on s (chain_of past b)) || (has_ended past b.task || is_some (hit_at past b))
 
@@ -134,7 +134,7 @@ is_over past s b = not (is_on s (chain_of past b)) || (has_ended past b.task || 
 abbrev pub AllOver : List Entry → ℕ → PlaceSet → Type 0
 AllOver past s lost = list_all (is_over past s) (born_so_far past) ≡ true
 
--- each task born before a release of s, whose chain is_on s, is_on ended before it or is hit_at before it
+-- each task born before a release of s, whose chain has s, has ended before it or is hit before it
 abbrev pub NoEarlyRelease : List Entry → Type 0
 NoEarlyRelease es = EachRelease AllOver [] es
 

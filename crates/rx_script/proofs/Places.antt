@@ -69,7 +69,7 @@ closes-run : (outer : List (Block × Frame)) (ts : Block) → IsDone (free outer
 closes-run [] ts = (ts, refl)
 closes-run (f ∷ outer) ts = closing-run outer (closes outer) (closes-run outer) f.0 ts f.1
 
--- each state can be items_run to a whole script
+-- each state can be run to a whole script
 pub ends-run : (outer : List (Block × Frame)) (ts : Block) (w : Waits) → IsDone (record { outer = outer; so_far = ts; waits = w }) (closes_all w outer)
 ends-run outer ts Free = closes-run outer ts
 ends-run outer ts (ForElse e a) = closes-run outer (added ts (If e a Nothing))
@@ -150,7 +150,7 @@ not-nil : (front more : List Token) (b : Token) → front ++ b ∷ more ≡ [] �
 not-nil [] more b e = cc
 not-nil (t ∷ ts) more b e = cc
 
--- items items_run and one more completes to a script
+-- items run and one more completes to a script
 begins-script : (xs : List Item) (s t : BlocksRead) (x : Item) (front rest : List Token) → HasRun xs s → IsItem x → step s x ≡ Some t → front ++ rest ≡ item_words x → BeginsScript (words xs ++ front)
 begins-script xs s t x front rest h i e w =
     let tail = closes_all t.waits t.outer in

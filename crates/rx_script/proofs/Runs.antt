@@ -1,4 +1,4 @@
--- What a items_run over items says of the trees that the items spell, and of the tokens.
+-- What a run over items says of the trees that the items spell, and of the tokens.
 use Rattle.std.proofs.Common.{◌≡◌, List, [], ◌∷◌, ◌++◌, refl, ap, sym, ◌∙◌, append_assoc, append-nil}
 use Rattle.std.specs.Prelude.{Option, Some, None, option_and_then}
 use Rattle.rx_token.specs.declared.token.Token.{Token}
@@ -94,7 +94,7 @@ joined-added (Then d ds) t ts = ap (Then d) (joined-added ds t ts)
 run-body : (b : Block) (outer : List (Block × Frame)) (more rest : List Item) → items_run (free outer Nothing) (all_items b ++ Close ∷ (more ++ rest)) ≡ items_run (free outer b) (Close ∷ (more ++ rest)) → items_run (free outer Nothing) ((all_items b ++ Close ∷ more) ++ rest) ≡ items_run (free outer b) (Close ∷ (more ++ rest))
 run-body b outer more rest e = ap (items_run (free outer Nothing)) (append_assoc (all_items b) (Close ∷ more) rest) ∙ e
 
--- each script is items_run to its own statements
+-- each script is run to its own statements
 mutual
   run-stmt : (t : Stmt) (outer : List (Block × Frame)) (ds : Block) (rest : List Item) → items_run (free outer ds) (items_of t ++ rest) ≡ items_run (free outer (added ds t)) rest
   run-stmt (SetTo n e) outer ds rest = refl
@@ -135,6 +135,6 @@ run-append s (x ∷ xs) ys = append-step (step s x) xs ys (λ t. run-append t xs
     append-step None xs ys h = refl
     append-step (Some t) xs ys h = h t
 
--- one items_run after another
+-- one run after another
 pub run-on : (s t : BlocksRead) (xs ys : List Item) (o : Option BlocksRead) → items_run s xs ≡ Some t → items_run t ys ≡ o → items_run s (xs ++ ys) ≡ o
 run-on s t xs ys o e f = run-append s xs ys ∙ ap (option_and_then (λ u. items_run u ys)) e ∙ f

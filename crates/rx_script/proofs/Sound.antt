@@ -1,4 +1,4 @@
--- Items that items_run to a list of statements are its items.
+-- Items that run to a list of statements are its items.
 use Rattle.std.proofs.Common.{◌≡◌, List, [], ◌∷◌, ◌++◌, refl, ap, sym, ◌∙◌, subst, append_assoc, append-nil}
 use Rattle.std.specs.Prelude.{Some}
 use Rattle.std.proofs.lemmas.Option.{same_Some}
@@ -106,7 +106,7 @@ read-run s (x ∷ xs) t i e =
     let m = some-and (step s x) (λ u. items_run u xs) t e in
     read-run m.0 xs t i.1 m.2 ∙ ap (λ ys. ys ++ xs) (read-stepped s.outer s.so_far s.waits x m.0 i.0 m.1) ∙ append_assoc (read_by s) (x ∷ []) xs
 
--- items that items_run to a list of statements are its items
+-- items that run to a list of statements are its items
 pub sound : (xs : List Item) (ts : Block) → AllItems xs → items_run start xs ≡ Some (free [] ts) → xs ≡ all_items ts
 sound xs ts i e = sym (read-run start xs (free [] ts) i e) ∙ append-nil (all_items ts)
 

@@ -1,4 +1,4 @@
-// ExprReads an expression with the open pairs of parentheses on a list, without recursion.
+// Reads an expression with the open pairs of parentheses on a list, without recursion.
 ghost use Rattle.std.specs.Prelude.{◌≡◌, ◌+◌, ◌^◌, ◌<◌, ◌≤◌, List, [], ◌∷◌, ◌++◌, Result, length, vec_len, IfOk, OnOk};
 ghost use Rattle.rx_rules.specs.Code.{Expr as Tree};
 ghost use Rattle.rx_script.specs.Inside.Exprs.{expr};
@@ -98,7 +98,7 @@ fn whole_step(
     }
 }
 
-// ExprReads the expression in front, or answers what is left from the token that can't go on.
+// Reads the expression in front, or answers what is left from the token that can't go on.
 pub(crate) fn expression<'a>(
     exprs: &mut Vec<Expr>,
     tokens: &'a [Token],

@@ -112,7 +112,7 @@ fn open(reader: &mut Reader, owner: Owner) -> Result<(), NoMemory>
     Ok(())
 }
 
-// BlockMakes a block of the statements that are pending from there on.
+// Makes a block of the statements that are pending from there on.
 fn shut(alloc: Global, reader: &mut Reader, start: usize) -> Result<BlockId, NoMemory>
     requires start { start ≤ vec_len reader.old.pending }
     requires blocks { vec_len reader.old.blocks < 2 ^ 31 }
@@ -126,7 +126,7 @@ fn shut(alloc: Global, reader: &mut Reader, start: usize) -> Result<BlockId, NoM
     Ok(block)
 }
 
-// BlockMakes what the front of a statement and its block are.
+// Makes what the front of a statement and its block are.
 fn end_front(reader: &mut Reader, opener: Opener, body: BlockId) -> Result<(), NoMemory>
     requires { vec_len reader.old.stmts < 2 ^ 31 }
     ensures { OnOk result (BlockMakes reader.old (Front opener) body reader.new) }
@@ -148,7 +148,7 @@ fn end_front(reader: &mut Reader, opener: Opener, body: BlockId) -> Result<(), N
     }
 }
 
-// BlockMakes what a block belongs to, now that the block is whole.
+// Makes what a block belongs to, now that the block is whole.
 fn end_block(reader: &mut Reader, owner: Owner, block: BlockId) -> Result<(), NoMemory>
     requires { vec_len reader.old.stmts < 2 ^ 31 }
     ensures { OnOk result (BlockMakes reader.old owner block reader.new) }
@@ -290,7 +290,7 @@ fn parse(alloc: Global, tokens: &[Token]) -> Result<Result<Reader, usize>, NoMem
     Ok(Ok(reader))
 }
 
-// BlockMakes a script of what was read, where no block is open.
+// Makes a script of what was read, where no block is open.
 fn finish(reader: Reader, names: Vec<Vec<u8>>) -> Result<Script, NoMemory>
     requires blocks { vec_len reader.blocks < 2 ^ 31 }
     requires pending { vec_len reader.pending < 2 ^ 31 }

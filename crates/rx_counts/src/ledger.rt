@@ -11,14 +11,14 @@ ghost use Rattle.rx_counts.specs.Meaning.{CountsStand};
 ghost use Rattle.rx_counts.specs.Inside.Freeing.{IsLast, OutcomeReply, FreeReply};
 
 use crate::dying::{hand_over_all, strike_all};
-use crate::places::{blow_there, landing_of, lives, lost, place_of, slot_of, travel};
+use crate::places::{blow_there, lives, lost, slot_of};
 use crate::record::{Record, fresh};
 use crate::removal::{hindrance, remove};
 use crate::table::{
     bear, count_at, finish_of, join, keeper_of, leave, look, note_body, note_ends, push,
 };
 use rx_base::{Faults, NoMemory, PlaceId, PlaceSet, ScopeId, TaskId};
-use rx_finish::{Born, Caller, FinishLedger, LedgerFault, Outcome};
+use rx_finish::{Born, Caller, FinishLedger, LedgerFault, Outcome, landing_of, place_of, travel};
 use rx_rules::{Kind, Where};
 use std::alloc::Global;
 

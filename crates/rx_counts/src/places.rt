@@ -1,8 +1,6 @@
 // Where a caller is, and what the deaths of places tell of it.
-ghost use Rattle.std.specs.Prelude.{◌≡◌, is_none, cond, ◌==◌};
-ghost use Rattle.rx_rules.specs.Entries.{place_number};
+ghost use Rattle.std.specs.Prelude.{◌≡◌, is_none};
 ghost use Rattle.rx_sound.specs.Blows.{death_blow, earlier, blow_at};
-ghost use Rattle.rx_finish.specs.Calls.{landing};
 ghost use Rattle.rx_counts.specs.Stands.{slot};
 
 use rx_base::PlaceId;
@@ -58,35 +56,6 @@ pub fn lost(blow: Blow) -> LedgerFault
     LedgerFault::Lost {
         place: blow.place,
         at: blow.entry,
-    }
-}
-
-pub fn place_of(place: Where) -> PlaceId
-    ensures { result ≡ place_number place }
-{
-    match place {
-        Where::At(p) => p,
-        Where::Travel { from, to: _ } => from,
-    }
-}
-
-pub fn landing_of(place: Where) -> PlaceId
-    ensures { result ≡ landing place }
-{
-    match place {
-        Where::At(p) => p,
-        Where::Travel { from: _, to } => to,
-    }
-}
-
-/// Where a task is that is started at one place for another.
-pub fn travel(from: PlaceId, to: PlaceId) -> Where
-    ensures { result ≡ cond (from.0 == to.0) (Where.At to) (Where.Travel from to) }
-{
-    if from == to {
-        Where::At(to)
-    } else {
-        Where::Travel { from, to }
     }
 }
 

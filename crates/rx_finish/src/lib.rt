@@ -6,6 +6,8 @@
 #![tactic(auto)]
 
 mod ledger;
+mod places;
 
 pub use ledger::{Born, Caller, FinishLedger, LedgerFault, Outcome};
+pub use places::{landing_of, place_of, travel};
 pub use rx_rules::Where;

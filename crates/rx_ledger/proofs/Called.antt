@@ -1,7 +1,7 @@
 -- What a call leaves to its caller and to the other tasks.
-use Rattle.std.specs.Prelude.{◌≡◌, ℕ, suc, ◌==◌, Bool, true, false, cond, List, [], ◌∷◌, ◌++◌, Some, None, refl}
+use Rattle.std.specs.Prelude.{◌≡◌, ◌≢◌, ℕ, suc, ◌==◌, Bool, true, false, cond, List, [], ◌∷◌, ◌++◌, Some, None, refl}
 use Rattle.std.proofs.Common.{ap, ◌∙◌, sym, subst, append_assoc, append-nil, inl, inr}
-use Rattle.std.proofs.lemmas.Bool.{eq-eqb}
+use Rattle.std.proofs.lemmas.Bool.{eq-eqb, ne_eqb}
 use Rattle.rx_base.specs.declared.ids.PlaceId.{PlaceId}
 use Rattle.rx_base.specs.declared.ids.TaskId.{TaskId}
 use Rattle.rx_base.specs.declared.ids.Kill.{Kill}
@@ -28,8 +28,8 @@ use Rattle.rx_ledger.specs.Answering.{Answers, asker}
 use Rattle.rx_ledger.specs.Kept.{Kept, is_refusal, Refused, Answered, Applied, AppliedIf, IsHistory}
 use Rattle.rx_ledger.specs.GoingOn.{MayGoOn, MayBegin}
 use Rattle.rx_ledger.specs.Owned.{Owned, own_after, own_from, own_told}
-use Rattle.rx_ledger.specs.Staying.{NotOf}
-use Rattle.rx_ledger.specs.Calling.{tree_seen, CallsGoOn, Differ, CallsKeepOthers, owned_by, CallsOwn}
+use Rattle.rx_ledger.specs.Staying.{NotBy, NotOf}
+use Rattle.rx_ledger.specs.Calling.{tree_seen, CallsGoOn, Differ, CallsKeepOthers, owned_by, CallsOwn, CallsSpareScopes}
 use Rattle.rx_ledger.proofs.Keepers.{asks_after}
 use Rattle.rx_ledger.proofs.GoesOn.{tickets_go_on}
 use Rattle.rx_ledger.proofs.Begins.{children_begin}
@@ -180,13 +180,13 @@ calls_keep_others k k' p q r hist apart may h few =
 
 -- The scopes of the caller.
 
-own_append : (t : TaskId) (own : Owned) (es fs : List Entry) → own_from t own (es ++ fs) ≡ own_from t (own_from t own es) fs
+pub own_append : (t : TaskId) (own : Owned) (es fs : List Entry) → own_from t own (es ++ fs) ≡ own_from t (own_from t own es) fs
 own_append t own [] fs = refl
 own_append t own (Step u act batch ∷ es) fs = own_append t (cond (u.0 == t.0) (own_after act own) own) es fs
 own_append t own (Root lost thrown ∷ es) fs = own_append t own es fs
 own_append t own (Death d ∷ es) fs = own_append t own es fs
 
-own_deaths : (t : TaskId) (own : Owned) (ds : List PlaceId) → own_from t own (deaths ds) ≡ own
+pub own_deaths : (t : TaskId) (own : Owned) (ds : List PlaceId) → own_from t own (deaths ds) ≡ own
 own_deaths t own [] = refl
 own_deaths t own (d ∷ ds) = own_deaths t own ds
 
@@ -228,3 +228,41 @@ calls_own k k' q r who e h =
     let es = k.entries ++ deaths a.dead in
     own_answer (tree_of k.setup.places es) es q r k'.entries who e a.answers
     ∙ ap (owned_by r) (own_append who.task [] k.entries (deaths a.dead) ∙ own_deaths who.task (own_told k.entries who.task) a.dead))
+
+-- The scopes of another task.
+
+not_by : (t : AnyTicket) (who : Caller) (e : Entry) → asker t ≡ Some who → NotOf t e → NotBy who.task e
+not_by (Moving v) who e s h =
+    let both : Some v ≡ Some who = s in
+    let it : v ≡ who = cc in
+    subst (λ (w : Caller). NotBy w.task e) it h
+not_by (Running v) who e s h =
+    let both : Some v ≡ Some who = s in
+    let it : v ≡ who = cc in
+    subst (λ (w : Caller). NotBy w.task e) it h
+not_by (Held v) who e s h =
+    let both : Some v ≡ Some who = s in
+    let it : v ≡ who = cc in
+    subst (λ (w : Caller). NotBy w.task e) it h
+not_by Host who e s h = absurd (let both : None ≡ Some who = s in let v : ⊥ = cc in v)
+
+own_spared : (t : AnyTicket) (who : Caller) (own : Owned) (fs : List Entry) → asker t ≡ Some who → Each (NotOf t) fs → own_from who.task own fs ≡ own
+own_spared t who own [] s h = refl
+own_spared t who own (Step u act batch ∷ fs) s h =
+    let other : who.task.0 ≢ u.0 = not_by t who (Step u act batch) s h.0 in
+    ap (λ (b : Bool). own_from who.task (cond b (own_after act own) own) fs) (ne_eqb u.0 who.task.0 (λ e. other (sym e)))
+    ∙ own_spared t who own fs s h.1
+own_spared t who own (Root lost thrown ∷ fs) s h = own_spared t who own fs s h.1
+own_spared t who own (Death d ∷ fs) s h = own_spared t who own fs s h.1
+
+pub calls_spare_scopes : CallsSpareScopes
+calls_spare_scopes k k' p q r who apart s h =
+    by_refusal r k k' q (own_told k'.entries who.task ≡ own_told k.entries who.task) h
+    (λ (f : Refused k q r k'). own_same k.entries k'.entries who.task f.entries)
+    (λ (a : Answered k q r k').
+    let es = k.entries ++ deaths a.dead in
+    let m = more_of q es k'.entries (adds (tree_of k.setup.places es) es q r k'.entries a.answers) in
+    ap (λ (fs : List Entry). own_told fs who.task) m.added
+    ∙ (own_append who.task [] es m.more
+    ∙ (own_spared p.ticket who (own_told es who.task) m.more s (m.spares p apart)
+    ∙ (own_append who.task [] k.entries (deaths a.dead) ∙ own_deaths who.task (own_told k.entries who.task) a.dead))))

@@ -20,4 +20,5 @@ pub mod Others
 pub mod StaysGood
 pub mod OwnTold
 pub mod Called
+pub mod Newborn
 pub mod Scenes

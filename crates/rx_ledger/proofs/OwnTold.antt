@@ -21,11 +21,12 @@ use Rattle.rx_rules.specs.Tree.{Tree, task_of, is_task, is_scope, opened_by}
 use Rattle.rx_rules.specs.Entries.{Allowed, AllowedAct, made, made_act, change_scope, hit}
 use Rattle.rx_rules.specs.Fold.{AllAllowed, fold_from, opening, tree_of}
 use Rattle.rx_rules.specs.Reached.{Reached, IsOlder, opens}
+use Rattle.rx_rules.specs.Run.{Given, Folds}
 use Rattle.rx_sound.proofs.Reach.{task_below}
 use Rattle.rx_sound.proofs.Reached.{sound}
 use Rattle.rx_sound.proofs.Histories.{reached_now, dead-now, none_yet}
 use Rattle.rx_sound.proofs.Owning.{release_pops}
-use Rattle.rx_ledger.specs.Owned.{Owned, sort_of, own_after, own_from, owned, OwnedAsTold, MayWaitNext, MayEndNext, NumbersAreLeft}
+use Rattle.rx_ledger.specs.Owned.{Owned, sort_of, own_after, own_from, own_told, owned, OwnedAsTold, MayWaitNext, MayEndNext, NumbersAreLeft}
 use Rattle.rx_runs.proofs.Endings.{root_empties}
 use Rattle.rx_ledger.proofs.Ended.{who_stands}
 use Rattle.rx_ledger.proofs.Striking.{find-hit}
@@ -211,6 +212,17 @@ opening_owns places = record { each = λ t x found. refl; unborn = λ t high. re
 pub owned_as_told : OwnedAsTold
 owned_as_told U es t x folds found =
     told_from 0 (opening U.places) es (λ v. []) t x (opens U.places folds.some folds.few) none_yet folds.allowed (opening_owns U.places) found
+
+unborn_from : (n : ℕ) (T : Tree) (es : List Entry) (own : TaskId → Owned) (t : TaskId) → Reached T → All (IsOlder n) T.dead → AllAllowed n T es → ToldOwn T own → (fold_from n T es).next_task ≤ t.0 → own_from t (own t) es ≡ []
+unborn_from n T [] own t r o may h high = h.unborn t high
+unborn_from n T (e ∷ es) own t r o may h high =
+    sym (own_split t (own t) e es)
+    ∙ unborn_from (suc n) (made n T e) es (λ v. own_from v (own v) (e ∷ [])) t (reached_now n T e r o may.0) (dead-now n T e o) may.1 (told_entry n T r own h e may.0) high
+
+-- a task that was not started has none
+pub unborn_owns : (U : Given) (es : List Entry) (t : TaskId) → Folds U es → (tree_of U.places es).next_task ≤ t.0 → own_told es t ≡ []
+unborn_owns U es t folds high =
+    unborn_from 0 (opening U.places) es (λ v. []) t (opens U.places folds.some folds.few) none_yet folds.allowed (opening_owns U.places) high
 
 -- What a caller may ask for next.
 

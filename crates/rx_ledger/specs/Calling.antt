@@ -1,10 +1,11 @@
 -- What a keeper's call leaves to its caller and to the other tasks, said of what is seen before and after it.
-use Rattle.std.specs.Prelude.{◌≡◌, ◌≢◌, drop, ◌∷◌, Some}
+use Rattle.std.specs.Prelude.{◌≡◌, ◌≢◌, drop, [], ◌∷◌, Some}
 use Rattle.rx_rules.specs.declared.tasks.Kind.TheVariants.{Finish, Call}
 use Rattle.rx_rules.specs.Tree.{Tree}
 use Rattle.rx_rules.specs.Fold.{tree_of}
 use Rattle.rx_finish.specs.declared.ledger.Caller.{Caller}
 use Rattle.rx_finish.specs.Callers.{HasNumbers}
+use Rattle.rx_ticket.specs.declared.tickets.AnyTicket.{AnyTicket}
 use Rattle.rx_ledger.specs.declared.asks.Request.{Request}
 use Rattle.rx_ledger.specs.declared.asks.Reply.{Reply}
 use Rattle.rx_ledger.specs.declared.asks.Reply.TheVariants.{Opened, Called, Spawned, Landed, Waits, Released, Ended, Printed}
@@ -12,6 +13,7 @@ use Rattle.rx_ledger.specs.declared.asks.Reply.TheVariants.{RootDone, NotYet, Lo
 use Rattle.rx_ledger.specs.Asking.{MayApply}
 use Rattle.rx_ledger.specs.Answering.{asker}
 use Rattle.rx_ledger.specs.Kept.{Kept, Applied, IsHistory}
+use Rattle.rx_ledger.specs.Holding.{started_in}
 use Rattle.rx_ledger.specs.GoingOn.{MayGoOn, MayBegin}
 use Rattle.rx_ledger.specs.Owned.{Owned, own_told}
 
@@ -55,3 +57,20 @@ abbrev pub CallsOwn : Type 0
 CallsOwn =
     (k k' : Kept) (q : Request) (r : Reply) (who : Caller) → asker q.ticket ≡ Some who → Applied k q r k'
     → own_told k'.entries who.task ≡ owned_by r (own_told k.entries who.task)
+
+-- those of another task stay, as its entries tell them
+abbrev pub CallsSpareScopes : Type 0
+CallsSpareScopes =
+    (k k' : Kept) (p q : Request) (r : Reply) (who : Caller) → Differ p q → asker p.ticket ≡ Some who → Applied k q r k'
+    → own_told k'.entries who.task ≡ own_told k.entries who.task
+
+-- it is of no task that might ask for something before, and has no scopes
+pub record IsNew (k k' : Kept) (child : Caller) : Type 0 where
+  pub other : (p : Request) (who : Caller) → MayApply (tree_seen k) p → asker p.ticket ≡ Some who → who.task.0 ≢ child.task.0
+  pub bare : own_told k'.entries child.task ≡ []
+
+-- so it is with a task that is started
+abbrev pub StartedAreNew : Type 0
+StartedAreNew =
+    (k k' : Kept) (q : Request) (r : Reply) (t : AnyTicket) (child : Caller) → IsHistory k' → Applied k q r k' → started_in r ≡ Some t
+    → asker t ≡ Some child → IsNew k k' child

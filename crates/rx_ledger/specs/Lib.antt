@@ -7,5 +7,6 @@ pub mod Uncovering
 pub mod GoingOn
 pub mod Staying
 pub mod Owned
+pub mod Holding
 pub mod Calling
 pub mod Inside

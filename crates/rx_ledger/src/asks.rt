@@ -1,4 +1,6 @@
 // What a keeper is asked, and what it answers.
+ghost use Rattle.std.specs.Prelude.{◌≡◌};
+ghost use Rattle.rx_ledger.specs.Holding.{asking_in, started_in};
 
 use rx_base::{Batch, Path, PlaceId, ScopeId};
 use rx_finish::Outcome;
@@ -58,4 +60,43 @@ pub enum Reply {
     NoMemory {
         request: Request,
     },
+}
+
+impl Reply {
+    /// The ticket of the task that asked, and the ticket of the task that was started, where the reply holds them. Of a request that
+    /// comes back the ticket alone is kept.
+    pub fn into_tickets(self) -> (Option<AnyTicket>, Option<AnyTicket>)
+        ensures asking { result.0 ≡ asking_in self }
+        ensures started { result.1 ≡ started_in self }
+    {
+        match self {
+            Reply::Opened { ticket, scope: _ } => (Some(AnyTicket::Running(ticket)), None),
+            Reply::Called { ticket, callee } => (Some(AnyTicket::Held(ticket)), callee),
+            Reply::Spawned { ticket, child } => (Some(AnyTicket::Running(ticket)), child),
+            Reply::Landed { ticket } => (Some(AnyTicket::Running(ticket)), None),
+            Reply::Waits { ticket } => (Some(AnyTicket::Held(ticket)), None),
+            Reply::Released { ticket, outcome: _ } => (Some(AnyTicket::Running(ticket)), None),
+            Reply::Ended => (None, None),
+            Reply::Printed { ticket } => (Some(AnyTicket::Running(ticket)), None),
+            Reply::RootDone => (None, None),
+            Reply::NotYet { place: _, request } => (Some(request.into_ticket()), None),
+            Reply::Lost { place: _, at: _ } => (None, None),
+            Reply::NoMemory { request } => (Some(request.into_ticket()), None),
+        }
+    }
+}
+
+impl Request {
+    /// Its ticket.
+    pub fn into_ticket(self) -> AnyTicket
+        ensures { result ≡ self.ticket }
+    {
+        let Request {
+            ticket,
+            ask: _,
+            batch: _,
+            path: _,
+        } = self;
+        ticket
+    }
 }

@@ -1,5 +1,5 @@
 //! Laws of contracts. They do nothing when they run.
-ghost use Rattle.rx_ledger.specs.Calling.{CallsGoOn, CallsKeepOthers, CallsOwn};
+ghost use Rattle.rx_ledger.specs.Calling.{CallsGoOn, CallsKeepOthers, CallsOwn, CallsSpareScopes, StartedAreNew};
 ghost use Rattle.rx_ledger.specs.GoingOn.{ChildrenBegin, TicketsGoOn};
 ghost use Rattle.rx_ledger.specs.Owned.{MayEndNext, MayWaitNext, NumbersAreLeft, OwnedAsTold};
 ghost use Rattle.rx_ledger.specs.Staying.{EntryKeepsTicket, TicketsStayGood};
@@ -70,4 +70,14 @@ pub fn calls_keep_others()
 /// takes the newest away, and all others leave them.
 pub fn calls_own()
     ensures { CallsOwn }
+{}
+
+/// A law: a call leaves the scopes of all tasks but its caller, as their entries tell them.
+pub fn calls_spare_scopes()
+    ensures { CallsSpareScopes }
+{}
+
+/// A law: a task that is started has a number that no task has which might ask for something before the call, and no scopes.
+pub fn started_are_new()
+    ensures { StartedAreNew }
 {}

@@ -7,9 +7,8 @@ ghost use Rattle.rx_ledger.specs.Inside.Doing.{request_of, books_tree, Calm, Did
 
 use crate::asks::Reply;
 use crate::books::Books;
-use crate::parts::target_of;
 use rx_base::{Batch, Path};
-use rx_finish::{FinishLedger, LedgerFault};
+use rx_finish::{FinishLedger, LedgerFault, landing_of};
 use rx_rules::{Act, Entry};
 use rx_ticket::{InTransit, Live, Ticket};
 
@@ -27,7 +26,7 @@ impl<L: FinishLedger> Books<L> {
                 self.history.add(Entry::Step {
                     task: who.task,
                     act: Act::Arrive {
-                        place: target_of(who.place),
+                        place: landing_of(who.place),
                     },
                     batch,
                 });

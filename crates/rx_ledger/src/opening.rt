@@ -7,9 +7,9 @@ ghost use Rattle.rx_ledger.specs.Inside.Doing.{request_of, books_tree, Calm, Did
 
 use crate::asks::{Reply, Request};
 use crate::books::{Books, Note};
-use crate::parts::{place_of, ticket_for};
+use crate::parts::ticket_for;
 use rx_base::{Batch, Path, PlaceId};
-use rx_finish::{FinishLedger, LedgerFault};
+use rx_finish::{FinishLedger, LedgerFault, place_of};
 use rx_history::Ask;
 use rx_rules::{Act, Entry};
 use rx_ticket::{AnyTicket, Live, Ticket};

@@ -116,53 +116,20 @@ fn the_root_waits_for_the_main_activity(rt: HostRuntime) -> Result<(), Fail> {
 
 // Ends what a reply holds.
 pub(crate) fn finish(reply: Reply) {
-    match reply {
-        Reply::Opened { ticket, scope: _ } => ticket.spent(),
-        Reply::Called { ticket, callee } => {
-            ticket.lost(PlaceId(1), 0);
-            finish_child(callee);
-        }
-        Reply::Spawned { ticket, child } => {
-            ticket.spent();
-            finish_child(child);
-        }
-        Reply::Landed { ticket } => ticket.spent(),
-        Reply::Waits { ticket } => ticket.lost(PlaceId(1), 0),
-        Reply::Released { ticket, outcome: _ } => ticket.spent(),
-        Reply::Ended => {}
-        Reply::Printed { ticket } => ticket.spent(),
-        Reply::RootDone => {}
-        Reply::NotYet { place: _, request } => end(request),
-        Reply::Lost { place: _, at: _ } => {}
-        Reply::NoMemory { request } => end(request),
-    }
+    let (asking, started) = reply.into_tickets();
+    finish_child(asking);
+    finish_child(started);
 }
 
 // Ends the ticket of a task that was started.
 pub(crate) fn finish_child(child: Option<AnyTicket>) {
     match child {
-        Some(ticket) => lost(ticket),
+        Some(ticket) => ticket.lost(PlaceId(1), 0),
         None => {}
     }
 }
 
 // Ends a request.
 pub(crate) fn end(request: Request) {
-    let Request {
-        ticket,
-        ask: _,
-        batch: _,
-        path: _,
-    } = request;
-    lost(ticket);
-}
-
-// Ends a ticket.
-fn lost(ticket: AnyTicket) {
-    match ticket {
-        AnyTicket::Moving(t) => t.lost(PlaceId(1), 0),
-        AnyTicket::Running(t) => t.lost(PlaceId(1), 0),
-        AnyTicket::Held(t) => t.lost(PlaceId(1), 0),
-        AnyTicket::Host => {}
-    }
+    request.into_ticket().lost(PlaceId(1), 0);
 }

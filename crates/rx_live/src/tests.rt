@@ -1,9 +1,10 @@
-// That the call can succeed, and that its workers come by the gate at one time.
+// That the call can succeed, that its workers come by the gate at one time, and that a machine may be moved between threads.
 use crate::run_live;
 use rx_base::MeetGate;
 use rx_check::check;
 use rx_counts::CountLedger;
 use rx_history::{KillList, Setup};
+use rx_machine::Machine;
 use rx_script::read_script;
 use std::test::Fail;
 
@@ -31,4 +32,13 @@ fn two_workers_meet_and_end_a_run(rt: HostRuntime) -> Result<(), Fail> {
     assert!(rt; gate.met());
     assert_eq!(rt; history.len(), 10);
     Ok(())
+}
+
+// Values of the type may be moved to another thread.
+fn may_move<T: Send>() {}
+
+/// A machine may be moved where its ledger may.
+#[test]
+fn runs_may_be_moved(_rt: HostRuntime) {
+    may_move::<Machine<CountLedger>>();
 }

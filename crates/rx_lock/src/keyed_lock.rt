@@ -5,8 +5,12 @@ use crate::steps::{Close, Fact, Give, Hand, Rule, Sit, Take};
 use atomic_table::{Seat, Table};
 use rx_base::NoMemory;
 use std::alloc::Global;
+use std::hint::spin_loop;
 use std::marker::Model;
 use std::sync::Wait;
+
+// How often one who finds the value out looks for it again before it sleeps.
+const LOOKS: u32 = 1_000;
 
 /// The right and the duty to put a value back. It can't be dropped. Contracts see it as the lock that it is of.
 pub struct Turn<T, K> {
@@ -71,7 +75,7 @@ impl<T, K, F: Fact<T, K>> Lock<T, K, F> {
         }
     }
 
-    /// Waits until the value is at home, and takes it. No memory.
+    /// Waits until the value is at home, and takes it: it looks for a while, and then sleeps. No memory.
     pub fn lock<R: Wait>(&self, rt: &R) -> (T, Turn<T, K>)
         ensures fact { F.holds self.now.key result.0 }
         ensures own { result.1 ≡ self.now }
@@ -86,9 +90,22 @@ impl<T, K, F: Fact<T, K>> Lock<T, K, F> {
                 };
                 return (value, Turn { seat });
             }
-            shared.park(rt, 0, 1);
+            if !self.comes_home() {
+                shared.park(rt, 0, 1);
+            }
         }
         unreachable!()
+    }
+
+    // Whether the value is seen at home within some looks, which cost less than sleep where it is soon put back.
+    fn comes_home(&self) -> bool {
+        for _ in 0..LOOKS {
+            if self.table.shared.peek(0) == 0 {
+                return true;
+            }
+            spin_loop();
+        }
+        false
     }
 
     /// Puts a value back, and wakes one who waits. No memory.

@@ -131,7 +131,7 @@ fn semicolon(tokens: &[Token]) -> Result<&[Token], &[Token]>
 }
 
 fn equals(tokens: &[Token]) -> Result<&[Token], &[Token]>
-    ensures answer { Passes result (λ s. s.now) (λ r. choose (read.equals r) tokens.now) }
+    ensures answer { Passes result (λ s. s.now) (λ r. choose (read.equals_then r) tokens.now) }
     ensures shorter { IfOk result (λ s. length s.now ≤ length tokens.now) }
 {
     match tokens.split_first() {
@@ -186,7 +186,8 @@ fn opens(item: Item, tokens: &[Token]) -> Read<'_, Item>
 
 // A name and the sign that assigns to it.
 fn assigned(tokens: &[Token]) -> Read<'_, NameId>
-    ensures answer { Leads result (λ s. s.now) (λ n. n.0) (λ f. then (choose read.called) (λ n. choose (read.equals (f n))) tokens.now) }
+    ensures answer { Leads result (λ s. s.now) (λ n. n.0) (λ f. then (choose read.called)
+        (λ n. choose (read.equals_then (f n))) tokens.now) }
     ensures shorter { IfOk result (λ x. length x.1.now ≤ length tokens.now) }
 {
     match called(tokens) {
@@ -316,7 +317,7 @@ fn put_value<'a>(
     ensures grows { OnOk result (Grows exprs.old.items exprs.new.items) }
     ensures answer { (i : Tree) → ExprStands exprs.old.items index i
         → IfOk result (λ r. IsItemAnswer exprs.new.items r (λ s. s.now)
-        (choose (read.equals (then expr (λ e. read.ends (read.Whole (Put target.0 i e))))) tokens.now)) }
+        (choose (read.equals_then (then expr (λ e. read.ends (read.Whole (Put target.0 i e))))) tokens.now)) }
     ensures few { IfOk result (λ r. IfOk r (λ x. vec_len exprs.new + length x.1.now ≤ vec_len exprs.old + length tokens.now)) }
 {
     match equals(tokens) {

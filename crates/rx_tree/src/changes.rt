@@ -1,42 +1,13 @@
 // Changes of the rows of a tree. The newest stand first, so that an insertion moves all rows.
-ghost use Rattle.std.specs.Prelude.{◌≡◌, ◌∷◌, ◌++◌, OnOk, IfErr, cond, ◌==◌, option_map, map, filter, not};
+ghost use Rattle.std.specs.Prelude.{◌≡◌, ◌∷◌, ◌++◌, OnOk, IfErr, option_map, map, filter, not};
 ghost use Rattle.rx_rules.specs.Tree.{is_task, is_scope};
-ghost use Rattle.rx_rules.specs.Entries.{place_number, change_first, hit, is_hit};
-ghost use Rattle.rx_finish.specs.Calls.{landing};
+ghost use Rattle.rx_rules.specs.Entries.{change_first, hit, is_hit};
 ghost use Rattle.rx_tree.specs.Inside.Positions.{TasksFallIn, ScopesFallIn};
 
 use crate::LedgerFault;
 use crate::lookups::{row_of, scope_row};
 use rx_base::{Faults, PlaceId, ScopeId, TaskId};
 use rx_rules::{Blow, Scope, Task, Where};
-
-pub fn place_of(place: Where) -> PlaceId
-    ensures { result ≡ place_number place }
-{
-    match place {
-        Where::At(p) => p,
-        Where::Travel { from, to: _ } => from,
-    }
-}
-
-pub fn landing_of(place: Where) -> PlaceId
-    ensures { result ≡ landing place }
-{
-    match place {
-        Where::At(p) => p,
-        Where::Travel { from: _, to } => to,
-    }
-}
-
-pub fn travel(from: PlaceId, to: PlaceId) -> Where
-    ensures { result ≡ cond (from.0 == to.0) (Where.At to) (Where.Travel from to) }
-{
-    if from == to {
-        Where::At(to)
-    } else {
-        Where::Travel { from, to }
-    }
-}
 
 pub fn blow_at(place: PlaceId, number: Option<u32>) -> Option<Blow>
     ensures { result ≡ option_map (λ n. record { place = place; entry = n }) number }

@@ -10,13 +10,13 @@ ghost use Rattle.rx_tree.specs.Inside.Positions.{RowsInOrder};
 ghost use Rattle.rx_tree.specs.Inside.Removal.{LeaveReply};
 
 use crate::changes::{
-    blow_at, insert_both, insert_scope, insert_task, land, landing_of, lost_by, note_body,
-    note_ends, place_of, remove_task, set_waits, strike_all, travel,
+    blow_at, insert_both, insert_scope, insert_task, land, lost_by, note_body, note_ends,
+    remove_task, set_waits, strike_all,
 };
 use crate::lookups::{death_at, find_gone, find_governing, find_task, reaches, scope_row};
 use crate::removal::{keep_gone, lost_places, remove_lost, remove_scopes, scopes_under};
 use rx_base::{Faults, NoMemory, PlaceId, ScopeId, TaskId};
-use rx_finish::{Born, Caller, FinishLedger, LedgerFault, Outcome};
+use rx_finish::{Born, Caller, FinishLedger, LedgerFault, Outcome, landing_of, place_of, travel};
 use rx_rules::{Blow, Kind, Scope, Task, Where};
 use std::alloc::Global;
 

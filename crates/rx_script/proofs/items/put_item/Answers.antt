@@ -8,7 +8,7 @@ use Rattle.rx_script.proofs.items.put_item.Goals as goal
 
 -- what follows the index
 abbrev assigns : ℕ → Tree → Reader read.Item
-assigns t i = choose (read.equals (then expr (λ e. read.ends (read.Whole (Put t i e)))))
+assigns t i = choose (read.equals_then (then expr (λ e. read.ends (read.Whole (Put t i e)))))
 
 -- what follows the target
 abbrev indexed : ℕ → Reader read.Item

@@ -17,7 +17,7 @@ use Rattle.rx_rules.specs.declared.tasks.Scope.{Scope}
 use Rattle.rx_rules.specs.Tree.{Tree, the_root}
 use Rattle.rx_sound.specs.Blows.{blow_at}
 use Rattle.rx_sound.specs.Chains.{meets}
-use Rattle.rx_sound.specs.Sound.{Sound, TasksFall}
+use Rattle.rx_sound.specs.Sound.{Sound, TasksFall, Inside}
 use Rattle.rx_sound.proofs.Reach.{fits_of}
 use Rattle.rx_sound.proofs.Reached.{sound}
 use Rattle.rx_finish.specs.declared.ledger.Caller.{Caller}
@@ -31,8 +31,7 @@ use Rattle.rx_counts.specs.declared.record.Record.{Record}
 use Rattle.rx_counts.specs.declared.ledger.CountLedger.{CountLedger}
 use Rattle.rx_counts.specs.Keeping.{stands_home, keeper, kept_at, same_where}
 use Rattle.rx_rules.specs.Counts.{has_number}
-use Rattle.rx_counts.specs.Stands.{slot, where_in_range, ShapeOf, SumsOf, RecordOf, Both, AllFit, Fit, StandsFor, IsShaped, record_at, count_in}
-use Rattle.rx_counts.proofs.Telling.{within_range}
+use Rattle.rx_counts.specs.Stands.{ShapeOf, SumsOf, RecordOf, Both, AllFit, Fit, StandsFor, IsShaped, record_at, count_in}
 use Rattle.rx_counts.proofs.Lasting.{root_keeps}
 use Rattle.rx_counts.proofs.Walks.{keeper_exists, keeper_stands}
 use Rattle.rx_counts.proofs.Shapes.{both_found}
@@ -56,16 +55,16 @@ unstruck_of T who P f = rw (f.at.stands, blow_of) f.acts.unstruck
 
 -- The records.
 
-pub fit_shaped : (T : Tree) (keeps : Scope → Bool) (rs : List (Option (Box Record))) → Sound T → AllFit keeps T.scopes T.tasks rs → IsShaped T rs
-fit_shaped T keeps rs h fit =
+pub fit_shaped : (size : ℕ) (T : Tree) (keeps : Scope → Bool) (rs : List (Option (Box Record))) → Sound T → AllFit size keeps T.scopes T.tasks rs → IsShaped T rs
+fit_shaped size T keeps rs h fit =
     record {
       falls = h.falls;
       opened = h.opened;
-      shapes = λ n. both_more (RecordOf keeps T.scopes T.tasks) (ShapeOf T.scopes) (record_at rs n) (find (has_number n) T.scopes) (λ r g e a. a.shape) (fit n);
+      shapes = λ n. both_more (RecordOf size keeps T.scopes T.tasks) (ShapeOf T.scopes) (record_at rs n) (find (has_number n) T.scopes) (λ r g e a. a.shape) (fit n);
     }
 
 pub shaped : (l : CountLedger) (T : Tree) → StandsFor l T → IsShaped T l.scopes.items
-shaped l T s = fit_shaped T (stands_home T.dead) l.scopes.items (sound s.reached) s.fit.scopes
+shaped l T s = fit_shaped _ T (stands_home T.dead) l.scopes.items (sound s.reached) s.fit.scopes
 
 -- the walk by records is the walk in the tree
 pub keeper_found : (l : CountLedger) (T : Tree) (s : ScopeId) (o : Option ScopeId) (rs : List (Option (Box Record))) → StandsFor l T → rs ≡ l.scopes.items → ((U : Tree) → IsShaped U rs → option_map (λ k. k.0) o ≡ keeper (stands_home l.dead) U.scopes (Some s)) → option_map (λ k. k.0) o ≡ keeper (stands_home T.dead) T.scopes (Some s)
@@ -84,19 +83,19 @@ pub record Kept (T : Tree) (rs : List (Option (Box Record))) (k : ℕ) : Type 0 
   pub scope : Scope
   pub stands : find (has_number k) T.scopes ≡ Some scope
   pub number : scope.number.0 ≡ k
-  pub fits : RecordOf (stands_home T.dead) T.scopes T.tasks kept scope
+  pub fits : RecordOf T.places (stands_home T.dead) T.scopes T.tasks kept scope
   pub low : k < length rs
 
-pub kept_found : (T : Tree) (rs : List (Option (Box Record))) (k : ℕ) (g : Scope) → AllFit (stands_home T.dead) T.scopes T.tasks rs → find (has_number k) T.scopes ≡ Some g → Kept T rs k
+pub kept_found : (T : Tree) (rs : List (Option (Box Record))) (k : ℕ) (g : Scope) → AllFit T.places (stands_home T.dead) T.scopes T.tasks rs → find (has_number k) T.scopes ≡ Some g → Kept T rs k
 kept_found T rs k g h e =
-    let r = both_found (RecordOf (stands_home T.dead) T.scopes T.tasks) (record_at rs k) (find (has_number k) T.scopes) g (h k) e in
+    let r = both_found (RecordOf T.places (stands_home T.dead) T.scopes T.tasks) (record_at rs k) (find (has_number k) T.scopes) g (h k) e in
     record { kept = r.0; found = r.1; scope = g; stands = e; number = number_is k T.scopes g e; fits = r.2; low = below_length rs k r.0 r.1 }
 
-pub kept_some : (T : Tree) (rs : List (Option (Box Record))) (k : ℕ) → AllFit (stands_home T.dead) T.scopes T.tasks rs → (o : Option Scope) → find (has_number k) T.scopes ≡ o → is_some o ≡ true → Kept T rs k
+pub kept_some : (T : Tree) (rs : List (Option (Box Record))) (k : ℕ) → AllFit T.places (stands_home T.dead) T.scopes T.tasks rs → (o : Option Scope) → find (has_number k) T.scopes ≡ o → is_some o ≡ true → Kept T rs k
 kept_some T rs k h (Some g) e q = kept_found T rs k g h e
 kept_some T rs k h None e q = absurd (true≢false (sym q))
 
-pub kept_at_keeper : (T : Tree) (rs : List (Option (Box Record))) (want : Option ScopeId) (k : ℕ) → AllFit (stands_home T.dead) T.scopes T.tasks rs → keeper (stands_home T.dead) T.scopes want ≡ Some k → Kept T rs k
+pub kept_at_keeper : (T : Tree) (rs : List (Option (Box Record))) (want : Option ScopeId) (k : ℕ) → AllFit T.places (stands_home T.dead) T.scopes T.tasks rs → keeper (stands_home T.dead) T.scopes want ≡ Some k → Kept T rs k
 kept_at_keeper T rs want k h e = kept_some T rs k h (find (has_number k) T.scopes) refl (keeper_stands (stands_home T.dead) k T.scopes want e)
 
 -- a keeper is always found
@@ -114,17 +113,17 @@ tasks_length n [] f = omega arith
 tasks_length n (x ∷ xs) f = let a : x.number.0 < n = f.0 in let b : length xs ≤ x.number.0 = tasks_length x.number.0 xs f.1 in omega arith
 
 -- so no count is above their number
-pub small : (keeps : Scope → Bool) (gs : List Scope) (ts : List Task) (q : Sums) (n m : ℕ) (w : Where) → SumsOf keeps gs ts q m → length ts ≤ n → n < 2 ^ 31 → where_in_range w → (count_in q (slot w) + 1 < 2 ^ 32) × (q.total + 1 < 2 ^ 32)
-small keeps gs ts q n m w fits f low within =
-    let a = fits.counts w within in
+pub small : (keeps : Scope → Bool) (gs : List Scope) (ts : List Task) (q : Sums) (n m : ℕ) (w : Where) → SumsOf keeps gs ts q m → length ts ≤ n → n < 2 ^ 31 → (count_in q w + 1 < 2 ^ 32) × (q.total + 1 < 2 ^ 32)
+small keeps gs ts q n m w fits f low =
+    let a = fits.counts w in
     let b = count_by-le-length (λ x. (is_none x.struck && same_where w x.place) && kept_at keeps gs m x) ts in
     let c = fits.total in
     let d = count_by-le-length (λ x. is_none x.struck && kept_at keeps gs m x) ts in
     (omega arith, omega arith)
 
 -- where the caller is
-pub place_in : (T : Tree) (who : Caller) (P : Task → Type 0) → Sound T → (f : Free T who P) → where_in_range who.place
-place_in T who P h f = subst where_in_range f.at.says.place (within_range T.places f.at.task.place h.few (fits_of T who.task f.at.task h f.at.stands).inside)
+pub place_in : (T : Tree) (who : Caller) (P : Task → Type 0) → Sound T → (f : Free T who P) → Inside T.places who.place
+place_in T who P h f = subst (Inside T.places) f.at.says.place (fits_of T who.task f.at.task h f.at.stands).inside
 
 -- the scope that it hangs under leads to the root
 pub scope_rooted : (T : Tree) (who : Caller) (P : Task → Type 0) → Sound T → (f : Free T who P) → meets the_root T.scopes (Some who.scope) ≡ true
@@ -147,7 +146,7 @@ same_fit l m T h places dead next_task next_scope len same =
       next_task = next_task ∙ h.next_task;
       next_scope = next_scope ∙ h.next_scope;
       numbers = len ∙ h.numbers;
-      scopes = λ n. subst (λ o. Both (RecordOf (stands_home T.dead) T.scopes T.tasks) o (find (has_number n) T.scopes)) (sym (same n)) (h.scopes n);
+      scopes = λ n. subst (λ o. Both (RecordOf T.places (stands_home T.dead) T.scopes T.tasks) o (find (has_number n) T.scopes)) (sym (same n)) (h.scopes n);
     }
 
 pub same_records : (l m : CountLedger) (T : Tree) → StandsFor l T → m.places ≡ l.places → m.dead ≡ l.dead → m.next_task ≡ l.next_task → m.next_scope ≡ l.next_scope → m.scopes.items ≡ l.scopes.items → StandsFor m T

@@ -35,7 +35,8 @@ use Rattle.rx_counts.specs.Stands.{SumsOf, RecordOf, StandsFor, record_at, Pushe
 use Rattle.rx_counts.proofs.Telling.{none_blow}
 use Rattle.rx_counts.proofs.Asking.{Kept, kept_some, unstruck_of}
 use Rattle.rx_counts.proofs.Walks.{keeper_is}
-use Rattle.rx_counts.proofs.NewRecord.{IsZero, all_opened, sums_fresh, sums_further}
+use Rattle.rx_counts.proofs.NewRecord.{all_opened, sums_fresh, sums_further}
+use Rattle.rx_counts.specs.Inside.Opening.{IsZero}
 
 -- the record of the inner scope
 pub inner_kept : (l : CountLedger) (T : Tree) (who : Caller) (P : Task → Type 0) → StandsFor l T → (f : Free T who P) → Kept T l.scopes.items who.inner.0
@@ -85,8 +86,8 @@ pub record IsNew (r : Record) (g : Scope) (gs : List Scope) : Type 0 where
   pub body : r.body ≡ g.body
   pub ends : r.ends ≡ g.ends
 
-pub record_new : (keeps : Scope → Bool) (g : Scope) (gs : List Scope) (ts : List Task) (r : Record) → IsNew r g gs → SumsOf keeps (g ∷ gs) ts r.sums g.number.0 → RecordOf keeps (g ∷ gs) ts r g
-record_new keeps g gs ts r n s = record { shape = record { kind = n.kind; home = n.home; parent = n.parent; finish = n.finish }; sums = s; faults = λ e. (n.body, n.ends) }
+pub record_new : {size : ℕ} (keeps : Scope → Bool) (g : Scope) (gs : List Scope) (ts : List Task) (r : Record) → IsNew r g gs → r.sums.places ≡ size → SumsOf keeps (g ∷ gs) ts r.sums g.number.0 → RecordOf size keeps (g ∷ gs) ts r g
+record_new {size = size} keeps g gs ts r n p s = record { shape = record { kind = n.kind; home = n.home; parent = n.parent; finish = n.finish }; sums = s; faults = λ e. (n.body, n.ends); places = λ e. p }
 
 finish_self : (g : Scope) (gs : List Scope) → finishes g ≡ true → keeper finishes (g ∷ gs) (Some g.number) ≡ Some g.number.0
 finish_self g gs e = rw (eq-eqb g.number.0 g.number.0 refl, e)
@@ -94,7 +95,7 @@ finish_self g gs e = rw (eq-eqb g.number.0 g.number.0 refl, e)
 pub finish_up : (g : Scope) (gs : List Scope) → finishes g ≡ false → keeper finishes (g ∷ gs) (Some g.number) ≡ keeper finishes gs g.parent
 finish_up g gs e = rw (eq-eqb g.number.0 g.number.0 refl, e)
 
-pub opened_stands : (l m : CountLedger) (T : Tree) (who : Caller) (s : ScopeId) (r : Record) → StandsFor l T → MayAskMoving T who → blow_at l.dead who.place ≡ None → (f : Free T who IsMoving) → s.0 ≡ l.next_scope → r.kind ≡ Finish → r.home ≡ place_number who.place → r.parent ≡ Some who.inner → r.finish ≡ s → IsZero r.sums → r.body ≡ [] → r.ends ≡ [] → m.places ≡ l.places → m.dead ≡ l.dead → m.next_task ≡ l.next_task → m.next_scope ≡ l.next_scope + 1 → Pushed r l.scopes.items m.scopes.items → OpenReply T who (Ok s) (StandsFor m)
+pub opened_stands : (l m : CountLedger) (T : Tree) (who : Caller) (s : ScopeId) (r : Record) → StandsFor l T → MayAskMoving T who → blow_at l.dead who.place ≡ None → (f : Free T who IsMoving) → s.0 ≡ l.next_scope → r.kind ≡ Finish → r.home ≡ place_number who.place → r.parent ≡ Some who.inner → r.finish ≡ s → IsZero l.places r.sums → r.body ≡ [] → r.ends ≡ [] → m.places ≡ l.places → m.dead ≡ l.dead → m.next_task ≡ l.next_task → m.next_scope ≡ l.next_scope + 1 → Pushed r l.scopes.items m.scopes.items → OpenReply T who (Ok s) (StandsFor m)
 opened_stands l m T who s r st may blow f next kind home parent finish zero body ends places dead next_task next_scope p =
     let h : Sound T = sound st.reached in
     let number : s.0 ≡ T.next_scope = next ∙ st.fit.next_scope in
@@ -120,7 +121,7 @@ opened_stands l m T who s r st may blow f next kind home parent finish zero body
                   scopes =
                       all_opened (stands_home T.dead) g T.scopes T.tasks T.tasks l.scopes.items m.scopes.items r (st.fit.numbers ∙ sym number) falls
                       (λ q n below old. sums_further (stands_home T.dead) g T.scopes T.tasks q n falls low lives old) p
-                      (record_new (stands_home T.dead) g T.scopes T.tasks r new (sums_fresh (stands_home T.dead) g T.scopes T.tasks r.sums falls low lives zero)) st.fit.scopes;
+                      (record_new (stands_home T.dead) g T.scopes T.tasks r new (zero.places ∙ st.fit.places) (sums_fresh (stands_home T.dead) g T.scopes T.tasks r.sums falls low lives l.places zero)) st.fit.scopes;
                 };
           };
     }

@@ -1,13 +1,14 @@
 -- An `at` is opened: a scope with its callee.
-use Rattle.std.specs.Prelude.{◌≡◌, ℕ, ◌<◌, ◌^◌, ◌+◌, Bool, true, false, ◌||◌, ◌==◌, not, List, [], ◌∷◌, Some, None, is_none, is_some, slice_index_or, Ok, refl}
+use Rattle.std.specs.Prelude.{◌≡◌, ℕ, ◌<◌, ◌^◌, ◌+◌, Bool, true, false, ◌||◌, ◌==◌, not, List, [], ◌∷◌, Some, None, is_none, is_some, length, slice_index_or, Ok, refl}
 use Rattle.std.proofs.Common.{sym, ap, ◌∙◌, subst, arith}
 use Rattle.std.proofs.lemmas.Bool.{eq-eqb, ne_eqb}
-use Rattle.std.proofs.lemmas.List.{get_or-replicate}
+use Rattle.std.proofs.lemmas.List.{length-replicate}
 use Rattle.rx_base.specs.Sets.{has_bit}
 use Rattle.rx_base.specs.declared.ids.PlaceId.{PlaceId}
 use Rattle.rx_base.specs.declared.ids.TaskId.{TaskId}
 use Rattle.rx_base.specs.declared.ids.ScopeId.{ScopeId}
 use Rattle.rx_rules.specs.declared.tasks.Kind.TheVariants.{Call}
+use Rattle.rx_rules.specs.declared.tasks.Where.{Where}
 use Rattle.rx_rules.specs.declared.tasks.Task.{Task}
 use Rattle.rx_rules.specs.declared.tasks.Scope.{Scope}
 use Rattle.rx_rules.specs.declared.entries.Act.TheVariants.{At as Calls}
@@ -16,7 +17,7 @@ use Rattle.rx_rules.specs.Entries.{place_number, home_for, born}
 use Rattle.rx_rules.specs.Reached.{acts}
 use Rattle.rx_sound.specs.Blows.{death_blow, blow_at}
 use Rattle.rx_sound.specs.Chains.{Falls}
-use Rattle.rx_sound.specs.Sound.{Sound, Each}
+use Rattle.rx_sound.specs.Sound.{Sound, Each, Inside}
 use Rattle.rx_sound.proofs.Reached.{sound}
 use Rattle.rx_finish.specs.declared.ledger.Caller.{Caller}
 use Rattle.rx_finish.specs.Callers.{MayAskTo, IsMoving}
@@ -26,10 +27,12 @@ use Rattle.rx_counts.specs.declared.record.Sums.{Sums}
 use Rattle.rx_counts.specs.declared.record.Record.{Record}
 use Rattle.rx_counts.specs.declared.ledger.CountLedger.{CountLedger}
 use Rattle.rx_counts.specs.Keeping.{stands_home, keeper, finishes, is_number, kept_at}
-use Rattle.rx_counts.specs.Stands.{slot, where_in_range, SumsOf, StandsFor, Pushed, count_in, more, with_lost}
+use Rattle.rx_counts.specs.Stands.{table_size, slot, HasCell, MayJoin, SumsOf, StandsFor, Pushed, count_in, more, with_lost}
+use Rattle.rx_counts.specs.Inside.Opening.{IsZero}
 use Rattle.rx_counts.proofs.Asking.{unstruck_of}
-use Rattle.rx_counts.proofs.Joining.{join_here, join_lost, join_other, all_waits, slot_below}
-use Rattle.rx_counts.proofs.NewRecord.{IsZero, all_opened, sums_fresh, sums_further}
+use Rattle.rx_counts.proofs.Joining.{join_here, join_lost, join_other, all_waits}
+use Rattle.rx_counts.proofs.NewRecord.{all_opened, sums_fresh, sums_further, zero_count}
+use Rattle.rx_counts.proofs.Slots.{inside_cells, slot_below}
 use Rattle.rx_counts.proofs.Born.{IsNew, record_new, finish_up, home_known, place_lives, unders_low}
 use Rattle.rx_counts.proofs.Spawning.{start, started_in, to_low, is_lost, struck_by, struck_none}
 
@@ -37,14 +40,25 @@ use Rattle.rx_counts.proofs.Spawning.{start, started_in, to_low, is_lost, struck
 self_kept : (keeps : Scope → Bool) (g : Scope) (gs : List Scope) → keeps g ≡ true → keeper keeps (g ∷ gs) (Some g.number) ≡ Some g.number.0
 self_kept keeps g gs e = rw (eq-eqb g.number.0 g.number.0 refl, e)
 
-sums_callee : (T : Tree) (keeps : Scope → Bool) (gs : List Scope) (ts : List Task) (child : TaskId) (s : ScopeId) (from to : PlaceId) (q p : Sums) (b : Bool) → b ≡ is_some (death_of T to) → kept_at keeps gs s.0 (born T child s from to) ≡ true → where_in_range (start from to) → (b ≡ true → (p ≡ with_lost p.lost q) × ((i : ℕ) → i < 16 → has_bit p.lost.0 i ≡ (has_bit q.lost.0 i || (to.0 == i)))) → (b ≡ false → p ≡ more (slot (start from to)) q) → SumsOf keeps gs ts q s.0 → SumsOf keeps gs (born T child s from to ∷ ts) p s.0
-sums_callee T keeps gs ts child s from to q p true e here within lost joins h =
+-- new sums have a cell for each place of the run
+pub zero_cell : (n : ℕ) (q : Sums) (w : Where) → IsZero n q → Inside n w → HasCell w q
+zero_cell n q w z within =
+    let len : length q.counts ≡ table_size n = ap length z.counts ∙ length-replicate {A = ℕ} (table_size n) 0 in
+    subst (λ (m : ℕ). slot m w < length q.counts) (sym z.places) (subst (λ (m : ℕ). slot n w < m) (sym len) (slot_below n w (inside_cells n w within)))
+
+-- a birth leaves the table as large as it was
+same_places : (to : PlaceId) (w : Where) (q p : Sums) (b : Bool) → (b ≡ true → p ≡ with_lost p.lost q) → (b ≡ false → p ≡ more w q) → p.places ≡ q.places
+same_places to w q p true lost joins = ap (λ (v : Sums). v.places) (lost refl)
+same_places to w q p false lost joins = ap (λ (v : Sums). v.places) (joins refl)
+
+sums_callee : (T : Tree) (keeps : Scope → Bool) (gs : List Scope) (ts : List Task) (child : TaskId) (s : ScopeId) (from to : PlaceId) (q p : Sums) (b : Bool) → b ≡ is_some (death_of T to) → kept_at keeps gs s.0 (born T child s from to) ≡ true → HasCell (start from to) q → (b ≡ true → (p ≡ with_lost p.lost q) × ((i : ℕ) → i < 16 → has_bit p.lost.0 i ≡ (has_bit q.lost.0 i || (to.0 == i)))) → (b ≡ false → p ≡ more (start from to) q) → SumsOf keeps gs ts q s.0 → SumsOf keeps gs (born T child s from to ∷ ts) p s.0
+sums_callee T keeps gs ts child s from to q p true e here cell lost joins h =
     let b = struck_by T child s from to (sym e) in
     join_lost keeps gs ts (born T child s from to) b.0 q p s.0 here b.1 (lost refl).0 (subst (λ (v : PlaceId). (i : ℕ) → i < 16 → has_bit p.lost.0 i ≡ (has_bit q.lost.0 i || (v.0 == i))) (sym b.2) (lost refl).1) h
-sums_callee T keeps gs ts child s from to q p false e here within lost joins h =
-    subst (λ (v : Sums). SumsOf keeps gs (born T child s from to ∷ ts) v s.0) (sym (joins refl)) (join_here keeps gs ts (born T child s from to) q s.0 here (struck_none T child s from to (sym e)) within h)
+sums_callee T keeps gs ts child s from to q p false e here cell lost joins h =
+    subst (λ (v : Sums). SumsOf keeps gs (born T child s from to ∷ ts) v s.0) (sym (joins refl)) (join_here keeps gs ts (born T child s from to) q s.0 here (struck_none T child s from to (sym e)) cell h)
 
-pub called_stands : (l m : CountLedger) (T : Tree) (who : Caller) (to : PlaceId) (s : ScopeId) (child : TaskId) (r : Record) (zero : Sums) (b : Bool) → StandsFor l T → MayAskTo T who to → blow_at l.dead who.place ≡ None → (f : Free T who IsMoving) → s.0 ≡ l.next_scope → child.0 ≡ l.next_task → r.kind ≡ Call → r.home ≡ place_number who.place → r.parent ≡ Some who.inner → keeper finishes T.scopes (Some who.inner) ≡ Some r.finish.0 → IsZero zero → b ≡ not (is_none (death_blow l.dead to)) → (b ≡ true → (r.sums ≡ with_lost r.sums.lost zero) × ((i : ℕ) → i < 16 → has_bit r.sums.lost.0 i ≡ (has_bit zero.lost.0 i || (to.0 == i)))) → (b ≡ false → r.sums ≡ more (slot (start (place_number who.place) to)) zero) → r.body ≡ [] → r.ends ≡ [] → m.places ≡ l.places → m.dead ≡ l.dead → m.next_task ≡ l.next_task + 1 → m.next_scope ≡ l.next_scope + 1 → Pushed r l.scopes.items m.scopes.items → CallReply T who to (Ok (record { child = child; scope = s; lost = b })) (StandsFor m)
+pub called_stands : (l m : CountLedger) (T : Tree) (who : Caller) (to : PlaceId) (s : ScopeId) (child : TaskId) (r : Record) (zero : Sums) (b : Bool) → StandsFor l T → MayAskTo T who to → blow_at l.dead who.place ≡ None → (f : Free T who IsMoving) → s.0 ≡ l.next_scope → child.0 ≡ l.next_task → r.kind ≡ Call → r.home ≡ place_number who.place → r.parent ≡ Some who.inner → keeper finishes T.scopes (Some who.inner) ≡ Some r.finish.0 → IsZero l.places zero → b ≡ not (is_none (death_blow l.dead to)) → (b ≡ true → (r.sums ≡ with_lost r.sums.lost zero) × ((i : ℕ) → i < 16 → has_bit r.sums.lost.0 i ≡ (has_bit zero.lost.0 i || (to.0 == i)))) → (b ≡ false → r.sums ≡ more (start (place_number who.place) to) zero) → r.body ≡ [] → r.ends ≡ [] → m.places ≡ l.places → m.dead ≡ l.dead → m.next_task ≡ l.next_task + 1 → m.next_scope ≡ l.next_scope + 1 → Pushed r l.scopes.items m.scopes.items → CallReply T who to (Ok (record { child = child; scope = s; lost = b })) (StandsFor m)
 called_stands l m T who to s child r zero b st may blow f next num kind home parent fin is_zero e lost joins body ends places dead next_task next_scope p =
     let h : Sound T = sound st.reached in
     let keeps : Scope → Bool = stands_home T.dead in
@@ -61,7 +75,8 @@ called_stands l m T who to s child r zero b st may blow f next num kind home par
     let dies : b ≡ is_some (death_of T to) = e ∙ is_lost l T to st.fit in
     let own : keeper keeps (g ∷ T.scopes) (Some s) ≡ Some s.0 = self_kept keeps g T.scopes lives in
     let here : kept_at keeps (g ∷ T.scopes) s.0 y ≡ true = ap (is_number s.0) own ∙ eq-eqb s.0 s.0 refl in
-    let mine : SumsOf keeps (g ∷ T.scopes) (y ∷ T.tasks) r.sums s.0 = sums_callee T keeps (g ∷ T.scopes) T.tasks child s from to zero r.sums b dies here (started_in T who to h may f) lost joins (sums_fresh keeps g T.scopes T.tasks zero falls low lives is_zero) in (
+    let is_zero2 : IsZero T.places zero = subst (λ (n : ℕ). IsZero n zero) st.fit.places is_zero in
+    let mine : SumsOf keeps (g ∷ T.scopes) (y ∷ T.tasks) r.sums s.0 = sums_callee T keeps (g ∷ T.scopes) T.tasks child s from to zero r.sums b dies here (zero_cell T.places zero (start from to) is_zero2 (started_in T who to h may f)) lost joins (sums_fresh keeps g T.scopes T.tasks zero falls low lives l.places is_zero) in (
       record {
         allowed = a;
         made =
@@ -75,19 +90,19 @@ called_stands l m T who to s child r zero b st may blow f next num kind home par
                     next_scope = (let q = st.fit.next_scope in omega arith);
                     numbers = (let q = st.fit.numbers in let v = p.len in omega arith);
                     scopes =
-                        all_waits keeps (g ∷ T.scopes) (y ∷ T.tasks) who.task true m.scopes.items
+                        all_waits _ keeps (g ∷ T.scopes) (y ∷ T.tasks) who.task true m.scopes.items
                         (all_opened keeps g T.scopes T.tasks (y ∷ T.tasks) l.scopes.items m.scopes.items r (st.fit.numbers ∙ sym number) falls
                         (λ q n below old. join_other keeps (g ∷ T.scopes) T.tasks y q n (ap (is_number n) own ∙ ne_eqb s.0 n (λ v. absurd (omega arith))) (sums_further keeps g T.scopes T.tasks q n falls low lives old)) p
-                        (record_new keeps g T.scopes (y ∷ T.tasks) r new mine) st.fit.scopes);
+                        (record_new keeps g T.scopes (y ∷ T.tasks) r new (same_places to (start from to) zero r.sums b (λ v. (lost v).0) joins ∙ is_zero2.places) mine) st.fit.scopes);
                   };
             };
       },
       dies,
     )
 
-pub call_ok : (T : Tree) (who : Caller) (to : PlaceId) (q : Sums) → Sound T → MayAskTo T who to → (f : Free T who IsMoving) → IsZero q → (to.0 < 16) × (slot (start (place_number who.place) to) < 272) × (count_in q (slot (start (place_number who.place) to)) + 1 < 2 ^ 32) × (q.total + 1 < 2 ^ 32)
+pub call_ok : (T : Tree) (who : Caller) (to : PlaceId) (q : Sums) → Sound T → MayAskTo T who to → (f : Free T who IsMoving) → IsZero T.places q → (to.0 < 16) × MayJoin (start (place_number who.place) to) q
 call_ok T who to q h may f z =
-    let low : slot (start (place_number who.place) to) < 272 = slot_below (start (place_number who.place) to) (started_in T who to h may f) in
-    let none : count_in q (slot (start (place_number who.place) to)) ≡ 0 = ap (λ xs. slice_index_or xs (slot (start (place_number who.place) to)) 0) z.counts ∙ get_or-replicate 272 (slot (start (place_number who.place) to)) 0 0 low in
+    let w : Where = start (place_number who.place) to in
+    let none : count_in q w ≡ 0 = zero_count T.places q w z in
     let total : q.total ≡ 0 = z.total in
-    (to_low T who to h may, low, omega arith, omega arith)
+    (to_low T who to h may, record { cell = zero_cell T.places q w z (started_in T who to h may f); count = (subst (λ (m : ℕ). m + 1 < 2 ^ 32) (sym none) (omega arith)); total = omega arith })

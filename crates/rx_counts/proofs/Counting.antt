@@ -1,5 +1,5 @@
 -- Counting the elements that pass a test, and sums over them.
-use Rattle.std.specs.Prelude.{◌≡◌, ℕ, ◌+◌, Bool, true, false, cond, ◌||◌, List, [], ◌∷◌, Some, filter, map, count_by, sum_by, refl}
+use Rattle.std.specs.Prelude.{◌≡◌, ℕ, ◌≤◌, ◌+◌, Bool, true, false, cond, ◌||◌, List, [], ◌∷◌, Some, filter, map, count_by, sum_by, refl}
 use Rattle.std.specs.List.{find, list_any}
 use Rattle.std.proofs.Common.{ap, ◌∙◌, sym, arith, ltb}
 use Rattle.std.proofs.lemmas.Bool.{lt-ltb}
@@ -141,3 +141,11 @@ count_map p f (x ∷ xs) = let a = count_cons p (f x) (map f xs) in let b = coun
 pub any_map : {X : Type 0} (p : X → Bool) (f : X → X) (xs : List X) → list_any p (map f xs) ≡ list_any (λ x. p (f x)) xs
 any_map p f [] = refl
 any_map p f (x ∷ xs) = ap (λ b. p (f x) || b) (any_map p f xs)
+
+-- each element has its part in each count
+pub each_part : {X : Type 0} (xs ts : List X) → ((p : X → Bool) → count_by p xs ≤ count_by p ts) → Each (λ x. (p : X → Bool) → one (p x) ≤ count_by p ts) xs
+each_part [] ts le = tt
+each_part {X = X} (x ∷ xs) ts le = (
+  (λ p. let a = count_cons p x xs in let b = le p in omega arith),
+  each_part xs ts (λ p. let a = count_cons p x xs in let b = le p in omega arith),
+)

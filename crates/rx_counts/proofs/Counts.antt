@@ -18,7 +18,7 @@ use Rattle.rx_sound.proofs.Changes.{each_more}
 use Rattle.rx_counts.specs.declared.record.Record.{Record}
 use Rattle.rx_counts.specs.declared.ledger.CountLedger.{CountLedger}
 use Rattle.rx_counts.specs.Keeping.{stands_home, is_number, kept_at, same_where, count_of}
-use Rattle.rx_counts.specs.Stands.{slot, where_in_range, Both, StandsFor, HasScope, record_at, count_in}
+use Rattle.rx_counts.specs.Stands.{Both, StandsFor, HasScope, record_at, count_in}
 use Rattle.rx_counts.specs.Stands.{RecordOf}
 use Rattle.rx_counts.specs.Meaning.{counts_of, CountsStand}
 use Rattle.rx_counts.proofs.Joining.{both_more, number_is}
@@ -64,10 +64,10 @@ lost_is T g p = any_same (λ x. was_lost_at p x && counts_at T g x) (λ x. was_l
 pub scope_record : (l : CountLedger) (T : Tree) (s : ScopeId) → StandsFor l T → HasScope T s → Kept T l.scopes.items s.0
 scope_record l T s st h = kept_some T l.scopes.items s.0 st.fit.scopes (find (has_number s.0) T.scopes) refl h
 
-pub cell_told : (l : CountLedger) (T : Tree) (s : ScopeId) (w : Where) (n : ℕ) → StandsFor l T → HasScope T s → where_in_range w → IfSome (record_at l.scopes.items s.0) (λ r. n ≡ count_in r.sums (slot w)) → n ≡ count_of (stands_home T.dead) T.scopes T.tasks s.0 w
-cell_told l T s w n st h within e =
+pub cell_told : (l : CountLedger) (T : Tree) (s : ScopeId) (w : Where) (n : ℕ) → StandsFor l T → HasScope T s → IfSome (record_at l.scopes.items s.0) (λ r. n ≡ count_in r.sums w) → n ≡ count_of (stands_home T.dead) T.scopes T.tasks s.0 w
+cell_told l T s w n st h e =
     let k : Kept T l.scopes.items s.0 = scope_record l T s st h in
-    subst (λ o. IfSome o (λ r. n ≡ count_in r.sums (slot w))) k.found e ∙ k.fits.sums.counts w within ∙ ap (λ (m : ℕ). count_of (stands_home T.dead) T.scopes T.tasks m w) k.number
+    subst (λ o. IfSome o (λ r. n ≡ count_in r.sums w)) k.found e ∙ k.fits.sums.counts w ∙ ap (λ (m : ℕ). count_of (stands_home T.dead) T.scopes T.tasks m w) k.number
 
 pub lost_told : (l : CountLedger) (T : Tree) (s : ScopeId) (r : Record) → StandsFor l T → HasScope T s → record_at l.scopes.items s.0 ≡ Some r → members r.sums.lost ≡ lost_at T s
 lost_told l T s r st h e =
@@ -96,15 +96,15 @@ counts_stand l T st =
       next_task = st.fit.next_task;
       next_scope = st.fit.next_scope;
       scopes = λ n.
-          counted T n (record_at l.scopes.items n) (find (has_number n) T.scopes) (both_more (RecordOf (stands_home T.dead) T.scopes T.tasks) (λ r g. CountsOf T (counts_of n r) g) (record_at l.scopes.items n) (find (has_number n) T.scopes)
+          counted T n (record_at l.scopes.items n) (find (has_number n) T.scopes) (both_more (RecordOf T.places (stands_home T.dead) T.scopes T.tasks) (λ r g. CountsOf T (counts_of n r) g) (record_at l.scopes.items n) (find (has_number n) T.scopes)
           (λ r g found a.
           record {
             number = ap (λ (m : ℕ). let q : ScopeId = record { 0 = m } in q) (sym (number_is n T.scopes g found));
             kind = a.shape.kind;
             home = a.shape.home;
             parent = a.shape.parent;
-            live = λ p low. a.sums.counts (At p) low ∙ sym (live_is T g.number p);
-            transit = λ p q low lowq. a.sums.counts (Travel p q) (low, lowq) ∙ sym (transit_is T g.number p q);
+            live = λ p low. a.sums.counts (At p) ∙ sym (live_is T g.number p);
+            transit = λ p q low lowq. a.sums.counts (Travel p q) ∙ sym (transit_is T g.number p q);
             lost = filter_same (has_bit r.sums.lost.0) (λ p. list_any (λ x. was_lost_at p x && counts_at T g.number x) T.tasks) all_places (each_more (λ (p : ℕ). p < 16) _ (λ (p : ℕ) low. a.sums.lost p low ∙ sym (lost_is T g.number p)) all_places places_low);
             faults = a.faults;
           })

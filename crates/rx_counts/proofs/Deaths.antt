@@ -14,8 +14,8 @@ use Rattle.rx_rules.specs.declared.tasks.Scope.{Scope}
 use Rattle.rx_rules.specs.Tree.{Tree, is_scope, the_root}
 use Rattle.rx_rules.specs.Entries.{hit, strike}
 use Rattle.rx_rules.specs.Reached.{Reached, dies}
-use Rattle.rx_sound.specs.Sound.{Each, Sound, TaskFits}
-use Rattle.rx_sound.proofs.Changes.{each_found, each_more}
+use Rattle.rx_sound.specs.Sound.{Each, Sound}
+use Rattle.rx_sound.proofs.Changes.{each_found}
 use Rattle.rx_sound.specs.Chains.{Falls}
 use Rattle.rx_sound.proofs.Releasing.{each_below}
 use Rattle.rx_sound.proofs.Reached.{sound}
@@ -24,11 +24,10 @@ use Rattle.rx_counts.specs.declared.record.Record.{Record}
 use Rattle.rx_counts.specs.declared.ledger.CountLedger.{CountLedger}
 use Rattle.rx_counts.specs.Keeping.{stands_home}
 use Rattle.rx_rules.specs.Counts.{has_number}
-use Rattle.rx_counts.specs.Stands.{where_in_range, AllFit, StandsFor, Pairs, record_at}
+use Rattle.rx_counts.specs.Stands.{AllFit, StandsFor, Pairs, record_at}
 use Rattle.rx_counts.specs.Inside.Dying.{StrikesRecord, MayHit, Passing, given_until}
 use Rattle.rx_counts.proofs.Striking.{all_strike, may_hit}
 use Rattle.rx_counts.proofs.Handing.{all_keeps}
-use Rattle.rx_counts.proofs.Telling.{within_range}
 use Rattle.rx_counts.proofs.Lasting.{root_keeps}
 use Rattle.rx_counts.proofs.Asking.{tasks_length, fit_shaped}
 
@@ -41,15 +40,12 @@ home_after dead d n g inside =
       | false ↦ λ e. ap is_none (get_or-set_other dead d.0 g.home.0 (Some n) None (eqb-false g.home.0 d.0 e)) ∙ sym (and-true (stands_home dead g))
     ]) refl
 
-places_in : (T : Tree) → Sound T → Each (λ x. where_in_range x.place) T.tasks
-places_in T h = each_more (TaskFits T.dead T.places T.scopes) (λ x. where_in_range x.place) (λ (x : Task) f. within_range T.places x.place h.few f.inside) T.tasks h.tasks
-
 pub strike_ok : (l : CountLedger) (T : Tree) (d : PlaceId) (n : ℕ) → StandsFor l T → MayStrike T d n → (d.0 < 16) × ((m : ℕ) → IfSome (record_at l.scopes.items m) (MayHit d))
 strike_ok l T d n st may =
     let h : Sound T = sound st.reached in
     let a = may.dies.is_place in
     let b = h.few in
-    (omega arith, may_hit d (stands_home T.dead) T.scopes T.tasks l.scopes.items (places_in T h) st.fit.scopes)
+    (omega arith, may_hit _ d (stands_home T.dead) T.scopes T.tasks l.scopes.items st.fit.scopes)
 
 scopes_length : (T : Tree) → Sound T → length T.scopes ≤ T.next_scope
 scopes_length T h = go T.next_scope T.scopes h.falls
@@ -76,16 +72,16 @@ begins l T d n qs st may few_t few_s struck =
     let k : Sound U = sound after in
     let cells : length T.dead ≡ 16 = h.cells in
     let inside : d.0 < length T.dead = (let a = may.dies.is_place in let c = h.few in omega arith) in
-    let fit : AllFit (stands_home T.dead) T.scopes (map (hit b) T.tasks) qs = all_strike b (stands_home T.dead) T.scopes T.tasks l.scopes.items qs (places_in T h) struck st.fit.scopes in
+    let fit : AllFit T.places (stands_home T.dead) T.scopes (map (hit b) T.tasks) qs = all_strike _ b (stands_home T.dead) T.scopes T.tasks l.scopes.items qs struck st.fit.scopes in
     record {
-      shaped = fit_shaped U (stands_home T.dead) qs k fit;
+      shaped = fit_shaped _ U (stands_home T.dead) qs k fit;
       after = λ g. ap (λ ds. stands_home (slice_set ds d.0 (Some n)) g) st.fit.dead ∙ home_after T.dead d n g inside;
       lived = λ g e. ap is_none (ap (λ i. slice_index_or T.dead i None) (eqb-true g.home.0 d.0 e) ∙ may.dies.lives);
       root = subst (λ ds. list_any (λ g. is_scope the_root g && not (stands_home ds g)) T.scopes ≡ false) (sym (ap (λ ds. slice_set ds d.0 (Some n)) st.fit.dead)) (root_keeps U.dead U.scopes k.zero_lives k.root_home);
       based = based st.reached;
       few_tasks = (let a = tasks_length U.next_task U.tasks k.tasks_fall in let c = st.fit.next_task in omega arith);
       few_scopes = (let a = scopes_length T h in let c = st.fit.next_scope in omega arith);
-      fit = all_keeps (stands_home T.dead) (given_until (stands_home T.dead) d 0) T.scopes (map (hit b) T.tasks) qs (until_zero (stands_home T.dead) d T.scopes) (λ m g found. each_found (λ g. stands_home T.dead g ≡ given_until (stands_home T.dead) d 0 g) (has_number m) T.scopes g (until_zero (stands_home T.dead) d T.scopes) found) fit;
+      fit = all_keeps _ (stands_home T.dead) (given_until (stands_home T.dead) d 0) T.scopes (map (hit b) T.tasks) qs (until_zero (stands_home T.dead) d T.scopes) (λ m g found. each_found (λ g. stands_home T.dead g ≡ given_until (stands_home T.dead) d 0 g) (has_number m) T.scopes g (until_zero (stands_home T.dead) d T.scopes) found) fit;
     }
 
 until_last : (dead now : List (Option ℕ)) (d : PlaceId) (i : ℕ) (gs : List Scope) → ((g : Scope) → stands_home now g ≡ (stands_home dead g && not (g.home.0 == d.0))) → Each (λ g. g.number.0 < i) gs → Each (λ k. given_until (stands_home dead) d i k ≡ stands_home now k) gs
@@ -113,6 +109,6 @@ died l m T d n i st may is places dead next_task next_scope len p =
             next_task = next_task ∙ st.fit.next_task;
             next_scope = next_scope ∙ st.fit.next_scope;
             numbers = len ∙ st.fit.numbers;
-            scopes = all_keeps (given_until (stands_home T.dead) d i) (stands_home U.dead) T.scopes U.tasks m.scopes.items same (λ j g found. each_found (λ k. given_until (stands_home T.dead) d i k ≡ stands_home U.dead k) (has_number j) T.scopes g same found) p.fit;
+            scopes = all_keeps _ (given_until (stands_home T.dead) d i) (stands_home U.dead) T.scopes U.tasks m.scopes.items same (λ j g found. each_found (λ k. given_until (stands_home T.dead) d i k ≡ stands_home U.dead k) (has_number j) T.scopes g same found) p.fit;
           };
     }

@@ -24,7 +24,7 @@ use Rattle.rx_counts.specs.declared.record.Record.{Record}
 use Rattle.rx_counts.specs.declared.ledger.CountLedger.{CountLedger}
 use Rattle.rx_counts.specs.Keeping.{stands_home, keeper}
 use Rattle.rx_rules.specs.Counts.{has_number}
-use Rattle.rx_counts.specs.Stands.{slot, in_sums, less, AllFit, Fit, StandsFor, record_at, Changed, ends_if}
+use Rattle.rx_counts.specs.Stands.{in_sums, less, AllFit, Fit, StandsFor, record_at, Changed, ends_if}
 use Rattle.rx_counts.proofs.Asking.{unstruck_of, same_fit}
 use Rattle.rx_counts.proofs.Walks.{keeper_faulted, keeper_step}
 use Rattle.rx_counts.proofs.Arriving.{left_in}
@@ -50,14 +50,14 @@ own_keeper T s g k h found live at =
     let same : k ≡ s.0 = cc in
     eq-eqb k s.0 same
 
-pub ended : (l m : CountLedger) (T : Tree) (who : Caller) (thrown : List Fault) (k : ScopeId) (qs : List (Option (Box Record))) → StandsFor l T → MayAskEnd T who → (f : Free T who (IsBare T who)) → keeper (stands_home T.dead) T.scopes (Some who.scope) ≡ Some k.0 → m.places ≡ l.places → m.dead ≡ l.dead → m.next_task ≡ l.next_task → m.next_scope ≡ l.next_scope → Changed (ends_if (k.0 == who.scope.0) thrown) who.scope.0 l.scopes.items qs → Changed (in_sums (less (slot who.place))) k.0 qs m.scopes.items → EndReply T who thrown (Ok tt) (StandsFor m)
+pub ended : (l m : CountLedger) (T : Tree) (who : Caller) (thrown : List Fault) (k : ScopeId) (qs : List (Option (Box Record))) → StandsFor l T → MayAskEnd T who → (f : Free T who (IsBare T who)) → keeper (stands_home T.dead) T.scopes (Some who.scope) ≡ Some k.0 → m.places ≡ l.places → m.dead ≡ l.dead → m.next_task ≡ l.next_task → m.next_scope ≡ l.next_scope → Changed (ends_if (k.0 == who.scope.0) thrown) who.scope.0 l.scopes.items qs → Changed (in_sums (less who.place)) k.0 qs m.scopes.items → EndReply T who thrown (Ok tt) (StandsFor m)
 ended l m T who thrown k qs st may f at places dead next_task next_scope c d =
     let h : Sound T = sound st.reached in
     let keeps : Scope → Bool = stands_home T.dead in
     let a = end_allowed T who thrown st.reached may (unstruck_of T who (IsBare T who) f) in
     let is = ended_is T who (IsBare T who) thrown st.reached may (unstruck_of T who (IsBare T who) f) in
-    let first : AllFit keeps (change_first (is_scope who.scope) (faulted (λ g. g.body) (λ g. g.ends ++ thrown)) T.scopes) T.tasks qs =
-    all_faulted (λ g. g.body) (λ g. g.ends ++ thrown) who.scope keeps (λ g. refl) T.scopes T.tasks (ends_if (k.0 == who.scope.0) thrown) l.scopes.items qs (λ r. (refl, refl, refl, refl, refl))
+    let first : AllFit T.places keeps (change_first (is_scope who.scope) (faulted (λ g. g.body) (λ g. g.ends ++ thrown)) T.scopes) T.tasks qs =
+    all_faulted (λ g. g.body) (λ g. g.ends ++ thrown) who.scope keeps (λ g. refl) _ T.scopes T.tasks (ends_if (k.0 == who.scope.0) thrown) l.scopes.items qs (λ r. (refl, refl, refl, refl, refl))
     (λ r g found live was. (was.0, ap (λ b. cond b (r.ends ++ thrown) r.ends) (own_keeper T who.scope g k.0 h found live at) ∙ ap (λ xs. xs ++ thrown) was.1)) c st.fit.scopes
     in
     let at2 = keeper_faulted (λ g. g.body) (λ g. g.ends ++ thrown) (is_scope who.scope) keeps (λ g. refl) T.scopes (Some who.scope) ∙ at in
@@ -74,7 +74,7 @@ ended l m T who thrown k qs st may f at places dead next_task next_scope c d =
                   next_task = next_task ∙ st.fit.next_task;
                   next_scope = next_scope ∙ st.fit.next_scope;
                   numbers = d.len ∙ c.len ∙ st.fit.numbers;
-                  scopes = left_in T who (IsBare T who) keeps (change_first (is_scope who.scope) (faulted (λ g. g.body) (λ g. g.ends ++ thrown)) T.scopes) qs m.scopes.items k.0 h f at2 d first;
+                  scopes = left_in _ T who (IsBare T who) keeps (change_first (is_scope who.scope) (faulted (λ g. g.body) (λ g. g.ends ++ thrown)) T.scopes) qs m.scopes.items k.0 h f at2 d first;
                 });
           };
     }

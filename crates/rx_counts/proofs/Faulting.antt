@@ -33,7 +33,7 @@ module _ (b e : Scope → List Fault) (s : ScopeId) (keeps : Scope → Bool) (sa
   sums_faulted gs ts q n a =
       record {
         cells = a.cells;
-        counts = λ w in_w. a.counts w in_w ∙ sym (count_same (λ x. (is_none x.struck && same_where w x.place) && kept_at keeps (change_first (is_scope s) (faulted b e) gs) n x) (λ x. (is_none x.struck && same_where w x.place) && kept_at keeps gs n x) ts
+        counts = λ w. a.counts w ∙ sym (count_same (λ x. (is_none x.struck && same_where w x.place) && kept_at keeps (change_first (is_scope s) (faulted b e) gs) n x) (λ x. (is_none x.struck && same_where w x.place) && kept_at keeps gs n x) ts
             (each_all _ (λ (x : Task). ap (λ o. (is_none x.struck && same_where w x.place) && is_number n o) (keeper_faulted b e (is_scope s) keeps same gs (Some x.under))) ts));
         total = a.total ∙ sym (count_same (λ x. is_none x.struck && kept_at keeps (change_first (is_scope s) (faulted b e) gs) n x) (λ x. is_none x.struck && kept_at keeps gs n x) ts
             (each_all _ (λ (x : Task). ap (λ o. is_none x.struck && is_number n o) (keeper_faulted b e (is_scope s) keeps same gs (Some x.under))) ts));
@@ -80,14 +80,14 @@ module _ (b e : Scope → List Fault) (s : ScopeId) (keeps : Scope → Bool) (sa
   both_same P Q None (Some g) k h = absurd h
   both_same P Q None None k h = tt
 
-  pub all_faulted : (gs : List Scope) (ts : List Task) (f : Record → Record) (rs qs : List (Option (Box Record))) → ((r : Record) → ((f r).kind ≡ r.kind) × ((f r).home ≡ r.home) × ((f r).parent ≡ r.parent) × ((f r).finish ≡ r.finish) × ((f r).sums ≡ r.sums)) → ((r : Record) (g : Scope) → find (has_number s.0) gs ≡ Some g → keeps g ≡ true → (r.body ≡ g.body) × (r.ends ≡ g.ends) → ((f r).body ≡ b g) × ((f r).ends ≡ e g)) → Changed f s.0 rs qs → AllFit keeps gs ts rs → AllFit keeps (change_first (is_scope s) (faulted b e) gs) ts qs
-  all_faulted gs ts f rs qs only faults c h n =
+  pub all_faulted : (size : ℕ) (gs : List Scope) (ts : List Task) (f : Record → Record) (rs qs : List (Option (Box Record))) → ((r : Record) → ((f r).kind ≡ r.kind) × ((f r).home ≡ r.home) × ((f r).parent ≡ r.parent) × ((f r).finish ≡ r.finish) × ((f r).sums ≡ r.sums)) → ((r : Record) (g : Scope) → find (has_number s.0) gs ≡ Some g → keeps g ≡ true → (r.body ≡ g.body) × (r.ends ≡ g.ends) → ((f r).body ≡ b g) × ((f r).ends ≡ e g)) → Changed f s.0 rs qs → AllFit size keeps gs ts rs → AllFit size keeps (change_first (is_scope s) (faulted b e) gs) ts qs
+  all_faulted size gs ts f rs qs only faults c h n =
       ⊎_elim
       (λ (k : n ≡ s.0).
-      subst (λ (m : ℕ). Both (RecordOf keeps (change_first (is_scope s) (faulted b e) gs) ts) (record_at qs m) (find (has_number m) (change_first (is_scope s) (faulted b e) gs))) (sym k)
-      (subst (λ o. Both (RecordOf keeps (change_first (is_scope s) (faulted b e) gs) ts) o (find (has_number s.0) (change_first (is_scope s) (faulted b e) gs))) (sym c.here)
-      (subst (λ o. Both (RecordOf keeps (change_first (is_scope s) (faulted b e) gs) ts) (option_map f (record_at rs s.0)) o) (sym (find_here gs s.0 refl))
-      (both_found (RecordOf keeps gs ts) (RecordOf keeps (change_first (is_scope s) (faulted b e) gs) ts) f (record_at rs s.0) (find (has_number s.0) gs)
+      subst (λ (m : ℕ). Both (RecordOf size keeps (change_first (is_scope s) (faulted b e) gs) ts) (record_at qs m) (find (has_number m) (change_first (is_scope s) (faulted b e) gs))) (sym k)
+      (subst (λ o. Both (RecordOf size keeps (change_first (is_scope s) (faulted b e) gs) ts) o (find (has_number s.0) (change_first (is_scope s) (faulted b e) gs))) (sym c.here)
+      (subst (λ o. Both (RecordOf size keeps (change_first (is_scope s) (faulted b e) gs) ts) (option_map f (record_at rs s.0)) o) (sym (find_here gs s.0 refl))
+      (both_found (RecordOf size keeps gs ts) (RecordOf size keeps (change_first (is_scope s) (faulted b e) gs) ts) f (record_at rs s.0) (find (has_number s.0) gs)
       (λ r g found a.
       let o = only r in
       let sh = shape_faulted gs r (f r) g o.0 o.1 o.2 o.3 a.shape in
@@ -95,10 +95,11 @@ module _ (b e : Scope → List Fault) (s : ScopeId) (keeps : Scope → Bool) (sa
         shape = record { kind = sh.kind; home = sh.home; parent = sh.parent; finish = sh.finish };
         sums = subst (λ (v : Sums). SumsOf keeps (change_first (is_scope s) (faulted b e) gs) ts v g.number.0) (sym o.4) (sums_faulted gs ts r.sums g.number.0 a.sums);
         faults = λ v. let live : keeps g ≡ true = sym (same g) ∙ v in faults r g found live (a.faults live);
+        places = λ v. ap (λ (x : Sums). x.places) o.4 ∙ a.places (sym (same g) ∙ v);
       }) (h s.0)))))
       (λ (k : n ≡ s.0 → ⊥).
-      subst (λ o. Both (RecordOf keeps (change_first (is_scope s) (faulted b e) gs) ts) o (find (has_number n) (change_first (is_scope s) (faulted b e) gs))) (sym (c.others n k))
-      (subst (λ o. Both (RecordOf keeps (change_first (is_scope s) (faulted b e) gs) ts) (record_at rs n) o) (sym (find_other gs n k))
-      (both_same (RecordOf keeps gs ts) (RecordOf keeps (change_first (is_scope s) (faulted b e) gs) ts) (record_at rs n) (find (has_number n) gs)
-      (λ r g a. record { shape = shape_faulted gs r r g refl refl refl refl a.shape; sums = sums_faulted gs ts r.sums g.number.0 a.sums; faults = a.faults }) (h n))))
+      subst (λ o. Both (RecordOf size keeps (change_first (is_scope s) (faulted b e) gs) ts) o (find (has_number n) (change_first (is_scope s) (faulted b e) gs))) (sym (c.others n k))
+      (subst (λ o. Both (RecordOf size keeps (change_first (is_scope s) (faulted b e) gs) ts) (record_at rs n) o) (sym (find_other gs n k))
+      (both_same (RecordOf size keeps gs ts) (RecordOf size keeps (change_first (is_scope s) (faulted b e) gs) ts) (record_at rs n) (find (has_number n) gs)
+      (λ r g a. record { shape = shape_faulted gs r r g refl refl refl refl a.shape; sums = sums_faulted gs ts r.sums g.number.0 a.sums; faults = a.faults; places = a.places }) (h n))))
       (cases_eq n s.0)

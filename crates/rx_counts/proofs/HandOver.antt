@@ -1,7 +1,9 @@
 -- One scope gives its counts away.
 use Rattle.std.specs.Prelude.{◌≡◌, ℕ, ◌<◌, ◌+◌, Bool, true, false, cond, ◌&&◌, ◌==◌, not, List, [], ◌∷◌, Option, Some, None, count_by, refl}
-use Rattle.std.proofs.Common.{sym, ap, ◌∙◌, arith}
-use Rattle.std.proofs.lemmas.Bool.{eqb-true, ne_eqb, true≢false}
+use Rattle.std.specs.List.{find}
+use Rattle.std.proofs.Common.{sym, ap, ◌∙◌, subst, arith}
+use Rattle.std.proofs.lemmas.Bool.{eqb-true, eq-eqb, ne_eqb, true≢false}
+use Rattle.rx_rules.specs.Counts.{has_number}
 use Rattle.std.proofs.Math.Bool.{and-false, and-true}
 use Rattle.rx_sound.proofs.Releasing.{each_all}
 use Rattle.rx_base.specs.declared.ids.ScopeId.{ScopeId}
@@ -30,6 +32,26 @@ keeper_older keeps n m (g ∷ gs) want f e =
           ]) e2
       | false ↦ λ e2. let r : m < g.number.0 = keeper_older keeps g.number.0 m gs want f.1 e2 in omega arith
     ]) e
+
+-- and it keeps counts
+pub keeper_keeps : (keeps : Scope → Bool) (n m : ℕ) (gs : List Scope) (want : Option ScopeId) (g : Scope) → Falls n gs → keeper keeps gs want ≡ Some m → find (has_number m) gs ≡ Some g → keeps g ≡ true
+keeper_keeps keeps n m [] want g f e found = cc
+keeper_keeps keeps n m (k ∷ ks) want g f e found =
+    (elim (wants want k) as (λ a. cond a (cond (keeps k) (Some k.number.0) (keeper keeps ks k.parent)) (keeper keeps ks want) ≡ Some m → keeps g ≡ true) [
+      | true ↦ λ e2.
+          (elim (keeps k) as (λ b. keeps k ≡ b → cond b (Some k.number.0) (keeper keeps ks k.parent) ≡ Some m → keeps g ≡ true) [
+            | true ↦ λ live e3.
+                let num : k.number.0 ≡ m = cc in
+                let first : Some k ≡ Some g = sym (ap (λ b. cond b (Some k) (find (has_number m) ks)) (eq-eqb k.number.0 m num)) ∙ found in
+                let same : k ≡ g = cc in
+                subst (λ (v : Scope). keeps v ≡ true) same live
+            | false ↦ λ live e3. keeper_keeps keeps k.number.0 m ks k.parent g f.1 e3 (further k ks m g (keeper_older keeps k.number.0 m ks k.parent f.1 (ap (is_number m) e3 ∙ eq-eqb m m refl)) found)
+          ]) refl e2
+      | false ↦ λ e2. keeper_keeps keeps k.number.0 m ks want g f.1 e2 (further k ks m g (keeper_older keeps k.number.0 m ks want f.1 (ap (is_number m) e2 ∙ eq-eqb m m refl)) found)
+    ]) e
+  where
+    further : (k : Scope) (ks : List Scope) (m : ℕ) (g : Scope) → m < k.number.0 → find (has_number m) (k ∷ ks) ≡ Some g → find (has_number m) ks ≡ Some g
+    further k ks m g low found = sym (ap (λ b. cond b (Some k) (find (has_number m) ks)) (ne_eqb k.number.0 m (λ q. absurd (omega arith)))) ∙ found
 
 -- where the walk from h goes once h keeps nothing
 abbrev pub heir : (Scope → Bool) → List Scope → ScopeId → Option ℕ

@@ -20,11 +20,11 @@ use Rattle.rx_counts.specs.declared.record.Sums.{Sums}
 use Rattle.rx_counts.specs.declared.record.Record.{Record}
 use Rattle.rx_counts.specs.Keeping.{keeper, is_number, kept_at, same_where, is_orphan, orphans_of}
 use Rattle.rx_rules.specs.Counts.{has_number}
-use Rattle.rx_counts.specs.Stands.{slot, ShapeOf, SumsOf, RecordOf, Both, AllFit, Pairs, ChangedBy, record_at, in_sums}
+use Rattle.rx_counts.specs.Stands.{table_size, ShapeOf, SumsOf, RecordOf, Both, AllFit, Pairs, ChangedBy, record_at, in_sums}
 use Rattle.rx_counts.specs.Inside.Dying.{Gains, IsNothing, Emptied, Gained}
 use Rattle.rx_counts.proofs.Counting.{one, count_cons, count_same, count_none, any_counted}
 use Rattle.rx_counts.proofs.HandOver.{but, heir, keeper_but, never_but, moved, count_heir, count_other, count_left, keeper_same}
-use Rattle.rx_counts.proofs.Joining.{slot_below, both_more, number_is}
+use Rattle.rx_counts.proofs.Joining.{both_more, number_is}
 
 count_found : (h : ScopeId) (n : ℕ) (gs : List Scope) (g : Scope) → Falls n gs → find (is_scope h) gs ≡ Some g → count_by (is_scope h) gs ≡ 1
 count_found h n [] g f e = cc
@@ -101,12 +101,12 @@ sum_above (suc a) b c e = lt-ltb 0 c (omega arith) ∙ sym (or_left (ltb 0 (suc 
 sums_gains : (keeps : Scope → Bool) (h : ScopeId) (n a : ℕ) (gs : List Scope) (ts : List Task) (ra rh q : Sums) (g : Scope) → Falls n gs → find (is_scope h) gs ≡ Some g → keeps g ≡ true → (a ≡ h.0 → ⊥) → is_number a (heir keeps gs h) ≡ true → Gains ra rh q → SumsOf keeps gs ts ra a → SumsOf keeps gs ts rh h.0 → SumsOf (but h keeps) gs ts q a
 sums_gains keeps h n a gs ts ra rh q g f found kept apart e s x y =
     record {
-      cells = s.cells ∙ x.cells;
-      counts = λ w in_w.
+      cells = s.cells ∙ x.cells ∙ ap table_size (sym s.places);
+      counts = λ w.
           let u = count_heir (λ t. is_none t.struck && same_where w t.place) keeps h a n gs ts f apart e in
-          let v = s.counts (slot w) (slot_below w in_w) in
-          let i = x.counts w in_w in
-          let j = y.counts w in_w in
+          let v = s.counts w in
+          let i = x.counts w in
+          let j = y.counts w in
           omega arith;
       total =
           let u = count_heir (λ t. is_none t.struck) keeps h a n gs ts f apart e in
@@ -133,7 +133,7 @@ sums_gave : (keeps : Scope → Bool) (h : ScopeId) (gs : List Scope) (ts : List 
 sums_gave keeps h gs ts q s =
     record {
       cells = s.cells;
-      counts = λ w in_w. s.counts (slot w) (slot_below w in_w) ∙ sym (count_left (λ x. is_none x.struck && same_where w x.place) keeps h gs ts);
+      counts = λ w. s.counts w ∙ sym (count_left (λ x. is_none x.struck && same_where w x.place) keeps h gs ts);
       total = s.total ∙ sym (count_left (λ x. is_none x.struck) keeps h gs ts);
       orphans = s.orphans ∙ sym (orphans_left keeps h gs);
       lost = λ p low. s.lost p low ∙ sym (any_counted (λ x. was_lost_at p x && kept_at (but h keeps) gs h.0 x) ts ∙ ap (ltb 0) (count_left (was_lost_at p) keeps h gs ts));
@@ -143,7 +143,7 @@ sums_stay : (keeps : Scope → Bool) (h : ScopeId) (n m : ℕ) (gs : List Scope)
 sums_stay keeps h n m gs ts q g f found kept apart e a =
     record {
       cells = a.cells;
-      counts = λ w in_w. a.counts w in_w ∙ sym (count_other (λ x. is_none x.struck && same_where w x.place) keeps h m n gs ts f apart e);
+      counts = λ w. a.counts w ∙ sym (count_other (λ x. is_none x.struck && same_where w x.place) keeps h m n gs ts f apart e);
       total = a.total ∙ sym (count_other (λ x. is_none x.struck) keeps h m n gs ts f apart e);
       orphans = a.orphans ∙ sym (orphans_other keeps h m n gs g f found kept apart e);
       lost = λ p low. a.lost p low ∙ any_counted (λ x. was_lost_at p x && kept_at keeps gs m x) ts ∙ ap (ltb 0) (sym (count_other (was_lost_at p) keeps h m n gs ts f apart e)) ∙ sym (any_counted (λ x. was_lost_at p x && kept_at (but h keeps) gs m x) ts);
@@ -151,9 +151,9 @@ sums_stay keeps h n m gs ts q g f found kept apart e a =
 
 -- All records: h gives to a.
 
-record_of_number : (keeps : Scope → Bool) (gs : List Scope) (ts : List Task) (o : Option Record) (g : Scope) → Both (RecordOf keeps gs ts) o (Some g) → (r : Record) × (o ≡ Some r) × RecordOf keeps gs ts r g
-record_of_number keeps gs ts (Some r) g h = (r, refl, h)
-record_of_number keeps gs ts None g h = absurd h
+record_of_number : {size : ℕ} (keeps : Scope → Bool) (gs : List Scope) (ts : List Task) (o : Option Record) (g : Scope) → Both (RecordOf size keeps gs ts) o (Some g) → (r : Record) × (o ≡ Some r) × RecordOf size keeps gs ts r g
+record_of_number {size = size} keeps gs ts (Some r) g h = (r, refl, h)
+record_of_number {size = size} keeps gs ts None g h = absurd h
 
 pair_some : (R : Record → Record → Type 0) (o p : Option Record) (r : Record) → Pairs R o p → o ≡ Some r → (q : Record) × (p ≡ Some q) × R r q
 pair_some R (Some s) (Some q) r h e = let same : s ≡ r = cc in (q, refl, subst (λ (v : Record). R v q) same h)
@@ -163,31 +163,32 @@ pair_some R None p r h e = cc
 both_at : (P : Record → Scope → Type 0) (o : Option Record) (b : Option Scope) (r : Record) (g : Scope) → o ≡ Some r → b ≡ Some g → P r g → Both P o b
 both_at P o b r g e k h = subst (λ v. Both P v b) (sym e) (subst (λ v. Both P (Some r) v) (sym k) h)
 
-pub all_hand : (keeps : Scope → Bool) (h : ScopeId) (a n : ℕ) (gs : List Scope) (ts : List Task) (rs ps qs : List (Option (Box Record))) (given : Sums) (g ga : Scope) → Falls n gs → find (has_number h.0) gs ≡ Some g → find (has_number a) gs ≡ Some ga → keeps g ≡ true → heir keeps gs h ≡ Some a → IfSome (record_at rs h.0) (λ r. given ≡ r.sums) → ChangedBy Emptied h.0 rs ps → ChangedBy (Gained given) a ps qs → AllFit keeps gs ts rs → AllFit (but h keeps) gs ts qs
-all_hand keeps h a n gs ts rs ps qs given g ga f found found_a kept is_heir took emptied gained all m =
+pub all_hand : (size : ℕ) (keeps : Scope → Bool) (h : ScopeId) (a n : ℕ) (gs : List Scope) (ts : List Task) (rs ps qs : List (Option (Box Record))) (given : Sums) (g ga : Scope) → Falls n gs → find (has_number h.0) gs ≡ Some g → find (has_number a) gs ≡ Some ga → keeps g ≡ true → heir keeps gs h ≡ Some a → IfSome (record_at rs h.0) (λ r. given ≡ r.sums) → ChangedBy Emptied h.0 rs ps → ChangedBy (Gained given) a ps qs → AllFit size keeps gs ts rs → AllFit size (but h keeps) gs ts qs
+all_hand size keeps h a n gs ts rs ps qs given g ga f found found_a kept is_heir took emptied gained all m =
     let apart : a ≡ h.0 → ⊥ = λ e. true≢false (sym (ap (is_number h.0) is_heir ∙ eq-eqb a h.0 e) ∙ never_but keeps h gs (Some h)) in
     let num_h : g.number.0 ≡ h.0 = number_is h.0 gs g found in
     let num_a : ga.number.0 ≡ a = number_is a gs ga found_a in
-    let giver = record_of_number keeps gs ts (record_at rs h.0) g (subst (λ o. Both (RecordOf keeps gs ts) (record_at rs h.0) o) found (all h.0)) in
-    let taker = record_of_number keeps gs ts (record_at rs a) ga (subst (λ o. Both (RecordOf keeps gs ts) (record_at rs a) o) found_a (all a)) in
+    let giver = record_of_number keeps gs ts (record_at rs h.0) g (subst (λ o. Both (RecordOf size keeps gs ts) (record_at rs h.0) o) found (all h.0)) in
+    let taker = record_of_number keeps gs ts (record_at rs a) ga (subst (λ o. Both (RecordOf size keeps gs ts) (record_at rs a) o) found_a (all a)) in
     let is_given : given ≡ giver.0.sums = subst (λ o. IfSome o (λ r. given ≡ r.sums)) giver.1 took in
     let left = pair_some Emptied (record_at rs h.0) (record_at ps h.0) giver.0 emptied.here giver.1 in
     let still_a : record_at ps a ≡ record_at rs a = emptied.others a apart in
     let new = pair_some (Gained given) (record_at ps a) (record_at qs a) taker.0 gained.here (still_a ∙ taker.1) in
     ⊎_elim
     (λ (e : m ≡ h.0).
-    subst (λ (i : ℕ). Both (RecordOf (but h keeps) gs ts) (record_at qs i) (find (has_number i) gs)) (sym e)
-    (both_at (RecordOf (but h keeps) gs ts) (record_at qs h.0) (find (has_number h.0) gs) left.0 g (gained.others h.0 (λ v. apart (sym v)) ∙ left.1) found
+    subst (λ (i : ℕ). Both (RecordOf size (but h keeps) gs ts) (record_at qs i) (find (has_number i) gs)) (sym e)
+    (both_at (RecordOf size (but h keeps) gs ts) (record_at qs h.0) (find (has_number h.0) gs) left.0 g (gained.others h.0 (λ v. apart (sym v)) ∙ left.1) found
     (record {
       shape = let o = left.2.0 in let b = giver.2.shape in record { kind = o.kind ∙ b.kind; home = o.home ∙ b.home; parent = o.parent ∙ b.parent; finish = b.finish ∙ ap (λ (v : ScopeId). Some v.0) (sym o.finish) };
       sums = subst (SumsOf (but h keeps) gs ts left.0.sums) (sym num_h) (sums_gave keeps h gs ts left.0.sums left.2.1);
       faults = λ v. absurd (true≢false (sym (and_parts (keeps g) (not (is_scope h g)) v).1 ∙ ap not (eq-eqb g.number.0 h.0 num_h)));
+      places = λ v. absurd (true≢false (sym (and_parts (keeps g) (not (is_scope h g)) v).1 ∙ ap not (eq-eqb g.number.0 h.0 num_h)));
     })))
     (λ (e : m ≡ h.0 → ⊥).
     ⊎_elim
     (λ (k : m ≡ a).
-    subst (λ (i : ℕ). Both (RecordOf (but h keeps) gs ts) (record_at qs i) (find (has_number i) gs)) (sym k)
-    (both_at (RecordOf (but h keeps) gs ts) (record_at qs a) (find (has_number a) gs) new.0 ga new.1 found_a
+    subst (λ (i : ℕ). Both (RecordOf size (but h keeps) gs ts) (record_at qs i) (find (has_number i) gs)) (sym k)
+    (both_at (RecordOf size (but h keeps) gs ts) (record_at qs a) (find (has_number a) gs) new.0 ga new.1 found_a
     (let is : new.0 ≡ in_sums (λ v. new.0.sums) taker.0 = new.2.0 in
     let b = taker.2 in
     record {
@@ -197,16 +198,18 @@ all_hand keeps h a n gs ts rs ps qs given g ga f found found_a kept is_heir took
           (sums_gains keeps h n a gs ts taker.0.sums given new.0.sums g f found kept apart (ap (is_number a) is_heir ∙ eq-eqb a a refl) new.2.1 (subst (SumsOf keeps gs ts taker.0.sums) num_a b.sums)
           (subst (λ (v : Sums). SumsOf keeps gs ts v h.0) (sym is_given) (subst (SumsOf keeps gs ts giver.0.sums) num_h giver.2.sums)));
       faults = λ v. let old = b.faults (and_parts (keeps ga) (not (is_scope h ga)) v).0 in (ap (λ (x : Record). x.body) is ∙ old.0, ap (λ (x : Record). x.ends) is ∙ old.1);
+      places = λ v. new.2.1.places ∙ b.places (and_parts (keeps ga) (not (is_scope h ga)) v).0;
     })))
     (λ (k : m ≡ a → ⊥).
-    subst (λ o. Both (RecordOf (but h keeps) gs ts) o (find (has_number m) gs)) (sym (gained.others m k ∙ emptied.others m e))
-    (both_more (RecordOf keeps gs ts) (RecordOf (but h keeps) gs ts) (record_at rs m) (find (has_number m) gs)
+    subst (λ o. Both (RecordOf size (but h keeps) gs ts) o (find (has_number m) gs)) (sym (gained.others m k ∙ emptied.others m e))
+    (both_more (RecordOf size keeps gs ts) (RecordOf size (but h keeps) gs ts) (record_at rs m) (find (has_number m) gs)
     (λ r j found_j b.
     let num : j.number.0 ≡ m = number_is m gs j found_j in
     record {
       shape = b.shape;
       sums = sums_stay keeps h n j.number.0 gs ts r.sums g f found kept (λ v. e (sym num ∙ v)) (ap (is_number j.number.0) is_heir ∙ ne_eqb a j.number.0 (λ v. k (sym num ∙ sym v))) b.sums;
       faults = λ v. b.faults (and_parts (keeps j) (not (is_scope h j)) v).0;
+      places = λ v. b.places (and_parts (keeps j) (not (is_scope h j)) v).0;
     })
     (all m)))
     (cases_eq m a))
@@ -214,18 +217,19 @@ all_hand keeps h a n gs ts rs ps qs given g ga f found found_a kept is_heir took
 
 -- Records by which scopes keep counts.
 
-pub all_keeps : (p q : Scope → Bool) (gs : List Scope) (ts : List Task) (rs : List (Option (Box Record))) → Each (λ k. p k ≡ q k) gs → ((n : ℕ) (k : Scope) → find (has_number n) gs ≡ Some k → p k ≡ q k) → AllFit p gs ts rs → AllFit q gs ts rs
-all_keeps p q gs ts rs same found h n =
-    both_more (RecordOf p gs ts) (RecordOf q gs ts) (record_at rs n) (find (has_number n) gs)
+pub all_keeps : (size : ℕ) (p q : Scope → Bool) (gs : List Scope) (ts : List Task) (rs : List (Option (Box Record))) → Each (λ k. p k ≡ q k) gs → ((n : ℕ) (k : Scope) → find (has_number n) gs ≡ Some k → p k ≡ q k) → AllFit size p gs ts rs → AllFit size q gs ts rs
+all_keeps size p q gs ts rs same found h n =
+    both_more (RecordOf size p gs ts) (RecordOf size q gs ts) (record_at rs n) (find (has_number n) gs)
     (λ r g at a. record {
       shape = a.shape;
       sums =
           record {
             cells = a.sums.cells;
-            counts = λ w in_w. a.sums.counts w in_w ∙ count_same _ _ ts (each_all _ (λ (x : Task). ap (λ o. (is_none x.struck && same_where w x.place) && is_number g.number.0 o) (keeper_same p q gs (Some x.under) same)) ts);
+            counts = λ w. a.sums.counts w ∙ count_same _ _ ts (each_all _ (λ (x : Task). ap (λ o. (is_none x.struck && same_where w x.place) && is_number g.number.0 o) (keeper_same p q gs (Some x.under) same)) ts);
             total = a.sums.total ∙ count_same _ _ ts (each_all _ (λ (x : Task). ap (λ o. is_none x.struck && is_number g.number.0 o) (keeper_same p q gs (Some x.under) same)) ts);
             orphans = a.sums.orphans ∙ count_same (is_orphan p gs g.number.0) (is_orphan q gs g.number.0) gs (each_more (λ k. p k ≡ q k) _ (λ (k : Scope) e. ap (λ b. not b && is_number g.number.0 (keeper p gs (Some k.number))) e ∙ ap (λ o. not (q k) && is_number g.number.0 o) (keeper_same p q gs (Some k.number) same)) gs same);
             lost = λ i low. a.sums.lost i low ∙ any_same _ _ ts (each_all _ (λ (x : Task). ap (λ o. was_lost_at i x && is_number g.number.0 o) (keeper_same p q gs (Some x.under) same)) ts);
           };
       faults = λ k. a.faults (found n g at ∙ k);
+      places = λ k. a.places (found n g at ∙ k);
     }) (h n)

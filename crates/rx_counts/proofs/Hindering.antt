@@ -1,5 +1,5 @@
 -- What a release names, and what hinders it.
-use Rattle.std.specs.Prelude.{◌≡◌, ℕ, zero, suc, ◌<◌, ◌≤◌, Bool, true, false, cond, ◌||◌, ◌&&◌, ◌==◌, not, List, [], ◌∷◌, ◌++◌, Some, None, is_none, count_by, filter, refl}
+use Rattle.std.specs.Prelude.{◌≡◌, ℕ, zero, suc, ◌<◌, ◌≤◌, ◌%◌, Bool, true, false, cond, ◌||◌, ◌&&◌, ◌==◌, not, List, [], ◌∷◌, ◌++◌, Some, None, is_none, length, slice_index_or, count_by, filter, refl}
 use Rattle.std.specs.List.{list_any}
 use Rattle.std.proofs.Common.{sym, ap, ◌∙◌, subst, arith}
 use Rattle.std.proofs.lemmas.Bool.{eq-eqb, ne_eqb, true≢false, and_parts, and_from, or_left, or_right, lt-ltb, not-false}
@@ -14,31 +14,25 @@ use Rattle.rx_rules.specs.declared.tasks.Task.{Task}
 use Rattle.rx_rules.specs.declared.tasks.Scope.{Scope}
 use Rattle.rx_rules.specs.Tree.{Tree, is_under, quiet}
 use Rattle.rx_rules.specs.Entries.{was_lost_at, lost_under, thrown_of}
-use Rattle.rx_sound.specs.Sound.{Each, Sound, TaskFits}
+use Rattle.rx_sound.specs.Sound.{Each, Sound}
 use Rattle.rx_sound.proofs.Changes.{each_found, each_more}
 use Rattle.rx_sound.proofs.Below.{found_any}
 use Rattle.rx_sound.proofs.Reached.{sound}
 use Rattle.rx_sound.proofs.Releasing.{on_meets, each_all}
 use Rattle.rx_finish.specs.Calls.{IsHindered, landing}
+use Rattle.rx_counts.specs.declared.record.Sums.{Sums}
 use Rattle.rx_counts.specs.declared.record.Record.{Record}
 use Rattle.rx_counts.specs.declared.ledger.CountLedger.{CountLedger}
 use Rattle.rx_counts.specs.Keeping.{stands_home, kept_at, same_where, count_of, total_of, orphans_of}
-use Rattle.rx_counts.specs.Stands.{slot, where_in_range, SumsOf, StandsFor, record_at, count_in}
-use Rattle.rx_counts.specs.Inside.Freeing.{IsLast, Hides, unslot}
-use Rattle.rx_counts.proofs.Counting.{one, count_cons, any_counted}
-use Rattle.rx_counts.proofs.Telling.{keeper_meets, same_self, slot_of_unslot, unslot_in, within_range, one_number}
+use Rattle.rx_counts.specs.Stands.{slot, SumsOf, StandsFor, record_at, count_in}
+use Rattle.rx_counts.specs.Inside.Freeing.{IsLast, Hides}
+use Rattle.rx_counts.proofs.Counting.{one, each_part, any_counted}
+use Rattle.rx_counts.proofs.Telling.{keeper_meets, same_self, one_number}
 use Rattle.rx_counts.proofs.Lasting.{kept_here}
-use Rattle.rx_counts.proofs.Joining.{slot_below}
+use Rattle.rx_counts.proofs.Joining.{counted_cell}
+use Rattle.rx_counts.proofs.Slots.{unslot, slot_of_unslot, unslot_landing}
 use Rattle.rx_counts.proofs.Asking.{Kept}
 use Rattle.rx_counts.proofs.Readying.{last_kept, total_quiet}
-
--- each element has its part in each count
-pub each_part : {X : Type 0} (xs ts : List X) → ((p : X → Bool) → count_by p xs ≤ count_by p ts) → Each (λ x. (p : X → Bool) → one (p x) ≤ count_by p ts) xs
-each_part [] ts le = tt
-each_part {X = X} (x ∷ xs) ts le = (
-  (λ p. let a = count_cons p x xs in let b = le p in omega arith),
-  each_part xs ts (λ p. let a = count_cons p x xs in let b = le p in omega arith),
-)
 
 pub any_more : {X : Type 0} (p q : X → Bool) (xs : List X) → ((x : X) → p x ≡ true → q x ≡ true) → list_any p xs ≡ true → list_any q xs ≡ true
 any_more p q [] f h = h
@@ -49,19 +43,18 @@ any_more p q (x ∷ xs) f h =
     ]) refl h
 
 -- a record with a total above 0 has a cell above 0
-pub some_cell : (T : Tree) (keeps : Scope → Bool) (r : Record) (n : ℕ) → Sound T → SumsOf keeps T.scopes T.tasks r.sums n → 0 < r.sums.total → (k : ℕ) × (k < 272) × (0 < count_in r.sums k)
+pub some_cell : (T : Tree) (keeps : Scope → Bool) (r : Record) (n : ℕ) → Sound T → SumsOf keeps T.scopes T.tasks r.sums n → 0 < r.sums.total → (w : Where) × (0 < count_in r.sums w)
 some_cell T keeps r n h s pos =
     let total : r.sums.total ≡ total_of keeps T.scopes T.tasks n = s.total in
     let any : list_any (λ x. is_none x.struck && kept_at keeps T.scopes n x) T.tasks ≡ true = any_counted (λ x. is_none x.struck && kept_at keeps T.scopes n x) T.tasks ∙ lt-ltb 0 (total_of keeps T.scopes T.tasks n) (omega arith) in
     let found = found_any (λ x. is_none x.struck && kept_at keeps T.scopes n x) T.tasks any in
     let x : Task = found.0 in
     let here = and_parts (is_none x.struck) (kept_at keeps T.scopes n x) (find-passes (λ y. is_none y.struck && kept_at keeps T.scopes n y) T.tasks x found.1) in
-    let within : where_in_range x.place = within_range T.places x.place h.few (each_found (TaskFits T.dead T.places T.scopes) (λ y. is_none y.struck && kept_at keeps T.scopes n y) T.tasks x h.tasks found.1).inside in
     let part = each_found (λ y. (p : Task → Bool) → one (p y) ≤ count_by p T.tasks) (λ y. is_none y.struck && kept_at keeps T.scopes n y) T.tasks x (each_part T.tasks T.tasks (λ p. omega arith)) found.1 (λ y. (is_none y.struck && same_where x.place y.place) && kept_at keeps T.scopes n y) in
     let mine : (is_none x.struck && same_where x.place x.place) && kept_at keeps T.scopes n x ≡ true = and_from (is_none x.struck && same_where x.place x.place) (kept_at keeps T.scopes n x) (and_from (is_none x.struck) (same_where x.place x.place) here.0 (same_self x.place)) here.1 in
     let is_one = ap one mine in
-    let c = s.counts x.place within in
-    (slot x.place, slot_below x.place within, omega arith)
+    let c = s.counts x.place in
+    (x.place, omega arith)
 
 land_alike : (w v : Where) → same_where w v ≡ true → (landing v).0 == (landing w).0 ≡ true
 land_alike (At p) (At q) e = e
@@ -69,8 +62,31 @@ land_alike (At p) (Travel f t) e = absurd (true≢false (sym e))
 land_alike (Travel p r) (At q) e = absurd (true≢false (sym e))
 land_alike (Travel p r) (Travel f t) e = (and_parts (f.0 == p.0) (t.0 == r.0) e).1
 
+-- where a task is counted, the place where it is or goes hinders
+by_count : (T : Tree) (s : ScopeId) (q : Sums) (p : PlaceId) (w : Where) → SumsOf (stands_home T.dead) T.scopes T.tasks q s.0 → 0 < count_in q w → p.0 ≡ (landing w).0 → list_any (λ x. (is_under T s x && is_none x.struck) && ((landing x.place).0 == p.0)) T.tasks ≡ true
+by_count T s q p w sums up by_place =
+    let keeps : Scope → Bool = stands_home T.dead in
+    let c : count_in q w ≡ count_of keeps T.scopes T.tasks s.0 w = sums.counts w in
+    let some : 0 < count_of keeps T.scopes T.tasks s.0 w = subst (λ (m : ℕ). 0 < m) c up in
+    let there : (x : Task) → ((landing x.place).0 == p.0) ≡ ((landing x.place).0 == (landing w).0) = λ x. ap (λ (n : ℕ). (landing x.place).0 == n) by_place in
+    let any : list_any (λ x. (is_none x.struck && same_where w x.place) && kept_at keeps T.scopes s.0 x) T.tasks ≡ true = any_counted (λ x. (is_none x.struck && same_where w x.place) && kept_at keeps T.scopes s.0 x) T.tasks ∙ lt-ltb 0 (count_of keeps T.scopes T.tasks s.0 w) some in
+    any_more (λ x. (is_none x.struck && same_where w x.place) && kept_at keeps T.scopes s.0 x) (λ x. (is_under T s x && is_none x.struck) && ((landing x.place).0 == p.0)) T.tasks
+    (λ x t.
+    let one_ = and_parts (is_none x.struck && same_where w x.place) (kept_at keeps T.scopes s.0 x) t in
+    let two = and_parts (is_none x.struck) (same_where w x.place) one_.0 in
+    and_from (is_under T s x && is_none x.struck) ((landing x.place).0 == p.0)
+    (and_from (is_under T s x) (is_none x.struck) (on_meets s T.scopes (Some x.under) ∙ keeper_meets keeps s T.scopes (Some x.under) one_.1) two.0)
+    (there x ∙ land_alike w x.place two.1)) any
+
+-- the same of a cell above 0
+by_cell : (T : Tree) (s : ScopeId) (q : Sums) (p : PlaceId) (i : ℕ) → SumsOf (stands_home T.dead) T.scopes T.tasks q s.0 → i < length q.counts → 0 < slice_index_or q.counts i 0 → p.0 ≡ i % q.places → list_any (λ x. (is_under T s x && is_none x.struck) && ((landing x.place).0 == p.0)) T.tasks ≡ true
+by_cell T s q p i sums low up by_place =
+    by_count T s q p (unslot q.places i) sums
+    (subst (λ (j : ℕ). 0 < slice_index_or q.counts j 0) (sym (slot_of_unslot q.places i (subst (λ (m : ℕ). i < m) sums.cells low))) up)
+    (by_place ∙ sym (unslot_landing q.places i))
+
 -- so a place is found that hinders
-pub hindered : (l : CountLedger) (T : Tree) (s : ScopeId) (r : Record) (p : PlaceId) → StandsFor l T → IsLast T s → record_at l.scopes.items s.0 ≡ Some r → 0 < r.sums.total → Hides r.sums.counts p → IsHindered T s p
+pub hindered : (l : CountLedger) (T : Tree) (s : ScopeId) (r : Record) (p : PlaceId) → StandsFor l T → IsLast T s → record_at l.scopes.items s.0 ≡ Some r → 0 < r.sums.total → Hides r.sums.places r.sums.counts p → IsHindered T s p
 hindered l T s r p st i e pos hides =
     let h : Sound T = sound st.reached in
     let keeps : Scope → Bool = stands_home T.dead in
@@ -78,23 +94,10 @@ hindered l T s r p st i e pos hides =
     let same : k.kept ≡ r = (let f = k.found in cc) in
     let sums : SumsOf keeps T.scopes T.tasks r.sums s.0 = subst (λ (v : Record). SumsOf keeps T.scopes T.tasks v.sums s.0) same (subst (SumsOf keeps T.scopes T.tasks k.kept.sums) k.number k.fits.sums) in
     let cell = some_cell T keeps r s.0 h sums pos in
-    let hid = hides cell.0 cell.1 cell.2 in
-    let w : Where = unslot hid.0 in
-    let c : count_in r.sums (slot w) ≡ count_of keeps T.scopes T.tasks s.0 w = sums.counts w (unslot_in hid.0 hid.1) in
-    let up : 0 < count_in r.sums hid.0 = hid.2 in
-    let at : count_in r.sums (slot w) ≡ count_in r.sums hid.0 = ap (count_in r.sums) {x = slot w} {y = hid.0} (slot_of_unslot hid.0) in
-    let there : (x : Task) → ((landing x.place).0 == p.0) ≡ ((landing x.place).0 == (landing w).0) = λ x. ap (λ (q : PlaceId). (landing x.place).0 == q.0) {x = p} {y = landing w} hid.3 in
-    let any : list_any (λ x. (is_none x.struck && same_where w x.place) && kept_at keeps T.scopes s.0 x) T.tasks ≡ true = any_counted (λ x. (is_none x.struck && same_where w x.place) && kept_at keeps T.scopes s.0 x) T.tasks ∙ lt-ltb 0 (count_of keeps T.scopes T.tasks s.0 w) (omega arith) in
+    let hid = hides (slot r.sums.places cell.0) (counted_cell r.sums cell.0 sums.cells cell.1) cell.1 in
     record {
       busy = sym (total_quiet l T s r st i e) ∙ nonzero r.sums.total pos;
-      by =
-          any_more (λ x. (is_none x.struck && same_where w x.place) && kept_at keeps T.scopes s.0 x) (λ x. (is_under T s x && is_none x.struck) && ((landing x.place).0 == p.0)) T.tasks
-          (λ x t.
-          let one_ = and_parts (is_none x.struck && same_where w x.place) (kept_at keeps T.scopes s.0 x) t in
-          let two = and_parts (is_none x.struck) (same_where w x.place) one_.0 in
-          and_from (is_under T s x && is_none x.struck) ((landing x.place).0 == p.0)
-          (and_from (is_under T s x) (is_none x.struck) (on_meets s T.scopes (Some x.under) ∙ keeper_meets keeps s T.scopes (Some x.under) one_.1) two.0)
-          (there x ∙ land_alike w x.place two.1)) any;
+      by = by_cell T s r.sums p hid.0 sums hid.1 hid.2 hid.3;
     }
   where
     nonzero : (n : ℕ) → 0 < n → n == 0 ≡ false

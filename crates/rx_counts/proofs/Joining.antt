@@ -1,15 +1,14 @@
 -- A task joins the tree, or leaves it, and the sums of one record change.
-use Rattle.std.specs.Prelude.{◌≡◌, ℕ, ◌<◌, ◌≤◌, ◌+◌, ◌-◌, Bool, true, false, cond, ◌||◌, ◌&&◌, ◌==◌, not, List, [], ◌∷◌, Option, Some, None, is_none, option_map, length, slice_index_or, filter, count_by, refl}
+use Rattle.std.specs.Prelude.{◌≡◌, ℕ, ◌<◌, ◌≤◌, ◌+◌, ◌-◌, Bool, true, false, cond, ◌||◌, ◌&&◌, ◌==◌, not, List, [], ◌∷◌, Option, Some, None, IfSome, is_none, option_map, length, slice_index_or, slice_set, filter, count_by, refl}
 use Rattle.std.specs.List.{find, list_any}
 use Rattle.std.specs.Global.{Box}
 use Rattle.std.proofs.Common.{sym, ap, ◌∙◌, subst, arith, ltb, ⊎_elim}
-use Rattle.std.proofs.lemmas.Bool.{eqb-true, eq-eqb, ne_eqb, true≢false, and_parts, and_from, and_left, and_right, cases_eq}
+use Rattle.std.proofs.lemmas.Bool.{eqb-true, eq-eqb, ne_eqb, true≢false, and_left, and_right, cases_eq}
 use Rattle.std.proofs.lemmas.List.{get_or-set_same, get_or-set_other, length-set}
 use Rattle.std.proofs.Math.Bool.{and-true}
 use Rattle.rx_sound.proofs.Waiting.{tasks_below}
 use Rattle.rx_base.specs.declared.ids.TaskId.{TaskId}
 use Rattle.rx_rules.specs.declared.tasks.Where.{Where}
-use Rattle.rx_rules.specs.declared.tasks.Where.TheVariants.{At, Travel}
 use Rattle.rx_rules.specs.declared.tasks.Blow.{Blow}
 use Rattle.rx_rules.specs.declared.tasks.Task.{Task}
 use Rattle.rx_rules.specs.declared.tasks.Scope.{Scope}
@@ -23,47 +22,47 @@ use Rattle.rx_counts.specs.Keeping.{keeper, is_number, kept_at, same_where}
 use Rattle.rx_base.specs.Sets.{has_bit}
 use Rattle.rx_base.proofs.Elements.{find-passes}
 use Rattle.rx_rules.specs.Counts.{has_number}
-use Rattle.rx_counts.specs.Stands.{slot, where_in_range, ShapeOf, SumsOf, RecordOf, Both, AllFit, record_at, count_in, more, less, in_sums, with_lost, Changed, ChangedBy, Pairs, Loses}
+use Rattle.rx_counts.specs.Stands.{table_size, is_inside, slot, HasCell, MayLeave, ShapeOf, SumsOf, RecordOf, Both, AllFit, record_at, count_in, more, less, in_sums, with_lost, Changed, ChangedBy, Pairs, Loses}
 use Rattle.rx_counts.proofs.Counting.{one, count_cons, count_change, count_filter, any_counted, sum_change}
 use Rattle.rx_counts.proofs.Telling.{same_self}
+use Rattle.rx_counts.proofs.Slots.{has_place, same_slot, slot_same, slot_below, cell_of}
 
--- Cells of places and pairs differ.
+-- One task more, and one less.
 
-pub same_slot : (v w : Where) → where_in_range v → where_in_range w → same_where w v ≡ true → slot v ≡ slot w
-same_slot (At p) (At q) a b e = eqb-true p.0 q.0 e
-same_slot (At p) (Travel from to) a b e = absurd (true≢false (sym e))
-same_slot (Travel from to) (At q) a b e = absurd (true≢false (sym e))
-same_slot (Travel f t) (Travel p r) a b e = let parts = and_parts (f.0 == p.0) (t.0 == r.0) e in let x : f.0 ≡ p.0 = eqb-true f.0 p.0 parts.0 in let y : t.0 ≡ r.0 = eqb-true t.0 r.0 parts.1 in omega arith
-
-pub slot_same : (v w : Where) → where_in_range v → where_in_range w → slot v ≡ slot w → same_where w v ≡ true
-slot_same (At p) (At q) a b e = eq-eqb p.0 q.0 e
-slot_same (At p) (Travel from to) a b e = absurd (omega arith)
-slot_same (Travel from to) (At q) a b e = absurd (omega arith)
-slot_same (Travel f t) (Travel p r) a b e = let c : t.0 < 16 = a.1 in let d : r.0 < 16 = b.1 in and_from (f.0 == p.0) (t.0 == r.0) (eq-eqb f.0 p.0 (omega arith)) (eq-eqb t.0 r.0 (omega arith))
-
-pub slot_below : (w : Where) → where_in_range w → slot w < 272
-slot_below (At p) h = omega arith
-slot_below (Travel f t) h = let a : f.0 < 16 = h.0 in let b : t.0 < 16 = h.1 in omega arith
-
-pub more_count : (r : Sums) (v w : Where) → length r.counts ≡ 272 → where_in_range v → where_in_range w → count_in (more (slot v) r) (slot w) ≡ count_in r (slot w) + one (same_where w v)
-more_count r v w len a b =
-    (elim (same_where w v) as (λ c. same_where w v ≡ c → count_in (more (slot v) r) (slot w) ≡ count_in r (slot w) + one c) [
+pub more_count : (r : Sums) (v w : Where) → length r.counts ≡ table_size r.places → HasCell v r → count_in (more v r) w ≡ count_in r w + one (same_where w v)
+more_count r v w len cell =
+    let n : ℕ = r.places in
+    let in_v : is_inside n v ≡ true = has_place n v (subst (λ (m : ℕ). slot n v < m) len cell) in
+    (elim (same_where w v) as (λ c. same_where w v ≡ c → count_in (more v r) w ≡ count_in r w + one c) [
       | true ↦ λ e.
-          let same : slot v ≡ slot w = same_slot v w a b e in
-          let low : slot v < length r.counts = (let q = slot_below v a in omega arith) in
-          subst (λ (i : ℕ). count_in (more (slot v) r) i ≡ count_in r i + 1) same (get_or-set_same r.counts (slot v) (count_in r (slot v) + 1) 0 low)
-      | false ↦ λ e. get_or-set_other r.counts (slot v) (slot w) (count_in r (slot v) + 1) 0 (λ q. true≢false (sym (slot_same v w a b (sym q)) ∙ e)) ∙ omega arith
+          subst (λ (i : ℕ). slice_index_or (slice_set r.counts (slot n v) (slice_index_or r.counts (slot n v) 0 + 1)) i 0 ≡ slice_index_or r.counts i 0 + 1) (same_slot n v w e)
+          (get_or-set_same r.counts (slot n v) (slice_index_or r.counts (slot n v) 0 + 1) 0 cell)
+      | false ↦ λ e. get_or-set_other r.counts (slot n v) (slot n w) (count_in r v + 1) 0 (λ q. true≢false (sym (slot_same n v w in_v (sym q)) ∙ e)) ∙ omega arith
     ]) refl
 
-pub less_count : (r : Sums) (v w : Where) → length r.counts ≡ 272 → where_in_range v → where_in_range w → 1 ≤ count_in r (slot v) → count_in (less (slot v) r) (slot w) + one (same_where w v) ≡ count_in r (slot w)
-less_count r v w len a b pos =
-    (elim (same_where w v) as (λ c. same_where w v ≡ c → count_in (less (slot v) r) (slot w) + one c ≡ count_in r (slot w)) [
+pub less_count : (r : Sums) (v w : Where) → length r.counts ≡ table_size r.places → HasCell v r → 1 ≤ count_in r v → count_in (less v r) w + one (same_where w v) ≡ count_in r w
+less_count r v w len cell pos =
+    let n : ℕ = r.places in
+    let in_v : is_inside n v ≡ true = has_place n v (subst (λ (m : ℕ). slot n v < m) len cell) in
+    (elim (same_where w v) as (λ c. same_where w v ≡ c → count_in (less v r) w + one c ≡ count_in r w) [
       | true ↦ λ e.
-          let same : slot v ≡ slot w = same_slot v w a b e in
-          let low : slot v < length r.counts = (let q = slot_below v a in omega arith) in
-          subst (λ (i : ℕ). count_in (less (slot v) r) i + 1 ≡ count_in r i) same (let g = get_or-set_same r.counts (slot v) (count_in r (slot v) - 1) 0 low in omega arith)
-      | false ↦ λ e. let g = get_or-set_other r.counts (slot v) (slot w) (count_in r (slot v) - 1) 0 (λ q. true≢false (sym (slot_same v w a b (sym q)) ∙ e)) in omega arith
+          subst (λ (i : ℕ). slice_index_or (slice_set r.counts (slot n v) (slice_index_or r.counts (slot n v) 0 - 1)) i 0 + 1 ≡ slice_index_or r.counts i 0) (same_slot n v w e)
+          (let g = get_or-set_same r.counts (slot n v) (slice_index_or r.counts (slot n v) 0 - 1) 0 cell in back _ _ g pos)
+      | false ↦ λ e. let g = get_or-set_other r.counts (slot n v) (slot n w) (count_in r v - 1) 0 (λ q. true≢false (sym (slot_same n v w in_v (sym q)) ∙ e)) in ap (λ (m : ℕ). m + 0) g ∙ plus_none _
     ]) refl
+  where
+    back : (x y : ℕ) → x ≡ y - 1 → 1 ≤ y → x + 1 ≡ y
+    back x y e le = omega arith
+
+    plus_none : (x : ℕ) → x + 0 ≡ x
+    plus_none x = omega arith
+
+-- what counts above 0 has a cell
+pub counted_cell : (q : Sums) (w : Where) → length q.counts ≡ table_size q.places → 1 ≤ count_in q w → HasCell w q
+counted_cell q w len pos = subst (λ (m : ℕ). slot q.places w < m) (sym len) (slot_below q.places w (cell_of q.places q.counts w len (above _ pos)))
+  where
+    above : (x : ℕ) → 1 ≤ x → 0 < x
+    above x h = omega arith
 
 -- One record.
 
@@ -89,8 +88,8 @@ pub join_other : (keeps : Scope → Bool) (gs : List Scope) (ts : List Task) (y 
 join_other keeps gs ts y q n out h =
     record {
       cells = h.cells;
-      counts = λ w in_w.
-          let a = h.counts w in_w in
+      counts = λ w.
+          let a = h.counts w in
           let b = count_cons (λ x. (is_none x.struck && same_where w x.place) && kept_at keeps gs n x) y ts in
           let c = one_false _ (and_right (is_none y.struck && same_where w y.place) (kept_at keeps gs n y) out) in
           omega arith;
@@ -104,15 +103,15 @@ join_other keeps gs ts y q n out h =
     }
 
 -- an unstruck task that is counted here joins
-pub join_here : (keeps : Scope → Bool) (gs : List Scope) (ts : List Task) (y : Task) (q : Sums) (n : ℕ) → kept_at keeps gs n y ≡ true → y.struck ≡ None → where_in_range y.place → SumsOf keeps gs ts q n → SumsOf keeps gs (y ∷ ts) (more (slot y.place) q) n
-join_here keeps gs ts y q n here free within h =
+pub join_here : (keeps : Scope → Bool) (gs : List Scope) (ts : List Task) (y : Task) (q : Sums) (n : ℕ) → kept_at keeps gs n y ≡ true → y.struck ≡ None → HasCell y.place q → SumsOf keeps gs ts q n → SumsOf keeps gs (y ∷ ts) (more y.place q) n
+join_here keeps gs ts y q n here free cell h =
     record {
-      cells = length-set q.counts (slot y.place) (count_in q (slot y.place) + 1) ∙ h.cells;
-      counts = λ w in_w.
-          let a = h.counts w in_w in
+      cells = length-set q.counts (slot q.places y.place) (count_in q y.place + 1) ∙ h.cells;
+      counts = λ w.
+          let a = h.counts w in
           let b = count_cons (λ x. (is_none x.struck && same_where w x.place) && kept_at keeps gs n x) y ts in
           let c = kept_cell (is_none y.struck) (same_where w y.place) (kept_at keeps gs n y) (ap is_none free) here in
-          let d = more_count q y.place w h.cells within in_w in
+          let d = more_count q y.place w h.cells cell in
           omega arith;
       total =
           let a = h.total in
@@ -142,15 +141,16 @@ lost_first q o b k l m e f h = h ∙ or_swap l (b.place.0 == q) ∙ rw (e, f) (a
 pub join_lost : (keeps : Scope → Bool) (gs : List Scope) (ts : List Task) (y : Task) (b : Blow) (q p : Sums) (n : ℕ) → kept_at keeps gs n y ≡ true → y.struck ≡ Some b → p ≡ with_lost p.lost q → ((i : ℕ) → i < 16 → has_bit p.lost.0 i ≡ (has_bit q.lost.0 i || (b.place.0 == i))) → SumsOf keeps gs ts q n → SumsOf keeps gs (y ∷ ts) p n
 join_lost keeps gs ts y b q p n here struck same bits h =
     let counts : p.counts ≡ q.counts = ap (λ (v : Sums). v.counts) same in
+    let places : p.places ≡ q.places = ap (λ (v : Sums). v.places) same in
     let total : p.total ≡ q.total = ap (λ (v : Sums). v.total) same in
     let orphans : p.orphans ≡ q.orphans = ap (λ (v : Sums). v.orphans) same in
     record {
-      cells = ap length counts ∙ h.cells;
-      counts = λ w in_w.
-          let a = h.counts w in_w in
+      cells = ap length counts ∙ h.cells ∙ ap table_size (sym places);
+      counts = λ w.
+          let a = h.counts w in
           let c = count_cons (λ x. (is_none x.struck && same_where w x.place) && kept_at keeps gs n x) y ts in
           let d = one_false _ (one_struck y.struck b (same_where w y.place) (kept_at keeps gs n y) struck) in
-          let e = ap (λ xs. slice_index_or xs (slot w) 0) counts in
+          let e : count_in p w ≡ count_in q w = ap (λ xs. slice_index_or xs (slot p.places w) 0) counts ∙ ap (λ (m : ℕ). slice_index_or q.counts (slot m w) 0) places in
           omega arith;
       total =
           let a = h.total in
@@ -166,7 +166,7 @@ pub sums_waits : (keeps : Scope → Bool) (gs : List Scope) (ts : List Task) (t 
 sums_waits keeps gs ts t b q n h =
     record {
       cells = h.cells;
-      counts = λ w in_w. h.counts w in_w ∙ sym (sum_change (λ x. cond ((is_none x.struck && same_where w x.place) && kept_at keeps gs n x) 1 0) (is_task t) (λ x. record x { waits = b }) ts (λ x. refl));
+      counts = λ w. h.counts w ∙ sym (sum_change (λ x. cond ((is_none x.struck && same_where w x.place) && kept_at keeps gs n x) 1 0) (is_task t) (λ x. record x { waits = b }) ts (λ x. refl));
       total = h.total ∙ sym (sum_change (λ x. cond (is_none x.struck && kept_at keeps gs n x) 1 0) (is_task t) (λ x. record x { waits = b }) ts (λ x. refl));
       orphans = h.orphans;
       lost = λ p low. h.lost p low ∙ any_counted (λ x. was_lost_at p x && kept_at keeps gs n x) ts ∙ ap (ltb 0) (sym (sum_change (λ x. cond (was_lost_at p x && kept_at keeps gs n x) 1 0) (is_task t) (λ x. record x { waits = b }) ts (λ x. refl))) ∙ sym (any_counted (λ x. was_lost_at p x && kept_at keeps gs n x) (change_first (is_task t) (λ x. record x { waits = b }) ts));
@@ -177,8 +177,8 @@ pub leave_other : (keeps : Scope → Bool) (gs : List Scope) (ts : List Task) (y
 leave_other keeps gs ts y q n out h =
     record {
       cells = h.cells;
-      counts = λ w in_w.
-          let a = h.counts w in_w in
+      counts = λ w.
+          let a = h.counts w in
           let b = count_cons (λ x. (is_none x.struck && same_where w x.place) && kept_at keeps gs n x) y ts in
           let c = one_false _ (and_right (is_none y.struck && same_where w y.place) (kept_at keeps gs n y) out) in
           omega arith;
@@ -192,26 +192,28 @@ leave_other keeps gs ts y q n out h =
     }
 
 -- who is counted here, is in the count
-pub counted : (keeps : Scope → Bool) (gs : List Scope) (ts : List Task) (y : Task) (q : Sums) (n : ℕ) → kept_at keeps gs n y ≡ true → y.struck ≡ None → where_in_range y.place → SumsOf keeps gs (y ∷ ts) q n → (1 ≤ count_in q (slot y.place)) × (1 ≤ q.total)
-counted keeps gs ts y q n here free within h =
-    let a = h.counts y.place within in
+pub counted : (keeps : Scope → Bool) (gs : List Scope) (ts : List Task) (y : Task) (q : Sums) (n : ℕ) → kept_at keeps gs n y ≡ true → y.struck ≡ None → SumsOf keeps gs (y ∷ ts) q n → MayLeave y.place q
+counted keeps gs ts y q n here free h =
+    let a = h.counts y.place in
     let b = count_cons (λ x. (is_none x.struck && same_where y.place x.place) && kept_at keeps gs n x) y ts in
     let c = kept_cell (is_none y.struck) (same_where y.place y.place) (kept_at keeps gs n y) (ap is_none free) here in
     let d = ap one (same_self y.place) in
     let e = h.total in
     let f = count_cons (λ x. is_none x.struck && kept_at keeps gs n x) y ts in
     let g = kept_one (is_none y.struck) (kept_at keeps gs n y) (ap is_none free) here in
-    (omega arith, omega arith)
+    let one_more : 1 ≤ count_in q y.place = omega arith in
+    record { cell = counted_cell q y.place h.cells one_more; count = one_more; total = omega arith }
 
-pub leave_here : (keeps : Scope → Bool) (gs : List Scope) (ts : List Task) (y : Task) (q : Sums) (n : ℕ) → kept_at keeps gs n y ≡ true → y.struck ≡ None → where_in_range y.place → SumsOf keeps gs (y ∷ ts) q n → SumsOf keeps gs ts (less (slot y.place) q) n
-leave_here keeps gs ts y q n here free within h =
+pub leave_here : (keeps : Scope → Bool) (gs : List Scope) (ts : List Task) (y : Task) (q : Sums) (n : ℕ) → kept_at keeps gs n y ≡ true → y.struck ≡ None → SumsOf keeps gs (y ∷ ts) q n → SumsOf keeps gs ts (less y.place q) n
+leave_here keeps gs ts y q n here free h =
+    let may : MayLeave y.place q = counted keeps gs ts y q n here free h in
     record {
-      cells = length-set q.counts (slot y.place) (count_in q (slot y.place) - 1) ∙ h.cells;
-      counts = λ w in_w.
-          let a = h.counts w in_w in
+      cells = length-set q.counts (slot q.places y.place) (count_in q y.place - 1) ∙ h.cells;
+      counts = λ w.
+          let a = h.counts w in
           let b = count_cons (λ x. (is_none x.struck && same_where w x.place) && kept_at keeps gs n x) y ts in
           let c = kept_cell (is_none y.struck) (same_where w y.place) (kept_at keeps gs n y) (ap is_none free) here in
-          let d = less_count q y.place w h.cells within in_w (counted keeps gs ts y q n here free within h).0 in
+          let d = less_count q y.place w h.cells may.cell may.count in
           omega arith;
       total =
           let a = h.total in
@@ -227,7 +229,7 @@ pub sums_same : (keeps : Scope → Bool) (gs : List Scope) (ts us : List Task) (
 sums_same keeps gs ts us q n same h =
     record {
       cells = h.cells;
-      counts = λ w in_w. h.counts w in_w ∙ same _;
+      counts = λ w. h.counts w ∙ same _;
       total = h.total ∙ same _;
       orphans = h.orphans;
       lost = λ p low. h.lost p low ∙ any_counted _ ts ∙ ap (ltb 0) (same _) ∙ sym (any_counted _ us);
@@ -235,8 +237,8 @@ sums_same keeps gs ts us q n same h =
 
 -- All records.
 
-pub both_map : (P Q : Record → Scope → Type 0) (f : Record → Record) (a : Option Record) (b : Option Scope) → ((r : Record) (g : Scope) → b ≡ Some g → P r g → Q (f r) g) → Both P a b → Both Q (option_map f a) b
-both_map P Q f (Some r) (Some g) k h = k r g refl h
+pub both_map : (P Q : Record → Scope → Type 0) (f : Record → Record) (a : Option Record) (b : Option Scope) → ((r : Record) (g : Scope) → a ≡ Some r → b ≡ Some g → P r g → Q (f r) g) → Both P a b → Both Q (option_map f a) b
+both_map P Q f (Some r) (Some g) k h = k r g refl refl h
 both_map P Q f (Some r) None k h = absurd h
 both_map P Q f None (Some g) k h = absurd h
 both_map P Q f None None k h = tt
@@ -251,15 +253,15 @@ pub number_is : (n : ℕ) (gs : List Scope) (g : Scope) → find (has_number n) 
 number_is n gs g e = eqb-true g.number.0 n (find-passes (has_number n) gs g e)
 
 -- the record of k changes by f, and the others stay
-pub all_change : (keeps : Scope → Bool) (gs : List Scope) (ts us : List Task) (f : Record → Record) (k : ℕ) (rs qs : List (Option (Box Record))) → ((r : Record) (g : Scope) → g.number.0 ≡ k → RecordOf keeps gs ts r g → RecordOf keeps gs us (f r) g) → ((r : Record) (g : Scope) → (g.number.0 ≡ k → ⊥) → RecordOf keeps gs ts r g → RecordOf keeps gs us r g) → Changed f k rs qs → AllFit keeps gs ts rs → AllFit keeps gs us qs
-all_change keeps gs ts us f k rs qs here other c h n =
+pub all_change : {size : ℕ} (keeps : Scope → Bool) (gs : List Scope) (ts us : List Task) (f : Record → Record) (k : ℕ) (rs qs : List (Option (Box Record))) → ((r : Record) (g : Scope) → record_at rs k ≡ Some r → g.number.0 ≡ k → RecordOf size keeps gs ts r g → RecordOf size keeps gs us (f r) g) → ((r : Record) (g : Scope) → (g.number.0 ≡ k → ⊥) → RecordOf size keeps gs ts r g → RecordOf size keeps gs us r g) → Changed f k rs qs → AllFit size keeps gs ts rs → AllFit size keeps gs us qs
+all_change {size = size} keeps gs ts us f k rs qs here other c h n =
     ⊎_elim
     (λ (e : n ≡ k).
-    subst (λ o. Both (RecordOf keeps gs us) o (find (has_number n) gs)) (sym (ap (record_at qs) e ∙ c.here ∙ ap (λ m. option_map f (record_at rs m)) (sym e)))
-    (both_map (RecordOf keeps gs ts) (RecordOf keeps gs us) f (record_at rs n) (find (has_number n) gs) (λ r g found. here r g (number_is n gs g found ∙ e)) (h n)))
+    subst (λ o. Both (RecordOf size keeps gs us) o (find (has_number n) gs)) (sym (ap (record_at qs) e ∙ c.here ∙ ap (λ m. option_map f (record_at rs m)) (sym e)))
+    (both_map (RecordOf size keeps gs ts) (RecordOf size keeps gs us) f (record_at rs n) (find (has_number n) gs) (λ r g kept found. here r g (ap (record_at rs) (sym e) ∙ kept) (number_is n gs g found ∙ e)) (h n)))
     (λ (e : n ≡ k → ⊥).
-    subst (λ o. Both (RecordOf keeps gs us) o (find (has_number n) gs)) (sym (c.others n e))
-    (both_more (RecordOf keeps gs ts) (RecordOf keeps gs us) (record_at rs n) (find (has_number n) gs) (λ r g found. other r g (λ q. e (sym (number_is n gs g found) ∙ q))) (h n)))
+    subst (λ o. Both (RecordOf size keeps gs us) o (find (has_number n) gs)) (sym (c.others n e))
+    (both_more (RecordOf size keeps gs ts) (RecordOf size keeps gs us) (record_at rs n) (find (has_number n) gs) (λ r g found. other r g (λ q. e (sym (number_is n gs g found) ∙ q))) (h n)))
     (cases_eq n k)
 
 pub both_pairs : (P Q : Record → Scope → Type 0) (R : Record → Record → Type 0) (a c : Option Record) (b : Option Scope) → ((r q : Record) (g : Scope) → b ≡ Some g → R r q → P r g → Q q g) → Pairs R a c → Both P a b → Both Q c b
@@ -271,23 +273,23 @@ both_pairs P Q R None None (Some g) k s h = absurd h
 both_pairs P Q R None None None k s h = tt
 
 -- the record of k changes as R says, and the others stay
-pub all_by : (keeps fresh : Scope → Bool) (gs : List Scope) (ts us : List Task) (R : Record → Record → Type 0) (k : ℕ) (rs qs : List (Option (Box Record))) → ((r q : Record) (g : Scope) → find (has_number k) gs ≡ Some g → R r q → RecordOf keeps gs ts r g → RecordOf fresh gs us q g) → ((r : Record) (n : ℕ) (g : Scope) → find (has_number n) gs ≡ Some g → (n ≡ k → ⊥) → RecordOf keeps gs ts r g → RecordOf fresh gs us r g) → ChangedBy R k rs qs → AllFit keeps gs ts rs → AllFit fresh gs us qs
-all_by keeps fresh gs ts us R k rs qs here other c h n =
+pub all_by : {size : ℕ} (keeps fresh : Scope → Bool) (gs : List Scope) (ts us : List Task) (R : Record → Record → Type 0) (k : ℕ) (rs qs : List (Option (Box Record))) → ((r q : Record) (g : Scope) → find (has_number k) gs ≡ Some g → R r q → RecordOf size keeps gs ts r g → RecordOf size fresh gs us q g) → ((r : Record) (n : ℕ) (g : Scope) → find (has_number n) gs ≡ Some g → (n ≡ k → ⊥) → RecordOf size keeps gs ts r g → RecordOf size fresh gs us r g) → ChangedBy R k rs qs → AllFit size keeps gs ts rs → AllFit size fresh gs us qs
+all_by {size = size} keeps fresh gs ts us R k rs qs here other c h n =
     ⊎_elim
     (λ (e : n ≡ k).
-    subst (λ (m : ℕ). Both (RecordOf fresh gs us) (record_at qs m) (find (has_number m) gs)) (sym e)
-    (both_pairs (RecordOf keeps gs ts) (RecordOf fresh gs us) R (record_at rs k) (record_at qs k) (find (has_number k) gs) here c.here (h k)))
+    subst (λ (m : ℕ). Both (RecordOf size fresh gs us) (record_at qs m) (find (has_number m) gs)) (sym e)
+    (both_pairs (RecordOf size keeps gs ts) (RecordOf size fresh gs us) R (record_at rs k) (record_at qs k) (find (has_number k) gs) here c.here (h k)))
     (λ (e : n ≡ k → ⊥).
-    subst (λ o. Both (RecordOf fresh gs us) o (find (has_number n) gs)) (sym (c.others n e))
-    (both_more (RecordOf keeps gs ts) (RecordOf fresh gs us) (record_at rs n) (find (has_number n) gs) (λ r g found. other r n g found e) (h n)))
+    subst (λ o. Both (RecordOf size fresh gs us) o (find (has_number n) gs)) (sym (c.others n e))
+    (both_more (RecordOf size keeps gs ts) (RecordOf size fresh gs us) (record_at rs n) (find (has_number n) gs) (λ r g found. other r n g found e) (h n)))
     (cases_eq n k)
 
-pub all_waits : (keeps : Scope → Bool) (gs : List Scope) (ts : List Task) (t : TaskId) (b : Bool) (rs : List (Option (Box Record))) → AllFit keeps gs ts rs → AllFit keeps gs (change_first (is_task t) (λ x. record x { waits = b }) ts) rs
-all_waits keeps gs ts t b rs h n =
-    both_more (RecordOf keeps gs ts) (RecordOf keeps gs (change_first (is_task t) (λ x. record x { waits = b }) ts)) (record_at rs n) (find (has_number n) gs) (λ r g found a. record { shape = a.shape; sums = sums_waits keeps gs ts t b r.sums g.number.0 a.sums; faults = a.faults }) (h n)
+pub all_waits : (size : ℕ) (keeps : Scope → Bool) (gs : List Scope) (ts : List Task) (t : TaskId) (b : Bool) (rs : List (Option (Box Record))) → AllFit size keeps gs ts rs → AllFit size keeps gs (change_first (is_task t) (λ x. record x { waits = b }) ts) rs
+all_waits size keeps gs ts t b rs h n =
+    both_more (RecordOf size keeps gs ts) (RecordOf size keeps gs (change_first (is_task t) (λ x. record x { waits = b }) ts)) (record_at rs n) (find (has_number n) gs) (λ r g found a. record { shape = a.shape; sums = sums_waits keeps gs ts t b r.sums g.number.0 a.sums; faults = a.faults; places = a.places }) (h n)
 
-pub all_lost : (keeps : Scope → Bool) (gs : List Scope) (ts : List Task) (y : Task) (b : Blow) (k : ℕ) (rs qs : List (Option (Box Record))) → keeper keeps gs (Some y.under) ≡ Some k → y.struck ≡ Some b → ChangedBy (Loses b.place) k rs qs → AllFit keeps gs ts rs → AllFit keeps gs (y ∷ ts) qs
-all_lost keeps gs ts y b k rs qs at struck c h =
+pub all_lost : (size : ℕ) (keeps : Scope → Bool) (gs : List Scope) (ts : List Task) (y : Task) (b : Blow) (k : ℕ) (rs qs : List (Option (Box Record))) → keeper keeps gs (Some y.under) ≡ Some k → y.struck ≡ Some b → ChangedBy (Loses b.place) k rs qs → AllFit size keeps gs ts rs → AllFit size keeps gs (y ∷ ts) qs
+all_lost size keeps gs ts y b k rs qs at struck c h =
     all_by keeps keeps gs ts (y ∷ ts) (Loses b.place) k rs qs
     (λ r q g found l a.
     let num : g.number.0 ≡ k = number_is k gs g found in
@@ -296,35 +298,36 @@ all_lost keeps gs ts y b k rs qs at struck c h =
       shape = subst (λ (v : Record). ShapeOf gs v g) (sym is) (record { kind = a.shape.kind; home = a.shape.home; parent = a.shape.parent; finish = a.shape.finish });
       sums = join_lost keeps gs ts y b r.sums q.sums g.number.0 (ap (is_number g.number.0) at ∙ eq-eqb k g.number.0 (sym num)) struck (ap (λ (v : Record). v.sums) is) l.1 a.sums;
       faults = λ e. (ap (λ (v : Record). v.body) is ∙ (a.faults e).0, ap (λ (v : Record). v.ends) is ∙ (a.faults e).1);
+      places = λ e. ap (λ (v : Record). v.sums.places) is ∙ a.places e;
     })
-    (λ r n g found e a. record { shape = a.shape; sums = join_other keeps gs ts y r.sums g.number.0 (ap (is_number g.number.0) at ∙ ne_eqb k g.number.0 (λ v. e (sym (number_is n gs g found) ∙ sym v))) a.sums; faults = a.faults })
+    (λ r n g found e a. record { shape = a.shape; sums = join_other keeps gs ts y r.sums g.number.0 (ap (is_number g.number.0) at ∙ ne_eqb k g.number.0 (λ v. e (sym (number_is n gs g found) ∙ sym v))) a.sums; faults = a.faults; places = a.places })
     c h
 
 -- the sums of one record change
-pub all_sums : (keeps : Scope → Bool) (gs : List Scope) (ts us : List Task) (f : Sums → Sums) (k : ℕ) (rs qs : List (Option (Box Record))) → ((q : Sums) → SumsOf keeps gs ts q k → SumsOf keeps gs us (f q) k) → ((q : Sums) (n : ℕ) → (n ≡ k → ⊥) → SumsOf keeps gs ts q n → SumsOf keeps gs us q n) → Changed (in_sums f) k rs qs → AllFit keeps gs ts rs → AllFit keeps gs us qs
-all_sums keeps gs ts us f k rs qs here other c h =
+pub all_sums : (size : ℕ) (keeps : Scope → Bool) (gs : List Scope) (ts us : List Task) (f : Sums → Sums) (k : ℕ) (rs qs : List (Option (Box Record))) → ((q : Sums) → (f q).places ≡ q.places) → ((r : Record) → record_at rs k ≡ Some r → SumsOf keeps gs ts r.sums k → SumsOf keeps gs us (f r.sums) k) → ((q : Sums) (n : ℕ) → (n ≡ k → ⊥) → SumsOf keeps gs ts q n → SumsOf keeps gs us q n) → Changed (in_sums f) k rs qs → AllFit size keeps gs ts rs → AllFit size keeps gs us qs
+all_sums size keeps gs ts us f k rs qs same here other c h =
     all_change keeps gs ts us (in_sums f) k rs qs
-    (λ r g e a. record { shape = record { kind = a.shape.kind; home = a.shape.home; parent = a.shape.parent; finish = a.shape.finish }; sums = subst (SumsOf keeps gs us (f r.sums)) (sym e) (here r.sums (subst (SumsOf keeps gs ts r.sums) e a.sums)); faults = a.faults })
-    (λ r g e a. record { shape = a.shape; sums = other r.sums g.number.0 e a.sums; faults = a.faults })
+    (λ r g kept e a. record { shape = record { kind = a.shape.kind; home = a.shape.home; parent = a.shape.parent; finish = a.shape.finish }; sums = subst (SumsOf keeps gs us (f r.sums)) (sym e) (here r kept (subst (SumsOf keeps gs ts r.sums) e a.sums)); faults = a.faults; places = λ v. same r.sums ∙ a.places v })
+    (λ r g e a. record { shape = a.shape; sums = other r.sums g.number.0 e a.sums; faults = a.faults; places = a.places })
     c h
 
-pub all_join : (keeps : Scope → Bool) (gs : List Scope) (ts : List Task) (y : Task) (k : ℕ) (rs qs : List (Option (Box Record))) → keeper keeps gs (Some y.under) ≡ Some k → y.struck ≡ None → where_in_range y.place → Changed (in_sums (more (slot y.place))) k rs qs → AllFit keeps gs ts rs → AllFit keeps gs (y ∷ ts) qs
-all_join keeps gs ts y k rs qs at free within c h =
-    all_sums keeps gs ts (y ∷ ts) (more (slot y.place)) k rs qs
-    (λ q a. join_here keeps gs ts y q k (ap (is_number k) at ∙ eq-eqb k k refl) free within a)
+pub all_join : (size : ℕ) (keeps : Scope → Bool) (gs : List Scope) (ts : List Task) (y : Task) (k : ℕ) (rs qs : List (Option (Box Record))) → keeper keeps gs (Some y.under) ≡ Some k → y.struck ≡ None → IfSome (record_at rs k) (λ r. HasCell y.place r.sums) → Changed (in_sums (more y.place)) k rs qs → AllFit size keeps gs ts rs → AllFit size keeps gs (y ∷ ts) qs
+all_join size keeps gs ts y k rs qs at free cell c h =
+    all_sums _ keeps gs ts (y ∷ ts) (more y.place) k rs qs (λ q. refl)
+    (λ r kept a. join_here keeps gs ts y r.sums k (ap (is_number k) at ∙ eq-eqb k k refl) free (subst (λ o. IfSome o (λ r. HasCell y.place r.sums)) kept cell) a)
     (λ q n e a. join_other keeps gs ts y q n (ap (is_number n) at ∙ ne_eqb k n (λ v. e (sym v))) a)
     c h
 
-pub all_leave : (keeps : Scope → Bool) (gs : List Scope) (ts : List Task) (y : Task) (k : ℕ) (rs qs : List (Option (Box Record))) → keeper keeps gs (Some y.under) ≡ Some k → y.struck ≡ None → where_in_range y.place → Changed (in_sums (less (slot y.place))) k rs qs → AllFit keeps gs (y ∷ ts) rs → AllFit keeps gs ts qs
-all_leave keeps gs ts y k rs qs at free within c h =
-    all_sums keeps gs (y ∷ ts) ts (less (slot y.place)) k rs qs
-    (λ q a. leave_here keeps gs ts y q k (ap (is_number k) at ∙ eq-eqb k k refl) free within a)
+pub all_leave : (size : ℕ) (keeps : Scope → Bool) (gs : List Scope) (ts : List Task) (y : Task) (k : ℕ) (rs qs : List (Option (Box Record))) → keeper keeps gs (Some y.under) ≡ Some k → y.struck ≡ None → Changed (in_sums (less y.place)) k rs qs → AllFit size keeps gs (y ∷ ts) rs → AllFit size keeps gs ts qs
+all_leave size keeps gs ts y k rs qs at free c h =
+    all_sums _ keeps gs (y ∷ ts) ts (less y.place) k rs qs (λ q. refl)
+    (λ r kept a. leave_here keeps gs ts y r.sums k (ap (is_number k) at ∙ eq-eqb k k refl) free a)
     (λ q n e a. leave_other keeps gs ts y q n (ap (is_number n) at ∙ ne_eqb k n (λ v. e (sym v))) a)
     c h
 
-pub all_same : (keeps : Scope → Bool) (gs : List Scope) (ts us : List Task) (rs : List (Option (Box Record))) → ((p : Task → Bool) → count_by p ts ≡ count_by p us) → AllFit keeps gs ts rs → AllFit keeps gs us rs
-all_same keeps gs ts us rs same h n =
-    both_more (RecordOf keeps gs ts) (RecordOf keeps gs us) (record_at rs n) (find (has_number n) gs) (λ r g found a. record { shape = a.shape; sums = sums_same keeps gs ts us r.sums g.number.0 same a.sums; faults = a.faults }) (h n)
+pub all_same : (size : ℕ) (keeps : Scope → Bool) (gs : List Scope) (ts us : List Task) (rs : List (Option (Box Record))) → ((p : Task → Bool) → count_by p ts ≡ count_by p us) → AllFit size keeps gs ts rs → AllFit size keeps gs us rs
+all_same size keeps gs ts us rs same h n =
+    both_more (RecordOf size keeps gs ts) (RecordOf size keeps gs us) (record_at rs n) (find (has_number n) gs) (λ r g found a. record { shape = a.shape; sums = sums_same keeps gs ts us r.sums g.number.0 same a.sums; faults = a.faults; places = a.places }) (h n)
 
 -- The tasks but one.
 

@@ -1,4 +1,5 @@
 pub mod Counting
+pub mod Slots
 pub mod Below
 pub mod HandOver
 pub mod Telling

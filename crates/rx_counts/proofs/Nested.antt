@@ -1,8 +1,7 @@
 -- Worked runs: the numbers that the tree gives, and the conditions of the calls.
-use Rattle.std.specs.Prelude.{◌≡◌, ℕ, ◌+◌, ◌<◌, false, [], Some, None, All, Result, Ok, Err, OnOk, is_ok, replicate, slice_set, refl}
-use Rattle.std.proofs.Common.{sym, ap, ◌∙◌, subst, lit<}
+use Rattle.std.specs.Prelude.{◌≡◌, ℕ, ◌<◌, ◌+◌, false, [], Some, None, Result, Ok, Err, OnOk, is_ok, replicate, refl}
+use Rattle.std.proofs.Common.{◌∙◌, subst, lit<}
 use Rattle.std.proofs.lemmas.List.Elements.{All-set}
-use Rattle.rx_base.specs.declared.ids.TaskId.{TaskId}
 use Rattle.rx_base.specs.declared.ids.ScopeId.{ScopeId}
 use Rattle.rx_rules.specs.declared.tasks.Where.TheVariants.{At, Travel}
 use Rattle.rx_rules.specs.declared.entries.Act.TheVariants.{Open, At as Calls, Spawn, Arrive, End}
@@ -32,17 +31,17 @@ started_nest T n c b S d =
 
 -- the conditions of the calls of the worked run
 
-pub can_first : CanNest (opening 4) 0
-can_first =
+pub can_first : (n : ℕ) → 1 < n → CanNest (opening n) 0
+can_first n two =
     record {
       next_task = refl;
       next_scope = refl;
-      may_open = asks (opening 4) (caller 0 0 (At (place 0))) IsMoving _ refl refl refl refl (record { place = _; is_at = refl; moves = refl }) (lit< tt) (lit< tt);
+      may_open = asks (opening n) (caller 0 0 (At (place 0))) IsMoving _ refl refl refl refl (record { place = _; is_at = refl; moves = refl }) (lit< tt) (lit< tt);
       starter = _;
       stands = refl;
       under = refl;
-      may_start = record { asks = asks (opens (opening 4) 0) (caller 0 1 (At (place 0))) IsMoving _ refl refl refl refl (record { place = _; is_at = refl; moves = refl }) (lit< tt) (lit< tt); target = lit< tt };
-      may_wait = asks (starts (opening 4) 0) (caller 0 1 (At (place 0))) (HasFinish (starts (opening 4) 0) (caller 0 1 (At (place 0)))) _ refl refl refl refl (record { moving = record { place = _; is_at = refl; moves = refl }; scope = _; own = refl; finish = refl }) (lit< tt) (lit< tt);
+      may_start = record { asks = asks (opens (opening n) 0) (caller 0 1 (At (place 0))) IsMoving _ refl refl refl refl (record { place = _; is_at = refl; moves = refl }) (lit< tt) (lit< tt); target = two };
+      may_wait = asks (starts (opening n) 0) (caller 0 1 (At (place 0))) (HasFinish (starts (opening n) 0) (caller 0 1 (At (place 0)))) _ refl refl refl refl (record { moving = record { place = _; is_at = refl; moves = refl }; scope = _; own = refl; finish = refl }) (lit< tt) (lit< tt);
     }
 
 pub can_second : CanNest (landed (opening 4) 0) 1
@@ -73,8 +72,8 @@ can_third =
       may_wait = asks (starts T 2) (caller 2 3 (At (place 2))) (HasFinish (starts T 2) (caller 2 3 (At (place 2)))) _ refl refl refl refl (record { moving = record { place = _; is_at = refl; moves = refl }; scope = _; own = refl; finish = refl }) (lit< tt) (lit< tt);
     }
 
-pub first_lands : MayAskArrive (nested (opening 4) 0) (caller 1 1 (Travel (place 0) (place 1)))
-first_lands = asks (nested (opening 4) 0) (caller 1 1 (Travel (place 0) (place 1))) Travels _ refl refl refl refl (record { travels = refl }) (lit< tt) (lit< tt)
+pub first_lands : (n : ℕ) → MayAskArrive (nested (opening n) 0) (caller 1 1 (Travel (place 0) (place 1)))
+first_lands n = asks (nested (opening n) 0) (caller 1 1 (Travel (place 0) (place 1))) Travels _ refl refl refl refl (record { travels = refl }) (lit< tt) (lit< tt)
 
 pub second_lands : MayAskArrive (nested (landed (opening 4) 0) 1) (caller 2 2 (Travel (place 1) (place 2)))
 second_lands = asks (nested (landed (opening 4) 0) 1) (caller 2 2 (Travel (place 1) (place 2))) Travels _ refl refl refl refl (record { travels = refl }) (lit< tt) (lit< tt)
@@ -126,25 +125,25 @@ arrived T who (Err (NotYet p)) S d = tt
 
 -- the first task comes and ends
 
-pub first_ends : MayAskEnd (landed (opening 4) 0) (caller 1 1 (At (place 1)))
-first_ends = asks (landed (opening 4) 0) (caller 1 1 (At (place 1))) (IsBare (landed (opening 4) 0) (caller 1 1 (At (place 1)))) _ refl refl refl refl (record { moving = record { place = _; is_at = refl; moves = refl }; none_open = refl }) (lit< tt) (lit< tt)
+pub first_ends : (n : ℕ) → MayAskEnd (landed (opening n) 0) (caller 1 1 (At (place 1)))
+first_ends n = asks (landed (opening n) 0) (caller 1 1 (At (place 1))) (IsBare (landed (opening n) 0) (caller 1 1 (At (place 1)))) _ refl refl refl refl (record { moving = record { place = _; is_at = refl; moves = refl }; none_open = refl }) (lit< tt) (lit< tt)
 
-abbrev pub first_ended : Tree
-first_ended = made_act (landed (opening 4) 0) (task 1) (End [])
+abbrev pub first_ended : ℕ → Tree
+first_ended n = made_act (landed (opening n) 0) (task 1) (End [])
 
-pub main_waits : MayAskRelease first_ended (caller 0 1 (At (place 0)))
-main_waits = asks first_ended (caller 0 1 (At (place 0))) (WaitsInside first_ended (caller 0 1 (At (place 0)))) _ refl refl refl refl (record { waits = refl; scope = _; own = refl }) (lit< tt) (lit< tt)
+pub main_waits : (n : ℕ) → MayAskRelease (first_ended n) (caller 0 1 (At (place 0)))
+main_waits n = asks (first_ended n) (caller 0 1 (At (place 0))) (WaitsInside (first_ended n) (caller 0 1 (At (place 0)))) _ refl refl refl refl (record { waits = refl; scope = _; own = refl }) (lit< tt) (lit< tt)
 
 -- or is lost on its way
 
-pub waits_early : MayAskRelease (nested (opening 4) 0) (caller 0 1 (At (place 0)))
-waits_early = asks (nested (opening 4) 0) (caller 0 1 (At (place 0))) (WaitsInside (nested (opening 4) 0) (caller 0 1 (At (place 0)))) _ refl refl refl refl (record { waits = refl; scope = _; own = refl }) (lit< tt) (lit< tt)
+pub waits_early : (n : ℕ) → MayAskRelease (nested (opening n) 0) (caller 0 1 (At (place 0)))
+waits_early n = asks (nested (opening n) 0) (caller 0 1 (At (place 0))) (WaitsInside (nested (opening n) 0) (caller 0 1 (At (place 0)))) _ refl refl refl refl (record { waits = refl; scope = _; own = refl }) (lit< tt) (lit< tt)
 
-pub target_dies : MayStrike (nested (opening 4) 0) (place 1) 3
-target_dies = record { dies = record { is_place = lit< tt; not_zero = λ e. cc; lives = refl }; later = none_dead 3 16 }
+pub target_dies : (n : ℕ) → 1 < n → MayStrike (nested (opening n) 0) (place 1) 3
+target_dies n two = record { dies = record { is_place = two; not_zero = λ e. cc; lives = refl }; later = none_dead 3 16 }
 
-abbrev pub target_lost : Tree
-target_lost = strike (record { place = place 1; entry = 3 }) (nested (opening 4) 0)
+abbrev pub target_lost : ℕ → Tree
+target_lost n = strike (record { place = place 1; entry = 3 }) (nested (opening n) 0)
 
 -- a release that is refused leaves the ledger as it was
 pub still_stands : (T : Tree) (who : Caller) (r : Result Outcome LedgerFault) (S : Tree → Type 0) → ReleaseReply T who r S → is_ok r ≡ false → S T

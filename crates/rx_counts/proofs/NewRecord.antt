@@ -1,16 +1,17 @@
 -- A new scope has a record of zeros, and the other records stay.
-use Rattle.std.specs.Prelude.{◌≡◌, ℕ, ◌<◌, Bool, true, false, cond, ◌&&◌, ◌==◌, not, List, ◌∷◌, Option, Some, is_none, slice_index_or, length, replicate, sum_by}
+use Rattle.std.specs.Prelude.{◌≡◌, ℕ, ◌<◌, ◌≤◌, Bool, true, false, cond, ◌&&◌, ◌==◌, not, List, ◌∷◌, Option, Some, is_none, slice_index_or, length, replicate, sum_by}
 use Rattle.std.specs.List.{find}
 use Rattle.std.specs.Global.{Box}
 use Rattle.std.proofs.Common.{sym, ap, ◌∙◌, subst, arith, ⊎_elim}
-use Rattle.std.proofs.lemmas.Bool.{eq-eqb, ne_eqb, and_left, and_right, cases_eq, false_from_ne_true}
-use Rattle.std.proofs.lemmas.List.{get_or-replicate, length-replicate}
+use Rattle.std.proofs.lemmas.Bool.{eq-eqb, ne_eqb, and_left, and_right, cases_eq, cases_lt, false_from_ne_true}
+use Rattle.std.proofs.lemmas.List.{get_or-replicate, get_or_past, length-replicate}
 use Rattle.std.proofs.lemmas.List.Sums.{sum_by-cons}
 use Rattle.rx_base.proofs.Bits.{no_bit}
 use Rattle.rx_sound.proofs.Staying.{any_same}
 use Rattle.rx_sound.proofs.Below.{found_low}
 use Rattle.rx_sound.proofs.Enabling.{any_none}
 use Rattle.rx_base.specs.declared.ids.ScopeId.{ScopeId}
+use Rattle.rx_rules.specs.declared.tasks.Where.{Where}
 use Rattle.rx_rules.specs.declared.tasks.Task.{Task}
 use Rattle.rx_rules.specs.declared.tasks.Scope.{Scope}
 use Rattle.rx_rules.specs.Entries.{was_lost_at}
@@ -22,24 +23,18 @@ use Rattle.rx_counts.specs.declared.record.Sums.{Sums}
 use Rattle.rx_counts.specs.declared.record.Record.{Record}
 use Rattle.rx_counts.specs.Keeping.{keeper, finishes, is_number, kept_at, same_where, is_orphan, held}
 use Rattle.rx_rules.specs.Counts.{has_number}
-use Rattle.rx_counts.specs.Stands.{slot, ShapeOf, SumsOf, RecordOf, Both, AllFit, record_at, Pushed}
+use Rattle.rx_counts.specs.Stands.{table_size, slot, count_in, ShapeOf, SumsOf, RecordOf, Both, AllFit, record_at, Pushed}
 use Rattle.rx_counts.proofs.Counting.{count_same, count_none, sum_same, sum_none}
 use Rattle.rx_counts.proofs.HandOver.{keeper_older}
 use Rattle.rx_counts.proofs.Walks.{keeper_skips}
-use Rattle.rx_counts.proofs.Joining.{slot_below, both_more}
+use Rattle.rx_counts.specs.Inside.Opening.{IsZero}
+use Rattle.rx_counts.proofs.Joining.{both_more}
 
 -- no task is counted at a scope that is newer than all
 none_new : (keeps : Scope → Bool) (g : Scope) (gs : List Scope) (u : ScopeId) → Falls g.number.0 gs → u.0 < g.number.0 → is_number g.number.0 (keeper keeps (g ∷ gs) (Some u)) ≡ false
 none_new keeps g gs u f low =
     ap (is_number g.number.0) (keeper_skips keeps g gs u low)
     ∙ false_from_ne_true (is_number g.number.0 (keeper keeps gs (Some u))) (λ e. let bad : g.number.0 < g.number.0 = keeper_older keeps g.number.0 g.number.0 gs (Some u) f e in absurd (omega arith))
-
--- sums of nothing
-pub record IsZero (q : Sums) : Type 0 where
-  pub counts : q.counts ≡ replicate 272 0
-  pub total : q.total ≡ 0
-  pub orphans : q.orphans ≡ 0
-  pub lost : q.lost.0 ≡ 0
 
 -- the head keeps counts, so it is no orphan
 head_held : (w : Scope → ℕ) (keeps : Scope → Bool) (g : Scope) (gs : List Scope) (n : ℕ) → keeps g ≡ true → held w keeps (g ∷ gs) n ≡ sum_by (λ k. cond (is_orphan keeps (g ∷ gs) n k) (w k) 0) gs
@@ -60,12 +55,23 @@ held_new w keeps g gs f k =
     ∙ sum_none (λ k. cond (is_orphan keeps (g ∷ gs) g.number.0 k) (w k) 0) gs
     (each_more (λ k. k.number.0 < g.number.0) _ (λ (x : Scope) low. ap (λ b. cond b (w x) 0) (and_right (not (keeps x)) (is_number g.number.0 (keeper keeps (g ∷ gs) (Some x.number))) (none_new keeps g gs x.number f low))) gs (each_below g.number.0 gs f))
 
-pub sums_fresh : (keeps : Scope → Bool) (g : Scope) (gs : List Scope) (ts : List Task) (q : Sums) → Falls g.number.0 gs → Each (λ x. x.under.0 < g.number.0) ts → keeps g ≡ true → IsZero q → SumsOf keeps (g ∷ gs) ts q g.number.0
-sums_fresh keeps g gs ts q f low k h =
+-- each count is 0
+pub zeros_at : (n i : ℕ) → ◌≡◌ {A = ℕ} (slice_index_or (replicate n 0) i 0) 0
+zeros_at n i =
+    ⊎_elim
+    (λ (low : i < n). get_or-replicate n i 0 0 low)
+    (λ (high : n ≤ i). get_or_past (replicate n 0) i 0 (subst (λ (m : ℕ). m ≤ i) (sym (length-replicate {A = ℕ} n 0)) high))
+    (cases_lt i n)
+
+pub zero_count : (size : ℕ) (q : Sums) (w : Where) → IsZero size q → count_in q w ≡ 0
+zero_count size q w z = ap (λ xs. slice_index_or xs (slot q.places w) 0) z.counts ∙ zeros_at (table_size size) (slot q.places w)
+
+pub sums_fresh : (keeps : Scope → Bool) (g : Scope) (gs : List Scope) (ts : List Task) (q : Sums) → Falls g.number.0 gs → Each (λ x. x.under.0 < g.number.0) ts → keeps g ≡ true → (size : ℕ) → IsZero size q → SumsOf keeps (g ∷ gs) ts q g.number.0
+sums_fresh keeps g gs ts q f low k size h =
     record {
-      cells = ap length h.counts ∙ length-replicate {A = ℕ} 272 0;
-      counts = λ w in_w.
-          ap (λ xs. slice_index_or xs (slot w) 0) h.counts ∙ get_or-replicate 272 (slot w) 0 0 (slot_below w in_w)
+      cells = ap length h.counts ∙ length-replicate {A = ℕ} (table_size size) 0 ∙ ap table_size (sym h.places);
+      counts = λ w.
+          zero_count size q w h
           ∙ sym (count_none (λ x. (is_none x.struck && same_where w x.place) && kept_at keeps (g ∷ gs) g.number.0 x) ts
           (each_more (λ x. x.under.0 < g.number.0) _ (λ (x : Task) l. and_right (is_none x.struck && same_where w x.place) (kept_at keeps (g ∷ gs) g.number.0 x) (none_new keeps g gs x.under f l)) ts low));
       total =
@@ -83,7 +89,7 @@ pub sums_further : (keeps : Scope → Bool) (g : Scope) (gs : List Scope) (ts : 
 sums_further keeps g gs ts q n f low k a =
     record {
       cells = a.cells;
-      counts = λ w in_w. a.counts w in_w ∙ sym (count_same (λ x. (is_none x.struck && same_where w x.place) && kept_at keeps (g ∷ gs) n x) (λ x. (is_none x.struck && same_where w x.place) && kept_at keeps gs n x) ts
+      counts = λ w. a.counts w ∙ sym (count_same (λ x. (is_none x.struck && same_where w x.place) && kept_at keeps (g ∷ gs) n x) (λ x. (is_none x.struck && same_where w x.place) && kept_at keeps gs n x) ts
           (each_more (λ x. x.under.0 < g.number.0) _ (λ (x : Task) l. ap (λ o. (is_none x.struck && same_where w x.place) && is_number n o) (keeper_skips keeps g gs x.under l)) ts low));
       total = a.total ∙ sym (count_same (λ x. is_none x.struck && kept_at keeps (g ∷ gs) n x) (λ x. is_none x.struck && kept_at keeps gs n x) ts
           (each_more (λ x. x.under.0 < g.number.0) _ (λ (x : Task) l. ap (λ o. is_none x.struck && is_number n o) (keeper_skips keeps g gs x.under l)) ts low));
@@ -96,17 +102,17 @@ shape_further : (g : Scope) (gs : List Scope) (r : Record) (k : Scope) → k.num
 shape_further g gs r k low a = record { kind = a.kind; home = a.home; parent = a.parent; finish = keeper_skips finishes g gs k.number low ∙ a.finish }
 
 -- the records with the new one at their end; the tasks may become more
-pub all_opened : (keeps : Scope → Bool) (g : Scope) (gs : List Scope) (ts us : List Task) (rs qs : List (Option (Box Record))) (r : Record) → length rs ≡ g.number.0 → Falls g.number.0 gs → ((q : Sums) (n : ℕ) → n < g.number.0 → SumsOf keeps gs ts q n → SumsOf keeps (g ∷ gs) us q n) → Pushed r rs qs → RecordOf keeps (g ∷ gs) us r g → AllFit keeps gs ts rs → AllFit keeps (g ∷ gs) us qs
-all_opened keeps g gs ts us rs qs r len f old p new h n =
+pub all_opened : {size : ℕ} (keeps : Scope → Bool) (g : Scope) (gs : List Scope) (ts us : List Task) (rs qs : List (Option (Box Record))) (r : Record) → length rs ≡ g.number.0 → Falls g.number.0 gs → ((q : Sums) (n : ℕ) → n < g.number.0 → SumsOf keeps gs ts q n → SumsOf keeps (g ∷ gs) us q n) → Pushed r rs qs → RecordOf size keeps (g ∷ gs) us r g → AllFit size keeps gs ts rs → AllFit size keeps (g ∷ gs) us qs
+all_opened {size = size} keeps g gs ts us rs qs r len f old p new h n =
     ⊎_elim
     (λ (e : n ≡ g.number.0).
     let at : record_at qs n ≡ Some r = ap (record_at qs) (e ∙ sym len) ∙ p.here in
     let mine : g.number.0 == n ≡ true = eq-eqb g.number.0 n (sym e) in
-    subst (λ o. Both (RecordOf keeps (g ∷ gs) us) o (find (has_number n) (g ∷ gs))) (sym at) (rw mine new))
+    subst (λ o. Both (RecordOf size keeps (g ∷ gs) us) o (find (has_number n) (g ∷ gs))) (sym at) (rw mine new))
     (λ (e : n ≡ g.number.0 → ⊥).
     let other : g.number.0 == n ≡ false = ne_eqb g.number.0 n (λ q. e (sym q)) in
-    subst (λ o. Both (RecordOf keeps (g ∷ gs) us) o (find (has_number n) (g ∷ gs))) (sym (p.others n (λ q. e (q ∙ len))))
+    subst (λ o. Both (RecordOf size keeps (g ∷ gs) us) o (find (has_number n) (g ∷ gs))) (sym (p.others n (λ q. e (q ∙ len))))
     (rw other
-    (both_more (RecordOf keeps gs ts) (RecordOf keeps (g ∷ gs) us) (record_at rs n) (find (has_number n) gs)
-    (λ v j found a. let low : j.number.0 < g.number.0 = found_low (has_number n) g.number.0 gs j f found in record { shape = shape_further g gs v j low a.shape; sums = old v.sums j.number.0 low a.sums; faults = a.faults }) (h n))))
+    (both_more (RecordOf size keeps gs ts) (RecordOf size keeps (g ∷ gs) us) (record_at rs n) (find (has_number n) gs)
+    (λ v j found a. let low : j.number.0 < g.number.0 = found_low (has_number n) g.number.0 gs j f found in record { shape = shape_further g gs v j low a.shape; sums = old v.sums j.number.0 low a.sums; faults = a.faults; places = a.places }) (h n))))
     (cases_eq n g.number.0)

@@ -34,7 +34,7 @@ released T who (Ok o) m l st may f h =
                   next_task = fit.next_task;
                   next_scope = fit.next_scope;
                   numbers = fit.numbers;
-                  scopes = all_waits (stands_home T.dead) (without T who.inner).scopes (without T who.inner).tasks who.task false m.scopes.items fit.scopes;
+                  scopes = all_waits _ (stands_home T.dead) (without T who.inner).scopes (without T who.inner).tasks who.task false m.scopes.items fit.scopes;
                 };
           };
     }

@@ -3,7 +3,7 @@ use Rattle.std.specs.Prelude.{◌≡◌, ℕ, ◌<◌, ◌≤◌, ◌+◌, ◌^�
 use Rattle.std.specs.List.{find}
 use Rattle.std.specs.Global.{Box}
 use Rattle.std.proofs.Common.{sym, ap, ◌∙◌, subst, arith, ⊎_elim}
-use Rattle.std.proofs.lemmas.Bool.{eqb-true, eq-eqb, ne_eqb, true≢false, lt-ltb, le-ltb, cases_eq, cases_lt}
+use Rattle.std.proofs.lemmas.Bool.{eqb-true, eq-eqb, ne_eqb, true≢false, and_parts, lt-ltb, le-ltb, cases_eq, cases_lt}
 use Rattle.std.proofs.lemmas.List.Sums.{count_by-le-length}
 use Rattle.std.proofs.Math.Bool.{and-false, and-true}
 use Rattle.rx_sound.proofs.Parents.{parent_rooted}
@@ -18,17 +18,16 @@ use Rattle.rx_sound.proofs.Changes.{each_found, each_more}
 use Rattle.rx_sound.proofs.Releasing.{each_none, each_below}
 use Rattle.rx_counts.specs.declared.record.Sums.{Sums}
 use Rattle.rx_counts.specs.declared.record.Record.{Record}
-use Rattle.rx_counts.specs.Keeping.{stands_home, keeper, is_number, kept_at, same_where, is_orphan}
+use Rattle.rx_counts.specs.Keeping.{stands_home, keeper, is_number, kept_at, same_where, count_of, is_orphan}
 use Rattle.rx_rules.specs.Counts.{has_number}
-use Rattle.rx_counts.specs.Stands.{ShapeOf, SumsOf, RecordOf, AllFit, ChangedBy, IsShaped, record_at}
-use Rattle.rx_counts.specs.Inside.Freeing.{unslot}
+use Rattle.rx_counts.specs.Stands.{table_size, slot, ShapeOf, SumsOf, RecordOf, AllFit, ChangedBy, IsShaped, record_at}
 use Rattle.rx_counts.specs.Inside.Dying.{Emptied, Gained, MayGain, given_until, Passing, parent_there}
-use Rattle.rx_counts.proofs.HandOver.{but, heir, never_but, count_heir}
+use Rattle.rx_counts.proofs.HandOver.{but, heir, never_but, count_heir, keeper_keeps}
 use Rattle.rx_counts.proofs.Handing.{all_hand, all_keeps, orphans_heir}
 use Rattle.rx_counts.proofs.Walks.{keeper_step, keeper_low, keeper_stands, keeper_exists, OlderThan}
 use Rattle.rx_counts.proofs.Shapes.{both_found, shape_in, walk_older}
 use Rattle.rx_counts.proofs.Joining.{both_more, number_is}
-use Rattle.rx_counts.proofs.Telling.{slot_of_unslot, unslot_in}
+use Rattle.rx_counts.proofs.Slots.{unslot, slot_of_unslot}
 use Rattle.rx_counts.proofs.Asking.{below_length}
 
 -- the scope of a number, among all
@@ -74,19 +73,19 @@ but_next keeps d i h k e home =
     ap (λ b. given_until keeps d i k && not b) (ne_eqb k.number.0 h.0 (λ v. q (v ∙ e))) ∙ and-true (given_until keeps d i k) ∙ ap (λ b. keeps k && not ((k.home.0 == d.0) && b)) (ltb_same k.number.0 i q))
     (cases_eq k.number.0 i)
 
-shaped_by : (T : Tree) (keeps : Scope → Bool) (rs qs : List (Option (Box Record))) → IsShaped T rs → AllFit keeps T.scopes T.tasks qs → IsShaped T qs
-shaped_by T keeps rs qs h fit =
+shaped_by : (size : ℕ) (T : Tree) (keeps : Scope → Bool) (rs qs : List (Option (Box Record))) → IsShaped T rs → AllFit size keeps T.scopes T.tasks qs → IsShaped T qs
+shaped_by size T keeps rs qs h fit =
     record {
       falls = h.falls;
       opened = h.opened;
-      shapes = λ n. both_more (RecordOf keeps T.scopes T.tasks) (ShapeOf T.scopes) (record_at qs n) (find (has_number n) T.scopes) (λ r g e a. a.shape) (fit n);
+      shapes = λ n. both_more (RecordOf size keeps T.scopes T.tasks) (ShapeOf T.scopes) (record_at qs n) (find (has_number n) T.scopes) (λ r g e a. a.shape) (fit n);
     }
 
 -- the next turn, where the records fit it
-next_turn : (T : Tree) (keeps : Scope → Bool) (dead : List (Option ℕ)) (d : PlaceId) (i : ℕ) (rs qs : List (Option (Box Record))) → Passing T keeps dead d i rs → AllFit (given_until keeps d (i + 1)) T.scopes T.tasks qs → Passing T keeps dead d (i + 1) qs
+next_turn : (T : Tree) (keeps : Scope → Bool) (dead : List (Option ℕ)) (d : PlaceId) (i : ℕ) (rs qs : List (Option (Box Record))) → Passing T keeps dead d i rs → AllFit T.places (given_until keeps d (i + 1)) T.scopes T.tasks qs → Passing T keeps dead d (i + 1) qs
 next_turn T keeps dead d i rs qs p fit =
     record {
-      shaped = shaped_by T (given_until keeps d (i + 1)) rs qs p.shaped fit;
+      shaped = shaped_by _ T (given_until keeps d (i + 1)) rs qs p.shaped fit;
       after = p.after;
       lived = p.lived;
       root = p.root;
@@ -116,7 +115,7 @@ pub passes_by : (T : Tree) (keeps : Scope → Bool) (dead : List (Option ℕ)) (
 passes_by T keeps dead d i rs p none =
     let same : Each (λ k. given_until keeps d i k ≡ given_until keeps d (i + 1) k) T.scopes = each_more (λ k. k.number.0 ≡ i → k.home.0 == d.0 ≡ false) (λ k. given_until keeps d i k ≡ given_until keeps d (i + 1) k) (λ (k : Scope) h. until_same keeps d i k h) T.scopes (each_at i T.next_scope (λ k. k.home.0 == d.0 ≡ false) T.scopes p.shaped.falls (homeless T keeps dead d i rs p none)) in
     next_turn T keeps dead d i rs rs p
-    (all_keeps (given_until keeps d i) (given_until keeps d (i + 1)) T.scopes T.tasks rs same (λ n k found. each_found (λ k. given_until keeps d i k ≡ given_until keeps d (i + 1) k) (has_number n) T.scopes k same found) p.fit)
+    (all_keeps _ (given_until keeps d i) (given_until keeps d (i + 1)) T.scopes T.tasks rs same (λ n k found. each_found (λ k. given_until keeps d i k ≡ given_until keeps d (i + 1) k) (has_number n) T.scopes k same found) p.fit)
 
 -- Where one has.
 
@@ -184,8 +183,8 @@ passes_hand T keeps dead d i rs ps qs u a given p e at took emptied gained =
     let h : Hands T keeps d i a.0 rs (number_id i) = hands T keeps dead d i rs u a p e at in
     let same : Each (λ k. but (number_id i) (given_until keeps d i) k ≡ given_until keeps d (i + 1) k) T.scopes = each_more (λ k. k.number.0 ≡ i → k.home.0 == d.0 ≡ true) (λ k. but (number_id i) (given_until keeps d i) k ≡ given_until keeps d (i + 1) k) (λ (k : Scope) v. but_next keeps d i (number_id i) k refl v) T.scopes (each_at i T.next_scope (λ k. k.home.0 == d.0 ≡ true) T.scopes p.shaped.falls (λ g found. let f = h.found in let is : h.scope ≡ g = cc in subst (λ (v : Scope). v.home.0 == d.0 ≡ true) is h.home)) in
     next_turn T keeps dead d i rs qs p
-    (all_keeps (but (number_id i) (given_until keeps d i)) (given_until keeps d (i + 1)) T.scopes T.tasks qs same (λ n k found. each_found (λ k. but (number_id i) (given_until keeps d i) k ≡ given_until keeps d (i + 1) k) (has_number n) T.scopes k same found)
-    (all_hand (given_until keeps d i) (number_id i) a.0 T.next_scope T.scopes T.tasks rs ps qs given h.scope h.heir_scope p.shaped.falls h.found h.found_heir h.kept h.is_heir took emptied gained p.fit))
+    (all_keeps _ (but (number_id i) (given_until keeps d i)) (given_until keeps d (i + 1)) T.scopes T.tasks qs same (λ n k found. each_found (λ k. but (number_id i) (given_until keeps d i) k ≡ given_until keeps d (i + 1) k) (has_number n) T.scopes k same found)
+    (all_hand _ (given_until keeps d i) (number_id i) a.0 T.next_scope T.scopes T.tasks rs ps qs given h.scope h.heir_scope p.shaped.falls h.found h.found_heir h.kept h.is_heir took emptied gained p.fit))
 
 -- there is always an heir
 pub heir_exists : (T : Tree) (keeps : Scope → Bool) (dead : List (Option ℕ)) (d : PlaceId) (i : ℕ) (rs : List (Option (Box Record))) (u : ScopeId) → Passing T keeps dead d i rs → parent_there d (record_at rs i) ≡ Some u → is_some (keeper (stands_home dead) T.scopes (Some u)) ≡ true
@@ -202,24 +201,32 @@ pour_ok T keeps dead d i rs ps u a given p e at took emptied =
     let n : ℕ = T.next_scope in
     let apart : a.0 ≡ i → ⊥ = λ v. true≢false (sym (ap (is_number i) h.is_heir ∙ eq-eqb a.0 i v) ∙ never_but K (number_id i) T.scopes (Some (number_id i))) in
     let is : is_number a.0 (heir K T.scopes (number_id i)) ≡ true = ap (is_number a.0) h.is_heir ∙ eq-eqb a.0 a.0 refl in
-    let giver = both_found (RecordOf K T.scopes T.tasks) (record_at rs i) (find (has_number i) T.scopes) h.scope (p.fit i) h.found in
-    let taker = both_found (RecordOf K T.scopes T.tasks) (record_at rs a.0) (find (has_number a.0) T.scopes) h.heir_scope (p.fit a.0) h.found_heir in
+    let giver = both_found (RecordOf T.places K T.scopes T.tasks) (record_at rs i) (find (has_number i) T.scopes) h.scope (p.fit i) h.found in
+    let taker = both_found (RecordOf T.places K T.scopes T.tasks) (record_at rs a.0) (find (has_number a.0) T.scopes) h.heir_scope (p.fit a.0) h.found_heir in
     let is_given : given ≡ giver.0.sums = subst (λ o. IfSome o (λ r. given ≡ r.sums)) giver.1 took in
     let has : record_at ps a.0 ≡ Some taker.0 = emptied.others a.0 apart ∙ taker.1 in
     let mine : SumsOf K T.scopes T.tasks taker.0.sums a.0 = subst (SumsOf K T.scopes T.tasks taker.0.sums) (number_is a.0 T.scopes h.heir_scope h.found_heir) taker.2.sums in
     let his : SumsOf K T.scopes T.tasks given i = subst (λ (v : Sums). SumsOf K T.scopes T.tasks v i) (sym is_given) (subst (SumsOf K T.scopes T.tasks giver.0.sums) (number_is i T.scopes h.scope h.found) giver.2.sums) in
+    let alike : given.places ≡ taker.0.sums.places =
+    ap (λ (v : Sums). v.places) is_given ∙ giver.2.places h.kept
+    ∙ sym (taker.2.places (and_parts (K h.heir_scope) (not (is_scope (number_id i) h.heir_scope)) (keeper_keeps (but (number_id i) K) T.next_scope a.0 T.scopes (Some (number_id i)) h.heir_scope p.shaped.falls h.is_heir h.found_heir)).0) in
     let few_t : length T.tasks < 2 ^ 32 = p.few_tasks in
     let few_s : length T.scopes < 2 ^ 32 = p.few_scopes in (
       below_length ps a.0 taker.0 has,
       subst (λ o. IfSome o (MayGain given)) (sym has)
           (record {
-            cells = λ k low.
-                let w = unslot k in
-                let c1 = ap (λ j. slice_index_or taker.0.sums.counts j 0) (sym (slot_of_unslot k)) ∙ mine.counts (unslot k) (unslot_in k low) in
-                let c2 = ap (λ j. slice_index_or given.counts j 0) (sym (slot_of_unslot k)) ∙ his.counts (unslot k) (unslot_in k low) in
-                let s = count_heir (λ t. is_none t.struck && same_where (unslot k) t.place) K (number_id i) a.0 n T.scopes T.tasks p.shaped.falls apart is in
-                let b = count_by-le-length (λ t. (is_none t.struck && same_where (unslot k) t.place) && kept_at (but (number_id i) K) T.scopes a.0 t) T.tasks in
-                omega arith;
+            places = alike;
+            cells = his.cells ∙ ap table_size alike ∙ sym mine.cells;
+            counts = λ k low.
+                let n : ℕ = taker.0.sums.places in
+                let in_table : k < table_size n = subst (λ (m : ℕ). k < m) mine.cells low in
+                let w = unslot n k in
+                let cell : slot n w ≡ k = slot_of_unslot n k in_table in
+                let c1 : slice_index_or taker.0.sums.counts k 0 ≡ count_of K T.scopes T.tasks a.0 w = ap (λ j. slice_index_or taker.0.sums.counts j 0) (sym cell) ∙ mine.counts w in
+                let c2 : slice_index_or given.counts k 0 ≡ count_of K T.scopes T.tasks i w = ap (λ j. slice_index_or given.counts j 0) (sym (ap (λ m. slot m w) alike ∙ cell)) ∙ his.counts w in
+                let s = count_heir (λ t. is_none t.struck && same_where w t.place) K (number_id i) a.0 T.next_scope T.scopes T.tasks p.shaped.falls apart is in
+                let b = count_by-le-length (λ t. (is_none t.struck && same_where w t.place) && kept_at (but (number_id i) K) T.scopes a.0 t) T.tasks in
+                below4 c1 c2 s b few_t;
             total =
                 let c1 = mine.total in
                 let c2 = his.total in
@@ -234,3 +241,6 @@ pour_ok T keeps dead d i rs ps u a given p e at took emptied =
                 omega arith;
           }),
     )
+  where
+    below4 : {x y v w s l : ℕ} → x ≡ v → y ≡ w → s ≡ v + w → s ≤ l → l < 2 ^ 32 → x + y < 2 ^ 32
+    below4 c1 c2 s b few = omega arith

@@ -1,5 +1,5 @@
 -- A task is born.
-use Rattle.std.specs.Prelude.{◌≡◌, ℕ, ◌<◌, ◌^◌, ◌+◌, Bool, true, false, cond, ◌==◌, not, List, [], ◌∷◌, Option, Some, None, is_none, is_some, option_map, length, slice_index_or, IfSome, Ok, refl}
+use Rattle.std.specs.Prelude.{◌≡◌, ℕ, ◌<◌, ◌+◌, Bool, true, false, cond, ◌==◌, not, List, [], ◌∷◌, Option, Some, None, is_none, is_some, option_map, length, slice_index_or, IfSome, Ok, refl}
 use Rattle.std.specs.Global.{Box}
 use Rattle.std.proofs.Common.{sym, ap, ◌∙◌, subst, arith}
 use Rattle.std.proofs.lemmas.Bool.{true≢false}
@@ -17,7 +17,7 @@ use Rattle.rx_rules.specs.Entries.{place_number, born}
 use Rattle.rx_rules.specs.Reached.{acts}
 use Rattle.rx_sound.specs.Blows.{death_blow}
 use Rattle.rx_sound.specs.Chains.{meets}
-use Rattle.rx_sound.specs.Sound.{Sound}
+use Rattle.rx_sound.specs.Sound.{Sound, Inside}
 use Rattle.rx_sound.proofs.Opening.{governs_rooted}
 use Rattle.rx_sound.proofs.Reached.{sound}
 use Rattle.rx_finish.specs.declared.ledger.Caller.{Caller}
@@ -27,10 +27,10 @@ use Rattle.rx_finish.proofs.Allowed.{Free, spawn_allowed}
 use Rattle.rx_counts.specs.declared.record.Record.{Record}
 use Rattle.rx_counts.specs.declared.ledger.CountLedger.{CountLedger}
 use Rattle.rx_counts.specs.Keeping.{stands_home, keeper, finishes}
-use Rattle.rx_counts.specs.Stands.{slot, where_in_range, AllFit, Fit, StandsFor, record_at, count_in, more, in_sums, Loses, Changed, ChangedBy}
+use Rattle.rx_counts.specs.Stands.{HasCell, MayJoin, AllFit, Fit, StandsFor, record_at, more, in_sums, Loses, Changed, ChangedBy}
 use Rattle.rx_counts.proofs.Asking.{Kept, kept_at_keeper, place_in, tasks_length, unstruck_of}
-use Rattle.rx_counts.proofs.Joining.{all_join, all_lost, slot_below}
-use Rattle.rx_counts.proofs.Arriving.{room}
+use Rattle.rx_counts.proofs.Joining.{all_join, all_lost}
+use Rattle.rx_counts.proofs.Arriving.{has_cell, may_join}
 use Rattle.rx_counts.proofs.Born.{inner_rooted, governing_is}
 
 -- whether a place is dead, by the deaths that the ledger keeps
@@ -41,26 +41,25 @@ is_lost l T to h = ap (λ d. not (is_none (death_blow d to))) h.dead ∙ ((elim 
 abbrev pub start : PlaceId → PlaceId → Where
 start from to = cond (from.0 == to.0) (At to) (Travel from to)
 
-pub start_in : (from to : PlaceId) → from.0 < 16 → to.0 < 16 → where_in_range (start from to)
-start_in from to a b = elim (from.0 == to.0) as (λ c. where_in_range (cond c (At to) (Travel from to))) [ true ↦ b | false ↦ (a, b) ]
+start_in : (n : ℕ) (from to : PlaceId) → from.0 < n → to.0 < n → Inside n (start from to)
+start_in n from to a b = elim (from.0 == to.0) as (λ c. Inside n (cond c (At to) (Travel from to))) [ true ↦ b | false ↦ (a, b) ]
 
 pub to_low : (T : Tree) (who : Caller) (to : PlaceId) → Sound T → MayAskTo T who to → to.0 < 16
 to_low T who to h may = let a = may.target in let b = h.few in omega arith
 
-from_low : (w : Where) → where_in_range w → (place_number w).0 < 16
-from_low (At p) h = h
-from_low (Travel from to) h = h.0
+from_low : (n : ℕ) (w : Where) → Inside n w → (place_number w).0 < n
+from_low n (At p) h = h
+from_low n (Travel from to) h = h.0
 
-pub started_in : (T : Tree) (who : Caller) (to : PlaceId) → Sound T → MayAskTo T who to → (f : Free T who IsMoving) → where_in_range (start (place_number who.place) to)
-started_in T who to h may f = start_in (place_number who.place) to (from_low who.place (place_in T who IsMoving h f)) (to_low T who to h may)
+pub started_in : (T : Tree) (who : Caller) (to : PlaceId) → Sound T → MayAskTo T who to → (f : Free T who IsMoving) → Inside T.places (start (place_number who.place) to)
+started_in T who to h may f = start_in T.places (place_number who.place) to (from_low T.places who.place (place_in T who IsMoving h f)) may.target
 
-pub bear_ok : (T : Tree) (who : Caller) (to : PlaceId) (rs : List (Option (Box Record))) (k : ℕ) (want : Option ScopeId) → Sound T → MayAskTo T who to → (f : Free T who IsMoving) → keeper (stands_home T.dead) T.scopes want ≡ Some k → AllFit (stands_home T.dead) T.scopes T.tasks rs → (k < length rs) × (to.0 < 16) × (slot (start (place_number who.place) to) < 272) × IfSome (record_at rs k) (λ r. (count_in r.sums (slot (start (place_number who.place) to)) + 1 < 2 ^ 32) × (r.sums.total + 1 < 2 ^ 32))
+pub bear_ok : (T : Tree) (who : Caller) (to : PlaceId) (rs : List (Option (Box Record))) (k : ℕ) (want : Option ScopeId) → Sound T → MayAskTo T who to → (f : Free T who IsMoving) → keeper (stands_home T.dead) T.scopes want ≡ Some k → AllFit T.places (stands_home T.dead) T.scopes T.tasks rs → (k < length rs) × (to.0 < 16) × IfSome (record_at rs k) (λ r. MayJoin (start (place_number who.place) to) r.sums)
 bear_ok T who to rs k want h may f at fit =
     let q : Kept T rs k = kept_at_keeper T rs want k fit at in (
       q.low,
       to_low T who to h may,
-      slot_below (start (place_number who.place) to) (started_in T who to h may f),
-      room T T.tasks rs k (start (place_number who.place) to) (tasks_length T.next_task T.tasks h.tasks_fall) may.asks.numbers.tasks (started_in T who to h may f) fit,
+      may_join T T.tasks rs k want (start (place_number who.place) to) h (tasks_length T.next_task T.tasks h.tasks_fall) may.asks.numbers.tasks at (started_in T who to h may f) fit,
     )
 
 pub struck_by : (T : Tree) (child : TaskId) (s : ScopeId) (from to : PlaceId) → is_some (death_of T to) ≡ true → (b : Blow) × ((born T child s from to).struck ≡ Some b) × (b.place ≡ to)
@@ -78,14 +77,14 @@ struck_none T child s from to e =
     ]) e
 
 -- the records with one more
-pub all_born : (T : Tree) (gs : List Scope) (keeps : Scope → Bool) (ts : List Task) (child : TaskId) (s : ScopeId) (from to : PlaceId) (k : ℕ) (rs qs : List (Option (Box Record))) (b : Bool) → b ≡ is_some (death_of T to) → keeper keeps gs (Some s) ≡ Some k → where_in_range (start from to) → (b ≡ true → ChangedBy (Loses to) k rs qs) → (b ≡ false → Changed (in_sums (more (slot (start from to)))) k rs qs) → AllFit keeps gs ts rs → AllFit keeps gs (born T child s from to ∷ ts) qs
-all_born T gs keeps ts child s from to k rs qs true e at within lost joins h =
+pub all_born : (size : ℕ) (T : Tree) (gs : List Scope) (keeps : Scope → Bool) (ts : List Task) (child : TaskId) (s : ScopeId) (from to : PlaceId) (k : ℕ) (rs qs : List (Option (Box Record))) (b : Bool) → b ≡ is_some (death_of T to) → keeper keeps gs (Some s) ≡ Some k → IfSome (record_at rs k) (λ r. HasCell (start from to) r.sums) → (b ≡ true → ChangedBy (Loses to) k rs qs) → (b ≡ false → Changed (in_sums (more (start from to))) k rs qs) → AllFit size keeps gs ts rs → AllFit size keeps gs (born T child s from to ∷ ts) qs
+all_born size T gs keeps ts child s from to k rs qs true e at cell lost joins h =
     let b = struck_by T child s from to (sym e) in
-    all_lost keeps gs ts (born T child s from to) b.0 k rs qs at b.1 (subst (λ (p : PlaceId). ChangedBy (Loses p) k rs qs) (sym b.2) (lost refl)) h
-all_born T gs keeps ts child s from to k rs qs false e at within lost joins h =
-    all_join keeps gs ts (born T child s from to) k rs qs at (struck_none T child s from to (sym e)) within (joins refl) h
+    all_lost _ keeps gs ts (born T child s from to) b.0 k rs qs at b.1 (subst (λ (p : PlaceId). ChangedBy (Loses p) k rs qs) (sym b.2) (lost refl)) h
+all_born size T gs keeps ts child s from to k rs qs false e at cell lost joins h =
+    all_join _ keeps gs ts (born T child s from to) k rs qs at (struck_none T child s from to (sym e)) cell (joins refl) h
 
-len_of : (to : PlaceId) (n k : ℕ) (rs qs : List (Option (Box Record))) (b : Bool) → (b ≡ true → ChangedBy (Loses to) k rs qs) → (b ≡ false → Changed (in_sums (more n)) k rs qs) → length qs ≡ length rs
+len_of : (to : PlaceId) (n : Where) (k : ℕ) (rs qs : List (Option (Box Record))) (b : Bool) → (b ≡ true → ChangedBy (Loses to) k rs qs) → (b ≡ false → Changed (in_sums (more n)) k rs qs) → length qs ≡ length rs
 len_of to n k rs qs true lost joins = (lost refl).len
 len_of to n k rs qs false lost joins = (joins refl).len
 
@@ -93,7 +92,7 @@ len_of to n k rs qs false lost joins = (joins refl).len
 pub finish_rooted : (T : Tree) (who : Caller) (s : ScopeId) → Sound T → (f : Free T who IsMoving) → keeper finishes T.scopes (Some who.inner) ≡ Some s.0 → meets the_root T.scopes (Some s) ≡ true
 finish_rooted T who s h f e = subst (λ (u : ScopeId). meets the_root T.scopes (Some u) ≡ true) (governing_is T.scopes (Some who.inner) s e) (governs_rooted T.next_scope T.scopes (Some who.inner) h.falls h.root_kind (inner_rooted T who IsMoving h f))
 
-pub spawned : (l m : CountLedger) (T : Tree) (who : Caller) (to : PlaceId) (child : TaskId) (s : ScopeId) (k : ℕ) (b : Bool) → StandsFor l T → MayAskTo T who to → (f : Free T who IsMoving) → child.0 ≡ l.next_task → keeper finishes T.scopes (Some who.inner) ≡ Some s.0 → keeper (stands_home T.dead) T.scopes (Some s) ≡ Some k → b ≡ not (is_none (death_blow l.dead to)) → m.places ≡ l.places → m.dead ≡ l.dead → m.next_task ≡ l.next_task + 1 → m.next_scope ≡ l.next_scope → (b ≡ true → ChangedBy (Loses to) k l.scopes.items m.scopes.items) → (b ≡ false → Changed (in_sums (more (slot (start (place_number who.place) to)))) k l.scopes.items m.scopes.items) → SpawnReply T who to (Ok (record { child = child; scope = s; lost = b })) (StandsFor m)
+pub spawned : (l m : CountLedger) (T : Tree) (who : Caller) (to : PlaceId) (child : TaskId) (s : ScopeId) (k : ℕ) (b : Bool) → StandsFor l T → MayAskTo T who to → (f : Free T who IsMoving) → child.0 ≡ l.next_task → keeper finishes T.scopes (Some who.inner) ≡ Some s.0 → keeper (stands_home T.dead) T.scopes (Some s) ≡ Some k → b ≡ not (is_none (death_blow l.dead to)) → m.places ≡ l.places → m.dead ≡ l.dead → m.next_task ≡ l.next_task + 1 → m.next_scope ≡ l.next_scope → (b ≡ true → ChangedBy (Loses to) k l.scopes.items m.scopes.items) → (b ≡ false → Changed (in_sums (more (start (place_number who.place) to))) k l.scopes.items m.scopes.items) → SpawnReply T who to (Ok (record { child = child; scope = s; lost = b })) (StandsFor m)
 spawned l m T who to child s k b st may f num fin at e places dead next_task next_scope lost joins =
     let h : Sound T = sound st.reached in
     let a = spawn_allowed T who to s child st.reached may (unstruck_of T who IsMoving f) (sym (governing_is T.scopes (Some who.inner) s fin)) (num ∙ st.fit.next_task) in
@@ -109,8 +108,8 @@ spawned l m T who to child s k b st may f num fin at e places dead next_task nex
                     dead = dead ∙ st.fit.dead;
                     next_task = (let q = st.fit.next_task in omega arith);
                     next_scope = next_scope ∙ st.fit.next_scope;
-                    numbers = len_of to (slot (start (place_number who.place) to)) k l.scopes.items m.scopes.items b lost joins ∙ st.fit.numbers;
-                    scopes = all_born T T.scopes (stands_home T.dead) T.tasks child s (place_number who.place) to k l.scopes.items m.scopes.items b dies at (started_in T who to h may f) lost joins st.fit.scopes;
+                    numbers = len_of to (start (place_number who.place) to) k l.scopes.items m.scopes.items b lost joins ∙ st.fit.numbers;
+                    scopes = all_born _ T T.scopes (stands_home T.dead) T.tasks child s (place_number who.place) to k l.scopes.items m.scopes.items b dies at (has_cell _ (stands_home T.dead) T.next_scope T.scopes T.tasks l.scopes.items k (Some s) (start (place_number who.place) to) h.falls at (started_in T who to h may f) st.fit.scopes) lost joins st.fit.scopes;
                   };
             };
       },

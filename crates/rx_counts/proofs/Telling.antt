@@ -1,8 +1,8 @@
 -- What the counts of a scope and the place of a caller tell.
-use Rattle.std.specs.Prelude.{◌≡◌, ℕ, ◌<◌, ◌≤◌, ◌-◌, ◌/◌, ◌%◌, Bool, true, false, cond, ◌||◌, ◌&&◌, ◌==◌, List, [], ◌∷◌, Option, Some, None, is_none, slice_index_or, refl}
+use Rattle.std.specs.Prelude.{◌≡◌, ℕ, ◌<◌, Bool, true, false, cond, ◌||◌, ◌&&◌, ◌==◌, List, [], ◌∷◌, Option, Some, None, is_none, slice_index_or, refl}
 use Rattle.std.specs.List.{find, list_any}
-use Rattle.std.proofs.Common.{sym, ap, ◌∙◌, subst, arith, ltb}
-use Rattle.std.proofs.lemmas.Bool.{eqb-true, eq-eqb, ne_eqb, true≢false, or_right, or_left, and_from, not-true, ltb-true, ltb-false}
+use Rattle.std.proofs.Common.{sym, ap, ◌∙◌, subst, arith}
+use Rattle.std.proofs.lemmas.Bool.{eqb-true, eq-eqb, ne_eqb, true≢false, or_right, or_left, and_from, not-true}
 use Rattle.std.proofs.Math.Bool.{and-false, and-true, or-false}
 use Rattle.rx_sound.proofs.Below.{found_low}
 use Rattle.rx_base.specs.declared.ids.PlaceId.{PlaceId}
@@ -16,10 +16,8 @@ use Rattle.rx_rules.specs.declared.tasks.Scope.{Scope}
 use Rattle.rx_rules.specs.Tree.{Tree, is_task, is_scope, wants, opened_by, is_under, quiet}
 use Rattle.rx_sound.specs.Blows.{death_blow, blow_at}
 use Rattle.rx_sound.specs.Chains.{meets, Falls}
-use Rattle.rx_counts.specs.Inside.Freeing.{unslot}
 use Rattle.rx_counts.specs.Keeping.{stands_home, keeper, is_number, kept_at, same_where, total_of}
-use Rattle.rx_counts.specs.Stands.{slot, where_in_range}
-use Rattle.rx_sound.specs.Sound.{Each, TaskFits, Sound, Inside}
+use Rattle.rx_sound.specs.Sound.{Each, TaskFits, Sound}
 use Rattle.rx_sound.proofs.Changes.{each_found, each_more}
 use Rattle.rx_counts.proofs.Counting.{count_none, none_counted}
 use Rattle.rx_counts.proofs.Below.{HomesLive}
@@ -36,29 +34,11 @@ none_blow dead p e = (elim (slice_index_or dead p.0 None) as (λ o. (elim o as (
 pub homes_live : (T : Tree) → Sound T → HomesLive T.tasks (stands_home T.dead)
 homes_live T h t x g found keeps at = (each_found (TaskFits T.dead T.places T.scopes) (is_task t) T.tasks x h.tasks found).struck ∙ ap (blow_at T.dead) at ∙ blow_none T.dead g.home keeps
 
--- Cells.
-
-pub slot_of_unslot : (i : ℕ) → slot (unslot i) ≡ i
-slot_of_unslot i =
-    (elim (ltb i 16) as (λ b. ltb i 16 ≡ b → slot (cond b (At (record { 0 = i })) (Travel (record { 0 = (i - 16) / 16 }) (record { 0 = (i - 16) % 16 }))) ≡ i) [
-      | true ↦ λ e. refl
-      | false ↦ λ e. let h : 16 ≤ i = ltb-false i 16 e in omega arith
-    ]) refl
-
-pub unslot_in : (i : ℕ) → i < 272 → where_in_range (unslot i)
-unslot_in i lt =
-    (elim (ltb i 16) as (λ b. ltb i 16 ≡ b → where_in_range (cond b (At (record { 0 = i })) (Travel (record { 0 = (i - 16) / 16 }) (record { 0 = (i - 16) % 16 })))) [
-      | true ↦ λ e. ltb-true i 16 e
-      | false ↦ λ e. let h : 16 ≤ i = ltb-false i 16 e in (omega arith, omega arith)
-    ]) refl
+-- Places.
 
 pub same_self : (w : Where) → same_where w w ≡ true
 same_self (At p) = eq-eqb p.0 p.0 refl
 same_self (Travel p r) = and_from (p.0 == p.0) (r.0 == r.0) (eq-eqb p.0 p.0 refl) (eq-eqb r.0 r.0 refl)
-
-pub within_range : (n : ℕ) (w : Where) → n ≤ 16 → Inside n w → where_in_range w
-within_range n (At p) le h = omega arith
-within_range n (Travel p r) le h = (let a : p.0 < n = h.0 in omega arith, let a : r.0 < n = h.1 in omega arith)
 
 -- a keeper is on the chain
 pub keeper_meets : (keeps : Scope → Bool) (s : ScopeId) (gs : List Scope) (want : Option ScopeId) → is_number s.0 (keeper keeps gs want) ≡ true → meets s gs want ≡ true

@@ -32,8 +32,8 @@ waits_stands l m T who thrown st may f places dead next_task next_scope c =
                   next_scope = next_scope ∙ st.fit.next_scope;
                   numbers = c.len ∙ st.fit.numbers;
                   scopes =
-                      all_waits (stands_home T.dead) _ T.tasks who.task true m.scopes.items
-                      (all_faulted (λ g. thrown) (λ g. g.ends) who.inner (stands_home T.dead) (λ g. refl) T.scopes T.tasks (with_body thrown) l.scopes.items m.scopes.items (λ r. (refl, refl, refl, refl, refl)) (λ r g found live was. (refl, was.1)) c st.fit.scopes);
+                      all_waits _ (stands_home T.dead) _ T.tasks who.task true m.scopes.items
+                      (all_faulted (λ g. thrown) (λ g. g.ends) who.inner (stands_home T.dead) (λ g. refl) _ T.scopes T.tasks (with_body thrown) l.scopes.items m.scopes.items (λ r. (refl, refl, refl, refl, refl)) (λ r g found live was. (refl, was.1)) c st.fit.scopes);
                 };
           };
     }

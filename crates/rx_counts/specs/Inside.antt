@@ -1,4 +1,5 @@
 -- What contracts of private functions say; a reader of the public contracts needs none of it.
+pub mod Opening
 pub mod Dying
 pub mod Freeing
 pub mod Nesting

@@ -5,7 +5,7 @@ use Rattle.rx_rules.specs.Tree.{Tree}
 use Rattle.rx_rules.specs.Counts.{Counts, Records, StandFor}
 use Rattle.rx_counts.specs.declared.record.Record.{Record}
 use Rattle.rx_counts.specs.declared.ledger.CountLedger.{CountLedger}
-use Rattle.rx_counts.specs.Stands.{slot, count_in, record_at, StandsFor}
+use Rattle.rx_counts.specs.Stands.{count_in, record_at, StandsFor}
 
 -- what the record of number n has
 abbrev pub counts_of : ℕ → Record → Counts
@@ -15,8 +15,8 @@ counts_of n r =
       kind = r.kind;
       home = r.home;
       parent = r.parent;
-      live = λ p. count_in r.sums (slot (At p));
-      transit = λ p q. count_in r.sums (slot (Travel p q));
+      live = λ p. count_in r.sums (At p);
+      transit = λ p q. count_in r.sums (Travel p q);
       lost = r.sums.lost;
       body = r.body;
       ends = r.ends;

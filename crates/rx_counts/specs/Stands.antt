@@ -1,6 +1,6 @@
 -- The records of a count ledger stand for a tree.
-use Rattle.std.specs.Prelude.{◌≡◌, ℕ, ◌<◌, ◌+◌, ◌++◌, ◌*◌, ◌-◌, Bool, true, cond, ◌&&◌, ◌||◌, ◌==◌, List, Option, Some, None, is_some}
-use Rattle.std.specs.Prelude.{slice_index_or, length, option_map, slice_set, box_value}
+use Rattle.std.specs.Prelude.{◌≡◌, ℕ, ◌<◌, ◌≤◌, ◌^◌, ◌+◌, ◌++◌, ◌*◌, ◌-◌, ltb, Bool, true, cond, ◌&&◌, ◌||◌, ◌==◌, List, Option, Some}
+use Rattle.std.specs.Prelude.{None, is_some, slice_index_or, length, option_map, slice_set, box_value}
 use Rattle.std.specs.Global.{Box}
 use Rattle.std.specs.List.{find, list_any}
 use Rattle.rx_base.specs.Sets.{has_bit}
@@ -22,14 +22,30 @@ use Rattle.rx_counts.specs.declared.ledger.CountLedger.{CountLedger}
 use Rattle.rx_sound.specs.Chains.{Falls, Opened}
 use Rattle.rx_counts.specs.Keeping.{stands_home, finishes, keeper, kept_at, count_of, total_of, orphans_of}
 
--- the cell of a place, or of a pair: 16 places, then 16 times 16 pairs
-abbrev pub slot : Where → ℕ
-slot (At p) = p.0
-slot (Travel from to) = 16 + 16 * from.0 + to.0
+-- A table of counts has a column for each place. Row 0 has the live counts, and row p + 1 the transit counts from place p.
+abbrev pub row : Where → ℕ
+row (At p) = 0
+row (Travel from to) = from.0 + 1
 
-abbrev pub where_in_range : Where → Type 0
-where_in_range (At p) = p.0 < 16
-where_in_range (Travel from to) = (from.0 < 16) × (to.0 < 16)
+abbrev pub column : Where → ℕ
+column (At p) = p.0
+column (Travel from to) = to.0
+
+-- how many cells the table of n places has
+abbrev pub table_size : ℕ → ℕ
+table_size n = (n + 1) * n
+
+-- whether it has a cell for the place or the pair
+abbrev pub is_inside : ℕ → Where → Bool
+is_inside n w = ltb (row w) (n + 1) && ltb (column w) n
+
+-- the cell of a place or of a pair, row by row; past the table where it has none
+abbrev pub slot : ℕ → Where → ℕ
+slot n w = cond (is_inside n w) (row w * n + column w) (table_size n)
+
+-- what sums count at a place or on a way: nothing where they have no cell for it
+abbrev pub count_in : Sums → Where → ℕ
+count_in q w = slice_index_or q.counts (slot q.places w) 0
 
 -- what a record says of the scope itself
 pub record ShapeOf (gs : List Scope) (r : Record) (g : Scope) : Type 0 where
@@ -40,17 +56,18 @@ pub record ShapeOf (gs : List Scope) (r : Record) (g : Scope) : Type 0 where
 
 -- the sums of scope n, where keeps says which scopes keep counts
 pub record SumsOf (keeps : Scope → Bool) (gs : List Scope) (ts : List Task) (q : Sums) (n : ℕ) : Type 0 where
-  pub counts : (w : Where) → where_in_range w → slice_index_or q.counts (slot w) 0 ≡ count_of keeps gs ts n w
-  pub cells : length q.counts ≡ 272
+  pub counts : (w : Where) → count_in q w ≡ count_of keeps gs ts n w
+  pub cells : length q.counts ≡ table_size q.places
   pub total : q.total ≡ total_of keeps gs ts n
   pub orphans : q.orphans ≡ orphans_of keeps gs n
   pub lost : (p : ℕ) → p < 16 → has_bit q.lost.0 p ≡ list_any (λ x. was_lost_at p x && kept_at keeps gs n x) ts
 
--- a record is that of scope g
-pub record RecordOf (keeps : Scope → Bool) (gs : List Scope) (ts : List Task) (r : Record) (g : Scope) : Type 0 where
+-- a record is that of scope g, in a run of so many places
+pub record RecordOf (size : ℕ) (keeps : Scope → Bool) (gs : List Scope) (ts : List Task) (r : Record) (g : Scope) : Type 0 where
   pub shape : ShapeOf gs r g
   pub sums : SumsOf keeps gs ts r.sums g.number.0
   pub faults : keeps g ≡ true → (r.body ≡ g.body) × (r.ends ≡ g.ends)
+  pub places : keeps g ≡ true → r.sums.places ≡ size
 
 -- the same of a record and a scope that may be missing
 abbrev pub Both : (Record → Scope → Type 0) → Option Record → Option Scope → Type 0
@@ -64,8 +81,8 @@ abbrev pub record_at : List (Option (Box Record)) → ℕ → Option Record
 record_at rs n = option_map box_value (slice_index_or rs n None)
 
 -- the record of each number is that of its scope, or both are missing
-abbrev pub AllFit : (Scope → Bool) → List Scope → List Task → List (Option (Box Record)) → Type 0
-AllFit keeps gs ts rs = (n : ℕ) → Both (RecordOf keeps gs ts) (record_at rs n) (find (has_number n) gs)
+abbrev pub AllFit : ℕ → (Scope → Bool) → List Scope → List Task → List (Option (Box Record)) → Type 0
+AllFit size keeps gs ts rs = (n : ℕ) → Both (RecordOf size keeps gs ts) (record_at rs n) (find (has_number n) gs)
 
 -- the same of the shapes alone
 abbrev pub AllShaped : List Scope → List (Option (Box Record)) → Type 0
@@ -78,23 +95,34 @@ pub record Fit (l : CountLedger) (T : Tree) : Type 0 where
   pub next_task : l.next_task ≡ T.next_task
   pub next_scope : l.next_scope ≡ T.next_scope
   pub numbers : length l.scopes.items ≡ T.next_scope
-  pub scopes : AllFit (stands_home T.dead) T.scopes T.tasks l.scopes.items
+  pub scopes : AllFit T.places (stands_home T.dead) T.scopes T.tasks l.scopes.items
 
 -- and the tree can be reached
 pub record StandsFor (l : CountLedger) (T : Tree) : Type 0 where
   pub reached : Reached T
   pub fit : Fit l T
 
--- what is in a cell
-abbrev pub count_in : Sums → ℕ → ℕ
-count_in q i = slice_index_or q.counts i 0
+-- one task more, and one less, at a place or on a way
+abbrev pub more : Where → Sums → Sums
+more w q = record q { counts = slice_set q.counts (slot q.places w) (count_in q w + 1); total = q.total + 1 }
 
--- one task more, and one less, in a cell
-abbrev pub more : ℕ → Sums → Sums
-more i q = record q { counts = slice_set q.counts i (count_in q i + 1); total = q.total + 1 }
+abbrev pub less : Where → Sums → Sums
+less w q = record q { counts = slice_set q.counts (slot q.places w) (count_in q w - 1); total = q.total - 1 }
 
-abbrev pub less : ℕ → Sums → Sums
-less i q = record q { counts = slice_set q.counts i (count_in q i - 1); total = q.total - 1 }
+-- they have a cell for it
+abbrev pub HasCell : Where → Sums → Type 0
+HasCell w q = slot q.places w < length q.counts
+
+-- where there may be one more, and one less
+pub record MayJoin (w : Where) (q : Sums) : Type 0 where
+  pub cell : HasCell w q
+  pub count : count_in q w + 1 < 2 ^ 32
+  pub total : q.total + 1 < 2 ^ 32
+
+pub record MayLeave (w : Where) (q : Sums) : Type 0 where
+  pub cell : HasCell w q
+  pub count : 1 ≤ count_in q w
+  pub total : 1 ≤ q.total
 
 -- the change of the sums of a record
 abbrev pub in_sums : (Sums → Sums) → Record → Record

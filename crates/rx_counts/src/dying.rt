@@ -1,54 +1,56 @@
 // What a death does to the records.
-ghost use Rattle.std.specs.Prelude.{◌≡◌, ◌<◌, ◌≤◌, ◌^◌, ◌+◌, ◌||◌, ◌&&◌, ◌==◌, ℕ, Bool, ltb, cond, length, slice_index_or, IfSome, Some};
-ghost use Rattle.std.specs.Prelude.{None, option_map, box_value};
+ghost use Rattle.std.specs.Prelude.{◌≡◌, ◌<◌, ◌≤◌, ◌^◌, ◌+◌, ◌||◌, ◌&&◌, ◌==◌, ℕ, Bool, ltb, cond, length, slice_index_or, IfSome};
+ghost use Rattle.std.specs.Prelude.{Some, None, option_map, box_value};
 ghost use Rattle.rx_base.specs.Sets.{has_bit};
 ghost use Rattle.rx_rules.specs.Tree.{Tree};
 ghost use Rattle.rx_rules.specs.declared.tasks.Scope.{Scope};
 ghost use Rattle.rx_counts.specs.Stands.{record_at, Pairs, ChangedBy};
-ghost use Rattle.rx_counts.specs.Inside.Dying.{hits_cell, hits, Strikes, StrikesRecord, MayHit, Emptied, Gained, MayGain, CanGain};
-ghost use Rattle.rx_counts.specs.Inside.Dying.{Gains, Passing, parent_there};
+ghost use Rattle.rx_counts.specs.Inside.Dying.{hits_cell, hits, Strikes, StrikesRecord, CanHit, MayHit, Emptied, Gained, MayGain};
+ghost use Rattle.rx_counts.specs.Inside.Dying.{CanGain, Gains, Passing, parent_there};
 
+use crate::cells::Cells;
 use crate::record::{Record, Sums, nothing};
 use crate::table::keeper_of;
 use rx_base::{Faults, PlaceId, PlaceSet, ScopeId};
 use std::alloc::Global;
 
-/// Whether the death of a place hits the place or the pair of a cell.
-fn is_hit_cell(d: PlaceId, cell: usize) -> bool
-    ensures { result ≡ hits_cell d.0 cell }
+/// Whether the death of a place hits the place or the pair of a cell in the table of so many places.
+fn is_hit_cell(places: u8, d: PlaceId, cell: usize) -> bool
+    requires { 0 < places }
+    ensures { result ≡ hits_cell places d.0 cell }
 {
+    let n = places as usize;
     let place = d.0 as usize;
-    if cell < 16 {
-        cell == place
-    } else {
-        (cell - 16) / 16 == place || (cell - 16) % 16 == place
-    }
+    cell / n == place + 1 || cell % n == place
 }
 
 /// Makes the cell 0 where the death hits it, and answers what it had.
-fn clear_one(counts: &mut [u32], cell: usize, d: PlaceId) -> u32
-    requires { cell < length counts.old }
-    ensures had { result ≡ cond (hits_cell d.0 cell) (slice_index_or counts.old cell 0) 0 }
-    ensures cleared { (k : ℕ) → slice_index_or counts.new k 0 ≡ cond (hits_cell d.0 k && (k == cell)) 0 (slice_index_or counts.old k 0) }
+fn clear_one(counts: &mut Cells, places: u8, cell: usize, d: PlaceId) -> u32
+    requires { (cell < length counts.old) × (0 < places) }
+    ensures had { result ≡ cond (hits_cell places d.0 cell) (slice_index_or counts.old cell 0) 0 }
+    ensures len { length counts.new ≡ length counts.old }
+    ensures cleared { (k : ℕ) → slice_index_or counts.new k 0
+        ≡ cond (hits_cell places d.0 k && (k == cell)) 0 (slice_index_or counts.old k 0) }
 {
-    if !is_hit_cell(d, cell) {
+    if !is_hit_cell(places, d, cell) {
         return 0;
     }
-    let had = counts[cell];
-    counts[cell] = 0;
+    let had = counts.at(cell);
+    counts.put(cell, 0);
     had
 }
 
 /// Makes each cell 0 that the death hits, and answers what they had.
-fn clear_hit(counts: &mut [u32], d: PlaceId) -> u32
-    requires { hits d.0 counts.old < 2 ^ 32 }
-    ensures sum { result ≡ hits d.0 counts.old }
-    ensures cleared { (k : ℕ) → k < length counts.old → slice_index_or counts.new k 0
-        ≡ cond (hits_cell d.0 k) 0 (slice_index_or counts.old k 0) }
+fn clear_hit(counts: &mut Cells, places: u8, d: PlaceId) -> u32
+    requires { (hits places d.0 counts.old < 2 ^ 32) × (0 < length counts.old → 0 < places) }
+    ensures sum { result ≡ hits places d.0 counts.old }
+    ensures len { length counts.new ≡ length counts.old }
+    ensures cleared { (k : ℕ) → k < length counts.old
+        → slice_index_or counts.new k 0 ≡ cond (hits_cell places d.0 k) 0 (slice_index_or counts.old k 0) }
 {
     let mut sum = 0;
     for cell in 0..counts.len() {
-        sum += clear_one(counts, cell, d);
+        sum += clear_one(counts, places, cell, d);
     }
     sum
 }
@@ -63,11 +65,11 @@ fn lost_if(lost: PlaceSet, d: PlaceId, hurt: u32) -> PlaceSet
 impl Sums {
     /// The death of a place.
     pub fn strike(&mut self, d: PlaceId)
-        requires { (d.0 < 16) × (hits d.0 self.old.counts ≤ self.old.total) }
+        requires { (d.0 < 16) × CanHit d self.old }
         ensures { Strikes d self.old self.new }
     {
         let total = self.total;
-        let hurt = clear_hit(&mut self.counts, d);
+        let hurt = clear_hit(&mut self.counts, self.places, d);
         self.total = total - hurt;
         self.lost = lost_if(self.lost, d, hurt);
     }
@@ -94,13 +96,12 @@ pub fn strike_all(scopes: &mut Vec<Option<Box<Record>>>, d: PlaceId)
 }
 
 impl Record {
-    /// Gives the sums away, and drops the faults.
+    /// Gives the sums away, and drops the faults. The memory of the counts goes with them.
     fn give(&mut self, alloc: Global) -> Sums
         ensures given { result ≡ self.old.sums }
         ensures left { Emptied self.old self.new }
     {
-        let given = self.sums;
-        self.sums = nothing();
+        let given = std::mem::replace(&mut self.sums, nothing(alloc));
         self.body = Faults::open(alloc);
         self.ends = Faults::open(alloc);
         given
@@ -114,7 +115,7 @@ fn take_entry(entry: &mut Option<Box<Record>>, alloc: Global) -> Sums
 {
     match entry {
         Some(kept) => kept.give(alloc),
-        None => nothing(),
+        None => nothing(alloc),
     }
 }
 
@@ -127,13 +128,15 @@ fn take_at(scopes: &mut Vec<Option<Box<Record>>>, i: usize, alloc: Global) -> Su
 }
 
 /// Adds the counts of another scope.
-fn add_counts(counts: &mut [u32], given: &[u32])
-    requires { (length counts.old ≡ 272) × (length given.now ≡ 272)
-        × ((k : ℕ) → k < 272 → slice_index_or counts.old k 0 + slice_index_or given.now k 0 < 2 ^ 32) }
-    ensures { (k : ℕ) → k < 272 → slice_index_or counts.new k 0 ≡ slice_index_or counts.old k 0 + slice_index_or given.now k 0 }
+fn add_counts(counts: &mut Cells, given: &Cells)
+    requires { (length given.now ≡ length counts.old) × ((k : ℕ) → k < length counts.old
+        → slice_index_or counts.old k 0 + slice_index_or given.now k 0 < 2 ^ 32) }
+    ensures len { length counts.new ≡ length counts.old }
+    ensures added { (k : ℕ) → k < length counts.old
+        → slice_index_or counts.new k 0 ≡ slice_index_or counts.old k 0 + slice_index_or given.now k 0 }
 {
     for cell in 0..counts.len() {
-        counts[cell] += given[cell];
+        counts.put(cell, counts.at(cell) + given.at(cell));
     }
 }
 

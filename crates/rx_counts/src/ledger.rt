@@ -11,7 +11,7 @@ ghost use Rattle.rx_counts.specs.Meaning.{CountsStand};
 ghost use Rattle.rx_counts.specs.Inside.Freeing.{IsLast, OutcomeReply, FreeReply};
 
 use crate::dying::{hand_over_all, strike_all};
-use crate::places::{blow_there, lives, lost, slot_of};
+use crate::places::{blow_there, lives, lost};
 use crate::record::{Record, fresh};
 use crate::removal::{hindrance, remove};
 use crate::table::{
@@ -40,8 +40,8 @@ impl CountLedger {
         ensures { IfOk result (λ l. ⟦<CountLedger as FinishLedger>⟧.stands l (opening places)) }
     {
         let mut scopes = Vec::new(alloc);
-        let mut root = fresh(alloc, Kind::Finish, PlaceId(0), None, ScopeId(0));
-        root.sums.join(0);
+        let mut root = fresh(alloc, places, Kind::Finish, PlaceId(0), None, ScopeId(0))?;
+        root.sums.join(Where::At(PlaceId(0)));
         match push(&mut scopes, root, alloc) {
             Ok(_) => {}
             Err(_) => return Err(NoMemory),
@@ -61,7 +61,7 @@ impl CountLedger {
         requires { (T : Tree) × StandsFor self.now T × HasScope T s × (p.0 < 16) }
         ensures { (T : Tree) → StandsFor self.now T → HasScope T s → result ≡ live_count T s p }
     {
-        count_at(&self.scopes, s, slot_of(Where::At(p)))
+        count_at(&self.scopes, s, Where::At(p))
     }
 
     /// How many unstruck tasks that travel from one place to another are counted at a scope.
@@ -69,7 +69,7 @@ impl CountLedger {
         requires { (T : Tree) × StandsFor self.now T × HasScope T s × (from.0 < 16) × (to.0 < 16) }
         ensures { (T : Tree) → StandsFor self.now T → HasScope T s → result ≡ transit_count T s from to }
     {
-        count_at(&self.scopes, s, slot_of(Where::Travel { from, to }))
+        count_at(&self.scopes, s, Where::Travel { from, to })
     }
 
     /// The places at which tasks that are counted at a scope were lost.
@@ -86,8 +86,8 @@ impl CountLedger {
     /// The nearest scope with a living home, from the scope itself along parents.
     pub fn adopter_of(&self, s: ScopeId) -> ScopeId
         requires { (T : Tree) × StandsFor self.now T × HasScope T s }
-        ensures { (T : Tree) → StandsFor self.now T → HasScope T s → IfSome (adopter T s) (λ g. result ≡ g.number)
-            × (is_some (adopter T s) ≡ true) }
+        ensures { (T : Tree) → StandsFor self.now T → HasScope T s
+            → IfSome (adopter T s) (λ g. result ≡ g.number) × (is_some (adopter T s) ≡ true) }
     {
         match keeper_of(&self.scopes, &self.dead, s) {
             Some(keeper) => keeper,
@@ -105,7 +105,7 @@ impl CountLedger {
             Some(kept) => {
                 if kept.sums.total > 0 {
                     return Err(LedgerFault::NotYet {
-                        place: hindrance(&kept.sums.counts),
+                        place: hindrance(&kept.sums.counts, kept.sums.places),
                     });
                 }
                 match kept.body.joined(self.alloc, &kept.ends) {
@@ -145,13 +145,17 @@ impl FinishLedger for CountLedger {
             return Err(lost(blow));
         }
         let number = ScopeId(self.next_scope);
-        let kept = fresh(
+        let home = place_of(who.place);
+        let Ok(kept) = fresh(
             self.alloc,
+            self.places,
             Kind::Finish,
-            place_of(who.place),
+            home,
             Some(who.inner),
             number,
-        );
+        ) else {
+            return Err(LedgerFault::NoMemory);
+        };
         if let Err(fault) = push(&mut self.scopes, kept, self.alloc) {
             return Err(fault);
         }
@@ -168,8 +172,17 @@ impl FinishLedger for CountLedger {
         let finish = finish_of(&self.scopes, who.inner);
         let from = place_of(who.place);
         let is_lost = !lives(&self.dead, to);
-        let mut kept = fresh(self.alloc, Kind::Call, from, Some(who.inner), finish);
-        kept.sums.bear(is_lost, slot_of(travel(from, to)), to);
+        let Ok(mut kept) = fresh(
+            self.alloc,
+            self.places,
+            Kind::Call,
+            from,
+            Some(who.inner),
+            finish,
+        ) else {
+            return Err(LedgerFault::NoMemory);
+        };
+        kept.sums.bear(is_lost, travel(from, to), to);
         if let Err(fault) = push(&mut self.scopes, kept, self.alloc) {
             return Err(fault);
         }
@@ -201,13 +214,7 @@ impl FinishLedger for CountLedger {
                 lost: is_lost,
             });
         };
-        bear(
-            &mut self.scopes,
-            keeper,
-            is_lost,
-            slot_of(travel(from, to)),
-            to,
-        );
+        bear(&mut self.scopes, keeper, is_lost, travel(from, to), to);
         self.next_task += 1;
         Ok(Born {
             child,
@@ -223,12 +230,8 @@ impl FinishLedger for CountLedger {
         let Some(keeper) = keeper_of(&self.scopes, &self.dead, who.scope) else {
             return Ok(());
         };
-        leave(&mut self.scopes, keeper, slot_of(who.place));
-        join(
-            &mut self.scopes,
-            keeper,
-            slot_of(Where::At(landing_of(who.place))),
-        );
+        leave(&mut self.scopes, keeper, who.place);
+        join(&mut self.scopes, keeper, Where::At(landing_of(who.place)));
         Ok(())
     }
 
@@ -268,7 +271,7 @@ impl FinishLedger for CountLedger {
         if let Err(back) = note_ends(&mut self.scopes, who.scope, keeps, thrown) {
             return Err((LedgerFault::NoMemory, back));
         }
-        leave(&mut self.scopes, keeper, slot_of(who.place));
+        leave(&mut self.scopes, keeper, who.place);
         Ok(())
     }
 

@@ -7,6 +7,7 @@
 //! "Activities and scopes" and "Deaths and losses", and docs/architecture.md what each call costs.
 #![tactic(auto)]
 
+mod cells;
 mod dying;
 mod ledger;
 mod places;

@@ -1,7 +1,9 @@
 // Where a caller is, and what the deaths of places tell of it.
-ghost use Rattle.std.specs.Prelude.{◌≡◌, is_none};
+ghost use Rattle.std.specs.Prelude.{◌≡◌, is_none, cond, ◌==◌};
+ghost use Rattle.rx_rules.specs.Entries.{place_number};
 ghost use Rattle.rx_sound.specs.Blows.{death_blow, earlier, blow_at};
-ghost use Rattle.rx_counts.specs.Stands.{slot};
+ghost use Rattle.rx_finish.specs.Calls.{landing};
+ghost use Rattle.rx_counts.specs.Stands.{row, column, table_size, slot};
 
 use rx_base::PlaceId;
 use rx_finish::LedgerFault;
@@ -59,12 +61,43 @@ pub fn lost(blow: Blow) -> LedgerFault
     }
 }
 
-/// The cell of a place or of a pair of places.
-pub fn slot_of(place: Where) -> usize
-    ensures { result ≡ slot place }
+/// How many cells the table of so many places has.
+pub fn cells_of(places: u8) -> usize
+    ensures { result ≡ table_size places }
+{
+    let n = places as usize;
+    (n + 1) * n
+}
+
+/// The row of a place or of a pair: row 0 is that of the places, and the others are those of the ways from each place.
+fn row_of(place: Where) -> usize
+    ensures { result ≡ row place }
+{
+    match place {
+        Where::At(_) => 0,
+        Where::Travel { from, to: _ } => from.0 as usize + 1,
+    }
+}
+
+fn column_of(place: Where) -> usize
+    ensures { result ≡ column place }
 {
     match place {
         Where::At(p) => p.0 as usize,
-        Where::Travel { from, to } => 16 + 16 * (from.0 as usize) + (to.0 as usize),
+        Where::Travel { from: _, to } => to.0 as usize,
+    }
+}
+
+/// The cell of a place or of a pair in the table of so many places; past the table where it has no such cell.
+pub fn slot_of(places: u8, place: Where) -> usize
+    ensures { result ≡ slot places place }
+{
+    let n = places as usize;
+    let row = row_of(place);
+    let column = column_of(place);
+    if row < n + 1 && column < n {
+        row * n + column
+    } else {
+        cells_of(places)
     }
 }

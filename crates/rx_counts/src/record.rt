@@ -1,18 +1,22 @@
 // What is kept of a scope.
-ghost use Rattle.std.specs.Prelude.{◌≡◌, ◌+◌, ◌-◌, ◌<◌, ◌≤◌, ◌^◌, [], true, false, ◌||◌, ◌==◌, ℕ, length, slice_index_or, slice_set};
-ghost use Rattle.std.specs.Prelude.{replicate};
+ghost use Rattle.std.specs.Prelude.{◌≡◌, ◌+◌, ◌-◌, ◌<◌, ◌≤◌, ◌^◌, [], true, false, ◌||◌, ◌==◌, ℕ, length, slice_index_or, slice_set, IfOk};
 ghost use Rattle.rx_base.specs.Sets.{has_bit};
-ghost use Rattle.rx_counts.specs.Stands.{more, less, with_lost, count_in};
+ghost use Rattle.rx_counts.specs.Stands.{more, less, with_lost, count_in, MayJoin, MayLeave};
+ghost use Rattle.rx_counts.specs.Inside.Opening.{IsZero, IsFresh};
 
-use rx_base::{Faults, PlaceId, PlaceSet, ScopeId};
-use rx_rules::Kind;
+use crate::cells::Cells;
+use crate::places::{cells_of, slot_of};
+use rx_base::{Faults, NoMemory, PlaceId, PlaceSet, ScopeId};
+use rx_rules::{Kind, Where};
 use std::alloc::Global;
 
 /// What a scope counts.
-#[derive(Clone, Copy, Debug)]
+#[derive(Drop)]
 pub struct Sums {
-    /// The live count of each of 16 places, and then the transit count of each of 16 times 16 pairs.
-    pub counts: [u32; 272],
+    /// How many places it counts at: those of the run, or none once it has given its counts away.
+    pub places: u8,
+    /// A table with a column for each place: the live counts, and then for each place the transit counts from there.
+    pub counts: Cells,
     /// The sum of the counts.
     pub total: u32,
     /// How many scopes with a dead home it has adopted.
@@ -34,94 +38,107 @@ pub struct Record {
     pub ends: Faults,
 }
 
-/// No counts.
-pub fn nothing() -> Sums
-    ensures counts { result.counts ≡ replicate 272 0 }
-    ensures total { result.total ≡ 0 }
-    ensures orphans { result.orphans ≡ 0 }
-    ensures lost { result.lost.0 ≡ 0 }
+/// The sums of a scope that counts at no place. They take no memory.
+pub fn nothing(alloc: Global) -> Sums
+    ensures { IsZero 0 result }
 {
     Sums {
-        counts: [0; 272],
+        places: 0,
+        counts: Cells::none(alloc),
         total: 0,
         orphans: 0,
         lost: PlaceSet(0),
     }
 }
 
-fn raise(counts: &mut [u32], cell: usize)
+/// The sums of a new scope, which counts at so many places.
+fn zeros(alloc: Global, places: u8) -> Result<Sums, NoMemory>
+    ensures { IfOk result (IsZero places) }
+{
+    Ok(Sums {
+        places,
+        counts: Cells::open(alloc, cells_of(places))?,
+        total: 0,
+        orphans: 0,
+        lost: PlaceSet(0),
+    })
+}
+
+fn raise(counts: &mut Cells, cell: usize)
     requires { (cell < length counts.old) × (slice_index_or counts.old cell 0 + 1 < 2 ^ 32) }
     ensures { counts.new ≡ slice_set counts.old cell (slice_index_or counts.old cell 0 + 1) }
 {
-    counts[cell] += 1;
+    counts.put(cell, counts.at(cell) + 1);
 }
 
-fn lower(counts: &mut [u32], cell: usize)
+fn lower(counts: &mut Cells, cell: usize)
     requires { (cell < length counts.old) × (1 ≤ slice_index_or counts.old cell 0) }
     ensures { counts.new ≡ slice_set counts.old cell (slice_index_or counts.old cell 0 - 1) }
 {
-    counts[cell] -= 1;
+    counts.put(cell, counts.at(cell) - 1);
 }
 
 impl Sums {
-    /// One task more.
-    pub fn join(&mut self, cell: usize)
-        requires { (cell < 272) × (count_in self.old cell + 1 < 2 ^ 32) × (self.old.total + 1 < 2 ^ 32) }
-        ensures { self.new ≡ more cell self.old }
+    /// How many tasks it counts at a place or on a way; none where it does not count there.
+    pub fn count(&self, place: Where) -> u32
+        ensures { result ≡ count_in self.now place }
     {
+        self.counts.at(slot_of(self.places, place))
+    }
+
+    /// One task more.
+    pub fn join(&mut self, place: Where)
+        requires { MayJoin place self.old }
+        ensures { self.new ≡ more place self.old }
+    {
+        let cell = slot_of(self.places, place);
         raise(&mut self.counts, cell);
         self.total += 1;
     }
 
-    /// A task that is born: for a dead place, or else into a cell.
-    pub fn bear(&mut self, is_lost: bool, cell: usize, to: PlaceId)
-        requires { (to.0 < 16) × (cell < 272) × (count_in self.old cell + 1 < 2 ^ 32) × (self.old.total + 1 < 2 ^ 32) }
-        ensures lost { is_lost ≡ true → (self.new ≡ with_lost self.new.lost self.old)
-            × ((i : ℕ) → i < 16 → has_bit self.new.lost.0 i ≡ (has_bit self.old.lost.0 i || (to.0 == i))) }
-        ensures joins { is_lost ≡ false → self.new ≡ more cell self.old }
+    /// A task that is born: for a dead place, or else where it is counted.
+    pub fn bear(&mut self, is_lost: bool, place: Where, to: PlaceId)
+        requires { (to.0 < 16) × MayJoin place self.old }
+        ensures lost { is_lost ≡ true → (self.new ≡ with_lost self.new.lost self.old) × ((i : ℕ) → i < 16
+            → has_bit self.new.lost.0 i ≡ (has_bit self.old.lost.0 i || (to.0 == i))) }
+        ensures joins { is_lost ≡ false → self.new ≡ more place self.old }
     {
         if is_lost {
             self.lost = self.lost.with(to);
         } else {
-            self.join(cell);
+            self.join(place);
         }
     }
 
     /// One task less.
-    pub fn leave(&mut self, cell: usize)
-        requires { (cell < 272) × (1 ≤ count_in self.old cell) × (1 ≤ self.old.total) }
-        ensures { self.new ≡ less cell self.old }
+    pub fn leave(&mut self, place: Where)
+        requires { MayLeave place self.old }
+        ensures { self.new ≡ less place self.old }
     {
+        let cell = slot_of(self.places, place);
         lower(&mut self.counts, cell);
         self.total -= 1;
     }
 }
 
-/// The record of a new scope, which counts nothing.
+/// The record of a new scope, which counts nothing yet, at so many places.
 pub fn fresh(
     alloc: Global,
+    places: u8,
     kind: Kind,
     home: PlaceId,
     parent: Option<ScopeId>,
     finish: ScopeId,
-) -> Record
-    ensures kind { result.kind ≡ kind }
-    ensures home { result.home ≡ home }
-    ensures parent { result.parent ≡ parent }
-    ensures finish { result.finish ≡ finish }
-    ensures counts { result.sums.counts ≡ replicate 272 0 }
-    ensures total { result.sums.total ≡ 0 }
-    ensures orphans { result.sums.orphans ≡ 0 }
-    ensures lost { result.sums.lost.0 ≡ 0 }
-    ensures faults { (result.body ≡ []) × (result.ends ≡ []) }
+) -> Result<Record, NoMemory>
+    ensures { IfOk result (IsFresh places kind home parent finish) }
 {
-    Record {
+    Ok(Record {
         kind,
         home,
         parent,
         finish,
-        sums: nothing(),
+        sums: zeros(alloc, places)?,
         body: Faults::open(alloc),
         ends: Faults::open(alloc),
-    }
+    })
 }

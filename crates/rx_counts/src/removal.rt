@@ -1,11 +1,11 @@
 // What a release takes out of the records.
-ghost use Rattle.std.specs.Prelude.{◌≡◌, ◌<◌, ◌+◌, ◌==◌, ◌||◌, ◌&&◌, ℕ, cond, length, None, Some, is_some};
+ghost use Rattle.std.specs.Prelude.{◌≡◌, ◌<◌, ◌+◌, ◌==◌, ◌||◌, ◌&&◌, ◌%◌, ℕ, cond, length, None, Some, is_some};
 ghost use Rattle.rx_rules.specs.Tree.{Tree};
-ghost use Rattle.rx_finish.specs.Calls.{landing};
 ghost use Rattle.rx_sound.specs.Chains.{meets};
 ghost use Rattle.rx_counts.specs.Stands.{record_at};
-ghost use Rattle.rx_counts.specs.Inside.Freeing.{Hides, Takes, parent_gone, unslot};
+ghost use Rattle.rx_counts.specs.Inside.Freeing.{Hides, Takes, parent_gone};
 
+use crate::cells::Cells;
 use crate::record::Record;
 use rx_base::{PlaceId, ScopeId};
 
@@ -49,26 +49,22 @@ fn drop_if(scopes: &mut Vec<Option<Box<Record>>>, i: usize, goes: bool) -> usize
     }
 }
 
-/// Where the tasks of a cell are or go.
-fn place_of_cell(cell: usize) -> PlaceId
-    requires { cell < 272 }
-    ensures { result ≡ landing (unslot cell) }
+/// Where the tasks of a cell are or go, in the table of so many places: the place of its column.
+fn place_of_cell(places: u8, cell: usize) -> PlaceId
+    requires { 0 < places }
+    ensures { result.0 ≡ cell % places }
 {
-    if cell < 16 {
-        PlaceId(cell as u8)
-    } else {
-        PlaceId(((cell - 16) % 16) as u8)
-    }
+    PlaceId((cell % places as usize) as u8)
 }
 
 /// The place of a count above 0.
-pub fn hindrance(counts: &[u32]) -> PlaceId
-    requires { length counts.now ≡ 272 }
-    ensures { Hides counts.now result }
+pub fn hindrance(counts: &Cells, places: u8) -> PlaceId
+    requires { 0 < length counts.now → 0 < places }
+    ensures { Hides places counts.now result }
 {
     for cell in 0..counts.len() {
-        if counts[cell] > 0 {
-            return place_of_cell(cell);
+        if counts.at(cell) > 0 {
+            return place_of_cell(places, cell);
         }
     }
     PlaceId(0)

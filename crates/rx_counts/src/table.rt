@@ -3,13 +3,14 @@ ghost use Rattle.std.specs.Prelude.{◌≡◌, ◌+◌, ◌<◌, ◌≤◌, ◌^
 ghost use Rattle.std.specs.Prelude.{MatchOption, IfSome, OnOk, IfErr, true, false};
 ghost use Rattle.rx_rules.specs.Tree.{Tree};
 ghost use Rattle.rx_counts.specs.Keeping.{keeper, stands_home};
-ghost use Rattle.rx_counts.specs.Stands.{record_at, more, less, in_sums, count_in, Changed, ChangedBy, Pairs, Loses, IsShaped, Pushed};
-ghost use Rattle.rx_counts.specs.Stands.{with_body, ends_if};
+ghost use Rattle.rx_counts.specs.Stands.{record_at, more, less, in_sums, count_in, MayJoin, MayLeave, Changed, ChangedBy, Pairs, Loses};
+ghost use Rattle.rx_counts.specs.Stands.{IsShaped, Pushed, with_body, ends_if};
 
 use crate::places::lives;
 use crate::record::Record;
 use rx_base::{Faults, PlaceId, ScopeId};
 use rx_finish::LedgerFault;
+use rx_rules::Where;
 use std::alloc::Global;
 
 /// The record of a number.
@@ -22,68 +23,63 @@ pub fn look(scopes: &[Option<Box<Record>>], s: ScopeId) -> Option<&Record>
     }
 }
 
-fn join_in(entry: &mut Option<Box<Record>>, cell: usize)
-    requires { (cell < 272) × IfSome (option_map box_value entry.old)
-        (λ r. (count_in r.sums cell + 1 < 2 ^ 32) × (r.sums.total + 1 < 2 ^ 32)) }
-    ensures { option_map box_value entry.new ≡ option_map (in_sums (more cell)) (option_map box_value entry.old) }
+fn join_in(entry: &mut Option<Box<Record>>, place: Where)
+    requires { IfSome (option_map box_value entry.old) (λ r. MayJoin place r.sums) }
+    ensures { option_map box_value entry.new ≡ option_map (in_sums (more place)) (option_map box_value entry.old) }
 {
     if let Some(kept) = entry {
-        kept.sums.join(cell);
+        kept.sums.join(place);
     }
 }
 
-fn leave_in(entry: &mut Option<Box<Record>>, cell: usize)
-    requires { (cell < 272) × IfSome (option_map box_value entry.old) (λ r. (1 ≤ count_in r.sums cell) × (1 ≤ r.sums.total)) }
-    ensures { option_map box_value entry.new ≡ option_map (in_sums (less cell)) (option_map box_value entry.old) }
+fn leave_in(entry: &mut Option<Box<Record>>, place: Where)
+    requires { IfSome (option_map box_value entry.old) (λ r. MayLeave place r.sums) }
+    ensures { option_map box_value entry.new ≡ option_map (in_sums (less place)) (option_map box_value entry.old) }
 {
     if let Some(kept) = entry {
-        kept.sums.leave(cell);
+        kept.sums.leave(place);
     }
 }
 
-/// One task more in a cell of the record of a scope.
-pub fn join(scopes: &mut Vec<Option<Box<Record>>>, s: ScopeId, cell: usize)
-    requires { (s.0 < length scopes.old.items) × (cell < 272)
-        × IfSome (record_at scopes.old.items s.0) (λ r. (count_in r.sums cell + 1 < 2 ^ 32) × (r.sums.total + 1 < 2 ^ 32)) }
-    ensures { Changed (in_sums (more cell)) s.0 scopes.old.items scopes.new.items }
+/// One task more at a place or on a way, in the record of a scope.
+pub fn join(scopes: &mut Vec<Option<Box<Record>>>, s: ScopeId, place: Where)
+    requires { (s.0 < length scopes.old.items) × IfSome (record_at scopes.old.items s.0) (λ r. MayJoin place r.sums) }
+    ensures { Changed (in_sums (more place)) s.0 scopes.old.items scopes.new.items }
 {
-    join_in(&mut scopes[s.0 as usize], cell);
+    join_in(&mut scopes[s.0 as usize], place);
 }
 
-/// One task less in a cell of the record of a scope.
-pub fn leave(scopes: &mut Vec<Option<Box<Record>>>, s: ScopeId, cell: usize)
-    requires { (s.0 < length scopes.old.items) × (cell < 272)
-        × IfSome (record_at scopes.old.items s.0) (λ r. (1 ≤ count_in r.sums cell) × (1 ≤ r.sums.total)) }
-    ensures { Changed (in_sums (less cell)) s.0 scopes.old.items scopes.new.items }
+/// One task less at a place or on a way, in the record of a scope.
+pub fn leave(scopes: &mut Vec<Option<Box<Record>>>, s: ScopeId, place: Where)
+    requires { (s.0 < length scopes.old.items) × IfSome (record_at scopes.old.items s.0) (λ r. MayLeave place r.sums) }
+    ensures { Changed (in_sums (less place)) s.0 scopes.old.items scopes.new.items }
 {
-    leave_in(&mut scopes[s.0 as usize], cell);
+    leave_in(&mut scopes[s.0 as usize], place);
 }
 
-fn bear_in(entry: &mut Option<Box<Record>>, is_lost: bool, cell: usize, to: PlaceId)
-    requires { (to.0 < 16) × (cell < 272) × IfSome (option_map box_value entry.old)
-        (λ r. (count_in r.sums cell + 1 < 2 ^ 32) × (r.sums.total + 1 < 2 ^ 32)) }
+fn bear_in(entry: &mut Option<Box<Record>>, is_lost: bool, place: Where, to: PlaceId)
+    requires { (to.0 < 16) × IfSome (option_map box_value entry.old) (λ r. MayJoin place r.sums) }
     ensures lost { is_lost ≡ true → Pairs (Loses to) (option_map box_value entry.old) (option_map box_value entry.new) }
-    ensures joins { is_lost ≡ false → option_map box_value entry.new ≡ option_map (in_sums (more cell)) (option_map box_value entry.old) }
+    ensures joins { is_lost ≡ false → option_map box_value entry.new ≡ option_map (in_sums (more place)) (option_map box_value entry.old) }
 {
     if let Some(kept) = entry {
-        kept.sums.bear(is_lost, cell, to);
+        kept.sums.bear(is_lost, place, to);
     }
 }
 
-/// A task is born that counts in the record of a scope: for a dead place, or else into a cell.
+/// A task is born that counts in the record of a scope: for a dead place, or else where it is.
 pub fn bear(
     scopes: &mut Vec<Option<Box<Record>>>,
     s: ScopeId,
     is_lost: bool,
-    cell: usize,
+    place: Where,
     to: PlaceId,
 )
-    requires { (s.0 < length scopes.old.items) × (to.0 < 16) × (cell < 272)
-        × IfSome (record_at scopes.old.items s.0) (λ r. (count_in r.sums cell + 1 < 2 ^ 32) × (r.sums.total + 1 < 2 ^ 32)) }
+    requires { (s.0 < length scopes.old.items) × (to.0 < 16) × IfSome (record_at scopes.old.items s.0) (λ r. MayJoin place r.sums) }
     ensures lost { is_lost ≡ true → ChangedBy (Loses to) s.0 scopes.old.items scopes.new.items }
-    ensures joins { is_lost ≡ false → Changed (in_sums (more cell)) s.0 scopes.old.items scopes.new.items }
+    ensures joins { is_lost ≡ false → Changed (in_sums (more place)) s.0 scopes.old.items scopes.new.items }
 {
-    bear_in(&mut scopes[s.0 as usize], is_lost, cell, to);
+    bear_in(&mut scopes[s.0 as usize], is_lost, place, to);
 }
 
 fn note_body_in(entry: &mut Option<Box<Record>>, thrown: Faults)
@@ -188,13 +184,12 @@ pub fn push(
     }
 }
 
-/// What is in a cell of the record of a scope.
-pub fn count_at(scopes: &[Option<Box<Record>>], s: ScopeId, cell: usize) -> u32
-    requires { cell < 272 }
-    ensures { IfSome (record_at scopes.now s.0) (λ r. result ≡ count_in r.sums cell) }
+/// How many tasks the record of a scope counts at a place or on a way.
+pub fn count_at(scopes: &[Option<Box<Record>>], s: ScopeId, place: Where) -> u32
+    ensures { IfSome (record_at scopes.now s.0) (λ r. result ≡ count_in r.sums place) }
 {
     match look(scopes, s) {
-        Some(kept) => kept.sums.counts[cell],
+        Some(kept) => kept.sums.count(place),
         None => 0,
     }
 }

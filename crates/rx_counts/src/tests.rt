@@ -130,11 +130,16 @@ fn lose_two(
     Ok(told(ledger))
 }
 
-/// Task 1 travels, arrives and ends: the transit count as it travels, the live count when it is there, both after its end, and
-/// whether task 0 may release then.
-fn pass(ledger: &mut CountLedger, alloc: Global) -> Result<(u32, u32, u32, u32, bool), LedgerFault>
-    requires { StandsFor ledger.old (opening 4) }
+/// Task 1 travels, arrives and ends in a run of so many places: the transit count as it travels, the live count when it is there,
+/// both after its end, and whether task 0 may release then.
+fn pass(
+    ledger: &mut CountLedger,
+    alloc: Global,
+    places: u8,
+) -> Result<(u32, u32, u32, u32, bool), LedgerFault>
+    requires { (1 < places) × StandsFor ledger.old (opening places) }
 {
+    let _ = places;
     nest(ledger, alloc, 0)?;
     let travels = ledger.transit_of(ScopeId(1), PlaceId(0), PlaceId(1));
     ledger.arrive(Caller {
@@ -171,13 +176,15 @@ fn pass(ledger: &mut CountLedger, alloc: Global) -> Result<(u32, u32, u32, u32, 
     ))
 }
 
-/// Task 0 asks to release while task 1 travels; then place 1 dies.
+/// Task 0 asks to release while task 1 travels, in a run of so many places; then place 1 dies.
 fn lose(
     ledger: &mut CountLedger,
     alloc: Global,
+    places: u8,
 ) -> Result<(Result<Outcome, LedgerFault>, u32, PlaceSet, ScopeId), LedgerFault>
-    requires { StandsFor ledger.old (opening 4) }
+    requires { (1 < places) × StandsFor ledger.old (opening places) }
 {
+    let _ = places;
     nest(ledger, alloc, 0)?;
     let waiting = Caller {
         task: TaskId(0),
@@ -233,16 +240,23 @@ fn two_losses_in_one_release(rt: HostRuntime) -> Result<(), Fail> {
 
 #[test]
 fn ordinary_case(rt: HostRuntime) -> Result<(), Fail> {
-    let mut ledger = CountLedger::open(rt.alloc(), 4)?;
-    let told = pass(&mut ledger, rt.alloc())?;
+    let mut two = CountLedger::open(rt.alloc(), 2)?;
+    let told = pass(&mut two, rt.alloc(), 2)?;
+    assert_eq!(rt; told, (1, 1, 0, 0, true));
+    let mut sixteen = CountLedger::open(rt.alloc(), 16)?;
+    let told = pass(&mut sixteen, rt.alloc(), 16)?;
     assert_eq!(rt; told, (1, 1, 0, 0, true));
     Ok(())
 }
 
 #[test]
 fn loss_in_transit(rt: HostRuntime) -> Result<(), Fail> {
-    let mut ledger = CountLedger::open(rt.alloc(), 4)?;
-    let (early, transit, lost, adopter) = lose(&mut ledger, rt.alloc())?;
+    let mut two = CountLedger::open(rt.alloc(), 2)?;
+    let (early, transit, lost, adopter) = lose(&mut two, rt.alloc(), 2)?;
+    assert!(rt; matches!(early, Err(LedgerFault::NotYet { place: PlaceId(1) })));
+    assert_eq!(rt; (transit, lost, adopter), (0, PlaceSet(2), ScopeId(1)));
+    let mut sixteen = CountLedger::open(rt.alloc(), 16)?;
+    let (early, transit, lost, adopter) = lose(&mut sixteen, rt.alloc(), 16)?;
     assert!(rt; matches!(early, Err(LedgerFault::NotYet { place: PlaceId(1) })));
     assert_eq!(rt; (transit, lost, adopter), (0, PlaceSet(2), ScopeId(1)));
     Ok(())

@@ -1,6 +1,6 @@
 -- A release, by a caller or by the host.
-use Rattle.std.specs.Prelude.{◌≡◌, ℕ, ◌<◌, ◌≤◌, ◌-◌, ◌/◌, ◌%◌, Bool, true, false, cond, ltb, ◌&&◌, not, List, Option, Some, None}
-use Rattle.std.specs.Prelude.{is_none, slice_index_or, count_by, ◌+◌, Result, Ok, Err}
+use Rattle.std.specs.Prelude.{◌≡◌, ℕ, ◌<◌, ◌≤◌, ◌%◌, Bool, true, false, ◌&&◌, not, List, Option, Some, None, is_none, slice_index_or}
+use Rattle.std.specs.Prelude.{length, count_by, ◌+◌, Result, Ok, Err}
 use Rattle.std.specs.Global.{Box}
 use Rattle.std.specs.List.{find, list_any}
 use Rattle.rx_base.specs.declared.ids.TaskId.{TaskId}
@@ -12,10 +12,8 @@ use Rattle.rx_sound.specs.Chains.{meets}
 use Rattle.rx_finish.specs.declared.ledger.LedgerFault.{LedgerFault}
 use Rattle.rx_finish.specs.declared.ledger.LedgerFault.TheVariants.{NotYet, Lost, NoMemory}
 use Rattle.rx_finish.specs.declared.ledger.Outcome.{Outcome}
-use Rattle.rx_finish.specs.Calls.{IsHindered, landing}
+use Rattle.rx_finish.specs.Calls.{IsHindered}
 use Rattle.rx_base.specs.declared.ids.PlaceId.{PlaceId}
-use Rattle.rx_rules.specs.declared.tasks.Where.{Where}
-use Rattle.rx_rules.specs.declared.tasks.Where.TheVariants.{At, Travel}
 use Rattle.rx_counts.specs.declared.record.Record.{Record}
 use Rattle.rx_counts.specs.declared.ledger.CountLedger.{CountLedger}
 use Rattle.rx_counts.specs.Keeping.{stands_home, orphans_of}
@@ -54,11 +52,7 @@ pub record Takes (T : Tree) (s : ScopeId) (n : ℕ) (rs : List (Option (Box Reco
   pub stands : meets s T.scopes (Some s) ≡ true
   pub many : count_by (λ g. meets s T.scopes (Some g.number)) T.scopes ≡ n + 1
 
--- the place or the pair of a cell
-abbrev pub unslot : ℕ → Where
-unslot i = cond (ltb i 16) (At (record { 0 = i })) (Travel (record { 0 = (i - 16) / 16 }) (record { 0 = (i - 16) % 16 }))
-
--- where a cell is above 0, the place is where the tasks of such a cell are or go
-abbrev pub Hides : List ℕ → PlaceId → Type 0
-Hides counts p = (k : ℕ) → k < 272 → 0 < slice_index_or counts k 0 → (i : ℕ) × (i < 272) × (0 < slice_index_or counts i 0)
-    × (p ≡ landing (unslot i))
+-- where a cell of the table of n places is above 0, the place is that of the column of such a cell: its tasks are there or go there
+abbrev pub Hides : ℕ → List ℕ → PlaceId → Type 0
+Hides n counts p = (k : ℕ) → k < length counts → 0 < slice_index_or counts k 0
+    → (i : ℕ) × (i < length counts) × (0 < slice_index_or counts i 0) × (p.0 ≡ i % n)

@@ -5,14 +5,14 @@ use Rattle.rx_base.specs.declared.ids.TaskId.{TaskId}
 use Rattle.rx_base.specs.declared.ids.ScopeId.{ScopeId}
 use Rattle.rx_rules.specs.declared.tasks.Task.{Task}
 use Rattle.rx_rules.specs.declared.tasks.Where.{Where}
-use Rattle.rx_rules.specs.declared.tasks.Where.TheVariants.{At, Travel}
+use Rattle.rx_rules.specs.declared.tasks.Where.TheVariants.{At}
 use Rattle.rx_rules.specs.declared.entries.Act.TheVariants.{Open, Spawn, Arrive, Wait}
 use Rattle.rx_rules.specs.Tree.{Tree, task_of, governs}
 use Rattle.rx_rules.specs.Entries.{made_act}
 use Rattle.rx_rules.specs.Fold.{opening}
 use Rattle.rx_finish.specs.declared.ledger.Caller.{Caller}
 use Rattle.rx_counts.specs.Stands.{HasScope}
-use Rattle.rx_finish.specs.Callers.{MayAskMoving, MayAskTo, MayAskArrive, MayAskWait}
+use Rattle.rx_finish.specs.Callers.{MayAskMoving, MayAskTo, MayAskWait}
 
 abbrev pub task : ℕ → TaskId
 task n = record { 0 = n }

@@ -1,12 +1,10 @@
-use Rattle.std.specs.Prelude.{◌≡◌, ℕ, ◌+◌, List, [], Some, refl}
-use Rattle.std.proofs.Common.{sym, ap, ◌∙◌, subst}
-use Rattle.rx_base.specs.declared.ids.ScopeId.{ScopeId}
+use Rattle.std.specs.Prelude.{◌+◌, List}
+use Rattle.std.proofs.Common.{subst}
 use Rattle.rx_base.specs.declared.values.Fault.{Fault}
 use Rattle.rx_rules.specs.declared.entries.Act.TheVariants.{Wait}
-use Rattle.rx_rules.specs.Tree.{Tree}
 use Rattle.rx_rules.specs.Entries.{made_act}
 use Rattle.rx_counts.specs.Stands.{StandsFor}
-use Rattle.rx_counts.specs.Inside.Nesting.{CanNest, task, scope, opens, starts}
+use Rattle.rx_counts.specs.Inside.Nesting.{task, scope, opens, starts}
 use Rattle.rx_counts.proofs.Nested.{opened_nest, started_nest}
 use Rattle.rx_counts.proofs.tests.nest.Goals as goal
 

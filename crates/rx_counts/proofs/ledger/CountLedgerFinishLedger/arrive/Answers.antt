@@ -1,6 +1,7 @@
 use Rattle.std.specs.Prelude.{Err}
-use Rattle.std.proofs.Common.{◌∙◌, sym, subst, ap, refl, ℕ}
+use Rattle.std.proofs.Common.{◌∙◌, sym, subst, refl}
 use Rattle.std.proofs.lemmas.Bool.{true≢false}
+use Rattle.rx_base.specs.declared.ids.PlaceId.{PlaceId}
 use Rattle.rx_rules.specs.Tree.{Tree}
 use Rattle.rx_rules.specs.declared.tasks.Where.TheVariants.{At}
 use Rattle.rx_sound.proofs.Reached.{sound}
@@ -8,7 +9,7 @@ use Rattle.rx_finish.specs.declared.ledger.LedgerFault.{LedgerFault}
 use Rattle.rx_finish.specs.Callers.{Travels}
 use Rattle.rx_finish.specs.Calls.{ArriveReply}
 use Rattle.rx_finish.proofs.Allowed.{Free}
-use Rattle.rx_counts.specs.Stands.{Changed, StandsFor, in_sums, less, more, slot}
+use Rattle.rx_counts.specs.Stands.{Changed, StandsFor, in_sums, more}
 use Rattle.rx_counts.proofs.Asking.{was_lost, caller, keeper_found, keeper_some, keeper_known, scope_rooted, none_kept}
 use Rattle.rx_counts.proofs.Arriving.{take_ok, add_ok, arrived}
 use Rattle.rx_counts.proofs.ledger.CountLedgerFinishLedger.arrive.Goals as goal
@@ -21,24 +22,23 @@ leave-requires c =
     let T : Tree = c.requires.0 in
     let f : Free T c.args.who Travels = caller c.args.self.now T c.args.who Travels c.requires.1 c.requires.2 (sym c.blow_there.ensures ∙ c.in_default.is) in
     let at = keeper_some c.args.self.now T c.args.who.scope c.in-Some-keeper_of.keeper _ c.requires.1 c.deref.ensures.value c.in-Some-keeper_of.ensures in
-    rw c.slot_of.ensures (take_ok T c.args.who Travels c.args.self.now.scopes.items c.in-Some-keeper_of.keeper.0 (sound c.requires.1.reached) f at c.requires.1.fit.scopes)
+    take_ok T c.args.who Travels c.args.self.now.scopes.items c.in-Some-keeper_of.keeper.0 (sound c.requires.1.reached) f at c.requires.1.fit.scopes
 
 pub join-requires : goal.join-requires
 join-requires c =
     let T : Tree = c.requires.0 in
     let f : Free T c.args.who Travels = caller c.args.self.now T c.args.who Travels c.requires.1 c.requires.2 (sym c.blow_there.ensures ∙ c.in_default.is) in
     let at = keeper_some c.args.self.now T c.args.who.scope c.in-Some-keeper_of.keeper _ c.requires.1 c.deref.ensures.value c.in-Some-keeper_of.ensures in
-    rw (c.slot_of-2.ensures, c.landing_of.ensures)
-    (add_ok T c.args.who c.args.self.now.scopes.items c.leave.new.scopes.items c.in-Some-keeper_of.keeper.0 (sound c.requires.1.reached) c.requires.2.numbers.tasks f at
-    (subst (λ (n : ℕ). Changed (in_sums (less n)) c.in-Some-keeper_of.keeper.0 c.args.self.now.scopes.items c.leave.new.scopes.items) c.slot_of.ensures c.leave.ensures) c.requires.1.fit.scopes)
+    rw c.landing_of.ensures
+    (add_ok T c.args.who c.args.self.now.scopes.items c.leave.new.scopes.items c.in-Some-keeper_of.keeper.0 (sound c.requires.1.reached) c.requires.2.numbers.tasks f at c.leave.ensures c.requires.1.fit.scopes)
 
 pub returns : goal.returns
 returns c = λ T s may.
     let f : Free T c.args.who Travels = caller c.args.self.now T c.args.who Travels s may (sym c.blow_there.ensures ∙ c.in_default.is) in
     let at = keeper_some c.args.self.now T c.args.who.scope c.in-Some-keeper_of.keeper _ s c.deref.ensures.value c.in-Some-keeper_of.ensures in
     arrived c.args.self.now _ T c.args.who c.leave.new.scopes.items c.in-Some-keeper_of.keeper.0 s may f at refl refl refl refl
-    (subst (λ (n : ℕ). Changed (in_sums (less n)) c.in-Some-keeper_of.keeper.0 c.args.self.now.scopes.items c.leave.new.scopes.items) c.slot_of.ensures c.leave.ensures)
-    (subst (λ (n : ℕ). Changed (in_sums (more n)) c.in-Some-keeper_of.keeper.0 c.leave.new.scopes.items c.join.new.scopes.items) (c.slot_of-2.ensures ∙ ap (λ p. slot (At p)) c.landing_of.ensures) c.join.ensures)
+    c.leave.ensures
+    (subst (λ (p : PlaceId). Changed (in_sums (more (At p))) c.in-Some-keeper_of.keeper.0 c.leave.new.scopes.items c.join.new.scopes.items) c.landing_of.ensures c.join.ensures)
 
 pub returns-in_default-keeper_of : goal.returns-in_default-keeper_of
 returns-in_default-keeper_of c = λ T s may.

@@ -1,4 +1,4 @@
-use Rattle.std.specs.Prelude.{ℕ, ◌≤◌, ◌<◌, Bool, Err}
+use Rattle.std.specs.Prelude.{ℕ, ◌<◌, Bool, Err}
 use Rattle.std.proofs.Common.{◌∙◌, sym, subst, refl}
 use Rattle.std.proofs.lemmas.Bool.{true≢false}
 use Rattle.rx_sound.proofs.Reached.{sound}
@@ -7,7 +7,7 @@ use Rattle.rx_finish.specs.declared.ledger.LedgerFault.{LedgerFault}
 use Rattle.rx_finish.specs.Callers.{IsBare}
 use Rattle.rx_finish.specs.Calls.{EndReply}
 use Rattle.rx_finish.proofs.Allowed.{Free}
-use Rattle.rx_counts.specs.Stands.{StandsFor, Changed, in_sums, less, slot, count_in, ends_if}
+use Rattle.rx_counts.specs.Stands.{StandsFor, Changed, MayLeave, ends_if}
 use Rattle.rx_counts.proofs.Asking.{was_lost, unstruck, caller, keeper_some, keeper_found, keeper_known, scope_rooted, scope_kept, none_kept}
 use Rattle.rx_counts.proofs.Arriving.{take_ok}
 use Rattle.rx_counts.proofs.Ending.{changed_sums, ended, end_unchanged}
@@ -40,11 +40,9 @@ leave-requires c =
     let f : Free T c.args.who (IsBare T c.args.who) = caller c.args.self.now T c.args.who (IsBare T c.args.who) c.requires.1 c.requires.2 (sym c.blow_there.ensures ∙ c.in_default.is) in
     let at = keeper_some c.args.self.now T c.args.who.scope c.in-Some-keeper_of.keeper _ c.requires.1 c.deref.ensures.value c.in-Some-keeper_of.ensures in
     let ok = take_ok T c.args.who (IsBare T c.args.who) c.args.self.now.scopes.items c.in-Some-keeper_of.keeper.0 (sound c.requires.1.reached) f at c.requires.1.fit.scopes in
-    let noted = c.in_default-note_ends.ensures.noted in
-    rw c.slot_of.ensures (
+    let noted = c.in_default-note_ends.ensures.noted in (
       subst (λ (n : ℕ). c.in-Some-keeper_of.keeper.0 < n) (sym noted.len) ok.0,
-      ok.1,
-      changed_sums (λ q. (1 ≤ count_in q (slot c.args.who.place)) × (1 ≤ q.total)) (ends_if c.eq-keeps.result c.args.thrown) c.args.who.scope.0 c.in-Some-keeper_of.keeper.0 c.args.self.now.scopes.items c.note_ends.new.scopes.items (λ r. refl) noted ok.2,
+      changed_sums (MayLeave c.args.who.place) (ends_if c.eq-keeps.result c.args.thrown) c.args.who.scope.0 c.in-Some-keeper_of.keeper.0 c.args.self.now.scopes.items c.note_ends.new.scopes.items (λ r. refl) noted ok.1,
     )
 
 pub returns : goal.returns
@@ -53,4 +51,4 @@ returns c = λ T s may.
     let at = keeper_some c.args.self.now T c.args.who.scope c.in-Some-keeper_of.keeper _ s c.deref.ensures.value c.in-Some-keeper_of.ensures in
     ended c.args.self.now _ T c.args.who c.args.thrown c.in-Some-keeper_of.keeper c.note_ends.new.scopes.items s may f at refl refl refl refl
     (subst (λ (b : Bool). Changed (ends_if b c.args.thrown) c.args.who.scope.0 c.args.self.now.scopes.items c.note_ends.new.scopes.items) c.eq-keeps.ensures c.in_default-note_ends.ensures.noted)
-    (subst (λ (n : ℕ). Changed (in_sums (less n)) c.in-Some-keeper_of.keeper.0 c.note_ends.new.scopes.items c.leave.new.scopes.items) c.slot_of.ensures c.leave.ensures)
+    c.leave.ensures

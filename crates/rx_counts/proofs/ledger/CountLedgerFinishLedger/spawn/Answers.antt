@@ -1,15 +1,16 @@
 use Rattle.std.specs.Prelude.{Err}
-use Rattle.std.specs.Prelude.{◌≡◌, ℕ, Some, IfSome, not}
+use Rattle.std.specs.Prelude.{◌≡◌, Some, IfSome, not}
 use Rattle.std.proofs.Common.{◌∙◌, sym, subst, refl, ap}
 use Rattle.std.proofs.lemmas.Bool.{true≢false}
 use Rattle.rx_base.specs.declared.ids.PlaceId.{PlaceId}
 use Rattle.rx_sound.proofs.Reached.{sound}
 use Rattle.rx_rules.specs.Tree.{Tree}
+use Rattle.rx_rules.specs.declared.tasks.Where.{Where}
 use Rattle.rx_finish.specs.declared.ledger.LedgerFault.{LedgerFault}
 use Rattle.rx_finish.specs.Callers.{IsMoving}
 use Rattle.rx_finish.specs.Calls.{SpawnReply}
 use Rattle.rx_finish.proofs.Allowed.{Free}
-use Rattle.rx_counts.specs.Stands.{StandsFor, record_at, Changed, in_sums, more, slot}
+use Rattle.rx_counts.specs.Stands.{StandsFor, record_at, Changed, in_sums, more}
 use Rattle.rx_counts.proofs.Asking.{was_lost, caller, keeper_some, keeper_found, keeper_known, none_kept}
 use Rattle.rx_counts.proofs.Born.{finish_known}
 use Rattle.rx_counts.proofs.Spawning.{bear_ok, spawned, start, finish_rooted}
@@ -23,7 +24,7 @@ bear-requires c =
     let T : Tree = c.requires.0 in
     let f : Free T c.args.who IsMoving = caller c.args.self.now T c.args.who IsMoving c.requires.1 c.requires.2.asks (sym c.blow_there.ensures ∙ c.in_default.is) in
     let at = keeper_some c.args.self.now T c.finish_of-scope.result c.in-Some-keeper_of.keeper _ c.requires.1 c.deref-2.ensures.value c.in-Some-keeper_of.ensures in
-    rw (c.slot_of.ensures, c.travel.ensures, c.place_of-from.ensures)
+    rw (c.travel.ensures, c.place_of-from.ensures)
     (bear_ok T c.args.who c.args.to c.args.self.now.scopes.items c.in-Some-keeper_of.keeper.0 (Some c.finish_of-scope.result) (sound c.requires.1.reached) c.requires.2 f at c.requires.1.fit.scopes)
 
 pub returns-in_default-keeper_of-clause-replies : goal.returns-in_default-keeper_of-clause-replies
@@ -37,6 +38,6 @@ returns-clause-replies c = λ T s may.
     let f : Free T c.args.who IsMoving = caller c.args.self.now T c.args.who IsMoving s may.asks (sym c.blow_there.ensures ∙ c.in_default.is) in
     let at = keeper_some c.args.self.now T c.finish_of-scope.result c.in-Some-keeper_of.keeper _ s c.deref-2.ensures.value c.in-Some-keeper_of.ensures in
     let fin = finish_known c.args.self.now T c.args.who IsMoving c.finish_of-scope.result s f (subst (λ rs. IfSome (record_at rs c.args.who.inner.0) (λ r. c.finish_of-scope.result ≡ r.finish)) c.deref.ensures.value c.finish_of-scope.ensures) in
-    let cell = c.slot_of.ensures ∙ ap slot (c.travel.ensures ∙ ap (λ (p : PlaceId). start p c.args.to) c.place_of-from.ensures) in
+    let cell = c.travel.ensures ∙ ap (λ (p : PlaceId). start p c.args.to) c.place_of-from.ensures in
     spawned c.args.self.now _ T c.args.who c.args.to _ c.finish_of-scope.result c.in-Some-keeper_of.keeper.0 _ s may f refl fin at (ap not c.lives-is_lost.ensures) refl refl refl refl c.bear.ensures.lost
-    (λ e. subst (λ (n : ℕ). Changed (in_sums (more n)) c.in-Some-keeper_of.keeper.0 c.args.self.now.scopes.items c.bear.new.scopes.items) cell (c.bear.ensures.joins e))
+    (λ e. subst (λ (w : Where). Changed (in_sums (more w)) c.in-Some-keeper_of.keeper.0 c.args.self.now.scopes.items c.bear.new.scopes.items) cell (c.bear.ensures.joins e))

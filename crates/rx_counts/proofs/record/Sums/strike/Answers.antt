@@ -1,18 +1,18 @@
-use Rattle.std.proofs.Common.{◌≡◌, ◌∙◌, ap, ℕ, ◌≤◌, arith, refl, rules, length}
+use Rattle.std.proofs.Common.{◌≡◌, ◌∙◌, ap, ℕ, ◌≤◌, arith, refl}
 use Rattle.std.specs.Prelude.{◌||◌, ◌&&◌, ◌==◌, ltb}
 use Rattle.rx_base.specs.Sets.{has_bit}
 use Rattle.rx_counts.specs.Inside.Dying.{hits}
+use Rattle.rx_counts.proofs.Clearing.{struck_cells}
 use Rattle.rx_counts.proofs.record.Sums.strike.Goals as goal
 
 pub returns : goal.returns
 returns c =
-    let sum : c.clear_hit-hurt.result ≡ hits c.args.d.0 c.args.self.now.counts = c.clear_hit-hurt.ensures.sum in
-    let le : hits c.args.d.0 c.args.self.now.counts ≤ c.args.self.now.total = c.requires.1 in
-    let len : length c.args.self.now.counts ≡ 272 = search rules in
-    let same : length c.clear_hit-hurt.new.counts ≡ length c.args.self.now.counts = search rules in
+    let sum : c.clear_hit-hurt.result ≡ hits c.args.self.now.places c.args.d.0 c.args.self.now.counts = c.clear_hit-hurt.ensures.sum in
+    let le : hits c.args.self.now.places c.args.d.0 c.args.self.now.counts ≤ c.args.self.now.total = c.requires.1.total in
     record {
-      cells = same;
-      counts = λ k low. c.clear_hit-hurt.ensures.cleared k (omega arith);
+      places = refl;
+      cells = c.clear_hit-hurt.ensures.len;
+      counts = struck_cells c.args.d c.args.self.now.places c.args.self.now.counts c.clear_hit-hurt.new.counts c.requires.1.cells c.clear_hit-hurt.ensures.len c.clear_hit-hurt.ensures.cleared;
       total = omega arith;
       orphans = refl;
       lost = λ p low. c.lost_if-self.ensures p low ∙ ap (λ (n : ℕ). has_bit c.args.self.now.lost.0 p || (ltb 0 n && (c.args.d.0 == p))) sum;

@@ -1,1 +1,0 @@
-use Rattle.rx_counts.proofs.tests.told.Goals as goal

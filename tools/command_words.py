@@ -4,17 +4,19 @@ import difflib
 import os
 import re
 
+MOST_MOMENT = 1000000
+MOST_PLACES = 16
 RANGES = {
-    "--places": (1, 16, "the number of places"),
+    "--places": (1, MOST_PLACES, "the number of places"),
     "--heap": (1, 4096, "the words of each place's heap"),
     "--workers": (1, 8, "the number of workers"),
     "--size": (1, 10000, "the lines of the script"),
     "--seed": (0, 18446744073709551615, "a seed"),
+    "--join": (0, MOST_MOMENT, "how many entries the history has when a place joins"),
 }
-MOST_MOMENT = 1000000
 OPTIONS = {
-    "step": ["--places", "--heap", "--kill", "--pick", "--seed"],
-    "live": ["--places", "--heap", "--kill", "--workers"],
+    "step": ["--places", "--heap", "--kill", "--join", "--pick", "--seed"],
+    "live": ["--places", "--heap", "--kill", "--join", "--workers"],
     "gen": ["--size", "--places", "--heap", "--kill", "--seed"],
     "check": [],
 }
@@ -40,24 +42,42 @@ def number_of(text):
     return int(text) if re.fullmatch("0|[1-9][0-9]*", text) else None
 
 
+def planned(words):
+    """The number of places at the opening, and the moments of the joins in order."""
+    places, joins = 2, []
+    for option, value in zip(words[1::2], words[2::2]):
+        if option == "--places":
+            places = number_of(value) or places
+        if option == "--join":
+            joins.append(number_of(value) or 0)
+    return places, sorted(joins)
+
+
+def why_join(words, k):
+    """What is wrong with the value of `--join` at word k."""
+    moment = number_of(words[k])
+    if moment is None or moment > MOST_MOMENT:
+        return value_rule("--join")
+    return "with this join there are more than %d places; %d are there at the opening" % (MOST_PLACES, planned(words)[0])
+
+
 def why_kill(words, k):
     """What is wrong with the value of `--kill` at word k."""
     form = re.fullmatch("(0|[1-9][0-9]*)@(0|[1-9][0-9]*)", words[k])
     if not form or int(form[1]) > 15 or int(form[2]) > MOST_MOMENT:
         return value_rule("--kill")
-    place, places = int(form[1]), 2
-    earlier = set()
-    for i in range(1, len(words) - 1, 2):
-        if words[i] == "--places":
-            places = number_of(words[i + 1]) or places
-        if words[i] == "--kill" and i + 1 < k:
-            earlier.add(words[i + 1].split("@")[0])
+    place = int(form[1])
+    places, joins = planned(words)
+    earlier = {value.split("@")[0] for option, value in zip(words[1:k - 1:2], words[2:k - 1:2]) if option == "--kill"}
     if place == 0:
         return "place 0 never dies"
-    if place >= places:
-        return "there is no place %d: the places are 0 to %d (`--places %d` has it)" % (place, places - 1, place + 1)
+    if place >= places + len(joins):
+        last = places + len(joins) - 1
+        return "there is no place %d: the places are 0 to %d (`--places %d` has it)" % (place, last, place + 1)
     if form[1] in earlier:
         return "an earlier `--kill` has place %d already, and a place dies once" % place
+    if place >= places and joins[place - places] > int(form[2]):
+        return "place %d joins at moment %d, and no place dies before it joins" % (place, joins[place - places])
     return value_rule("--kill")
 
 
@@ -102,6 +122,8 @@ def why(words, k):
         return "`gen` needs `--size LINES`" if words[0] == "gen" else "a word is missing"
     if k % 2 == 1:
         return why_option(words, k)
+    if words[k - 1] == "--join":
+        return why_join(words, k)
     return why_kill(words, k) if words[k - 1] == "--kill" else value_rule(words[k - 1])
 
 

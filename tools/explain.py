@@ -104,8 +104,6 @@ def of_syntax(name, text, at):
     else:
         shown = "`%s` can't stand here" % (token.text if len(token.text) <= 40 else token.text[:40] + "..")
     notes = [it for it in [script_text.fault_of(token)] if it]
-    if token.text == "census":
-        notes.append("no statement begins with `census` yet")
     if token.text in script_text.KEYWORDS and wanted == ["a name"]:
         notes.append("`%s` is a word of the language, and no name" % token.text)
     message = "%s%s" % (shown, ": %s must come" % any_of(wanted) if wanted else "")

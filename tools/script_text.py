@@ -8,7 +8,7 @@ import re
 from dataclasses import dataclass, field
 
 KEYWORDS = frozenset("set new get put forget print throw async at finish if else repeat try catch dead here census".split())
-STARTS = frozenset("set new get put forget print throw async at finish if repeat try".split())
+STARTS = frozenset("set new get put forget print census throw async at finish if repeat try".split())
 TOKEN = re.compile(
     rb"(?P<gap>[ \t\n\r]+|#[^\n]*)|(?P<word>[a-z][a-z0-9_]*)|(?P<number>[0-9][0-9a-z_]*)"
     rb"|(?P<sign>==|[{}()\[\]=;+\-*<,])|(?P<other>.)",
@@ -171,6 +171,8 @@ class Reader:
             self.take_expression(statement)
         elif kind == "forget":
             self.take_name(statement, "target")
+        elif kind == "census":
+            self.take_name(statement, "number")
         else:
             self.take_expression(statement)
         self.take(";")

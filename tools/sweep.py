@@ -3,10 +3,11 @@
 
 usage: rx10 sweep FILE [OPTION..]
 
-Each place but 0 dies at each moment of the run, one death a run; and the script runs once without a death. Runs with the same exit status,
-prints, faults at the root, lost places and masked faults make one line of the table, with the least kills that lead to it.
+Each place but 0 dies at each moment of the run, a place that joins at each moment from then on, one death a run; and the script runs once
+without a death. Runs with the same exit status, prints, faults at the root, lost places and masked faults make one line of the table, with
+the least kills that lead to it.
 
-  --places N --heap W --kill P@M .. --pick K,.. --seed S   as for step; these kills are in every run
+  --places N --heap W --kill P@M .. --join M .. --pick K,.. --seed S   as for step; these kills and joins are in every run
   --pairs            two deaths a run as well: every pair of places and moments
   --seeds N          all of this under each of the schedules of the seeds 0 to N - 1
   --no-deaths        no deaths but those of --kill: with --seeds, the schedules alone
@@ -92,12 +93,14 @@ class Sweep:
             value = getattr(given, option)
             if value is not None:
                 self.base += ["--%s" % option, value]
+        for join in given.join:
+            self.base += ["--join", join]
         for kill in given.kill:
             self.base += ["--kill", kill]
 
-    def keys(self):
-        """The places that may die, those that a `--kill` names left out."""
-        places = int(self.given.places or 2)
+    def keys(self, moment):
+        """The places that may die at this moment: those that are there or join then, those that a `--kill` names left out."""
+        places = int(self.given.places or 2) + sum(int(it) <= moment for it in self.given.join)
         named = {it.split("@")[0] for it in self.given.kill}
         return [it for it in range(1, places) if str(it) not in named]
 
@@ -134,12 +137,12 @@ class Sweep:
                 return
             singles = []
             for (seed, _), length in zip(first, lengths):
-                singles += [(seed, ((moment, place),)) for moment in range(length) for place in self.keys()]
+                singles += [(seed, ((moment, place),)) for moment in range(length) for place in self.keys(moment)]
             lengths = self.all_of(pool, singles)
             if self.given.pairs:
                 pairs = []
                 for (seed, (one,)), length in zip(singles, lengths):
-                    pairs += [(seed, (one, (moment, place))) for moment in range(one[0], length) for place in self.keys()
+                    pairs += [(seed, (one, (moment, place))) for moment in range(one[0], length) for place in self.keys(moment)
                               if place != one[1] and (moment, place) > one]
                 self.all_of(pool, pairs)
 
@@ -192,6 +195,7 @@ def arguments(words):
     for option in ("--places", "--heap", "--pick", "--seed", "--expect"):
         parser.add_argument(option)
     parser.add_argument("--kill", action="append", default=[])
+    parser.add_argument("--join", action="append", default=[])
     parser.add_argument("--pairs", action="store_true")
     parser.add_argument("--no-deaths", action="store_true")
     parser.add_argument("--seeds", type=int)

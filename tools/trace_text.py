@@ -1,8 +1,7 @@
 """Traces as texts, taken apart for the tools. docs/trace.md has the format.
 
 What is no trace is refused with the number of the line, but this reading is for pictures and tables: it asks less than the program's own
-reader does, and no claim of the repository rests on it. It takes both versions of the text: the second has places that join, a census, and
-numbers of masked faults.
+reader does, and no claim of the repository rests on it.
 """
 
 from dataclasses import dataclass, field
@@ -45,7 +44,6 @@ class Event:
 class Trace:
     """A trace: the number of places at the opening, their heap words, kills and joins as they were asked for, entries and events."""
 
-    version: int
     places: int
     heap: int
     kills: list
@@ -155,12 +153,10 @@ def read_trace(text):
         at += 1
         return line[len(start):].split()
 
-    version = take("rx10 trace ")
+    take("rx10 trace 2")
     try:
         places = take("places ")
-        trace = Trace(int(version[0]), int(places[0]), int(places[2]), take("kills"), [], [], [])
-        if trace.version >= 2:
-            trace.joins = take("joins")
+        trace = Trace(int(places[0]), int(places[2]), take("kills"), take("joins"), [], [])
         take("history")
         while at < len(lines) and not lines[at].startswith("journal "):
             trace.entries.append(entry_of(lines[at], len(trace.entries)))

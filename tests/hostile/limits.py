@@ -61,6 +61,9 @@ WORDS = [
     (["step", "--kill", "1@1", "--kill", "1@2"], 4), (["step", "--pick", "1", "--seed", "1"], 3),
     (["gen", "--size", "10001"], 2), (["gen", "--size", "1", "--size", "1"], 3), (["check", "check"], 1), (["step", "--places", "-1"], 2),
     (["step", "--heap", "4097"], 2), (["step", "--heap", "0"], 2), (["step", "--kill", "1@1000001"], 2),
+    (["step", "--join", "1000001"], 2), ([b"step", b"--join", b"\xff"], 2), (["step", "--join", "1" * 5000], 2), (["gen", "--join", "1"], 1),
+    (["step", *["--join", "1"] * 9000], 30), (["step", "--places", "16", "--join", "1"], 4), (["step", *["--join", "1"] * 14], None),
+    (["step", "--places", "2", "--join", "5", "--kill", "2@4"], 6), (["step", "--places", "2", "--join", "5", "--kill", "2@5"], None),
 ]
 
 

@@ -142,15 +142,15 @@ def is_whole(out, status, command):
         return len(lines) == 1 and lines[0].startswith("work ") and status == 0
     if command == "gen":
         return [line.split(" ")[0] for line in lines] == ["entries", "tasks", "prints", "deaths", "losses"]
-    if len(lines) < 6 or lines[0] != "rx10 trace 1" or lines[-1] != "done" or lines[3] != "history":
+    if len(lines) < 7 or lines[0] != "rx10 trace 2" or lines[-1] != "done" or lines[4] != "history":
         return False
-    places = int(lines[1].split(" ")[1])
+    places = int(lines[1].split(" ")[1]) + len(lines[3].split(" ")) - 1
     starts = [n for n, line in enumerate(lines) if line.startswith("journal ")]
     if [lines[n] for n in starts] != ["journal %d" % place for place in range(places)]:
         return False
-    for first, last in zip([3, *starts], [*starts, len(lines) - 1]):
+    for first, last in zip([4, *starts], [*starts, len(lines) - 1]):
         if any(int(line.split(" ", 1)[0]) != n for n, line in enumerate(lines[first + 1:last])):
             return False
     root = lines[starts[0] - 1].split(" ")
-    roots = [n for n in range(4, starts[0]) if " release host " in lines[n]]
+    roots = [n for n in range(5, starts[0]) if " release host " in lines[n]]
     return root[1:4] == ["release", "host", "s0"] and roots == [starts[0] - 1] and (len(root) > 4) == (status == 1)

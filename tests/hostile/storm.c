@@ -216,7 +216,10 @@ static void statement(int depth) {
     switch (deep ? below(8) : below(20)) {
     case 0: case 1: put("set n%ld = ", below(4)); expression(0); put("; "); break;
     case 2: put("new r%ld = ", below(3)); put("%ld; ", 1 + below(5)); break;
-    case 3: put("get n%ld = ", below(3)); put("r%ld[", below(2)); expression(3); put("]; "); break;
+    case 3:
+        if (one_in(3)) { put("census n%ld; ", below(4)); break; }
+        put("get n%ld = ", below(3)); put("r%ld[", below(2)); expression(3); put("]; ");
+        break;
     case 4: put("put r%ld[", below(2)); expression(3); put("] = "); expression(2); put("; "); break;
     case 5: put("forget r%ld; ", below(2)); break;
     case 6: put("print "); expression(0); put("; "); break;
@@ -321,14 +324,20 @@ static void make_words(void) {
     int gen = one_in(12);
     word(gen ? "gen" : "step");
     if (gen) { word("--size"); word("%ld", one_in(50) ? 1 + below(300) : 1 + below(12)); }
-    long places = 2;
+    long places = 2, joins = 0, joined[3];
     if (!one_in(3)) { word("--places"); word("%ld", places = one_in(8) ? 1 + below(16) : 2 + below(4)); }
     if (one_in(4)) { word("--heap"); word("%ld", one_in(20) ? 4096 : 1 + below(12)); }
-    for (long k = one_in(2) ? 0 : 1 + below(3), first = 1; k > 0 && first < places; k--) {
-        long place = first + below(places - first);
+    for (long k = gen || !one_in(3) ? 0 : 1 + below(3), moment = 0; k > 0 && places + joins < 16; k--) {
+        moment += one_in(10) ? below(1000) : below(12);
+        word("--join");
+        word("%ld", joined[joins++] = moment);
+    }
+    for (long k = one_in(2) ? 0 : 1 + below(3), first = 1; k > 0 && first < places + joins; k--) {
+        long place = first + below(places + joins - first);
         first = place + 1;
         word("--kill");
         long moment = one_in(10) ? below(1000) : below(25);
+        if (place >= places && moment < joined[place - places]) moment = joined[place - places];
         word("%ld@%ld", place, moment);
     }
     if (one_in(3)) {
@@ -347,6 +356,7 @@ static void make_words(void) {
     case 1: count = (int)below(count + 1); break;
     case 2: {
         long place = below(18);
+        if (one_in(3)) { word("--join"); word("%ld", one_in(2) ? below(9) : 1000001); break; }
         word("--kill");
         word("%ld@%ld", place, one_in(2) ? below(9) : 1000001);
         break;
@@ -411,7 +421,7 @@ static int says(const Answer *a, const char *line) {
 static int is_no_memory(const Answer *a) { return a->status == 8 && says(a, "no memory\n") && !a->out_len; }
 
 static void hold_trace(const Answer *a) {
-    static const char head[] = "rx10 trace 1\nplaces ", tail[] = "\ndone\n", journal[] = "\njournal 0\n", root[] = " release host s0";
+    static const char head[] = "rx10 trace 2\nplaces ", tail[] = "\ndone\n", journal[] = "\njournal 0\n", root[] = " release host s0";
     if (a->out_len < 60 || memcmp(a->out, head, sizeof head - 1)) fail("a trace has no head");
     if (memcmp(a->out + a->out_len - sizeof tail + 1, tail, sizeof tail - 1)) fail("a trace has no end");
     char *at = memmem(a->out, a->out_len, journal, sizeof journal - 1);

@@ -14,19 +14,19 @@ _rx10() {
             compopt -o default
             return
             ;;
-        --heap | --kill | --pick | --seed | --size | --seeds | --jobs | --columns | --title) return ;;
+        --heap | --kill | --join | --pick | --seed | --size | --seeds | --jobs | --columns | --title) return ;;
     esac
     if [ -n "$words" ]; then
         mapfile -t COMPREPLY < <(compgen -W "$words" -- "$now")
         return
     fi
     case $command in
-        step) words='--places --heap --kill --pick --seed --help' ;;
-        live) words='--places --heap --kill --workers --help' ;;
+        step) words='--places --heap --kill --join --pick --seed --help' ;;
+        live) words='--places --heap --kill --join --workers --help' ;;
         gen) words='--size --places --heap --kill --seed --help' ;;
         check) words='--help' ;;
         draw) words='-o --script --columns --title --svg --perfetto --help' ;;
-        sweep) words='--places --heap --kill --pick --seed --pairs --seeds --no-deaths --jobs --expect --help' ;;
+        sweep) words='--places --heap --kill --join --pick --seed --pairs --seeds --no-deaths --jobs --expect --help' ;;
         explain) words='--help' ;;
         install)
             compopt -o filenames

@@ -1,4 +1,4 @@
-"""Pictures: what a trace says is in them, of both versions of the text, and what is no trace is refused."""
+"""Pictures: what a trace says is in them, and what is no trace is refused."""
 
 import json
 import pathlib
@@ -11,7 +11,7 @@ import trace_text
 from places import EXAMPLES
 from test_launcher import launch
 
-SECOND = """rx10 trace 2
+JOINING = """rx10 trace 2
 places 1 heap 256
 kills 1@7
 joins 1
@@ -56,8 +56,8 @@ class Pictures(unittest.TestCase):
         for outside in ("http:", "https:", "src=", "@import"):
             self.assertNotIn(outside, done.stdout)
 
-    def test_the_second_version(self):
-        done = launch("draw", "--svg", "-o", "-", input=SECOND.encode())
+    def test_a_place_that_joins(self):
+        done = launch("draw", "--svg", "-o", "-", input=JOINING.encode())
         self.assertEqual(done.returncode, 0, done.stderr)
         for part in ("place 1 joins", "lost 1, masked 2, thrown code:5", "thrown dead:1 code:5 x2", 'class="census"'):
             self.assertIn(part, done.stdout)
@@ -79,7 +79,8 @@ class Pictures(unittest.TestCase):
             self.assertEqual(launch("draw", EXAMPLES / "hello.trace", cwd=room).returncode, 0)
             self.assertEqual([it.name for it in pathlib.Path(room).iterdir()], ["hello.html"])
         cut = (EXAMPLES / "hello.trace").read_bytes()[:200]
-        cases = [([], b"junk", 1), ([], cut, 1), ([EXAMPLES / "hello.rx"], b"", 1), (["none.trace"], b"", 125)]
+        earlier = JOINING.replace("trace 2", "trace 1").encode()
+        cases = [([], b"junk", 1), ([], earlier, 1), ([], cut, 1), ([EXAMPLES / "hello.rx"], b"", 1), (["none.trace"], b"", 125)]
         cases.append((["--columns", "0"], b"", 2))
         for words, given, status in cases:
             done = launch("draw", *words, input=given)

@@ -36,6 +36,12 @@ WORDS = [
     ("step --places 2 --kill 0@3", 4, "place 0 never dies"),
     ("step --kill 3@1", 2, "`--places 4` has it"),
     ("step --kill 1@1 --kill 1@2", 4, "an earlier `--kill` has place 1"),
+    ("step --places 2 --join 5 --kill 2@4", 6, "place 2 joins at moment 5"),
+    ("step --kill 3@4 --join 4 --join 5", 2, "place 3 joins at moment 5"),
+    ("step --kill 3@4 --join 4", 2, "there is no place 3: the places are 0 to 2"),
+    ("step --places 16 --join 1", 4, "there are more than 16 places"),
+    ("step --join 1000001", 2, "from 0 to 1000000"),
+    ("gen --join 1", 1, "`gen` has no option `--join`"),
     ("step --seed 5 --pick 0", 3, "exclude each other"),
     ("step --seed 5 --seed 6", 3, "stands twice"),
     ("step --places=3", 1, "write `--places 3`"),
@@ -69,7 +75,7 @@ class Faults(unittest.TestCase):
         self.assertEqual(shown[2][shown[3].index("^"):], "prin")
 
     def test_pairs_and_lines_of_traces(self):
-        shown = explain.explained(10, "bad line 2", "x", b"rx10 pair 8\nprint 7;rx10 trace 1\nplace 2\n", ["verify"])
+        shown = explain.explained(10, "bad line 2", "x", b"rx10 pair 8\nprint 7;rx10 trace 2\nplace 2\n", ["verify"])
         self.assertTrue(shown.startswith("x:3:1: line 2 of the trace can't stand here"), shown)
         self.assertIn("is no pair", explain.explained(9, "bad pair", "x", b"", ["verify"]))
 

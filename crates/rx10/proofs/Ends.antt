@@ -7,41 +7,46 @@ use Rattle.rx_base.specs.Sets.{members, MembersMakeTheSet}
 use Rattle.rx_base.specs.declared.place_set.PlaceSet.{PlaceSet}
 use Rattle.rx_base.specs.declared.values.Fault.{Fault}
 use Rattle.rx_rules.specs.declared.entries.Entry.{Entry}
-use Rattle.rx_rules.specs.declared.entries.Entry.TheVariants.{Step, Root, Death}
+use Rattle.rx_rules.specs.declared.entries.Entry.TheVariants.{Step, Root, Death, Join}
 use Rattle.rx_rules.specs.Run.{EndsWithRoot}
 use Rattle.rx10.specs.Top.{is_clean, status_by, status_of}
 
 -- it is the root's release, whose losses and faults give the status
 pub record IsLast (es : List Entry) (e : Entry) : Type 0 where
   pub lost : PlaceSet
+  pub masked : ℕ
   pub thrown : List Fault
-  pub is : e ≡ Root lost thrown
+  pub is : e ≡ Root lost masked thrown
   pub status : status_of es ≡ status_by (is_clean lost thrown)
 
 some-is : (x y : Entry) → Some x ≡ Some y → x ≡ y
 some-is x y e = cc
 
 wider : (x : Entry) (es : List Entry) (e : Entry) → status_of (x ∷ es) ≡ status_of es → IsLast es e → IsLast (x ∷ es) e
-wider x es e same l = record { lost = l.lost; thrown = l.thrown; is = l.is; status = same ∙ l.status }
+wider x es e same l = record { lost = l.lost; masked = l.masked; thrown = l.thrown; is = l.is; status = same ∙ l.status }
 
 pub last-root : (es : List Entry) (i : ℕ) (e : Entry) → EndsWithRoot es → i + 1 ≡ length es → slice_get es i ≡ Some e → IsLast es e
 last-root [] i e ends at get = absurd ends
-last-root (Root lost thrown ∷ []) zero e ends at get = record { lost = lost; thrown = thrown; is = sym (some-is (Root lost thrown) e get); status = refl }
-last-root (Root lost thrown ∷ []) (suc i) e ends at get = absurd (omega (arith, at))
-last-root (Root lost thrown ∷ x ∷ es) i e ends at get = cc
+last-root (Root lost masked thrown ∷ []) zero e ends at get =
+    record { lost = lost; masked = masked; thrown = thrown; is = sym (some-is (Root lost masked thrown) e get); status = refl }
+last-root (Root lost masked thrown ∷ []) (suc i) e ends at get = absurd (omega (arith, at))
+last-root (Root lost masked thrown ∷ x ∷ es) i e ends at get = cc
 last-root (Step t act batch ∷ []) i e ends at get = absurd ends
 last-root (Step t act batch ∷ x ∷ es) zero e ends at get = absurd (omega (arith, at))
 last-root (Step t act batch ∷ x ∷ es) (suc i) e ends at get = wider (Step t act batch) (x ∷ es) e refl (last-root (x ∷ es) i e ends (omega (arith, at)) get)
 last-root (Death d ∷ []) i e ends at get = absurd ends
 last-root (Death d ∷ x ∷ es) zero e ends at get = absurd (omega (arith, at))
 last-root (Death d ∷ x ∷ es) (suc i) e ends at get = wider (Death d) (x ∷ es) e refl (last-root (x ∷ es) i e ends (omega (arith, at)) get)
+last-root (Join p ∷ []) i e ends at get = absurd ends
+last-root (Join p ∷ x ∷ es) zero e ends at get = absurd (omega (arith, at))
+last-root (Join p ∷ x ∷ es) (suc i) e ends at get = wider (Join p) (x ∷ es) e refl (last-root (x ∷ es) i e ends (omega (arith, at)) get)
 
 -- a status by a test
-pub by-test : (lost : PlaceSet) (thrown : List Fault) (es : List Entry) (l : IsLast es (Root lost thrown)) → (b : Bool) → b ≡ is_clean lost thrown → status_by b ≡ status_of es
-by-test lost thrown es l b e = ap status_by (e ∙ same lost thrown l.lost l.thrown l.is) ∙ sym l.status
+pub by-test : (lost : PlaceSet) (masked : ℕ) (thrown : List Fault) (es : List Entry) (l : IsLast es (Root lost masked thrown)) → (b : Bool) → b ≡ is_clean lost thrown → status_by b ≡ status_of es
+by-test lost masked thrown es l b e = ap status_by (e ∙ same lost masked thrown l.lost l.masked l.thrown l.is) ∙ sym l.status
   where
-    same : (a : PlaceSet) (x : List Fault) (d : PlaceSet) (y : List Fault) → Root a x ≡ Root d y → is_clean a x ≡ is_clean d y
-    same a x d y e = cc
+    same : (a : PlaceSet) (m : ℕ) (x : List Fault) (d : PlaceSet) (n : ℕ) (y : List Fault) → Root a m x ≡ Root d n y → is_clean a x ≡ is_clean d y
+    same a m x d n y e = cc
 
 -- nothing was lost where no place is a member
 none-lost : MembersMakeTheSet → (lost : PlaceSet) → lost.0 < 2 ^ 16 → (lost.0 == 0) ≡ (length (members lost) == 0)

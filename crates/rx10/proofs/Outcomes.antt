@@ -1,7 +1,7 @@
 -- The text of a trace tells the status, and words with known bytes have one outcome.
 use Rattle.std.proofs.lemmas.Bool.{eq-eqb, true≢false}
-use Rattle.std.proofs.Common.{get_or, ◌≡◌, ℕ, zero, suc, ◌+◌, ◌<◌, ◌≤◌, Bool, true, false, ◌&&◌, ◌==◌, List, [], ◌∷◌, ◌++◌, Option, Some, None, refl, ap, sym, ◌∙◌, subst, arith, append_assoc, map}
-use Rattle.std.specs.Prelude.{codes, length, cond, fold}
+use Rattle.std.proofs.Common.{get_or, ◌≡◌, ℕ, zero, suc, ◌+◌, ◌<◌, ◌≤◌, Bool, true, false, ◌&&◌, ◌==◌, List, [], ◌∷◌, ◌++◌, Option, Some, None, refl, ap, sym, ◌∙◌, subst, arith, append_assoc, append-nil, map}
+use Rattle.std.specs.Prelude.{not, codes, length, cond, fold}
 use Rattle.std.specs.List.{count_by}
 use Rattle.std.proofs.lemmas.List.{length-map, append_cancel_left}
 use Rattle.std.proofs.lemmas.Bool.Decides.{nat_tests}
@@ -12,9 +12,9 @@ use Rattle.rx_base.specs.declared.place_set.PlaceSet.{PlaceSet}
 use Rattle.rx_base.specs.declared.values.Fault.{Fault}
 use Rattle.rx_base.specs.Sets.{members}
 use Rattle.rx_rules.specs.declared.entries.Act.{Act}
-use Rattle.rx_rules.specs.declared.entries.Act.TheVariants.{Open, At, Spawn, Arrive, Wait, Release, End, Print}
+use Rattle.rx_rules.specs.declared.entries.Act.TheVariants.{Open, At, Spawn, Arrive, Wait, Release, End, Print, Census}
 use Rattle.rx_rules.specs.declared.entries.Entry.{Entry}
-use Rattle.rx_rules.specs.declared.entries.Entry.TheVariants.{Step as StepEntry, Root, Death}
+use Rattle.rx_rules.specs.declared.entries.Entry.TheVariants.{Step as StepEntry, Root, Death, Join}
 use Rattle.rx_rules.specs.declared.events.PlaceEvent.{PlaceEvent}
 use Rattle.rx_rules.specs.Code.{Block}
 use Rattle.rx_rules.specs.Run.{Given, Proper, EndsWithRoot}
@@ -22,7 +22,7 @@ use Rattle.rx_runs.specs.PickedRuns.{OnePickedRun, plain_set, plain_act, plain}
 use Rattle.rx_runs.proofs.Plain.{members_plain}
 use Rattle.rx_text.specs.Numbers.{natural_text}
 use Rattle.rx_trace.specs.Fields.{natural_field, fault_field, task_field, scope_field}
-use Rattle.rx_trace.specs.Parts.{lost_part, thrown_part, release_parts, part_text, batch_part}
+use Rattle.rx_trace.specs.Parts.{lost_part, masked_part, thrown_part, release_parts, part_text, batch_part}
 use Rattle.rx_trace.specs.EntryLines.{act_word, entry_text, entry_line, entry_lines}
 use Rattle.rx_trace.specs.EventLines.{journals_lines, journal_lines}
 use Rattle.rx_trace.specs.Text.{trace_text, setup_lines}
@@ -37,51 +37,81 @@ use Rattle.rx10.specs.declared.status.Status.TheVariants.{Done, Faulted}
 use Rattle.rx10.specs.Top.{is_clean, status_by, status_of, picks_of, work_line, HasRun, IsTrace, IsCount, IsOutcome, WasScript}
 use Rattle.rx10.specs.Outcomes.{IsKnown, TextTellsStatus, OneOutcome}
 use Rattle.rx10.proofs.Known.{all-read}
-use Rattle.rx10.proofs.Lines.{line-plain, one-line}
+use Rattle.rx10.proofs.Lines.{without, without-both, masked-without, line-plain, one-line}
 
 -- The root's release.
 
 not-zero : (n : ℕ) → 0 < n → (n == 0) ≡ false
 not-zero n h = grind (arith, nat_tests)
 
--- a release is clean where its line names nothing
-clean-told : (lost : PlaceSet) (thrown : List Fault) → is_clean lost thrown ≡ (length (release_parts lost thrown) == 0)
-unfolding lost_part
-clean-told lost thrown = by (members lost) thrown
-  where
-    by : (ms : List ℕ) (ts : List Fault) → ((length ms == 0) && (length ts == 0)) ≡ (length (part_text (codes " lost") natural_field ms ++ part_text (codes " thrown") fault_field ts) == 0)
-    by [] [] = refl
-    by [] (t ∷ ts) = not-zero (length (t ∷ ts)) (omega arith) ∙ sym (not-zero (length (part_text (codes " thrown") fault_field (t ∷ ts))) (omega arith))
-    by (m ∷ ms) ts =
-        ap (λ b. b && (length ts == 0)) (not-zero (length (m ∷ ms)) (omega arith))
-        ∙ sym (not-zero (length (part_text (codes " lost") natural_field (m ∷ ms) ++ part_text (codes " thrown") fault_field ts)) (omega arith))
-
-root-told : (lost other : PlaceSet) (thrown raised : List Fault) → entry_text (Root lost thrown) ≡ entry_text (Root other raised) → is_clean lost thrown ≡ is_clean other raised
-root-told lost other thrown raised e =
-    let parts : release_parts lost thrown ≡ release_parts other raised = append_cancel_left (codes " release host s0") (release_parts lost thrown) (release_parts other raised) e in
-    clean-told lost thrown ∙ ap (λ t. length t == 0) parts ∙ sym (clean-told other raised)
-
--- no other line is that of the root's release: it differs in its second byte, or in its tenth
+-- the byte of a text at a position; 0 past its end
 byte : ℕ → List ℕ → ℕ
 byte i bytes = get_or bytes i 0
 
+-- What a release names is clean where it does not begin with the lost places, whose second byte is an l (108), and has no w (119), which
+-- stands in the word before the faults and nowhere in front of it.
+abbrev names_none : List ℕ → Bool
+names_none parts = not (byte 1 parts == 108) && without 119 parts
+
+and-false : (b : Bool) → (b && false) ≡ false
+and-false true = refl
+and-false false = refl
+
+-- what a release names
+abbrev parts_of : List ℕ → ℕ → List Fault → List ℕ
+parts_of ms n ts = part_text (codes " lost") natural_field ms ++ masked_part n ++ part_text (codes " thrown") fault_field ts
+
+thrown-told : (n : ℕ) (t : Fault) (ts : List Fault) → names_none (parts_of [] n (t ∷ ts)) ≡ false
+thrown-told n t ts =
+    let some : List ℕ = part_text (codes " thrown") fault_field (t ∷ ts) in
+    let second : Bool = not (byte 1 (masked_part n ++ some) == 108) in
+    ap (λ b. second && b) (without-both 119 (masked_part n) some ∙ and-false (without 119 (masked_part n))) ∙ and-false second
+
+masked-told : (n : ℕ) → names_none (masked_part n) ≡ true
+unfolding masked_part byte
+masked-told n = by (n == 0) (masked-without 119 n refl refl)
+  where
+    by : (b : Bool) → without 119 (cond b [] (codes " masked" ++ natural_field n)) ≡ true → names_none (cond b [] (codes " masked" ++ natural_field n)) ≡ true
+    by true h = refl
+    by false h = h
+
+clean-told : (lost : PlaceSet) (masked : ℕ) (thrown : List Fault) → is_clean lost thrown ≡ names_none (release_parts lost masked thrown)
+unfolding lost_part masked_part byte
+clean-told lost masked thrown = by (members lost) masked thrown
+  where
+    by : (ms : List ℕ) (n : ℕ) (ts : List Fault) → ((length ms == 0) && (length ts == 0)) ≡ names_none (parts_of ms n ts)
+    by [] n [] = sym (ap names_none (append-nil (masked_part n)) ∙ masked-told n)
+    by [] n (t ∷ ts) = not-zero (length (t ∷ ts)) (omega arith) ∙ sym (thrown-told n t ts)
+    by (m ∷ ms) n ts = ap (λ b. b && (length ts == 0)) (not-zero (length (m ∷ ms)) (omega arith))
+
+root-told : (lost other : PlaceSet) (masked hidden : ℕ) (thrown raised : List Fault) → entry_text (Root lost masked thrown) ≡ entry_text (Root other hidden raised) → is_clean lost thrown ≡ is_clean other raised
+root-told lost other masked hidden thrown raised e =
+    let parts : release_parts lost masked thrown ≡ release_parts other hidden raised = append_cancel_left (codes " release host s0") (release_parts lost masked thrown) (release_parts other hidden raised) e in
+    clean-told lost masked thrown ∙ ap names_none parts ∙ sym (clean-told other hidden raised)
+
+-- no other line is that of the root's release: it differs in its second byte, or in its tenth
 apart : (i : ℕ) (a b : List ℕ) → (byte i a == byte i b) ≡ false → a ≡ b → ⊥
 apart i a b d e = let same : byte i a ≡ byte i b = ap (byte i) e in let test : (byte i a == byte i b) ≡ true = eq-eqb (byte i a) (byte i b) same in true≢false (sym test ∙ d)
 
-not-root : (lost : PlaceSet) (thrown : List Fault) (t : TaskId) (act : Act) (batch : List (List ℕ)) → entry_text (Root lost thrown) ≡ entry_text (StepEntry t act batch) → ⊥
+not-root : (lost : PlaceSet) (masked : ℕ) (thrown : List Fault) (t : TaskId) (act : Act) (batch : List (List ℕ)) → entry_text (Root lost masked thrown) ≡ entry_text (StepEntry t act batch) → ⊥
 unfolding byte
-not-root lost thrown t (Open s r x) batch e = apart 1 _ _ refl e
-not-root lost thrown t (At s r c p q x) batch e = apart 1 _ _ refl e
-not-root lost thrown t (Spawn c s p q x) batch e = apart 1 _ _ refl e
-not-root lost thrown t (Arrive p) batch e = apart 1 _ _ refl e
-not-root lost thrown t (Wait s raised) batch e = apart 1 _ _ refl e
-not-root lost thrown t (Release s l raised) batch e = apart 9 _ _ refl e
-not-root lost thrown t (End raised) batch e = apart 1 _ _ refl e
-not-root lost thrown t (Print value x) batch e = apart 1 _ _ refl e
+not-root lost masked thrown t (Open s r x) batch e = apart 1 _ _ refl e
+not-root lost masked thrown t (At s r c p q x) batch e = apart 1 _ _ refl e
+not-root lost masked thrown t (Spawn c s p q x) batch e = apart 1 _ _ refl e
+not-root lost masked thrown t (Arrive p) batch e = apart 1 _ _ refl e
+not-root lost masked thrown t (Wait s raised) batch e = apart 1 _ _ refl e
+not-root lost masked thrown t (Release s l hidden raised) batch e = apart 9 _ _ refl e
+not-root lost masked thrown t (End raised) batch e = apart 1 _ _ refl e
+not-root lost masked thrown t (Print value x) batch e = apart 1 _ _ refl e
+not-root lost masked thrown t (Census places x) batch e = apart 1 _ _ refl e
 
-not-death : (lost : PlaceSet) (thrown : List Fault) (d : PlaceId) → entry_text (Root lost thrown) ≡ entry_text (Death d) → ⊥
+not-death : (lost : PlaceSet) (masked : ℕ) (thrown : List Fault) (d : PlaceId) → entry_text (Root lost masked thrown) ≡ entry_text (Death d) → ⊥
 unfolding byte
-not-death lost thrown d e = apart 1 _ _ refl e
+not-death lost masked thrown d e = apart 1 _ _ refl e
+
+not-join : (lost : PlaceSet) (masked : ℕ) (thrown : List Fault) (p : PlaceId) → entry_text (Root lost masked thrown) ≡ entry_text (Join p) → ⊥
+unfolding byte
+not-join lost masked thrown p e = apart 1 _ _ refl e
 
 regroup : (a r j : List ℕ) → ((a ++ 10 ∷ []) ++ r) ++ j ≡ a ++ 10 ∷ (r ++ j)
 regroup a r j = append_assoc (a ++ 10 ∷ []) r j ∙ append_assoc a (10 ∷ []) (r ++ j)
@@ -97,22 +127,29 @@ lines-tell n (a ∷ es) (b ∷ fs) x y h k e =
     heads a b h k texts (λ ha kb. lines-tell (n + 1) es fs x y ha kb cut.1)
   where
     heads : (a b : Entry) → EndsWithRoot (a ∷ es) → EndsWithRoot (b ∷ fs) → entry_text a ≡ entry_text b → (EndsWithRoot es → EndsWithRoot fs → status_of es ≡ status_of fs) → status_of (a ∷ es) ≡ status_of (b ∷ fs)
-    heads (Root lost thrown) (Root other raised) h k e rest = ap status_by (root-told lost other thrown raised e)
-    heads (Root lost thrown) (StepEntry t act batch) h k e rest = absurd (not-root lost thrown t act batch e)
-    heads (Root lost thrown) (Death d) h k e rest = absurd (not-death lost thrown d e)
-    heads (StepEntry t act batch) (Root lost thrown) h k e rest = absurd (not-root lost thrown t act batch (sym e))
+    heads (Root lost masked thrown) (Root other hidden raised) h k e rest = ap status_by (root-told lost other masked hidden thrown raised e)
+    heads (Root lost masked thrown) (StepEntry t act batch) h k e rest = absurd (not-root lost masked thrown t act batch e)
+    heads (Root lost masked thrown) (Death d) h k e rest = absurd (not-death lost masked thrown d e)
+    heads (Root lost masked thrown) (Join p) h k e rest = absurd (not-join lost masked thrown p e)
+    heads (StepEntry t act batch) (Root lost masked thrown) h k e rest = absurd (not-root lost masked thrown t act batch (sym e))
     heads (StepEntry t act batch) (StepEntry u bct bbtch) h k e rest = rest h k
     heads (StepEntry t act batch) (Death d) h k e rest = rest h k
-    heads (Death d) (Root lost thrown) h k e rest = absurd (not-death lost thrown d (sym e))
+    heads (StepEntry t act batch) (Join p) h k e rest = rest h k
+    heads (Death d) (Root lost masked thrown) h k e rest = absurd (not-death lost masked thrown d (sym e))
     heads (Death d) (StepEntry t act batch) h k e rest = rest h k
     heads (Death d) (Death g) h k e rest = rest h k
+    heads (Death d) (Join p) h k e rest = rest h k
+    heads (Join p) (Root lost masked thrown) h k e rest = absurd (not-join lost masked thrown p (sym e))
+    heads (Join p) (StepEntry t act batch) h k e rest = rest h k
+    heads (Join p) (Death d) h k e rest = rest h k
+    heads (Join p) (Join q) h k e rest = rest h k
 
 stack : (p e j d : List ℕ) → ((p ++ e) ++ j) ++ d ≡ p ++ (e ++ (j ++ d))
 stack p e j d = append_assoc (p ++ e) j d ∙ append_assoc p e (j ++ d)
 
 -- what stands before the entries
 abbrev head_of : Given → List ℕ
-head_of U = codes "rx10 trace 1\n" ++ setup_lines U ++ codes "history\n"
+head_of U = codes "rx10 trace 2\n" ++ setup_lines U ++ codes "history\n"
 
 pub texts-tell : (U : Given) (es fs : List Entry) (js ks : List (List PlaceEvent)) → EndsWithRoot es → EndsWithRoot fs → trace_text U es js ≡ trace_text U fs ks → status_of es ≡ status_of fs
 unfolding trace_text
@@ -133,12 +170,14 @@ entry-plain (StepEntry t (At s r c p q x) batch) = refl
 entry-plain (StepEntry t (Spawn c s p q x) batch) = refl
 entry-plain (StepEntry t (Arrive p) batch) = refl
 entry-plain (StepEntry t (Wait s thrown) batch) = refl
-entry-plain (StepEntry t (Release s lost thrown) batch) =
-    ap (λ ms. codes " release" ++ task_field t ++ (scope_field s ++ (part_text (codes " lost") natural_field ms ++ thrown_part thrown)) ++ batch_part batch) (members_plain lost)
+entry-plain (StepEntry t (Release s lost masked thrown) batch) =
+    ap (λ ms. codes " release" ++ task_field t ++ (scope_field s ++ (part_text (codes " lost") natural_field ms ++ masked_part masked ++ thrown_part thrown)) ++ batch_part batch) (members_plain lost)
 entry-plain (StepEntry t (End thrown) batch) = refl
 entry-plain (StepEntry t (Print value x) batch) = refl
-entry-plain (Root lost thrown) = ap (λ ms. codes " release host s0" ++ (part_text (codes " lost") natural_field ms ++ thrown_part thrown)) (members_plain lost)
+entry-plain (StepEntry t (Census places x) batch) = refl
+entry-plain (Root lost masked thrown) = ap (λ ms. codes " release host s0" ++ (part_text (codes " lost") natural_field ms ++ masked_part masked ++ thrown_part thrown)) (members_plain lost)
 entry-plain (Death d) = refl
+entry-plain (Join p) = refl
 
 lines-plain : (n : ℕ) (es : List Entry) → entry_lines n (map plain es) ≡ entry_lines n es
 lines-plain n [] = refl
@@ -148,43 +187,49 @@ lines-plain n (e ∷ es) =
 
 trace-plain : (U : Given) (es : List Entry) (js : List (List PlaceEvent)) → trace_text U (map plain es) js ≡ trace_text U es js
 unfolding trace_text
-trace-plain U es js = ap (λ ls. codes "rx10 trace 1\n" ++ setup_lines U ++ codes "history\n" ++ ls ++ journals_lines 0 js ++ codes "done\n") (lines-plain 0 es)
+trace-plain U es js = ap (λ ls. codes "rx10 trace 2\n" ++ setup_lines U ++ codes "history\n" ++ ls ++ journals_lines 0 js ++ codes "done\n") (lines-plain 0 es)
 
 status-plain : (es : List Entry) → status_of (map plain es) ≡ status_of es
 status-plain [] = refl
 status-plain (StepEntry t act batch ∷ es) = status-plain es
-status-plain (Root lost thrown ∷ es) = ap (λ ms. status_by ((length ms == 0) && (length thrown == 0))) (members_plain lost)
+status-plain (Root lost masked thrown ∷ es) = ap (λ ms. status_by ((length ms == 0) && (length thrown == 0))) (members_plain lost)
 status-plain (Death d ∷ es) = status-plain es
+status-plain (Join p ∷ es) = status-plain es
 
-act-plain : (p : Act → Bool) (act : Act) → ((s : ScopeId) (lost : PlaceSet) (thrown : List Fault) → p (Release s (plain_set lost) thrown) ≡ p (Release s lost thrown)) → p (plain_act act) ≡ p act
+act-plain : (p : Act → Bool) (act : Act) → ((s : ScopeId) (lost : PlaceSet) (masked : ℕ) (thrown : List Fault) → p (Release s (plain_set lost) masked thrown) ≡ p (Release s lost masked thrown)) → p (plain_act act) ≡ p act
 act-plain p (Open s r x) h = refl
 act-plain p (At s r c from to x) h = refl
 act-plain p (Spawn c s from to x) h = refl
 act-plain p (Arrive q) h = refl
 act-plain p (Wait s thrown) h = refl
-act-plain p (Release s lost thrown) h = h s lost thrown
+act-plain p (Release s lost masked thrown) h = h s lost masked thrown
 act-plain p (End thrown) h = refl
 act-plain p (Print value x) h = refl
+act-plain p (Census places x) h = refl
 
 starts-plain : (e : Entry) → starts (plain e) ≡ starts e
-starts-plain (StepEntry t act batch) = act-plain starts_by act (λ s lost thrown. refl)
-starts-plain (Root lost thrown) = refl
+starts-plain (StepEntry t act batch) = act-plain starts_by act (λ s lost masked thrown. refl)
+starts-plain (Root lost masked thrown) = refl
 starts-plain (Death d) = refl
+starts-plain (Join p) = refl
 
 prints-plain : (e : Entry) → prints (plain e) ≡ prints e
-prints-plain (StepEntry t act batch) = act-plain prints_by act (λ s lost thrown. refl)
-prints-plain (Root lost thrown) = refl
+prints-plain (StepEntry t act batch) = act-plain prints_by act (λ s lost masked thrown. refl)
+prints-plain (Root lost masked thrown) = refl
 prints-plain (Death d) = refl
+prints-plain (Join p) = refl
 
 dies-plain : (e : Entry) → dies (plain e) ≡ dies e
 dies-plain (StepEntry t act batch) = refl
-dies-plain (Root lost thrown) = refl
+dies-plain (Root lost masked thrown) = refl
 dies-plain (Death d) = refl
+dies-plain (Join p) = refl
 
 loses-plain : (e : Entry) → loses (plain e) ≡ loses e
-loses-plain (StepEntry t act batch) = act-plain loses_by act (λ s lost thrown. ap has_some (members_plain lost))
-loses-plain (Root lost thrown) = ap has_some (members_plain lost)
+loses-plain (StepEntry t act batch) = act-plain loses_by act (λ s lost masked thrown. ap has_some (members_plain lost))
+loses-plain (Root lost masked thrown) = ap has_some (members_plain lost)
 loses-plain (Death d) = refl
+loses-plain (Join p) = refl
 
 count-from : (p : Entry → Bool) → ((e : Entry) → p (plain e) ≡ p e) → (k : ℕ) (es : List Entry) → fold (λ a x. a + cond (p x) 1 0) k (map plain es) ≡ fold (λ a x. a + cond (p x) 1 0) k es
 count-from p h k [] = refl

@@ -42,7 +42,7 @@ status_by clean = cond clean Done Faulted
 -- the status of a history: Faulted where the root's release has something lost or thrown
 abbrev pub status_of : List Entry → Status
 status_of [] = Done
-status_of (Root lost thrown ∷ es) = status_by (is_clean lost thrown)
+status_of (Root lost masked thrown ∷ es) = status_by (is_clean lost thrown)
 status_of (e ∷ es) = status_of es
 
 -- The entries and journals are a run of the script under a setup: its picked run. Nothing is released early in it, its losses are

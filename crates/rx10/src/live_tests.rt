@@ -1,6 +1,6 @@
 // What no clause says of runs with several workers: that they come to an end, that two workers make turns at one time, and what
 // faulty words and scripts give.
-use crate::tests::{SCRIPT, STEP, printed};
+use crate::tests::{CENSUS, SCRIPT, STEP, printed};
 use crate::texts::{ORDINARY, REALISTIC};
 use crate::{Status, rx10, rx10_step};
 use rx_base::{Gate, MeetGate, MemSink, MemSource, NoGate, NoMemory, RxWord};
@@ -32,6 +32,11 @@ fn lived<G: Gate + Sync, R: Threads + Wait + Sync>(
     Ok((answer, out.written().to_vec(alloc)?))
 }
 
+// Whether bytes are a trace.
+fn is_trace(alloc: Global, text: &[u8]) -> bool {
+    text.len() < 65_537 && read_trace(alloc, text).is_ok()
+}
+
 #[test]
 fn two_workers_make_turns_at_one_time(rt: HostRuntime) -> Result<(), NoMemory> {
     let gate = MeetGate::open(100_000_000);
@@ -46,9 +51,21 @@ fn two_workers_make_turns_at_one_time(rt: HostRuntime) -> Result<(), NoMemory> {
     Ok(())
 }
 
-// Whether bytes are a trace.
-fn is_trace(alloc: Global, text: &[u8]) -> bool {
-    text.len() < 65_537 && read_trace(alloc, text).is_ok()
+#[test]
+fn a_place_joins_under_two_workers(rt: HostRuntime) -> Result<(), NoMemory> {
+    let words = [
+        b"live".as_slice(),
+        b"--places",
+        b"1",
+        b"--join",
+        b"1",
+        b"--workers",
+        b"2",
+    ];
+    let (status, text) = lived(&rt, rt.alloc(), &words, CENSUS, &NoGate)?;
+    assert!(rt; status == Status::Done && is_trace(rt.alloc(), &text));
+    assert!(rt; printed(rt.alloc(), &text)?.as_slice() == b"0 1 ".as_slice());
+    Ok(())
 }
 
 #[test]

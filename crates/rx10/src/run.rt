@@ -75,7 +75,8 @@ pub(crate) fn make_live<G: Gate + Sync, R: Threads + Wait + Sync>(
         IsLiveTrace code (given live.now.setup) r.0.items (status_by r.1)) }
 {
     checked(program);
-    let ledger = CountLedger::open(alloc, live.setup.places)?;
+    let joins = live.setup.joins.len() as u8;
+    let ledger = CountLedger::open_for(alloc, live.setup.places, joins)?;
     let (history, journals, _) = run_live(
         rt,
         alloc,
@@ -155,7 +156,8 @@ fn run_program<P: Picks>(
 {
     checked(program);
     entries_are_bounded();
-    let ledger = CountLedger::open(alloc, setup.places)?;
+    let joins = setup.joins.len() as u8;
+    let ledger = CountLedger::open_for(alloc, setup.places, joins)?;
     let machine = Machine::open(alloc, program, setup, ledger)?;
     few_picks_are_used();
     let (history, journals, _) = machine.run(program, picks)?;
@@ -168,7 +170,7 @@ fn ends_clean(history: &History) -> bool
     ensures { status_by result ≡ status_of history.now.entries }
 {
     match history.item(history.len() - 1) {
-        Entry::Root { lost, thrown } => is_clean(*lost, thrown),
+        Entry::Root { lost, thrown, .. } => is_clean(*lost, thrown),
         _ => false,
     }
 }

@@ -1,8 +1,9 @@
 // What no clause says: that scripts run to their end, with their whole text, and what faults and bad words give.
 use crate::texts::{
-    ADOPTION, AT_AND_ASYNC, AT_WAITS, BORN_STRUCK, EMPTY, ENDED_FIRST, FAULTS_IN_ORDER, FULL_HEAP,
-    LOST_IN_TRANSIT, NO_PLACE, ORDINARY, OVERFLOW, PICKED, REALISTIC, SOURCE_DIES, STALE,
-    TWO_AT_ONCE, TWO_LOSSES, WRONG_PLACE,
+    ADOPTION, AT_AND_ASYNC, AT_WAITS, BORN_STRUCK, BRIEF, EMPTY, ENDED_FIRST, FAULTS_IN_ORDER,
+    FULL_HEAP, HELD_THEN_MASKED, JOINED, JOINED_AND_DEAD, LOST_IN_TRANSIT, MASKED, NEVER_JOINED,
+    NO_PLACE, NOT_KNOWN, ORDINARY, OVERFLOW, PICKED, REALISTIC, SOURCE_DIES, STALE, TWO_AT_ONCE,
+    TWO_LOSSES, WRONG_PLACE,
 };
 use crate::{Status, rx10_step};
 use rx_base::{MemSink, MemSource, NoMemory, RxWord};
@@ -146,6 +147,88 @@ fn runs_with_deaths(rt: HostRuntime) -> Result<(), NoMemory> {
             b"try { finish { at 1 async { at 2 async { print 1; } } } } catch dead { print 9; }".as_slice(),
             Status::Done,
             SOURCE_DIES,
+        ),
+    ] {
+        assert!(rt; gives(rt.alloc(), &plain(words, script), status, text)?);
+    }
+    Ok(())
+}
+
+// A scope at place 1 holds the fault of a task at place 2.
+const FAULT_BELOW: &[u8] =
+    b"try { finish { at 1 async { finish { at 2 async { throw 5; } } } } } catch dead { print 9; }";
+
+pub(crate) const CENSUS: &[u8] = b"print here; census n; at (n - 1) async { print here; }";
+
+#[test]
+fn runs_with_masked_faults(rt: HostRuntime) -> Result<(), NoMemory> {
+    for (kill, text) in [
+        // the scope dies before the fault comes
+        (b"1@8".as_slice(), MASKED),
+        // it dies while it holds the fault
+        (b"1@9", HELD_THEN_MASKED),
+    ] {
+        let words = [b"step".as_slice(), b"--places", b"3", b"--kill", kill];
+        assert!(rt; gives(rt.alloc(), &plain(&words, FAULT_BELOW), Status::Done, text)?);
+    }
+    Ok(())
+}
+
+#[test]
+fn runs_with_joins(rt: HostRuntime) -> Result<(), NoMemory> {
+    for (words, script, status, text) in [
+        // a task counts the places and starts another at the one that joined
+        (
+            [b"step".as_slice(), b"--places", b"1", b"--join", b"1"].as_slice(),
+            CENSUS,
+            Status::Done,
+            JOINED,
+        ),
+        // the run ends before the join
+        (
+            [b"step".as_slice(), b"--places", b"1", b"--join", b"50"].as_slice(),
+            CENSUS,
+            Status::Done,
+            NEVER_JOINED,
+        ),
+        // without a count the task does not know of the place
+        (
+            [b"step".as_slice(), b"--places", b"1", b"--join", b"0"].as_slice(),
+            b"at 1 async { }",
+            Status::Faulted,
+            NOT_KNOWN,
+        ),
+        // a place joins and dies at one moment
+        (
+            [
+                b"step".as_slice(),
+                b"--places",
+                b"2",
+                b"--join",
+                b"0",
+                b"--kill",
+                b"2@0",
+            ]
+            .as_slice(),
+            b"",
+            Status::Done,
+            BRIEF,
+        ),
+        // the same later in a run
+        (
+            [
+                b"step".as_slice(),
+                b"--places",
+                b"2",
+                b"--join",
+                b"5",
+                b"--kill",
+                b"2@5",
+            ]
+            .as_slice(),
+            SCRIPT,
+            Status::Done,
+            JOINED_AND_DEAD,
         ),
     ] {
         assert!(rt; gives(rt.alloc(), &plain(words, script), status, text)?);
@@ -319,29 +402,29 @@ fn a_death_at_every_moment(rt: HostRuntime) -> Result<(), NoMemory> {
     let script =
         b"try { finish { at 1 async { finish { at 2 async { finish { at 3 async { print 1; } } } } } } } catch dead { } print 2;";
     for (moment, len) in [
-        (0, 402),
-        (1, 402),
-        (2, 402),
-        (3, 402),
-        (4, 402),
-        (5, 402),
-        (6, 402),
-        (7, 402),
-        (8, 417),
-        (9, 451),
-        (10, 494),
-        (11, 508),
-        (12, 565),
-        (13, 565),
-        (14, 565),
-        (15, 582),
-        (16, 557),
-        (17, 557),
-        (18, 557),
-        (19, 557),
-        (20, 557),
-        (21, 557),
-        (22, 535),
+        (0, 408),
+        (1, 408),
+        (2, 408),
+        (3, 408),
+        (4, 408),
+        (5, 408),
+        (6, 408),
+        (7, 408),
+        (8, 423),
+        (9, 457),
+        (10, 500),
+        (11, 514),
+        (12, 571),
+        (13, 571),
+        (14, 571),
+        (15, 588),
+        (16, 563),
+        (17, 563),
+        (18, 563),
+        (19, 563),
+        (20, 563),
+        (21, 563),
+        (22, 541),
     ] {
         assert_eq!(rt; length_at(rt.alloc(), script, moment)?, len);
     }
@@ -429,6 +512,30 @@ fn faulty_words(rt: HostRuntime) -> Result<(), NoMemory> {
             [b"step".as_slice(), b"--seed", b"5", b"--pick", b"0"].as_slice(),
             3,
         ),
+        // a kill before its place joins
+        (
+            [
+                b"step".as_slice(),
+                b"--places",
+                b"2",
+                b"--join",
+                b"5",
+                b"--kill",
+                b"2@4",
+            ]
+            .as_slice(),
+            6,
+        ),
+        // places and joins are 17
+        (
+            [b"step".as_slice(), b"--places", b"16", b"--join", b"1"].as_slice(),
+            4,
+        ),
+        (
+            [b"gen".as_slice(), b"--size", b"1", b"--join", b"1"].as_slice(),
+            3,
+        ),
+        ([b"check".as_slice(), b"--join", b"1"].as_slice(), 1),
     ] {
         assert!(rt;
             gives(
@@ -463,7 +570,7 @@ fn outside_faults(rt: HostRuntime) -> Result<(), NoMemory> {
             rt.alloc(),
             &short,
             Status::WriteFault,
-            b"rx10 trace 1\nplaces "
+            b"rx10 trace 2\nplaces "
         )?
     );
     Ok(())

@@ -1,8 +1,9 @@
 // The whole texts of the worked runs.
 
-pub(crate) const ORDINARY: &[u8] = b"rx10 trace 1
+pub(crate) const ORDINARY: &[u8] = b"rx10 trace 2
 places 2 heap 256
 kills
+joins
 history
 0 open t0 s1 in s0 0
 1 spawn t0 t1 in s1 0 1 0.0
@@ -19,9 +20,10 @@ journal 1
 done
 ";
 
-pub(crate) const LOST_IN_TRANSIT: &[u8] = b"rx10 trace 1
+pub(crate) const LOST_IN_TRANSIT: &[u8] = b"rx10 trace 2
 places 2 heap 256
 kills 1@3
+joins
 history
 0 open t0 s1 in s0 0
 1 spawn t0 t1 in s1 0 1 0.0
@@ -36,9 +38,10 @@ journal 1
 done
 ";
 
-pub(crate) const ENDED_FIRST: &[u8] = b"rx10 trace 1
+pub(crate) const ENDED_FIRST: &[u8] = b"rx10 trace 2
 places 2 heap 256
 kills 1@6
+joins
 history
 0 open t0 s1 in s0 0
 1 spawn t0 t1 in s1 0 1 0.0
@@ -57,9 +60,10 @@ journal 1
 done
 ";
 
-pub(crate) const BORN_STRUCK: &[u8] = b"rx10 trace 1
+pub(crate) const BORN_STRUCK: &[u8] = b"rx10 trace 2
 places 2 heap 256
 kills 1@1
+joins
 history
 0 open t0 s1 in s0 0
 1 death 1
@@ -74,9 +78,10 @@ journal 1
 done
 ";
 
-pub(crate) const TWO_AT_ONCE: &[u8] = b"rx10 trace 1
+pub(crate) const TWO_AT_ONCE: &[u8] = b"rx10 trace 2
 places 3 heap 256
 kills 1@4 2@4
+joins
 history
 0 open t0 s1 in s0 0
 1 spawn t0 t1 in s1 0 1 0.0
@@ -95,9 +100,10 @@ journal 2
 done
 ";
 
-pub(crate) const ADOPTION: &[u8] = b"rx10 trace 1
+pub(crate) const ADOPTION: &[u8] = b"rx10 trace 2
 places 4 heap 256
 kills 2@12
+joins
 history
 0 open t0 s1 in s0 0.0.0 | 0
 1 spawn t0 t1 in s1 0 1 0.0.0.0
@@ -128,9 +134,10 @@ journal 3
 done
 ";
 
-pub(crate) const TWO_LOSSES: &[u8] = b"rx10 trace 1
+pub(crate) const TWO_LOSSES: &[u8] = b"rx10 trace 2
 places 4 heap 256
 kills 3@12 2@13
+joins
 history
 0 open t0 s1 in s0 0.0.0 | 0
 1 spawn t0 t1 in s1 0 1 0.0.0.0
@@ -161,9 +168,10 @@ journal 3
 done
 ";
 
-pub(crate) const AT_WAITS: &[u8] = b"rx10 trace 1
+pub(crate) const AT_WAITS: &[u8] = b"rx10 trace 2
 places 3 heap 256
 kills 1@6
+joins
 history
 0 at t0 s1 in s0 t1 0 1 0.0.0 | 0
 1 arrive t1 1
@@ -186,9 +194,10 @@ journal 2
 done
 ";
 
-pub(crate) const SOURCE_DIES: &[u8] = b"rx10 trace 1
+pub(crate) const SOURCE_DIES: &[u8] = b"rx10 trace 2
 places 3 heap 256
 kills 1@6
+joins
 history
 0 open t0 s1 in s0 0.0.0 | 0
 1 spawn t0 t1 in s1 0 1 0.0.0.0
@@ -208,9 +217,10 @@ journal 2
 done
 ";
 
-pub(crate) const AT_AND_ASYNC: &[u8] = b"rx10 trace 1
+pub(crate) const AT_AND_ASYNC: &[u8] = b"rx10 trace 2
 places 2 heap 256
 kills
+joins
 history
 0 open t0 s1 in s0 0
 1 at t0 s2 in s1 t1 0 1 0.0
@@ -230,9 +240,10 @@ journal 1
 done
 ";
 
-pub(crate) const STALE: &[u8] = b"rx10 trace 1
+pub(crate) const STALE: &[u8] = b"rx10 trace 2
 places 2 heap 256
 kills
+joins
 history
 0 end t0 thrown stale | 0 1 2 3
 1 release host s0 thrown stale
@@ -245,9 +256,10 @@ journal 1
 done
 ";
 
-pub(crate) const FULL_HEAP: &[u8] = b"rx10 trace 1
+pub(crate) const FULL_HEAP: &[u8] = b"rx10 trace 2
 places 2 heap 8
 kills
+joins
 history
 0 print t0 1 3.1.0 | 0 1 2 3 3.0.0
 1 end t0 | 4
@@ -262,9 +274,10 @@ journal 1
 done
 ";
 
-pub(crate) const WRONG_PLACE: &[u8] = b"rx10 trace 1
+pub(crate) const WRONG_PLACE: &[u8] = b"rx10 trace 2
 places 2 heap 256
 kills
+joins
 history
 0 at t0 s1 in s0 t1 0 1 1.0.0 | 0 1
 1 arrive t1 1
@@ -279,9 +292,10 @@ journal 1
 done
 ";
 
-pub(crate) const FAULTS_IN_ORDER: &[u8] = b"rx10 trace 1
+pub(crate) const FAULTS_IN_ORDER: &[u8] = b"rx10 trace 2
 places 2 heap 256
 kills
+joins
 history
 0 open t0 s1 in s0 0.0.0 | 0
 1 spawn t0 t1 in s1 0 0 0.0.0.0
@@ -298,9 +312,10 @@ journal 1
 done
 ";
 
-pub(crate) const OVERFLOW: &[u8] = b"rx10 trace 1
+pub(crate) const OVERFLOW: &[u8] = b"rx10 trace 2
 places 2 heap 256
 kills
+joins
 history
 0 end t0 thrown overflow | 0
 1 release host s0 thrown overflow
@@ -309,9 +324,10 @@ journal 1
 done
 ";
 
-pub(crate) const NO_PLACE: &[u8] = b"rx10 trace 1
+pub(crate) const NO_PLACE: &[u8] = b"rx10 trace 2
 places 2 heap 256
 kills
+joins
 history
 0 end t0 thrown noplace | 0
 1 release host s0 thrown noplace
@@ -320,9 +336,10 @@ journal 1
 done
 ";
 
-pub(crate) const EMPTY: &[u8] = b"rx10 trace 1
+pub(crate) const EMPTY: &[u8] = b"rx10 trace 2
 places 2 heap 256
 kills
+joins
 history
 0 end t0
 1 release host s0
@@ -331,9 +348,10 @@ journal 1
 done
 ";
 
-pub(crate) const PICKED: &[u8] = b"rx10 trace 1
+pub(crate) const PICKED: &[u8] = b"rx10 trace 2
 places 2 heap 256
 kills
+joins
 history
 0 open t0 s1 in s0 0
 1 spawn t0 t1 in s1 0 0 0.0
@@ -348,6 +366,147 @@ history
 10 release host s0
 journal 0
 journal 1
+done
+";
+
+pub(crate) const MASKED: &[u8] = b"rx10 trace 2
+places 3 heap 256
+kills 1@8
+joins
+history
+0 open t0 s1 in s0 0.0.0 | 0
+1 spawn t0 t1 in s1 0 1 0.0.0.0
+2 wait t0 s1
+3 arrive t1 1
+4 open t1 s2 in s1 0.0.0.0.0
+5 spawn t1 t2 in s2 1 2 0.0.0.0.0.0
+6 wait t1 s2
+7 arrive t2 2
+8 death 1
+9 end t2 thrown code:5 | 0.0.0.0.0.0.0
+10 release t0 s1 lost 1 masked 1
+11 print t0 9 0.1.0
+12 end t0
+13 release host s0
+journal 0
+journal 1
+0 8 close
+journal 2
+done
+";
+
+pub(crate) const HELD_THEN_MASKED: &[u8] = b"rx10 trace 2
+places 3 heap 256
+kills 1@9
+joins
+history
+0 open t0 s1 in s0 0.0.0 | 0
+1 spawn t0 t1 in s1 0 1 0.0.0.0
+2 wait t0 s1
+3 arrive t1 1
+4 open t1 s2 in s1 0.0.0.0.0
+5 spawn t1 t2 in s2 1 2 0.0.0.0.0.0
+6 wait t1 s2
+7 arrive t2 2
+8 end t2 thrown code:5 | 0.0.0.0.0.0.0
+9 death 1
+10 release t0 s1 lost 1 masked 1
+11 print t0 9 0.1.0
+12 end t0
+13 release host s0
+journal 0
+journal 1
+0 9 close
+journal 2
+done
+";
+
+pub(crate) const JOINED: &[u8] = b"rx10 trace 2
+places 1 heap 256
+kills
+joins 1
+history
+0 print t0 0 0
+1 join 1
+2 census t0 2 1
+3 spawn t0 t1 in s0 0 1 2
+4 end t0
+5 arrive t1 1
+6 print t1 1 2.0
+7 end t1
+8 release host s0
+journal 0
+journal 1
+done
+";
+
+pub(crate) const NEVER_JOINED: &[u8] = b"rx10 trace 2
+places 1 heap 256
+kills
+joins 50
+history
+0 print t0 0 0
+1 census t0 1 1
+2 spawn t0 t1 in s0 0 0 2
+3 end t0
+4 print t1 0 2.0
+5 end t1
+6 release host s0
+journal 0
+journal 1
+done
+";
+
+pub(crate) const NOT_KNOWN: &[u8] = b"rx10 trace 2
+places 1 heap 256
+kills
+joins 0
+history
+0 join 1
+1 end t0 thrown noplace | 0
+2 release host s0 thrown noplace
+journal 0
+journal 1
+done
+";
+
+pub(crate) const BRIEF: &[u8] = b"rx10 trace 2
+places 2 heap 256
+kills 2@0
+joins 0
+history
+0 join 2
+1 death 2
+2 end t0
+3 release host s0
+journal 0
+journal 1
+journal 2
+0 1 close
+done
+";
+
+pub(crate) const JOINED_AND_DEAD: &[u8] = b"rx10 trace 2
+places 2 heap 256
+kills 2@5
+joins 5
+history
+0 open t0 s1 in s0 0
+1 spawn t0 t1 in s1 0 1 0.0
+2 wait t0 s1
+3 arrive t1 1
+4 print t1 7 0.0.0
+5 join 2
+6 death 2
+7 end t1
+8 release t0 s1
+9 print t0 8 1
+10 end t0
+11 release host s0
+journal 0
+journal 1
+journal 2
+0 6 close
 done
 ";
 

@@ -1,9 +1,9 @@
 -- The blocks of a statement.
 use Rattle.std.proofs.Common.{◌≡◌, ℕ, suc, ◌+◌, ◌*◌, List, [], ◌++◌, refl, ap}
-use Rattle.rx_rules.specs.Code.{Stmt, SetTo, New, Get, Put, Forget, Print, Throw, Async, AtAsync, At, Finish, If, Repeat, Try, Block, work, work_of}
+use Rattle.rx_rules.specs.Code.{Stmt, SetTo, New, Get, Put, Forget, Census, Print, Throw, Async, AtAsync, At, Finish, If, Repeat, Try, Block, work, work_of}
 use Rattle.rx_nodes.specs.Shape.{Shape, StmtIs, BlockStands}
 use Rattle.rx_nodes.specs.declared.nodes.Stmt.{Stmt as Node}
-use Rattle.rx_nodes.specs.declared.nodes.Stmt.TheVariants.{Set as SetNode, New as NewNode, Get as GetNode, Put as PutNode, Forget as ForgetNode, Print as PrintNode, Throw as ThrowNode, Async as AsyncNode, AtAsync as AtAsyncNode, At as AtNode, Finish as FinishNode, If as IfNode, Repeat as RepeatNode, Try as TryNode}
+use Rattle.rx_nodes.specs.declared.nodes.Stmt.TheVariants.{Set as SetNode, New as NewNode, Get as GetNode, Put as PutNode, Forget as ForgetNode, Census as CensusNode, Print as PrintNode, Throw as ThrowNode, Async as AsyncNode, AtAsync as AtAsyncNode, At as AtNode, Finish as FinishNode, If as IfNode, Repeat as RepeatNode, Try as TryNode}
 use Rattle.rx_check.specs.Rules.{inside, sights}
 use Rattle.rx_check.specs.Inside.Walk.{bodies_of, work_with}
 use Rattle.rx_check.specs.declared.parts.Bodies.{Bodies}
@@ -25,6 +25,7 @@ bodies-are s (NewNode name words) (New n w) h = (λ known depth. refl, refl)
 bodies-are s (GetNode name target index) (Get n t e) h = (λ known depth. refl, refl)
 bodies-are s (PutNode target index value) (Put t e f) h = (λ known depth. refl, refl)
 bodies-are s (ForgetNode target) (Forget t) h = (λ known depth. refl, refl)
+bodies-are s (CensusNode name) (Census n) h = (λ known depth. refl, refl)
 bodies-are s (PrintNode value) (Print e) h = (λ known depth. refl, refl)
 bodies-are s (ThrowNode value) (Throw e) h = (λ known depth. refl, refl)
 bodies-are s (AsyncNode body) (Async b) h = (b, (h.0, h.1, h.2), λ known depth. refl, refl)

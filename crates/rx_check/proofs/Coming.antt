@@ -1,5 +1,5 @@
 -- Whatever a task of a script that meets the rules comes to keeps the rules, and so is defined.
-use Rattle.std.specs.Prelude.{◌≡◌, ℕ, ℤ, ◌≤◌, true, cond, [], ◌∷◌, Option, None, length}
+use Rattle.std.specs.Prelude.{◌≡◌, ℕ, ℤ, ◌≤◌, true, cond, List, [], ◌∷◌, Option, None, length}
 use Rattle.std.proofs.Common.{sym, subst}
 use Rattle.std.proofs.lemmas.List.{length-replicate}
 use Rattle.rx_base.specs.declared.ids.GlobalRef.{GlobalRef}
@@ -9,11 +9,12 @@ use Rattle.rx_base.specs.declared.values.Fault.TheVariants.{HeapFull, Stale, Ind
 use Rattle.rx_base.specs.declared.values.Value.{Value}
 use Rattle.rx_base.specs.declared.values.Value.TheVariants.{Num as Number, Ref}
 use Rattle.rx_rules.specs.declared.entries.Act.{Act}
+use Rattle.rx_rules.specs.declared.entries.Act.TheVariants as acts
 use Rattle.rx_rules.specs.declared.events.Cell.{Cell}
 use Rattle.rx_rules.specs.declared.events.Cell.TheVariants as cells
 use Rattle.rx_rules.specs.Code.{Block}
-use Rattle.rx_rules.specs.Terms.{Vars, no_vars, bound, Term, Empty, Raise, Answer, answered, vars_after, Gives, Fine, Fails, Does, Local, Makes, Gets, Puts, Forgets, Opens, Calls, Spawns, Waits, Releases, Prints, Done, does, granted, replaced, after_it}
-use Rattle.rx_rules.specs.Plays.{Tells, Fits, brought}
+use Rattle.rx_rules.specs.Terms.{Vars, no_vars, bound, Term, Empty, Raise, Answer, answered, vars_after, Gives, Fine, Fails, Does, Local, Makes, Gets, Puts, Forgets, Opens, Calls, Spawns, Waits, Releases, Prints, Counts, Done, does, granted, replaced, after_it}
+use Rattle.rx_rules.specs.Plays.{Tells, Fits, brought, vars_told}
 use Rattle.rx_nodes.specs.Named.{NamesAreNumbered}
 use Rattle.rx_base.specs.Lists.{has}
 use Rattle.rx_check.specs.Rules.{Kind, kind_of, nodes}
@@ -85,21 +86,30 @@ module _ (kinds : ℕ → Option Kind) (q : ℕ) (vars : Vars) (t : Term) where
   tells (Waits faults) here cell a h k = absurd h
   tells Releases here cell a h k = absurd h
   tells (Prints value) here cell a h k = absurd h
+  tells (Counts name) here cell a h k = absurd h
   tells (Done faults) here cell a h k = absurd h
 
   -- after a granted request
-  grants : (d : Does) (here : PlaceId) (act : Act) → Fits here t d act → KeepsTerm kinds q vars t d → Good kinds q vars (granted (brought act) t)
+  same : (faults : List Fault) → ((fs : List Fault) → Good kinds q vars (granted fs t)) → Next kinds q vars vars (granted faults t)
+  same faults k = (better-same kinds vars, k faults)
+
+  counts : (name : ℕ) (here : PlaceId) (act : Act) → Fits here t (Counts name) act → KeepsTerm kinds q vars t (Counts name) → Next kinds q vars (vars_told (Counts name) act vars) (granted (brought act) t)
+  counts name here (acts.Census n x) h k = k [] n
+  counts name here _ h k = absurd h
+
+  grants : (d : Does) (here : PlaceId) (act : Act) → Fits here t d act → KeepsTerm kinds q vars t d → Next kinds q vars (vars_told d act vars) (granted (brought act) t)
   grants (Makes name words) here act h k = absurd h
   grants (Gets name target index) here act h k = absurd h
   grants (Puts target index value) here act h k = absurd h
   grants (Forgets target) here act h k = absurd h
   grants (Local left after) here act h k = absurd h
-  grants Opens here act h k = k (brought act)
-  grants (Calls place) here act h k = k (brought act)
-  grants (Spawns place) here act h k = k (brought act)
-  grants (Waits faults) here act h k = k (brought act)
-  grants Releases here act h k = k (brought act)
-  grants (Prints value) here act h k = k (brought act)
+  grants Opens here act h k = same (brought act) k
+  grants (Calls place) here act h k = same (brought act) k
+  grants (Spawns place) here act h k = same (brought act) k
+  grants (Waits faults) here act h k = same (brought act) k
+  grants Releases here act h k = same (brought act) k
+  grants (Prints value) here act h k = same (brought act) k
+  grants (Counts name) here act h k = counts name here act h k
   grants (Done faults) here act h k = absurd h
 
 -- there are variables for so many names, and the term keeps the rules
@@ -110,19 +120,19 @@ sound-next : (kinds : ℕ → Option Kind) (q : ℕ) (vars after : Vars) (t : Te
 sound-next kinds q vars after t wide h = (subst (λ (n : ℕ). q ≤ n) (sym h.0.cells) wide, h.1)
 
 comes-sound : (code : Block) (kinds : ℕ → Option Kind) (q : ℕ) {vars : Vars} {t : Term} → q ≤ 32 → Lawful kinds q [] code → TermComes code vars t → Sound kinds q vars t
-comes-sound code kinds q few l main =
-    let all : length no_vars.values ≡ 32 = length-replicate {A = Option Value} 32 None in
-    let begun = later-items kinds q no_vars [] code [] 0 Empty l ([], (λ n k. k), tt) in
+comes-sound code kinds q few l (main places) =
+    let all : length (no_vars places).values ≡ 32 = length-replicate {A = Option Value} 32 None in
+    let begun = later-items kinds q (no_vars places) [] code [] 0 Empty l ([], (λ n k. k), tt) in
     (subst (λ (n : ℕ). q ≤ n) (sym all) few, (begun.0, (λ n k. let bad : has n [] ≡ true = begun.1 n k in cc), begun.2))
-comes-sound code kinds q few l (local {vars = vars} {left = left} {t = t} {after = after} here places c e) =
+comes-sound code kinds q few l (local {vars = vars} {left = left} {t = t} {after = after} here c e) =
     let s = comes-sound code kinds q few l c in
-    sound-next kinds q vars left after s.0 (subst (λ (d : Does). KeepsTerm kinds q vars t d) e (keeps kinds q vars here places s.1.0 t s.0 s.1.1 s.1.2))
-comes-sound code kinds q few l (stores {vars = vars} {t = t} here places cell a c h) =
+    sound-next kinds q vars left after s.0 (subst (λ (d : Does). KeepsTerm kinds q vars t d) e (keeps kinds q vars here s.1.0 t s.0 s.1.1 s.1.2))
+comes-sound code kinds q few l (stores {vars = vars} {t = t} here cell a c h) =
     let s = comes-sound code kinds q few l c in
-    sound-next kinds q vars (vars_after a vars) (answered a t) s.0 (tells kinds q vars t (does vars here.0 places t) here cell a h (keeps kinds q vars here.0 places s.1.0 t s.0 s.1.1 s.1.2))
-comes-sound code kinds q few l (asks {vars = vars} {t = t} here places act c h) =
+    sound-next kinds q vars (vars_after a vars) (answered a t) s.0 (tells kinds q vars t (does vars here.0 t) here cell a h (keeps kinds q vars here.0 s.1.0 t s.0 s.1.1 s.1.2))
+comes-sound code kinds q few l (asks {vars = vars} {t = t} here act c h) =
     let s = comes-sound code kinds q few l c in
-    (s.0, grants kinds q vars t (does vars here.0 places t) here act h (keeps kinds q vars here.0 places s.1.0 t s.0 s.1.1 s.1.2))
+    sound-next kinds q vars (vars_told (does vars here.0 t) act vars) (granted (brought act) t) s.0 (grants kinds q vars t (does vars here.0 t) here act h (keeps kinds q vars here.0 s.1.0 t s.0 s.1.1 s.1.2))
 comes-sound code kinds q few l (starts {vars = vars} {t = t} c) =
     let s = comes-sound code kinds q few l c in (s.0, good-child kinds q vars s.1.0 t s.1.1 s.1.2)
 

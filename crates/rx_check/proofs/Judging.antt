@@ -9,7 +9,7 @@ use Rattle.std.proofs.Math.Bool.{and-false, and-true}
 use Rattle.rx_base.proofs.Numbers.{eq-refl}
 use Rattle.rx_base.proofs.Bools.{or-assoc, and-first, and-second}
 use Rattle.rx_base.proofs.Elements.{length-push}
-use Rattle.rx_rules.specs.Code.{Stmt, SetTo, New, Get, Put, Forget, Print, Throw, Async, AtAsync, At, Finish, If, Repeat, Try, Block, Nothing, Then, work}
+use Rattle.rx_rules.specs.Code.{Stmt, SetTo, New, Get, Put, Forget, Census, Print, Throw, Async, AtAsync, At, Finish, If, Repeat, Try, Block, Nothing, Then, work}
 use Rattle.rx_base.specs.Lists.{has}
 use Rattle.rx_check.specs.Rules.{Kind, ANumber, AReference, exprs_of, targets_of, assigned, Sight, learned, inside, sights, nodes, same_kind, kind_after, kind_of, is_kind, more_names, names_after, names_of_all, fails_known, gets_other, fails_kind, fails_depth, is_name, fails_count, rule_of, found, first_fault, or_work, verdict}
 use Rattle.rx_check.specs.Inside.Walk.{kind_in, Sofar, differs, gets_other_kind, is_one_more, mistakes_kind, rule_with, seen_with, noted, sight_stepped, and_on, sights_run, cap}
@@ -181,6 +181,7 @@ mutual
   all-inside (Get name target index) seen known depth h = tt
   all-inside (Put target index value) seen known depth h = tt
   all-inside (Forget target) seen known depth h = tt
+  all-inside (Census name) seen known depth h = tt
   all-inside (Print value) seen known depth h = tt
   all-inside (Throw value) seen known depth h = tt
   all-inside (Async body) seen known depth h = all-sights body seen known (suc depth) h

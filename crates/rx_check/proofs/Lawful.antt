@@ -3,7 +3,7 @@ use Rattle.std.specs.Prelude.{◌≡◌, ℕ, suc, ◌<◌, ◌==◌, Bool, true
 use Rattle.std.specs.List.{list_all}
 use Rattle.std.proofs.Common.{ap, sym, subst, inl, inr}
 use Rattle.std.proofs.lemmas.Bool.{eqb-true, eq-eqb, or_right, not-false, not-true, or_parts}
-use Rattle.rx_rules.specs.Code.{Expr, Num, Name, Here, Bin, Stmt, SetTo, New, Get, Put, Forget, Print, Throw, Async, AtAsync, At, Finish, If, Repeat, Try, Block, Nothing, Then, work}
+use Rattle.rx_rules.specs.Code.{Expr, Num, Name, Here, Bin, Stmt, SetTo, New, Get, Put, Forget, Census, Print, Throw, Async, AtAsync, At, Finish, If, Repeat, Try, Block, Nothing, Then, work}
 use Rattle.rx_nodes.specs.Named.{Uses, StmtMentions, Mentions}
 use Rattle.rx_base.specs.Lists.{has}
 use Rattle.rx_check.specs.Rules.{Kind, ANumber, AReference, names_in, exprs_of, targets_of, assigned, Sight, learned, inside, sights, nodes, kind_of, is_kind, names_of_all, fails_known, gets_other, fails_kind, fails_depth, fails_count, rule_of, found, first_fault, or_work}
@@ -23,6 +23,7 @@ abbrev mutual
   Inner kinds limit known (Get name target index) = Unit {0}
   Inner kinds limit known (Put target index value) = Unit {0}
   Inner kinds limit known (Forget target) = Unit {0}
+  Inner kinds limit known (Census name) = Unit {0}
   Inner kinds limit known (Print value) = Unit {0}
   Inner kinds limit known (Throw value) = Unit {0}
   Inner kinds limit known (Async body) = Lawful kinds limit known body
@@ -150,6 +151,7 @@ assigned-name (New n k) x a = sym (ap (λ p. p.0) (some-pair (n, AReference) x a
 assigned-name (Get n t e) x a = inl (sym (ap (λ p. p.0) (some-pair (n, ANumber) x a)))
 assigned-name (Put t i e) x a = cc
 assigned-name (Forget t) x a = cc
+assigned-name (Census n) x a = sym (ap (λ p. p.0) (some-pair (n, ANumber) x a))
 assigned-name (Print e) x a = cc
 assigned-name (Throw e) x a = cc
 assigned-name (Async b) x a = cc
@@ -195,6 +197,7 @@ mutual
   inner script limit known depth (Get n t e) k h m = tt
   inner script limit known depth (Put t i e) k h m = tt
   inner script limit known depth (Forget t) k h m = tt
+  inner script limit known depth (Census n) k h m = tt
   inner script limit known depth (Print e) k h m = tt
   inner script limit known depth (Throw e) k h m = tt
   inner script limit known depth (Async b) k h m = lawful script limit known (suc depth) b k h m
@@ -266,6 +269,7 @@ mutual
   stmt-kind kinds limit known (Put t d e) n o i (inr (inl u)) = uses kinds limit known (Put t d e) n o (first-has d (e ∷ []) n u)
   stmt-kind kinds limit known (Put t d e) n o i (inr (inr u)) = uses kinds limit known (Put t d e) n o (second-has d e [] n u)
   stmt-kind kinds limit known (Forget t) n o i u = aims kinds limit known (Forget t) n o (one-has n t u)
+  stmt-kind kinds limit known (Census m) n o i u = gets kinds limit known (Census m) (m, ANumber) n o refl u
   stmt-kind kinds limit known (Print e) n o i u = uses kinds limit known (Print e) n o (first-has e [] n u)
   stmt-kind kinds limit known (Throw e) n o i u = uses kinds limit known (Throw e) n o (first-has e [] n u)
   stmt-kind kinds limit known (Async b) n o i u = block-kind kinds limit known b n i u

@@ -2,7 +2,7 @@
 use Rattle.std.proofs.Common.{◌≡◌, List, [], ◌∷◌, Some, refl, ap, sym, ◌∙◌, subst}
 use Rattle.std.specs.Prelude.{slice_get}
 use Rattle.std.proofs.lemmas.Option.{same_Some}
-use Rattle.rx_rules.specs.Code.{Expr, Num, Name, Here, Bin, Stmt, SetTo, New, Get, Put, Forget, Print, Throw, Async, AtAsync, At, Finish, If, Repeat, Try, Block, Nothing, Then}
+use Rattle.rx_rules.specs.Code.{Expr, Num, Name, Here, Bin, Stmt, SetTo, New, Get, Put, Forget, Census, Print, Throw, Async, AtAsync, At, Finish, If, Repeat, Try, Block, Nothing, Then}
 use Rattle.rx_nodes.specs.Shape.{Shape, ExprStands, StmtIs, ListStands, BlockStands, Stands, op_of}
 use Rattle.rx_nodes.specs.declared.nodes.StmtId.{StmtId}
 use Rattle.rx_nodes.specs.declared.nodes.ExprId.{ExprId}
@@ -10,7 +10,7 @@ use Rattle.rx_nodes.specs.declared.nodes.BlockId.{BlockId}
 use Rattle.rx_nodes.specs.declared.nodes.Expr.{Expr as Part}
 use Rattle.rx_nodes.specs.declared.nodes.Expr.TheVariants.{Num as NumPart, Name as NamePart, Here as HerePart, Bin as BinPart}
 use Rattle.rx_nodes.specs.declared.nodes.Stmt.{Stmt as Node}
-use Rattle.rx_nodes.specs.declared.nodes.Stmt.TheVariants.{Set as SetNode, New as NewNode, Get as GetNode, Put as PutNode, Forget as ForgetNode, Print as PrintNode, Throw as ThrowNode, Async as AsyncNode, AtAsync as AtAsyncNode, At as AtNode, Finish as FinishNode, If as IfNode, Repeat as RepeatNode, Try as TryNode}
+use Rattle.rx_nodes.specs.declared.nodes.Stmt.TheVariants.{Set as SetNode, New as NewNode, Get as GetNode, Put as PutNode, Forget as ForgetNode, Census as CensusNode, Print as PrintNode, Throw as ThrowNode, Async as AsyncNode, AtAsync as AtAsyncNode, At as AtNode, Finish as FinishNode, If as IfNode, Repeat as RepeatNode, Try as TryNode}
 use Rattle.rx_check.proofs.Exprs.{part-is}
 
 expr-one : (es : List Part) (i : ExprId) (e f : Expr) → ExprStands es i e → ExprStands es i f → e ≡ f
@@ -28,6 +28,7 @@ NodeIs s (NewNode name words) t = t ≡ New name.0 words
 NodeIs s (GetNode name target index) t = (e : Expr) × (t ≡ Get name.0 target.0 e) × ExprStands s.exprs index e
 NodeIs s (PutNode target index value) t = (e : Expr) × (f : Expr) × (t ≡ Put target.0 e f) × ExprStands s.exprs index e × ExprStands s.exprs value f
 NodeIs s (ForgetNode target) t = t ≡ Forget target.0
+NodeIs s (CensusNode name) t = t ≡ Census name.0
 NodeIs s (PrintNode value) t = (e : Expr) × (t ≡ Print e) × ExprStands s.exprs value e
 NodeIs s (ThrowNode value) t = (e : Expr) × (t ≡ Throw e) × ExprStands s.exprs value e
 NodeIs s (AsyncNode body) t = (b : Block) × (t ≡ Async b) × BlockStands s body b
@@ -44,6 +45,7 @@ node-is s (NewNode name words) (New n w) h = ap (λ m. New m w) h.0 ∙ ap (New 
 node-is s (GetNode name target index) (Get n t e) h = (e, ap (λ m. Get m t e) h.0 ∙ ap (λ m. Get name.0 m e) h.1, h.2)
 node-is s (PutNode target index value) (Put t e f) h = (e, f, ap (λ m. Put m e f) h.0, h.1, h.2)
 node-is s (ForgetNode target) (Forget t) h = ap (λ m. Forget m) h
+node-is s (CensusNode name) (Census n) h = ap (λ m. Census m) h
 node-is s (PrintNode value) (Print e) h = (e, refl, h)
 node-is s (ThrowNode value) (Throw e) h = (e, refl, h)
 node-is s (AsyncNode body) (Async b) h = (b, refl, (h.0, h.1, h.2))
@@ -66,6 +68,7 @@ mutual
   stmt-one s (PutNode target index value) (Put t e f) u h k =
       ap (λ m. Put m e f) h.0 ∙ (ap (λ x. Put target.0 x f) (expr-one s.exprs index e k.0 h.1 k.3) ∙ (ap (Put target.0 k.0) (expr-one s.exprs value f k.1 h.2 k.4) ∙ sym k.2))
   stmt-one s (ForgetNode target) (Forget t) u h k = ap (λ m. Forget m) h ∙ sym k
+  stmt-one s (CensusNode name) (Census n) u h k = ap (λ m. Census m) h ∙ sym k
   stmt-one s (PrintNode value) (Print e) u h k = ap (λ x. Print x) (expr-one s.exprs value e k.0 h k.2) ∙ sym k.1
   stmt-one s (ThrowNode value) (Throw e) u h k = ap (λ x. Throw x) (expr-one s.exprs value e k.0 h k.2) ∙ sym k.1
   stmt-one s (AsyncNode body) (Async b) u h k = ap (λ x. Async x) (list-one s h.0 b k.0 h.2 (same-list s body h.0 k.0 h.1 k.2)) ∙ sym k.1

@@ -1,5 +1,5 @@
 -- What a task has still to run keeps the rules, and its variables are of the kinds that the script gives them.
-use Rattle.std.specs.Prelude.{◌≡◌, ◌≢◌, ℕ, zero, suc, ℤ, ◌<◌, ◌≤◌, ◌==◌, true, false, ◌||◌, List, [], ◌∷◌, Option, Some, None, slice_get, slice_set, length, refl}
+use Rattle.std.specs.Prelude.{◌≡◌, ◌≢◌, ℕ, zero, suc, ℤ, ◌<◌, ◌≤◌, ◌==◌, true, false, ◌||◌, List, [], ◌∷◌, Option, Some, None, option_and_then, slice_get, slice_set, length, refl}
 use Rattle.std.proofs.Common.{ap, sym, subst, arith}
 use Rattle.std.proofs.lemmas.Bool.{eqb-true, eqb-false}
 use Rattle.rx_base.specs.declared.ids.GlobalRef.{GlobalRef}
@@ -7,7 +7,7 @@ use Rattle.rx_base.specs.declared.values.Fault.{Fault}
 use Rattle.rx_base.specs.declared.values.Value.{Value}
 use Rattle.rx_base.specs.declared.values.Value.TheVariants.{Num as Number, Ref}
 use Rattle.rx_rules.specs.Code.{Stmt, Block, Nothing, Then}
-use Rattle.rx_rules.specs.Terms.{Vars, joined, value_of, bound, Term, Empty, Run, Raise, Turns, Trying, Body, Held, items_from}
+use Rattle.rx_rules.specs.Terms.{Vars, value_of, bound, Term, Empty, Run, Raise, Turns, Trying, Body, Held, items_from}
 use Rattle.rx_base.specs.Lists.{has}
 use Rattle.rx_check.specs.Rules.{Kind, ANumber, AReference, learned, assigned}
 use Rattle.rx_check.specs.Defined.{IsDefined, beginning}
@@ -41,6 +41,9 @@ set-length : (vs : List (Option Value)) (i : ℕ) (v : Option Value) → length 
 set-length [] i v = refl
 set-length (w ∷ vs) zero v = refl
 set-length (w ∷ vs) (suc i) v = ap suc (set-length vs i v)
+
+abbrev joined : Option (Option Value) → Option Value
+joined o = option_and_then (λ v. v) o
 
 set-here : (vs : List (Option Value)) (i : ℕ) (v : Option Value) → i < length vs → joined (slice_get (slice_set vs i v) i) ≡ v
 set-here [] i v h = absurd (omega (arith, h))

@@ -4,11 +4,11 @@ use Rattle.std.specs.Prelude.{if◌then◌else◌}
 use Rattle.std.specs.List.{list_all}
 use Rattle.std.proofs.lemmas.List.Folds.{list_all-append}
 use Rattle.std.proofs.Math.Bool.{and-true}
-use Rattle.rx_rules.specs.Code.{Expr, Num, Name, Here, Bin, Stmt, SetTo, New, Get, Put, Forget, Print, Throw, Async, AtAsync, At, Finish, If, Repeat, Try}
+use Rattle.rx_rules.specs.Code.{Expr, Num, Name, Here, Bin, Stmt, SetTo, New, Get, Put, Forget, Census, Print, Throw, Async, AtAsync, At, Finish, If, Repeat, Try}
 use Rattle.rx_nodes.specs.Shape.{Shape, StmtIs}
 use Rattle.rx_nodes.specs.declared.nodes.NameId.{NameId}
 use Rattle.rx_nodes.specs.declared.nodes.Stmt.{Stmt as Node}
-use Rattle.rx_nodes.specs.declared.nodes.Stmt.TheVariants.{Set as SetNode, New as NewNode, Get as GetNode, Put as PutNode, Forget as ForgetNode, Print as PrintNode, Throw as ThrowNode, Async as AsyncNode, AtAsync as AtAsyncNode, At as AtNode, Finish as FinishNode, If as IfNode, Repeat as RepeatNode, Try as TryNode}
+use Rattle.rx_nodes.specs.declared.nodes.Stmt.TheVariants.{Set as SetNode, New as NewNode, Get as GetNode, Put as PutNode, Forget as ForgetNode, Census as CensusNode, Print as PrintNode, Throw as ThrowNode, Async as AsyncNode, AtAsync as AtAsyncNode, At as AtNode, Finish as FinishNode, If as IfNode, Repeat as RepeatNode, Try as TryNode}
 use Rattle.rx_base.specs.Lists.{has}
 use Rattle.rx_check.specs.Rules.{Kind, ANumber, AReference, names_in, pairs_in, names_of_all, exprs_of, targets_of, assigned, Sight, is_kind, fails_known, fails_depth}
 use Rattle.rx_check.specs.Inside.Walk.{kind_in, gets_other_kind, is_one_more, mistakes_kind, rule_with, seen_as, seen_all, Knows, parts_of, any_name, join, is_unknown, is_of_kind, uses_in, OptionStands, uses_all, any_target, rule_from}
@@ -36,6 +36,7 @@ parts-stand s (NewNode name words) (New n w) h = record { firsts = []; seconds =
 parts-stand s (GetNode name target index) (Get n t e) h = record { firsts = e ∷ []; seconds = []; first = h.2; second = tt; exprs = refl; targets = ap (λ m. m ∷ []) h.1; assigns = ap (λ m. Some (m, ANumber)) h.0 }
 parts-stand s (PutNode target index value) (Put t e f) h = record { firsts = e ∷ []; seconds = f ∷ []; first = h.1; second = h.2; exprs = refl; targets = ap (λ m. m ∷ []) h.0; assigns = refl }
 parts-stand s (ForgetNode target) (Forget t) h = record { firsts = []; seconds = []; first = tt; second = tt; exprs = refl; targets = ap (λ m. m ∷ []) h; assigns = refl }
+parts-stand s (CensusNode name) (Census n) h = record { firsts = []; seconds = []; first = tt; second = tt; exprs = refl; targets = refl; assigns = ap (λ m. Some (m, ANumber)) h }
 parts-stand s (PrintNode value) (Print e) h = record { firsts = e ∷ []; seconds = []; first = h; second = tt; exprs = refl; targets = refl; assigns = refl }
 parts-stand s (ThrowNode value) (Throw e) h = record { firsts = e ∷ []; seconds = []; first = h; second = tt; exprs = refl; targets = refl; assigns = refl }
 parts-stand s (AsyncNode body) (Async b) h = record { firsts = []; seconds = []; first = tt; second = tt; exprs = refl; targets = refl; assigns = refl }

@@ -1,16 +1,16 @@
 -- Each step of a task keeps what it has still to run within the rules.
-use Rattle.std.specs.Prelude.{◌≡◌, ℕ, suc, ℤ, ◌<◌, ◌≤◌, ◌==◌, nat_le, Bool, true, false, cond, List, [], ◌∷◌, Option, Some, None, Result, Ok, Err, length, refl}
+use Rattle.std.specs.Prelude.{◌≡◌, ℕ, suc, ℤ, pos, ◌<◌, ◌≤◌, ◌==◌, nat_le, Bool, true, false, cond, List, [], ◌∷◌, Option, Some, None, Result, Ok, Err, length, refl}
 use Rattle.std.proofs.Common.{sym, subst, arith}
 use Rattle.rx_base.specs.declared.ids.GlobalRef.{GlobalRef}
 use Rattle.rx_base.specs.declared.values.Fault.{Fault}
 use Rattle.rx_base.specs.declared.values.Fault.TheVariants.{Thrown, WrongPlace, Overflow}
 use Rattle.rx_base.specs.declared.values.Value.{Value}
 use Rattle.rx_base.specs.declared.values.Value.TheVariants.{Num as Number, Ref}
-use Rattle.rx_rules.specs.Code.{Stmt, SetTo, New, Get, Put, Forget, Print, Throw, Async, AtAsync, At, Finish, If, Repeat, Try, Block}
-use Rattle.rx_rules.specs.Terms.{Vars, value_of, bound, Term, Empty, Run, Raise, Turns, Trying, Body, Held, items, at, Does, Local, Makes, Gets, Puts, Forgets, Opens, Calls, Spawns, Waits, Releases, Prints, Done, raise, ref_in, eval, target_of, is_zero, catches, with_number, with_place, stmt_does, within, trying_does, body_does, does, stmt_granted, or_raise, granted, stmt_child, child, replaced, after_it}
+use Rattle.rx_rules.specs.Code.{Stmt, SetTo, New, Get, Put, Forget, Census, Print, Throw, Async, AtAsync, At, Finish, If, Repeat, Try, Block}
+use Rattle.rx_rules.specs.Terms.{Vars, value_of, bound, Term, Empty, Run, Raise, Turns, Trying, Body, Held, items, at, Does, Local, Makes, Gets, Puts, Forgets, Opens, Calls, Spawns, Waits, Releases, Prints, Counts, Done, raise, ref_in, eval, target_of, is_zero, catches, with_number, with_place, stmt_does, within, trying_does, body_does, does, stmt_granted, or_raise, granted, stmt_child, child, replaced, after_it}
 use Rattle.rx_check.specs.Rules.{Kind, ANumber, AReference, learned, assigned}
 use Rattle.rx_check.proofs.Lawful.{Own, Inner, Lawful}
-use Rattle.rx_check.proofs.Safe.{Holds, Agrees, Better, better-same, better-bound, agrees-bound, agrees-better, Safe, Later, Good, later-good, good-raise, later-items, later-better}
+use Rattle.rx_check.proofs.Safe.{Holds, Agrees, Better, better-same, better-bound, agrees-bound, agrees-better, Safe, Later, Good, later-good, good-raise, later-items, later-better, safe-better}
 
 -- such a term with variables that are no worse
 abbrev pub Next : (ℕ → Option Kind) → ℕ → Vars → Vars → Term → Type 0
@@ -32,6 +32,8 @@ Keeps kinds q vars again failed allowed (Spawns place) = (faults : List Fault) �
 Keeps kinds q vars again failed allowed (Waits raised) = (faults : List Fault) → Good kinds q vars (allowed faults)
 Keeps kinds q vars again failed allowed Releases = (faults : List Fault) → Good kinds q vars (allowed faults)
 Keeps kinds q vars again failed allowed (Prints value) = (faults : List Fault) → Good kinds q vars (allowed faults)
+Keeps kinds q vars again failed allowed (Counts name) =
+    (faults : List Fault) (n : ℕ) → Next kinds q vars (record (bound name (Number (pos n)) vars) { places = n }) (allowed faults)
 Keeps kinds q vars again failed allowed (Done faults) = Unit {0}
 
 module _ (kinds : ℕ → Option Kind) (q : ℕ) (vars : Vars) where
@@ -64,6 +66,14 @@ module _ (kinds : ℕ → Option Kind) (q : ℕ) (vars : Vars) where
       let better : Better kinds vars (bound name v vars) = better-bound kinds vars name v held less in
       (better, later-good kinds q (bound name v vars) (name ∷ known) rest (agrees-bound kinds vars known name v held less a) (later-better kinds q vars (bound name v vars) (name ∷ known) rest better later))
 
+  -- the number of places that the task knows is in no rule
+  next-told : (after : Vars) (n : ℕ) (rest : Term) → Next kinds q vars after rest → Next kinds q vars (record after { places = n }) rest
+  next-told after n rest h =
+      let told : Better kinds after (record after { places = n }) = record { cells = refl; holds = λ m k. k } in (
+        record { cells = h.0.cells; holds = h.0.holds },
+        (h.1.0, agrees-better kinds after (record after { places = n }) h.1.0 told h.1.1, safe-better kinds q after (record after { places = n }) h.1.0 rest told h.1.2),
+      )
+
   assigns : (known : List ℕ) (stmt : Stmt) (name : ℕ) (k : Kind) (v : Value) (rest : Term) → q ≤ length vars.values → Own kinds q known stmt → assigned stmt ≡ Some (name, k) → Holds (Some k) (Some v) → Agrees kinds vars known → Later kinds q vars (name ∷ known) rest → Next kinds q vars (bound name v vars) rest
   assigns known stmt name k v rest wide o e h a later =
       let f = o.assigns (name, k) e in
@@ -73,44 +83,46 @@ module _ (kinds : ℕ → Option Kind) (q : ℕ) (vars : Vars) where
   inside-good : (known : List ℕ) (b : Block) (x : List ℕ) → Agrees kinds vars known → Lawful kinds q known b → Good kinds q vars (items b x Empty)
   inside-good known b x a h = later-good kinds q vars known (items b x Empty) a (later-items kinds q vars known b x 0 Empty h (known, (λ n k. k), tt))
 
-  of_stmt : (here places : ℕ) (known : List ℕ) (stmt : Stmt) (x : List ℕ) (rest : Term) → q ≤ length vars.values → Agrees kinds vars known → Own kinds q known stmt → Inner kinds q known stmt → Later kinds q vars (learned (assigned stmt) known) rest
-      → Keeps kinds q vars rest (λ fault. Raise (fault ∷ [])) (λ faults. stmt_granted stmt x rest) (stmt_does vars here places stmt x rest)
-  of_stmt here places known (SetTo name value) x rest wide a o i h =
+  of_stmt : (here : ℕ) (known : List ℕ) (stmt : Stmt) (x : List ℕ) (rest : Term) → q ≤ length vars.values → Agrees kinds vars known → Own kinds q known stmt → Inner kinds q known stmt → Later kinds q vars (learned (assigned stmt) known) rest
+      → Keeps kinds q vars rest (λ fault. Raise (fault ∷ [])) (λ faults. stmt_granted stmt x rest) (stmt_does vars here stmt x rest)
+  of_stmt here known (SetTo name value) x rest wide a o i h =
       on-number rest (λ fault. Raise (fault ∷ [])) (λ faults. rest) (eval vars here value) (λ z. Local rest (bound name (Number z) vars))
       (λ z. assigns known (SetTo name value) name ANumber (Number z) rest wide o refl tt a h)
-  of_stmt here places known (New name words) x rest wide a o i h =
+  of_stmt here known (New name words) x rest wide a o i h =
       ((λ r. assigns known (New name words) name AReference (Ref r) rest wide o refl tt a h), λ fault. good-raise kinds q vars (fault ∷ []))
-  of_stmt here places known (Get name target index) x rest wide a o i h =
+  of_stmt here known (Get name target index) x rest wide a o i h =
       let r = ref_in (value_of vars target) in
       on-number rest (λ fault. Raise (fault ∷ [])) (λ faults. rest) (eval vars here index) (λ k. cond (r.home.0 == here) (Gets name r k) (Local (raise WrongPlace) vars))
       (λ k. on-home rest (λ fault. Raise (fault ∷ [])) (λ faults. rest) (r.home.0 == here) (Gets name r k)
       ((λ z. assigns known (Get name target index) name ANumber (Number z) rest wide o refl tt a h), λ fault. good-raise kinds q vars (fault ∷ [])))
-  of_stmt here places known (Put target index value) x rest wide a o i h =
+  of_stmt here known (Put target index value) x rest wide a o i h =
       let r = ref_in (value_of vars target) in
       on-number rest (λ fault. Raise (fault ∷ [])) (λ faults. rest) (eval vars here index) (λ k. with_number vars (eval vars here value) (λ z. cond (r.home.0 == here) (Puts r k z) (Local (raise WrongPlace) vars)))
       (λ k. on-number rest (λ fault. Raise (fault ∷ [])) (λ faults. rest) (eval vars here value) (λ z. cond (r.home.0 == here) (Puts r k z) (Local (raise WrongPlace) vars))
       (λ z. on-home rest (λ fault. Raise (fault ∷ [])) (λ faults. rest) (r.home.0 == here) (Puts r k z)
       (later-good kinds q vars known rest a h, λ fault. good-raise kinds q vars (fault ∷ []))))
-  of_stmt here places known (Forget target) x rest wide a o i h =
+  of_stmt here known (Forget target) x rest wide a o i h =
       let r = ref_in (value_of vars target) in
       on-home rest (λ fault. Raise (fault ∷ [])) (λ faults. rest) (r.home.0 == here) (Forgets r) (later-good kinds q vars known rest a h, λ fault. good-raise kinds q vars (fault ∷ []))
-  of_stmt here places known (Print value) x rest wide a o i h =
+  of_stmt here known (Census name) x rest wide a o i h =
+      λ faults n. next-told (bound name (Number (pos n)) vars) n rest (assigns known (Census name) name ANumber (Number (pos n)) rest wide o refl tt a h)
+  of_stmt here known (Print value) x rest wide a o i h =
       on-number rest (λ fault. Raise (fault ∷ [])) (λ faults. rest) (eval vars here value) Prints (λ z faults. later-good kinds q vars known rest a h)
-  of_stmt here places known (Throw value) x rest wide a o i h =
+  of_stmt here known (Throw value) x rest wide a o i h =
       on-number rest (λ fault. Raise (fault ∷ [])) (λ faults. rest) (eval vars here value) (λ z. Local (raise (Thrown z)) vars) (λ z. raises (Thrown z ∷ []))
-  of_stmt here places known (Async body) x rest wide a o i h = λ faults. later-good kinds q vars known rest a h
-  of_stmt here places known (AtAsync place body) x rest wide a o i h =
-      on-place rest (λ fault. Raise (fault ∷ [])) (λ faults. rest) (target_of (eval vars here place) places) Spawns (λ p faults. later-good kinds q vars known rest a h)
-  of_stmt here places known (At place body) x rest wide a o i h =
-      on-place rest (λ fault. Raise (fault ∷ [])) (λ faults. Held rest) (target_of (eval vars here place) places) Calls (λ p faults. later-good kinds q vars known rest a h)
-  of_stmt here places known (Finish body) x rest wide a o i h = λ faults. (known, a, (inside-good known body x a i, h))
-  of_stmt here places known (If test first other) x rest wide a o i h =
+  of_stmt here known (Async body) x rest wide a o i h = λ faults. later-good kinds q vars known rest a h
+  of_stmt here known (AtAsync place body) x rest wide a o i h =
+      on-place rest (λ fault. Raise (fault ∷ [])) (λ faults. rest) (target_of (eval vars here place) vars.places) Spawns (λ p faults. later-good kinds q vars known rest a h)
+  of_stmt here known (At place body) x rest wide a o i h =
+      on-place rest (λ fault. Raise (fault ∷ [])) (λ faults. Held rest) (target_of (eval vars here place) vars.places) Calls (λ p faults. later-good kinds q vars known rest a h)
+  of_stmt here known (Finish body) x rest wide a o i h = λ faults. (known, a, (inside-good known body x a i, h))
+  of_stmt here known (If test first other) x rest wide a o i h =
       on-number rest (λ fault. Raise (fault ∷ [])) (λ faults. rest) (eval vars here test) (λ z. Local (cond (is_zero z) (items other (at x 1) rest) (items first (at x 0) rest)) vars)
       (λ z. chosen (is_zero z) (items other (at x 1) rest) (items first (at x 0) rest)
       (next-later known (items other (at x 1) rest) a (later-items kinds q vars known other (at x 1) 0 rest i.1 h))
       (next-later known (items first (at x 0) rest) a (later-items kinds q vars known first (at x 0) 0 rest i.0 h)))
-  of_stmt here places known (Repeat times body) x rest wide a o i h = (better-same kinds vars, (known, a, (i, h)))
-  of_stmt here places known (Try body dead_only handler) x rest wide a o i h = (better-same kinds vars, (known, a, (inside-good known body (at x 0) a i.0, i.1, h)))
+  of_stmt here known (Repeat times body) x rest wide a o i h = (better-same kinds vars, (known, a, (i, h)))
+  of_stmt here known (Try body dead_only handler) x rest wide a o i h = (better-same kinds vars, (known, a, (inside-good known body (at x 0) a i.0, i.1, h)))
 
   in-context : (f : Term → Term) (again : Term) (failed : Fault → Term) (allowed : List Fault → Term) (d : Does) → ((after : Vars) (t : Term) → Better kinds vars after → Good kinds q after t → Good kinds q after (f t)) → Keeps kinds q vars again failed allowed d
       → Keeps kinds q vars (f again) (λ fault. f (failed fault)) (λ faults. f (allowed faults)) (within f d)
@@ -127,6 +139,8 @@ module _ (kinds : ℕ → Option Kind) (q : ℕ) (vars : Vars) where
   in-context f again failed allowed (Waits raised) k h = λ faults. k vars (allowed faults) (better-same kinds vars) (h faults)
   in-context f again failed allowed Releases k h = λ faults. k vars (allowed faults) (better-same kinds vars) (h faults)
   in-context f again failed allowed (Prints value) k h = λ faults. k vars (allowed faults) (better-same kinds vars) (h faults)
+  in-context f again failed allowed (Counts name) k h =
+      λ faults n. let m = h faults n in (m.0, k (record (bound name (Number (pos n)) vars) { places = n }) (allowed faults) m.0 m.1)
   in-context f again failed allowed (Done faults) k h = tt
 
   -- what a term does keeps it so
@@ -171,18 +185,18 @@ module _ (kinds : ℕ → Option Kind) (q : ℕ) (vars : Vars) where
   good-or_raise [] rest h = h
   good-or_raise (f ∷ fs) rest h = good-raise kinds q vars (f ∷ fs)
 
-  pub keeps : (here places : ℕ) (known : List ℕ) (t : Term) → q ≤ length vars.values → Agrees kinds vars known → Safe kinds q vars known t → KeepsTerm t (does vars here places t)
-  keeps here places known Empty wide a h = tt
-  keeps here places known (Raise faults) wide a h = tt
-  keeps here places known (Run stmt x rest) wide a h = of_stmt here places known stmt x rest wide a h.0 h.1 h.2
-  keeps here places known (Turns body x k times rest) wide a h =
+  pub keeps : (here : ℕ) (known : List ℕ) (t : Term) → q ≤ length vars.values → Agrees kinds vars known → Safe kinds q vars known t → KeepsTerm t (does vars here t)
+  keeps here known Empty wide a h = tt
+  keeps here known (Raise faults) wide a h = tt
+  keeps here known (Run stmt x rest) wide a h = of_stmt here known stmt x rest wide a h.0 h.1 h.2
+  keeps here known (Turns body x k times rest) wide a h =
       chosen (nat_le times k) rest (items body (at x k) (Turns body x (suc k) times rest)) (next-later known rest a h.1)
       (next-later known (items body (at x k) (Turns body x (suc k) times rest)) a
       (later-items kinds q vars known body (at x k) 0 (Turns body x (suc k) times rest) h.0 (known, (λ n k. k), (h.0, h.1))))
-  keeps here places known (Trying inside o b x rest) wide a h =
-      of_try inside (does vars here places inside) known o b x rest a h.1 h.2 (keeps here places h.0.0 inside wide h.0.1 h.0.2)
-  keeps here places known (Body inside rest) wide a h = of_body inside (does vars here places inside) known rest a h.1 (keeps here places h.0.0 inside wide h.0.1 h.0.2)
-  keeps here places known (Held rest) wide a h = λ faults. good-or_raise faults rest (known, a, h)
+  keeps here known (Trying inside o b x rest) wide a h =
+      of_try inside (does vars here inside) known o b x rest a h.1 h.2 (keeps here h.0.0 inside wide h.0.1 h.0.2)
+  keeps here known (Body inside rest) wide a h = of_body inside (does vars here inside) known rest a h.1 (keeps here h.0.0 inside wide h.0.1 h.0.2)
+  keeps here known (Held rest) wide a h = λ faults. good-or_raise faults rest (known, a, h)
 
   -- a new task
   starting : (known : List ℕ) (stmt : Stmt) (x : List ℕ) → Agrees kinds vars known → Inner kinds q known stmt → Good kinds q vars (stmt_child stmt x)
@@ -191,6 +205,7 @@ module _ (kinds : ℕ → Option Kind) (q : ℕ) (vars : Vars) where
   starting known (Get name target index) x a i = (known, a, tt)
   starting known (Put target index value) x a i = (known, a, tt)
   starting known (Forget target) x a i = (known, a, tt)
+  starting known (Census name) x a i = (known, a, tt)
   starting known (Print value) x a i = (known, a, tt)
   starting known (Throw value) x a i = (known, a, tt)
   starting known (Async body) x a i = inside-good known body x a i

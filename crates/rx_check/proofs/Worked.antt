@@ -1,6 +1,6 @@
 -- The rules on small scripts.
 use Rattle.std.specs.Prelude.{◌≡◌, ℕ, zero, suc, pos, Some, None, refl}
-use Rattle.rx_rules.specs.Code.{Num, Name, SetTo, Forget, Print, Finish, Repeat, Block, Nothing, Then}
+use Rattle.rx_rules.specs.Code.{Num, Name, SetTo, Forget, Census, Print, Finish, Repeat, Block, Nothing, Then}
 use Rattle.rx_check.specs.Rules.{verdict}
 
 -- `print x;`
@@ -10,6 +10,14 @@ unknown-name = refl
 -- `set x = 1; forget x;`
 pub number-as-target : verdict (Then (SetTo 0 (Num (pos 1))) (Then (Forget 0) Nothing)) ≡ Some (2, 1)
 number-as-target = refl
+
+-- `census n; forget n;`
+pub census-makes-number : verdict (Then (Census 0) (Then (Forget 0) Nothing)) ≡ Some (2, 1)
+census-makes-number = refl
+
+-- `census n; print n;`
+pub counted-name-is-known : verdict (Then (Census 0) (Then (Print (Name 0)) Nothing)) ≡ None
+counted-name-is-known = refl
 
 -- so many `finish` in one another, with these statements in the innermost
 abbrev pub nested : ℕ → Block → Block

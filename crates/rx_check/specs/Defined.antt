@@ -8,7 +8,7 @@ use Rattle.rx_rules.specs.declared.events.Cell.{Cell}
 use Rattle.rx_rules.specs.Code.{Block, Stmt}
 use Rattle.rx_rules.specs.Terms.{Term, Empty, Raise, Run, Turns, Trying, Body, Held, Vars, no_vars, value_of, items, Local, does}
 use Rattle.rx_rules.specs.Terms.{Answer, answered, vars_after, granted, child}
-use Rattle.rx_rules.specs.Plays.{Tells, Fits, brought}
+use Rattle.rx_rules.specs.Plays.{Tells, Fits, brought, vars_told}
 use Rattle.rx_token.specs.Tokens.{AreNames}
 use Rattle.rx_nodes.specs.Grammar.{spellings}
 use Rattle.rx_base.specs.Lists.{has}
@@ -34,13 +34,13 @@ beginning (Held rest) = None
 
 -- the variables and the term to which a task of the script can come, wherever it is and whatever the store and the ledger answer
 pub data TermComes (code : Block) : Vars → Term → Type 0 where
-  main : TermComes code no_vars (items code [] Empty)
-  local : {vars left : Vars} {t after : Term} (here places : ℕ) → TermComes code vars t → does vars here places t ≡ Local after left
+  main : (places : ℕ) → TermComes code (no_vars places) (items code [] Empty)
+  local : {vars left : Vars} {t after : Term} (here : ℕ) → TermComes code vars t → does vars here t ≡ Local after left
       → TermComes code left after
-  stores : {vars : Vars} {t : Term} (here : PlaceId) (places : ℕ) (cell : Cell) (a : Answer) → TermComes code vars t
-      → Tells (does vars here.0 places t) here cell a → TermComes code (vars_after a vars) (answered a t)
-  asks : {vars : Vars} {t : Term} (here : PlaceId) (places : ℕ) (act : Act) → TermComes code vars t
-      → Fits here t (does vars here.0 places t) act → TermComes code vars (granted (brought act) t)
+  stores : {vars : Vars} {t : Term} (here : PlaceId) (cell : Cell) (a : Answer) → TermComes code vars t
+      → Tells (does vars here.0 t) here cell a → TermComes code (vars_after a vars) (answered a t)
+  asks : {vars : Vars} {t : Term} (here : PlaceId) (act : Act) → TermComes code vars t
+      → Fits here t (does vars here.0 t) act → TermComes code (vars_told (does vars here.0 t) act vars) (granted (brought act) t)
   -- a task that it starts has a copy of its variables
   starts : {vars : Vars} {t : Term} → TermComes code vars t → TermComes code vars (child t)
 

@@ -4,7 +4,7 @@ use Rattle.std.specs.Prelude.{if◌then◌else◌}
 use Rattle.std.specs.List.{list_all}
 use Rattle.std.proofs.Common.{max}
 use Rattle.rx_base.specs.Lists.{has}
-use Rattle.rx_rules.specs.Code.{Expr, Num, Name, Here, Bin, Stmt, SetTo, New, Get, Put, Forget, Print, Throw, Async, AtAsync, At}
+use Rattle.rx_rules.specs.Code.{Expr, Num, Name, Here, Bin, Stmt, SetTo, New, Get, Put, Forget, Census, Print, Throw, Async, AtAsync, At}
 use Rattle.rx_rules.specs.Code.{Finish, If, Repeat, Try, Block, Nothing, Then, work}
 
 -- what a name holds
@@ -33,6 +33,7 @@ exprs_of (New name words) = []
 exprs_of (Get name target index) = index ∷ []
 exprs_of (Put target index value) = index ∷ value ∷ []
 exprs_of (Forget target) = []
+exprs_of (Census name) = []
 exprs_of (Print value) = value ∷ []
 exprs_of (Throw value) = value ∷ []
 exprs_of (Async body) = []
@@ -50,6 +51,7 @@ targets_of (New name words) = []
 targets_of (Get name target index) = target ∷ []
 targets_of (Put target index value) = target ∷ []
 targets_of (Forget target) = target ∷ []
+targets_of (Census name) = []
 targets_of (Print value) = []
 targets_of (Throw value) = []
 targets_of (Async body) = []
@@ -67,6 +69,7 @@ assigned (New name words) = Some (name, AReference)
 assigned (Get name target index) = Some (name, ANumber)
 assigned (Put target index value) = None
 assigned (Forget target) = None
+assigned (Census name) = Some (name, ANumber)
 assigned (Print value) = None
 assigned (Throw value) = None
 assigned (Async body) = None
@@ -96,6 +99,7 @@ abbrev mutual
   inside known depth (Get name target index) = []
   inside known depth (Put target index value) = []
   inside known depth (Forget target) = []
+  inside known depth (Census name) = []
   inside known depth (Print value) = []
   inside known depth (Throw value) = []
   inside known depth (Async body) = sights known (suc depth) body

@@ -34,6 +34,18 @@ fn plain(first: Option<ExprId>) -> Parts
     }
 }
 
+// A statement that makes a name this kind and has no expression.
+fn gives(name: NameId, kind: Kind) -> Parts
+    ensures { result ≡ record { first = None; second = None; target = None; assigned = Some (record { name = name; kind = kind }) } }
+{
+    Parts {
+        first: None,
+        second: None,
+        target: None,
+        assigned: some_name(name, kind),
+    }
+}
+
 fn some_name(name: NameId, kind: Kind) -> Option<Seen>
     ensures { result ≡ Some (record { name = name; kind = kind }) }
 {
@@ -51,12 +63,7 @@ pub(crate) fn split(stmt: Stmt) -> Parts
             target: None,
             assigned: some_name(name, Kind::Number),
         },
-        Stmt::New { name, .. } => Parts {
-            first: None,
-            second: None,
-            target: None,
-            assigned: some_name(name, Kind::Reference),
-        },
+        Stmt::New { name, .. } => gives(name, Kind::Reference),
         Stmt::Get {
             name,
             target,
@@ -83,6 +90,7 @@ pub(crate) fn split(stmt: Stmt) -> Parts
             target: Some(target),
             assigned: None,
         },
+        Stmt::Census { name } => gives(name, Kind::Number),
         Stmt::Print { value } => plain(Some(value)),
         Stmt::Throw { value } => plain(Some(value)),
         Stmt::Async { .. } => plain(None),
@@ -105,6 +113,7 @@ pub(crate) fn blocks(stmt: Stmt) -> Bodies
         Stmt::Get { .. } => Bodies::No,
         Stmt::Put { .. } => Bodies::No,
         Stmt::Forget { .. } => Bodies::No,
+        Stmt::Census { .. } => Bodies::No,
         Stmt::Print { .. } => Bodies::No,
         Stmt::Throw { .. } => Bodies::No,
         Stmt::Async { body } => Bodies::One(body),
@@ -138,6 +147,7 @@ pub(crate) fn total(stmt: Stmt, first: u64, second: u64) -> u64
         Stmt::Get { .. } => 1,
         Stmt::Put { .. } => 1,
         Stmt::Forget { .. } => 1,
+        Stmt::Census { .. } => 1,
         Stmt::Print { .. } => 1,
         Stmt::Throw { .. } => 1,
         Stmt::Async { .. } => capped(1 + first),

@@ -88,6 +88,14 @@ fn empty_script_has_no_work(rt: HostRuntime) {
 }
 
 #[test]
+fn census_makes_a_number(rt: HostRuntime) {
+    assert_eq!(rt;
+        work(rt.alloc(), b"census n; at (n - 1) { print n; }"),
+        Some(3)
+    );
+}
+
+#[test]
 fn deepest_statement_passes(rt: HostRuntime) {
     let bytes = nested(rt.alloc(), b"finish {", 32, b"print 1;", b"}").expect(&rt, "memory");
     assert_eq!(rt; work(rt.alloc(), &bytes), Some(33));
@@ -148,8 +156,11 @@ fn rules_have_an_order(rt: HostRuntime) {
         (b"new r = 1; print r; print x;", 2, 1),
         (b"if 1 { set x = 1; print x; } else { print x; }", 1, 3),
         (b"finish { set x = 1; } print x;", 1, 2),
+        (b"finish { census x; } print x;", 1, 2),
         (b"set x = x;", 1, 0),
         (b"set x = 1; finish { new x = 2; }", 2, 2),
+        (b"census x; forget x;", 2, 1),
+        (b"census x; new x = 2;", 2, 1),
         (b"repeat 1000000 { print x; }", 1, 1),
     ] {
         assert_eq!(rt; fault(rt.alloc(), bytes), Some((rule, node)));

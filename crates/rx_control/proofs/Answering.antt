@@ -3,7 +3,7 @@ use Rattle.std.proofs.Common.{◌≡◌, ℕ, suc, List, [], ◌∷◌, length, 
 use Rattle.std.specs.Prelude.{Ok, Err}
 use Rattle.rx_base.specs.declared.values.Fault.{Fault}
 use Rattle.rx_base.specs.declared.values.Value.{Value}
-use Rattle.rx_rules.specs.Code.{Expr, Block, Stmt, SetTo, New, Get, Put, Forget, Print, Throw, Async, AtAsync, At, Finish, If, Repeat, Try, Then}
+use Rattle.rx_rules.specs.Code.{Expr, Block, Stmt, SetTo, New, Get, Put, Forget, Census, Print, Throw, Async, AtAsync, At, Finish, If, Repeat, Try, Then}
 use Rattle.rx_rules.specs.Terms.{Term, Empty, Run, Raise, Turns as TurnsTerm, Trying, Body as BodyTerm, Held as HeldTerm, Fails, answered, answer_of, replaced, after_it, receives, stmt_receives, granted, stmt_granted, or_raise, at}
 use Rattle.rx_nodes.specs.declared.nodes.ExprId.{ExprId}
 use Rattle.rx_nodes.specs.declared.nodes.BlockId.{BlockId}
@@ -49,6 +49,7 @@ opened-term (New name words) y more x k gs = refl
 opened-term (Get name target index) y more x k gs = refl
 opened-term (Put target index value) y more x k gs = refl
 opened-term (Forget target) y more x k gs = refl
+opened-term (Census name) y more x k gs = refl
 opened-term (Print value) y more x k gs = refl
 opened-term (Throw value) y more x k gs = refl
 opened-term (Async body) y more x k gs = refl

@@ -5,8 +5,8 @@ use Rattle.std.proofs.lemmas.Option.{none-some}
 use Rattle.rx_base.specs.declared.values.Fault.{Fault}
 use Rattle.rx_base.specs.declared.values.Fault.TheVariants.{WrongPlace, Thrown}
 use Rattle.rx_base.specs.declared.values.Value.TheVariants.{Num as Number}
-use Rattle.rx_rules.specs.Code.{Block, Nothing, Then, Stmt, SetTo, New, Get, Put, Forget, Print, Throw, Async, AtAsync, At, Finish, If, Repeat, Try, work, work_of}
-use Rattle.rx_rules.specs.Terms.{Vars, Term, Empty, Run, Raise, Turns, Trying, Body, Held, items, items_from, at, Does, Local, Makes, Gets, Puts, Forgets, Opens, Calls, Spawns, Waits, Releases, Prints, Done, does, stmt_does, begins, child, stmt_child, with_number, with_place, raise, bound, eval, target_of, ref_in, value_of, is_zero, catches, within, granted, stmt_granted, or_raise, replaced, after_it, Answer, Gives, Fine, Fails, answered}
+use Rattle.rx_rules.specs.Code.{Block, Nothing, Then, Stmt, SetTo, New, Get, Put, Forget, Census, Print, Throw, Async, AtAsync, At, Finish, If, Repeat, Try, work, work_of}
+use Rattle.rx_rules.specs.Terms.{Vars, Term, Empty, Run, Raise, Turns, Trying, Body, Held, items, items_from, at, Does, Local, Makes, Gets, Puts, Forgets, Opens, Calls, Spawns, Waits, Releases, Prints, Counts, Done, does, stmt_does, begins, child, stmt_child, with_number, with_place, raise, bound, eval, target_of, ref_in, value_of, is_zero, catches, within, granted, stmt_granted, or_raise, replaced, after_it, Answer, Gives, Fine, Fails, answered}
 use Rattle.rx_runs.specs.Steps.{steps, Sinks}
 use Rattle.rx_runs.proofs.Sinking.{sinks, steps_items}
 use Rattle.rx_control.specs.Bound.{StepFalls}
@@ -27,11 +27,12 @@ sink-falls t (Spawns place) h = tt
 sink-falls t (Waits faults) h = tt
 sink-falls t Releases h = tt
 sink-falls t (Prints value) h = tt
+sink-falls t (Counts name) h = tt
 sink-falls t (Done faults) h = tt
 
 -- each local step of a term leaves less
-pub local-falls : (vars : Vars) (here places : ℕ) (t : Term) → StepFalls (steps t) (does vars here places t)
-local-falls vars here places t = sink-falls t (does vars here places t) (sinks vars here places t)
+pub local-falls : (vars : Vars) (here : ℕ) (t : Term) → StepFalls (steps t) (does vars here t)
+local-falls vars here t = sink-falls t (does vars here t) (sinks vars here t)
 
 stmt-grants : (stmt : Stmt) (x : List ℕ) (rest : Term) → steps (stmt_granted stmt x rest) ≤ 3 * work_of stmt + steps rest
 stmt-grants (SetTo name value) x rest = omega arith
@@ -39,6 +40,7 @@ stmt-grants (New name words) x rest = omega arith
 stmt-grants (Get name target index) x rest = omega arith
 stmt-grants (Put target index value) x rest = omega arith
 stmt-grants (Forget target) x rest = omega arith
+stmt-grants (Census name) x rest = omega arith
 stmt-grants (Print value) x rest = omega arith
 stmt-grants (Throw value) x rest = omega arith
 stmt-grants (Async body) x rest = omega arith
@@ -75,6 +77,7 @@ stmt-starts (New name words) x = omega arith
 stmt-starts (Get name target index) x = omega arith
 stmt-starts (Put target index value) x = omega arith
 stmt-starts (Forget target) x = omega arith
+stmt-starts (Census name) x = omega arith
 stmt-starts (Print value) x = omega arith
 stmt-starts (Throw value) x = omega arith
 stmt-starts (Async body) x = omega (arith, steps-items body x 0 Empty)

@@ -5,8 +5,8 @@ use Rattle.std.proofs.lemmas.Option.{same_Some}
 use Rattle.rx_base.specs.declared.values.Fault.{Fault}
 use Rattle.rx_base.specs.declared.values.Value.TheVariants.{Num as Number}
 use Rattle.rx_base.specs.declared.values.Fault.TheVariants.{Thrown, WrongPlace}
-use Rattle.rx_rules.specs.Code.{Block, Stmt, SetTo, New, Get, Put, Forget, Print, Throw, Async, AtAsync, At, Finish, If, Repeat, Try, Nothing, Then}
-use Rattle.rx_rules.specs.Terms.{Vars, Term, Empty, Run, Raise, Turns as TurnsTerm, Trying, Body as BodyTerm, Held as HeldTerm, Does, Local, Makes, Gets, Puts, Forgets, Opens, Calls, Spawns, Waits, Releases, Prints, Done, does, stmt_does, begins, granted, within, replaced, with_number, with_place, eval, target_of, ref_in, value_of, raise, at, bound, items, is_zero}
+use Rattle.rx_rules.specs.Code.{Block, Stmt, SetTo, New, Get, Put, Forget, Census, Print, Throw, Async, AtAsync, At, Finish, If, Repeat, Try, Nothing, Then}
+use Rattle.rx_rules.specs.Terms.{Vars, Term, Empty, Run, Raise, Turns as TurnsTerm, Trying, Body as BodyTerm, Held as HeldTerm, Does, Local, Makes, Gets, Puts, Forgets, Opens, Calls, Spawns, Waits, Releases, Prints, Counts, Done, does, stmt_does, begins, granted, within, replaced, with_number, with_place, eval, target_of, ref_in, value_of, raise, at, bound, items, is_zero}
 use Rattle.rx_control.specs.Next.{carried}
 use Rattle.rx_control.specs.Levels.{Level, More, Again, Tried, Inside, Waiting, Settled, seq, term_of}
 use Rattle.rx_nodes.specs.declared.nodes.BlockId.{BlockId}
@@ -32,6 +32,7 @@ carried-lifted s (Spawns place) = refl
 carried-lifted s (Waits faults) = refl
 carried-lifted s Releases = refl
 carried-lifted s (Prints value) = refl
+carried-lifted s (Counts name) = refl
 carried-lifted s (Done faults) = refl
 
 on-number : (vars : Vars) (o : Option ℤ) (f : ℤ → Does) → ((z : ℤ) → carried (f z) ≡ None) → carried (with_number vars o f) ≡ None
@@ -46,30 +47,31 @@ on-test : (b : Bool) (d e : Does) → carried d ≡ None → carried e ≡ None 
 on-test true d e h k = h
 on-test false d e h k = k
 
-stmt-carried : (vars : Vars) (here places : ℕ) (stmt : Stmt) (x : List ℕ) (rest : Term) → carried (stmt_does vars here places stmt x rest) ≡ None
-stmt-carried vars here places (SetTo name value) x rest = on-number vars (eval vars here value) (λ z. Local rest (bound name (Number z) vars)) (λ z. refl)
-stmt-carried vars here places (New name words) x rest = refl
-stmt-carried vars here places (Get name target index) x rest =
+stmt-carried : (vars : Vars) (here : ℕ) (stmt : Stmt) (x : List ℕ) (rest : Term) → carried (stmt_does vars here stmt x rest) ≡ None
+stmt-carried vars here (SetTo name value) x rest = on-number vars (eval vars here value) (λ z. Local rest (bound name (Number z) vars)) (λ z. refl)
+stmt-carried vars here (New name words) x rest = refl
+stmt-carried vars here (Get name target index) x rest =
     let r = ref_in (value_of vars target) in
     on-number vars (eval vars here index) (λ k. cond (r.home.0 == here) (Gets name r k) (Local (raise WrongPlace) vars))
     (λ k. on-test (r.home.0 == here) (Gets name r k) (Local (raise WrongPlace) vars) refl refl)
-stmt-carried vars here places (Put target index value) x rest =
+stmt-carried vars here (Put target index value) x rest =
     let r = ref_in (value_of vars target) in
     on-number vars (eval vars here index) (λ k. with_number vars (eval vars here value) (λ z. cond (r.home.0 == here) (Puts r k z) (Local (raise WrongPlace) vars)))
     (λ k. on-number vars (eval vars here value) (λ z. cond (r.home.0 == here) (Puts r k z) (Local (raise WrongPlace) vars))
     (λ z. on-test (r.home.0 == here) (Puts r k z) (Local (raise WrongPlace) vars) refl refl))
-stmt-carried vars here places (Forget target) x rest =
+stmt-carried vars here (Forget target) x rest =
     let r = ref_in (value_of vars target) in on-test (r.home.0 == here) (Forgets r) (Local (raise WrongPlace) vars) refl refl
-stmt-carried vars here places (Print value) x rest = on-number vars (eval vars here value) Prints (λ z. refl)
-stmt-carried vars here places (Throw value) x rest = on-number vars (eval vars here value) (λ z. Local (raise (Thrown z)) vars) (λ z. refl)
-stmt-carried vars here places (Async body) x rest = refl
-stmt-carried vars here places (AtAsync place body) x rest = on-place vars (target_of (eval vars here place) places) Spawns (λ p. refl)
-stmt-carried vars here places (At place body) x rest = on-place vars (target_of (eval vars here place) places) Calls (λ p. refl)
-stmt-carried vars here places (Finish body) x rest = refl
-stmt-carried vars here places (If test first other) x rest =
+stmt-carried vars here (Census name) x rest = refl
+stmt-carried vars here (Print value) x rest = on-number vars (eval vars here value) Prints (λ z. refl)
+stmt-carried vars here (Throw value) x rest = on-number vars (eval vars here value) (λ z. Local (raise (Thrown z)) vars) (λ z. refl)
+stmt-carried vars here (Async body) x rest = refl
+stmt-carried vars here (AtAsync place body) x rest = on-place vars (target_of (eval vars here place) vars.places) Spawns (λ p. refl)
+stmt-carried vars here (At place body) x rest = on-place vars (target_of (eval vars here place) vars.places) Calls (λ p. refl)
+stmt-carried vars here (Finish body) x rest = refl
+stmt-carried vars here (If test first other) x rest =
     on-number vars (eval vars here test) (λ z. Local (cond (is_zero z) (items other (at x 1) rest) (items first (at x 0) rest)) vars) (λ z. refl)
-stmt-carried vars here places (Repeat times body) x rest = refl
-stmt-carried vars here places (Try body dead_only handler) x rest = refl
+stmt-carried vars here (Repeat times body) x rest = refl
+stmt-carried vars here (Try body dead_only handler) x rest = refl
 
 -- after the list is handed out
 pub record Took (r : Option (List Fault)) (levels : List Level) (faults : List Fault) : Type 0 where
@@ -77,29 +79,29 @@ pub record Took (r : Option (List Fault)) (levels : List Level) (faults : List F
   pub settled : Settled None levels
   pub is : term_of None levels ≡ replaced (term_of r levels) Empty
 
-pub took : (vars : Vars) (here places : ℕ) (faults : List Fault) (r : Option (List Fault)) (levels : List Level) → Settled r levels → carried (does vars here places (term_of r levels)) ≡ Some faults → Took r levels faults
-took vars here places faults None [] h e = record { list = same_Some _ _ e; settled = tt; is = refl }
-took vars here places faults None (More Nothing x i ∷ gs) h e = absurd h
-took vars here places faults None (More (Then stmt more) x i ∷ gs) h e =
-    let q : None ≡ Some faults = sym (ap carried (does-statement vars here places stmt more x i gs) ∙ carried-lifted gs _ ∙ stmt-carried vars here places stmt _ _) ∙ e in absurd (cc)
-took vars here places faults None (Again body x k times ∷ gs) h e =
-    let q : None ≡ Some faults = sym (ap carried (does-turns vars here places body x k times gs)) ∙ e in absurd (cc)
-took vars here places faults None (Tried d b x ∷ gs) h e =
-    let q : None ≡ Some faults = sym (ap carried (does-tried vars here places d b x gs)) ∙ e in absurd (cc)
-took vars here places faults None (Inside ∷ gs) h e =
-    let q : Some [] ≡ Some faults = sym (ap carried (does-inside vars here places gs)) ∙ e in
+pub took : (vars : Vars) (here : ℕ) (faults : List Fault) (r : Option (List Fault)) (levels : List Level) → Settled r levels → carried (does vars here (term_of r levels)) ≡ Some faults → Took r levels faults
+took vars here faults None [] h e = record { list = same_Some _ _ e; settled = tt; is = refl }
+took vars here faults None (More Nothing x i ∷ gs) h e = absurd h
+took vars here faults None (More (Then stmt more) x i ∷ gs) h e =
+    let q : None ≡ Some faults = sym (ap carried (does-statement vars here stmt more x i gs) ∙ carried-lifted gs _ ∙ stmt-carried vars here stmt _ _) ∙ e in absurd (cc)
+took vars here faults None (Again body x k times ∷ gs) h e =
+    let q : None ≡ Some faults = sym (ap carried (does-turns vars here body x k times gs)) ∙ e in absurd (cc)
+took vars here faults None (Tried d b x ∷ gs) h e =
+    let q : None ≡ Some faults = sym (ap carried (does-tried vars here d b x gs)) ∙ e in absurd (cc)
+took vars here faults None (Inside ∷ gs) h e =
+    let q : Some [] ≡ Some faults = sym (ap carried (does-inside vars here gs)) ∙ e in
     record { list = same_Some _ _ q; settled = tt; is = sym (replaced-wrap Empty (BodyTerm Empty (seq gs)) gs) }
-took vars here places faults None (Waiting ∷ gs) h e =
-    let q : None ≡ Some faults = sym (ap carried (does-waiting vars here places gs)) ∙ e in absurd (cc)
-took vars here places faults (Some fs) [] h e = record { list = same_Some _ _ e; settled = tt; is = refl }
-took vars here places faults (Some fs) (More left x i ∷ gs) h e = absurd h
-took vars here places faults (Some fs) (Again body x k times ∷ gs) h e = absurd h
-took vars here places faults (Some fs) (Tried d b x ∷ gs) h e =
-    let q : None ≡ Some faults = sym (ap carried (does-raised-tried vars here places fs d b x gs)) ∙ e in absurd (cc)
-took vars here places faults (Some fs) (Inside ∷ gs) h e =
-    let q : Some fs ≡ Some faults = sym (ap carried (does-raised-inside vars here places fs gs)) ∙ e in
+took vars here faults None (Waiting ∷ gs) h e =
+    let q : None ≡ Some faults = sym (ap carried (does-waiting vars here gs)) ∙ e in absurd (cc)
+took vars here faults (Some fs) [] h e = record { list = same_Some _ _ e; settled = tt; is = refl }
+took vars here faults (Some fs) (More left x i ∷ gs) h e = absurd h
+took vars here faults (Some fs) (Again body x k times ∷ gs) h e = absurd h
+took vars here faults (Some fs) (Tried d b x ∷ gs) h e =
+    let q : None ≡ Some faults = sym (ap carried (does-raised-tried vars here fs d b x gs)) ∙ e in absurd (cc)
+took vars here faults (Some fs) (Inside ∷ gs) h e =
+    let q : Some fs ≡ Some faults = sym (ap carried (does-raised-inside vars here fs gs)) ∙ e in
     record { list = same_Some _ _ q; settled = tt; is = sym (replaced-wrap Empty (BodyTerm (Raise fs) (seq gs)) gs) }
-took vars here places faults (Some fs) (Waiting ∷ gs) h e = absurd h
+took vars here faults (Some fs) (Waiting ∷ gs) h e = absurd h
 
 -- what is raised begins nothing, and neither do the other levels
 pub raised-begins : (faults : List Fault) (gs : List Level) → begins (term_of (Some faults) gs) ≡ None
@@ -150,14 +152,14 @@ pub statement-begin : (s : Shape) (c : Control) (t : Term) (below : List Frame) 
 statement-begin s c t below block next part a = ap begins a.is ∙ stmt-begins a.stmt a.more (path_of c.base below ++ option_to_list part) next a.others
 
 -- the list that is handed out, and the control afterwards
-pub took-list : (s : Shape) (c : Control) (t : Term) (here places : ℕ) (faults : List Fault) (r : Option (List Fault)) → c.raised ≡ r → StandsFor s c t → carried (does c.vars here places t) ≡ Some faults → unwrap_or r [] ≡ faults
-took-list s c t here places faults r e h k =
+pub took-list : (s : Shape) (c : Control) (t : Term) (here : ℕ) (faults : List Fault) (r : Option (List Fault)) → c.raised ≡ r → StandsFor s c t → carried (does c.vars here t) ≡ Some faults → unwrap_or r [] ≡ faults
+took-list s c t here faults r e h k =
     let P : Option (List Fault) → Type 0 = λ r. Settled r h.levels in
-    (took c.vars here places faults r h.levels (subst P e h.settled) (ap (λ t. carried (does c.vars here places t)) (sym (h.is ∙ ap (λ r. term_of r h.levels) e)) ∙ k)).list
+    (took c.vars here faults r h.levels (subst P e h.settled) (ap (λ t. carried (does c.vars here t)) (sym (h.is ∙ ap (λ r. term_of r h.levels) e)) ∙ k)).list
 
-pub took-stands : (s : Shape) (c d : Control) (t : Term) (here places : ℕ) (faults : List Fault) → d.base ≡ c.base → d.frames.items ≡ c.frames.items → d.raised ≡ None → StandsFor s c t → carried (does c.vars here places t) ≡ Some faults → StandsFor s d (replaced t Empty)
-took-stands s c d t here places faults b f r h k =
-    let o = took c.vars here places faults c.raised h.levels h.settled (ap (λ t. carried (does c.vars here places t)) (sym h.is) ∙ k) in
+pub took-stands : (s : Shape) (c d : Control) (t : Term) (here : ℕ) (faults : List Fault) → d.base ≡ c.base → d.frames.items ≡ c.frames.items → d.raised ≡ None → StandsFor s c t → carried (does c.vars here t) ≡ Some faults → StandsFor s d (replaced t Empty)
+took-stands s c d t here faults b f r h k =
+    let o = took c.vars here faults c.raised h.levels h.settled (ap (λ t. carried (does c.vars here t)) (sym h.is) ∙ k) in
     let P : Option (List Fault) → Type 0 = λ r. Settled r h.levels in
     let Q : List ℕ → Type 0 = λ x. FramesStand s x d.frames.items h.levels in
     let R : List Frame → Type 0 = λ fs. FramesStand s c.base fs h.levels in
@@ -182,33 +184,34 @@ waits-within f (Spawns place) faults h = h
 waits-within f (Waits list) faults h = h
 waits-within f Releases faults h = h
 waits-within f (Prints value) faults h = h
+waits-within f (Counts name) faults h = h
 waits-within f (Done list) faults h = h
 
-no-statement : (vars : Vars) (here places : ℕ) (stmt : Stmt) (x : List ℕ) (rest : Term) (faults : List Fault) → stmt_does vars here places stmt x rest ≡ Waits faults → ⊥
-no-statement vars here places stmt x rest faults h =
-    let q : None ≡ Some faults = sym (stmt-carried vars here places stmt x rest) ∙ ap carried h in cc
+no-statement : (vars : Vars) (here : ℕ) (stmt : Stmt) (x : List ℕ) (rest : Term) (faults : List Fault) → stmt_does vars here stmt x rest ≡ Waits faults → ⊥
+no-statement vars here stmt x rest faults h =
+    let q : None ≡ Some faults = sym (stmt-carried vars here stmt x rest) ∙ ap carried h in cc
 
 no-turn : (t : Term) (vars : Vars) (faults : List Fault) → Local t vars ≡ Waits faults → ⊥
 no-turn t vars faults h = let q : None ≡ Some faults = ap carried h in cc
 
 -- a wait grants the same without the list that it carries
-pub wait-grants : (vars : Vars) (here places : ℕ) (t : Term) (faults list : List Fault) → does vars here places t ≡ Waits faults → granted list (replaced t Empty) ≡ granted list t
-wait-grants vars here places Empty faults list h = refl
-wait-grants vars here places (Raise fs) faults list h = cc
-wait-grants vars here places (Run stmt x rest) faults list h = absurd (no-statement vars here places stmt x rest faults h)
-wait-grants vars here places (TurnsTerm b x k n rest) faults list h = absurd (no-turn _ _ faults h)
-wait-grants vars here places (Trying Empty d b x rest) faults list h = absurd (no-turn _ _ faults h)
-wait-grants vars here places (Trying (Raise fs) d b x rest) faults list h = absurd (no-turn _ _ faults h)
-wait-grants vars here places (Trying (Run s y m) d b x rest) faults list h = absurd (no-statement vars here places s y m faults (waits-within _ _ faults h))
-wait-grants vars here places (Trying (TurnsTerm c y k n m) d b x rest) faults list h = absurd (no-turn _ _ faults h)
-wait-grants vars here places (Trying (Trying u e c y m) d b x rest) faults list h = ap (λ v. Trying v d b x rest) (wait-grants vars here places (Trying u e c y m) faults list (waits-within _ _ faults h))
-wait-grants vars here places (Trying (BodyTerm u m) d b x rest) faults list h = ap (λ v. Trying v d b x rest) (wait-grants vars here places (BodyTerm u m) faults list (waits-within _ _ faults h))
-wait-grants vars here places (Trying (HeldTerm m) d b x rest) faults list h = cc
-wait-grants vars here places (BodyTerm Empty rest) faults list h = refl
-wait-grants vars here places (BodyTerm (Raise fs) rest) faults list h = refl
-wait-grants vars here places (BodyTerm (Run s y m) rest) faults list h = absurd (no-statement vars here places s y m faults (waits-within _ _ faults h))
-wait-grants vars here places (BodyTerm (TurnsTerm c y k n m) rest) faults list h = absurd (no-turn _ _ faults h)
-wait-grants vars here places (BodyTerm (Trying u e c y m) rest) faults list h = ap (λ v. BodyTerm v rest) (wait-grants vars here places (Trying u e c y m) faults list (waits-within _ _ faults h))
-wait-grants vars here places (BodyTerm (BodyTerm u m) rest) faults list h = ap (λ v. BodyTerm v rest) (wait-grants vars here places (BodyTerm u m) faults list (waits-within _ _ faults h))
-wait-grants vars here places (BodyTerm (HeldTerm m) rest) faults list h = cc
-wait-grants vars here places (HeldTerm rest) faults list h = cc
+pub wait-grants : (vars : Vars) (here : ℕ) (t : Term) (faults list : List Fault) → does vars here t ≡ Waits faults → granted list (replaced t Empty) ≡ granted list t
+wait-grants vars here Empty faults list h = refl
+wait-grants vars here (Raise fs) faults list h = cc
+wait-grants vars here (Run stmt x rest) faults list h = absurd (no-statement vars here stmt x rest faults h)
+wait-grants vars here (TurnsTerm b x k n rest) faults list h = absurd (no-turn _ _ faults h)
+wait-grants vars here (Trying Empty d b x rest) faults list h = absurd (no-turn _ _ faults h)
+wait-grants vars here (Trying (Raise fs) d b x rest) faults list h = absurd (no-turn _ _ faults h)
+wait-grants vars here (Trying (Run s y m) d b x rest) faults list h = absurd (no-statement vars here s y m faults (waits-within _ _ faults h))
+wait-grants vars here (Trying (TurnsTerm c y k n m) d b x rest) faults list h = absurd (no-turn _ _ faults h)
+wait-grants vars here (Trying (Trying u e c y m) d b x rest) faults list h = ap (λ v. Trying v d b x rest) (wait-grants vars here (Trying u e c y m) faults list (waits-within _ _ faults h))
+wait-grants vars here (Trying (BodyTerm u m) d b x rest) faults list h = ap (λ v. Trying v d b x rest) (wait-grants vars here (BodyTerm u m) faults list (waits-within _ _ faults h))
+wait-grants vars here (Trying (HeldTerm m) d b x rest) faults list h = cc
+wait-grants vars here (BodyTerm Empty rest) faults list h = refl
+wait-grants vars here (BodyTerm (Raise fs) rest) faults list h = refl
+wait-grants vars here (BodyTerm (Run s y m) rest) faults list h = absurd (no-statement vars here s y m faults (waits-within _ _ faults h))
+wait-grants vars here (BodyTerm (TurnsTerm c y k n m) rest) faults list h = absurd (no-turn _ _ faults h)
+wait-grants vars here (BodyTerm (Trying u e c y m) rest) faults list h = ap (λ v. BodyTerm v rest) (wait-grants vars here (Trying u e c y m) faults list (waits-within _ _ faults h))
+wait-grants vars here (BodyTerm (BodyTerm u m) rest) faults list h = ap (λ v. BodyTerm v rest) (wait-grants vars here (BodyTerm u m) faults list (waits-within _ _ faults h))
+wait-grants vars here (BodyTerm (HeldTerm m) rest) faults list h = cc
+wait-grants vars here (HeldTerm rest) faults list h = cc

@@ -5,7 +5,7 @@ use Rattle.std.proofs.lemmas.List.{at_drop_more}
 use Rattle.std.proofs.lemmas.Option.{slice_get_within, get_or_from_slice_get}
 use Rattle.rx_base.specs.declared.values.Fault.{Fault}
 use Rattle.rx_rules.specs.Code.{Block, Stmt, Nothing, Then}
-use Rattle.rx_rules.specs.Terms.{Vars, Empty, Run, Raise, Turns, Trying, Body as BodyTerm, Held as HeldTerm, Does, Local, Makes, Gets, Puts, Forgets, Opens, Calls, Spawns, Waits, Releases, Prints, Done, does, stmt_does, items, at, catches}
+use Rattle.rx_rules.specs.Terms.{Vars, Empty, Run, Raise, Turns, Trying, Body as BodyTerm, Held as HeldTerm, Does, Local, Makes, Gets, Puts, Forgets, Opens, Calls, Spawns, Waits, Releases, Prints, Counts, Done, does, stmt_does, items, at, catches}
 use Rattle.rx_nodes.specs.declared.nodes.StmtId.{StmtId}
 use Rattle.rx_nodes.specs.declared.nodes.BlockId.{BlockId}
 use Rattle.rx_nodes.specs.declared.nodes.Stmt.{Stmt as Node}
@@ -31,6 +31,7 @@ next-lifted s (Spawns place) = refl
 next-lifted s (Waits faults) = refl
 next-lifted s Releases = refl
 next-lifted s (Prints value) = refl
+next-lifted s (Counts name) = refl
 next-lifted s (Done faults) = refl
 
 -- the statement at the front of a stack
@@ -53,26 +54,26 @@ statement s base below block next part levels h k =
 
 -- what stands at the front does
 
-pub does-statement : (vars : Vars) (here places : ℕ) (stmt : Stmt) (more : Block) (x : List ℕ) (i : ℕ) (gs : List Level) → does vars here places (term_of None (More (Then stmt more) x i ∷ gs)) ≡ lifted gs (stmt_does vars here places stmt (at x i) (seq (More more x (suc i) ∷ gs)))
-does-statement vars here places stmt more x i gs = does-wrap vars here places (Run stmt (at x i) (seq (More more x (suc i) ∷ gs))) gs tt
+pub does-statement : (vars : Vars) (here : ℕ) (stmt : Stmt) (more : Block) (x : List ℕ) (i : ℕ) (gs : List Level) → does vars here (term_of None (More (Then stmt more) x i ∷ gs)) ≡ lifted gs (stmt_does vars here stmt (at x i) (seq (More more x (suc i) ∷ gs)))
+does-statement vars here stmt more x i gs = does-wrap vars here (Run stmt (at x i) (seq (More more x (suc i) ∷ gs))) gs tt
 
-pub does-turns : (vars : Vars) (here places : ℕ) (b : Block) (x : List ℕ) (k n : ℕ) (gs : List Level) → does vars here places (term_of None (Again b x k n ∷ gs)) ≡ Local (wrap (cond (nat_le n k) (seq gs) (items b (at x k) (Turns b x (suc k) n (seq gs)))) gs) vars
-does-turns vars here places b x k n gs = does-wrap vars here places (Turns b x k n (seq gs)) gs tt
+pub does-turns : (vars : Vars) (here : ℕ) (b : Block) (x : List ℕ) (k n : ℕ) (gs : List Level) → does vars here (term_of None (Again b x k n ∷ gs)) ≡ Local (wrap (cond (nat_le n k) (seq gs) (items b (at x k) (Turns b x (suc k) n (seq gs)))) gs) vars
+does-turns vars here b x k n gs = does-wrap vars here (Turns b x k n (seq gs)) gs tt
 
-pub does-tried : (vars : Vars) (here places : ℕ) (d : Bool) (b : Block) (x : List ℕ) (gs : List Level) → does vars here places (term_of None (Tried d b x ∷ gs)) ≡ Local (wrap (seq gs) gs) vars
-does-tried vars here places d b x gs = does-wrap vars here places (Trying Empty d b x (seq gs)) gs tt
+pub does-tried : (vars : Vars) (here : ℕ) (d : Bool) (b : Block) (x : List ℕ) (gs : List Level) → does vars here (term_of None (Tried d b x ∷ gs)) ≡ Local (wrap (seq gs) gs) vars
+does-tried vars here d b x gs = does-wrap vars here (Trying Empty d b x (seq gs)) gs tt
 
-pub does-inside : (vars : Vars) (here places : ℕ) (gs : List Level) → does vars here places (term_of None (Inside ∷ gs)) ≡ Waits []
-does-inside vars here places gs = does-wrap vars here places (BodyTerm Empty (seq gs)) gs tt
+pub does-inside : (vars : Vars) (here : ℕ) (gs : List Level) → does vars here (term_of None (Inside ∷ gs)) ≡ Waits []
+does-inside vars here gs = does-wrap vars here (BodyTerm Empty (seq gs)) gs tt
 
-pub does-waiting : (vars : Vars) (here places : ℕ) (gs : List Level) → does vars here places (term_of None (Waiting ∷ gs)) ≡ Releases
-does-waiting vars here places gs = does-wrap vars here places (HeldTerm (seq gs)) gs tt
+pub does-waiting : (vars : Vars) (here : ℕ) (gs : List Level) → does vars here (term_of None (Waiting ∷ gs)) ≡ Releases
+does-waiting vars here gs = does-wrap vars here (HeldTerm (seq gs)) gs tt
 
-pub does-raised-tried : (vars : Vars) (here places : ℕ) (faults : List Fault) (d : Bool) (b : Block) (x : List ℕ) (gs : List Level) → does vars here places (term_of (Some faults) (Tried d b x ∷ gs)) ≡ Local (wrap (cond (catches d faults) (items b (at x 1) (seq gs)) (Raise faults)) gs) vars
-does-raised-tried vars here places faults d b x gs = does-wrap vars here places (Trying (Raise faults) d b x (seq gs)) gs tt
+pub does-raised-tried : (vars : Vars) (here : ℕ) (faults : List Fault) (d : Bool) (b : Block) (x : List ℕ) (gs : List Level) → does vars here (term_of (Some faults) (Tried d b x ∷ gs)) ≡ Local (wrap (cond (catches d faults) (items b (at x 1) (seq gs)) (Raise faults)) gs) vars
+does-raised-tried vars here faults d b x gs = does-wrap vars here (Trying (Raise faults) d b x (seq gs)) gs tt
 
-pub does-raised-inside : (vars : Vars) (here places : ℕ) (faults : List Fault) (gs : List Level) → does vars here places (term_of (Some faults) (Inside ∷ gs)) ≡ Waits faults
-does-raised-inside vars here places faults gs = does-wrap vars here places (BodyTerm (Raise faults) (seq gs)) gs tt
+pub does-raised-inside : (vars : Vars) (here : ℕ) (faults : List Fault) (gs : List Level) → does vars here (term_of (Some faults) (Inside ∷ gs)) ≡ Waits faults
+does-raised-inside vars here faults gs = does-wrap vars here (BodyTerm (Raise faults) (seq gs)) gs tt
 
 -- the statements after one
 first-id : (s : Shape) (n : ℕ) (ids : List StmtId) (stmt : Stmt) (more : Block) → ListStands s (drop n ids) (Then stmt more) → n < length ids

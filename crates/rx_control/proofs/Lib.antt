@@ -6,6 +6,7 @@ pub mod Front
 pub mod Standing
 pub mod NextIs
 pub mod Told
+pub mod Counting
 pub mod Carried
 pub mod Starting
 pub mod Words

@@ -16,58 +16,58 @@ use Rattle.rx_control.specs.Inside.Front.{lifted, AtStatement}
 use Rattle.rx_control.proofs.Front.{does-statement, does-turns, does-tried, does-inside, does-waiting, does-raised-tried, does-raised-inside}
 use Rattle.rx_control.proofs.Standing.{AtTop, calm-turns, at-end, at-turns, at-tried, at-inside, at-waiting}
 
-pub stmt-does : (s : Shape) (c : Control) (t : Term) (below : List Frame) (block : BlockId) (next : ℕ) (part : Option ℕ) (a : AtStatement s c t below block next part) (vars : Vars) (here places : ℕ) → does vars here places t ≡ lifted a.others (stmt_does vars here places a.stmt (at (path_of c.base below ++ option_to_list part) next) (seq (More a.more (path_of c.base below ++ option_to_list part) (suc next) ∷ a.others)))
-stmt-does s c t below block next part a vars here places =
-    ap (does vars here places) a.is ∙ does-statement vars here places a.stmt a.more (path_of c.base below ++ option_to_list part) next a.others
+pub stmt-does : (s : Shape) (c : Control) (t : Term) (below : List Frame) (block : BlockId) (next : ℕ) (part : Option ℕ) (a : AtStatement s c t below block next part) (vars : Vars) (here : ℕ) → does vars here t ≡ lifted a.others (stmt_does vars here a.stmt (at (path_of c.base below ++ option_to_list part) next) (seq (More a.more (path_of c.base below ++ option_to_list part) (suc next) ∷ a.others)))
+stmt-does s c t below block next part a vars here =
+    ap (does vars here) a.is ∙ does-statement vars here a.stmt a.more (path_of c.base below ++ option_to_list part) next a.others
 
-pub turns-does : (s : Shape) (c : Control) (t : Term) (below : List Frame) (body : BlockId) (k n : ℕ) → c.raised ≡ None → (a : AtTop s c t below (Turns body k n)) (vars : Vars) (here places : ℕ) → does vars here places t ≡ Local (wrap (cond (nat_le n k) (seq a.others) (items a.stands.0 (at (path_of c.base below) k) (TurnsTerm a.stands.0 (path_of c.base below) (suc k) n (seq a.others)))) a.others) vars
-turns-does s c t below body k n r a vars here places =
-    ap (does vars here places) (at-turns s c t below body k n r a) ∙ does-turns vars here places a.stands.0 (path_of c.base below) k n a.others
+pub turns-does : (s : Shape) (c : Control) (t : Term) (below : List Frame) (body : BlockId) (k n : ℕ) → c.raised ≡ None → (a : AtTop s c t below (Turns body k n)) (vars : Vars) (here : ℕ) → does vars here t ≡ Local (wrap (cond (nat_le n k) (seq a.others) (items a.stands.0 (at (path_of c.base below) k) (TurnsTerm a.stands.0 (path_of c.base below) (suc k) n (seq a.others)))) a.others) vars
+turns-does s c t below body k n r a vars here =
+    ap (does vars here) (at-turns s c t below body k n r a) ∙ does-turns vars here a.stands.0 (path_of c.base below) k n a.others
 
-pub tried-does : (s : Shape) (c : Control) (t : Term) (below : List Frame) (d : Bool) (b : BlockId) → c.raised ≡ None → (a : AtTop s c t below (Try d b)) (vars : Vars) (here places : ℕ) → does vars here places t ≡ Local (wrap (seq a.others) a.others) vars
-tried-does s c t below d b r a vars here places =
-    ap (does vars here places) (at-tried s c t below d b None r a) ∙ does-tried vars here places d a.stands.0 (path_of c.base below) a.others
+pub tried-does : (s : Shape) (c : Control) (t : Term) (below : List Frame) (d : Bool) (b : BlockId) → c.raised ≡ None → (a : AtTop s c t below (Try d b)) (vars : Vars) (here : ℕ) → does vars here t ≡ Local (wrap (seq a.others) a.others) vars
+tried-does s c t below d b r a vars here =
+    ap (does vars here) (at-tried s c t below d b None r a) ∙ does-tried vars here d a.stands.0 (path_of c.base below) a.others
 
-pub raised-tried-does : (s : Shape) (c : Control) (t : Term) (below : List Frame) (d : Bool) (b : BlockId) (faults : List Fault) → c.raised ≡ Some faults → (a : AtTop s c t below (Try d b)) (vars : Vars) (here places : ℕ) → does vars here places t ≡ Local (wrap (cond (catches d faults) (items a.stands.0 (at (path_of c.base below) 1) (seq a.others)) (Raise faults)) a.others) vars
-raised-tried-does s c t below d b faults r a vars here places =
-    ap (does vars here places) (at-tried s c t below d b (Some faults) r a) ∙ does-raised-tried vars here places faults d a.stands.0 (path_of c.base below) a.others
+pub raised-tried-does : (s : Shape) (c : Control) (t : Term) (below : List Frame) (d : Bool) (b : BlockId) (faults : List Fault) → c.raised ≡ Some faults → (a : AtTop s c t below (Try d b)) (vars : Vars) (here : ℕ) → does vars here t ≡ Local (wrap (cond (catches d faults) (items a.stands.0 (at (path_of c.base below) 1) (seq a.others)) (Raise faults)) a.others) vars
+raised-tried-does s c t below d b faults r a vars here =
+    ap (does vars here) (at-tried s c t below d b (Some faults) r a) ∙ does-raised-tried vars here faults d a.stands.0 (path_of c.base below) a.others
 
-pub inside-does : (s : Shape) (c : Control) (t : Term) (below : List Frame) → c.raised ≡ None → (a : AtTop s c t below Body) (vars : Vars) (here places : ℕ) → does vars here places t ≡ Waits []
-inside-does s c t below r a vars here places =
-    ap (does vars here places) (at-inside s c t below None r a) ∙ does-inside vars here places a.others
+pub inside-does : (s : Shape) (c : Control) (t : Term) (below : List Frame) → c.raised ≡ None → (a : AtTop s c t below Body) (vars : Vars) (here : ℕ) → does vars here t ≡ Waits []
+inside-does s c t below r a vars here =
+    ap (does vars here) (at-inside s c t below None r a) ∙ does-inside vars here a.others
 
-pub raised-inside-does : (s : Shape) (c : Control) (t : Term) (below : List Frame) (faults : List Fault) → c.raised ≡ Some faults → (a : AtTop s c t below Body) (vars : Vars) (here places : ℕ) → does vars here places t ≡ Waits faults
-raised-inside-does s c t below faults r a vars here places =
-    ap (does vars here places) (at-inside s c t below (Some faults) r a) ∙ does-raised-inside vars here places faults a.others
+pub raised-inside-does : (s : Shape) (c : Control) (t : Term) (below : List Frame) (faults : List Fault) → c.raised ≡ Some faults → (a : AtTop s c t below Body) (vars : Vars) (here : ℕ) → does vars here t ≡ Waits faults
+raised-inside-does s c t below faults r a vars here =
+    ap (does vars here) (at-inside s c t below (Some faults) r a) ∙ does-raised-inside vars here faults a.others
 
-pub waiting-does : (s : Shape) (c : Control) (t : Term) (below : List Frame) → c.raised ≡ None → (a : AtTop s c t below Held) (vars : Vars) (here places : ℕ) → does vars here places t ≡ Releases
-waiting-does s c t below r a vars here places =
-    ap (does vars here places) (at-waiting s c t below r a) ∙ does-waiting vars here places a.others
+pub waiting-does : (s : Shape) (c : Control) (t : Term) (below : List Frame) → c.raised ≡ None → (a : AtTop s c t below Held) (vars : Vars) (here : ℕ) → does vars here t ≡ Releases
+waiting-does s c t below r a vars here =
+    ap (does vars here) (at-waiting s c t below r a) ∙ does-waiting vars here a.others
 
-pub end-does : (s : Shape) (c : Control) (t : Term) → c.raised ≡ None → c.frames.items ≡ [] → StandsFor s c t → (vars : Vars) (here places : ℕ) → does vars here places t ≡ Done []
-end-does s c t r e h vars here places =
-    ap (does vars here places) (at-end s c t e h ∙ ap (λ r. term_of r []) r)
+pub end-does : (s : Shape) (c : Control) (t : Term) → c.raised ≡ None → c.frames.items ≡ [] → StandsFor s c t → (vars : Vars) (here : ℕ) → does vars here t ≡ Done []
+end-does s c t r e h vars here =
+    ap (does vars here) (at-end s c t e h ∙ ap (λ r. term_of r []) r)
 
-pub raised-end-does : (s : Shape) (c : Control) (t : Term) (faults : List Fault) → c.raised ≡ Some faults → c.frames.items ≡ [] → StandsFor s c t → (vars : Vars) (here places : ℕ) → does vars here places t ≡ Done faults
-raised-end-does s c t faults r e h vars here places =
-    ap (does vars here places) (at-end s c t e h ∙ ap (λ r. term_of r []) r)
+pub raised-end-does : (s : Shape) (c : Control) (t : Term) (faults : List Fault) → c.raised ≡ Some faults → c.frames.items ≡ [] → StandsFor s c t → (vars : Vars) (here : ℕ) → does vars here t ≡ Done faults
+raised-end-does s c t faults r e h vars here =
+    ap (does vars here) (at-end s c t e h ∙ ap (λ r. term_of r []) r)
 
 -- at the end of a finish's body the ledger is asked
-pub inside-leaves : (s : Shape) (c d : Control) (t : Term) (below : List Frame) (a : AtTop s c t below Body) (vars : Vars) (here places : ℕ) → Leaves s d (does vars here places t)
-inside-leaves s c d t below a vars here places = by-raised c.raised refl
+pub inside-leaves : (s : Shape) (c d : Control) (t : Term) (below : List Frame) (a : AtTop s c t below Body) (vars : Vars) (here : ℕ) → Leaves s d (does vars here t)
+inside-leaves s c d t below a vars here = by-raised c.raised refl
   where
-    by-raised : (r : Option (List Fault)) → c.raised ≡ r → Leaves s d (does vars here places t)
-    by-raised None e = let P : Does → Type 0 = λ x. Leaves s d x in subst P (sym (inside-does s c t below e a vars here places)) tt
-    by-raised (Some faults) e = let P : Does → Type 0 = λ x. Leaves s d x in subst P (sym (raised-inside-does s c t below faults e a vars here places)) tt
+    by-raised : (r : Option (List Fault)) → c.raised ≡ r → Leaves s d (does vars here t)
+    by-raised None e = let P : Does → Type 0 = λ x. Leaves s d x in subst P (sym (inside-does s c t below e a vars here)) tt
+    by-raised (Some faults) e = let P : Does → Type 0 = λ x. Leaves s d x in subst P (sym (raised-inside-does s c t below faults e a vars here)) tt
 
 -- turns and tries go on by local steps
-pub turns-local : (s : Shape) (c : Control) (t : Term) (below : List Frame) (body : BlockId) (k n : ℕ) (a : AtTop s c t below (Turns body k n)) (vars : Vars) (here places : ℕ) → next_of (does vars here places t) ≡ LocalStep
-turns-local s c t below body k n a vars here places =
-    ap next_of (turns-does s c t below body k n (calm-turns s c t below body k n a) a vars here places)
+pub turns-local : (s : Shape) (c : Control) (t : Term) (below : List Frame) (body : BlockId) (k n : ℕ) (a : AtTop s c t below (Turns body k n)) (vars : Vars) (here : ℕ) → next_of (does vars here t) ≡ LocalStep
+turns-local s c t below body k n a vars here =
+    ap next_of (turns-does s c t below body k n (calm-turns s c t below body k n a) a vars here)
 
-pub try-local : (s : Shape) (c : Control) (t : Term) (below : List Frame) (d : Bool) (b : BlockId) (a : AtTop s c t below (Try d b)) (vars : Vars) (here places : ℕ) → next_of (does vars here places t) ≡ LocalStep
-try-local s c t below d b a vars here places = by-raised c.raised refl
+pub try-local : (s : Shape) (c : Control) (t : Term) (below : List Frame) (d : Bool) (b : BlockId) (a : AtTop s c t below (Try d b)) (vars : Vars) (here : ℕ) → next_of (does vars here t) ≡ LocalStep
+try-local s c t below d b a vars here = by-raised c.raised refl
   where
-    by-raised : (r : Option (List Fault)) → c.raised ≡ r → next_of (does vars here places t) ≡ LocalStep
-    by-raised None e = ap next_of (tried-does s c t below d b e a vars here places)
-    by-raised (Some faults) e = ap next_of (raised-tried-does s c t below d b faults e a vars here places)
+    by-raised : (r : Option (List Fault)) → c.raised ≡ r → next_of (does vars here t) ≡ LocalStep
+    by-raised None e = ap next_of (tried-does s c t below d b e a vars here)
+    by-raised (Some faults) e = ap next_of (raised-tried-does s c t below d b faults e a vars here)

@@ -21,27 +21,27 @@ use Rattle.rx_control.specs.Inside.Plans.{Plans, IsPlan}
 abbrev pub HasValue : Shape → Vars → ℕ → ExprId → Option ℤ → Type 0
 HasValue s vars here i z = (e : Expr) → ExprStands s.exprs i e → z ≡ eval vars here e
 
-pub set-plan : (s : Shape) (p : Plan) (vars : Vars) (here places : ℕ) (name : NameId) (value : ExprId) (z : Option ℤ) (t : Stmt) → StmtIs s (SetNode name value) t → HasValue s vars here value z → ((x : List ℕ) (rest : Term) → IsPlan s p vars x rest (with_number vars z (λ z. Local rest (bound name.0 (Number z) vars)))) → Plans s p vars here places t
-set-plan s p vars here places name value z (SetTo n e) h v f x rest =
+pub set-plan : (s : Shape) (p : Plan) (vars : Vars) (here : ℕ) (name : NameId) (value : ExprId) (z : Option ℤ) (t : Stmt) → StmtIs s (SetNode name value) t → HasValue s vars here value z → ((x : List ℕ) (rest : Term) → IsPlan s p vars x rest (with_number vars z (λ z. Local rest (bound name.0 (Number z) vars)))) → Plans s p vars here t
+set-plan s p vars here name value z (SetTo n e) h v f x rest =
     let P : ℕ → Type 0 = λ n. IsPlan s p vars x rest (with_number vars (eval vars here e) (λ z. Local rest (bound n (Number z) vars))) in
     let Q : Option ℤ → Type 0 = λ z. IsPlan s p vars x rest (with_number vars z (λ z. Local rest (bound name.0 (Number z) vars))) in
     subst P (sym h.0) (subst Q (v e h.1) (f x rest))
-set-plan s p vars here places name value z _ h v f x rest = absurd h
+set-plan s p vars here name value z _ h v f x rest = absurd h
 
-pub get-plan : (s : Shape) (p : Plan) (vars : Vars) (here : PlaceId) (places : ℕ) (name target : NameId) (index : ExprId) (k : Option ℤ) (r : GlobalRef) (t : Stmt) → StmtIs s (GetNode name target index) t → HasValue s vars here.0 index k → r ≡ ref_in (value_of vars target.0) → ((x : List ℕ) (rest : Term) (n : ℕ) → IsPlan s p vars x rest (with_number vars k (λ k. cond (r.home.0 == here.0) (Gets n r k) (Local (raise WrongPlace) vars)))) → Plans s p vars here.0 places t
-get-plan s p vars here places name target index k r (Get n g e) h v w f x rest =
+pub get-plan : (s : Shape) (p : Plan) (vars : Vars) (here : PlaceId) (name target : NameId) (index : ExprId) (k : Option ℤ) (r : GlobalRef) (t : Stmt) → StmtIs s (GetNode name target index) t → HasValue s vars here.0 index k → r ≡ ref_in (value_of vars target.0) → ((x : List ℕ) (rest : Term) (n : ℕ) → IsPlan s p vars x rest (with_number vars k (λ k. cond (r.home.0 == here.0) (Gets n r k) (Local (raise WrongPlace) vars)))) → Plans s p vars here.0 t
+get-plan s p vars here name target index k r (Get n g e) h v w f x rest =
     let P : Option ℤ → GlobalRef → Type 0 = λ k r. IsPlan s p vars x rest (with_number vars k (λ k. cond (r.home.0 == here.0) (Gets n r k) (Local (raise WrongPlace) vars))) in
     subst (λ k. P k (ref_in (value_of vars g))) (v e h.2)
     (subst (P k) (w ∙ ap (λ g. ref_in (value_of vars g)) (sym h.1)) (f x rest n))
-get-plan s p vars here places name target index k r _ h v w f x rest = absurd h
+get-plan s p vars here name target index k r _ h v w f x rest = absurd h
 
-pub put-plan : (s : Shape) (p : Plan) (vars : Vars) (here : PlaceId) (places : ℕ) (target : NameId) (index value : ExprId) (k z : Option ℤ) (r : GlobalRef) (t : Stmt) → StmtIs s (PutNode target index value) t → HasValue s vars here.0 index k → HasValue s vars here.0 value z → r ≡ ref_in (value_of vars target.0) → ((x : List ℕ) (rest : Term) → IsPlan s p vars x rest (with_number vars k (λ k. with_number vars z (λ z. cond (r.home.0 == here.0) (Puts r k z) (Local (raise WrongPlace) vars))))) → Plans s p vars here.0 places t
-put-plan s p vars here places target index value k z r (Put g e d) h v u w f x rest =
+pub put-plan : (s : Shape) (p : Plan) (vars : Vars) (here : PlaceId) (target : NameId) (index value : ExprId) (k z : Option ℤ) (r : GlobalRef) (t : Stmt) → StmtIs s (PutNode target index value) t → HasValue s vars here.0 index k → HasValue s vars here.0 value z → r ≡ ref_in (value_of vars target.0) → ((x : List ℕ) (rest : Term) → IsPlan s p vars x rest (with_number vars k (λ k. with_number vars z (λ z. cond (r.home.0 == here.0) (Puts r k z) (Local (raise WrongPlace) vars))))) → Plans s p vars here.0 t
+put-plan s p vars here target index value k z r (Put g e d) h v u w f x rest =
     let P : Option ℤ → Option ℤ → GlobalRef → Type 0 = λ k z r. IsPlan s p vars x rest (with_number vars k (λ k. with_number vars z (λ z. cond (r.home.0 == here.0) (Puts r k z) (Local (raise WrongPlace) vars)))) in
     subst (λ k. P k (eval vars here.0 d) (ref_in (value_of vars g))) (v e h.1)
     (subst (λ z. P k z (ref_in (value_of vars g))) (u d h.2)
     (subst (P k z) (w ∙ ap (λ g. ref_in (value_of vars g)) (sym h.0)) (f x rest)))
-put-plan s p vars here places target index value k z r _ h v u w f x rest = absurd h
+put-plan s p vars here target index value k z r _ h v u w f x rest = absurd h
 
 -- a plan of a step that is not local asks
 pub asks : (s : Shape) (plan : Plan) (vars : Vars) (x : List ℕ) (rest : Term) (d : Does) → IsPlan s plan vars x rest d → next_of d ≢ LocalStep → (next : Next) × (plan ≡ Ask next)

@@ -1,9 +1,9 @@
 -- What the next step tells of what a term does.
-use Rattle.std.specs.Prelude.{◌≡◌, List, Some, refl}
+use Rattle.std.specs.Prelude.{◌≡◌, ℕ, List, Some, refl}
 use Rattle.rx_base.specs.declared.values.Fault.{Fault}
-use Rattle.rx_rules.specs.Terms.{Vars, Term, Does, Local, Makes, Gets, Puts, Forgets, Opens, Calls, Spawns, Waits, Releases, Prints, Done}
+use Rattle.rx_rules.specs.Terms.{Vars, Term, Does, Local, Makes, Gets, Puts, Forgets, Opens, Calls, Spawns, Waits, Releases, Prints, Counts, Done}
 use Rattle.rx_control.specs.declared.step.Next.TheVariants.{Local as LocalStep, Book}
-use Rattle.rx_control.specs.declared.step.Want.TheVariants.{Wait}
+use Rattle.rx_control.specs.declared.step.Want.TheVariants.{Wait, Census}
 use Rattle.rx_control.specs.Next.{next_of, carried}
 
 pub told_local : (d : Does) → next_of d ≡ LocalStep → (left : Term) × (vars : Vars) × (d ≡ Local left vars)
@@ -18,6 +18,7 @@ told_local (Spawns place) e = cc
 told_local (Waits faults) e = cc
 told_local Releases e = cc
 told_local (Prints value) e = cc
+told_local (Counts name) e = cc
 told_local (Done faults) e = cc
 
 pub told_wait : (d : Does) → next_of d ≡ Book Wait → (faults : List Fault) × (carried d ≡ Some faults)
@@ -32,4 +33,20 @@ told_wait (Spawns place) e = cc
 told_wait (Waits faults) e = (faults, refl)
 told_wait Releases e = cc
 told_wait (Prints value) e = cc
+told_wait (Counts name) e = cc
 told_wait (Done faults) e = cc
+
+pub told_census : (d : Does) → next_of d ≡ Book Census → (name : ℕ) × (d ≡ Counts name)
+told_census (Local left vars) e = cc
+told_census (Makes name words) e = cc
+told_census (Gets name target index) e = cc
+told_census (Puts target index value) e = cc
+told_census (Forgets target) e = cc
+told_census Opens e = cc
+told_census (Calls place) e = cc
+told_census (Spawns place) e = cc
+told_census (Waits faults) e = cc
+told_census Releases e = cc
+told_census (Prints value) e = cc
+told_census (Counts name) e = (name, refl)
+told_census (Done faults) e = cc

@@ -2,7 +2,7 @@
 use Rattle.std.proofs.Common.{◌≡◌, ℕ, List, [], ◌∷◌, Bool, refl, ap, sym, ◌∙◌}
 use Rattle.rx_base.specs.declared.values.Fault.{Fault}
 use Rattle.rx_rules.specs.Code.{Block}
-use Rattle.rx_rules.specs.Terms.{Vars, Term, Empty, Run, Raise, Turns, Trying, Body, Held, Does, Local, Makes, Gets, Puts, Forgets, Opens, Calls, Spawns, Waits, Releases, Prints, Done, does, within, begins, granted, child, replaced, after_it, receives, trying_does, body_does, body_granted}
+use Rattle.rx_rules.specs.Terms.{Vars, Term, Empty, Run, Raise, Turns, Trying, Body, Held, Does, Local, Makes, Gets, Puts, Forgets, Opens, Calls, Spawns, Waits, Releases, Prints, Counts, Done, does, within, begins, granted, child, replaced, after_it, receives, trying_does, body_does, body_granted}
 use Rattle.rx_control.specs.Levels.{Level, More, Again, Tried, Inside, Waiting, seq, wrap}
 use Rattle.rx_control.specs.Inside.Front.{lifted}
 
@@ -28,6 +28,7 @@ within-id (Spawns place) = refl
 within-id (Waits faults) = refl
 within-id Releases = refl
 within-id (Prints value) = refl
+within-id (Counts name) = refl
 within-id (Done faults) = refl
 
 within-within : (f g : Term → Term) (d : Does) → within f (within g d) ≡ within (λ t. f (g t)) d
@@ -42,6 +43,7 @@ within-within f g (Spawns place) = refl
 within-within f g (Waits faults) = refl
 within-within f g Releases = refl
 within-within f g (Prints value) = refl
+within-within f g (Counts name) = refl
 within-within f g (Done faults) = refl
 
 trying-busy : (vars : Vars) (t : Term) (d : Does) (dead_only : Bool) (handler : Block) (x : List ℕ) (rest : Term) → IsBusy t → trying_does vars t d dead_only handler x rest ≡ within (λ u. Trying u dead_only handler x rest) d
@@ -72,19 +74,19 @@ granted-busy (Body inside more) after rest h = refl
 granted-busy (Held more) after rest h = refl
 
 -- the next step
-pub does-wrap : (vars : Vars) (here places : ℕ) (t : Term) (s : List Level) → IsBusy t → does vars here places (wrap t s) ≡ lifted s (does vars here places t)
-does-wrap vars here places t [] h = sym (within-id (does vars here places t))
-does-wrap vars here places t (More left x i ∷ s) h = does-wrap vars here places t s h
-does-wrap vars here places t (Again body x k times ∷ s) h = does-wrap vars here places t s h
-does-wrap vars here places t (Tried dead_only handler x ∷ s) h =
-    does-wrap vars here places (Trying t dead_only handler x (seq s)) s tt
-    ∙ ap (within (λ u. wrap u s)) (trying-busy vars t (does vars here places t) dead_only handler x (seq s) h)
-    ∙ within-within (λ u. wrap u s) (λ u. Trying u dead_only handler x (seq s)) (does vars here places t)
-does-wrap vars here places t (Inside ∷ s) h =
-    does-wrap vars here places (Body t (seq s)) s tt
-    ∙ ap (within (λ u. wrap u s)) (body-busy t (does vars here places t) (seq s) h)
-    ∙ within-within (λ u. wrap u s) (λ u. Body u (seq s)) (does vars here places t)
-does-wrap vars here places t (Waiting ∷ s) h = does-wrap vars here places t s h
+pub does-wrap : (vars : Vars) (here : ℕ) (t : Term) (s : List Level) → IsBusy t → does vars here (wrap t s) ≡ lifted s (does vars here t)
+does-wrap vars here t [] h = sym (within-id (does vars here t))
+does-wrap vars here t (More left x i ∷ s) h = does-wrap vars here t s h
+does-wrap vars here t (Again body x k times ∷ s) h = does-wrap vars here t s h
+does-wrap vars here t (Tried dead_only handler x ∷ s) h =
+    does-wrap vars here (Trying t dead_only handler x (seq s)) s tt
+    ∙ ap (within (λ u. wrap u s)) (trying-busy vars t (does vars here t) dead_only handler x (seq s) h)
+    ∙ within-within (λ u. wrap u s) (λ u. Trying u dead_only handler x (seq s)) (does vars here t)
+does-wrap vars here t (Inside ∷ s) h =
+    does-wrap vars here (Body t (seq s)) s tt
+    ∙ ap (within (λ u. wrap u s)) (body-busy t (does vars here t) (seq s) h)
+    ∙ within-within (λ u. wrap u s) (λ u. Body u (seq s)) (does vars here t)
+does-wrap vars here t (Waiting ∷ s) h = does-wrap vars here t s h
 
 -- the statement that it begins
 pub begins-wrap : (t : Term) (s : List Level) → begins (wrap t s) ≡ begins t

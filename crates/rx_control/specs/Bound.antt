@@ -1,6 +1,6 @@
 -- A local step of a term leaves fewer steps.
 use Rattle.std.specs.Prelude.{ℕ, ◌<◌}
-use Rattle.rx_rules.specs.Terms.{Does, Local, Makes, Gets, Puts, Forgets, Opens, Calls, Spawns, Waits, Releases, Prints, Done}
+use Rattle.rx_rules.specs.Terms.{Does, Local, Makes, Gets, Puts, Forgets, Opens, Calls, Spawns, Waits, Releases, Prints, Counts, Done}
 use Rattle.rx_runs.specs.Steps.{steps}
 
 -- a local step leaves fewer than so many steps
@@ -16,4 +16,5 @@ StepFalls n (Spawns place) = Unit {0}
 StepFalls n (Waits faults) = Unit {0}
 StepFalls n Releases = Unit {0}
 StepFalls n (Prints value) = Unit {0}
+StepFalls n (Counts name) = Unit {0}
 StepFalls n (Done faults) = Unit {0}

@@ -1,9 +1,9 @@
 -- What a control tells of its next step.
 use Rattle.std.specs.Prelude.{List, Option, Some, None}
 use Rattle.rx_base.specs.declared.values.Fault.{Fault}
-use Rattle.rx_rules.specs.Terms.{Does, Local, Makes, Gets, Puts, Forgets, Opens, Calls, Spawns, Waits, Releases, Prints, Done}
+use Rattle.rx_rules.specs.Terms.{Does, Local, Makes, Gets, Puts, Forgets, Opens, Calls, Spawns, Waits, Releases, Prints, Counts, Done}
 use Rattle.rx_control.specs.declared.step.CellOp.TheVariants.{Make, Get, Put, Forget}
-use Rattle.rx_control.specs.declared.step.Want.TheVariants.{Open, At, Spawn, Wait, Release, Print}
+use Rattle.rx_control.specs.declared.step.Want.TheVariants.{Open, At, Spawn, Wait, Release, Print, Census}
 use Rattle.rx_control.specs.declared.step.Next.{Next}
 use Rattle.rx_control.specs.declared.step.Next.TheVariants.{Local as LocalStep, Cell, Book, Done as Ended}
 
@@ -20,6 +20,7 @@ next_of (Spawns place) = Book (Spawn (record { 0 = place }))
 next_of (Waits faults) = Book Wait
 next_of Releases = Book Release
 next_of (Prints value) = Book (Print value)
+next_of (Counts name) = Book Census
 next_of (Done faults) = Ended
 
 -- the faults that a wait or an end carries
@@ -35,4 +36,5 @@ carried (Spawns place) = None
 carried (Waits faults) = Some faults
 carried Releases = None
 carried (Prints value) = None
+carried (Counts name) = None
 carried (Done faults) = Some faults

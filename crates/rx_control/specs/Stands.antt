@@ -1,7 +1,7 @@
 -- What a control stands for: a term of what is left to run.
 use Rattle.std.specs.Prelude.{◌≡◌, ℕ, ◌-◌, List, [], ◌∷◌, ◌++◌, drop, flat_map, Some, option_to_list, slice_get}
 use Rattle.rx_rules.specs.Code.{Block}
-use Rattle.rx_rules.specs.Terms.{Term, Does, Local, Makes, Gets, Puts, Forgets, Opens, Calls, Spawns, Waits, Releases, Prints, Done}
+use Rattle.rx_rules.specs.Terms.{Term, Does, Local, Makes, Gets, Puts, Forgets, Opens, Calls, Spawns, Waits, Releases, Prints, Counts, Done}
 use Rattle.rx_control.specs.Levels.{Level, More, Again, Tried, Inside, Waiting, Settled, term_of}
 use Rattle.rx_nodes.specs.Shape.{Shape, BlockStands, ListStands}
 use Rattle.rx_nodes.specs.declared.nodes.StmtId.{StmtId}
@@ -58,6 +58,7 @@ Leaves s c (Spawns place) = Unit {0}
 Leaves s c (Waits faults) = Unit {0}
 Leaves s c Releases = Unit {0}
 Leaves s c (Prints value) = Unit {0}
+Leaves s c (Counts name) = Unit {0}
 Leaves s c (Done faults) = Unit {0}
 
 -- two controls with the same parts

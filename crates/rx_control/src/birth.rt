@@ -80,6 +80,7 @@ fn body_of(stmt: Stmt) -> Option<BlockId>
         Stmt::Get { .. } => None,
         Stmt::Put { .. } => None,
         Stmt::Forget { .. } => None,
+        Stmt::Census { .. } => None,
         Stmt::Print { .. } => None,
         Stmt::Throw { .. } => None,
         Stmt::Finish { .. } => None,

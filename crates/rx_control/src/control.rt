@@ -6,6 +6,8 @@ ghost use Rattle.rx_base.specs.declared.values.Fault.{Fault};
 ghost use Rattle.rx_rules.specs.Code.{Block, work};
 ghost use Rattle.rx_rules.specs.Terms.{no_vars, Term, at, Empty, Waits, does, begins, child, items, granted, replaced, answered};
 ghost use Rattle.rx_rules.specs.Terms.{answer_of, vars_after, receives};
+ghost use Rattle.rx_rules.specs.Plays.{vars_told};
+ghost use Rattle.rx_rules.specs.declared.entries.Act.{Act};
 ghost use Rattle.rx_nodes.specs.Shape.{Shape, Stands};
 ghost use Rattle.rx_control.specs.declared.frame.Frame.{Frame};
 ghost use Rattle.rx_control.specs.Stands.{StandsFor, path_of, Leaves, IsSame};
@@ -20,7 +22,9 @@ use crate::faults::{faults_of, is_caught, one_fault};
 use crate::frame::{Frame, drop_top, go_on, settle, top, unwind};
 use crate::path::{add_part, path_below};
 use crate::plan::{Plan, make_plan, told};
-use crate::statement::{at_hand, following, open_after, receive, receiver, statement_of};
+use crate::statement::{
+    at_hand, counted, following, learn, open_after, receive, receiver, statement_of,
+};
 use crate::{Next, Variables, Want};
 use rx_base::{Fault, Faults, NoMemory, Path, PlaceId, Value};
 use rx_check::Program;
@@ -38,11 +42,10 @@ pub struct Control {
 }
 
 impl Control {
-    /// Tells the next step, at a place of so many. A step that raises before the store or the ledger is asked is local. It takes
-    /// no memory.
-    pub fn next(&self, p: &Program, here: PlaceId, places: u8) -> Next
+    /// Tells the next step, at a place. A step that raises before the store or the ledger is asked is local. It takes no memory.
+    pub fn next(&self, p: &Program, here: PlaceId) -> Next
         requires { (t : Term) × StandsFor p.now.script self.now t }
-        ensures { (t : Term) → StandsFor p.now.script self.now t → result ≡ next_of (does self.now.vars here.0 places t) }
+        ensures { (t : Term) → StandsFor p.now.script self.now t → result ≡ next_of (does self.now.vars here.0 t) }
     {
         match &self.raised {
             Some(_) => match top(&self.frames) {
@@ -54,7 +57,7 @@ impl Control {
                 Some(Frame::Seq { block, next, .. }) => {
                     let script = p.script();
                     let stmt = at_hand(script, block, next);
-                    told(make_plan(script, stmt, &self.vars, here, places))
+                    told(make_plan(script, stmt, &self.vars, here))
                 }
                 Some(Frame::Turns { .. }) => Next::Local,
                 Some(Frame::Try { .. }) => Next::Local,
@@ -65,10 +68,10 @@ impl Control {
         }
     }
 
-    /// The control of the main activity: it stands at the front of the script, and no name has a value.
-    pub fn main(alloc: Global, p: &Program) -> Result<Control, NoMemory>
+    /// The control of the main activity: it stands at the front of the script, no name has a value, and it knows so many places.
+    pub fn main(alloc: Global, p: &Program, places: u8) -> Result<Control, NoMemory>
         ensures stands { IfOk result (λ c. (b : Block) → Stands p.now.script b → StandsFor p.now.script c (items b [] Empty)
-            × (c.vars ≡ no_vars)) }
+            × (c.vars ≡ no_vars places)) }
         ensures steps { (b : Block) → steps (items b [] Empty) ≡ 3 * work b }
     {
         let script = p.script();
@@ -77,7 +80,7 @@ impl Control {
             alloc,
             script,
             Path::open(alloc),
-            Variables::none(),
+            Variables::none(places),
             script.top(),
         )
     }
@@ -117,7 +120,8 @@ impl Control {
         }
     }
 
-    /// The control of the task that the next step starts, with a copy of the variables. The next step begins a statement; where
+    /// The control of the task that the next step starts, with a copy of the variables; it knows as many places. The next step begins
+    /// a statement; where
     /// that starts no task, the new control has nothing to run.
     pub fn child(&self, alloc: Global, p: &Program) -> Result<Control, NoMemory>
         requires { (t : Term) × (x : List ℕ) × StandsFor p.now.script self.now t × (begins t ≡ Some x) }
@@ -141,49 +145,37 @@ impl Control {
         }
     }
 
-    /// Makes the local step that is next, at a place of so many. Fewer steps are left then. Where another step is next, nothing
+    /// Makes the local step that is next, at a place. Fewer steps are left then. Where another step is next, nothing
     /// changes. A refusal changes nothing.
-    pub fn local(
-        &mut self,
-        alloc: Global,
-        p: &Program,
-        here: PlaceId,
-        places: u8,
-    ) -> Result<(), NoMemory>
+    pub fn local(&mut self, alloc: Global, p: &Program, here: PlaceId) -> Result<(), NoMemory>
         requires { (t : Term) × StandsFor p.now.script self.old t }
         ensures ok { OnOk result ((t : Term) → StandsFor p.now.script self.old t
-            → Leaves p.now.script self.new (does self.old.vars here.0 places t)) }
-        ensures other { (t : Term) → StandsFor p.now.script self.old t → next_of (does self.old.vars here.0 places t) ≢ Next.Local
+            → Leaves p.now.script self.new (does self.old.vars here.0 t)) }
+        ensures other { (t : Term) → StandsFor p.now.script self.old t → next_of (does self.old.vars here.0 t) ≢ Next.Local
             → IsSame self.new self.old }
         ensures err { OnErr result (IsSame self.new self.old) }
-        ensures steps { (t : Term) → StepFalls (steps t) (does self.old.vars here.0 places t) }
+        ensures steps { (t : Term) → StepFalls (steps t) (does self.old.vars here.0 t) }
     {
         if self.frames.reserve(2).is_err() {
             return Err(NoMemory);
         }
-        self.step(alloc, p.script(), here, places)
+        self.step(alloc, p.script(), here)
     }
 
     // Makes the step, with room on the stack.
-    fn step(
-        &mut self,
-        alloc: Global,
-        script: &Script,
-        here: PlaceId,
-        places: u8,
-    ) -> Result<(), NoMemory>
+    fn step(&mut self, alloc: Global, script: &Script, here: PlaceId) -> Result<(), NoMemory>
         requires room { vec_len self.old.frames + 2 ≤ vec_capacity self.old.frames }
         requires stands { (t : Term) × StandsFor script.now self.old t }
         ensures ok { OnOk result ((t : Term) → StandsFor script.now self.old t
-            → Leaves script.now self.new (does self.old.vars here.0 places t)) }
-        ensures other { (t : Term) → StandsFor script.now self.old t → next_of (does self.old.vars here.0 places t) ≢ Next.Local
+            → Leaves script.now self.new (does self.old.vars here.0 t)) }
+        ensures other { (t : Term) → StandsFor script.now self.old t → next_of (does self.old.vars here.0 t) ≢ Next.Local
             → IsSame self.new self.old }
         ensures err { OnErr result (IsSame self.new self.old) }
     {
         match top(&self.frames) {
             Some(Frame::Seq { block, next, part }) => {
                 let stmt = at_hand(script, block, next);
-                let plan = make_plan(script, stmt, &self.vars, here, places);
+                let plan = make_plan(script, stmt, &self.vars, here);
                 let faults = faults_of(alloc, plan)?;
                 self.carry_out(script, block, next, part, plan, faults);
                 Ok(())
@@ -273,9 +265,9 @@ impl Control {
         requires room { vec_len self.old.frames + 2 ≤ vec_capacity self.old.frames }
         requires stands { (t : Term) × (below : List Frame) × StandsFor script.now self.old t
             × (self.old.frames.items ≡ below ++ Frame.Turns body turn times ∷ []) }
-        ensures { (here : PlaceId) (places : ℕ) (t : Term) (below : List Frame) → StandsFor script.now self.old t
+        ensures { (here : PlaceId) (t : Term) (below : List Frame) → StandsFor script.now self.old t
             → self.old.frames.items ≡ below ++ Frame.Turns body turn times ∷ []
-            → Leaves script.now self.new (does self.old.vars here.0 places t) }
+            → Leaves script.now self.new (does self.old.vars here.0 t) }
     {
         drop_top(&mut self.frames);
         if times <= turn {
@@ -300,9 +292,9 @@ impl Control {
         requires room { vec_len self.old.frames + 2 ≤ vec_capacity self.old.frames }
         requires stands { (t : Term) × (below : List Frame) × StandsFor script.now self.old t
             × (self.old.frames.items ≡ below ++ Frame.Try dead_only handler ∷ []) }
-        ensures { (here : PlaceId) (places : ℕ) (t : Term) (below : List Frame) → StandsFor script.now self.old t
+        ensures { (here : PlaceId) (t : Term) (below : List Frame) → StandsFor script.now self.old t
             → self.old.frames.items ≡ below ++ Frame.Try dead_only handler ∷ []
-            → Leaves script.now self.new (does self.old.vars here.0 places t) }
+            → Leaves script.now self.new (does self.old.vars here.0 t) }
     {
         drop_top(&mut self.frames);
         match self.raised.take() {
@@ -377,6 +369,48 @@ impl Control {
         }
     }
 
+    /// Takes the answer of the ledger to a census, which is next: the name gets the number of places, and the activity knows it from
+    /// now on. Places only join, so it knew no more before. A refusal changes nothing.
+    pub fn census_done(&mut self, p: &Program, places: u8) -> Result<(), NoMemory>
+        requires asks { (t : Term) × (here : PlaceId) × StandsFor p.now.script self.old t
+            × (next_of (does self.old.vars here.0 t) ≡ Next.Book Want.Census) }
+        requires some { 1 ≤ places }
+        requires few { places ≤ 16 }
+        requires known { self.old.vars.places ≤ places }
+        ensures stands { OnOk result ((t : Term) (here : PlaceId) → StandsFor p.now.script self.old t
+            → next_of (does self.old.vars here.0 t) ≡ Next.Book Want.Census → StandsFor p.now.script self.new (granted [] t)) }
+        ensures vars { OnOk result ((t : Term) (here : PlaceId) (path : List ℕ) → StandsFor p.now.script self.old t
+            → next_of (does self.old.vars here.0 t) ≡ Next.Book Want.Census
+            → self.new.vars ≡ vars_told (does self.old.vars here.0 t) (Act.Census places path) self.old.vars) }
+        ensures err { OnErr result (IsSame self.new self.old) }
+        ensures steps { (t : Term) → steps (granted [] t) ≤ steps t }
+    {
+        self.count(p.script(), places);
+        Ok(())
+    }
+
+    // Goes on behind the census, over the script alone.
+    fn count(&mut self, script: &Script, places: u8)
+        requires { (t : Term) × (here : PlaceId) × StandsFor script.now self.old t
+            × (next_of (does self.old.vars here.0 t) ≡ Next.Book Want.Census) }
+        ensures stands { (t : Term) (here : PlaceId) → StandsFor script.now self.old t
+            → next_of (does self.old.vars here.0 t) ≡ Next.Book Want.Census → StandsFor script.now self.new (granted [] t) }
+        ensures vars { (t : Term) (here : PlaceId) (path : List ℕ) → StandsFor script.now self.old t
+            → next_of (does self.old.vars here.0 t) ≡ Next.Book Want.Census
+            → self.new.vars ≡ vars_told (does self.old.vars here.0 t) (Act.Census places path) self.old.vars }
+    {
+        match self.front() {
+            Some((block, next, part)) => {
+                let stmt = at_hand(script, block, next);
+                let after = following(script, block, next);
+                go_on(&mut self.frames, block, after, part);
+                settle(script, &mut self.frames);
+                learn(&mut self.vars, counted(stmt), places);
+            }
+            None => unreachable!(),
+        }
+    }
+
     /// Goes on after the ledger granted the request that is next. The faults are those of a release, and are raised where there
     /// are any; at other requests they are dropped. A refusal changes nothing and hands the faults back.
     pub fn resume(&mut self, p: &Program, faults: Faults) -> Result<(), (NoMemory, Faults)>
@@ -431,14 +465,14 @@ impl Control {
     /// Hands out the list that a wait or the end carries, which is empty where nothing was raised; then nothing changes. The
     /// control stands afterwards for the same without that list; a wait grants the same.
     pub fn take_faults(&mut self, alloc: Global) -> Faults
-        ensures list { (s : Shape) (t : Term) (here : PlaceId) (places : ℕ) (faults : List Fault) → StandsFor s self.old t
-            → carried (does self.old.vars here.0 places t) ≡ Some faults → result ≡ faults }
-        ensures after { (s : Shape) (t : Term) (here : PlaceId) (places : ℕ) (faults : List Fault) → StandsFor s self.old t
-            → carried (does self.old.vars here.0 places t) ≡ Some faults → StandsFor s self.new (replaced t Empty) }
+        ensures list { (s : Shape) (t : Term) (here : PlaceId) (faults : List Fault) → StandsFor s self.old t
+            → carried (does self.old.vars here.0 t) ≡ Some faults → result ≡ faults }
+        ensures after { (s : Shape) (t : Term) (here : PlaceId) (faults : List Fault) → StandsFor s self.old t
+            → carried (does self.old.vars here.0 t) ≡ Some faults → StandsFor s self.new (replaced t Empty) }
         ensures vars { self.new.vars ≡ self.old.vars }
         ensures calm { self.old.raised ≡ None → (result ≡ []) × IsSame self.new self.old }
-        ensures wait { (t : Term) (here : PlaceId) (places : ℕ) (faults list : List Fault)
-            → does self.old.vars here.0 places t ≡ Waits faults → granted list (replaced t Empty) ≡ granted list t }
+        ensures wait { (t : Term) (here : PlaceId) (faults list : List Fault)
+            → does self.old.vars here.0 t ≡ Waits faults → granted list (replaced t Empty) ≡ granted list t }
         ensures steps { (t : Term) → steps (replaced t Empty) ≤ steps t }
     {
         match self.raised.take() {

@@ -46,15 +46,9 @@ pub(crate) enum Plan {
 }
 
 /// What a statement does. Where it raises before it asks, it asks nothing.
-pub(crate) fn make_plan(
-    script: &Script,
-    stmt: Stmt,
-    vars: &Variables,
-    here: PlaceId,
-    places: u8,
-) -> Plan
+pub(crate) fn make_plan(script: &Script, stmt: Stmt, vars: &Variables, here: PlaceId) -> Plan
     requires { (t : Tree) × StmtIs script.now stmt t }
-    ensures { (t : Tree) → StmtIs script.now stmt t → Plans script.now result vars.now here.0 places t }
+    ensures { (t : Tree) → StmtIs script.now stmt t → Plans script.now result vars.now here.0 t }
 {
     match stmt {
         Stmt::Set { name, value } => plan_set(name, evaluate(script, vars, here, value)),
@@ -73,13 +67,16 @@ pub(crate) fn make_plan(
             plan_put(index, word, reference(vars.get(target)), here)
         }
         Stmt::Forget { target } => plan_forget(reference(vars.get(target)), here),
+        Stmt::Census { .. } => Plan::Ask(Next::Book(Want::Census)),
         Stmt::Print { value } => plan_print(evaluate(script, vars, here, value)),
         Stmt::Throw { value } => plan_throw(evaluate(script, vars, here, value)),
         Stmt::Async { .. } => Plan::Ask(Next::Book(Want::Spawn { to: here })),
         Stmt::AtAsync { place, .. } => {
-            plan_spawn(target(evaluate(script, vars, here, place), places))
+            plan_spawn(target(evaluate(script, vars, here, place), vars.places()))
         }
-        Stmt::At { place, .. } => plan_at(target(evaluate(script, vars, here, place), places)),
+        Stmt::At { place, .. } => {
+            plan_at(target(evaluate(script, vars, here, place), vars.places()))
+        }
         Stmt::Finish { .. } => Plan::Ask(Next::Book(Want::Open)),
         Stmt::If { test, first, other } => choose(evaluate(script, vars, here, test), first, other),
         Stmt::Repeat { times, body } => Plan::Loop { body, times },

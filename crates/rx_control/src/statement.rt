@@ -1,14 +1,15 @@
 // The statement at the front.
-ghost use Rattle.std.specs.Prelude.{◌≡◌, ℕ, ◌+◌, ◌≤◌, List, [], ◌∷◌, ◌++◌, Option, None, Ok, MatchOption, vec_len, vec_capacity};
+ghost use Rattle.std.specs.Prelude.{◌≡◌, ℕ, pos, ◌+◌, ◌≤◌, List, [], ◌∷◌, ◌++◌, Option, Some, None, Ok, MatchOption, vec_len, vec_capacity};
 ghost use Rattle.rx_rules.specs.Code.{Stmt as Tree, Block};
-ghost use Rattle.rx_rules.specs.Terms.{Term, begins, stmt_receives, vars_after, answer_of};
+ghost use Rattle.rx_base.specs.declared.values.Value.TheVariants.{Num as Number};
+ghost use Rattle.rx_rules.specs.Terms.{Term, begins, bound, stmt_receives, vars_after, answer_of};
 ghost use Rattle.rx_nodes.specs.Shape.{Shape, StmtIs};
 ghost use Rattle.rx_control.specs.declared.frame.Frame.{Frame};
 ghost use Rattle.rx_control.specs.declared.control.Control.{Control};
 ghost use Rattle.rx_control.specs.Levels.{Level};
 ghost use Rattle.rx_control.specs.Stands.{StandsFor, FramesStand, path_of};
 ghost use Rattle.rx_control.specs.Inside.Front.{Awaits, SettlesTo, levels_opened};
-ghost use Rattle.rx_control.specs.Inside.Plans.{name_in};
+ghost use Rattle.rx_control.specs.Inside.Plans.{name_in, stmt_counts};
 
 use crate::Variables;
 use crate::frame::{Frame, settle};
@@ -56,6 +57,7 @@ pub(crate) fn receiver(stmt: Stmt) -> Option<NameId>
         Stmt::Set { .. } => None,
         Stmt::Put { .. } => None,
         Stmt::Forget { .. } => None,
+        Stmt::Census { .. } => None,
         Stmt::Print { .. } => None,
         Stmt::Throw { .. } => None,
         Stmt::Async { .. } => None,
@@ -77,6 +79,43 @@ pub(crate) fn receive(vars: &mut Variables, name: Option<NameId>, value: Option<
             Some(value) => vars.set(name, value),
             None => {}
         },
+        None => {}
+    }
+}
+
+/// The name to which a census gives the number of places.
+pub(crate) fn counted(stmt: Stmt) -> Option<NameId>
+    ensures { (s : Shape) (t : Tree) → StmtIs s stmt t → stmt_counts t ≡ name_in result }
+{
+    match stmt {
+        Stmt::Census { name } => Some(name),
+        Stmt::Set { .. } => None,
+        Stmt::New { .. } => None,
+        Stmt::Get { .. } => None,
+        Stmt::Put { .. } => None,
+        Stmt::Forget { .. } => None,
+        Stmt::Print { .. } => None,
+        Stmt::Throw { .. } => None,
+        Stmt::Async { .. } => None,
+        Stmt::AtAsync { .. } => None,
+        Stmt::At { .. } => None,
+        Stmt::Finish { .. } => None,
+        Stmt::If { .. } => None,
+        Stmt::Repeat { .. } => None,
+        Stmt::Try { .. } => None,
+    }
+}
+
+/// The name gets the number of places, which is known from now on, where there is a name.
+pub(crate) fn learn(vars: &mut Variables, name: Option<NameId>, places: u8)
+    ensures { (n : ℕ) → name_in name ≡ Some n
+        → vars.new ≡ record (bound n (Number (pos places)) vars.old) { places = places } }
+{
+    match name {
+        Some(name) => {
+            vars.set(name, Value::Num(i64::from(places)));
+            vars.tell(places);
+        }
         None => {}
     }
 }
@@ -106,6 +145,7 @@ pub(crate) fn open_after(script: &Script, frames: &mut Vec<Frame>, stmt: Stmt)
         Stmt::Get { .. } => settle(script, frames),
         Stmt::Put { .. } => settle(script, frames),
         Stmt::Forget { .. } => settle(script, frames),
+        Stmt::Census { .. } => settle(script, frames),
         Stmt::Print { .. } => settle(script, frames),
         Stmt::Throw { .. } => settle(script, frames),
         Stmt::Async { .. } => settle(script, frames),

@@ -40,6 +40,8 @@ pub enum Want {
     Release,
     /// Print a value.
     Print { value: i64 },
+    /// Tell the number of places. `Control::census_done` takes the answer.
+    Census,
 }
 
 /// The next step.

@@ -29,9 +29,10 @@ enum Answer<'a> {
     Gives(Value),
     Refuses(Fault),
     List(&'a [Fault]),
+    Places(u8),
 }
 
-use Answer::{Gives, List, Nothing, Refuses};
+use Answer::{Gives, List, Nothing, Places, Refuses};
 
 /// A step: what is next, the path of the statement that it begins (empty where it begins none), and the answer.
 type Step<'a> = (Next, &'a [u32], Answer<'a>);
@@ -78,7 +79,7 @@ fn main_of(alloc: Global, p: &Program) -> Result<Control, NoMemory>
     ensures { IfOk result (λ c. (t : Term) × StandsFor p.now.script c t) }
 {
     rx_check::checked(p);
-    Control::main(alloc, p)
+    Control::main(alloc, p, PLACES)
 }
 
 /// The control of the task that the next step starts.
@@ -103,6 +104,7 @@ fn store_answer(answer: Answer<'_>) -> Result<Option<Value>, Fault> {
         Refuses(fault) => Err(fault),
         Nothing => Ok(None),
         List(_) => Ok(None),
+        Places(_) => Ok(None),
     }
 }
 
@@ -139,10 +141,10 @@ fn ledger_grants(
 }
 
 fn local_step(alloc: Global, p: &Program, task: &mut Control, here: PlaceId) -> Result<(), NoMemory>
-    requires { (t : Term) × StandsFor p.now.script task.old t × (next_of (does task.old.vars here.0 2 t) ≡ Next.Local) }
+    requires { (t : Term) × StandsFor p.now.script task.old t × (next_of (does task.old.vars here.0 t) ≡ Next.Local) }
     ensures { OnOk result ((t : Term) × StandsFor p.now.script task.new t) }
 {
-    task.local(alloc, p, here, PLACES)?;
+    task.local(alloc, p, here)?;
     Ok(())
 }
 
@@ -153,13 +155,33 @@ fn waits(
     here: PlaceId,
     answer: Answer<'_>,
 ) -> Result<(), NoMemory>
-    requires { (t : Term) × StandsFor p.now.script task.old t × (next_of (does task.old.vars here.0 2 t) ≡ Next.Book Want.Wait) }
+    requires { (t : Term) × StandsFor p.now.script task.old t × (next_of (does task.old.vars here.0 t) ≡ Next.Book Want.Wait) }
     ensures { OnOk result ((t : Term) × StandsFor p.now.script task.new t) }
 {
     let faults = listed(rt.alloc(), &task.take_faults(rt.alloc()))?;
     let wanted = listed(rt.alloc(), &raised(rt.alloc(), answer)?)?;
     assert_eq!(rt; faults.as_slice(), wanted.as_slice());
     ledger_grants(rt.alloc(), p, task, Nothing)
+}
+
+fn counts(
+    rt: &(impl Abort + AllocGlobal),
+    p: &Program,
+    task: &mut Control,
+    here: PlaceId,
+    answer: Answer<'_>,
+) -> Result<(), NoMemory>
+    requires { (t : Term) × StandsFor p.now.script task.old t × (next_of (does task.old.vars here.0 t) ≡ Next.Book Want.Census) }
+    ensures { OnOk result ((t : Term) × StandsFor p.now.script task.new t) }
+{
+    let Places(places) = answer else {
+        panic!(rt; "no number of places")
+    };
+    if places < 1 || places > 16 || places < task.vars.places() {
+        panic!(rt; "places do not go")
+    }
+    task.census_done(p, places)?;
+    Ok(())
 }
 
 /// Makes the next step with its answer.
@@ -173,10 +195,11 @@ fn step(
     requires { (t : Term) × StandsFor p.now.script task.old t }
     ensures { OnOk result ((t : Term) × StandsFor p.now.script task.new t) }
 {
-    match task.next(p, here, PLACES) {
+    match task.next(p, here) {
         Next::Local => local_step(rt.alloc(), p, task, here),
         Next::Cell(_) => store_answers(rt, p, task, answer),
         Next::Book(Want::Wait) => waits(rt, p, task, here, answer),
+        Next::Book(Want::Census) => counts(rt, p, task, here, answer),
         Next::Book(_) => ledger_grants(rt.alloc(), p, task, answer),
         Next::Done => Ok(()),
     }
@@ -194,7 +217,7 @@ fn follow(
     ensures { OnOk result ((t : Term) × StandsFor p.now.script task.new t) }
 {
     for (next, path, answer) in steps {
-        assert_eq!(rt; task.next(p, here, PLACES), *next, "at {path:?}");
+        assert_eq!(rt; task.next(p, here), *next, "at {path:?}");
         let begun = task.path(rt.alloc(), p)?;
         assert_eq!(rt; numbers(rt.alloc(), begun)?.as_slice(), *path);
         step(rt, p, task, here, *answer)?;
@@ -212,7 +235,7 @@ fn ends(
 ) -> Result<(), NoMemory>
     requires { (t : Term) × StandsFor p.now.script task.old t }
 {
-    assert_eq!(rt; task.next(p, here, PLACES), Next::Done);
+    assert_eq!(rt; task.next(p, here), Next::Done);
     let list = listed(rt.alloc(), &task.take_faults(rt.alloc()))?;
     assert_eq!(rt; list.as_slice(), faults);
     Ok(())
@@ -561,6 +584,55 @@ fn new_tasks_have_copies(rt: HostRuntime) -> Result<(), Fail> {
     Ok(())
 }
 
+// A census tells the task of places that have joined; another task knows what its starter knew.
+#[test]
+fn a_census_tells_of_places(rt: HostRuntime) -> Result<(), Fail> {
+    let p = program(
+        rt.alloc(),
+        b"async { at 2 { } } census n; at (n - 1) async { at 2 async { } census n; print n; } at 3 { }",
+    )
+    .expect(&rt, "a program");
+    let mut main = main_of(rt.alloc(), &p)?;
+    let mut first = child_of(&rt, &p, &main)?;
+    follow(
+        &rt,
+        &p,
+        &mut main,
+        HERE,
+        &[
+            (Book(Spawn { to: HERE }), &[0], Nothing),
+            (Book(Want::Census), &[1], Places(3)),
+        ],
+    )?;
+    let mut second = child_of(&rt, &p, &main)?;
+    follow(
+        &rt,
+        &p,
+        &mut main,
+        HERE,
+        &[
+            (Book(Spawn { to: PlaceId(2) }), &[2], Nothing),
+            (Local, &[3], Nothing),
+        ],
+    )?;
+    ends(&rt, &p, &mut main, HERE, &[NoPlace])?;
+    follow(&rt, &p, &mut first, HERE, &[(Local, &[0, 0], Nothing)])?;
+    ends(&rt, &p, &mut first, HERE, &[NoPlace])?;
+    follow(
+        &rt,
+        &p,
+        &mut second,
+        PlaceId(2),
+        &[
+            (Book(Spawn { to: PlaceId(2) }), &[2, 0], Nothing),
+            (Book(Want::Census), &[2, 1], Places(3)),
+            (Book(Print { value: 3 }), &[2, 2], Nothing),
+        ],
+    )?;
+    ends(&rt, &p, &mut second, PlaceId(2), &[])?;
+    Ok(())
+}
+
 fn moved<T: Send>(t: T) -> T {
     t
 }
@@ -571,7 +643,7 @@ fn moved_control(c: Control) -> Control {
 
 #[test]
 fn variables_hold_values(rt: HostRuntime) {
-    let mut vars = Variables::none();
+    let mut vars = Variables::none(PLACES);
     vars.set(NameId(3), Value::Num(7));
     let copy = vars.copy();
     vars.set(NameId(3), Value::Num(8));

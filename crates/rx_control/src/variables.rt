@@ -1,4 +1,4 @@
-// The variables of one activity.
+// What one activity knows: its variables and the number of places.
 ghost use Rattle.std.specs.Prelude.{◌≡◌, Some, slice_set};
 ghost use Rattle.rx_rules.specs.Terms.{no_vars, bound, value_of};
 
@@ -6,10 +6,12 @@ use rx_base::Value;
 use rx_script::NameId;
 use std::marker::Model;
 
-/// The value of each name, by its number. A script has at most 32 names; one of a greater number never has a value.
+/// The value of each name, by its number, and how many places the activity knows. A script has at most 32 names; one of a greater
+/// number never has a value.
 #[derive(Drop)]
 pub struct Variables {
     values: [Option<Value>; 32],
+    places: u8,
 }
 
 impl Model for Variables {
@@ -17,15 +19,18 @@ impl Model for Variables {
 
     ghost Value = { Vars };
 
-    ghost view = { λ a. record { values = a.values } };
+    ghost view = { λ a. record { values = a.values; places = a.places } };
 }
 
 impl Variables {
-    /// No name has a value.
-    pub fn none() -> Self
-        ensures { result ≡ no_vars }
+    /// No name has a value, and so many places are known.
+    pub fn none(places: u8) -> Self
+        ensures { result ≡ no_vars places }
     {
-        Variables { values: [None; 32] }
+        Variables {
+            values: [None; 32],
+            places,
+        }
     }
 
     /// A copy.
@@ -34,6 +39,7 @@ impl Variables {
     {
         Variables {
             values: self.values,
+            places: self.places,
         }
     }
 
@@ -52,6 +58,20 @@ impl Variables {
         ensures { self.new ≡ bound name.0 v self.old }
     {
         write(&mut self.values, name.0 as usize, v);
+    }
+
+    /// How many places are known.
+    pub fn places(&self) -> u8
+        ensures { result ≡ self.now.places }
+    {
+        self.places
+    }
+
+    /// So many places are known from now on.
+    pub fn tell(&mut self, places: u8)
+        ensures { self.new ≡ record self.old { places = places } }
+    {
+        self.places = places;
     }
 }
 

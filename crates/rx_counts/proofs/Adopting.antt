@@ -32,7 +32,7 @@ leads : (T : Tree) (s : ScopeId) (g : Scope) (p : Option ScopeId) → Sound T �
 leads T s g None h e found base num = meets_step T.tasks T.next_scope T.scopes the_root s g h.falls h.opened found ∙ or_left (s.0 == 0) (meets the_root T.scopes g.parent) (eq-eqb s.0 0 (sym num ∙ base e))
 leads T s g (Some u) h e found base num = meets_step T.tasks T.next_scope T.scopes the_root s g h.falls h.opened found ∙ or_right (s.0 == 0) (meets the_root T.scopes g.parent) (ap (meets the_root T.scopes) e ∙ parent_rooted T.tasks (has_number s.0) T.next_scope T.scopes g u h.falls h.opened found e)
 
-pub scope_adopted : (l : CountLedger) (T : Tree) (s : ScopeId) → StandsFor l T → HasScope T s → is_some (keeper (stands_home T.dead) T.scopes (Some s)) ≡ true
+pub scope_adopted : {room : ℕ} (l : CountLedger) (T : Tree) (s : ScopeId) → StandsFor l room T → HasScope T s → is_some (keeper (stands_home T.dead) T.scopes (Some s)) ≡ true
 scope_adopted l T s st h =
-    let k : Kept T l.scopes.items s.0 = scope_record l T s st h in
+    let k : Kept l.width T l.scopes.items s.0 = scope_record l T s st h in
     keeper_known T s (sound st.reached) (leads T s k.scope k.scope.parent (sound st.reached) refl k.stands (each_found (λ g. g.parent ≡ None → g.number.0 ≡ 0) (has_number s.0) T.scopes k.scope (based st.reached) k.stands) k.number)

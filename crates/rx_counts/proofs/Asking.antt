@@ -1,5 +1,5 @@
 -- What a caller's place and the records tell of it.
-use Rattle.std.specs.Prelude.{◌≡◌, ℕ, ◌<◌, ◌≤◌, ◌^◌, ◌+◌, Bool, true, false, ◌&&◌, List, [], ◌∷◌, Option, Some, None, is_none, is_some, length, option_map, box_value, Err, refl}
+use Rattle.std.specs.Prelude.{◌≡◌, ℕ, ◌<◌, ◌≤◌, ◌^◌, ◌+◌, Bool, true, false, ◌&&◌, List, [], ◌∷◌, Option, Some, None, IfSome, is_none, is_some, length, option_map, box_value, Err, refl}
 use Rattle.std.specs.List.{find}
 use Rattle.std.specs.Global.{Box}
 use Rattle.std.proofs.Common.{sym, ap, ◌∙◌, subst, arith, ⊎_elim}
@@ -11,6 +11,7 @@ use Rattle.rx_finish.proofs.Gone.{blow_known}
 use Rattle.rx_base.specs.declared.ids.PlaceId.{PlaceId}
 use Rattle.rx_base.specs.declared.ids.ScopeId.{ScopeId}
 use Rattle.rx_rules.specs.declared.tasks.Where.{Where}
+use Rattle.rx_rules.specs.declared.tasks.Where.TheVariants.{At, Travel}
 use Rattle.rx_rules.specs.declared.tasks.Blow.{Blow}
 use Rattle.rx_rules.specs.declared.tasks.Task.{Task}
 use Rattle.rx_rules.specs.declared.tasks.Scope.{Scope}
@@ -29,29 +30,29 @@ use Rattle.rx_finish.proofs.Allowed.{Free, free}
 use Rattle.rx_counts.specs.declared.record.Sums.{Sums}
 use Rattle.rx_counts.specs.declared.record.Record.{Record}
 use Rattle.rx_counts.specs.declared.ledger.CountLedger.{CountLedger}
-use Rattle.rx_counts.specs.Keeping.{stands_home, keeper, kept_at, same_where}
+use Rattle.rx_counts.specs.Keeping.{stands_home, keeper, kept_at, same_where, masked_of}
 use Rattle.rx_rules.specs.Counts.{has_number}
-use Rattle.rx_counts.specs.Stands.{ShapeOf, SumsOf, RecordOf, Both, AllFit, Fit, StandsFor, IsShaped, record_at, count_in}
+use Rattle.rx_counts.specs.Stands.{ShapeOf, SumsOf, RecordOf, Both, AllFit, Fit, HasRoom, StandsFor, IsShaped, record_at, count_in}
 use Rattle.rx_counts.proofs.Lasting.{root_keeps}
 use Rattle.rx_counts.proofs.Walks.{keeper_exists, keeper_stands}
 use Rattle.rx_counts.proofs.Shapes.{both_found}
 use Rattle.rx_counts.proofs.Joining.{both_more, number_is}
 
-pub blow_is : (l : CountLedger) (T : Tree) (who : Caller) (P : Task → Type 0) → StandsFor l T → MayAsk T who P → blow_of T who.task ≡ blow_at l.dead who.place
+pub blow_is : {room : ℕ} (l : CountLedger) (T : Tree) (who : Caller) (P : Task → Type 0) → StandsFor l room T → MayAsk T who P → blow_of T who.task ≡ blow_at l.dead who.place
 blow_is l T who P s may = blow_known T who P (sound s.reached) may.caller ∙ ap (λ d. blow_at d who.place) (sym s.fit.dead)
 
 -- a struck caller, and one that is not
-pub was_lost : (l : CountLedger) (T : Tree) (who : Caller) (P : Task → Type 0) (b : Blow) → StandsFor l T → MayAsk T who P → blow_at l.dead who.place ≡ Some b → WasLost T who b.place b.entry
+pub was_lost : {room : ℕ} (l : CountLedger) (T : Tree) (who : Caller) (P : Task → Type 0) (b : Blow) → StandsFor l room T → MayAsk T who P → blow_at l.dead who.place ≡ Some b → WasLost T who b.place b.entry
 was_lost l T who P b s may e = blow_is l T who P s may ∙ e
 
-pub unstruck : (l : CountLedger) (T : Tree) (who : Caller) (P : Task → Type 0) → StandsFor l T → MayAsk T who P → blow_at l.dead who.place ≡ None → IsUnstruck T who
+pub unstruck : {room : ℕ} (l : CountLedger) (T : Tree) (who : Caller) (P : Task → Type 0) → StandsFor l room T → MayAsk T who P → blow_at l.dead who.place ≡ None → IsUnstruck T who
 unstruck l T who P s may e = blow_is l T who P s may ∙ e
 
-pub caller : (l : CountLedger) (T : Tree) (who : Caller) (P : Task → Type 0) → StandsFor l T → MayAsk T who P → blow_at l.dead who.place ≡ None → Free T who P
+pub caller : {room : ℕ} (l : CountLedger) (T : Tree) (who : Caller) (P : Task → Type 0) → StandsFor l room T → MayAsk T who P → blow_at l.dead who.place ≡ None → Free T who P
 caller l T who P s may e = free T who P s.reached may (unstruck l T who P s may e)
 
 pub unstruck_of : (T : Tree) (who : Caller) (P : Task → Type 0) → Free T who P → IsUnstruck T who
-unstruck_of T who P f = rw (f.at.stands, blow_of) f.acts.unstruck
+unstruck_of T who P f = rw (f.at.stands, blow_of) f.unstruck
 
 -- The records.
 
@@ -63,39 +64,39 @@ fit_shaped size T keeps rs h fit =
       shapes = λ n. both_more (RecordOf size keeps T.scopes T.tasks) (ShapeOf T.scopes) (record_at rs n) (find (has_number n) T.scopes) (λ r g e a. a.shape) (fit n);
     }
 
-pub shaped : (l : CountLedger) (T : Tree) → StandsFor l T → IsShaped T l.scopes.items
+pub shaped : {room : ℕ} (l : CountLedger) (T : Tree) → StandsFor l room T → IsShaped T l.scopes.items
 shaped l T s = fit_shaped _ T (stands_home T.dead) l.scopes.items (sound s.reached) s.fit.scopes
 
 -- the walk by records is the walk in the tree
-pub keeper_found : (l : CountLedger) (T : Tree) (s : ScopeId) (o : Option ScopeId) (rs : List (Option (Box Record))) → StandsFor l T → rs ≡ l.scopes.items → ((U : Tree) → IsShaped U rs → option_map (λ k. k.0) o ≡ keeper (stands_home l.dead) U.scopes (Some s)) → option_map (λ k. k.0) o ≡ keeper (stands_home T.dead) T.scopes (Some s)
+pub keeper_found : {room : ℕ} (l : CountLedger) (T : Tree) (s : ScopeId) (o : Option ScopeId) (rs : List (Option (Box Record))) → StandsFor l room T → rs ≡ l.scopes.items → ((U : Tree) → IsShaped U rs → option_map (λ k. k.0) o ≡ keeper (stands_home l.dead) U.scopes (Some s)) → option_map (λ k. k.0) o ≡ keeper (stands_home T.dead) T.scopes (Some s)
 keeper_found l T s o rs h e walk = walk T (subst (IsShaped T) (sym e) (shaped l T h)) ∙ ap (λ d. keeper (stands_home d) T.scopes (Some s)) h.fit.dead
 
-pub keeper_some : (l : CountLedger) (T : Tree) (s k : ScopeId) (rs : List (Option (Box Record))) → StandsFor l T → rs ≡ l.scopes.items → ((U : Tree) → IsShaped U rs → Some k.0 ≡ keeper (stands_home l.dead) U.scopes (Some s)) → keeper (stands_home T.dead) T.scopes (Some s) ≡ Some k.0
+pub keeper_some : {room : ℕ} (l : CountLedger) (T : Tree) (s k : ScopeId) (rs : List (Option (Box Record))) → StandsFor l room T → rs ≡ l.scopes.items → ((U : Tree) → IsShaped U rs → Some k.0 ≡ keeper (stands_home l.dead) U.scopes (Some s)) → keeper (stands_home T.dead) T.scopes (Some s) ≡ Some k.0
 keeper_some l T s k rs h e walk = sym (walk T (subst (IsShaped T) (sym e) (shaped l T h)) ∙ ap (λ d. keeper (stands_home d) T.scopes (Some s)) h.fit.dead)
 
 pub below_length : (rs : List (Option (Box Record))) (k : ℕ) (r : Record) → record_at rs k ≡ Some r → k < length rs
 below_length rs k r e = ⊎_elim (λ (lt : k < length rs). lt) (λ (ge : length rs ≤ k). let p = ap (option_map box_value) (get_or_past rs k None ge) in cc) (cases_lt k (length rs))
 
 -- the record of a scope that stands
-pub record Kept (T : Tree) (rs : List (Option (Box Record))) (k : ℕ) : Type 0 where
+pub record Kept (size : ℕ) (T : Tree) (rs : List (Option (Box Record))) (k : ℕ) : Type 0 where
   pub kept : Record
   pub found : record_at rs k ≡ Some kept
   pub scope : Scope
   pub stands : find (has_number k) T.scopes ≡ Some scope
   pub number : scope.number.0 ≡ k
-  pub fits : RecordOf T.places (stands_home T.dead) T.scopes T.tasks kept scope
+  pub fits : RecordOf size (stands_home T.dead) T.scopes T.tasks kept scope
   pub low : k < length rs
 
-pub kept_found : (T : Tree) (rs : List (Option (Box Record))) (k : ℕ) (g : Scope) → AllFit T.places (stands_home T.dead) T.scopes T.tasks rs → find (has_number k) T.scopes ≡ Some g → Kept T rs k
-kept_found T rs k g h e =
-    let r = both_found (RecordOf T.places (stands_home T.dead) T.scopes T.tasks) (record_at rs k) (find (has_number k) T.scopes) g (h k) e in
+pub kept_found : {size : ℕ} (T : Tree) (rs : List (Option (Box Record))) (k : ℕ) (g : Scope) → AllFit size (stands_home T.dead) T.scopes T.tasks rs → find (has_number k) T.scopes ≡ Some g → Kept size T rs k
+kept_found {size = size} T rs k g h e =
+    let r = both_found (RecordOf size (stands_home T.dead) T.scopes T.tasks) (record_at rs k) (find (has_number k) T.scopes) g (h k) e in
     record { kept = r.0; found = r.1; scope = g; stands = e; number = number_is k T.scopes g e; fits = r.2; low = below_length rs k r.0 r.1 }
 
-pub kept_some : (T : Tree) (rs : List (Option (Box Record))) (k : ℕ) → AllFit T.places (stands_home T.dead) T.scopes T.tasks rs → (o : Option Scope) → find (has_number k) T.scopes ≡ o → is_some o ≡ true → Kept T rs k
+pub kept_some : {size : ℕ} (T : Tree) (rs : List (Option (Box Record))) (k : ℕ) → AllFit size (stands_home T.dead) T.scopes T.tasks rs → (o : Option Scope) → find (has_number k) T.scopes ≡ o → is_some o ≡ true → Kept size T rs k
 kept_some T rs k h (Some g) e q = kept_found T rs k g h e
 kept_some T rs k h None e q = absurd (true≢false (sym q))
 
-pub kept_at_keeper : (T : Tree) (rs : List (Option (Box Record))) (want : Option ScopeId) (k : ℕ) → AllFit T.places (stands_home T.dead) T.scopes T.tasks rs → keeper (stands_home T.dead) T.scopes want ≡ Some k → Kept T rs k
+pub kept_at_keeper : {size : ℕ} (T : Tree) (rs : List (Option (Box Record))) (want : Option ScopeId) (k : ℕ) → AllFit size (stands_home T.dead) T.scopes T.tasks rs → keeper (stands_home T.dead) T.scopes want ≡ Some k → Kept size T rs k
 kept_at_keeper T rs want k h e = kept_some T rs k h (find (has_number k) T.scopes) refl (keeper_stands (stands_home T.dead) k T.scopes want e)
 
 -- a keeper is always found
@@ -121,36 +122,54 @@ small keeps gs ts q n m w fits f low =
     let d = count_by-le-length (λ x. is_none x.struck && kept_at keeps gs m x) ts in
     (omega arith, omega arith)
 
+-- a table that has columns for more places has them for these
+inside_more : (n m : ℕ) (w : Where) → n ≤ m → Inside n w → Inside m w
+inside_more n m (At p) le h = let a : p.0 < n = h in omega arith
+inside_more n m (Travel from to) le h = (let a : from.0 < n = h.0 in let b : from.0 < m = omega arith in b, let a : to.0 < n = h.1 in let b : to.0 < m = omega arith in b)
+
 -- where the caller is
-pub place_in : (T : Tree) (who : Caller) (P : Task → Type 0) → Sound T → (f : Free T who P) → Inside T.places who.place
-place_in T who P h f = subst (Inside T.places) f.at.says.place (fits_of T who.task f.at.task h f.at.stands).inside
+pub place_in : {size : ℕ} (T : Tree) (who : Caller) (P : Task → Type 0) → Sound T → T.places ≤ size → (f : Free T who P) → Inside size who.place
+place_in {size = size} T who P h le f = inside_more T.places size who.place le (subst (Inside T.places) f.at.says.place (fits_of T who.task f.at.task h f.at.stands).inside)
+
+-- the tables have columns for the places of the tree
+pub wide : {room : ℕ} (l : CountLedger) (T : Tree) → StandsFor l room T → T.places ≤ l.width
+wide l T s = let a = s.has_room.width in omega arith
+
+-- and for as many more as before, where the places are as many as before
+pub room_kept : {room : ℕ} (l m : CountLedger) (T U : Tree) → m.width ≡ l.width → U.places ≡ T.places → HasRoom l room T → HasRoom m room U
+room_kept l m T U width places h = record { width = (let a = h.width in omega arith); few = (let a = h.few in omega arith) }
+
+-- records for tables that are as large
+pub as_wide : (n m : ℕ) (keeps : Scope → Bool) (gs : List Scope) (ts : List Task) (rs : List (Option (Box Record))) → m ≡ n → AllFit n keeps gs ts rs → AllFit m keeps gs ts rs
+as_wide n m keeps gs ts rs e h = subst (λ (i : ℕ). AllFit i keeps gs ts rs) (sym e) h
 
 -- the scope that it hangs under leads to the root
 pub scope_rooted : (T : Tree) (who : Caller) (P : Task → Type 0) → Sound T → (f : Free T who P) → meets the_root T.scopes (Some who.scope) ≡ true
 scope_rooted T who P h f = subst (λ (u : ScopeId). meets the_root T.scopes (Some u) ≡ true) f.at.says.under (fits_of T who.task f.at.task h f.at.stands).rooted
 
 -- the record of the scope that it hangs under
-pub scope_kept : (l : CountLedger) (T : Tree) (who : Caller) (P : Task → Type 0) → StandsFor l T → (f : Free T who P) → Kept T l.scopes.items who.scope.0
+pub scope_kept : {room : ℕ} (l : CountLedger) (T : Tree) (who : Caller) (P : Task → Type 0) → StandsFor l room T → (f : Free T who P) → Kept l.width T l.scopes.items who.scope.0
 scope_kept l T who P s f = kept_some T l.scopes.items who.scope.0 s.fit.scopes (find (has_number who.scope.0) T.scopes) refl (met_found the_root T.scopes who.scope (scope_rooted T who P (sound s.reached) f))
 
 -- a missing record is that of no scope
-pub missing : (T : Tree) (rs : List (Option (Box Record))) (k : ℕ) → Kept T rs k → record_at rs k ≡ None → ⊥
+pub missing : {size : ℕ} (T : Tree) (rs : List (Option (Box Record))) (k : ℕ) → Kept size T rs k → record_at rs k ≡ None → ⊥
 missing T rs k q e = let f = q.found in cc
 
 -- a ledger with the same records stands for the same trees
-pub same_fit : (l m : CountLedger) (T : Tree) → Fit l T → m.places ≡ l.places → m.dead ≡ l.dead → m.next_task ≡ l.next_task → m.next_scope ≡ l.next_scope → length m.scopes.items ≡ length l.scopes.items → ((n : ℕ) → record_at m.scopes.items n ≡ record_at l.scopes.items n) → Fit m T
-same_fit l m T h places dead next_task next_scope len same =
+pub same_fit : (l m : CountLedger) (T : Tree) → Fit l T → m.places ≡ l.places → m.width ≡ l.width → m.dead ≡ l.dead → m.next_task ≡ l.next_task → m.next_scope ≡ l.next_scope → length m.scopes.items ≡ length l.scopes.items → ((n : ℕ) → record_at m.scopes.items n ≡ record_at l.scopes.items n) → Fit m T
+same_fit l m T h places width dead next_task next_scope len same =
     record {
       places = places ∙ h.places;
       dead = dead ∙ h.dead;
       next_task = next_task ∙ h.next_task;
       next_scope = next_scope ∙ h.next_scope;
       numbers = len ∙ h.numbers;
-      scopes = λ n. subst (λ o. Both (RecordOf T.places (stands_home T.dead) T.scopes T.tasks) o (find (has_number n) T.scopes)) (sym (same n)) (h.scopes n);
+      scopes = as_wide l.width m.width (stands_home T.dead) T.scopes T.tasks m.scopes.items width (λ n. subst (λ o. Both (RecordOf l.width (stands_home T.dead) T.scopes T.tasks) o (find (has_number n) T.scopes)) (sym (same n)) (h.scopes n));
+      masked = λ n. subst (λ o. IfSome o (λ r. r.sums.masked ≡ masked_of (stands_home T.dead) T.scopes n)) (sym (same n)) (h.masked n);
     }
 
-pub same_records : (l m : CountLedger) (T : Tree) → StandsFor l T → m.places ≡ l.places → m.dead ≡ l.dead → m.next_task ≡ l.next_task → m.next_scope ≡ l.next_scope → m.scopes.items ≡ l.scopes.items → StandsFor m T
-same_records l m T h places dead next_task next_scope items = record { reached = h.reached; fit = same_fit l m T h.fit places dead next_task next_scope (ap length items) (λ n. ap (λ xs. record_at xs n) items) }
+pub same_records : {room : ℕ} (l m : CountLedger) (T : Tree) → StandsFor l room T → m.places ≡ l.places → m.width ≡ l.width → m.dead ≡ l.dead → m.next_task ≡ l.next_task → m.next_scope ≡ l.next_scope → m.scopes.items ≡ l.scopes.items → StandsFor m room T
+same_records l m T h places width dead next_task next_scope items = record { reached = h.reached; fit = same_fit l m T h.fit places width dead next_task next_scope (ap length items) (λ n. ap (λ xs. record_at xs n) items); has_room = room_kept l m T T width refl h.has_room }
 
 pub open_refused : (T : Tree) (who : Caller) (f : LedgerFault) (S : Tree → Type 0) → f ≡ NoMemory → IsUnstruck T who → S T → OpenReply T who (Err f) S
 open_refused T who f S is none s = subst (λ (v : LedgerFault). OpenReply T who (Err v) S) (sym is) (none, s)

@@ -1,5 +1,6 @@
 -- The ledger before the first entry.
-use Rattle.std.specs.Prelude.{◌≡◌, ℕ, ◌≤◌, Bool, false, List, [], ◌∷◌, Option, Some, None, replicate, refl}
+use Rattle.std.specs.Prelude.{◌≡◌, ℕ, ◌≤◌, ◌+◌, Bool, false, List, [], ◌∷◌, Option, Some, None, Result, Ok, Err, IfOk, replicate, refl}
+use Rattle.rx_base.specs.declared.failures.NoMemory.{NoMemory}
 use Rattle.std.specs.List.{find}
 use Rattle.std.specs.Global.{Box}
 use Rattle.std.proofs.Common.{sym, ap, ◌∙◌, subst, arith}
@@ -19,6 +20,8 @@ use Rattle.rx_counts.specs.Keeping.{stands_home}
 use Rattle.rx_rules.specs.Counts.{has_number}
 use Rattle.rx_counts.specs.Stands.{SumsOf, RecordOf, Both, StandsFor, record_at, more, Pushed}
 use Rattle.rx_counts.proofs.Joining.{join_here}
+use Rattle.rx_counts.proofs.Asking.{as_wide}
+use Rattle.rx_counts.proofs.Masking.{masked_opened}
 use Rattle.rx_counts.proofs.NewRecord.{all_opened, sums_fresh}
 use Rattle.rx_counts.proofs.Calling.{zero_cell}
 use Rattle.rx_counts.specs.Inside.Opening.{IsZero}
@@ -39,16 +42,16 @@ first = record { number = record { 0 = 0 }; under = root_id; place = At zero_pla
 nothing_fits : (size : ℕ) (keeps : Scope → Bool) (n : ℕ) → Both (RecordOf size keeps [] []) (record_at [] n) (find (has_number n) [])
 nothing_fits size keeps n = tt
 
-pub opened_first : (m : CountLedger) (places : ℕ) (r : Record) (zero_ : Sums) (rs : List (Option (Box Record))) → rs ≡ [] → 1 ≤ places → places ≤ 16 → m.places ≡ places → m.dead ≡ replicate 16 None → m.next_task ≡ 1 → m.next_scope ≡ 1 → r.kind ≡ Finish → r.home ≡ zero_place → r.parent ≡ None → r.finish ≡ root_id → IsZero places zero_ → r.sums ≡ more (At zero_place) zero_ → r.body ≡ [] → r.ends ≡ [] → Pushed r rs m.scopes.items → StandsFor m (opening places)
-opened_first m places r zero_ rs empty lo hi same_places dead next_task next_scope kind home parent finish z sums body ends pushed =
+pub opened_first : (room : ℕ) (m : CountLedger) (places size : ℕ) (r : Record) (zero_ : Sums) (rs : List (Option (Box Record))) → rs ≡ [] → 1 ≤ places → places ≤ size → size ≤ 16 → room + places ≤ size → m.places ≡ places → m.width ≡ size → m.dead ≡ replicate 16 None → m.next_task ≡ 1 → m.next_scope ≡ 1 → r.kind ≡ Finish → r.home ≡ zero_place → r.parent ≡ None → r.finish ≡ root_id → IsZero size zero_ → r.sums ≡ more (At zero_place) zero_ → r.body ≡ [] → r.ends ≡ [] → Pushed r rs m.scopes.items → StandsFor m room (opening places)
+opened_first room m places size r zero_ rs empty lo hi most fits same_places width dead next_task next_scope kind home parent finish z sums body ends pushed =
     let p : Pushed r [] m.scopes.items = subst (λ (xs : List (Option (Box Record))). Pushed r xs m.scopes.items) empty pushed in
     let T : Tree = opening places in
     let keeps : Scope → Bool = stands_home T.dead in
     let new : IsNew r root [] = record { kind = kind; home = home; parent = parent; finish = ap (λ (v : ScopeId). Some v.0) (sym finish); body = body; ends = ends } in
-    let none : SumsOf keeps (root ∷ []) [] zero_ 0 = sums_fresh keeps root [] [] zero_ tt tt refl places z in
-    let one_ : SumsOf keeps (root ∷ []) (first ∷ []) (more (At zero_place) zero_) 0 = join_here keeps (root ∷ []) [] first zero_ 0 refl refl (zero_cell places zero_ (At zero_place) z lo) none in
+    let none : SumsOf keeps (root ∷ []) [] zero_ 0 = sums_fresh keeps root [] [] zero_ tt tt refl size z in
+    let one_ : SumsOf keeps (root ∷ []) (first ∷ []) (more (At zero_place) zero_) 0 = join_here keeps (root ∷ []) [] first zero_ 0 refl refl (zero_cell size zero_ (At zero_place) z (omega arith)) none in
     record {
-      reached = opens places lo hi;
+      reached = opens places lo (omega arith);
       fit =
           record {
             places = same_places;
@@ -57,7 +60,15 @@ opened_first m places r zero_ rs empty lo hi same_places dead next_task next_sco
             next_scope = next_scope;
             numbers = p.len;
             scopes =
-                all_opened keeps root [] [] (first ∷ []) [] m.scopes.items r refl tt (λ q n low old. absurd (omega arith)) p
-                (record_new keeps root [] (first ∷ []) r new (ap (λ (v : Sums). v.places) sums ∙ z.places) (subst (λ (v : Sums). SumsOf keeps (root ∷ []) (first ∷ []) v 0) (sym sums) one_)) (nothing_fits places keeps);
+                as_wide size m.width keeps (root ∷ []) (first ∷ []) m.scopes.items width
+                (all_opened keeps root [] [] (first ∷ []) [] m.scopes.items r refl tt (λ q n low old. absurd (omega arith)) p
+                (record_new keeps root [] (first ∷ []) r new (ap (λ (v : Sums). v.places) sums ∙ z.places) (subst (λ (v : Sums). SumsOf keeps (root ∷ []) (first ∷ []) v 0) (sym sums) one_)) (nothing_fits size keeps));
+            masked = masked_opened keeps root [] [] m.scopes.items r refl tt refl (ap (λ (v : Sums). v.masked) sums ∙ z.masked) p (λ n. tt);
           };
+      has_room = record { width = (let a = width in omega arith); few = (let a = width in omega arith) };
     }
+
+-- a ledger that is as wide as its places and the joins has room for the joins
+pub room_for : (places joins : ℕ) (r : Result CountLedger NoMemory) → IfOk r (λ l. (room : ℕ) → room + places ≤ places + joins → StandsFor l room (opening places)) → IfOk r (λ l. StandsFor l joins (opening places))
+room_for places joins (Ok l) h = h joins (omega arith)
+room_for places joins (Err e) h = tt

@@ -14,7 +14,7 @@ use Rattle.rx_rules.specs.declared.tasks.Task.{Task}
 use Rattle.rx_rules.specs.declared.tasks.Scope.{Scope}
 use Rattle.rx_rules.specs.declared.entries.Act.TheVariants.{Open}
 use Rattle.rx_rules.specs.Tree.{Tree, the_root, governing_in, chain_in}
-use Rattle.rx_rules.specs.Entries.{place_number, home_for}
+use Rattle.rx_rules.specs.Entries.{place_number, home_for, made_act}
 use Rattle.rx_rules.specs.Reached.{acts}
 use Rattle.rx_sound.specs.Blows.{death_blow, blow_at}
 use Rattle.rx_sound.specs.Chains.{meets, Falls}
@@ -33,13 +33,14 @@ use Rattle.rx_counts.specs.Keeping.{stands_home, keeper, finishes}
 use Rattle.rx_rules.specs.Counts.{has_number}
 use Rattle.rx_counts.specs.Stands.{SumsOf, RecordOf, StandsFor, record_at, Pushed}
 use Rattle.rx_counts.proofs.Telling.{none_blow}
-use Rattle.rx_counts.proofs.Asking.{Kept, kept_some, unstruck_of}
+use Rattle.rx_counts.proofs.Asking.{Kept, kept_some, unstruck_of, room_kept, as_wide}
+use Rattle.rx_counts.proofs.Masking.{masked_opened}
 use Rattle.rx_counts.proofs.Walks.{keeper_is}
 use Rattle.rx_counts.proofs.NewRecord.{all_opened, sums_fresh, sums_further}
 use Rattle.rx_counts.specs.Inside.Opening.{IsZero}
 
 -- the record of the inner scope
-pub inner_kept : (l : CountLedger) (T : Tree) (who : Caller) (P : Task → Type 0) → StandsFor l T → (f : Free T who P) → Kept T l.scopes.items who.inner.0
+pub inner_kept : {room : ℕ} (l : CountLedger) (T : Tree) (who : Caller) (P : Task → Type 0) → StandsFor l room T → (f : Free T who P) → Kept l.width T l.scopes.items who.inner.0
 inner_kept l T who P s f =
     let h : Sound T = sound s.reached in
     let m : meets the_root T.scopes (Some who.inner) ≡ true = subst (λ (u : ScopeId). meets the_root T.scopes (Some u) ≡ true) f.at.inner_is (inner_fits T who.task f.at.task h f.at.stands).rooted in
@@ -56,9 +57,9 @@ governing_is gs want n e =
     ]) (keeper_is finishes gs want ∙ e)
 
 -- the finish that the record of the inner scope names is the governing one
-pub finish_known : (l : CountLedger) (T : Tree) (who : Caller) (P : Task → Type 0) (n : ScopeId) → StandsFor l T → Free T who P → IfSome (record_at l.scopes.items who.inner.0) (λ r. n ≡ r.finish) → keeper finishes T.scopes (Some who.inner) ≡ Some n.0
+pub finish_known : {room : ℕ} (l : CountLedger) (T : Tree) (who : Caller) (P : Task → Type 0) (n : ScopeId) → StandsFor l room T → Free T who P → IfSome (record_at l.scopes.items who.inner.0) (λ r. n ≡ r.finish) → keeper finishes T.scopes (Some who.inner) ≡ Some n.0
 finish_known l T who P n s f e =
-    let k : Kept T l.scopes.items who.inner.0 = inner_kept l T who P s f in
+    let k : Kept l.width T l.scopes.items who.inner.0 = inner_kept l T who P s f in
     let same : n ≡ k.kept.finish = subst (λ o. IfSome o (λ r. n ≡ r.finish)) k.found e in
     subst (λ (v : ScopeId). keeper finishes T.scopes (Some v) ≡ Some n.0) (scope-is k.scope.number who.inner k.number) (k.fits.shape.finish ∙ ap (λ (v : ScopeId). Some v.0) (sym same))
 
@@ -66,7 +67,7 @@ finish_known l T who P n s f e =
 pub home_known : (T : Tree) (who : Caller) (P : Task → Type 0) → Free T who P → home_for T who.task ≡ place_number who.place
 home_known T who P f = (let e : home_for T who.task ≡ place_number f.at.task.place = rw (f.at.stands, home_for) in e) ∙ ap place_number f.at.says.place
 
-pub place_lives : (l : CountLedger) (T : Tree) (who : Caller) → StandsFor l T → (f : Free T who IsMoving) → blow_at l.dead who.place ≡ None → is_none (slice_index_or T.dead (place_number who.place).0 None) ≡ true
+pub place_lives : {room : ℕ} (l : CountLedger) (T : Tree) (who : Caller) → StandsFor l room T → (f : Free T who IsMoving) → blow_at l.dead who.place ≡ None → is_none (slice_index_or T.dead (place_number who.place).0 None) ≡ true
 place_lives l T who s f e =
     let m = f.at.allowed in
     let at : who.place ≡ At m.place = sym f.at.says.place ∙ m.is_at in
@@ -95,8 +96,8 @@ finish_self g gs e = rw (eq-eqb g.number.0 g.number.0 refl, e)
 pub finish_up : (g : Scope) (gs : List Scope) → finishes g ≡ false → keeper finishes (g ∷ gs) (Some g.number) ≡ keeper finishes gs g.parent
 finish_up g gs e = rw (eq-eqb g.number.0 g.number.0 refl, e)
 
-pub opened_stands : (l m : CountLedger) (T : Tree) (who : Caller) (s : ScopeId) (r : Record) → StandsFor l T → MayAskMoving T who → blow_at l.dead who.place ≡ None → (f : Free T who IsMoving) → s.0 ≡ l.next_scope → r.kind ≡ Finish → r.home ≡ place_number who.place → r.parent ≡ Some who.inner → r.finish ≡ s → IsZero l.places r.sums → r.body ≡ [] → r.ends ≡ [] → m.places ≡ l.places → m.dead ≡ l.dead → m.next_task ≡ l.next_task → m.next_scope ≡ l.next_scope + 1 → Pushed r l.scopes.items m.scopes.items → OpenReply T who (Ok s) (StandsFor m)
-opened_stands l m T who s r st may blow f next kind home parent finish zero body ends places dead next_task next_scope p =
+pub opened_stands : {room : ℕ} (l m : CountLedger) (T : Tree) (who : Caller) (s : ScopeId) (r : Record) → StandsFor l room T → MayAskMoving T who → blow_at l.dead who.place ≡ None → (f : Free T who IsMoving) → s.0 ≡ l.next_scope → r.kind ≡ Finish → r.home ≡ place_number who.place → r.parent ≡ Some who.inner → r.finish ≡ s → IsZero l.width r.sums → r.body ≡ [] → r.ends ≡ [] → m.places ≡ l.places → m.width ≡ l.width → m.dead ≡ l.dead → m.next_task ≡ l.next_task → m.next_scope ≡ l.next_scope + 1 → Pushed r l.scopes.items m.scopes.items → OpenReply T who (Ok s) (StandsFor m room)
+opened_stands l m T who s r st may blow f next kind home parent finish zero body ends places width dead next_task next_scope p =
     let h : Sound T = sound st.reached in
     let number : s.0 ≡ T.next_scope = next ∙ st.fit.next_scope in
     let g : Scope = record { number = s; kind = Finish; opener = Some who.task; home = home_for T who.task; parent = Some who.inner; body = []; ends = [] } in
@@ -119,9 +120,12 @@ opened_stands l m T who s r st may blow f next kind home parent finish zero body
                   next_scope = (let q = st.fit.next_scope in omega arith);
                   numbers = (let q = st.fit.numbers in let v = p.len in omega arith);
                   scopes =
-                      all_opened (stands_home T.dead) g T.scopes T.tasks T.tasks l.scopes.items m.scopes.items r (st.fit.numbers ∙ sym number) falls
+                      as_wide l.width m.width (stands_home T.dead) (g ∷ T.scopes) T.tasks m.scopes.items width
+                      (all_opened (stands_home T.dead) g T.scopes T.tasks T.tasks l.scopes.items m.scopes.items r (st.fit.numbers ∙ sym number) falls
                       (λ q n below old. sums_further (stands_home T.dead) g T.scopes T.tasks q n falls low lives old) p
-                      (record_new (stands_home T.dead) g T.scopes T.tasks r new (zero.places ∙ st.fit.places) (sums_fresh (stands_home T.dead) g T.scopes T.tasks r.sums falls low lives l.places zero)) st.fit.scopes;
+                      (record_new (stands_home T.dead) g T.scopes T.tasks r new zero.places (sums_fresh (stands_home T.dead) g T.scopes T.tasks r.sums falls low lives l.width zero)) st.fit.scopes);
+                  masked = masked_opened (stands_home T.dead) g T.scopes l.scopes.items m.scopes.items r (st.fit.numbers ∙ sym number) falls lives zero.masked p st.fit.masked;
                 };
+            has_room = room_kept l m T (made_act T who.task (Open s who.inner [])) width refl st.has_room;
           };
     }

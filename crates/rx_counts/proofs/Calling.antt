@@ -1,5 +1,5 @@
 -- An `at` is opened: a scope with its callee.
-use Rattle.std.specs.Prelude.{◌≡◌, ℕ, ◌<◌, ◌^◌, ◌+◌, Bool, true, false, ◌||◌, ◌==◌, not, List, [], ◌∷◌, Some, None, is_none, is_some, length, slice_index_or, Ok, refl}
+use Rattle.std.specs.Prelude.{◌≡◌, ℕ, ◌<◌, ◌≤◌, ◌^◌, ◌+◌, Bool, true, false, ◌||◌, ◌==◌, not, List, [], ◌∷◌, Some, None, is_none, is_some, length, slice_index_or, Ok, refl}
 use Rattle.std.proofs.Common.{sym, ap, ◌∙◌, subst, arith}
 use Rattle.std.proofs.lemmas.Bool.{eq-eqb, ne_eqb}
 use Rattle.std.proofs.lemmas.List.{length-replicate}
@@ -12,8 +12,8 @@ use Rattle.rx_rules.specs.declared.tasks.Where.{Where}
 use Rattle.rx_rules.specs.declared.tasks.Task.{Task}
 use Rattle.rx_rules.specs.declared.tasks.Scope.{Scope}
 use Rattle.rx_rules.specs.declared.entries.Act.TheVariants.{At as Calls}
-use Rattle.rx_rules.specs.Tree.{Tree, death_of}
-use Rattle.rx_rules.specs.Entries.{place_number, home_for, born}
+use Rattle.rx_rules.specs.Tree.{Tree, is_task, death_of}
+use Rattle.rx_rules.specs.Entries.{place_number, home_for, born, change_first, waiting, made_act}
 use Rattle.rx_rules.specs.Reached.{acts}
 use Rattle.rx_sound.specs.Blows.{death_blow, blow_at}
 use Rattle.rx_sound.specs.Chains.{Falls}
@@ -29,7 +29,8 @@ use Rattle.rx_counts.specs.declared.ledger.CountLedger.{CountLedger}
 use Rattle.rx_counts.specs.Keeping.{stands_home, keeper, finishes, is_number, kept_at}
 use Rattle.rx_counts.specs.Stands.{table_size, slot, HasCell, MayJoin, SumsOf, StandsFor, Pushed, count_in, more, with_lost}
 use Rattle.rx_counts.specs.Inside.Opening.{IsZero}
-use Rattle.rx_counts.proofs.Asking.{unstruck_of}
+use Rattle.rx_counts.proofs.Asking.{unstruck_of, wide, room_kept, as_wide}
+use Rattle.rx_counts.proofs.Masking.{masked_opened}
 use Rattle.rx_counts.proofs.Joining.{join_here, join_lost, join_other, all_waits}
 use Rattle.rx_counts.proofs.NewRecord.{all_opened, sums_fresh, sums_further, zero_count}
 use Rattle.rx_counts.proofs.Slots.{inside_cells, slot_below}
@@ -51,6 +52,11 @@ same_places : (to : PlaceId) (w : Where) (q p : Sums) (b : Bool) → (b ≡ true
 same_places to w q p true lost joins = ap (λ (v : Sums). v.places) (lost refl)
 same_places to w q p false lost joins = ap (λ (v : Sums). v.places) (joins refl)
 
+-- and masks nothing
+same_masked : (w : Where) (q p : Sums) (b : Bool) → (b ≡ true → p ≡ with_lost p.lost q) → (b ≡ false → p ≡ more w q) → p.masked ≡ q.masked
+same_masked w q p true lost joins = ap (λ (v : Sums). v.masked) (lost refl)
+same_masked w q p false lost joins = ap (λ (v : Sums). v.masked) (joins refl)
+
 sums_callee : (T : Tree) (keeps : Scope → Bool) (gs : List Scope) (ts : List Task) (child : TaskId) (s : ScopeId) (from to : PlaceId) (q p : Sums) (b : Bool) → b ≡ is_some (death_of T to) → kept_at keeps gs s.0 (born T child s from to) ≡ true → HasCell (start from to) q → (b ≡ true → (p ≡ with_lost p.lost q) × ((i : ℕ) → i < 16 → has_bit p.lost.0 i ≡ (has_bit q.lost.0 i || (to.0 == i)))) → (b ≡ false → p ≡ more (start from to) q) → SumsOf keeps gs ts q s.0 → SumsOf keeps gs (born T child s from to ∷ ts) p s.0
 sums_callee T keeps gs ts child s from to q p true e here cell lost joins h =
     let b = struck_by T child s from to (sym e) in
@@ -58,8 +64,8 @@ sums_callee T keeps gs ts child s from to q p true e here cell lost joins h =
 sums_callee T keeps gs ts child s from to q p false e here cell lost joins h =
     subst (λ (v : Sums). SumsOf keeps gs (born T child s from to ∷ ts) v s.0) (sym (joins refl)) (join_here keeps gs ts (born T child s from to) q s.0 here (struck_none T child s from to (sym e)) cell h)
 
-pub called_stands : (l m : CountLedger) (T : Tree) (who : Caller) (to : PlaceId) (s : ScopeId) (child : TaskId) (r : Record) (zero : Sums) (b : Bool) → StandsFor l T → MayAskTo T who to → blow_at l.dead who.place ≡ None → (f : Free T who IsMoving) → s.0 ≡ l.next_scope → child.0 ≡ l.next_task → r.kind ≡ Call → r.home ≡ place_number who.place → r.parent ≡ Some who.inner → keeper finishes T.scopes (Some who.inner) ≡ Some r.finish.0 → IsZero l.places zero → b ≡ not (is_none (death_blow l.dead to)) → (b ≡ true → (r.sums ≡ with_lost r.sums.lost zero) × ((i : ℕ) → i < 16 → has_bit r.sums.lost.0 i ≡ (has_bit zero.lost.0 i || (to.0 == i)))) → (b ≡ false → r.sums ≡ more (start (place_number who.place) to) zero) → r.body ≡ [] → r.ends ≡ [] → m.places ≡ l.places → m.dead ≡ l.dead → m.next_task ≡ l.next_task + 1 → m.next_scope ≡ l.next_scope + 1 → Pushed r l.scopes.items m.scopes.items → CallReply T who to (Ok (record { child = child; scope = s; lost = b })) (StandsFor m)
-called_stands l m T who to s child r zero b st may blow f next num kind home parent fin is_zero e lost joins body ends places dead next_task next_scope p =
+pub called_stands : {room : ℕ} (l m : CountLedger) (T : Tree) (who : Caller) (to : PlaceId) (s : ScopeId) (child : TaskId) (r : Record) (zero : Sums) (b : Bool) → StandsFor l room T → MayAskTo T who to → blow_at l.dead who.place ≡ None → (f : Free T who IsMoving) → s.0 ≡ l.next_scope → child.0 ≡ l.next_task → r.kind ≡ Call → r.home ≡ place_number who.place → r.parent ≡ Some who.inner → keeper finishes T.scopes (Some who.inner) ≡ Some r.finish.0 → IsZero l.width zero → b ≡ not (is_none (death_blow l.dead to)) → (b ≡ true → (r.sums ≡ with_lost r.sums.lost zero) × ((i : ℕ) → i < 16 → has_bit r.sums.lost.0 i ≡ (has_bit zero.lost.0 i || (to.0 == i)))) → (b ≡ false → r.sums ≡ more (start (place_number who.place) to) zero) → r.body ≡ [] → r.ends ≡ [] → m.places ≡ l.places → m.width ≡ l.width → m.dead ≡ l.dead → m.next_task ≡ l.next_task + 1 → m.next_scope ≡ l.next_scope + 1 → Pushed r l.scopes.items m.scopes.items → CallReply T who to (Ok (record { child = child; scope = s; lost = b })) (StandsFor m room)
+called_stands l m T who to s child r zero b st may blow f next num kind home parent fin is_zero e lost joins body ends places width dead next_task next_scope p =
     let h : Sound T = sound st.reached in
     let keeps : Scope → Bool = stands_home T.dead in
     let from : PlaceId = place_number who.place in
@@ -75,8 +81,7 @@ called_stands l m T who to s child r zero b st may blow f next num kind home par
     let dies : b ≡ is_some (death_of T to) = e ∙ is_lost l T to st.fit in
     let own : keeper keeps (g ∷ T.scopes) (Some s) ≡ Some s.0 = self_kept keeps g T.scopes lives in
     let here : kept_at keeps (g ∷ T.scopes) s.0 y ≡ true = ap (is_number s.0) own ∙ eq-eqb s.0 s.0 refl in
-    let is_zero2 : IsZero T.places zero = subst (λ (n : ℕ). IsZero n zero) st.fit.places is_zero in
-    let mine : SumsOf keeps (g ∷ T.scopes) (y ∷ T.tasks) r.sums s.0 = sums_callee T keeps (g ∷ T.scopes) T.tasks child s from to zero r.sums b dies here (zero_cell T.places zero (start from to) is_zero2 (started_in T who to h may f)) lost joins (sums_fresh keeps g T.scopes T.tasks zero falls low lives l.places is_zero) in (
+    let mine : SumsOf keeps (g ∷ T.scopes) (y ∷ T.tasks) r.sums s.0 = sums_callee T keeps (g ∷ T.scopes) T.tasks child s from to zero r.sums b dies here (zero_cell l.width zero (start from to) is_zero (started_in T who to h (wide l T st) may f)) lost joins (sums_fresh keeps g T.scopes T.tasks zero falls low lives l.width is_zero) in (
       record {
         allowed = a;
         made =
@@ -90,19 +95,22 @@ called_stands l m T who to s child r zero b st may blow f next num kind home par
                     next_scope = (let q = st.fit.next_scope in omega arith);
                     numbers = (let q = st.fit.numbers in let v = p.len in omega arith);
                     scopes =
-                        all_waits _ keeps (g ∷ T.scopes) (y ∷ T.tasks) who.task true m.scopes.items
+                        as_wide l.width m.width keeps (g ∷ T.scopes) (change_first (is_task who.task) waiting (y ∷ T.tasks)) m.scopes.items width
+                        (all_waits _ keeps (g ∷ T.scopes) (y ∷ T.tasks) who.task true m.scopes.items
                         (all_opened keeps g T.scopes T.tasks (y ∷ T.tasks) l.scopes.items m.scopes.items r (st.fit.numbers ∙ sym number) falls
                         (λ q n below old. join_other keeps (g ∷ T.scopes) T.tasks y q n (ap (is_number n) own ∙ ne_eqb s.0 n (λ v. absurd (omega arith))) (sums_further keeps g T.scopes T.tasks q n falls low lives old)) p
-                        (record_new keeps g T.scopes (y ∷ T.tasks) r new (same_places to (start from to) zero r.sums b (λ v. (lost v).0) joins ∙ is_zero2.places) mine) st.fit.scopes);
+                        (record_new keeps g T.scopes (y ∷ T.tasks) r new (same_places to (start from to) zero r.sums b (λ v. (lost v).0) joins ∙ is_zero.places) mine) st.fit.scopes));
+                    masked = masked_opened keeps g T.scopes l.scopes.items m.scopes.items r (st.fit.numbers ∙ sym number) falls lives (same_masked (start from to) zero r.sums b (λ v. (lost v).0) joins ∙ is_zero.masked) p st.fit.masked;
                   };
+              has_room = room_kept l m T (made_act T who.task (Calls s who.inner child from to [])) width refl st.has_room;
             };
       },
       dies,
     )
 
-pub call_ok : (T : Tree) (who : Caller) (to : PlaceId) (q : Sums) → Sound T → MayAskTo T who to → (f : Free T who IsMoving) → IsZero T.places q → (to.0 < 16) × MayJoin (start (place_number who.place) to) q
-call_ok T who to q h may f z =
+pub call_ok : {size : ℕ} (T : Tree) (who : Caller) (to : PlaceId) (q : Sums) → Sound T → T.places ≤ size → MayAskTo T who to → (f : Free T who IsMoving) → IsZero size q → (to.0 < 16) × MayJoin (start (place_number who.place) to) q
+call_ok {size = size} T who to q h le may f z =
     let w : Where = start (place_number who.place) to in
-    let none : count_in q w ≡ 0 = zero_count T.places q w z in
+    let none : count_in q w ≡ 0 = zero_count size q w z in
     let total : q.total ≡ 0 = z.total in
-    (to_low T who to h may, record { cell = zero_cell T.places q w z (started_in T who to h may f); count = (subst (λ (m : ℕ). m + 1 < 2 ^ 32) (sym none) (omega arith)); total = omega arith })
+    (to_low T who to h may, record { cell = zero_cell size q w z (started_in T who to h le may f); count = (subst (λ (m : ℕ). m + 1 < 2 ^ 32) (sym none) (omega arith)); total = omega arith })

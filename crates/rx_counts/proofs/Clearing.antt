@@ -67,5 +67,6 @@ nothing_is q z =
       counts = λ w. zero_count 0 q w z;
       total = z.total;
       orphans = z.orphans;
+      masked = z.masked;
       lost = λ p low. no_bit q.lost.0 p z.lost;
     }

@@ -126,6 +126,17 @@ sum_filter f q (x ∷ xs) h =
       | false ↦ λ k. let d : f x ≡ 0 = h.0 k in omega arith
     ]) refl
 
+-- the sum over those that pass
+pub sum_where : {X : Type 0} (f : X → ℕ) (q : X → Bool) (xs : List X) → sum_by f (filter q xs) ≡ sum_by (λ x. cond (q x) (f x) 0) xs
+sum_where f q [] = refl
+sum_where f q (x ∷ xs) =
+    let b = sum_by-cons (λ y. cond (q y) (f y) 0) x xs in
+    let c = sum_where f q xs in
+    (elim (q x) as (λ v. q x ≡ v → sum_by f (cond v (x ∷ filter q xs) (filter q xs)) ≡ sum_by (λ y. cond (q y) (f y) 0) (x ∷ xs)) [
+      | true ↦ λ k. let a = sum_by-cons f x (filter q xs) in let d : cond (q x) (f x) 0 ≡ f x = ap (λ v. cond v (f x) 0) k in omega arith
+      | false ↦ λ k. let d : cond (q x) (f x) 0 ≡ 0 = ap (λ v. cond v (f x) 0) k in omega arith
+    ]) refl
+
 pub sum_change : {X : Type 0} (f : X → ℕ) (q : X → Bool) (c : X → X) (xs : List X) → ((x : X) → f (c x) ≡ f x) → sum_by f (change_first q c xs) ≡ sum_by f xs
 sum_change f q c [] h = refl
 sum_change f q c (x ∷ xs) h =

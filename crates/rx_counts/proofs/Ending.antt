@@ -1,15 +1,16 @@
 -- A task ends.
-use Rattle.std.specs.Prelude.{◌≡◌, ℕ, Bool, true, cond, ◌==◌, List, ◌++◌, Option, Some, None, option_map, Ok, IfSome, refl}
+use Rattle.std.specs.Prelude.{◌≡◌, ℕ, Bool, true, cond, ◌==◌, List, ◌++◌, length, Option, Some, None, option_map, Ok, IfSome, refl}
 use Rattle.std.specs.List.{find}
 use Rattle.std.specs.Global.{Box}
 use Rattle.std.proofs.Common.{sym, ap, ◌∙◌, subst, ⊎_elim}
 use Rattle.std.proofs.lemmas.Bool.{eq-eqb, cases_eq}
 use Rattle.rx_base.specs.declared.values.Fault.{Fault}
 use Rattle.rx_base.specs.declared.ids.ScopeId.{ScopeId}
+use Rattle.rx_rules.specs.declared.tasks.Where.{Where}
 use Rattle.rx_rules.specs.declared.tasks.Scope.{Scope}
 use Rattle.rx_rules.specs.declared.entries.Act.TheVariants.{End}
 use Rattle.rx_rules.specs.Tree.{Tree, is_scope}
-use Rattle.rx_rules.specs.Entries.{change_first}
+use Rattle.rx_rules.specs.Entries.{change_first, made_act}
 use Rattle.rx_rules.specs.Reached.{acts}
 use Rattle.rx_sound.specs.Sound.{Sound}
 use Rattle.rx_sound.proofs.Reached.{sound}
@@ -24,8 +25,10 @@ use Rattle.rx_counts.specs.declared.record.Record.{Record}
 use Rattle.rx_counts.specs.declared.ledger.CountLedger.{CountLedger}
 use Rattle.rx_counts.specs.Keeping.{stands_home, keeper}
 use Rattle.rx_rules.specs.Counts.{has_number}
-use Rattle.rx_counts.specs.Stands.{in_sums, less, AllFit, Fit, StandsFor, record_at, Changed, ends_if}
-use Rattle.rx_counts.proofs.Asking.{unstruck_of, same_fit}
+use Rattle.rx_counts.specs.Stands.{MayLeave, in_sums, less, masking, AllFit, Fit, StandsFor, record_at, Changed, ends_if}
+use Rattle.rx_counts.proofs.Asking.{unstruck_of, same_fit, scope_kept, room_kept, as_wide}
+use Rattle.rx_counts.proofs.Joining.{all_masking, others}
+use Rattle.rx_counts.proofs.Masking.{masked_changed, masked_ended}
 use Rattle.rx_counts.proofs.Walks.{keeper_faulted, keeper_step}
 use Rattle.rx_counts.proofs.Arriving.{left_in}
 use Rattle.rx_counts.proofs.Faulting.{all_faulted}
@@ -42,6 +45,14 @@ changed_sums P f s k rs qs same c h =
     (λ (e : k ≡ s → ⊥). subst (λ o. IfSome o (λ r. P r.sums)) (sym (c.others k e)) h)
     (cases_eq k s)
 
+-- what is masked leaves the counts
+pub may_leave : (w : Where) (many k : ℕ) (rs qs : List (Option (Box Record))) → Changed (in_sums (masking many)) k rs qs → IfSome (record_at rs k) (λ r. MayLeave w r.sums) → IfSome (record_at qs k) (λ r. MayLeave w r.sums)
+may_leave w many k rs qs c h = subst (λ o. IfSome o (λ r. MayLeave w r.sums)) (sym c.here) (may_in (record_at rs k) h)
+  where
+    may_in : (o : Option Record) → IfSome o (λ r. MayLeave w r.sums) → IfSome (option_map (in_sums (masking many)) o) (λ r. MayLeave w r.sums)
+    may_in (Some r) m = record { cell = m.cell; count = m.count; total = m.total }
+    may_in None m = tt
+
 -- where the scope keeps counts it is its own keeper
 own_keeper : (T : Tree) (s : ScopeId) (g : Scope) (k : ℕ) → Sound T → find (has_number s.0) T.scopes ≡ Some g → stands_home T.dead g ≡ true → keeper (stands_home T.dead) T.scopes (Some s) ≡ Some k → k == s.0 ≡ true
 own_keeper T s g k h found live at =
@@ -50,16 +61,19 @@ own_keeper T s g k h found live at =
     let same : k ≡ s.0 = cc in
     eq-eqb k s.0 same
 
-pub ended : (l m : CountLedger) (T : Tree) (who : Caller) (thrown : List Fault) (k : ScopeId) (qs : List (Option (Box Record))) → StandsFor l T → MayAskEnd T who → (f : Free T who (IsBare T who)) → keeper (stands_home T.dead) T.scopes (Some who.scope) ≡ Some k.0 → m.places ≡ l.places → m.dead ≡ l.dead → m.next_task ≡ l.next_task → m.next_scope ≡ l.next_scope → Changed (ends_if (k.0 == who.scope.0) thrown) who.scope.0 l.scopes.items qs → Changed (in_sums (less who.place)) k.0 qs m.scopes.items → EndReply T who thrown (Ok tt) (StandsFor m)
-ended l m T who thrown k qs st may f at places dead next_task next_scope c d =
+pub ended : {room : ℕ} (l m : CountLedger) (T : Tree) (who : Caller) (thrown : List Fault) (k : ScopeId) (qs ps : List (Option (Box Record))) → StandsFor l room T → MayAskEnd T who → (f : Free T who (IsBare T who)) → keeper (stands_home T.dead) T.scopes (Some who.scope) ≡ Some k.0 → m.places ≡ l.places → m.width ≡ l.width → m.dead ≡ l.dead → m.next_task ≡ l.next_task → m.next_scope ≡ l.next_scope → Changed (ends_if (k.0 == who.scope.0) thrown) who.scope.0 l.scopes.items qs → Changed (in_sums (masking (cond (k.0 == who.scope.0) 0 (length thrown)))) k.0 qs ps → Changed (in_sums (less who.place)) k.0 ps m.scopes.items → EndReply T who thrown (Ok tt) (StandsFor m room)
+ended l m T who thrown k qs ps st may f at places width dead next_task next_scope c x d =
     let h : Sound T = sound st.reached in
     let keeps : Scope → Bool = stands_home T.dead in
     let a = end_allowed T who thrown st.reached may (unstruck_of T who (IsBare T who) f) in
     let is = ended_is T who (IsBare T who) thrown st.reached may (unstruck_of T who (IsBare T who) f) in
-    let first : AllFit T.places keeps (change_first (is_scope who.scope) (faulted (λ g. g.body) (λ g. g.ends ++ thrown)) T.scopes) T.tasks qs =
+    let noted : AllFit l.width keeps (change_first (is_scope who.scope) (faulted (λ g. g.body) (λ g. g.ends ++ thrown)) T.scopes) T.tasks qs =
     all_faulted (λ g. g.body) (λ g. g.ends ++ thrown) who.scope keeps (λ g. refl) _ T.scopes T.tasks (ends_if (k.0 == who.scope.0) thrown) l.scopes.items qs (λ r. (refl, refl, refl, refl, refl))
     (λ r g found live was. (was.0, ap (λ b. cond b (r.ends ++ thrown) r.ends) (own_keeper T who.scope g k.0 h found live at) ∙ ap (λ xs. xs ++ thrown) was.1)) c st.fit.scopes
     in
+    let first : AllFit l.width keeps (change_first (is_scope who.scope) (faulted (λ g. g.body) (λ g. g.ends ++ thrown)) T.scopes) T.tasks ps =
+    all_masking _ keeps (change_first (is_scope who.scope) (faulted (λ g. g.body) (λ g. g.ends ++ thrown)) T.scopes) T.tasks (cond (k.0 == who.scope.0) 0 (length thrown)) k.0 qs ps x noted in
+    let own = scope_kept l T who (IsBare T who) st f in
     let at2 = keeper_faulted (λ g. g.body) (λ g. g.ends ++ thrown) (is_scope who.scope) keeps (λ g. refl) T.scopes (Some who.scope) ∙ at in
     record {
       allowed = a;
@@ -73,9 +87,15 @@ ended l m T who thrown k qs st may f at places dead next_task next_scope c d =
                   dead = dead ∙ st.fit.dead;
                   next_task = next_task ∙ st.fit.next_task;
                   next_scope = next_scope ∙ st.fit.next_scope;
-                  numbers = d.len ∙ c.len ∙ st.fit.numbers;
-                  scopes = left_in _ T who (IsBare T who) keeps (change_first (is_scope who.scope) (faulted (λ g. g.body) (λ g. g.ends ++ thrown)) T.scopes) qs m.scopes.items k.0 h f at2 d first;
+                  numbers = d.len ∙ x.len ∙ c.len ∙ st.fit.numbers;
+                  scopes =
+                      as_wide l.width m.width keeps (change_first (is_scope who.scope) (faulted (λ g. g.body) (λ g. g.ends ++ thrown)) T.scopes) (others who.task T.tasks) m.scopes.items width
+                      (left_in _ T who (IsBare T who) keeps (change_first (is_scope who.scope) (faulted (λ g. g.body) (λ g. g.ends ++ thrown)) T.scopes) ps m.scopes.items k.0 h f at2 d first);
+                  masked =
+                      masked_changed keeps (change_first (is_scope who.scope) (faulted (λ g. g.body) (λ g. g.ends ++ thrown)) T.scopes) (in_sums (less who.place)) k.0 ps m.scopes.items (λ r. refl) d
+                      (masked_ended T.tasks keeps T.next_scope T.scopes who.scope own.scope thrown k.0 l.scopes.items qs ps (ends_if (k.0 == who.scope.0) thrown) h.falls h.opened (λ v. refl) own.stands at (λ r. refl) c x st.fit.masked);
                 });
+            has_room = room_kept l m T (made_act T who.task (End thrown)) width (ap (λ (v : Tree). v.places) is) st.has_room;
           };
     }
 
@@ -90,5 +110,5 @@ same_pointwise s rs qs c n =
     map_id (Some r) = refl
     map_id None = refl
 
-pub end_unchanged : (l m : CountLedger) (T : Tree) (who : Caller) → StandsFor l T → m.places ≡ l.places → m.dead ≡ l.dead → m.next_task ≡ l.next_task → m.next_scope ≡ l.next_scope → Changed (λ r. r) who.scope.0 l.scopes.items m.scopes.items → StandsFor m T
-end_unchanged l m T who st places dead next_task next_scope c = record { reached = st.reached; fit = same_fit l m T st.fit places dead next_task next_scope c.len (same_pointwise who.scope.0 l.scopes.items m.scopes.items c) }
+pub end_unchanged : {room : ℕ} (l m : CountLedger) (T : Tree) (who : Caller) → StandsFor l room T → m.places ≡ l.places → m.width ≡ l.width → m.dead ≡ l.dead → m.next_task ≡ l.next_task → m.next_scope ≡ l.next_scope → Changed (λ r. r) who.scope.0 l.scopes.items m.scopes.items → StandsFor m room T
+end_unchanged l m T who st places width dead next_task next_scope c = record { reached = st.reached; fit = same_fit l m T st.fit places width dead next_task next_scope c.len (same_pointwise who.scope.0 l.scopes.items m.scopes.items c); has_room = room_kept l m T T width refl st.has_room }

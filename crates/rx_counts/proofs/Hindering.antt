@@ -1,5 +1,5 @@
 -- What a release names, and what hinders it.
-use Rattle.std.specs.Prelude.{◌≡◌, ℕ, zero, suc, ◌<◌, ◌≤◌, ◌%◌, Bool, true, false, cond, ◌||◌, ◌&&◌, ◌==◌, not, List, [], ◌∷◌, ◌++◌, Some, None, is_none, length, slice_index_or, count_by, filter, refl}
+use Rattle.std.specs.Prelude.{◌≡◌, ℕ, zero, suc, ◌<◌, ◌≤◌, ◌%◌, Bool, true, false, cond, ◌||◌, ◌&&◌, ◌==◌, not, List, [], ◌∷◌, ◌++◌, Some, None, IfSome, is_none, length, slice_index_or, count_by, filter, refl}
 use Rattle.std.specs.List.{list_any}
 use Rattle.std.proofs.Common.{sym, ap, ◌∙◌, subst, arith}
 use Rattle.std.proofs.lemmas.Bool.{eq-eqb, ne_eqb, true≢false, and_parts, and_from, or_left, or_right, lt-ltb, not-false}
@@ -13,7 +13,7 @@ use Rattle.rx_rules.specs.declared.tasks.Where.TheVariants.{At, Travel}
 use Rattle.rx_rules.specs.declared.tasks.Task.{Task}
 use Rattle.rx_rules.specs.declared.tasks.Scope.{Scope}
 use Rattle.rx_rules.specs.Tree.{Tree, is_under, quiet}
-use Rattle.rx_rules.specs.Entries.{was_lost_at, lost_under, thrown_of}
+use Rattle.rx_rules.specs.Entries.{was_lost_at, lost_under, masked_under, thrown_of}
 use Rattle.rx_sound.specs.Sound.{Each, Sound}
 use Rattle.rx_sound.proofs.Changes.{each_found, each_more}
 use Rattle.rx_sound.proofs.Below.{found_any}
@@ -23,7 +23,7 @@ use Rattle.rx_finish.specs.Calls.{IsHindered, landing}
 use Rattle.rx_counts.specs.declared.record.Sums.{Sums}
 use Rattle.rx_counts.specs.declared.record.Record.{Record}
 use Rattle.rx_counts.specs.declared.ledger.CountLedger.{CountLedger}
-use Rattle.rx_counts.specs.Keeping.{stands_home, kept_at, same_where, count_of, total_of, orphans_of}
+use Rattle.rx_counts.specs.Keeping.{stands_home, kept_at, same_where, count_of, total_of, orphans_of, masked_of}
 use Rattle.rx_counts.specs.Stands.{slot, SumsOf, StandsFor, record_at, count_in}
 use Rattle.rx_counts.specs.Inside.Freeing.{IsLast, Hides}
 use Rattle.rx_counts.proofs.Counting.{one, each_part, any_counted}
@@ -33,6 +33,7 @@ use Rattle.rx_counts.proofs.Joining.{counted_cell}
 use Rattle.rx_counts.proofs.Slots.{unslot, slot_of_unslot, unslot_landing}
 use Rattle.rx_counts.proofs.Asking.{Kept}
 use Rattle.rx_counts.proofs.Readying.{last_kept, total_quiet}
+use Rattle.rx_counts.proofs.Stopping.{masked_named}
 
 pub any_more : {X : Type 0} (p q : X → Bool) (xs : List X) → ((x : X) → p x ≡ true → q x ≡ true) → list_any p xs ≡ true → list_any q xs ≡ true
 any_more p q [] f h = h
@@ -86,11 +87,11 @@ by_cell T s q p i sums low up by_place =
     (by_place ∙ sym (unslot_landing q.places i))
 
 -- so a place is found that hinders
-pub hindered : (l : CountLedger) (T : Tree) (s : ScopeId) (r : Record) (p : PlaceId) → StandsFor l T → IsLast T s → record_at l.scopes.items s.0 ≡ Some r → 0 < r.sums.total → Hides r.sums.places r.sums.counts p → IsHindered T s p
+pub hindered : {room : ℕ} (l : CountLedger) (T : Tree) (s : ScopeId) (r : Record) (p : PlaceId) → StandsFor l room T → IsLast T s → record_at l.scopes.items s.0 ≡ Some r → 0 < r.sums.total → Hides r.sums.places r.sums.counts p → IsHindered T s p
 hindered l T s r p st i e pos hides =
     let h : Sound T = sound st.reached in
     let keeps : Scope → Bool = stands_home T.dead in
-    let k : Kept T l.scopes.items s.0 = last_kept l T s st i in
+    let k : Kept l.width T l.scopes.items s.0 = last_kept l T s st i in
     let same : k.kept ≡ r = (let f = k.found in cc) in
     let sums : SumsOf keeps T.scopes T.tasks r.sums s.0 = subst (λ (v : Record). SumsOf keeps T.scopes T.tasks v.sums s.0) same (subst (SumsOf keeps T.scopes T.tasks k.kept.sums) k.number k.fits.sums) in
     let cell = some_cell T keeps r s.0 h sums pos in
@@ -136,13 +137,14 @@ pub record Outcomes (T : Tree) (s : ScopeId) (r : Record) : Type 0 where
   pub still : quiet T s ≡ true
   pub places : members r.sums.lost ≡ lost_under T s
   pub faults : r.body ++ r.ends ≡ thrown_of T s
+  pub masked : r.sums.masked ≡ masked_under T s
   pub orphans : r.sums.orphans ≡ orphans_of (stands_home T.dead) T.scopes s.0
 
-pub outcome : (l : CountLedger) (T : Tree) (s : ScopeId) (r : Record) → StandsFor l T → IsLast T s → record_at l.scopes.items s.0 ≡ Some r → r.sums.total ≡ 0 → Outcomes T s r
+pub outcome : {room : ℕ} (l : CountLedger) (T : Tree) (s : ScopeId) (r : Record) → StandsFor l room T → IsLast T s → record_at l.scopes.items s.0 ≡ Some r → r.sums.total ≡ 0 → Outcomes T s r
 outcome l T s r st i e zero_total =
     let h : Sound T = sound st.reached in
     let keeps : Scope → Bool = stands_home T.dead in
-    let k : Kept T l.scopes.items s.0 = last_kept l T s st i in
+    let k : Kept l.width T l.scopes.items s.0 = last_kept l T s st i in
     let same : k.kept ≡ r = (let f = k.found in cc) in
     let sums : SumsOf keeps T.scopes T.tasks r.sums s.0 = subst (λ (v : Record). SumsOf keeps T.scopes T.tasks v.sums s.0) same (subst (SumsOf keeps T.scopes T.tasks k.kept.sums) k.number k.fits.sums) in
     let still : quiet T s ≡ true = sym (total_quiet l T s r st i e) ∙ eq-eqb r.sums.total 0 zero_total in
@@ -152,14 +154,15 @@ outcome l T s r st i e zero_total =
       still = still;
       places = filter_same (has_bit r.sums.lost.0) (λ p. list_any (λ x. is_under T s x && was_lost_at p x) T.tasks) all_places (each_more (λ (p : ℕ). p < 16) _ (λ (p : ℕ) low. sums.lost p low ∙ sym (lost_named T s h i still p)) all_places places_low);
       faults = ap (λ xs. xs ++ r.ends) (faults.0 ∙ ap (λ (v : Scope). v.body) is) ∙ ap (λ xs. i.scope.body ++ xs) (faults.1 ∙ ap (λ (v : Scope). v.ends) is) ∙ sym (let q : thrown_of T s ≡ i.scope.body ++ i.scope.ends = rw (i.stands, thrown_of) in q);
+      masked = subst (λ o. IfSome o (λ v. v.sums.masked ≡ masked_of keeps T.scopes s.0)) e (st.fit.masked s.0) ∙ sym (masked_named T s h i still);
       orphans = sums.orphans;
     }
 
-pub not_missing : (l : CountLedger) (T : Tree) (s : ScopeId) → StandsFor l T → IsLast T s → record_at l.scopes.items s.0 ≡ None → ⊥
+pub not_missing : {room : ℕ} (l : CountLedger) (T : Tree) (s : ScopeId) → StandsFor l room T → IsLast T s → record_at l.scopes.items s.0 ≡ None → ⊥
 not_missing l T s st i e = let f = (last_kept l T s st i).found in cc
 
 -- the total of such a record tells that it is quiet
-pub quiet_now : (l : CountLedger) (T : Tree) (s : ScopeId) (r : Record) → StandsFor l T → IsLast T s → record_at l.scopes.items s.0 ≡ Some r → r.sums.total ≡ 0 → quiet T s ≡ true
+pub quiet_now : {room : ℕ} (l : CountLedger) (T : Tree) (s : ScopeId) (r : Record) → StandsFor l room T → IsLast T s → record_at l.scopes.items s.0 ≡ Some r → r.sums.total ≡ 0 → quiet T s ≡ true
 quiet_now l T s r st i e z = (outcome l T s r st i e z).still
 
 pub zero_of : (n : ℕ) → n ≤ 0 → n ≡ 0

@@ -22,7 +22,7 @@ use Rattle.rx_counts.specs.Keeping.{keeper, is_number, kept_at, same_where}
 use Rattle.rx_base.specs.Sets.{has_bit}
 use Rattle.rx_base.proofs.Elements.{find-passes}
 use Rattle.rx_rules.specs.Counts.{has_number}
-use Rattle.rx_counts.specs.Stands.{table_size, is_inside, slot, HasCell, MayLeave, ShapeOf, SumsOf, RecordOf, Both, AllFit, record_at, count_in, more, less, in_sums, with_lost, Changed, ChangedBy, Pairs, Loses}
+use Rattle.rx_counts.specs.Stands.{table_size, is_inside, slot, HasCell, MayLeave, ShapeOf, SumsOf, RecordOf, Both, AllFit, record_at, count_in, more, less, masking, in_sums, with_lost, Changed, ChangedBy, Pairs, Loses}
 use Rattle.rx_counts.proofs.Counting.{one, count_cons, count_change, count_filter, any_counted, sum_change}
 use Rattle.rx_counts.proofs.Telling.{same_self}
 use Rattle.rx_counts.proofs.Slots.{has_place, same_slot, slot_same, slot_below, cell_of}
@@ -235,6 +235,10 @@ sums_same keeps gs ts us q n same h =
       lost = λ p low. h.lost p low ∙ any_counted _ ts ∙ ap (ltb 0) (same _) ∙ sym (any_counted _ us);
     }
 
+-- what is masked is not counted
+pub sums_masking : (keeps : Scope → Bool) (gs : List Scope) (ts : List Task) (q : Sums) (n many : ℕ) → SumsOf keeps gs ts q n → SumsOf keeps gs ts (masking many q) n
+sums_masking keeps gs ts q n many h = record { cells = h.cells; counts = h.counts; total = h.total; orphans = h.orphans; lost = h.lost }
+
 -- All records.
 
 pub both_map : (P Q : Record → Scope → Type 0) (f : Record → Record) (a : Option Record) (b : Option Scope) → ((r : Record) (g : Scope) → a ≡ Some r → b ≡ Some g → P r g → Q (f r) g) → Both P a b → Both Q (option_map f a) b
@@ -310,6 +314,9 @@ all_sums size keeps gs ts us f k rs qs same here other c h =
     (λ r g kept e a. record { shape = record { kind = a.shape.kind; home = a.shape.home; parent = a.shape.parent; finish = a.shape.finish }; sums = subst (SumsOf keeps gs us (f r.sums)) (sym e) (here r kept (subst (SumsOf keeps gs ts r.sums) e a.sums)); faults = a.faults; places = λ v. same r.sums ∙ a.places v })
     (λ r g e a. record { shape = a.shape; sums = other r.sums g.number.0 e a.sums; faults = a.faults; places = a.places })
     c h
+
+pub all_masking : (size : ℕ) (keeps : Scope → Bool) (gs : List Scope) (ts : List Task) (many k : ℕ) (rs qs : List (Option (Box Record))) → Changed (in_sums (masking many)) k rs qs → AllFit size keeps gs ts rs → AllFit size keeps gs ts qs
+all_masking size keeps gs ts many k rs qs c h = all_sums size keeps gs ts ts (masking many) k rs qs (λ q. refl) (λ r kept a. sums_masking keeps gs ts r.sums k many a) (λ q n e a. a) c h
 
 pub all_join : (size : ℕ) (keeps : Scope → Bool) (gs : List Scope) (ts : List Task) (y : Task) (k : ℕ) (rs qs : List (Option (Box Record))) → keeper keeps gs (Some y.under) ≡ Some k → y.struck ≡ None → IfSome (record_at rs k) (λ r. HasCell y.place r.sums) → Changed (in_sums (more y.place)) k rs qs → AllFit size keeps gs ts rs → AllFit size keeps gs (y ∷ ts) qs
 all_join size keeps gs ts y k rs qs at free cell c h =

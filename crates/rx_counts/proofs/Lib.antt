@@ -20,6 +20,7 @@ pub mod Ending
 pub mod Hindering
 pub mod Released
 pub mod Stopping
+pub mod Masking
 pub mod Sweeping
 pub mod Outgoing
 pub mod Clearing
@@ -31,3 +32,4 @@ pub mod Beginning
 pub mod Counts
 pub mod Adopting
 pub mod Nested
+pub mod Joins

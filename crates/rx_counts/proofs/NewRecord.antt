@@ -49,7 +49,7 @@ held_further w keeps g gs n f k =
     ∙ sum_same (λ k. cond (is_orphan keeps (g ∷ gs) n k) (w k) 0) (λ k. cond (is_orphan keeps gs n k) (w k) 0) gs
     (each_more (λ k. k.number.0 < g.number.0) _ (λ (x : Scope) low. ap (λ o. cond (not (keeps x) && is_number n o) (w x) 0) (keeper_skips keeps g gs x.number low)) gs (each_below g.number.0 gs f))
 
-held_new : (w : Scope → ℕ) (keeps : Scope → Bool) (g : Scope) (gs : List Scope) → Falls g.number.0 gs → keeps g ≡ true → held w keeps (g ∷ gs) g.number.0 ≡ 0
+pub held_new : (w : Scope → ℕ) (keeps : Scope → Bool) (g : Scope) (gs : List Scope) → Falls g.number.0 gs → keeps g ≡ true → held w keeps (g ∷ gs) g.number.0 ≡ 0
 held_new w keeps g gs f k =
     head_held w keeps g gs g.number.0 k
     ∙ sum_none (λ k. cond (is_orphan keeps (g ∷ gs) g.number.0 k) (w k) 0) gs

@@ -1,5 +1,5 @@
 -- One turn of the hand-over.
-use Rattle.std.specs.Prelude.{◌≡◌, ℕ, ◌<◌, ◌≤◌, ◌+◌, ◌^◌, Bool, true, false, cond, ◌&&◌, ◌==◌, not, ltb, List, [], ◌∷◌, Option, Some, None, is_none, is_some, slice_index_or, length, IfSome, refl}
+use Rattle.std.specs.Prelude.{◌≡◌, ℕ, ◌<◌, ◌≤◌, ◌+◌, ◌^◌, Bool, true, false, cond, ◌&&◌, ◌==◌, not, ltb, List, [], ◌∷◌, ◌++◌, Option, Some, None, is_none, is_some, slice_index_or, length, IfSome, refl}
 use Rattle.std.specs.List.{find}
 use Rattle.std.specs.Global.{Box}
 use Rattle.std.proofs.Common.{sym, ap, ◌∙◌, subst, arith, ⊎_elim}
@@ -18,15 +18,16 @@ use Rattle.rx_sound.proofs.Changes.{each_found, each_more}
 use Rattle.rx_sound.proofs.Releasing.{each_none, each_below}
 use Rattle.rx_counts.specs.declared.record.Sums.{Sums}
 use Rattle.rx_counts.specs.declared.record.Record.{Record}
-use Rattle.rx_counts.specs.Keeping.{stands_home, keeper, is_number, kept_at, same_where, count_of, is_orphan}
+use Rattle.rx_counts.specs.Keeping.{stands_home, keeper, is_number, kept_at, same_where, count_of, is_orphan, faults_in}
 use Rattle.rx_rules.specs.Counts.{has_number}
-use Rattle.rx_counts.specs.Stands.{table_size, slot, ShapeOf, SumsOf, RecordOf, AllFit, ChangedBy, IsShaped, record_at}
-use Rattle.rx_counts.specs.Inside.Dying.{Emptied, Gained, MayGain, given_until, Passing, parent_there}
+use Rattle.rx_counts.specs.Stands.{table_size, slot, ShapeOf, SumsOf, RecordOf, Both, AllFit, AllMasked, ChangedBy, IsShaped, record_at}
+use Rattle.rx_counts.specs.Inside.Dying.{Emptied, Gained, MayGain, given_by, given_until, Passing, parent_there}
 use Rattle.rx_counts.proofs.HandOver.{but, heir, never_but, count_heir, keeper_keeps}
 use Rattle.rx_counts.proofs.Handing.{all_hand, all_keeps, orphans_heir}
 use Rattle.rx_counts.proofs.Walks.{keeper_step, keeper_low, keeper_stands, keeper_exists, OlderThan}
 use Rattle.rx_counts.proofs.Shapes.{both_found, shape_in, walk_older}
-use Rattle.rx_counts.proofs.Joining.{both_more, number_is}
+use Rattle.rx_counts.proofs.Joining.{both_more, number_is, sums_masking}
+use Rattle.rx_counts.proofs.Masking.{masked_hand, masked_keeps}
 use Rattle.rx_counts.proofs.Slots.{unslot, slot_of_unslot}
 use Rattle.rx_counts.proofs.Asking.{below_length}
 
@@ -82,8 +83,8 @@ shaped_by size T keeps rs qs h fit =
     }
 
 -- the next turn, where the records fit it
-next_turn : (T : Tree) (keeps : Scope → Bool) (dead : List (Option ℕ)) (d : PlaceId) (i : ℕ) (rs qs : List (Option (Box Record))) → Passing T keeps dead d i rs → AllFit T.places (given_until keeps d (i + 1)) T.scopes T.tasks qs → Passing T keeps dead d (i + 1) qs
-next_turn T keeps dead d i rs qs p fit =
+next_turn : {size : ℕ} (T : Tree) (keeps : Scope → Bool) (dead : List (Option ℕ)) (d : PlaceId) (i : ℕ) (rs qs : List (Option (Box Record))) → Passing size T keeps dead d i rs → AllFit size (given_until keeps d (i + 1)) T.scopes T.tasks qs → AllMasked (given_until keeps d (i + 1)) T.scopes qs → Passing size T keeps dead d (i + 1) qs
+next_turn T keeps dead d i rs qs p fit masked =
     record {
       shaped = shaped_by _ T (given_until keeps d (i + 1)) rs qs p.shaped fit;
       after = p.after;
@@ -93,11 +94,12 @@ next_turn T keeps dead d i rs qs p fit =
       few_tasks = p.few_tasks;
       few_scopes = p.few_scopes;
       fit = fit;
+      masked = masked;
     }
 
 -- Where no scope of this number has the home.
 
-homeless : (T : Tree) (keeps : Scope → Bool) (dead : List (Option ℕ)) (d : PlaceId) (i : ℕ) (rs : List (Option (Box Record))) → Passing T keeps dead d i rs → parent_there d (record_at rs i) ≡ None → (g : Scope) → find (has_number i) T.scopes ≡ Some g → g.home.0 == d.0 ≡ false
+homeless : {size : ℕ} (T : Tree) (keeps : Scope → Bool) (dead : List (Option ℕ)) (d : PlaceId) (i : ℕ) (rs : List (Option (Box Record))) → Passing size T keeps dead d i rs → parent_there d (record_at rs i) ≡ None → (g : Scope) → find (has_number i) T.scopes ≡ Some g → g.home.0 == d.0 ≡ false
 homeless T keeps dead d i rs p none g found =
     let q = both_found (ShapeOf T.scopes) (record_at rs i) (find (has_number i) T.scopes) g (p.shaped.shapes i) found in
     (elim (g.home.0 == d.0) as (λ b. g.home.0 == d.0 ≡ b → b ≡ false) [
@@ -111,11 +113,12 @@ homeless T keeps dead d i rs p none g found =
       | false ↦ λ e. refl
     ]) refl
 
-pub passes_by : (T : Tree) (keeps : Scope → Bool) (dead : List (Option ℕ)) (d : PlaceId) (i : ℕ) (rs : List (Option (Box Record))) → Passing T keeps dead d i rs → parent_there d (record_at rs i) ≡ None → Passing T keeps dead d (i + 1) rs
+pub passes_by : {size : ℕ} (T : Tree) (keeps : Scope → Bool) (dead : List (Option ℕ)) (d : PlaceId) (i : ℕ) (rs : List (Option (Box Record))) → Passing size T keeps dead d i rs → parent_there d (record_at rs i) ≡ None → Passing size T keeps dead d (i + 1) rs
 passes_by T keeps dead d i rs p none =
     let same : Each (λ k. given_until keeps d i k ≡ given_until keeps d (i + 1) k) T.scopes = each_more (λ k. k.number.0 ≡ i → k.home.0 == d.0 ≡ false) (λ k. given_until keeps d i k ≡ given_until keeps d (i + 1) k) (λ (k : Scope) h. until_same keeps d i k h) T.scopes (each_at i T.next_scope (λ k. k.home.0 == d.0 ≡ false) T.scopes p.shaped.falls (homeless T keeps dead d i rs p none)) in
     next_turn T keeps dead d i rs rs p
     (all_keeps _ (given_until keeps d i) (given_until keeps d (i + 1)) T.scopes T.tasks rs same (λ n k found. each_found (λ k. given_until keeps d i k ≡ given_until keeps d (i + 1) k) (has_number n) T.scopes k same found) p.fit)
+    (masked_keeps (given_until keeps d i) (given_until keeps d (i + 1)) T.scopes rs same p.masked)
 
 -- Where one has.
 
@@ -131,6 +134,7 @@ pub record Hands (T : Tree) (keeps : Scope → Bool) (d : PlaceId) (i a : ℕ) (
   pub from : Record
   pub has_from : record_at rs i ≡ Some from
   pub scope : Scope
+  pub faults : length (from.body ++ from.ends) ≡ faults_in scope
   pub found : find (has_number i) T.scopes ≡ Some scope
   pub heir_scope : Scope
   pub found_heir : find (has_number a) T.scopes ≡ Some heir_scope
@@ -141,7 +145,7 @@ pub record Hands (T : Tree) (keeps : Scope → Bool) (d : PlaceId) (i a : ℕ) (
 abbrev number_id : ℕ → ScopeId
 number_id n = record { 0 = n }
 
-hands_to : (T : Tree) (keeps : Scope → Bool) (dead : List (Option ℕ)) (d : PlaceId) (i : ℕ) (rs : List (Option (Box Record))) (u : ScopeId) (g : Scope) → Passing T keeps dead d i rs → find (has_number i) T.scopes ≡ Some g → g.parent ≡ Some u → u.0 < i → heir (given_until keeps d i) T.scopes (number_id i) ≡ keeper (stands_home dead) T.scopes (Some u)
+hands_to : {size : ℕ} (T : Tree) (keeps : Scope → Bool) (dead : List (Option ℕ)) (d : PlaceId) (i : ℕ) (rs : List (Option (Box Record))) (u : ScopeId) (g : Scope) → Passing size T keeps dead d i rs → find (has_number i) T.scopes ≡ Some g → g.parent ≡ Some u → u.0 < i → heir (given_until keeps d i) T.scopes (number_id i) ≡ keeper (stands_home dead) T.scopes (Some u)
 hands_to T keeps dead d i rs u g p found parent older =
     let h : ScopeId = number_id i in
     let K : Scope → Bool = given_until keeps d i in
@@ -157,8 +161,11 @@ hands_to T keeps dead d i rs u g p found parent older =
     low_all [] = tt
     low_all (k ∷ ks) = (λ lt. but_low keeps d i (number_id i) k refl lt ∙ sym (p.after k), low_all ks)
 
-pub hands : (T : Tree) (keeps : Scope → Bool) (dead : List (Option ℕ)) (d : PlaceId) (i : ℕ) (rs : List (Option (Box Record))) (u a : ScopeId) → Passing T keeps dead d i rs → parent_there d (record_at rs i) ≡ Some u → keeper (stands_home dead) T.scopes (Some u) ≡ Some a.0 → Hands T keeps d i a.0 rs (number_id i)
-hands T keeps dead d i rs u a p e at =
+both_as : (P : Record → Scope → Type 0) (o : Option Record) (b : Option Scope) (r : Record) (g : Scope) → o ≡ Some r → b ≡ Some g → Both P o b → P r g
+both_as P o b r g e k h = subst (λ v. Both P (Some r) v) k (subst (λ v. Both P v b) e h)
+
+pub hands : {size : ℕ} (T : Tree) (keeps : Scope → Bool) (dead : List (Option ℕ)) (d : PlaceId) (i : ℕ) (rs : List (Option (Box Record))) (u a : ScopeId) → Passing size T keeps dead d i rs → parent_there d (record_at rs i) ≡ Some u → keeper (stands_home dead) T.scopes (Some u) ≡ Some a.0 → Hands T keeps d i a.0 rs (number_id i)
+hands {size = size} T keeps dead d i rs u a p e at =
     let t = there d (record_at rs i) u e in
     let k = shape_in T rs (number_id i) t.0 p.shaped t.1 in
     let home : k.0.home.0 == d.0 ≡ true = sym (ap (λ (v : PlaceId). v.0 == d.0) k.2.home) ∙ t.2 in
@@ -166,6 +173,8 @@ hands T keeps dead d i rs u a p e at =
     let older : u.0 < i = subst (OlderThan i) t.3 (walk_older T rs (number_id i) t.0 p.shaped t.1) in
     let num : k.0.number.0 ≡ i = number_is i T.scopes k.0 k.1 in
     let ga = some-of (find (has_number a.0) T.scopes) (keeper_stands (stands_home dead) a.0 T.scopes (Some u) at) in
+    let kept : given_until keeps d i k.0 ≡ true = ap (λ b. b && not ((k.0.home.0 == d.0) && ltb k.0.number.0 i)) (p.lived k.0 home) ∙ ap (λ b. not ((k.0.home.0 == d.0) && b)) (le-ltb k.0.number.0 i (omega arith)) ∙ ap not (and-false (k.0.home.0 == d.0)) in
+    let fits : RecordOf size (given_until keeps d i) T.scopes T.tasks t.0 k.0 = both_as (RecordOf size (given_until keeps d i) T.scopes T.tasks) (record_at rs i) (find (has_number i) T.scopes) t.0 k.0 t.1 k.1 (p.fit i) in
     record {
       from = t.0;
       has_from = t.1;
@@ -174,39 +183,42 @@ hands T keeps dead d i rs u a p e at =
       heir_scope = ga.0;
       found_heir = ga.1;
       home = home;
-      kept = ap (λ b. b && not ((k.0.home.0 == d.0) && ltb k.0.number.0 i)) (p.lived k.0 home) ∙ ap (λ b. not ((k.0.home.0 == d.0) && b)) (le-ltb k.0.number.0 i (omega arith)) ∙ ap not (and-false (k.0.home.0 == d.0));
+      kept = kept;
+      faults = ap (λ xs. length (xs ++ t.0.ends)) (fits.faults kept).0 ∙ ap (λ xs. length (k.0.body ++ xs)) (fits.faults kept).1;
       is_heir = hands_to T keeps dead d i rs u k.0 p k.1 parent older ∙ at;
     }
 
-pub passes_hand : (T : Tree) (keeps : Scope → Bool) (dead : List (Option ℕ)) (d : PlaceId) (i : ℕ) (rs ps qs : List (Option (Box Record))) (u a : ScopeId) (given : Sums) → Passing T keeps dead d i rs → parent_there d (record_at rs i) ≡ Some u → keeper (stands_home dead) T.scopes (Some u) ≡ Some a.0 → IfSome (record_at rs i) (λ r. given ≡ r.sums) → ChangedBy Emptied i rs ps → ChangedBy (Gained given) a.0 ps qs → Passing T keeps dead d (i + 1) qs
+pub passes_hand : {size : ℕ} (T : Tree) (keeps : Scope → Bool) (dead : List (Option ℕ)) (d : PlaceId) (i : ℕ) (rs ps qs : List (Option (Box Record))) (u a : ScopeId) (given : Sums) → Passing size T keeps dead d i rs → parent_there d (record_at rs i) ≡ Some u → keeper (stands_home dead) T.scopes (Some u) ≡ Some a.0 → IfSome (record_at rs i) (λ r. given ≡ given_by r) → ChangedBy Emptied i rs ps → ChangedBy (Gained given) a.0 ps qs → Passing size T keeps dead d (i + 1) qs
 passes_hand T keeps dead d i rs ps qs u a given p e at took emptied gained =
     let h : Hands T keeps d i a.0 rs (number_id i) = hands T keeps dead d i rs u a p e at in
     let same : Each (λ k. but (number_id i) (given_until keeps d i) k ≡ given_until keeps d (i + 1) k) T.scopes = each_more (λ k. k.number.0 ≡ i → k.home.0 == d.0 ≡ true) (λ k. but (number_id i) (given_until keeps d i) k ≡ given_until keeps d (i + 1) k) (λ (k : Scope) v. but_next keeps d i (number_id i) k refl v) T.scopes (each_at i T.next_scope (λ k. k.home.0 == d.0 ≡ true) T.scopes p.shaped.falls (λ g found. let f = h.found in let is : h.scope ≡ g = cc in subst (λ (v : Scope). v.home.0 == d.0 ≡ true) is h.home)) in
     next_turn T keeps dead d i rs qs p
     (all_keeps _ (but (number_id i) (given_until keeps d i)) (given_until keeps d (i + 1)) T.scopes T.tasks qs same (λ n k found. each_found (λ k. but (number_id i) (given_until keeps d i) k ≡ given_until keeps d (i + 1) k) (has_number n) T.scopes k same found)
     (all_hand _ (given_until keeps d i) (number_id i) a.0 T.next_scope T.scopes T.tasks rs ps qs given h.scope h.heir_scope p.shaped.falls h.found h.found_heir h.kept h.is_heir took emptied gained p.fit))
+    (masked_keeps (but (number_id i) (given_until keeps d i)) (given_until keeps d (i + 1)) T.scopes qs same
+    (masked_hand (given_until keeps d i) (number_id i) a.0 T.next_scope T.scopes rs ps qs given h.scope h.from p.shaped.falls h.found h.kept h.is_heir h.has_from h.faults (subst (λ o. IfSome o (λ r. given ≡ given_by r)) h.has_from took) emptied gained p.masked))
 
 -- there is always an heir
-pub heir_exists : (T : Tree) (keeps : Scope → Bool) (dead : List (Option ℕ)) (d : PlaceId) (i : ℕ) (rs : List (Option (Box Record))) (u : ScopeId) → Passing T keeps dead d i rs → parent_there d (record_at rs i) ≡ Some u → is_some (keeper (stands_home dead) T.scopes (Some u)) ≡ true
+pub heir_exists : {size : ℕ} (T : Tree) (keeps : Scope → Bool) (dead : List (Option ℕ)) (d : PlaceId) (i : ℕ) (rs : List (Option (Box Record))) (u : ScopeId) → Passing size T keeps dead d i rs → parent_there d (record_at rs i) ≡ Some u → is_some (keeper (stands_home dead) T.scopes (Some u)) ≡ true
 heir_exists T keeps dead d i rs u p e =
     let t = there d (record_at rs i) u e in
     let k = shape_in T rs (number_id i) t.0 p.shaped t.1 in
     keeper_exists (stands_home dead) T.scopes (Some u) p.root (parent_rooted T.tasks (has_number i) T.next_scope T.scopes k.0 u p.shaped.falls p.shaped.opened k.1 (sym k.2.parent ∙ t.3))
 
 -- the sums of both fit
-pub pour_ok : (T : Tree) (keeps : Scope → Bool) (dead : List (Option ℕ)) (d : PlaceId) (i : ℕ) (rs ps : List (Option (Box Record))) (u a : ScopeId) (given : Sums) → Passing T keeps dead d i rs → parent_there d (record_at rs i) ≡ Some u → keeper (stands_home dead) T.scopes (Some u) ≡ Some a.0 → IfSome (record_at rs i) (λ r. given ≡ r.sums) → ChangedBy Emptied i rs ps → (a.0 < length ps) × IfSome (record_at ps a.0) (MayGain given)
-pour_ok T keeps dead d i rs ps u a given p e at took emptied =
+pub pour_ok : {size : ℕ} (T : Tree) (keeps : Scope → Bool) (dead : List (Option ℕ)) (d : PlaceId) (i : ℕ) (rs ps : List (Option (Box Record))) (u a : ScopeId) (given : Sums) → Passing size T keeps dead d i rs → parent_there d (record_at rs i) ≡ Some u → keeper (stands_home dead) T.scopes (Some u) ≡ Some a.0 → IfSome (record_at rs i) (λ r. given ≡ given_by r) → ChangedBy Emptied i rs ps → (a.0 < length ps) × IfSome (record_at ps a.0) (MayGain given)
+pour_ok {size = size} T keeps dead d i rs ps u a given p e at took emptied =
     let h : Hands T keeps d i a.0 rs (number_id i) = hands T keeps dead d i rs u a p e at in
     let K : Scope → Bool = given_until keeps d i in
     let n : ℕ = T.next_scope in
     let apart : a.0 ≡ i → ⊥ = λ v. true≢false (sym (ap (is_number i) h.is_heir ∙ eq-eqb a.0 i v) ∙ never_but K (number_id i) T.scopes (Some (number_id i))) in
     let is : is_number a.0 (heir K T.scopes (number_id i)) ≡ true = ap (is_number a.0) h.is_heir ∙ eq-eqb a.0 a.0 refl in
-    let giver = both_found (RecordOf T.places K T.scopes T.tasks) (record_at rs i) (find (has_number i) T.scopes) h.scope (p.fit i) h.found in
-    let taker = both_found (RecordOf T.places K T.scopes T.tasks) (record_at rs a.0) (find (has_number a.0) T.scopes) h.heir_scope (p.fit a.0) h.found_heir in
-    let is_given : given ≡ giver.0.sums = subst (λ o. IfSome o (λ r. given ≡ r.sums)) giver.1 took in
+    let giver = both_found (RecordOf size K T.scopes T.tasks) (record_at rs i) (find (has_number i) T.scopes) h.scope (p.fit i) h.found in
+    let taker = both_found (RecordOf size K T.scopes T.tasks) (record_at rs a.0) (find (has_number a.0) T.scopes) h.heir_scope (p.fit a.0) h.found_heir in
+    let is_given : given ≡ given_by giver.0 = subst (λ o. IfSome o (λ r. given ≡ given_by r)) giver.1 took in
     let has : record_at ps a.0 ≡ Some taker.0 = emptied.others a.0 apart ∙ taker.1 in
     let mine : SumsOf K T.scopes T.tasks taker.0.sums a.0 = subst (SumsOf K T.scopes T.tasks taker.0.sums) (number_is a.0 T.scopes h.heir_scope h.found_heir) taker.2.sums in
-    let his : SumsOf K T.scopes T.tasks given i = subst (λ (v : Sums). SumsOf K T.scopes T.tasks v i) (sym is_given) (subst (SumsOf K T.scopes T.tasks giver.0.sums) (number_is i T.scopes h.scope h.found) giver.2.sums) in
+    let his : SumsOf K T.scopes T.tasks given i = subst (λ (v : Sums). SumsOf K T.scopes T.tasks v i) (sym is_given) (sums_masking K T.scopes T.tasks giver.0.sums i (length (giver.0.body ++ giver.0.ends)) (subst (SumsOf K T.scopes T.tasks giver.0.sums) (number_is i T.scopes h.scope h.found) giver.2.sums)) in
     let alike : given.places ≡ taker.0.sums.places =
     ap (λ (v : Sums). v.places) is_given ∙ giver.2.places h.kept
     ∙ sym (taker.2.places (and_parts (K h.heir_scope) (not (is_scope (number_id i) h.heir_scope)) (keeper_keeps (but (number_id i) K) T.next_scope a.0 T.scopes (Some (number_id i)) h.heir_scope p.shaped.falls h.is_heir h.found_heir)).0) in

@@ -52,7 +52,7 @@ met_of true b e k = sym e
 met_of false b e k = absurd (true≢false k)
 
 -- and for any weight of scopes: what a scope that stays has adopted
-held_released : (w : Scope → ℕ) (T : Tree) (s : ScopeId) (n : ℕ) → Sound T → ((u : ScopeId) → meets s T.scopes (Some u) ≡ true → is_number s.0 (keeper (stands_home T.dead) T.scopes (Some u)) ≡ true) → (n ≡ s.0 → ⊥) → held w (stands_home T.dead) (without T s).scopes n ≡ held w (stands_home T.dead) T.scopes n
+pub held_released : (w : Scope → ℕ) (T : Tree) (s : ScopeId) (n : ℕ) → Sound T → ((u : ScopeId) → meets s T.scopes (Some u) ≡ true → is_number s.0 (keeper (stands_home T.dead) T.scopes (Some u)) ≡ true) → (n ≡ s.0 → ⊥) → held w (stands_home T.dead) (without T s).scopes n ≡ held w (stands_home T.dead) T.scopes n
 held_released w T s n h here apart =
     let keeps : Scope → Bool = stands_home T.dead in
     let q : Scope → Bool = λ g. not (on_chain T s g.number) in
@@ -64,7 +64,7 @@ held_released w T s n h here apart =
     (each_all _ (λ (k : Scope). λ e. ap (λ b. cond b (w k) 0) (and_right (not (keeps k)) (is_number n (keeper keeps T.scopes (Some k.number))) (one_of_two s.0 n (keeper keeps T.scopes (Some k.number)) apart (here k.number (met_of _ _ (on_meets s T.scopes (Some k.number)) e))))) T.scopes)
 
 -- who leaves is counted at s alone, and who stays is counted where it was
-record_released : (T : Tree) (s : ScopeId) (r : Record) (g : Scope) → Sound T → quiet T s ≡ true → ((u : ScopeId) → meets s T.scopes (Some u) ≡ true → is_number s.0 (keeper (stands_home T.dead) T.scopes (Some u)) ≡ true) → (g.number.0 ≡ s.0 → ⊥) → meets s T.scopes (Some g.number) ≡ false → RecordOf T.places (stands_home T.dead) T.scopes T.tasks r g → RecordOf T.places (stands_home T.dead) (without T s).scopes (without T s).tasks r g
+record_released : {size : ℕ} (T : Tree) (s : ScopeId) (r : Record) (g : Scope) → Sound T → quiet T s ≡ true → ((u : ScopeId) → meets s T.scopes (Some u) ≡ true → is_number s.0 (keeper (stands_home T.dead) T.scopes (Some u)) ≡ true) → (g.number.0 ≡ s.0 → ⊥) → meets s T.scopes (Some g.number) ≡ false → RecordOf size (stands_home T.dead) T.scopes T.tasks r g → RecordOf size (stands_home T.dead) (without T s).scopes (without T s).tasks r g
 record_released T s r g h still here apart free a =
     let q : Scope → Bool = λ k. not (on_chain T s k.number) in
     record {
@@ -122,19 +122,19 @@ pub met_own : (T : Tree) (s : ScopeId) → IsLast T s → meets s T.scopes (Some
 met_own T s i = own_met s T.scopes i.scope i.stands
 
 -- the records of the scopes that stay, and no other, are those of the tree without s
-pub all_released : (T : Tree) (s : ScopeId) (rs qs : List (Option (Box Record))) → Sound T → IsLast T s → quiet T s ≡ true → ((u : ScopeId) → record_at qs u.0 ≡ cond (meets s T.scopes (Some u)) None (record_at rs u.0)) → AllFit T.places (stands_home T.dead) T.scopes T.tasks rs → AllFit T.places (stands_home T.dead) (without T s).scopes (without T s).tasks qs
-all_released T s rs qs h i still gone fit n =
+pub all_released : (size : ℕ) (T : Tree) (s : ScopeId) (rs qs : List (Option (Box Record))) → Sound T → IsLast T s → quiet T s ≡ true → ((u : ScopeId) → record_at qs u.0 ≡ cond (meets s T.scopes (Some u)) None (record_at rs u.0)) → AllFit size (stands_home T.dead) T.scopes T.tasks rs → AllFit size (stands_home T.dead) (without T s).scopes (without T s).tasks qs
+all_released size T s rs qs h i still gone fit n =
     let keeps : Scope → Bool = stands_home T.dead in
     let q : Scope → Bool = λ g. not (on_chain T s g.number) in
     let u : ScopeId = number_id n in
-    (elim (meets s T.scopes (Some u)) as (λ b. meets s T.scopes (Some u) ≡ b → record_at qs n ≡ cond b None (record_at rs n) → Both (RecordOf T.places keeps (without T s).scopes (without T s).tasks) (record_at qs n) (find (has_number n) (without T s).scopes)) [
+    (elim (meets s T.scopes (Some u)) as (λ b. meets s T.scopes (Some u) ≡ b → record_at qs n ≡ cond b None (record_at rs n) → Both (RecordOf size keeps (without T s).scopes (without T s).tasks) (record_at qs n) (find (has_number n) (without T s).scopes)) [
       | true ↦ λ m e.
-          subst (λ o. Both (RecordOf T.places keeps (without T s).scopes (without T s).tasks) o (find (has_number n) (without T s).scopes)) (sym e)
-          (subst (λ o. Both (RecordOf T.places keeps (without T s).scopes (without T s).tasks) None o) (sym (find_gone q n T.scopes (λ g num. ap not (on_meets s T.scopes (Some g.number) ∙ ap (λ (v : ScopeId). meets s T.scopes (Some v)) (scope-is g.number u num) ∙ m)))) tt)
+          subst (λ o. Both (RecordOf size keeps (without T s).scopes (without T s).tasks) o (find (has_number n) (without T s).scopes)) (sym e)
+          (subst (λ o. Both (RecordOf size keeps (without T s).scopes (without T s).tasks) None o) (sym (find_gone q n T.scopes (λ g num. ap not (on_meets s T.scopes (Some g.number) ∙ ap (λ (v : ScopeId). meets s T.scopes (Some v)) (scope-is g.number u num) ∙ m)))) tt)
       | false ↦ λ m e.
-          subst (λ o. Both (RecordOf T.places keeps (without T s).scopes (without T s).tasks) o (find (has_number n) (without T s).scopes)) (sym e)
-          (subst (λ o. Both (RecordOf T.places keeps (without T s).scopes (without T s).tasks) (record_at rs n) o) (sym (find_stays q n T.scopes (λ g num. ap not (on_meets s T.scopes (Some g.number) ∙ ap (λ (v : ScopeId). meets s T.scopes (Some v)) (scope-is g.number u num) ∙ m))))
-          (both_more (RecordOf T.places keeps T.scopes T.tasks) (RecordOf T.places keeps (without T s).scopes (without T s).tasks) (record_at rs n) (find (has_number n) T.scopes)
+          subst (λ o. Both (RecordOf size keeps (without T s).scopes (without T s).tasks) o (find (has_number n) (without T s).scopes)) (sym e)
+          (subst (λ o. Both (RecordOf size keeps (without T s).scopes (without T s).tasks) (record_at rs n) o) (sym (find_stays q n T.scopes (λ g num. ap not (on_meets s T.scopes (Some g.number) ∙ ap (λ (v : ScopeId). meets s T.scopes (Some v)) (scope-is g.number u num) ∙ m))))
+          (both_more (RecordOf size keeps T.scopes T.tasks) (RecordOf size keeps (without T s).scopes (without T s).tasks) (record_at rs n) (find (has_number n) T.scopes)
           (λ r g found a.
           let num : g.number.0 ≡ n = number_is n T.scopes g found in
           let free : meets s T.scopes (Some g.number) ≡ false = ap (λ (v : ScopeId). meets s T.scopes (Some v)) (scope-is g.number u num) ∙ m in

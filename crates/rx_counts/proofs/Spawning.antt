@@ -1,5 +1,5 @@
 -- A task is born.
-use Rattle.std.specs.Prelude.{◌≡◌, ℕ, ◌<◌, ◌+◌, Bool, true, false, cond, ◌==◌, not, List, [], ◌∷◌, Option, Some, None, is_none, is_some, option_map, length, slice_index_or, IfSome, Ok, refl}
+use Rattle.std.specs.Prelude.{◌≡◌, ℕ, ◌<◌, ◌≤◌, ◌+◌, Bool, true, false, cond, ◌==◌, not, List, [], ◌∷◌, Option, Some, None, is_none, is_some, option_map, length, slice_index_or, IfSome, Ok, refl}
 use Rattle.std.specs.Global.{Box}
 use Rattle.std.proofs.Common.{sym, ap, ◌∙◌, subst, arith}
 use Rattle.std.proofs.lemmas.Bool.{true≢false}
@@ -13,7 +13,7 @@ use Rattle.rx_rules.specs.declared.tasks.Task.{Task}
 use Rattle.rx_rules.specs.declared.tasks.Scope.{Scope}
 use Rattle.rx_rules.specs.declared.entries.Act.TheVariants.{Spawn}
 use Rattle.rx_rules.specs.Tree.{Tree, death_of, the_root}
-use Rattle.rx_rules.specs.Entries.{place_number, born}
+use Rattle.rx_rules.specs.Entries.{place_number, born, made_act}
 use Rattle.rx_rules.specs.Reached.{acts}
 use Rattle.rx_sound.specs.Blows.{death_blow}
 use Rattle.rx_sound.specs.Chains.{meets}
@@ -27,9 +27,10 @@ use Rattle.rx_finish.proofs.Allowed.{Free, spawn_allowed}
 use Rattle.rx_counts.specs.declared.record.Record.{Record}
 use Rattle.rx_counts.specs.declared.ledger.CountLedger.{CountLedger}
 use Rattle.rx_counts.specs.Keeping.{stands_home, keeper, finishes}
-use Rattle.rx_counts.specs.Stands.{HasCell, MayJoin, AllFit, Fit, StandsFor, record_at, more, in_sums, Loses, Changed, ChangedBy}
-use Rattle.rx_counts.proofs.Asking.{Kept, kept_at_keeper, place_in, tasks_length, unstruck_of}
+use Rattle.rx_counts.specs.Stands.{HasCell, MayJoin, AllFit, AllMasked, Fit, StandsFor, record_at, more, in_sums, Loses, Changed, ChangedBy}
+use Rattle.rx_counts.proofs.Asking.{Kept, kept_at_keeper, place_in, wide, room_kept, as_wide, tasks_length, unstruck_of}
 use Rattle.rx_counts.proofs.Joining.{all_join, all_lost}
+use Rattle.rx_counts.proofs.Masking.{masked_by, masked_changed}
 use Rattle.rx_counts.proofs.Arriving.{has_cell, may_join}
 use Rattle.rx_counts.proofs.Born.{inner_rooted, governing_is}
 
@@ -51,15 +52,15 @@ from_low : (n : ℕ) (w : Where) → Inside n w → (place_number w).0 < n
 from_low n (At p) h = h
 from_low n (Travel from to) h = h.0
 
-pub started_in : (T : Tree) (who : Caller) (to : PlaceId) → Sound T → MayAskTo T who to → (f : Free T who IsMoving) → Inside T.places (start (place_number who.place) to)
-started_in T who to h may f = start_in T.places (place_number who.place) to (from_low T.places who.place (place_in T who IsMoving h f)) may.target
+pub started_in : {size : ℕ} (T : Tree) (who : Caller) (to : PlaceId) → Sound T → T.places ≤ size → MayAskTo T who to → (f : Free T who IsMoving) → Inside size (start (place_number who.place) to)
+started_in {size = size} T who to h le may f = start_in size (place_number who.place) to (from_low size who.place (place_in T who IsMoving h le f)) (let a = may.target in omega arith)
 
-pub bear_ok : (T : Tree) (who : Caller) (to : PlaceId) (rs : List (Option (Box Record))) (k : ℕ) (want : Option ScopeId) → Sound T → MayAskTo T who to → (f : Free T who IsMoving) → keeper (stands_home T.dead) T.scopes want ≡ Some k → AllFit T.places (stands_home T.dead) T.scopes T.tasks rs → (k < length rs) × (to.0 < 16) × IfSome (record_at rs k) (λ r. MayJoin (start (place_number who.place) to) r.sums)
-bear_ok T who to rs k want h may f at fit =
-    let q : Kept T rs k = kept_at_keeper T rs want k fit at in (
+pub bear_ok : {size : ℕ} (T : Tree) (who : Caller) (to : PlaceId) (rs : List (Option (Box Record))) (k : ℕ) (want : Option ScopeId) → Sound T → T.places ≤ size → MayAskTo T who to → (f : Free T who IsMoving) → keeper (stands_home T.dead) T.scopes want ≡ Some k → AllFit size (stands_home T.dead) T.scopes T.tasks rs → (k < length rs) × (to.0 < 16) × IfSome (record_at rs k) (λ r. MayJoin (start (place_number who.place) to) r.sums)
+bear_ok {size = size} T who to rs k want h le may f at fit =
+    let q : Kept size T rs k = kept_at_keeper T rs want k fit at in (
       q.low,
       to_low T who to h may,
-      may_join T T.tasks rs k want (start (place_number who.place) to) h (tasks_length T.next_task T.tasks h.tasks_fall) may.asks.numbers.tasks at (started_in T who to h may f) fit,
+      may_join _ T T.tasks rs k want (start (place_number who.place) to) h (tasks_length T.next_task T.tasks h.tasks_fall) may.asks.numbers.tasks at (started_in T who to h le may f) fit,
     )
 
 pub struck_by : (T : Tree) (child : TaskId) (s : ScopeId) (from to : PlaceId) → is_some (death_of T to) ≡ true → (b : Blow) × ((born T child s from to).struck ≡ Some b) × (b.place ≡ to)
@@ -88,12 +89,17 @@ len_of : (to : PlaceId) (n : Where) (k : ℕ) (rs qs : List (Option (Box Record)
 len_of to n k rs qs true lost joins = (lost refl).len
 len_of to n k rs qs false lost joins = (joins refl).len
 
+-- a birth masks nothing
+masked_born : (keeps : Scope → Bool) (gs : List Scope) (to : PlaceId) (w : Where) (k : ℕ) (rs qs : List (Option (Box Record))) (b : Bool) → (b ≡ true → ChangedBy (Loses to) k rs qs) → (b ≡ false → Changed (in_sums (more w)) k rs qs) → AllMasked keeps gs rs → AllMasked keeps gs qs
+masked_born keeps gs to w k rs qs true lost joins h = masked_by keeps gs (Loses to) k rs qs (λ r q a. ap (λ (v : Record). v.sums.masked) a.0) (lost refl) h
+masked_born keeps gs to w k rs qs false lost joins h = masked_changed keeps gs (in_sums (more w)) k rs qs (λ r. refl) (joins refl) h
+
 -- the governing finish leads to the root
 pub finish_rooted : (T : Tree) (who : Caller) (s : ScopeId) → Sound T → (f : Free T who IsMoving) → keeper finishes T.scopes (Some who.inner) ≡ Some s.0 → meets the_root T.scopes (Some s) ≡ true
 finish_rooted T who s h f e = subst (λ (u : ScopeId). meets the_root T.scopes (Some u) ≡ true) (governing_is T.scopes (Some who.inner) s e) (governs_rooted T.next_scope T.scopes (Some who.inner) h.falls h.root_kind (inner_rooted T who IsMoving h f))
 
-pub spawned : (l m : CountLedger) (T : Tree) (who : Caller) (to : PlaceId) (child : TaskId) (s : ScopeId) (k : ℕ) (b : Bool) → StandsFor l T → MayAskTo T who to → (f : Free T who IsMoving) → child.0 ≡ l.next_task → keeper finishes T.scopes (Some who.inner) ≡ Some s.0 → keeper (stands_home T.dead) T.scopes (Some s) ≡ Some k → b ≡ not (is_none (death_blow l.dead to)) → m.places ≡ l.places → m.dead ≡ l.dead → m.next_task ≡ l.next_task + 1 → m.next_scope ≡ l.next_scope → (b ≡ true → ChangedBy (Loses to) k l.scopes.items m.scopes.items) → (b ≡ false → Changed (in_sums (more (start (place_number who.place) to))) k l.scopes.items m.scopes.items) → SpawnReply T who to (Ok (record { child = child; scope = s; lost = b })) (StandsFor m)
-spawned l m T who to child s k b st may f num fin at e places dead next_task next_scope lost joins =
+pub spawned : {room : ℕ} (l m : CountLedger) (T : Tree) (who : Caller) (to : PlaceId) (child : TaskId) (s : ScopeId) (k : ℕ) (b : Bool) → StandsFor l room T → MayAskTo T who to → (f : Free T who IsMoving) → child.0 ≡ l.next_task → keeper finishes T.scopes (Some who.inner) ≡ Some s.0 → keeper (stands_home T.dead) T.scopes (Some s) ≡ Some k → b ≡ not (is_none (death_blow l.dead to)) → m.places ≡ l.places → m.width ≡ l.width → m.dead ≡ l.dead → m.next_task ≡ l.next_task + 1 → m.next_scope ≡ l.next_scope → (b ≡ true → ChangedBy (Loses to) k l.scopes.items m.scopes.items) → (b ≡ false → Changed (in_sums (more (start (place_number who.place) to))) k l.scopes.items m.scopes.items) → SpawnReply T who to (Ok (record { child = child; scope = s; lost = b })) (StandsFor m room)
+spawned l m T who to child s k b st may f num fin at e places width dead next_task next_scope lost joins =
     let h : Sound T = sound st.reached in
     let a = spawn_allowed T who to s child st.reached may (unstruck_of T who IsMoving f) (sym (governing_is T.scopes (Some who.inner) s fin)) (num ∙ st.fit.next_task) in
     let dies : b ≡ is_some (death_of T to) = e ∙ is_lost l T to st.fit in (
@@ -109,8 +115,10 @@ spawned l m T who to child s k b st may f num fin at e places dead next_task nex
                     next_task = (let q = st.fit.next_task in omega arith);
                     next_scope = next_scope ∙ st.fit.next_scope;
                     numbers = len_of to (start (place_number who.place) to) k l.scopes.items m.scopes.items b lost joins ∙ st.fit.numbers;
-                    scopes = all_born _ T T.scopes (stands_home T.dead) T.tasks child s (place_number who.place) to k l.scopes.items m.scopes.items b dies at (has_cell _ (stands_home T.dead) T.next_scope T.scopes T.tasks l.scopes.items k (Some s) (start (place_number who.place) to) h.falls at (started_in T who to h may f) st.fit.scopes) lost joins st.fit.scopes;
+                    scopes = as_wide l.width m.width (stands_home T.dead) T.scopes (born T child s (place_number who.place) to ∷ T.tasks) m.scopes.items width (all_born _ T T.scopes (stands_home T.dead) T.tasks child s (place_number who.place) to k l.scopes.items m.scopes.items b dies at (has_cell _ (stands_home T.dead) T.next_scope T.scopes T.tasks l.scopes.items k (Some s) (start (place_number who.place) to) h.falls at (started_in T who to h (wide l T st) may f) st.fit.scopes) lost joins st.fit.scopes);
+                    masked = masked_born (stands_home T.dead) T.scopes to (start (place_number who.place) to) k l.scopes.items m.scopes.items b lost joins st.fit.masked;
                   };
+              has_room = room_kept l m T (made_act T who.task (Spawn child s (place_number who.place) to [])) width refl st.has_room;
             };
       },
       dies,

@@ -1,5 +1,5 @@
 -- How many scopes a release takes, and how many of them have a number below another.
-use Rattle.std.specs.Prelude.{◌≡◌, ℕ, ◌<◌, ◌≤◌, ◌+◌, ◌-◌, Bool, true, false, cond, ◌||◌}
+use Rattle.std.specs.Prelude.{◌≡◌, ℕ, min, ◌<◌, ◌≤◌, ◌+◌, ◌-◌, Bool, true, false, cond, ◌||◌}
 use Rattle.std.specs.Prelude.{◌&&◌, ◌==◌, not, ltb, List, [], ◌∷◌, Option, Some, None, count_by, refl}
 use Rattle.std.specs.List.{find}
 use Rattle.std.specs.Global.{Box}
@@ -10,20 +10,21 @@ use Rattle.rx_base.specs.declared.ids.ScopeId.{ScopeId}
 use Rattle.rx_base.proofs.Elements.{find-passes}
 use Rattle.rx_base.proofs.SameIds.{scope-is}
 use Rattle.rx_rules.specs.declared.tasks.Scope.{Scope}
-use Rattle.rx_rules.specs.Tree.{Tree, is_scope, quiet}
+use Rattle.rx_rules.specs.Tree.{Tree, is_scope, on_chain, quiet}
+use Rattle.rx_rules.specs.Entries.{masked_under}
 use Rattle.rx_rules.specs.Counts.{has_number}
 use Rattle.rx_sound.specs.Chains.{meets, Falls}
 use Rattle.rx_sound.specs.Sound.{Each, Sound}
 use Rattle.rx_sound.proofs.Changes.{each_found, each_more}
-use Rattle.rx_sound.proofs.Releasing.{each_all, each_below, each_both, each_none}
+use Rattle.rx_sound.proofs.Releasing.{each_all, each_below, each_both, each_none, on_meets}
 use Rattle.rx_sound.proofs.Parents.{met_found}
 use Rattle.rx_sound.proofs.Reached.{sound}
 use Rattle.rx_counts.specs.declared.record.Record.{Record}
 use Rattle.rx_counts.specs.declared.ledger.CountLedger.{CountLedger}
-use Rattle.rx_counts.specs.Keeping.{stands_home, keeper, is_number, is_orphan, orphans_of}
+use Rattle.rx_counts.specs.Keeping.{stands_home, keeper, is_number, is_orphan, orphans_of, faults_in, masked_of}
 use Rattle.rx_counts.specs.Stands.{ShapeOf, StandsFor, record_at}
 use Rattle.rx_counts.specs.Inside.Freeing.{IsLast, Takes, parent_gone}
-use Rattle.rx_counts.proofs.Counting.{one, count_cons, count_split, count_none, none_counted}
+use Rattle.rx_counts.proofs.Counting.{one, count_cons, count_split, count_none, none_counted, sum_same, sum_where}
 use Rattle.rx_counts.proofs.Walks.{keeper_step}
 use Rattle.rx_counts.proofs.Shapes.{both_none, shape_in}
 use Rattle.rx_counts.proofs.Telling.{keeper_meets}
@@ -256,7 +257,38 @@ one_more T s g h i still found own =
     false_where true k = absurd (k refl)
     false_where false k = refl
 
-pub takes : (l : CountLedger) (T : Tree) (s : ScopeId) (n : ℕ) → StandsFor l T → IsLast T s → quiet T s ≡ true
+-- So what a release masks are the faults of the orphans.
+
+and_not : (a b c : Bool) → one a ≡ one b + one c → a && not c ≡ b
+and_not true true false e = refl
+and_not true false true e = refl
+and_not false false false e = refl
+and_not true true true e = absurd (omega arith)
+and_not true false false e = absurd (omega arith)
+and_not false true c e = absurd (let k : 0 ≡ 1 + one c = e in omega arith)
+and_not false false true e = absurd (omega arith)
+
+each_known : (T : Tree) (s : ScopeId) → Sound T → IsLast T s → Each (λ g. (find (is_scope g.number) T.scopes ≡ Some g) × (is_scope s g && not (stands_home T.dead g) ≡ false)) T.scopes
+each_known T s h i =
+    each_both (λ g. find (is_scope g.number) T.scopes ≡ Some g) (λ g. is_scope s g && not (stands_home T.dead g) ≡ false) T.scopes
+    (each_stands T.next_scope T.scopes h.falls) (each_none (λ g. is_scope s g && not (stands_home T.dead g)) T.scopes i.keeps_it)
+
+pub masked_named : (T : Tree) (s : ScopeId) → Sound T → IsLast T s → quiet T s ≡ true
+    → masked_under T s ≡ masked_of (stands_home T.dead) T.scopes s.0
+masked_named T s h i still =
+    let keeps : Scope → Bool = stands_home T.dead in
+    ap (min 4294967295)
+    (sum_where faults_in (λ g. on_chain T s g.number && not (is_scope s g)) T.scopes
+    ∙ sum_same (λ g. cond (on_chain T s g.number && not (is_scope s g)) (faults_in g) 0)
+    (λ g. cond (is_orphan keeps T.scopes s.0 g) (faults_in g) 0) T.scopes
+    (each_more (λ g. (find (is_scope g.number) T.scopes ≡ Some g) × (is_scope s g && not (keeps g) ≡ false))
+    (λ g. cond (on_chain T s g.number && not (is_scope s g)) (faults_in g) 0 ≡ cond (is_orphan keeps T.scopes s.0 g) (faults_in g) 0)
+    (λ g b. ap (λ v. cond v (faults_in g) 0)
+    (ap (λ v. v && not (is_scope s g)) (on_meets s T.scopes (Some g.number))
+    ∙ and_not (meets s T.scopes (Some g.number)) (is_orphan keeps T.scopes s.0 g) (is_scope s g) (one_more T s g h i still b.0 b.1)))
+    T.scopes (each_known T s h i)))
+
+pub takes : {room : ℕ} (l : CountLedger) (T : Tree) (s : ScopeId) (n : ℕ) → StandsFor l room T → IsLast T s → quiet T s ≡ true
     → n ≡ orphans_of (stands_home T.dead) T.scopes s.0 → Takes T s n l.scopes.items
 takes l T s n st i still e =
     let h : Sound T = sound st.reached in
@@ -264,9 +296,7 @@ takes l T s n st i still e =
     let a = count_split (λ g. meets s T.scopes (Some g.number)) (is_orphan keeps T.scopes s.0) (λ g. true && has_number s.0 g) T.scopes
     (each_more (λ g. (find (is_scope g.number) T.scopes ≡ Some g) × (is_scope s g && not (keeps g) ≡ false))
     (λ g. one (meets s T.scopes (Some g.number)) ≡ one (is_orphan keeps T.scopes s.0 g) + one (true && has_number s.0 g))
-    (λ g b. one_more T s g h i still b.0 b.1) T.scopes
-    (each_both (λ g. find (is_scope g.number) T.scopes ≡ Some g) (λ g. is_scope s g && not (keeps g) ≡ false) T.scopes
-    (each_stands T.next_scope T.scopes h.falls) (each_none (λ g. is_scope s g && not (keeps g)) T.scopes i.keeps_it))) in
+    (λ g b. one_more T s g h i still b.0 b.1) T.scopes (each_known T s h i)) in
     let b : count_by (λ g. true && has_number s.0 g) T.scopes ≡ 1 =
     count_found (λ g. true) s.0 T.next_scope T.scopes i.scope h.falls i.stands in
     let c : count_by (is_orphan keeps T.scopes s.0) T.scopes ≡ n = sym e in

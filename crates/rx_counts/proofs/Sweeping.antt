@@ -20,7 +20,7 @@ use Rattle.rx_sound.proofs.Below.{met_newer}
 use Rattle.rx_sound.proofs.Reached.{sound}
 use Rattle.rx_counts.specs.declared.record.Record.{Record}
 use Rattle.rx_counts.specs.declared.ledger.CountLedger.{CountLedger}
-use Rattle.rx_counts.specs.Keeping.{keeper, is_number}
+use Rattle.rx_counts.specs.Keeping.{keeper, is_number, stands_home}
 use Rattle.rx_rules.specs.Counts.{has_number}
 use Rattle.rx_counts.specs.Stands.{ShapeOf, Fit, StandsFor, IsShaped, record_at}
 use Rattle.rx_counts.specs.Inside.Freeing.{IsLast, parent_gone, OutcomeReply, FreeReply}
@@ -29,6 +29,8 @@ use Rattle.rx_finish.specs.declared.ledger.LedgerFault.TheVariants.{NotYet, Lost
 use Rattle.rx_counts.proofs.Walks.{keeper_step, OlderThan}
 use Rattle.rx_counts.proofs.Shapes.{both_found, shape_in, walk_older}
 use Rattle.rx_counts.proofs.Released.{all_released}
+use Rattle.rx_counts.proofs.Masking.{masked_released}
+use Rattle.rx_counts.proofs.Asking.{as_wide}
 
 -- the walk that meets s is one that s alone keeps
 meets_keeper : (s : ScopeId) (gs : List Scope) (want : Option ScopeId) → meets s gs want ≡ is_number s.0 (keeper (is_scope s) gs want)
@@ -128,18 +130,19 @@ none_before T rs s u h lt = false_from_ne_true (meets s T.scopes (Some u)) (λ m
 
 -- The ledger afterwards.
 
-pub freed : (l m : CountLedger) (T : Tree) (s : ScopeId) → StandsFor l T → IsLast T s → quiet T s ≡ true → m.places ≡ l.places → m.dead ≡ l.dead → m.next_task ≡ l.next_task → m.next_scope ≡ l.next_scope → length m.scopes.items ≡ length l.scopes.items → ((u : ScopeId) → record_at m.scopes.items u.0 ≡ cond (meets s T.scopes (Some u)) None (record_at l.scopes.items u.0)) → Fit m (without T s)
-freed l m T s st i still places dead next_task next_scope len gone =
+pub freed : {room : ℕ} (l m : CountLedger) (T : Tree) (s : ScopeId) → StandsFor l room T → IsLast T s → quiet T s ≡ true → m.places ≡ l.places → m.width ≡ l.width → m.dead ≡ l.dead → m.next_task ≡ l.next_task → m.next_scope ≡ l.next_scope → length m.scopes.items ≡ length l.scopes.items → ((u : ScopeId) → record_at m.scopes.items u.0 ≡ cond (meets s T.scopes (Some u)) None (record_at l.scopes.items u.0)) → Fit m (without T s)
+freed l m T s st i still places width dead next_task next_scope len gone =
     record {
       places = places ∙ st.fit.places;
       dead = dead ∙ st.fit.dead;
       next_task = next_task ∙ st.fit.next_task;
       next_scope = next_scope ∙ st.fit.next_scope;
       numbers = len ∙ st.fit.numbers;
-      scopes = all_released T s l.scopes.items m.scopes.items (sound st.reached) i still gone st.fit.scopes;
+      scopes = as_wide l.width m.width (stands_home T.dead) (without T s).scopes (without T s).tasks m.scopes.items width (all_released _ T s l.scopes.items m.scopes.items (sound st.reached) i still gone st.fit.scopes);
+      masked = masked_released T s l.scopes.items m.scopes.items (sound st.reached) i still gone st.fit.masked;
     }
 
-pub free_refused : (l : CountLedger) (T : Tree) (s : ScopeId) (f : LedgerFault) → StandsFor l T → OutcomeReply T s (Err f) → FreeReply T s (Err f) l
+pub free_refused : {room : ℕ} (l : CountLedger) (T : Tree) (s : ScopeId) (f : LedgerFault) → StandsFor l room T → OutcomeReply T s (Err f) → FreeReply room T s (Err f) l
 free_refused l T s NoMemory st h = (h, st)
 free_refused l T s (Lost p a) st h = absurd h
 free_refused l T s (NotYet p) st h = (h, st)

@@ -1,24 +1,39 @@
 -- A task waits.
-use Rattle.std.specs.Prelude.{◌≡◌, true, List, Ok, refl}
-use Rattle.std.proofs.Common.{◌∙◌}
+use Rattle.std.specs.Prelude.{◌≡◌, ℕ, true, List, Some, Ok, refl}
+use Rattle.std.proofs.Common.{◌∙◌, subst}
 use Rattle.rx_base.specs.declared.values.Fault.{Fault}
 use Rattle.rx_rules.specs.declared.entries.Act.TheVariants.{Wait}
-use Rattle.rx_rules.specs.Tree.{Tree}
+use Rattle.std.specs.List.{find}
+use Rattle.rx_base.specs.declared.ids.ScopeId.{ScopeId}
+use Rattle.rx_rules.specs.declared.tasks.Scope.{Scope}
+use Rattle.rx_rules.specs.Tree.{Tree, is_task, is_scope}
+use Rattle.rx_rules.specs.Entries.{change_first, waiting, made_act}
+use Rattle.rx_sound.specs.Sound.{Sound}
+use Rattle.rx_sound.proofs.Reached.{sound}
+use Rattle.rx_sound.proofs.Stay.{faulted}
 use Rattle.rx_rules.specs.Reached.{acts}
 use Rattle.rx_finish.specs.declared.ledger.Caller.{Caller}
 use Rattle.rx_finish.specs.Callers.{MayAskWait, HasFinish}
 use Rattle.rx_finish.specs.Calls.{WaitReply}
-use Rattle.rx_finish.proofs.Allowed.{Free, wait_allowed}
+use Rattle.rx_finish.proofs.Allowed.{Free, wait_allowed, own_is}
 use Rattle.rx_counts.specs.declared.ledger.CountLedger.{CountLedger}
 use Rattle.rx_counts.specs.Keeping.{stands_home}
 use Rattle.rx_counts.specs.Stands.{StandsFor, Changed, with_body}
-use Rattle.rx_counts.proofs.Asking.{unstruck_of}
+use Rattle.rx_counts.proofs.Asking.{unstruck_of, room_kept, as_wide}
+use Rattle.rx_counts.proofs.Lasting.{own_home}
+use Rattle.rx_counts.proofs.Masking.{masked_waits}
+use Rattle.rx_counts.proofs.Telling.{last_number}
 use Rattle.rx_counts.proofs.Joining.{all_waits}
 use Rattle.rx_counts.proofs.Faulting.{all_faulted}
 
-pub waits_stands : (l m : CountLedger) (T : Tree) (who : Caller) (thrown : List Fault) → StandsFor l T → MayAskWait T who → (f : Free T who (HasFinish T who)) → m.places ≡ l.places → m.dead ≡ l.dead → m.next_task ≡ l.next_task → m.next_scope ≡ l.next_scope → Changed (with_body thrown) who.inner.0 l.scopes.items m.scopes.items → WaitReply T who thrown (Ok tt) (StandsFor m)
-waits_stands l m T who thrown st may f places dead next_task next_scope c =
+pub waits_stands : {room : ℕ} (l m : CountLedger) (T : Tree) (who : Caller) (thrown : List Fault) → StandsFor l room T → MayAskWait T who → (f : Free T who (HasFinish T who)) → m.places ≡ l.places → m.width ≡ l.width → m.dead ≡ l.dead → m.next_task ≡ l.next_task → m.next_scope ≡ l.next_scope → Changed (with_body thrown) who.inner.0 l.scopes.items m.scopes.items → WaitReply T who thrown (Ok tt) (StandsFor m room)
+waits_stands l m T who thrown st may f places width dead next_task next_scope c =
     let a = wait_allowed T who thrown st.reached may (unstruck_of T who (HasFinish T who) f) in
+    let h : Sound T = sound st.reached in
+    let own : Scope = f.at.allowed.scope in
+    let number : own.number ≡ who.inner = own_is T who (HasFinish T who) f own f.at.allowed.own in
+    let found : find (is_scope who.inner) T.scopes ≡ Some own = subst (λ (v : ScopeId). find (is_scope v) T.scopes ≡ Some own) number (last_number who.task T.next_scope T.scopes own h.falls f.at.allowed.own) in
+    let kept : stands_home T.dead own ≡ true = own_home T who.task f.at.task own h f.at.stands f.at.allowed.own f.unstruck in
     record {
       allowed = a;
       made =
@@ -32,8 +47,11 @@ waits_stands l m T who thrown st may f places dead next_task next_scope c =
                   next_scope = next_scope ∙ st.fit.next_scope;
                   numbers = c.len ∙ st.fit.numbers;
                   scopes =
-                      all_waits _ (stands_home T.dead) _ T.tasks who.task true m.scopes.items
-                      (all_faulted (λ g. thrown) (λ g. g.ends) who.inner (stands_home T.dead) (λ g. refl) _ T.scopes T.tasks (with_body thrown) l.scopes.items m.scopes.items (λ r. (refl, refl, refl, refl, refl)) (λ r g found live was. (refl, was.1)) c st.fit.scopes);
+                      as_wide l.width m.width (stands_home T.dead) (change_first (is_scope who.inner) (faulted (λ g. thrown) (λ g. g.ends)) T.scopes) (change_first (is_task who.task) waiting T.tasks) m.scopes.items width
+                      (all_waits _ (stands_home T.dead) _ T.tasks who.task true m.scopes.items
+                      (all_faulted (λ g. thrown) (λ g. g.ends) who.inner (stands_home T.dead) (λ g. refl) _ T.scopes T.tasks (with_body thrown) l.scopes.items m.scopes.items (λ r. (refl, refl, refl, refl, refl)) (λ r g found live was. (refl, was.1)) c st.fit.scopes));
+                  masked = masked_waits (λ g. thrown) (λ g. g.ends) who.inner (stands_home T.dead) (λ g. refl) T.scopes own (with_body thrown) l.scopes.items m.scopes.items found kept (λ r. refl) c st.fit.masked;
                 };
+            has_room = room_kept l m T (made_act T who.task (Wait who.inner thrown)) width refl st.has_room;
           };
     }

@@ -20,6 +20,7 @@ counts_of n r =
       lost = r.sums.lost;
       body = r.body;
       ends = r.ends;
+      masked = r.sums.masked;
     }
 
 -- what the ledger keeps
@@ -35,4 +36,4 @@ records_of l =
 
 -- the relation that the ledger keeps says no less than the rules do of counts
 abbrev pub CountsStand : Type 0
-CountsStand = (l : CountLedger) (T : Tree) → StandsFor l T → StandFor (records_of l) T
+CountsStand = (l : CountLedger) (room : ℕ) (T : Tree) → StandsFor l room T → StandFor (records_of l) T

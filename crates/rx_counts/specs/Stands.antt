@@ -1,6 +1,6 @@
 -- The records of a count ledger stand for a tree.
-use Rattle.std.specs.Prelude.{◌≡◌, ℕ, ◌<◌, ◌≤◌, ◌^◌, ◌+◌, ◌++◌, ◌*◌, ◌-◌, ltb, Bool, true, cond, ◌&&◌, ◌||◌, ◌==◌, List, Option, Some}
-use Rattle.std.specs.Prelude.{None, is_some, slice_index_or, length, option_map, slice_set, box_value}
+use Rattle.std.specs.Prelude.{◌≡◌, ℕ, ◌<◌, ◌≤◌, ◌^◌, min, ◌+◌, ◌++◌, ◌*◌, ◌-◌, ltb, Bool, true, cond, ◌&&◌, ◌||◌, ◌==◌, List, Option, Some}
+use Rattle.std.specs.Prelude.{None, IfSome, is_some, slice_index_or, length, option_map, slice_set, box_value}
 use Rattle.std.specs.Global.{Box}
 use Rattle.std.specs.List.{find, list_any}
 use Rattle.rx_base.specs.Sets.{has_bit}
@@ -20,9 +20,10 @@ use Rattle.rx_counts.specs.declared.record.Sums.{Sums}
 use Rattle.rx_counts.specs.declared.record.Record.{Record}
 use Rattle.rx_counts.specs.declared.ledger.CountLedger.{CountLedger}
 use Rattle.rx_sound.specs.Chains.{Falls, Opened}
-use Rattle.rx_counts.specs.Keeping.{stands_home, finishes, keeper, kept_at, count_of, total_of, orphans_of}
+use Rattle.rx_counts.specs.Keeping.{stands_home, finishes, keeper, kept_at, count_of, total_of, orphans_of, masked_of}
 
--- A table of counts has a column for each place. Row 0 has the live counts, and row p + 1 the transit counts from place p.
+-- A table of counts has a column for each place that there is or may come to be. Row 0 has the live counts, and row p + 1 the transit
+-- counts from place p.
 abbrev pub row : Where → ℕ
 row (At p) = 0
 row (Travel from to) = from.0 + 1
@@ -62,7 +63,7 @@ pub record SumsOf (keeps : Scope → Bool) (gs : List Scope) (ts : List Task) (q
   pub orphans : q.orphans ≡ orphans_of keeps gs n
   pub lost : (p : ℕ) → p < 16 → has_bit q.lost.0 p ≡ list_any (λ x. was_lost_at p x && kept_at keeps gs n x) ts
 
--- a record is that of scope g, in a run of so many places
+-- a record is that of scope g, with a table of so many columns
 pub record RecordOf (size : ℕ) (keeps : Scope → Bool) (gs : List Scope) (ts : List Task) (r : Record) (g : Scope) : Type 0 where
   pub shape : ShapeOf gs r g
   pub sums : SumsOf keeps gs ts r.sums g.number.0
@@ -88,6 +89,10 @@ AllFit size keeps gs ts rs = (n : ℕ) → Both (RecordOf size keeps gs ts) (rec
 abbrev pub AllShaped : List Scope → List (Option (Box Record)) → Type 0
 AllShaped gs rs = (n : ℕ) → Both (ShapeOf gs) (record_at rs n) (find (has_number n) gs)
 
+-- each record has the masked number of its scope
+abbrev pub AllMasked : (Scope → Bool) → List Scope → List (Option (Box Record)) → Type 0
+AllMasked keeps gs rs = (n : ℕ) → IfSome (record_at rs n) (λ r. r.sums.masked ≡ masked_of keeps gs n)
+
 -- the ledger keeps the numbers of the tree, and its records are those of the scopes
 pub record Fit (l : CountLedger) (T : Tree) : Type 0 where
   pub places : l.places ≡ T.places
@@ -95,12 +100,19 @@ pub record Fit (l : CountLedger) (T : Tree) : Type 0 where
   pub next_task : l.next_task ≡ T.next_task
   pub next_scope : l.next_scope ≡ T.next_scope
   pub numbers : length l.scopes.items ≡ T.next_scope
-  pub scopes : AllFit T.places (stands_home T.dead) T.scopes T.tasks l.scopes.items
+  pub scopes : AllFit l.width (stands_home T.dead) T.scopes T.tasks l.scopes.items
+  pub masked : AllMasked (stands_home T.dead) T.scopes l.scopes.items
+
+-- its tables have columns for so many places more
+pub record HasRoom (l : CountLedger) (room : ℕ) (T : Tree) : Type 0 where
+  pub width : room + T.places ≤ l.width
+  pub few : l.width ≤ 16
 
 -- and the tree can be reached
-pub record StandsFor (l : CountLedger) (T : Tree) : Type 0 where
+pub record StandsFor (l : CountLedger) (room : ℕ) (T : Tree) : Type 0 where
   pub reached : Reached T
   pub fit : Fit l T
+  pub has_room : HasRoom l room T
 
 -- one task more, and one less, at a place or on a way
 abbrev pub more : Where → Sums → Sums
@@ -108,6 +120,10 @@ more w q = record q { counts = slice_set q.counts (slot q.places w) (count_in q 
 
 abbrev pub less : Where → Sums → Sums
 less w q = record q { counts = slice_set q.counts (slot q.places w) (count_in q w - 1); total = q.total - 1 }
+
+-- so many faults more are masked; the count stops at the greatest number of 32 bits
+abbrev pub masking : ℕ → Sums → Sums
+masking n q = record q { masked = min 4294967295 (q.masked + n) }
 
 -- they have a cell for it
 abbrev pub HasCell : Where → Sums → Type 0

@@ -6,10 +6,10 @@ ghost use Rattle.rx_rules.specs.Tree.{Tree};
 ghost use Rattle.rx_rules.specs.declared.tasks.Scope.{Scope};
 ghost use Rattle.rx_counts.specs.Stands.{record_at, Pairs, ChangedBy};
 ghost use Rattle.rx_counts.specs.Inside.Dying.{hits_cell, hits, Strikes, StrikesRecord, CanHit, MayHit, Emptied, Gained, MayGain};
-ghost use Rattle.rx_counts.specs.Inside.Dying.{CanGain, Gains, Passing, parent_there};
+ghost use Rattle.rx_counts.specs.Inside.Dying.{CanGain, Gains, Passing, given_by, parent_there};
 
 use crate::cells::Cells;
-use crate::record::{Record, Sums, nothing};
+use crate::record::{Record, Sums, nothing, stopped};
 use crate::table::keeper_of;
 use rx_base::{Faults, PlaceId, PlaceSet, ScopeId};
 use std::alloc::Global;
@@ -96,12 +96,14 @@ pub fn strike_all(scopes: &mut Vec<Option<Box<Record>>>, d: PlaceId)
 }
 
 impl Record {
-    /// Gives the sums away, and drops the faults. The memory of the counts goes with them.
+    /// Gives the sums away, and drops the faults, which are masked from now on. The memory of the counts goes with them.
     fn give(&mut self, alloc: Global) -> Sums
-        ensures given { result ≡ self.old.sums }
+        ensures given { result ≡ given_by self.old }
         ensures left { Emptied self.old self.new }
     {
-        let given = std::mem::replace(&mut self.sums, nothing(alloc));
+        let mut given = std::mem::replace(&mut self.sums, nothing(alloc));
+        given.mask(self.body.len());
+        given.mask(self.ends.len());
         self.body = Faults::open(alloc);
         self.ends = Faults::open(alloc);
         given
@@ -110,7 +112,7 @@ impl Record {
 
 /// The sums of the record, which has none afterwards, and no faults.
 fn take_entry(entry: &mut Option<Box<Record>>, alloc: Global) -> Sums
-    ensures taken { IfSome (option_map box_value entry.old) (λ r. result ≡ r.sums) }
+    ensures taken { IfSome (option_map box_value entry.old) (λ r. result ≡ given_by r) }
     ensures left { Pairs Emptied (option_map box_value entry.old) (option_map box_value entry.new) }
 {
     match entry {
@@ -121,7 +123,7 @@ fn take_entry(entry: &mut Option<Box<Record>>, alloc: Global) -> Sums
 
 fn take_at(scopes: &mut Vec<Option<Box<Record>>>, i: usize, alloc: Global) -> Sums
     requires { i < length scopes.old.items }
-    ensures taken { IfSome (record_at scopes.old.items i) (λ r. result ≡ r.sums) }
+    ensures taken { IfSome (record_at scopes.old.items i) (λ r. result ≡ given_by r) }
     ensures left { ChangedBy Emptied i scopes.old.items scopes.new.items }
 {
     take_entry(&mut scopes[i], alloc)
@@ -157,6 +159,7 @@ impl Sums {
         self.total += given.total;
         self.orphans += given.orphans + 1;
         self.lost = either(self.lost, given.lost);
+        self.masked = stopped(self.masked, given.masked as usize);
     }
 }
 
@@ -194,10 +197,11 @@ fn hand_over(
     i: usize,
     alloc: Global,
 )
-    requires { (i < length scopes.old.items) × (T : Tree) × (keeps : (Scope → Bool)) × Passing T keeps dead.now d i scopes.old.items }
+    requires { (i < length scopes.old.items) × (size : ℕ) × (T : Tree) × (keeps : (Scope → Bool))
+        × Passing size T keeps dead.now d i scopes.old.items }
     ensures len { length scopes.new.items ≡ length scopes.old.items }
-    ensures passes { (T : Tree) (keeps : Scope → Bool) → Passing T keeps dead.now d i scopes.old.items
-        → Passing T keeps dead.now d (i + 1) scopes.new.items }
+    ensures passes { (size : ℕ) (T : Tree) (keeps : Scope → Bool) → Passing size T keeps dead.now d i scopes.old.items
+        → Passing size T keeps dead.now d (i + 1) scopes.new.items }
 {
     if let Some(parent) = parent_at(scopes, i, d) {
         if let Some(heir) = keeper_of(scopes, dead, parent) {
@@ -214,10 +218,10 @@ pub fn hand_over_all(
     d: PlaceId,
     alloc: Global,
 )
-    requires { (T : Tree) × (keeps : (Scope → Bool)) × Passing T keeps dead.now d 0 scopes.old.items }
+    requires { (size : ℕ) × (T : Tree) × (keeps : (Scope → Bool)) × Passing size T keeps dead.now d 0 scopes.old.items }
     ensures len { length scopes.new.items ≡ length scopes.old.items }
-    ensures passes { (T : Tree) (keeps : Scope → Bool) → Passing T keeps dead.now d 0 scopes.old.items
-        → Passing T keeps dead.now d (length scopes.old.items) scopes.new.items }
+    ensures passes { (size : ℕ) (T : Tree) (keeps : Scope → Bool) → Passing size T keeps dead.now d 0 scopes.old.items
+        → Passing size T keeps dead.now d (length scopes.old.items) scopes.new.items }
 {
     for i in 0..scopes.len() {
         hand_over(scopes, dead, d, i, alloc);

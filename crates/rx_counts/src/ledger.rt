@@ -1,5 +1,5 @@
 // The ledger.
-ghost use Rattle.std.specs.Prelude.{◌≡◌, ◌≤◌, ◌<◌, IfOk, IfSome, is_some, true, Err};
+ghost use Rattle.std.specs.Prelude.{◌≡◌, ℕ, ◌+◌, ◌≤◌, ◌<◌, IfOk, IfSome, is_some, true, Err};
 ghost use Rattle.rx_rules.specs.Tree.{Tree};
 ghost use Rattle.rx_rules.specs.Fold.{opening};
 ghost use Rattle.rx_base.specs.Sets.{members};
@@ -15,7 +15,8 @@ use crate::places::{blow_there, lives, lost};
 use crate::record::{Record, fresh};
 use crate::removal::{hindrance, remove};
 use crate::table::{
-    bear, count_at, finish_of, join, keeper_of, leave, look, note_body, note_ends, push,
+    bear, count_at, dropped_by, finish_of, join, keeper_of, leave, look, mask, note_body,
+    note_ends, push,
 };
 use rx_base::{Faults, NoMemory, PlaceId, PlaceSet, ScopeId, TaskId};
 use rx_finish::{Born, Caller, FinishLedger, LedgerFault, Outcome, landing_of, place_of, travel};
@@ -28,19 +29,38 @@ pub struct CountLedger {
     alloc: Global,
     scopes: Vec<Option<Box<Record>>>,
     places: u8,
+    /// How many places it has columns for: those that there are or may join.
+    width: u8,
     dead: [Option<u32>; 16],
     next_task: u32,
     next_scope: u32,
 }
 
 impl CountLedger {
-    /// Opens a ledger of 1 to 16 places. It stands for the tree before the first entry: task 0 at place 0 under the root.
+    /// Opens a ledger of 1 to 16 places, with room for more of them up to 16. It stands for the tree before the first entry: task 0 at
+    /// place 0 under the root.
     pub fn open(alloc: Global, places: u8) -> Result<CountLedger, NoMemory>
         requires { (1 ≤ places) × (places ≤ 16) }
-        ensures { IfOk result (λ l. ⟦<CountLedger as FinishLedger>⟧.stands l (opening places)) }
+        ensures { IfOk result (λ l. (room : ℕ) → room + places ≤ 16 → ⟦<CountLedger as FinishLedger>⟧.stands l room (opening places)) }
+    {
+        CountLedger::open_wide(alloc, places, 16)
+    }
+
+    /// The same with room for so many places more.
+    pub fn open_for(alloc: Global, places: u8, joins: u8) -> Result<CountLedger, NoMemory>
+        requires { (1 ≤ places) × (places + joins ≤ 16) }
+        ensures { IfOk result (λ l. ⟦<CountLedger as FinishLedger>⟧.stands l joins (opening places)) }
+    {
+        CountLedger::open_wide(alloc, places, places + joins)
+    }
+
+    /// Opens a ledger of so many places, with columns for so many.
+    fn open_wide(alloc: Global, places: u8, width: u8) -> Result<CountLedger, NoMemory>
+        requires { (1 ≤ places) × (places ≤ width) × (width ≤ 16) }
+        ensures { IfOk result (λ l. (room : ℕ) → room + places ≤ width → StandsFor l room (opening places)) }
     {
         let mut scopes = Vec::new(alloc);
-        let mut root = fresh(alloc, places, Kind::Finish, PlaceId(0), None, ScopeId(0))?;
+        let mut root = fresh(alloc, width, Kind::Finish, PlaceId(0), None, ScopeId(0))?;
         root.sums.join(Where::At(PlaceId(0)));
         match push(&mut scopes, root, alloc) {
             Ok(_) => {}
@@ -50,6 +70,7 @@ impl CountLedger {
             alloc,
             scopes,
             places,
+            width,
             dead: [None; 16],
             next_task: 1,
             next_scope: 1,
@@ -58,24 +79,24 @@ impl CountLedger {
 
     /// How many unstruck tasks at a place are counted at a scope.
     pub fn live_at(&self, s: ScopeId, p: PlaceId) -> u32
-        requires { (T : Tree) × StandsFor self.now T × HasScope T s × (p.0 < 16) }
-        ensures { (T : Tree) → StandsFor self.now T → HasScope T s → result ≡ live_count T s p }
+        requires { (room : ℕ) × (T : Tree) × StandsFor self.now room T × HasScope T s × (p.0 < 16) }
+        ensures { (room : ℕ) (T : Tree) → StandsFor self.now room T → HasScope T s → result ≡ live_count T s p }
     {
         count_at(&self.scopes, s, Where::At(p))
     }
 
     /// How many unstruck tasks that travel from one place to another are counted at a scope.
     pub fn transit_of(&self, s: ScopeId, from: PlaceId, to: PlaceId) -> u32
-        requires { (T : Tree) × StandsFor self.now T × HasScope T s × (from.0 < 16) × (to.0 < 16) }
-        ensures { (T : Tree) → StandsFor self.now T → HasScope T s → result ≡ transit_count T s from to }
+        requires { (room : ℕ) × (T : Tree) × StandsFor self.now room T × HasScope T s × (from.0 < 16) × (to.0 < 16) }
+        ensures { (room : ℕ) (T : Tree) → StandsFor self.now room T → HasScope T s → result ≡ transit_count T s from to }
     {
         count_at(&self.scopes, s, Where::Travel { from, to })
     }
 
     /// The places at which tasks that are counted at a scope were lost.
     pub fn lost_of(&self, s: ScopeId) -> PlaceSet
-        requires { (T : Tree) × StandsFor self.now T × HasScope T s }
-        ensures { (T : Tree) → StandsFor self.now T → HasScope T s → members result ≡ lost_at T s }
+        requires { (room : ℕ) × (T : Tree) × StandsFor self.now room T × HasScope T s }
+        ensures { (room : ℕ) (T : Tree) → StandsFor self.now room T → HasScope T s → members result ≡ lost_at T s }
     {
         match look(&self.scopes, s) {
             Some(kept) => kept.sums.lost,
@@ -85,8 +106,8 @@ impl CountLedger {
 
     /// The nearest scope with a living home, from the scope itself along parents.
     pub fn adopter_of(&self, s: ScopeId) -> ScopeId
-        requires { (T : Tree) × StandsFor self.now T × HasScope T s }
-        ensures { (T : Tree) → StandsFor self.now T → HasScope T s
+        requires { (room : ℕ) × (T : Tree) × StandsFor self.now room T × HasScope T s }
+        ensures { (room : ℕ) (T : Tree) → StandsFor self.now room T → HasScope T s
             → IfSome (adopter T s) (λ g. result ≡ g.number) × (is_some (adopter T s) ≡ true) }
     {
         match keeper_of(&self.scopes, &self.dead, s) {
@@ -97,8 +118,8 @@ impl CountLedger {
 
     /// What the release of a scope names, and how many scopes go with it.
     fn outcome_of(&self, s: ScopeId) -> Result<(Outcome, u32), LedgerFault>
-        requires { (T : Tree) × StandsFor self.now T × IsLast T s }
-        ensures { (T : Tree) → StandsFor self.now T → IsLast T s → OutcomeReply T s result }
+        requires { (room : ℕ) × (T : Tree) × StandsFor self.now room T × IsLast T s }
+        ensures { (room : ℕ) (T : Tree) → StandsFor self.now room T → IsLast T s → OutcomeReply T s result }
     {
         match look(&self.scopes, s) {
             None => Err(LedgerFault::NoMemory),
@@ -112,6 +133,7 @@ impl CountLedger {
                     Ok(thrown) => Ok((
                         Outcome {
                             lost: kept.sums.lost,
+                            masked: kept.sums.masked,
                             thrown,
                         },
                         kept.sums.orphans,
@@ -124,8 +146,8 @@ impl CountLedger {
 
     /// Releases a scope where its counts are 0: what is below it leaves with it.
     fn free(&mut self, s: ScopeId) -> Result<Outcome, LedgerFault>
-        requires { (T : Tree) × StandsFor self.old T × IsLast T s }
-        ensures { (T : Tree) → StandsFor self.old T → IsLast T s → FreeReply T s result self.new }
+        requires { (room : ℕ) × (T : Tree) × StandsFor self.old room T × IsLast T s }
+        ensures { (room : ℕ) (T : Tree) → StandsFor self.old room T → IsLast T s → FreeReply room T s result self.new }
     {
         match self.outcome_of(s) {
             Err(fault) => Err(fault),
@@ -138,7 +160,7 @@ impl CountLedger {
 }
 
 impl FinishLedger for CountLedger {
-    ghost stands = { λ l T. StandsFor l T };
+    ghost stands = { λ l room T. StandsFor l room T };
 
     fn open_finish(&mut self, who: Caller) -> Result<ScopeId, LedgerFault> {
         if let Some(blow) = blow_there(&self.dead, who.place) {
@@ -148,7 +170,7 @@ impl FinishLedger for CountLedger {
         let home = place_of(who.place);
         let Ok(kept) = fresh(
             self.alloc,
-            self.places,
+            self.width,
             Kind::Finish,
             home,
             Some(who.inner),
@@ -174,7 +196,7 @@ impl FinishLedger for CountLedger {
         let is_lost = !lives(&self.dead, to);
         let Ok(mut kept) = fresh(
             self.alloc,
-            self.places,
+            self.width,
             Kind::Call,
             from,
             Some(who.inner),
@@ -196,8 +218,9 @@ impl FinishLedger for CountLedger {
     }
 
     fn spawn(&mut self, who: Caller, to: PlaceId) -> Result<Born, LedgerFault>
-        requires { (T : Tree) × StandsFor self.old T × MayAskTo T who to }
-        ensures replies { (T : Tree) → StandsFor self.old T → MayAskTo T who to → SpawnReply T who to result (StandsFor self.new) }
+        requires { (room : ℕ) × (T : Tree) × StandsFor self.old room T × MayAskTo T who to }
+        ensures replies { (room : ℕ) (T : Tree) → StandsFor self.old room T → MayAskTo T who to
+            → SpawnReply T who to result (StandsFor self.new room) }
         ensures takes_no_memory { result ≡ Err LedgerFault.NoMemory → ⊥ }
     {
         if let Some(blow) = blow_there(&self.dead, who.place) {
@@ -268,9 +291,11 @@ impl FinishLedger for CountLedger {
             return Ok(());
         };
         let keeps = keeper == who.scope;
+        let dropped = dropped_by(keeps, &thrown);
         if let Err(back) = note_ends(&mut self.scopes, who.scope, keeps, thrown) {
             return Err((LedgerFault::NoMemory, back));
         }
+        mask(&mut self.scopes, keeper, dropped);
         leave(&mut self.scopes, keeper, who.place);
         Ok(())
     }
@@ -279,6 +304,13 @@ impl FinishLedger for CountLedger {
         match blow_there(&self.dead, who.place) {
             Some(blow) => Err(lost(blow)),
             None => Ok(()),
+        }
+    }
+
+    fn census(&self, who: Caller) -> Result<u8, LedgerFault> {
+        match blow_there(&self.dead, who.place) {
+            Some(blow) => Err(lost(blow)),
+            None => Ok(self.places),
         }
     }
 
@@ -292,6 +324,10 @@ impl FinishLedger for CountLedger {
         strike_all(&mut self.scopes, place);
         self.dead[place.0 as usize] = Some(at);
         hand_over_all(&mut self.scopes, &self.dead, place, self.alloc);
+    }
+
+    fn join(&mut self, _place: PlaceId) {
+        self.places += 1;
     }
 }
 

@@ -1,7 +1,8 @@
 // What is kept of a scope.
-ghost use Rattle.std.specs.Prelude.{◌≡◌, ◌+◌, ◌-◌, ◌<◌, ◌≤◌, ◌^◌, [], true, false, ◌||◌, ◌==◌, ℕ, length, slice_index_or, slice_set, IfOk};
+ghost use Rattle.std.specs.Prelude.{◌≡◌, min, ◌+◌, ◌-◌, ◌<◌, ◌≤◌, ◌^◌, [], true, false, ◌||◌, ◌==◌, ℕ, length};
+ghost use Rattle.std.specs.Prelude.{slice_index_or, slice_set, IfOk};
 ghost use Rattle.rx_base.specs.Sets.{has_bit};
-ghost use Rattle.rx_counts.specs.Stands.{more, less, with_lost, count_in, MayJoin, MayLeave};
+ghost use Rattle.rx_counts.specs.Stands.{more, less, masking, with_lost, count_in, MayJoin, MayLeave};
 ghost use Rattle.rx_counts.specs.Inside.Opening.{IsZero, IsFresh};
 
 use crate::cells::Cells;
@@ -13,7 +14,7 @@ use std::alloc::Global;
 /// What a scope counts.
 #[derive(Drop)]
 pub struct Sums {
-    /// How many places it counts at: those of the run, or none once it has given its counts away.
+    /// How many places it has columns for: all that there may come to be, or none once it has given its counts away.
     pub places: u8,
     /// A table with a column for each place: the live counts, and then for each place the transit counts from there.
     pub counts: Cells,
@@ -23,6 +24,8 @@ pub struct Sums {
     pub orphans: u32,
     /// The places at which tasks that count here were lost.
     pub lost: PlaceSet,
+    /// How many faults the scopes that it has adopted held; the count stops at 4,294,967,295.
+    pub masked: u32,
 }
 
 /// What is kept of a scope.
@@ -48,6 +51,7 @@ pub fn nothing(alloc: Global) -> Sums
         total: 0,
         orphans: 0,
         lost: PlaceSet(0),
+        masked: 0,
     }
 }
 
@@ -61,7 +65,15 @@ fn zeros(alloc: Global, places: u8) -> Result<Sums, NoMemory>
         total: 0,
         orphans: 0,
         lost: PlaceSet(0),
+        masked: 0,
     })
+}
+
+/// A sum that stops at the greatest number of 32 bits.
+pub fn stopped(count: u32, more: usize) -> u32
+    ensures { result ≡ min 4294967295 (count + more) }
+{
+    (count as usize).saturating_add(more).min(u32::MAX as usize) as u32
 }
 
 fn raise(counts: &mut Cells, cell: usize)
@@ -118,6 +130,13 @@ impl Sums {
         let cell = slot_of(self.places, place);
         lower(&mut self.counts, cell);
         self.total -= 1;
+    }
+
+    /// So many faults more that nobody is told.
+    pub fn mask(&mut self, many: usize)
+        ensures { self.new ≡ masking many self.old }
+    {
+        self.masked = stopped(self.masked, many);
     }
 }
 

@@ -1,9 +1,10 @@
 // The records of the scopes that stand, by number.
 ghost use Rattle.std.specs.Prelude.{◌≡◌, ◌+◌, ◌<◌, ◌≤◌, ◌^◌, ◌++◌, ◌∷◌, [], length, None, Some, option_map, box_value, slice_index_or};
-ghost use Rattle.std.specs.Prelude.{MatchOption, IfSome, OnOk, IfErr, true, false};
+ghost use Rattle.std.specs.Prelude.{cond, MatchOption, IfSome, OnOk, IfErr, true, false};
 ghost use Rattle.rx_rules.specs.Tree.{Tree};
 ghost use Rattle.rx_counts.specs.Keeping.{keeper, stands_home};
-ghost use Rattle.rx_counts.specs.Stands.{record_at, more, less, in_sums, count_in, MayJoin, MayLeave, Changed, ChangedBy, Pairs, Loses};
+ghost use Rattle.rx_counts.specs.Stands.{record_at, more, less, masking, in_sums, count_in, MayJoin, MayLeave};
+ghost use Rattle.rx_counts.specs.Stands.{Changed, ChangedBy, Pairs, Loses};
 ghost use Rattle.rx_counts.specs.Stands.{IsShaped, Pushed, with_body, ends_if};
 
 use crate::places::lives;
@@ -55,6 +56,22 @@ pub fn leave(scopes: &mut Vec<Option<Box<Record>>>, s: ScopeId, place: Where)
     ensures { Changed (in_sums (less place)) s.0 scopes.old.items scopes.new.items }
 {
     leave_in(&mut scopes[s.0 as usize], place);
+}
+
+fn mask_in(entry: &mut Option<Box<Record>>, many: usize)
+    ensures { option_map box_value entry.new ≡ option_map (in_sums (masking many)) (option_map box_value entry.old) }
+{
+    if let Some(kept) = entry {
+        kept.sums.mask(many);
+    }
+}
+
+/// So many faults more that nobody is told, in the record of a scope.
+pub fn mask(scopes: &mut Vec<Option<Box<Record>>>, s: ScopeId, many: usize)
+    requires { s.0 < length scopes.old.items }
+    ensures { Changed (in_sums (masking many)) s.0 scopes.old.items scopes.new.items }
+{
+    mask_in(&mut scopes[s.0 as usize], many);
 }
 
 fn bear_in(entry: &mut Option<Box<Record>>, is_lost: bool, place: Where, to: PlaceId)
@@ -123,6 +140,13 @@ pub fn note_ends(
     ensures refused { IfErr result (λ back. (back ≡ thrown) × Changed (λ r. r) s.0 scopes.old.items scopes.new.items) }
 {
     note_ends_in(&mut scopes[s.0 as usize], keeps, thrown)
+}
+
+/// How many faults are dropped where they end under a scope, which keeps them or does not.
+pub fn dropped_by(keeps: bool, thrown: &Faults) -> usize
+    ensures { result ≡ cond keeps 0 (length thrown.now) }
+{
+    if keeps { 0 } else { thrown.len() }
 }
 
 /// The first scope from s along parents with a living home.

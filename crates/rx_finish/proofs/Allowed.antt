@@ -1,5 +1,5 @@
 -- Where the condition of a call holds of a reached tree and no death has struck the caller, the call's entry is allowed.
-use Rattle.std.specs.Prelude.{◌≡◌, ℕ, true, false, List, [], Some, None, is_some, refl, ◌⊎◌}
+use Rattle.std.specs.Prelude.{◌≡◌, ℕ, pos, true, false, List, [], Some, None, is_some, refl, ◌⊎◌}
 use Rattle.std.proofs.Common.{sym, ap, ◌∙◌, subst, inl, inr}
 use Rattle.std.proofs.lemmas.Bool.{eqb-true}
 use Rattle.rx_base.specs.declared.ids.PlaceId.{PlaceId}
@@ -12,9 +12,10 @@ use Rattle.rx_rules.specs.declared.tasks.Where.{Where}
 use Rattle.rx_rules.specs.declared.tasks.Where.TheVariants.{At, Travel}
 use Rattle.rx_rules.specs.declared.tasks.Task.{Task}
 use Rattle.rx_rules.specs.declared.tasks.Scope.{Scope}
-use Rattle.rx_rules.specs.declared.entries.Act.TheVariants.{Open, At as Calls, Spawn, Arrive, Wait, Release, End}
-use Rattle.rx_rules.specs.Tree.{Tree, is_task, task_of, own_scope, inner, governing, quiet}
-use Rattle.rx_rules.specs.Entries.{place_number, Acts, IsLive, AllowedAct, MayPrint, Names}
+use Rattle.rx_rules.specs.declared.entries.Act.{Act}
+use Rattle.rx_rules.specs.declared.entries.Act.TheVariants.{Open, At as Calls, Spawn, Arrive, Wait, Release, End, Print, Census}
+use Rattle.rx_rules.specs.Tree.{Tree, is_task, task_of, own_scope, inner, governing}
+use Rattle.rx_rules.specs.Entries.{place_number, IsLive, IsLiveHere, ActAsks, AllowedAct, MayFree}
 use Rattle.rx_rules.specs.Reached.{Reached}
 use Rattle.rx_finish.specs.declared.ledger.Caller.{Caller}
 use Rattle.rx_finish.specs.Callers.{MayAsk, CallerStands, HasLeft, IsMoving, Travels, does_travel, HasFinish, WaitsInside, IsBare, MayAskMoving, MayAskTo, MayAskArrive, MayAskWait, MayAskRelease, MayAskEnd}
@@ -24,10 +25,10 @@ use Rattle.rx_finish.proofs.Gone.{left_struck}
 -- an unstruck caller stands in the tree
 pub record Free (T : Tree) (who : Caller) (P : Task → Type 0) : Type 0 where
   pub at : CallerStands T who P
-  pub acts : Acts T who.task at.task
+  pub unstruck : at.task.struck ≡ None
 
 free_at : (T : Tree) (who : Caller) (P : Task → Type 0) → Reached T → IsUnstruck T who → CallerStands T who P ⊎ HasLeft T who → Free T who P
-free_at T who P r u (inl h) = record { at = h; acts = record { stands = h.stands; unstruck = rw (h.stands, blow_of) at u } }
+free_at T who P r u (inl h) = record { at = h; unstruck = rw (h.stands, blow_of) at u }
 free_at T who P r u (inr h) =
     let free : h.task.struck ≡ None = rw (h.none, h.gone, blow_of) at u in
     let struck : is_some h.task.struck ≡ true = left_struck T who.task h.task r h.gone in
@@ -37,59 +38,41 @@ free_at T who P r u (inr h) =
 pub free : (T : Tree) (who : Caller) (P : Task → Type 0) → Reached T → MayAsk T who P → IsUnstruck T who → Free T who P
 free T who P r may u = free_at T who P r u may.caller
 
+-- the act of an unstruck caller is allowed where the caller is as the act asks
+does_it : (T : Tree) (who : Caller) (P : Task → Type 0) (act : Act) (f : Free T who P) → ActAsks T who.task f.at.task act → AllowedAct T who.task act
+does_it T who P act f h = record { task = f.at.task; stands = f.at.stands; unstruck = f.unstruck; asks = h }
+
 -- it lives at the place of which it speaks
-pub record Lives (T : Tree) (who : Caller) (x : Task) : Type 0 where
-  pub place : PlaceId
-  pub live : IsLive T who.task place x
-  pub is_place : place ≡ place_number who.place
+lives : (T : Tree) (who : Caller) (P : Task → Type 0) (f : Free T who P) → IsMoving f.at.task → IsLive (place_number who.place) f.at.task
+lives T who P f m = subst (λ (p : PlaceId). IsLive p f.at.task) (ap place_number (sym m.is_at ∙ f.at.says.place)) (m.is_at, m.moves)
 
-lives : (T : Tree) (who : Caller) (P : Task → Type 0) (f : Free T who P) → IsMoving f.at.task → Lives T who f.at.task
-lives T who P f m =
-    record {
-      place = m.place;
-      live = record { acts = f.acts; is_at = m.is_at; moves = m.moves };
-      is_place = ap place_number (sym m.is_at ∙ f.at.says.place);
-    }
+lives_here : (T : Tree) (who : Caller) (P : Task → Type 0) (f : Free T who P) → IsMoving f.at.task → IsLiveHere f.at.task
+lives_here T who P f m = (m.place, (m.is_at, m.moves))
 
-live_there : (T : Tree) (who : Caller) (x : Task) → Lives T who x → IsLive T who.task (place_number who.place) x
-live_there T who x l = subst (λ (p : PlaceId). IsLive T who.task p x) l.is_place l.live
-
-pub print_allowed : (T : Tree) (who : Caller) → Reached T → MayAskMoving T who → IsUnstruck T who → MayPrint T who.task
+pub print_allowed : (T : Tree) (who : Caller) → Reached T → MayAskMoving T who → IsUnstruck T who → AllowedAct T who.task (Print (pos 0) [])
 print_allowed T who r may u =
     let f : Free T who IsMoving = free T who IsMoving r may u in
-    let l : Lives T who f.at.task = lives T who IsMoving f f.at.allowed in
-    record { task = f.at.task; place = l.place; live = l.live }
+    does_it T who IsMoving (Print (pos 0) []) f (lives_here T who IsMoving f f.at.allowed)
+
+pub census_allowed : (T : Tree) (who : Caller) (n : ℕ) → Reached T → MayAskMoving T who → IsUnstruck T who → n ≡ T.places → AllowedAct T who.task (Census n [])
+census_allowed T who n r may u e =
+    let f : Free T who IsMoving = free T who IsMoving r may u in
+    does_it T who IsMoving (Census n []) f (lives_here T who IsMoving f f.at.allowed, e)
 
 pub open_allowed : (T : Tree) (who : Caller) (s : ScopeId) → Reached T → MayAskMoving T who → IsUnstruck T who → s.0 ≡ T.next_scope → AllowedAct T who.task (Open s who.inner [])
 open_allowed T who s r may u n =
     let f : Free T who IsMoving = free T who IsMoving r may u in
-    let l : Lives T who f.at.task = lives T who IsMoving f f.at.allowed in
-    record { task = f.at.task; place = l.place; live = l.live; next = n; parent = sym f.at.inner_is }
+    does_it T who IsMoving (Open s who.inner []) f (lives_here T who IsMoving f f.at.allowed, n, sym f.at.inner_is)
 
 pub call_allowed : (T : Tree) (who : Caller) (to : PlaceId) (s : ScopeId) (callee : TaskId) → Reached T → MayAskTo T who to → IsUnstruck T who → s.0 ≡ T.next_scope → callee.0 ≡ T.next_task → AllowedAct T who.task (Calls s who.inner callee (place_number who.place) to [])
 call_allowed T who to s callee r may u n m =
     let f : Free T who IsMoving = free T who IsMoving r may.asks u in
-    let l : Lives T who f.at.task = lives T who IsMoving f f.at.allowed in
-    record {
-      task = f.at.task;
-      live = live_there T who f.at.task l;
-      next = n;
-      parent = sym f.at.inner_is;
-      next_task = m;
-      target = may.target;
-    }
+    does_it T who IsMoving (Calls s who.inner callee (place_number who.place) to []) f (lives T who IsMoving f f.at.allowed, n, sym f.at.inner_is, m, may.target)
 
 pub spawn_allowed : (T : Tree) (who : Caller) (to : PlaceId) (s : ScopeId) (child : TaskId) → Reached T → MayAskTo T who to → IsUnstruck T who → s ≡ governing T who.inner → child.0 ≡ T.next_task → AllowedAct T who.task (Spawn child s (place_number who.place) to [])
 spawn_allowed T who to s child r may u n m =
     let f : Free T who IsMoving = free T who IsMoving r may.asks u in
-    let l : Lives T who f.at.task = lives T who IsMoving f f.at.allowed in
-    record {
-      task = f.at.task;
-      live = live_there T who f.at.task l;
-      next_task = m;
-      under = n ∙ ap (governing T) (sym f.at.inner_is);
-      target = may.target;
-    }
+    does_it T who IsMoving (Spawn child s (place_number who.place) to []) f (lives T who IsMoving f f.at.allowed, m, n ∙ ap (governing T) (sym f.at.inner_is), may.target)
 
 travelling : (w : Where) → does_travel w ≡ true → (from : PlaceId) × (w ≡ Travel from (landing w))
 travelling (At p) h = cc
@@ -99,12 +82,7 @@ pub arrive_allowed : (T : Tree) (who : Caller) → Reached T → MayAskArrive T 
 arrive_allowed T who r may u =
     let f : Free T who Travels = free T who Travels r may u in
     let way : (from : PlaceId) × (f.at.task.place ≡ Travel from (landing f.at.task.place)) = travelling f.at.task.place f.at.allowed.travels in
-    record {
-      task = f.at.task;
-      from = way.0;
-      acts = f.acts;
-      travels = way.1 ∙ ap (λ w. Travel way.0 (landing w)) f.at.says.place;
-    }
+    does_it T who Travels (Arrive (landing who.place)) f (way.0, way.1 ∙ ap (λ w. Travel way.0 (landing w)) f.at.says.place)
 
 -- a task that is found has the number
 number_of : (T : Tree) (t : TaskId) (x : Task) → task_of T t ≡ Some x → x.number ≡ t
@@ -120,34 +98,18 @@ own_is T who P f g h =
 pub wait_allowed : (T : Tree) (who : Caller) (thrown : List Fault) → Reached T → MayAskWait T who → IsUnstruck T who → AllowedAct T who.task (Wait who.inner thrown)
 wait_allowed T who thrown r may u =
     let f : Free T who (HasFinish T who) = free T who (HasFinish T who) r may u in
-    let l : Lives T who f.at.task = lives T who (HasFinish T who) f f.at.allowed.moving in
-    record {
-      task = f.at.task;
-      place = l.place;
-      scope = f.at.allowed.scope;
-      live = l.live;
-      own = f.at.allowed.own;
-      is_it = own_is T who (HasFinish T who) f f.at.allowed.scope f.at.allowed.own;
-      finish = f.at.allowed.finish;
-    }
+    let h = f.at.allowed in
+    let own = own_is T who (HasFinish T who) f h.scope h.own in
+    does_it T who (HasFinish T who) (Wait who.inner thrown) f (lives_here T who (HasFinish T who) f h.moving, h.scope, (h.own, own), h.finish)
 
-pub release_allowed : (T : Tree) (who : Caller) (lost : PlaceSet) (thrown : List Fault) → Reached T → MayAskRelease T who → IsUnstruck T who → quiet T who.inner ≡ true → Names T who.inner lost thrown → AllowedAct T who.task (Release who.inner lost thrown)
-release_allowed T who lost thrown r may u q n =
-    let f : Free T who (WaitsInside T who) = free T who (WaitsInside T who) r may u in (
-      record {
-        task = f.at.task;
-        scope = f.at.allowed.scope;
-        acts = f.acts;
-        waits = f.at.allowed.waits;
-        own = f.at.allowed.own;
-        is_it = own_is T who (WaitsInside T who) f f.at.allowed.scope f.at.allowed.own;
-        is_quiet = q;
-      },
-      n,
-    )
+pub release_allowed : (T : Tree) (who : Caller) (lost : PlaceSet) (masked : ℕ) (thrown : List Fault) → Reached T → MayAskRelease T who → IsUnstruck T who → MayFree T who.inner lost masked thrown → AllowedAct T who.task (Release who.inner lost masked thrown)
+release_allowed T who lost masked thrown r may u n =
+    let f : Free T who (WaitsInside T who) = free T who (WaitsInside T who) r may u in
+    let h = f.at.allowed in
+    let own = own_is T who (WaitsInside T who) f h.scope h.own in
+    does_it T who (WaitsInside T who) (Release who.inner lost masked thrown) f (h.waits, h.scope, (h.own, own), n)
 
 pub end_allowed : (T : Tree) (who : Caller) (thrown : List Fault) → Reached T → MayAskEnd T who → IsUnstruck T who → AllowedAct T who.task (End thrown)
 end_allowed T who thrown r may u =
     let f : Free T who (IsBare T who) = free T who (IsBare T who) r may u in
-    let l : Lives T who f.at.task = lives T who (IsBare T who) f f.at.allowed.moving in
-    record { task = f.at.task; place = l.place; live = l.live; none_open = f.at.allowed.none_open }
+    does_it T who (IsBare T who) (End thrown) f (lives_here T who (IsBare T who) f f.at.allowed.moving, f.at.allowed.none_open)

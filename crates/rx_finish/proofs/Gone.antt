@@ -8,10 +8,10 @@ use Rattle.rx_base.specs.declared.ids.ScopeId.{ScopeId}
 use Rattle.rx_base.specs.declared.values.Fault.{Fault}
 use Rattle.rx_rules.specs.declared.tasks.Task.{Task}
 use Rattle.rx_rules.specs.declared.entries.Act.{Act}
-use Rattle.rx_rules.specs.declared.entries.Act.TheVariants.{Open, At as Calls, Spawn, Arrive, Wait, Release, End, Print}
+use Rattle.rx_rules.specs.declared.entries.Act.TheVariants.{Open, At as Calls, Spawn, Arrive, Wait, Release, End, Print, Census}
 use Rattle.rx_rules.specs.Tree.{Tree, is_task, task_of, is_under, the_root}
 use Rattle.rx_rules.specs.Entries.{after_end, change_scope, made_act, without}
-use Rattle.rx_rules.specs.Reached.{Reached, opens, acts, ends, dies}
+use Rattle.rx_rules.specs.Reached.{Reached, opens, acts, ends, dies, joins}
 use Rattle.rx_sound.specs.Blows.{blow_at}
 use Rattle.rx_sound.specs.Sound.{TaskFits, LeftFits, Sound}
 use Rattle.rx_sound.proofs.Changes.{each_found}
@@ -54,15 +54,17 @@ acted_struck T t (Calls s r callee from to path) h = h
 acted_struck T t (Spawn child s from to path) h = h
 acted_struck T t (Arrive p) h = h
 acted_struck T t (Wait s thrown) h = h
-acted_struck T t (Release s lost thrown) h = released_struck T s h
+acted_struck T t (Release s lost masked thrown) h = released_struck T s h
 acted_struck T t (End thrown) h = ap all_struck (gone-end T t thrown) ∙ h
 acted_struck T t (Print value path) h = h
+acted_struck T t (Census places path) h = h
 
 pub gone_struck : {T : Tree} → Reached T → all_struck T.gone ≡ true
 gone_struck (opens places low high) = refl
 gone_struck (acts {T = T} t act h may) = acted_struck T t act (gone_struck h)
-gone_struck (ends {T = T} h may) = released_struck T the_root (gone_struck h)
+gone_struck (ends {T = T} lost masked thrown h may) = released_struck T the_root (gone_struck h)
 gone_struck (dies b h may old) = gone_struck h
+gone_struck (joins p h may) = gone_struck h
 
 -- one that is found there
 found_next : (t : TaskId) (x y : Task) (rest : List Task) (a b : Bool) → is_task t y ≡ a → is_some y.struck ≡ b → find (is_task t) (y ∷ rest) ≡ Some x → all_struck (y ∷ rest) ≡ true → (find (is_task t) rest ≡ Some x → all_struck rest ≡ true → is_some x.struck ≡ true) → is_some x.struck ≡ true

@@ -1,5 +1,5 @@
 -- What an unstruck caller's entry does, by what the caller says of itself.
-use Rattle.std.specs.Prelude.{◌≡◌, ℕ, List, ◌++◌, filter, not}
+use Rattle.std.specs.Prelude.{◌≡◌, List, ◌++◌, filter, not}
 use Rattle.std.proofs.Common.{ap, ◌∙◌}
 use Rattle.rx_base.specs.declared.values.Fault.{Fault}
 use Rattle.rx_rules.specs.declared.tasks.Task.{Task}

@@ -41,12 +41,12 @@ asks T who P x e u p i h m n =
     }
 
 pub opened_next : (T : Tree) (who : Caller) (s : ScopeId) (S : Tree → Type 0) → Did T who (Open s who.inner []) S → S (made_act T who.task (Open (record { 0 = T.next_scope }) who.inner []))
-opened_next T who s S d = subst (λ (n : ℕ). S (made_act T who.task (Open (record { 0 = n }) who.inner []))) d.allowed.next d.made
+opened_next T who s S d = subst (λ (n : ℕ). S (made_act T who.task (Open (record { 0 = n }) who.inner []))) d.allowed.asks.1 d.made
 
 pub called_next : (T : Tree) (who : Caller) (s : ScopeId) (callee : TaskId) (from to : PlaceId) (S : Tree → Type 0) → Did T who (Calls s who.inner callee from to []) S → S (made_act T who.task (Calls (record { 0 = T.next_scope }) who.inner (record { 0 = T.next_task }) from to []))
 called_next T who s callee from to S d =
-    subst (λ (n : ℕ). S (made_act T who.task (Calls (record { 0 = T.next_scope }) who.inner (record { 0 = n }) from to []))) d.allowed.next_task
-    (subst (λ (n : ℕ). S (made_act T who.task (Calls (record { 0 = n }) who.inner callee from to []))) d.allowed.next d.made)
+    subst (λ (n : ℕ). S (made_act T who.task (Calls (record { 0 = T.next_scope }) who.inner (record { 0 = n }) from to []))) d.allowed.asks.3
+    (subst (λ (n : ℕ). S (made_act T who.task (Calls (record { 0 = n }) who.inner callee from to []))) d.allowed.asks.1 d.made)
 
 -- the task that is found is the one
 the_task : (x y : Task) → Some x ≡ Some y → x ≡ y
@@ -54,6 +54,6 @@ the_task x y h = cc
 
 pub spawned_next : (T : Tree) (who : Caller) (child : TaskId) (s : ScopeId) (from to : PlaceId) (S : Tree → Type 0) (x : Task) → task_of T who.task ≡ Some x → Did T who (Spawn child s from to []) S → S (made_act T who.task (Spawn (record { 0 = T.next_task }) (governs T x) from to []))
 spawned_next T who child s from to S x e d =
-    let same : d.allowed.task ≡ x = the_task d.allowed.task x (sym d.allowed.live.acts.stands ∙ e) in
-    subst (λ (n : ℕ). S (made_act T who.task (Spawn (record { 0 = n }) (governs T x) from to []))) d.allowed.next_task
-    (subst (λ (r : ScopeId). S (made_act T who.task (Spawn child r from to []))) (d.allowed.under ∙ ap (governs T) same) d.made)
+    let same : d.allowed.task ≡ x = the_task d.allowed.task x (sym d.allowed.stands ∙ e) in
+    subst (λ (n : ℕ). S (made_act T who.task (Spawn (record { 0 = n }) (governs T x) from to []))) d.allowed.asks.1
+    (subst (λ (r : ScopeId). S (made_act T who.task (Spawn child r from to []))) (d.allowed.asks.2 ∙ ap (governs T) same) d.made)

@@ -9,7 +9,8 @@ use Rattle.rx_rules.specs.declared.tasks.Task.{Task}
 use Rattle.rx_rules.specs.declared.tasks.Scope.{Scope}
 use Rattle.rx_rules.specs.declared.tasks.Kind.TheVariants.{Finish}
 use Rattle.rx_rules.specs.Tree.{Tree, is_task, task_of, scope_of, inner, own_scope, the_root}
-use Rattle.rx_rules.specs.Entries.{MayDie}
+use Rattle.rx_rules.specs.Entries.{Allowed}
+use Rattle.rx_rules.specs.declared.entries.Entry.TheVariants.{Death, Join}
 use Rattle.rx_rules.specs.Reached.{IsOlder}
 use Rattle.rx_finish.specs.declared.ledger.Caller.{Caller}
 
@@ -84,7 +85,7 @@ pub record IsBare (T : Tree) (who : Caller) (x : Task) : Type 0 where
 
 -- The conditions, call by call.
 
--- of open_finish, and of print
+-- of open_finish, print and census
 abbrev pub MayAskMoving : Tree → Caller → Type 0
 MayAskMoving T who = MayAsk T who IsMoving
 
@@ -116,5 +117,9 @@ pub record HasRoot (T : Tree) : Type 0 where
 
 -- of death: a place that exists, lives and is not 0, and a number above that of each earlier death
 pub record MayStrike (T : Tree) (d : PlaceId) (number : ℕ) : Type 0 where
-  pub dies : MayDie T d
+  pub dies : Allowed T (Death d)
   pub later : All (IsOlder number) T.dead
+
+-- of join: the place is the next one, and is the sixteenth at most
+abbrev pub MayJoin : Tree → PlaceId → Type 0
+MayJoin T p = Allowed T (Join p)

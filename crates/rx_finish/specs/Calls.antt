@@ -1,5 +1,5 @@
 -- What a ledger's calls answer. Each reply is by cases on the whole result; S says for which trees the ledger stands afterwards.
-use Rattle.std.specs.Prelude.{◌≡◌, ℕ, Bool, true, false, List, [], Option, Some, None, Result, Ok, Err, is_some, is_none, ◌&&◌, ◌==◌}
+use Rattle.std.specs.Prelude.{◌≡◌, ℕ, pos, Bool, true, false, List, [], Option, Some, None, Result, Ok, Err, is_some, is_none, ◌&&◌, ◌==◌}
 use Rattle.std.specs.List.{list_any}
 use Rattle.rx_base.specs.declared.ids.PlaceId.{PlaceId}
 use Rattle.rx_base.specs.declared.ids.TaskId.{TaskId}
@@ -9,9 +9,10 @@ use Rattle.rx_rules.specs.declared.tasks.Where.{Where}
 use Rattle.rx_rules.specs.declared.tasks.Where.TheVariants.{At, Travel}
 use Rattle.rx_rules.specs.declared.tasks.Blow.{Blow}
 use Rattle.rx_rules.specs.declared.entries.Act.{Act}
-use Rattle.rx_rules.specs.declared.entries.Act.TheVariants.{Open, At as Calls, Spawn, Arrive, Wait, Release, End}
+use Rattle.rx_rules.specs.declared.entries.Act.TheVariants.{Open, At as Calls, Spawn, Arrive, Wait, Release, End, Print, Census}
+use Rattle.rx_rules.specs.declared.entries.Entry.TheVariants.{Root}
 use Rattle.rx_rules.specs.Tree.{Tree, task_of, death_of, quiet, is_under, the_root}
-use Rattle.rx_rules.specs.Entries.{place_number, AllowedAct, made_act, MayPrint, MayReleaseRoot, Names, without}
+use Rattle.rx_rules.specs.Entries.{place_number, Allowed, AllowedAct, made_act, without}
 use Rattle.rx_finish.specs.declared.ledger.Caller.{Caller}
 use Rattle.rx_finish.specs.declared.ledger.LedgerFault.{LedgerFault}
 use Rattle.rx_finish.specs.declared.ledger.LedgerFault.TheVariants.{NotYet, Lost, NoMemory}
@@ -97,7 +98,7 @@ is_ready T who = is_none (blow_of T who.task) && quiet T who.inner
 
 -- release of the caller's inner scope
 abbrev pub ReleaseReply : Tree → Caller → Result Outcome LedgerFault → (Tree → Type 0) → Type 0
-ReleaseReply T who (Ok o) S = Did T who (Release who.inner o.lost o.thrown) S
+ReleaseReply T who (Ok o) S = Did T who (Release who.inner o.lost o.masked o.thrown) S
 ReleaseReply T who (Err NoMemory) S = IsUnstruck T who × (quiet T who.inner ≡ true) × S T
 ReleaseReply T who (Err (Lost place at)) S = WasLost T who place at × S T
 ReleaseReply T who (Err (NotYet place)) S = IsUnstruck T who × IsHindered T who.inner place × S T
@@ -109,16 +110,23 @@ EndReply T who thrown (Err (NoMemory, back)) S = IsUnstruck T who × (back ≡ t
 EndReply T who thrown (Err (Lost place at, back)) S = WasLost T who place at × (back ≡ thrown) × S T
 EndReply T who thrown (Err (NotYet place, back)) S = ⊥
 
--- print: never want of memory, and the ledger stays
+-- print, whatever the value: never want of memory, and the ledger stays
 abbrev pub PrintReply : Tree → Caller → Result Unit LedgerFault → Type 0
-PrintReply T who (Ok u) = MayPrint T who.task
+PrintReply T who (Ok u) = AllowedAct T who.task (Print (pos 0) [])
 PrintReply T who (Err NoMemory) = ⊥
 PrintReply T who (Err (Lost place at)) = WasLost T who place at
 PrintReply T who (Err (NotYet place)) = ⊥
 
+-- census: the number of places; never want of memory, and the ledger stays
+abbrev pub CensusReply : Tree → Caller → Result ℕ LedgerFault → Type 0
+CensusReply T who (Ok n) = AllowedAct T who.task (Census n [])
+CensusReply T who (Err NoMemory) = ⊥
+CensusReply T who (Err (Lost place at)) = WasLost T who place at
+CensusReply T who (Err (NotYet place)) = ⊥
+
 -- release_root, by the host, who is never lost
 abbrev pub RootReply : Tree → Result Outcome LedgerFault → (Tree → Type 0) → Type 0
-RootReply T (Ok o) S = MayReleaseRoot T × Names T the_root o.lost o.thrown × S (without T the_root)
+RootReply T (Ok o) S = Allowed T (Root o.lost o.masked o.thrown) × S (without T the_root)
 RootReply T (Err NoMemory) S = (quiet T the_root ≡ true) × S T
 RootReply T (Err (Lost place at)) S = ⊥
 RootReply T (Err (NotYet place)) S = IsHindered T the_root place × S T

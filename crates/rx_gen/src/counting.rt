@@ -41,6 +41,7 @@ fn is_start(entry: &Entry) -> bool
         Entry::Step { act, .. } => is_start_act(act),
         Entry::Root { .. } => false,
         Entry::Death { .. } => false,
+        Entry::Join { .. } => false,
     }
 }
 
@@ -56,6 +57,7 @@ fn is_start_act(act: &Act) -> bool
         Act::Release { .. } => false,
         Act::End { .. } => false,
         Act::Print { .. } => false,
+        Act::Census { .. } => false,
     }
 }
 
@@ -66,6 +68,7 @@ fn is_print(entry: &Entry) -> bool
         Entry::Step { act, .. } => is_print_act(act),
         Entry::Root { .. } => false,
         Entry::Death { .. } => false,
+        Entry::Join { .. } => false,
     }
 }
 
@@ -81,6 +84,7 @@ fn is_print_act(act: &Act) -> bool
         Act::Release { .. } => false,
         Act::End { .. } => false,
         Act::Print { .. } => true,
+        Act::Census { .. } => false,
     }
 }
 
@@ -91,6 +95,7 @@ fn is_death(entry: &Entry) -> bool
         Entry::Step { .. } => false,
         Entry::Root { .. } => false,
         Entry::Death { .. } => true,
+        Entry::Join { .. } => false,
     }
 }
 
@@ -102,6 +107,7 @@ fn lost_in(entry: &Entry) -> PlaceSet
         Entry::Step { act, .. } => lost_in_act(act),
         Entry::Root { lost, .. } => *lost,
         Entry::Death { .. } => PlaceSet::empty(),
+        Entry::Join { .. } => PlaceSet::empty(),
     }
 }
 
@@ -117,6 +123,7 @@ fn lost_in_act(act: &Act) -> PlaceSet
         Act::Release { lost, .. } => *lost,
         Act::End { .. } => PlaceSet::empty(),
         Act::Print { .. } => PlaceSet::empty(),
+        Act::Census { .. } => PlaceSet::empty(),
     }
 }
 

@@ -1,4 +1,5 @@
 pub mod KillOrder
+pub mod JoinOrder
 pub mod Setups
 pub mod Logs
 pub mod Events

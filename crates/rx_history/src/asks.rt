@@ -21,6 +21,8 @@ pub enum Ask {
     End { thrown: Faults },
     /// To print a value.
     Print { value: i64 },
+    /// To be told the number of places.
+    Census,
     /// The host asks to release the root.
     Root,
 }

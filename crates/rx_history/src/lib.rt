@@ -14,4 +14,4 @@ pub use asks::Ask;
 pub use history::History;
 pub use journal::{Journal, Journals};
 pub use rx_rules::{Act, Cell, Entry, PlaceEvent};
-pub use setup::{KillList, Setup, kills_ascend};
+pub use setup::{JoinList, KillList, Setup, joins_never_fall, kills_ascend};

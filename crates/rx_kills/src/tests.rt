@@ -1,9 +1,9 @@
-// The worked spellings, and two kills at one moment.
+// The worked spellings, and plans with more than one event at one moment.
 ghost use Rattle.std.specs.Prelude.{◌≡◌};
 
-use crate::{Kills, read_kill};
+use crate::{Due, Kills, read_kill};
 use rx_base::{Kill, PlaceId};
-use rx_history::KillList;
+use rx_history::{JoinList, KillList};
 use std::test::Fail;
 
 fn planned(place: u8, moment: u32) -> Kill
@@ -49,14 +49,56 @@ fn two_kills_at_one_moment(rt: HostRuntime) -> Result<(), Fail> {
     list.push(planned(1, 4))?;
     list.push(planned(2, 4))?;
     list.push(planned(3, 9))?;
-    let mut kills = Kills::open(rt.alloc(), &list)?;
+    let joins = JoinList::open(rt.alloc());
+    let mut kills = Kills::open(rt.alloc(), &list, &joins, 4)?;
     assert_eq!(rt; kills.due(3), None);
-    assert_eq!(rt; kills.due(4), Some(PlaceId(1)));
+    assert_eq!(rt; kills.due(4), Some(Due::Death(PlaceId(1))));
     kills.done();
-    assert_eq!(rt; kills.due(5), Some(PlaceId(2)));
+    assert_eq!(rt; kills.due(5), Some(Due::Death(PlaceId(2))));
     kills.done();
     assert_eq!(rt; kills.due(8), None);
-    assert_eq!(rt; kills.due(9), Some(PlaceId(3)));
+    assert_eq!(rt; kills.due(9), Some(Due::Death(PlaceId(3))));
+    kills.done();
+    assert_eq!(rt; kills.due(u32::MAX), None);
+    Ok(())
+}
+
+#[test]
+fn a_place_joins_before_it_dies(rt: HostRuntime) -> Result<(), Fail> {
+    let mut list = KillList::open(rt.alloc());
+    list.push(planned(2, 0))?;
+    let mut joins = JoinList::open(rt.alloc());
+    joins.push(0)?;
+    let mut kills = Kills::open(rt.alloc(), &list, &joins, 2)?;
+    assert_eq!(rt; kills.due(0), Some(Due::Join(PlaceId(2))));
+    kills.done();
+    assert_eq!(rt; kills.due(1), Some(Due::Death(PlaceId(2))));
+    kills.done();
+    assert_eq!(rt; kills.due(u32::MAX), None);
+    Ok(())
+}
+
+#[test]
+fn joins_stand_among_kills(rt: HostRuntime) -> Result<(), Fail> {
+    let mut list = KillList::open(rt.alloc());
+    list.push(planned(1, 3))?;
+    list.push(planned(2, 7))?;
+    let mut joins = JoinList::open(rt.alloc());
+    joins.push(5)?;
+    joins.push(5)?;
+    joins.push(8)?;
+    let mut kills = Kills::open(rt.alloc(), &list, &joins, 3)?;
+    assert_eq!(rt; kills.due(4), Some(Due::Death(PlaceId(1))));
+    kills.done();
+    assert_eq!(rt; kills.due(4), None);
+    assert_eq!(rt; kills.due(5), Some(Due::Join(PlaceId(3))));
+    kills.done();
+    assert_eq!(rt; kills.due(6), Some(Due::Join(PlaceId(4))));
+    kills.done();
+    assert_eq!(rt; kills.due(7), Some(Due::Death(PlaceId(2))));
+    kills.done();
+    assert_eq!(rt; kills.due(7), None);
+    assert_eq!(rt; kills.due(8), Some(Due::Join(PlaceId(5))));
     kills.done();
     assert_eq!(rt; kills.due(u32::MAX), None);
     Ok(())

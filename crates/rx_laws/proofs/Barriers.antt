@@ -2,7 +2,7 @@
 use Rattle.std.specs.Prelude.{◌≡◌, ◌⊎◌, ℕ, zero, suc, Bool, true, false, cond, ◌==◌, nat_lt, List, [], ◌∷◌, ◌++◌, Option, Some, refl}
 use Rattle.std.proofs.Common.{ap, sym, subst, ◌∙◌, arith, inl, inr}
 use Rattle.std.proofs.lemmas.Bool.{true≢false, eqb-true, ltb-true, cond_both}
-use Rattle.rx_rules.specs.Code.{Stmt, SetTo, New, Get, Put, Forget, Print, Throw, Async, AtAsync, At, Finish, If, Repeat, Try, Block, Nothing, Then}
+use Rattle.rx_rules.specs.Code.{Stmt, SetTo, New, Get, Put, Forget, Census, Print, Throw, Async, AtAsync, At, Finish, If, Repeat, Try, Block, Nothing, Then}
 use Rattle.rx_rules.specs.Order.{is_kept, is_kept_in, is_before, is_before_in, comes_before}
 use Rattle.rx_laws.proofs.Paths.{Below}
 use Rattle.rx_laws.proofs.Straight.{stmt_at, stmt_in, code_at, is_straight, is_straight_in, is_ahead, is_ahead_in, comes_ahead, is_waiter}
@@ -60,6 +60,7 @@ mutual
   kept-cases (Get name target index) x h = inl refl
   kept-cases (Put target index value) x h = inl refl
   kept-cases (Forget target) x h = inl refl
+  kept-cases (Census name) x h = inl refl
   kept-cases (Print value) x h = inl refl
   kept-cases (Throw value) x h = inl refl
   kept-cases (Async body) x h = absurd (true≢false (sym h))
@@ -155,6 +156,8 @@ mutual
   shut-straight (Put target index value) (j ∷ x) i w u e h = cc
   shut-straight (Forget target) [] i w u e h = absurd (not_shut (Forget target) u refl e h)
   shut-straight (Forget target) (j ∷ x) i w u e h = cc
+  shut-straight (Census name) [] i w u e h = absurd (not_shut (Census name) u refl e h)
+  shut-straight (Census name) (j ∷ x) i w u e h = cc
   shut-straight (Print value) [] i w u e h = absurd (not_shut (Print value) u refl e h)
   shut-straight (Print value) (j ∷ x) i w u e h = cc
   shut-straight (Throw value) [] i w u e h = absurd (not_shut (Throw value) u refl e h)

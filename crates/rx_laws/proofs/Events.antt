@@ -7,7 +7,7 @@ use Rattle.rx_rules.specs.declared.events.Cell.{Cell}
 use Rattle.rx_rules.specs.declared.entries.Act.{Act}
 use Rattle.rx_rules.specs.declared.entries.Act.TheVariants.{Arrive}
 use Rattle.rx_rules.specs.declared.entries.Entry.{Entry}
-use Rattle.rx_rules.specs.declared.entries.Entry.TheVariants.{Step, Root, Death}
+use Rattle.rx_rules.specs.declared.entries.Entry.TheVariants.{Step, Root, Death, Join}
 use Rattle.rx_rules.specs.Code.{Block}
 use Rattle.rx_rules.specs.Terms.{Term, Vars, begins, answered, vars_after}
 use Rattle.rx_rules.specs.Plays.{Plays, local, stores, asks, ends, stops, Begins, begun, moves_from}
@@ -28,7 +28,7 @@ event-lower : (low high : ℕ) → low ≤ high → (cells : List (ℕ × Cell �
 event-lower low high h [] k = tt
 event-lower low high h (c ∷ cells) k = omega arith
 
-pub event-from : {starts : List (Term × Vars)} {here : PlaceId} {places low : ℕ} {vars : Vars} {t : Term} {batch : List (List ℕ)} {cells : List (ℕ × Cell × List ℕ)} {moves : List (ℕ × Act × List (List ℕ))} → Plays starts here places low vars t batch cells moves → EventFrom low cells
+pub event-from : {starts : List (Term × Vars)} {here : PlaceId} {low : ℕ} {vars : Vars} {t : Term} {batch : List (List ℕ)} {cells : List (ℕ × Cell × List ℕ)} {moves : List (ℕ × Act × List (List ℕ))} → Plays starts here low vars t batch cells moves → EventFrom low cells
 event-from (local e p) = event-from p
 event-from (stores a le tells b p) = le
 event-from (asks {low = low} {cells = cells} {n = n} le fits so p) = event-lower low (suc n) (omega arith) cells (event-from p)
@@ -46,16 +46,17 @@ due-from stamp n h (Step t act batch ∷ es) c = due_step (t.0 == c) (due-from s
   due_step : (y : Bool) → IsDue stamp (moves_from (suc n) es c) → IsDue stamp (cons_option (cond y (Some (n, act, batch)) None) (moves_from (suc n) es c))
   due_step true k = h
   due_step false k = k
-due-from stamp n h (Root lost thrown ∷ es) c = due-from stamp (suc n) (omega arith) es c
+due-from stamp n h (Root lost masked thrown ∷ es) c = due-from stamp (suc n) (omega arith) es c
 due-from stamp n h (Death d ∷ es) c = due-from stamp (suc n) (omega arith) es c
+due-from stamp n h (Join d ∷ es) c = due-from stamp (suc n) (omega arith) es c
 
 -- the task between its next event and what comes after it
-pub record NextEvent (starts : List (Term × Vars)) (here : PlaceId) (places : ℕ) (t : Term) (x : List ℕ) (cells : List (ℕ × Cell × List ℕ)) (moves : List (ℕ × Act × List (List ℕ))) : Type 0 where
+pub record NextEvent (starts : List (Term × Vars)) (here : PlaceId) (t : Term) (x : List ℕ) (cells : List (ℕ × Cell × List ℕ)) (moves : List (ℕ × Act × List (List ℕ))) : Type 0 where
   pub low : ℕ
   pub vars : Vars
   pub after : Term
   pub batch : List (List ℕ)
-  pub plays : Plays starts here places low vars after batch cells moves
+  pub plays : Plays starts here low vars after batch cells moves
   pub sorted : Sorted after
   pub shrinks : Shrinks t after
   pub todo : Todo t x
@@ -65,8 +66,8 @@ pub record NextEvent (starts : List (Term × Vars)) (here : PlaceId) (places : �
   pub inside : (ps : List (List ℕ)) → Nested t ps → EachStarts ps x
   pub brings : (code : Block) → Coded code t → Moves code t after
 
-event-local : (starts : List (Term × Vars)) (here : PlaceId) (places : ℕ) (t after : Term) (x : List ℕ) (cells : List (ℕ × Cell × List ℕ)) (moves : List (ℕ × Act × List (List ℕ))) → Moved t after → ((code : Block) → Coded code t → Coded code after) → ((ps : List (List ℕ)) → Nested t ps → Nested after ps) → ((code : Block) → Coded code t → Moves code t after) → NextEvent starts here places after x cells moves → NextEvent starts here places t x cells moves
-event-local starts here places t after x cells moves m keep stay go r =
+event-local : (starts : List (Term × Vars)) (here : PlaceId) (t after : Term) (x : List ℕ) (cells : List (ℕ × Cell × List ℕ)) (moves : List (ℕ × Act × List (List ℕ))) → Moved t after → ((code : Block) → Coded code t → Coded code after) → ((ps : List (List ℕ)) → Nested t ps → Nested after ps) → ((code : Block) → Coded code t → Moves code t after) → NextEvent starts here after x cells moves → NextEvent starts here t x cells moves
+event-local starts here t after x cells moves m keep stay go r =
     record {
       low = r.low;
       vars = r.vars;
@@ -90,12 +91,12 @@ too_late n stamp cell x (c ∷ cells) rest h e le =
     let same : c.0 ≡ stamp = ap (λ (v : ℕ × Cell × List ℕ). v.0) one in
     omega arith
 
-pub next-event : {starts : List (Term × Vars)} {here : PlaceId} {places low : ℕ} {vars : Vars} {t : Term} {batch : List (List ℕ)} {cells : List (ℕ × Cell × List ℕ)} {moves : List (ℕ × Act × List (List ℕ))} → Sorted t → Plays starts here places low vars t batch cells moves → (stamp : ℕ) (cell : Cell) (x : List ℕ) (rest : List (ℕ × Cell × List ℕ)) → cells ≡ (stamp, cell, x) ∷ rest → IsDue stamp moves → NextEvent starts here places t x rest moves
+pub next-event : {starts : List (Term × Vars)} {here : PlaceId} {low : ℕ} {vars : Vars} {t : Term} {batch : List (List ℕ)} {cells : List (ℕ × Cell × List ℕ)} {moves : List (ℕ × Act × List (List ℕ))} → Sorted t → Plays starts here low vars t batch cells moves → (stamp : ℕ) (cell : Cell) (x : List ℕ) (rest : List (ℕ × Cell × List ℕ)) → cells ≡ (stamp, cell, x) ∷ rest → IsDue stamp moves → NextEvent starts here t x rest moves
 next-event s (local {vars = vars} {left = left} {t = t} {after = after} {moves = moves} e p) stamp cell x rest same due =
-    let m : Moved t after = subst (IfLocal (Moved t)) e (local-moved vars _ _ t s) in
-    event-local _ _ _ t after x rest moves m (λ code c. subst (IfLocal (Coded code)) e (local-coded code vars _ _ t c)) (λ ps n. subst (IfLocal (λ u. Nested u ps)) e (local-nested vars _ _ t ps s n))
-    (λ code c. moves-from code t after c (subst (IfLocal (HeadsFrom code t)) e (local-from code vars _ _ t c))) (next-event m.sorted p stamp cell x rest same due)
-next-event {starts = starts} {here = here} {places = places} s (stores {low = low} {vars = vs} {t = t} {batch = batch} {cells = more} {moves = moves} {stamp = st} {cell = ce} {x = y} a le tells b p) stamp cell x rest same due =
+    let m : Moved t after = subst (IfLocal (Moved t)) e (local-moved vars _ t s) in
+    event-local _ _ t after x rest moves m (λ code c. subst (IfLocal (Coded code)) e (local-coded code vars _ t c)) (λ ps n. subst (IfLocal (λ u. Nested u ps)) e (local-nested vars _ t ps s n))
+    (λ code c. moves-from code t after c (subst (IfLocal (HeadsFrom code t)) e (local-from code vars _ t c))) (next-event m.sorted p stamp cell x rest same due)
+next-event {starts = starts} {here = here} s (stores {low = low} {vars = vs} {t = t} {batch = batch} {cells = more} {moves = moves} {stamp = st} {cell = ce} {x = y} a le tells b p) stamp cell x rest same due =
     let one : ◌≡◌ {A = ℕ × Cell × List ℕ} (st, ce, y) (stamp, cell, x) = cc in
     let here_x : y ≡ x = ap (λ (v : ℕ × Cell × List ℕ). v.2) one in
     let tail : more ≡ rest = cc in
@@ -107,7 +108,7 @@ next-event {starts = starts} {here = here} {places = places} s (stores {low = lo
       vars = vars_after a vs;
       after = answered a t;
       batch = begun t batch;
-      plays = subst (λ v. Plays starts here places st (vars_after a vs) (answered a t) (begun t batch) v moves) tail p;
+      plays = subst (λ v. Plays starts here st (vars_after a vs) (answered a t) (begun t batch) v moves) tail p;
       sorted = m.sorted;
       shrinks = m.shrinks;
       todo = is.0;
@@ -122,13 +123,13 @@ next-event s (ends le e) stamp cell x rest same due = cc
 next-event s stops stamp cell x rest same due = cc
 
 -- a task that is on its way has no event that is due
-pub none-due : (starts : List (Term × Vars)) (here : PlaceId) (places low : ℕ) (vars : Vars) (t : Term) (cells : List (ℕ × Cell × List ℕ)) (moves : List (ℕ × Act × List (List ℕ))) → Begins starts here places true low vars t cells moves → (stamp : ℕ) (cell : Cell) (x : List ℕ) (rest : List (ℕ × Cell × List ℕ)) → cells ≡ (stamp, cell, x) ∷ rest → IsDue stamp moves → ⊥
-none-due starts here places low vars t cells [] b stamp cell x rest same due = let bad : [] ≡ (stamp, cell, x) ∷ rest = sym b ∙ same in cc
-none-due starts here places low vars t cells ((n, Arrive p, batch) ∷ moves) b stamp cell x rest same due = too_late n stamp cell x cells rest (event-from b.1) same due
-none-due starts here places low vars t cells (m ∷ moves) b stamp cell x rest same due = absurd b
+pub none-due : (starts : List (Term × Vars)) (here : PlaceId) (low : ℕ) (vars : Vars) (t : Term) (cells : List (ℕ × Cell × List ℕ)) (moves : List (ℕ × Act × List (List ℕ))) → Begins starts here true low vars t cells moves → (stamp : ℕ) (cell : Cell) (x : List ℕ) (rest : List (ℕ × Cell × List ℕ)) → cells ≡ (stamp, cell, x) ∷ rest → IsDue stamp moves → ⊥
+none-due starts here low vars t cells [] b stamp cell x rest same due = let bad : [] ≡ (stamp, cell, x) ∷ rest = sym b ∙ same in cc
+none-due starts here low vars t cells ((n, Arrive p, batch) ∷ moves) b stamp cell x rest same due = too_late n stamp cell x cells rest (event-from b.1) same due
+none-due starts here low vars t cells (m ∷ moves) b stamp cell x rest same due = absurd b
 
 -- a task that begins after the stamp has none either
-pub none-before : (starts : List (Term × Vars)) (here : PlaceId) (places : ℕ) (y : Bool) (n low : ℕ) (vars : Vars) (t : Term) (cells : List (ℕ × Cell × List ℕ)) (moves : List (ℕ × Act × List (List ℕ))) → Begins starts here places y low vars t cells moves → suc n ≤ low → (stamp : ℕ) (cell : Cell) (x : List ℕ) (rest : List (ℕ × Cell × List ℕ)) → cells ≡ (stamp, cell, x) ∷ rest → stamp ≤ n → IsDue stamp moves → ⊥
-none-before starts here places true n low vars t cells moves b h stamp cell x rest same le due = none-due starts here places low vars t cells moves b stamp cell x rest same due
-none-before starts here places false n low vars t cells moves b h stamp cell x rest same le due =
+pub none-before : (starts : List (Term × Vars)) (here : PlaceId) (y : Bool) (n low : ℕ) (vars : Vars) (t : Term) (cells : List (ℕ × Cell × List ℕ)) (moves : List (ℕ × Act × List (List ℕ))) → Begins starts here y low vars t cells moves → suc n ≤ low → (stamp : ℕ) (cell : Cell) (x : List ℕ) (rest : List (ℕ × Cell × List ℕ)) → cells ≡ (stamp, cell, x) ∷ rest → stamp ≤ n → IsDue stamp moves → ⊥
+none-before starts here true n low vars t cells moves b h stamp cell x rest same le due = none-due starts here low vars t cells moves b stamp cell x rest same due
+none-before starts here false n low vars t cells moves b h stamp cell x rest same le due =
     too_late n stamp cell x cells rest (event-lower (suc n) low h cells (event-from b)) same le

@@ -30,8 +30,8 @@ abbrev pub Covered : Block → List Entry → Tree → (ℕ → Term) → Type 0
 Covered code past T f =
     (c : ℕ) → c < T.next_task → is_alive T c ≡ true → (x : List ℕ) (i : ℕ) (y : List ℕ) (u : Stmt) → Todo (f c) (x ++ i ∷ y) → code_at code x ≡ Some u → is_waiter u ≡ true → is_kept u (i ∷ y) ≡ true → Todo (f c) x ⊎ IsOpen past x
 
-pub front-first : (code : Block) (q : ℕ) (K : List Entry → Tree → (ℕ → Term) → Type 0) → ((past : List Entry) (T : Tree) (f : ℕ → Term) → ((c : ℕ) → c < T.next_task → Coded code (f c)) → K past T f → Covered code past T f) → FrontFirst code q K
-front-first code q K covers past T f i s k t ht z hz deep c hc o alive w hw =
+pub front-first : (code : Block) (K : List Entry → Tree → (ℕ → Term) → Type 0) → ((past : List Entry) (T : Tree) (f : ℕ → Term) → ((c : ℕ) → c < T.next_task → Coded code (f c)) → K past T f → Covered code past T f) → FrontFirst code K
+front-first code K covers past T f i s k t ht z hz deep c hc o alive w hw =
     false_from_ne_true (comes_before code w z) (λ e. by_case (comes_before-cases code w z e))
   where
     inside : (x : List ℕ) → Stacked x (open_paths past t) → Starts x z
@@ -49,6 +49,6 @@ front-first code q K covers past T f i s k t ht z hz deep c hc o alive w hw =
         ]
 
 -- the order of the history of a run, from a kept fact that covers each pending statement
-pub history-covered : (code : Block) (U : Given) (es : List Entry) (js : List (List PlaceEvent)) → (r : IsRun code U es js) → (K : List Entry → Tree → (ℕ → Term) → Type 0) → Keeps code r.played.starts U.places K → K [] (opening U.places) (λ c. items code [] Empty) → ((past : List Entry) (T : Tree) (f : ℕ → Term) → ((c : ℕ) → c < T.next_task → Coded code (f c)) → K past T f → Covered code past T f) → InOrder code (told es)
+pub history-covered : (code : Block) (U : Given) (es : List Entry) (js : List (List PlaceEvent)) → (r : IsRun code U es js) → (K : List Entry → Tree → (ℕ → Term) → Type 0) → Keeps code r.played.starts K → K [] (opening U.places) (λ c. items code [] Empty) → ((past : List Entry) (T : Tree) (f : ℕ → Term) → ((c : ℕ) → c < T.next_task → Coded code (f c)) → K past T f → Covered code past T f) → InOrder code (told es)
 history-covered code U es js r K keeps start covers =
-    history-in_order code U es js r K keeps start (front-first code U.places K covers)
+    history-in_order code U es js r K keeps start (front-first code K covers)

@@ -4,7 +4,7 @@ use Rattle.std.proofs.Common.{ap, sym, subst, ◌∙◌, inl, inr}
 use Rattle.std.proofs.lemmas.Bool.{cond_both}
 use Rattle.rx_base.specs.declared.values.Fault.{Fault}
 use Rattle.rx_base.proofs.Elements.{tails-are}
-use Rattle.rx_rules.specs.Code.{Block, Nothing, Then, Stmt, SetTo, New, Get, Put, Forget, Print, Throw, Async, AtAsync, At, Finish, If, Repeat, Try}
+use Rattle.rx_rules.specs.Code.{Block, Nothing, Then, Stmt, SetTo, New, Get, Put, Forget, Census, Print, Throw, Async, AtAsync, At, Finish, If, Repeat, Try}
 use Rattle.rx_rules.specs.Terms.{Term, Empty, Run, Raise, Turns, Trying, Body, Held, Vars, Does, Gets, Puts, Forgets, Calls, Spawns, Prints, at, items_from, items, does, stmt_does, trying_does, body_does, eval, target_of, is_zero, catches, replaced, after_it}
 use Rattle.rx_laws.proofs.Straight.{code_at, is_waiter}
 use Rattle.rx_laws.proofs.Paths.{Starts, starts-same, starts-trans, starts-at}
@@ -81,30 +81,31 @@ block-from code t b z c rest idle here f h k =
       | inr r ↦ from-same code t h (f h r)
     ]
 
-stmt-from : (code : Block) (vars : Vars) (here places : ℕ) (stmt : Stmt) (x : List ℕ) (rest : Term) → code_at code x ≡ Some stmt → IfLocal (HeadsFrom code (Run stmt x rest)) (stmt_does vars here places stmt x rest)
-stmt-from code vars here places (SetTo name value) x rest e =
+stmt-from : (code : Block) (vars : Vars) (here : ℕ) (stmt : Stmt) (x : List ℕ) (rest : Term) → code_at code x ≡ Some stmt → IfLocal (HeadsFrom code (Run stmt x rest)) (stmt_does vars here stmt x rest)
+stmt-from code vars here (SetTo name value) x rest e =
     local-number (HeadsFrom code (Run (SetTo name value) x rest)) vars (eval vars here value) _ (λ f h k. absurd k) (λ z h k. from-same code (Run (SetTo name value) x rest) h (inr k))
-stmt-from code vars here places (New name words) x rest e = tt
-stmt-from code vars here places (Get name target index) x rest e =
+stmt-from code vars here (New name words) x rest e = tt
+stmt-from code vars here (Get name target index) x rest e =
     local-number (HeadsFrom code (Run (Get name target index) x rest)) vars (eval vars here index) _ (λ f h k. absurd k)
     (λ z. local-ref (HeadsFrom code (Run (Get name target index) x rest)) vars here target (λ r. Gets name r z) (λ f h k. absurd k) (λ g. tt))
-stmt-from code vars here places (Put target index value) x rest e =
+stmt-from code vars here (Put target index value) x rest e =
     local-number (HeadsFrom code (Run (Put target index value) x rest)) vars (eval vars here index) _ (λ f h k. absurd k)
     (λ k. local-number (HeadsFrom code (Run (Put target index value) x rest)) vars (eval vars here value) _ (λ f h k. absurd k) (λ z. local-ref (HeadsFrom code (Run (Put target index value) x rest)) vars here target (λ r. Puts r k z) (λ f h k. absurd k) (λ g. tt)))
-stmt-from code vars here places (Forget target) x rest e = local-ref (HeadsFrom code (Run (Forget target) x rest)) vars here target Forgets (λ f h k. absurd k) (λ g. tt)
-stmt-from code vars here places (Print value) x rest e = local-number (HeadsFrom code (Run (Print value) x rest)) vars (eval vars here value) Prints (λ f h k. absurd k) (λ z. tt)
-stmt-from code vars here places (Throw value) x rest e = local-number (HeadsFrom code (Run (Throw value) x rest)) vars (eval vars here value) _ (λ f h k. absurd k) (λ z h k. absurd k)
-stmt-from code vars here places (Async body) x rest e = tt
-stmt-from code vars here places (AtAsync place body) x rest e = local-place (HeadsFrom code (Run (AtAsync place body) x rest)) vars (target_of (eval vars here place) places) Spawns (λ f h k. absurd k) (λ p. tt)
-stmt-from code vars here places (At place body) x rest e = local-place (HeadsFrom code (Run (At place body) x rest)) vars (target_of (eval vars here place) places) Calls (λ f h k. absurd k) (λ p. tt)
-stmt-from code vars here places (Finish body) x rest e = tt
-stmt-from code vars here places (If test first other) x rest e =
+stmt-from code vars here (Forget target) x rest e = local-ref (HeadsFrom code (Run (Forget target) x rest)) vars here target Forgets (λ f h k. absurd k) (λ g. tt)
+stmt-from code vars here (Census name) x rest e = tt
+stmt-from code vars here (Print value) x rest e = local-number (HeadsFrom code (Run (Print value) x rest)) vars (eval vars here value) Prints (λ f h k. absurd k) (λ z. tt)
+stmt-from code vars here (Throw value) x rest e = local-number (HeadsFrom code (Run (Throw value) x rest)) vars (eval vars here value) _ (λ f h k. absurd k) (λ z h k. absurd k)
+stmt-from code vars here (Async body) x rest e = tt
+stmt-from code vars here (AtAsync place body) x rest e = local-place (HeadsFrom code (Run (AtAsync place body) x rest)) vars (target_of (eval vars here place) vars.places) Spawns (λ f h k. absurd k) (λ p. tt)
+stmt-from code vars here (At place body) x rest e = local-place (HeadsFrom code (Run (At place body) x rest)) vars (target_of (eval vars here place) vars.places) Calls (λ f h k. absurd k) (λ p. tt)
+stmt-from code vars here (Finish body) x rest e = tt
+stmt-from code vars here (If test first other) x rest e =
     local-number (HeadsFrom code (Run (If test first other) x rest)) vars (eval vars here test) _ (λ f h k. absurd k)
     (λ z. cond_both (is_zero z) (items other (at x 1) rest) (items first (at x 0) rest) (HeadsFrom code (Run (If test first other) x rest))
     (λ t. block-from code (Run (If test first other) x rest) other x 1 rest (If test first other, e, refl, no_part_if test first other) (inl refl) (λ h k. inr k))
     (λ t. block-from code (Run (If test first other) x rest) first x 0 rest (If test first other, e, refl, no_part_if test first other) (inl refl) (λ h k. inr k)))
-stmt-from code vars here places (Repeat times body) x rest e = λ h k. from-same code (Run (Repeat times body) x rest) h k
-stmt-from code vars here places (Try body dead_only handler) x rest e = λ h k. elim k [
+stmt-from code vars here (Repeat times body) x rest e = λ h k. from-same code (Run (Repeat times body) x rest) h k
+stmt-from code vars here (Try body dead_only handler) x rest e = λ h k. elim k [
   | inl i ↦ block-from code (Run (Try body dead_only handler) x rest) body x 0 Empty (Try body dead_only handler, e, refl, no_part_try body dead_only handler) (inl refl) (λ v n. absurd n) h i
   | inr r ↦ from-same code (Run (Try body dead_only handler) x rest) h r
 ]
@@ -137,19 +138,19 @@ body-from code d (Trying t1 d1 h1 x1 r1) rest h = local-within (HeadsFrom code (
 body-from code d (Body t1 r1) rest h = local-within (HeadsFrom code (Body t1 r1)) (HeadsFrom code (Body (Body t1 r1) rest)) (λ t. Body t rest) (λ t m. in-body code (Body t1 r1) t rest m) d h
 body-from code d (Held r1) rest h = local-within (HeadsFrom code (Held r1)) (HeadsFrom code (Body (Held r1) rest)) (λ t. Body t rest) (λ t m. in-body code (Held r1) t rest m) d h
 
-pub local-from : (code : Block) (vars : Vars) (here places : ℕ) (t : Term) → Coded code t → IfLocal (HeadsFrom code t) (does vars here places t)
-local-from code vars here places Empty c = tt
-local-from code vars here places (Raise faults) c = tt
-local-from code vars here places (Run stmt x rest) c = stmt-from code vars here places stmt x rest c.0
-local-from code vars here places (Turns b x k times rest) c =
+pub local-from : (code : Block) (vars : Vars) (here : ℕ) (t : Term) → Coded code t → IfLocal (HeadsFrom code t) (does vars here t)
+local-from code vars here Empty c = tt
+local-from code vars here (Raise faults) c = tt
+local-from code vars here (Run stmt x rest) c = stmt-from code vars here stmt x rest c.0
+local-from code vars here (Turns b x k times rest) c =
     cond_both (nat_le times k) rest (items b (at x k) (Turns b x (suc k) times rest)) (HeadsFrom code (Turns b x k times rest))
     (λ e h n. from-same code (Turns b x k times rest) h (inr n))
     (λ e. block-from code (Turns b x k times rest) b x k (Turns b x (suc k) times rest) c.2 (inl refl) (λ h n. n))
-local-from code vars here places (Trying inside dead_only handler x rest) c =
-    trying-from code vars (does vars here places inside) inside dead_only handler x rest c.3 (local-from code vars here places inside c.0)
-local-from code vars here places (Body inside rest) c =
-    body-from code (does vars here places inside) inside rest (local-from code vars here places inside c.0)
-local-from code vars here places (Held rest) c = tt
+local-from code vars here (Trying inside dead_only handler x rest) c =
+    trying-from code vars (does vars here inside) inside dead_only handler x rest c.3 (local-from code vars here inside c.0)
+local-from code vars here (Body inside rest) c =
+    body-from code (does vars here inside) inside rest (local-from code vars here inside c.0)
+local-from code vars here (Held rest) c = tt
 
 -- an answer leaves items that were there
 

@@ -12,7 +12,7 @@ use Rattle.rx_rules.specs.declared.tasks.Where.TheVariants.{At, Travel}
 use Rattle.rx_rules.specs.declared.tasks.Blow.{Blow}
 use Rattle.rx_rules.specs.declared.tasks.Task.{Task}
 use Rattle.rx_rules.specs.declared.entries.Act.{Act}
-use Rattle.rx_rules.specs.declared.entries.Act.TheVariants.{Open, At as Calling, Spawn, Arrive, Wait, Release, End, Print as Printed}
+use Rattle.rx_rules.specs.declared.entries.Act.TheVariants.{Open, At as Calling, Spawn, Arrive, Wait, Release, End, Print as Printed, Census as Counted}
 use Rattle.rx_rules.specs.Tree.{Tree, is_task, task_of, is_under, death_of}
 use Rattle.rx_rules.specs.Entries.{AllowedAct, made_act, born, waiting, resumed, without, change_first, hit, is_hit, strike}
 use Rattle.rx_rules.proofs.Append.{end-tasks}
@@ -115,13 +115,14 @@ here-act T t (Arrive w) c p a (inl o) h =
     any-change (is_task t) (λ x. record x { place = At w }) (is_here c p) (λ y e k. absurd (other_row t c p y o e k)) T.tasks h
 here-act T t (Arrive w) c p a (inr o) h = absurd (o.0 w refl)
 here-act T t (Wait s thrown) c p a o h = any-change (is_task t) waiting (is_here c p) (λ y e k. k) T.tasks h
-here-act T t (Release s lost thrown) c p a o h =
+here-act T t (Release s lost masked thrown) c p a o h =
     any-change (is_task t) resumed (is_here c p) (λ y e k. k) (without T s).tasks (here-without T s c p h)
 here-act T t (End thrown) c p a (inl o) h =
-    subst (λ xs. list_any (is_here c p) xs ≡ true) (sym (end-tasks T t thrown a.task a.live.acts.stands))
+    subst (λ xs. list_any (is_here c p) xs ≡ true) (sym (end-tasks T t thrown a.task a.stands))
     (any-filter (λ y. not (is_task t y)) (is_here c p) (λ y k. not_task t c p y (is_task t y) refl o k) T.tasks h)
 here-act T t (End thrown) c p a (inr o) h = absurd (o.1 thrown refl)
 here-act T t (Printed value x) c p a o h = h
+here-act T t (Counted places x) c p a o h = h
 
 -- the death of another place leaves it
 pub here-death : (T : Tree) (b : Blow) (c p : ℕ) → (b.place.0 ≡ p → ⊥) → stays_here T c p ≡ true → stays_here (strike b T) c p ≡ true

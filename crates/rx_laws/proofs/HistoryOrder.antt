@@ -7,9 +7,9 @@ use Rattle.rx_base.specs.declared.ids.PlaceId.{PlaceId}
 use Rattle.rx_base.specs.declared.values.Fault.{Fault}
 use Rattle.rx_base.specs.declared.place_set.PlaceSet.{PlaceSet}
 use Rattle.rx_rules.specs.declared.entries.Act.{Act}
-use Rattle.rx_rules.specs.declared.entries.Act.TheVariants.{Open, At as Calling, Spawn, Arrive, Wait, Release, End, Print as Printed}
+use Rattle.rx_rules.specs.declared.entries.Act.TheVariants.{Open, At as Calling, Spawn, Arrive, Wait, Release, End, Print as Printed, Census as Counted}
 use Rattle.rx_rules.specs.declared.entries.Entry.{Entry}
-use Rattle.rx_rules.specs.declared.entries.Entry.TheVariants.{Step, Root, Death}
+use Rattle.rx_rules.specs.declared.entries.Entry.TheVariants.{Step, Root, Death, Join}
 use Rattle.rx_rules.specs.declared.events.PlaceEvent.{PlaceEvent}
 use Rattle.rx_rules.specs.Code.{Block, Stmt}
 use Rattle.rx_rules.specs.Terms.{Term, Vars}
@@ -40,17 +40,18 @@ use Rattle.rx_laws.proofs.KeptStep.{none-open, below-kept, single-kept, grow-kep
 use Rattle.rx_laws.proofs.KeptBirth.{hangs, child-under}
 
 pub started-next : (T : Tree) (t : TaskId) (act : Act) → AllowedAct T t act → (d : TaskId) → started_by act ≡ Some d → d.0 ≡ T.next_task
-started-next T t (Calling s r c from to x) a d e = let same : c ≡ d = cc in ap (λ (v : TaskId). v.0) (sym same) ∙ a.next_task
-started-next T t (Spawn c s from to x) a d e = let same : c ≡ d = cc in ap (λ (v : TaskId). v.0) (sym same) ∙ a.next_task
+started-next T t (Calling s r c from to x) a d e = let same : c ≡ d = cc in ap (λ (v : TaskId). v.0) (sym same) ∙ a.asks.3
+started-next T t (Spawn c s from to x) a d e = let same : c ≡ d = cc in ap (λ (v : TaskId). v.0) (sym same) ∙ a.asks.1
 started-next T t (Open s r x) a d e = cc
 started-next T t (Arrive p) a d e = cc
 started-next T t (Wait s thrown) a d e = cc
-started-next T t (Release s lost thrown) a d e = cc
+started-next T t (Release s lost masked thrown) a d e = cc
 started-next T t (End thrown) a d e = cc
 started-next T t (Printed value x) a d e = cc
+started-next T t (Counted places x) a d e = cc
 
 starter_no_release : (act : Act) (d : TaskId) → started_by act ≡ Some d → is_release act ≡ false
-starter_no_release (Release s lost thrown) d e = cc
+starter_no_release (Release s lost masked thrown) d e = cc
 starter_no_release (Open s r x) d e = refl
 starter_no_release (Calling s r c from to x) d e = refl
 starter_no_release (Spawn c s from to x) d e = refl
@@ -58,8 +59,9 @@ starter_no_release (Arrive p) d e = refl
 starter_no_release (Wait s thrown) d e = refl
 starter_no_release (End thrown) d e = refl
 starter_no_release (Printed value x) d e = refl
+starter_no_release (Counted places x) d e = refl
 
-module _ (code : Block) (starts : List (Term × Vars)) (q n : ℕ) (past : List Entry) (T : Tree) (t : TaskId) (act : Act) (batch told : List (List ℕ)) (f : ℕ → Term) (i : Tied q past T) (s : Shape code past T.next_task f) (sd : Says starts (f t.0) act told) (a : AllowedAct T t act) (low : t.0 < T.next_task) (lives : is_alive T t.0 ≡ true) (k : Kept code past T f) where
+module _ (code : Block) (starts : List (Term × Vars)) (n : ℕ) (past : List Entry) (T : Tree) (t : TaskId) (act : Act) (batch told : List (List ℕ)) (f : ℕ → Term) (i : Tied past T) (s : Shape code past T.next_task f) (sd : Says starts (f t.0) act told) (a : AllowedAct T t act) (low : t.0 < T.next_task) (lives : is_alive T t.0 ≡ true) (k : Kept code past T f) where
   abbrev after : Tree
   after = made n T (Step t act batch)
 
@@ -83,14 +85,14 @@ module _ (code : Block) (starts : List (Term × Vars)) (q n : ℕ) (past : List 
   kept-step none =
       record {
         all_open = all_open-step code starts past T after t act batch told f s sd low lives k.all_open
-            (stays-open code starts q past T t act batch told f i s sd a low lives k) (λ c hc h. (living-born q past T i c (was c h), was c h));
-        own = λ c h. own-kept code starts q past T t act batch told f i s sd a low lives k c (known-before c h);
-        linked = λ c h. linked-kept code starts q past T t act batch told f i s sd a low lives k c (was c h);
-        below = below-kept code starts q past T t act batch told f i s sd a low lives k;
-        single = single-kept code starts q past T t act batch told f i s sd a low lives k;
-        grow = grow-kept code starts q past T t act batch told f i s sd a low lives k;
-        kind = kind-kept code starts q past T t act batch told f i s sd a low lives k;
-        under = λ c h. under-kept code starts q past T t act batch told f i s sd a low lives k c (was c h);
+            (stays-open code starts past T t act batch told f i s sd a low lives k) (λ c hc h. (living-born past T i c (was c h), was c h));
+        own = λ c h. own-kept code starts past T t act batch told f i s sd a low lives k c (known-before c h);
+        linked = λ c h. linked-kept code starts past T t act batch told f i s sd a low lives k c (was c h);
+        below = below-kept code starts past T t act batch told f i s sd a low lives k;
+        single = single-kept code starts past T t act batch told f i s sd a low lives k;
+        grow = grow-kept code starts past T t act batch told f i s sd a low lives k;
+        kind = kind-kept code starts past T t act batch told f i s sd a low lives k;
+        under = λ c h. under-kept code starts past T t act batch told f i s sd a low lives k c (was c h);
       }
     where
       was : (c : ℕ) → is_alive after c ≡ true → is_alive T c ≡ true
@@ -103,20 +105,20 @@ module _ (code : Block) (starts : List (Term × Vars)) (q n : ℕ) (past : List 
   kept-birth : (d : TaskId) (e : started_by act ≡ Some d) → Kept code (Step t act batch ∷ past) after (set_at T.next_task (sd.child d e).term (set_at t.0 sd.after f))
   kept-birth d e =
       record {
-        all_open = all_open-birth code starts past T after t act batch told f s sd low lives k.all_open (starter_no_release act d e) d e (λ c hc h o. (living-born q past T i c (was c h o), was c h o));
-        own = λ c h. own-kept code starts q past T t act batch told f i s sd a low lives k c (known-before c h);
+        all_open = all_open-birth code starts past T after t act batch told f s sd low lives k.all_open (starter_no_release act d e) d e (λ c hc h o. (living-born past T i c (was c h o), was c h o));
+        own = λ c h. own-kept code starts past T t act batch told f i s sd a low lives k c (known-before c h);
         linked = λ c h. elim (lived c h) [
-          | inl b ↦ linked-kept code starts q past T t act batch told f i s sd a low lives k c b
+          | inl b ↦ linked-kept code starts past T t act batch told f i s sd a low lives k c b
           | inr b ↦ subst (λ ms. Linked (walk (links (Step t act batch ∷ past))) (under_in (born_so_far (Step t act batch ∷ past)) c) (nums_of ms)) (sym (new_none c b)) tt
         ];
-        below = below-kept code starts q past T t act batch told f i s sd a low lives k;
-        single = single-kept code starts q past T t act batch told f i s sd a low lives k;
-        grow = grow-kept code starts q past T t act batch told f i s sd a low lives k;
-        kind = kind-kept code starts q past T t act batch told f i s sd a low lives k;
+        below = below-kept code starts past T t act batch told f i s sd a low lives k;
+        single = single-kept code starts past T t act batch told f i s sd a low lives k;
+        grow = grow-kept code starts past T t act batch told f i s sd a low lives k;
+        kind = kind-kept code starts past T t act batch told f i s sd a low lives k;
         under = λ c h x u at w l o r on other. set_case (λ v. LiesIn v x u → is_on r (walk (links (Step t act batch ∷ past)) (under_in (born_so_far (Step t act batch ∷ past)) c)) ≡ true) T.next_task c (sd.child d e).term (set_at t.0 sd.after f)
             (λ b j. subst (λ v. is_on r (walk (links (Step t act batch ∷ past)) (under_in (born_so_far (Step t act batch ∷ past)) v)) ≡ true) b
-            (child-under code starts q past T t act batch told f i s sd a low lives k d e (hangs q past T i t act batch a (k.own t.0 (inr lives)) d e) x u at w j o r on))
-            (λ b j. under-kept code starts q past T t act batch told f i s sd a low lives k c (was c h b) x u at w j o r on other) l;
+            (child-under code starts past T t act batch told f i s sd a low lives k d e (hangs past T i t act batch a (k.own t.0 (inr lives)) d e) x u at w j o r on))
+            (λ b j. under-kept code starts past T t act batch told f i s sd a low lives k c (was c h b) x u at w j o r on other) l;
       }
     where
       was : (c : ℕ) → is_alive after c ≡ true → (T.next_task ≡ c → ⊥) → is_alive T c ≡ true
@@ -131,14 +133,14 @@ module _ (code : Block) (starts : List (Term × Vars)) (q n : ℕ) (past : List 
           opened_case past t act batch c (λ ms. ms ≡ []) (λ h. absurd (omega arith)) (λ h. none-open past c (s.none_open c (omega arith)))
 
 -- the release of the root, and a death
-module _ (code : Block) (q n : ℕ) (past : List Entry) (T : Tree) (f : ℕ → Term) (i : Tied q past T) (s : Shape code past T.next_task f) (k : Kept code past T f) where
-  kept-root : (lost : PlaceSet) (thrown : List Fault) → Allowed T (Root lost thrown) → Kept code (Root lost thrown ∷ past) (made n T (Root lost thrown)) f
-  kept-root lost thrown a =
+module _ (code : Block) (n : ℕ) (past : List Entry) (T : Tree) (f : ℕ → Term) (i : Tied past T) (s : Shape code past T.next_task f) (k : Kept code past T f) where
+  kept-root : (lost : PlaceSet) (masked : ℕ) (thrown : List Fault) → Allowed T (Root lost masked thrown) → Kept code (Root lost masked thrown ∷ past) (made n T (Root lost masked thrown)) f
+  kept-root lost masked thrown a =
       record {
         all_open = λ c hc h x u at w l. let o = k.all_open c hc (was c h) x u at w l in record { opener = o.opener; is_open = o.is_open };
         own = λ c h.
             ap (own_nums c) (cores-without T the_root) ∙ own-filter (is_off (bones T) 0) c (cores T) ∙ ap (filter (is_off (bones T) 0)) (k.own c (known c h))
-            ∙ stays-own code q past T f i k s.none_open the_root a.0.is_quiet c (known c h) (false_from_ne_true (is_on 0 (nums_of (opened past c))) (λ g. let o = nums-on 0 (opened past c) g in let b : 0 < 0 = (k.below c 0 o.0 o.1).0 in omega arith));
+            ∙ stays-own code past T f i k s.none_open the_root a.2.is_quiet c (known c h) (false_from_ne_true (is_on 0 (nums_of (opened past c))) (λ g. let o = nums-on 0 (opened past c) g in let b : 0 < 0 = (k.below c 0 o.0 o.1).0 in omega arith));
         linked = λ c h. k.linked c (was c h);
         below = k.below;
         single = k.single;
@@ -147,14 +149,14 @@ module _ (code : Block) (q n : ℕ) (past : List Entry) (T : Tree) (f : ℕ → 
         under = λ c h. k.under c (was c h);
       }
     where
-      was : (c : ℕ) → is_alive (made n T (Root lost thrown)) c ≡ true → is_alive T c ≡ true
+      was : (c : ℕ) → is_alive (made n T (Root lost masked thrown)) c ≡ true → is_alive T c ≡ true
       was c h =
-          elim (alive-back n T (Root lost thrown) c a h) [
+          elim (alive-back n T (Root lost masked thrown) c a h) [
             | inl b ↦ b
             | inr b ↦ absurd b
           ]
 
-      known : (c : ℕ) → Known (made n T (Root lost thrown)) c → Known T c
+      known : (c : ℕ) → Known (made n T (Root lost masked thrown)) c → Known T c
       known c (inl h) = inl h
       known c (inr h) = inr (was c h)
 
@@ -182,10 +184,24 @@ module _ (code : Block) (q n : ℕ) (past : List Entry) (T : Tree) (f : ℕ → 
       known c (inl h) = inl h
       known c (inr h) = inr (was c h)
 
-by_the_host : (code : Block) (q n : ℕ) (past : List Entry) (T : Tree) (e : Entry) (f : ℕ → Term) → Tied q past T → Shape code past T.next_task f → Allowed T e → by_host e ≡ true → Kept code past T f → Kept code (e ∷ past) (made n T e) f
-by_the_host code q n past T (Step t act batch) f i s a h k = absurd (true≢false (sym h))
-by_the_host code q n past T (Root lost thrown) f i s a h k = kept-root code q n past T f i s k lost thrown a
-by_the_host code q n past T (Death d) f i s a h k = kept-death code q n past T f i s k d a
+  kept-join : (d : PlaceId) → Kept code (Join d ∷ past) (made n T (Join d)) f
+  kept-join d =
+      record {
+        all_open = λ c hc h x u at w l. let o = k.all_open c hc h x u at w l in record { opener = o.opener; is_open = o.is_open };
+        own = k.own;
+        linked = k.linked;
+        below = k.below;
+        single = k.single;
+        grow = k.grow;
+        kind = k.kind;
+        under = k.under;
+      }
+
+by_the_host : (code : Block) (n : ℕ) (past : List Entry) (T : Tree) (e : Entry) (f : ℕ → Term) → Tied past T → Shape code past T.next_task f → Allowed T e → by_host e ≡ true → Kept code past T f → Kept code (e ∷ past) (made n T e) f
+by_the_host code n past T (Step t act batch) f i s a h k = absurd (true≢false (sym h))
+by_the_host code n past T (Root lost masked thrown) f i s a h k = kept-root code n past T f i s k lost masked thrown a
+by_the_host code n past T (Death d) f i s a h k = kept-death code n past T f i s k d a
+by_the_host code n past T (Join d) f i s a h k = kept-join code n past T f i s k d
 
 -- a step between entries brings no item into a waiter
 kept-inner : (code : Block) (past : List Entry) (T : Tree) (c : ℕ) (after : Term) (f : ℕ → Term) → c < T.next_task → Moves code (f c) after → Kept code past T f → Kept code past T (set_at c after f)
@@ -206,12 +222,12 @@ kept-inner code past T c after f low moves k =
         set_case (λ v. LiesIn v x u → LiesIn (f d) x u) c d after f (λ e l. subst (λ v. LiesIn (f v) x u) e (moves x u at w l)) (λ o l. l)
 
 -- every entry keeps it, and each step between entries
-pub keeps-open : (code : Block) (starts : List (Term × Vars)) (q : ℕ) → Keeps code starts q (Kept code)
-keeps-open code starts q =
+pub keeps-open : (code : Block) (starts : List (Term × Vars)) → Keeps code starts (Kept code)
+keeps-open code starts =
     record {
-      host = λ n past T e f i s a h k. by_the_host code q n past T e f i s a h k;
-      step = λ n past T t act batch told f i s sd a low lives none k. kept-step code starts q n past T t act batch told f i s sd a low lives k none;
-      birth = λ n past T t act batch told f i s sd a low lives c e new k. kept-birth code starts q n past T t act batch told f i s sd a low lives k c e;
+      host = λ n past T e f i s a h k. by_the_host code n past T e f i s a h k;
+      step = λ n past T t act batch told f i s sd a low lives none k. kept-step code starts n past T t act batch told f i s sd a low lives k none;
+      birth = λ n past T t act batch told f i s sd a low lives c e new k. kept-birth code starts n past T t act batch told f i s sd a low lives k c e;
       inner = λ past T c after f s low m k. kept-inner code past T c after f low m k;
     }
 
@@ -220,5 +236,5 @@ kept-covers code past T f coded k = all_open-covers code past T f coded k.all_op
 
 pub history-order : (code : Block) (U : Given) (es : List Entry) (js : List (List PlaceEvent)) → IsRun code U es js → InOrder code (told es)
 history-order code U es js r =
-    history-covered code U es js r (Kept code) (keeps-open code r.played.starts U.places) (kept-start code U.places)
+    history-covered code U es js r (Kept code) (keeps-open code r.played.starts) (kept-start code U.places)
     (kept-covers code)

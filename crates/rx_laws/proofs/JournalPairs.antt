@@ -13,7 +13,7 @@ use Rattle.rx_base.proofs.Elements.{get-within}
 use Rattle.rx_rules.specs.declared.entries.Act.{Act}
 use Rattle.rx_rules.specs.declared.entries.Act.TheVariants.{Arrive}
 use Rattle.rx_rules.specs.declared.entries.Entry.{Entry}
-use Rattle.rx_rules.specs.declared.entries.Entry.TheVariants.{Step, Root, Death}
+use Rattle.rx_rules.specs.declared.entries.Entry.TheVariants.{Step, Root, Death, Join}
 use Rattle.rx_rules.specs.declared.events.Cell.{Cell}
 use Rattle.rx_rules.specs.declared.events.PlaceEvent.{PlaceEvent}
 use Rattle.rx_rules.specs.declared.events.PlaceEvent.TheVariants.{Done, Close}
@@ -102,16 +102,16 @@ module _ (p : ℕ) (home : ℕ → ℕ) where
   Events past T j c false here cells = (here.0 ≡ home c) × (home c ≡ p → (cells ≡ filter_map (cell_of c) j) × ((cells ≡ []) ⊎ (stays_here T c p ≡ true)))
   Events past T j c true here cells = (here.0 ≡ home c) × (home c ≡ p → cells ≡ filter_map (cell_of c) j) × (to_in (born_so_far past) c ≡ home c)
 
-  module _ (starts : List (Term × Vars)) (q : ℕ) where
+  module _ (starts : List (Term × Vars)) where
     pub record Unborn (n : ℕ) (es : List Entry) (j : List PlaceEvent) (c : ℕ) (t : Term) (vars : Vars) : Type 0 where
       pub cells : Cells
-      pub begins : Begins starts (birth_from n es c).to q (travels (birth_from n es c)) (birth_from n es c).low vars t cells (moves_from n es c)
+      pub begins : Begins starts (birth_from n es c).to (travels (birth_from n es c)) (birth_from n es c).low vars t cells (moves_from n es c)
       pub home_is : (birth_from n es c).to.0 ≡ home c
       pub events : home c ≡ p → cells ≡ filter_map (cell_of c) j
 
     -- the entries from entry n on and the events of j are still to come
     pub record Tale (n : ℕ) (es past : List Entry) (T : Tree) (f : ℕ → Term) (j : List PlaceEvent) : Type 0 where
-      pub goes : (c : ℕ) → c < T.next_task → (batch : List (List ℕ)) × Goes (Events past T j c) starts q (f c) batch (moves_from n es c)
+      pub goes : (c : ℕ) → c < T.next_task → (batch : List (List ℕ)) × Goes (Events past T j c) starts (f c) batch (moves_from n es c)
       pub unborn : (c : ℕ) (t : Term) (vars : Vars) → T.next_task ≤ c → slice_get starts c ≡ Some (t, vars) → Unborn n es j c t vars
       pub all : length starts ≡ T.next_task + births es
       pub lives : has_died past p ≡ false
@@ -127,7 +127,7 @@ module _ (p : ℕ) (home : ℕ → ℕ) where
     unborn-other n m es fs j k c t vars eb em ej u =
         record {
           cells = u.cells;
-          begins = subst (λ (b : Birth). Begins starts b.to q (travels b) b.low vars t u.cells (moves_from m fs c)) eb (subst (Begins starts (birth_from n es c).to q (travels (birth_from n es c)) (birth_from n es c).low vars t u.cells) em u.begins);
+          begins = subst (λ (b : Birth). Begins starts b.to (travels b) b.low vars t u.cells (moves_from m fs c)) eb (subst (Begins starts (birth_from n es c).to (travels (birth_from n es c)) (birth_from n es c).low vars t u.cells) em u.begins);
           home_is = ap (λ (b : Birth). b.to.0) (sym eb) ∙ u.home_is;
           events = λ h. u.events h ∙ ej;
         }
@@ -148,7 +148,7 @@ module _ (p : ℕ) (home : ℕ → ℕ) where
     module _ (code : Block) (n : ℕ) (es past : List Entry) (T : Tree) (f : ℕ → Term) (s : Shape code past T.next_task f) (u : TaskId) (stamp : ℕ) (cell : Cell) (x : List ℕ) (j : List PlaceEvent) (tale : Tale n es past T f (Done u stamp cell x ∷ j)) (at_home : home u.0 ≡ p) (due : (c : ℕ) → IsDue stamp (moves_from n es c)) where
       pub behind : u.0 < T.next_task → Behind code n es past T f u.0 x j
       behind low = by_goes (tale.goes u.0 low).1 where
-        by_event : (batch : List (List ℕ)) (here : PlaceId) (lo : ℕ) (vars : Vars) (cells : Cells) → Events past T (Done u stamp cell x ∷ j) u.0 false here cells → cells ≡ (stamp, cell, x) ∷ filter_map (cell_of u.0) j → stays_here T u.0 p ≡ true → NextEvent starts here q (f u.0) x (filter_map (cell_of u.0) j) (moves_from n es u.0) → Behind code n es past T f u.0 x j
+        by_event : (batch : List (List ℕ)) (here : PlaceId) (lo : ℕ) (vars : Vars) (cells : Cells) → Events past T (Done u stamp cell x ∷ j) u.0 false here cells → cells ≡ (stamp, cell, x) ∷ filter_map (cell_of u.0) j → stays_here T u.0 p ≡ true → NextEvent starts here (f u.0) x (filter_map (cell_of u.0) j) (moves_from n es u.0) → Behind code n es past T f u.0 x j
         by_event batch here lo vars cells ev same stays e =
             record {
               low = low;
@@ -161,10 +161,10 @@ module _ (p : ℕ) (home : ℕ → ℕ) where
               moves = e.brings code (s.coded u.0 low);
               shape = shape-inner code past u.0 e.after T.next_task f low e.sorted e.shrinks (e.coded code) e.nested s;
               tale = record {
-                goes = λ d h. set_case (λ v. (b : List (List ℕ)) × Goes (Events past T j d) starts q v b (moves_from n es d)) u.0 d e.after f
-                    (λ i. subst (λ m. (b : List (List ℕ)) × Goes (Events past T j m) starts q e.after b (moves_from n es m)) i
+                goes = λ d h. set_case (λ v. (b : List (List ℕ)) × Goes (Events past T j d) starts v b (moves_from n es d)) u.0 d e.after f
+                    (λ i. subst (λ m. (b : List (List ℕ)) × Goes (Events past T j m) starts e.after b (moves_from n es m)) i
                     (e.batch, on here e.low e.vars (filter_map (cell_of u.0) j) (ev.0, λ h. (refl, inr stays)) e.plays))
-                    (λ o. let g = tale.goes d h in (g.0, goes-map (Events past T (Done u stamp cell x ∷ j) d) (Events past T j d) starts q (f d) g.0 (moves_from n es d) (pass d o) g.1));
+                    (λ o. let g = tale.goes d h in (g.0, goes-map (Events past T (Done u stamp cell x ∷ j) d) (Events past T j d) starts (f d) g.0 (moves_from n es d) (pass d o) g.1));
                 unborn = λ d t vars h g. unborn-other n n es es (Done u stamp cell x ∷ j) j d t vars refl refl (other_cell u stamp cell x j d (λ i. omega arith)) (tale.unborn d t vars h g);
                 all = tale.all;
                 lives = tale.lives;
@@ -175,7 +175,7 @@ module _ (p : ℕ) (home : ℕ → ℕ) where
             pass d o false here cells ev = (ev.0, λ h. ((ev.1 h).0 ∙ other_cell u stamp cell x j d o, (ev.1 h).1))
             pass d o true here cells ev = (ev.0, λ h. ev.1 h ∙ other_cell u stamp cell x j d o, ev.2)
 
-        by_goes : Goes (Events past T (Done u stamp cell x ∷ j) u.0) starts q (f u.0) (tale.goes u.0 low).0 (moves_from n es u.0) → Behind code n es past T f u.0 x j
+        by_goes : Goes (Events past T (Done u stamp cell x ∷ j) u.0) starts (f u.0) (tale.goes u.0 low).0 (moves_from n es u.0) → Behind code n es past T f u.0 x j
         by_goes (on here lo vars cells ev plays) =
             let known = ev.1 at_home in
             let same : cells ≡ (stamp, cell, x) ∷ filter_map (cell_of u.0) j = known.0 ∙ own_cell u stamp cell x j in
@@ -185,7 +185,7 @@ module _ (p : ℕ) (home : ℕ → ℕ) where
             ] in
             by_event (tale.goes u.0 low).0 here lo vars cells ev same stays (next-event (s.sorted u.0 low) plays stamp cell x (filter_map (cell_of u.0) j) same (due u.0))
         by_goes (on_its_way here lo vars cells ev e b) =
-            absurd (none-due starts here q lo vars (f u.0) cells (moves_from n es u.0) b stamp cell x (filter_map (cell_of u.0) j) (ev.1 at_home ∙ own_cell u stamp cell x j) (due u.0))
+            absurd (none-due starts here lo vars (f u.0) cells (moves_from n es u.0) b stamp cell x (filter_map (cell_of u.0) j) (ev.1 at_home ∙ own_cell u stamp cell x j) (due u.0))
 
       -- a task with an event that is due is born
       pub born-due : AllAllowed n T es → u.0 < length starts → (es ≡ []) ⊎ (stamp ≤ n) → u.0 < T.next_task
@@ -208,7 +208,7 @@ module _ (p : ℕ) (home : ℕ → ℕ) where
                 | inr early ↦
                     let at = get-within starts u.0 bound in
                     let w = tale.unborn u.0 at.0.0 at.0.1 le at.1 in
-                    none-before starts (birth_from n es u.0).to q (travels (birth_from n es u.0)) n (birth_from n es u.0).low at.0.1 at.0.0 w.cells (moves_from n es u.0) w.begins (birth-low n T es a u.0 le count) stamp cell x (filter_map (cell_of u.0) j) (w.events at_home ∙ own_cell u stamp cell x j) early (due u.0)
+                    none-before starts (birth_from n es u.0).to (travels (birth_from n es u.0)) n (birth_from n es u.0).low at.0.1 at.0.0 w.cells (moves_from n es u.0) w.begins (birth-low n T es a u.0 le count) stamp cell x (filter_map (cell_of u.0) j) (w.events at_home ∙ own_cell u stamp cell x j) early (due u.0)
               ]
 
     late_cell : (n c stamp : ℕ) (cell : Cell) (x : List ℕ) (cells : Cells) (j : List PlaceEvent) → NotFalling (suc n) j → (stamp, cell, x) ∷ cells ≡ filter_map (cell_of c) j → stamp ≤ n → ⊥
@@ -216,16 +216,16 @@ module _ (p : ℕ) (home : ℕ → ℕ) where
         let k : suc n ≤ stamp = subst (EventFrom (suc n)) (sym e) (events-late (suc n) c j rising) in omega arith
 
     -- an entry of a task, where no event is due
-    module _ (code : Block) (n : ℕ) (past : List Entry) (T : Tree) (t : TaskId) (act : Act) (batch : List (List ℕ)) (es : List Entry) (f : ℕ → Term) (j : List PlaceEvent) (small : q ≤ 16) (i : Tied q past T) (s : Shape code past T.next_task f) (tale : Tale n (Step t act batch ∷ es) past T f j) (a : AllowedAct T t act) (low : t.0 < T.next_task) (rising : NotFalling (suc n) j) where
+    module _ (code : Block) (n : ℕ) (past : List Entry) (T : Tree) (t : TaskId) (act : Act) (batch : List (List ℕ)) (es : List Entry) (f : ℕ → Term) (j : List PlaceEvent) (i : Tied past T) (s : Shape code past T.next_task f) (tale : Tale n (Step t act batch ∷ es) past T f j) (a : AllowedAct T t act) (low : t.0 < T.next_task) (rising : NotFalling (suc n) j) where
       abbrev pub after : Tree
       after = made_act T t act
 
       lands_here : (w : PlaceId) → act ≡ Arrive w → to_in (born_so_far past) t.0 ≡ home t.0 → home t.0 ≡ p → stays_here after t.0 p ≡ true
       lands_here w e to h =
           let may = subst (AllowedAct T t) e a in
-          let at : w.0 ≡ p = travels-to q past T i t may.task may.from w may.acts.stands may.travels ∙ to ∙ h in
+          let at : w.0 ≡ p = travels-to past T i t may.task may.asks.0 w may.stands may.asks.1 ∙ to ∙ h in
           subst (λ v. stays_here (made_act T t v) t.0 p ≡ true) (sym e)
-          (subst (λ v. stays_here (made_act T t (Arrive w)) t.0 v ≡ true) at (here-lands T t w may.task may.acts.stands (number-of T t may.task may.acts.stands) may.acts.unstruck))
+          (subst (λ v. stays_here (made_act T t (Arrive w)) t.0 v ≡ true) at (here-lands T t w may.task may.stands (number-of T t may.task may.stands) may.unstruck))
 
       pub passes : Passes (Events past T j t.0) (Events (Step t act batch ∷ past) after j t.0) n act
       passes =
@@ -245,10 +245,10 @@ module _ (p : ℕ) (home : ℕ → ℕ) where
             lands = λ here w cells e ev. (ev.0, λ h. (ev.1 h, inr (lands_here w e ev.2 h)));
           }
 
-      pub now : Said (Events (Step t act batch ∷ past) after j t.0) starts q (f t.0) act (tale.goes t.0 low).0 batch (moves_from (suc n) es t.0)
+      pub now : Said (Events (Step t act batch ∷ past) after j t.0) starts (f t.0) act (tale.goes t.0 low).0 batch (moves_from (suc n) es t.0)
       now =
-          said (Events past T j t.0) (Events (Step t act batch ∷ past) after j t.0) starts q (f t.0) n act (tale.goes t.0 low).0 batch (moves_from (suc n) es t.0) passes (s.sorted t.0 low)
-          (subst (Goes (Events past T j t.0) starts q (f t.0) (tale.goes t.0 low).0) (moves_own n t act batch es) (tale.goes t.0 low).1)
+          said (Events past T j t.0) (Events (Step t act batch ∷ past) after j t.0) starts (f t.0) n act (tale.goes t.0 low).0 batch (moves_from (suc n) es t.0) passes (s.sorted t.0 low)
+          (subst (Goes (Events past T j t.0) starts (f t.0) (tale.goes t.0 low).0) (moves_own n t act batch es) (tale.goes t.0 low).1)
 
       pass_other : (d : ℕ) → (t.0 ≡ d → ⊥) → d < T.next_task → (y : Bool) (here : PlaceId) (cells : Cells) → Events past T j d y here cells → Events (Step t act batch ∷ past) after j d y here cells
       pass_other d o hd false here cells ev = (
@@ -263,11 +263,11 @@ module _ (p : ℕ) (home : ℕ → ℕ) where
       )
       pass_other d o hd true here cells ev = (ev.0, ev.1, to-same past T t act batch a d hd ∙ ev.2)
 
-      old_goes : (d : ℕ) → d < T.next_task → (b : List (List ℕ)) × Goes (Events (Step t act batch ∷ past) after j d) starts q (set_at t.0 now.says.after f d) b (moves_from (suc n) es d)
+      old_goes : (d : ℕ) → d < T.next_task → (b : List (List ℕ)) × Goes (Events (Step t act batch ∷ past) after j d) starts (set_at t.0 now.says.after f d) b (moves_from (suc n) es d)
       old_goes d h =
-          set_case (λ v. (b : List (List ℕ)) × Goes (Events (Step t act batch ∷ past) after j d) starts q v b (moves_from (suc n) es d)) t.0 d now.says.after f
-          (λ e. subst (λ m. (b : List (List ℕ)) × Goes (Events (Step t act batch ∷ past) after j m) starts q now.says.after b (moves_from (suc n) es m)) e ([], now.goes))
-          (λ o. let g = tale.goes d h in (g.0, subst (Goes (Events (Step t act batch ∷ past) after j d) starts q (f d) g.0) (moves_other n t act batch es d o) (goes-map (Events past T j d) (Events (Step t act batch ∷ past) after j d) starts q (f d) g.0 (moves_from n (Step t act batch ∷ es) d) (pass_other d o h) g.1)))
+          set_case (λ v. (b : List (List ℕ)) × Goes (Events (Step t act batch ∷ past) after j d) starts v b (moves_from (suc n) es d)) t.0 d now.says.after f
+          (λ e. subst (λ m. (b : List (List ℕ)) × Goes (Events (Step t act batch ∷ past) after j m) starts now.says.after b (moves_from (suc n) es m)) e ([], now.goes))
+          (λ o. let g = tale.goes d h in (g.0, subst (Goes (Events (Step t act batch ∷ past) after j d) starts (f d) g.0) (moves_other n t act batch es d o) (goes-map (Events past T j d) (Events (Step t act batch ∷ past) after j d) starts (f d) g.0 (moves_from n (Step t act batch ∷ es) d) (pass_other d o h) g.1)))
 
       old_unborn : (d : ℕ) (u : Term) (vars : Vars) → T.next_task ≤ d → StartsOther act d → slice_get starts d ≡ Some (u, vars) → Unborn (suc n) es j d u vars
       old_unborn d u vars h o g =
@@ -284,7 +284,7 @@ module _ (p : ℕ) (home : ℕ → ℕ) where
 
       -- the task that the entry starts
       module _ (c : TaskId) (e : started_by act ≡ Some c) (new : c.0 ≡ T.next_task) where
-        new_goes : Goes (Events (Step t act batch ∷ past) after j c.0) starts q (now.says.child c e).term [] (moves_from (suc n) es c.0)
+        new_goes : Goes (Events (Step t act batch ∷ past) after j c.0) starts (now.says.child c e).term [] (moves_from (suc n) es c.0)
         new_goes =
             let ch = now.says.child c e in
             let b = newborn n past T t act batch a c e in
@@ -292,13 +292,13 @@ module _ (p : ℕ) (home : ℕ → ℕ) where
             let w = tale.unborn c.0 ch.term ch.vars (omega (arith, new)) ch.at in
             let at_home : b.to.0 ≡ home c.0 = ap (λ (v : Birth). v.to.0) (sym it) ∙ w.home_is in
             let others : moves_from n (Step t act batch ∷ es) c.0 ≡ moves_from (suc n) es c.0 = moves_other n t act batch es c.0 (λ k. omega (arith, new)) in
-            let begins : Begins starts b.to q (not (b.from.0 == b.to.0)) (suc n) ch.vars ch.term w.cells (moves_from (suc n) es c.0) =
-            subst (λ (v : Birth). Begins starts v.to q (travels v) v.low ch.vars ch.term w.cells (moves_from (suc n) es c.0)) it
-            (subst (Begins starts (birth_from n (Step t act batch ∷ es) c.0).to q (travels (birth_from n (Step t act batch ∷ es) c.0)) (birth_from n (Step t act batch ∷ es) c.0).low ch.vars ch.term w.cells) others w.begins)
+            let begins : Begins starts b.to (not (b.from.0 == b.to.0)) (suc n) ch.vars ch.term w.cells (moves_from (suc n) es c.0) =
+            subst (λ (v : Birth). Begins starts v.to (travels v) v.low ch.vars ch.term w.cells (moves_from (suc n) es c.0)) it
+            (subst (Begins starts (birth_from n (Step t act batch ∷ es) c.0).to (travels (birth_from n (Step t act batch ∷ es) c.0)) (birth_from n (Step t act batch ∷ es) c.0).low ch.vars ch.term w.cells) others w.begins)
             in
             by_way ch.term ch.vars b.from b.to w.cells (b.from.0 == b.to.0) refl at_home w.events (b.dest ∙ at_home) b.target b.here begins
           where
-            by_way : (u : Term) (vars : Vars) (from to : PlaceId) (cells : Cells) (y : Bool) → (from.0 == to.0) ≡ y → to.0 ≡ home c.0 → (home c.0 ≡ p → cells ≡ filter_map (cell_of c.0) j) → to_in (born_so_far (Step t act batch ∷ past)) c.0 ≡ home c.0 → to.0 < T.places → ((from.0 == to.0) ≡ true → death_of T to ≡ None → stays_here after c.0 to.0 ≡ true) → Begins starts to q (not y) (suc n) vars u cells (moves_from (suc n) es c.0) → Goes (Events (Step t act batch ∷ past) after j c.0) starts q u [] (moves_from (suc n) es c.0)
+            by_way : (u : Term) (vars : Vars) (from to : PlaceId) (cells : Cells) (y : Bool) → (from.0 == to.0) ≡ y → to.0 ≡ home c.0 → (home c.0 ≡ p → cells ≡ filter_map (cell_of c.0) j) → to_in (born_so_far (Step t act batch ∷ past)) c.0 ≡ home c.0 → to.0 < T.places → ((from.0 == to.0) ≡ true → death_of T to ≡ None → stays_here after c.0 to.0 ≡ true) → Begins starts to (not y) (suc n) vars u cells (moves_from (suc n) es c.0) → Goes (Events (Step t act batch ∷ past) after j c.0) starts u [] (moves_from (suc n) es c.0)
             by_way u vars from to cells true y at_home events dest target here begins =
                 on to (suc n) vars cells (
                   at_home,
@@ -306,7 +306,7 @@ module _ (p : ℕ) (home : ℕ → ℕ) where
                     events h,
                     inr (
                         let at : to.0 ≡ p = at_home ∙ h in
-                        let low16 : to.0 < 16 = let k : T.places ≡ q = i.same_places in omega (arith, k, target) in
+                        let low16 : to.0 < 16 = let k : T.places ≤ 16 = i.few in omega (arith, k, target) in
                         let alive : is_some (death_of T to) ≡ false = i.dead_so to low16 ∙ ap (has_died past) at ∙ tale.lives in
                         subst (λ v. stays_here after c.0 v ≡ true) at (here y (none-of (death_of T to) alive))),
                   ),
@@ -317,8 +317,8 @@ module _ (p : ℕ) (home : ℕ → ℕ) where
         pub tale-birth : after.next_task ≡ suc T.next_task → Tale (suc n) es (Step t act batch ∷ past) after (set_at T.next_task (now.says.child c e).term (set_at t.0 now.says.after f)) j
         tale-birth more =
             record {
-              goes = λ d h. set_case (λ v. (b : List (List ℕ)) × Goes (Events (Step t act batch ∷ past) after j d) starts q v b (moves_from (suc n) es d)) T.next_task d (now.says.child c e).term (set_at t.0 now.says.after f)
-                  (λ k. subst (λ m. (b : List (List ℕ)) × Goes (Events (Step t act batch ∷ past) after j m) starts q (now.says.child c e).term b (moves_from (suc n) es m)) (new ∙ k) ([], new_goes))
+              goes = λ d h. set_case (λ v. (b : List (List ℕ)) × Goes (Events (Step t act batch ∷ past) after j d) starts v b (moves_from (suc n) es d)) T.next_task d (now.says.child c e).term (set_at t.0 now.says.after f)
+                  (λ k. subst (λ m. (b : List (List ℕ)) × Goes (Events (Step t act batch ∷ past) after j m) starts (now.says.child c e).term b (moves_from (suc n) es m)) (new ∙ k) ([], new_goes))
                   (λ o. old_goes d (before d h o));
               unborn = λ d u vars h g. old_unborn d u vars (omega (arith, more, h))
                   (λ m k w. let same : c ≡ m = let g : Some c ≡ Some m = sym e ∙ k in cc in let number : c.0 ≡ m.0 = ap (λ (v : TaskId). v.0) same in omega (arith, more, h, new, number, w)) g;
@@ -335,16 +335,16 @@ module _ (p : ℕ) (home : ℕ → ℕ) where
                 ]
 
     -- an entry of the host
-    pub tale-root : (n : ℕ) (past : List Entry) (T : Tree) (lost : PlaceSet) (thrown : List Fault) (es : List Entry) (f : ℕ → Term) (j : List PlaceEvent) → Tale n (Root lost thrown ∷ es) past T f j → Tale (suc n) es (Root lost thrown ∷ past) (made n T (Root lost thrown)) f j
-    tale-root n past T lost thrown es f j tale =
+    pub tale-root : (n : ℕ) (past : List Entry) (T : Tree) (lost : PlaceSet) (masked : ℕ) (thrown : List Fault) (es : List Entry) (f : ℕ → Term) (j : List PlaceEvent) → Tale n (Root lost masked thrown ∷ es) past T f j → Tale (suc n) es (Root lost masked thrown ∷ past) (made n T (Root lost masked thrown)) f j
+    tale-root n past T lost masked thrown es f j tale =
         record {
-          goes = λ d h. let g = tale.goes d h in (g.0, goes-map (Events past T j d) (Events (Root lost thrown ∷ past) (made n T (Root lost thrown)) j d) starts q (f d) g.0 (moves_from (suc n) es d) (pass d) g.1);
-          unborn = λ d u vars h g. unborn-other n (suc n) (Root lost thrown ∷ es) es j j d u vars refl refl refl (tale.unborn d u vars h g);
-          all = tale.all ∙ births-left n T (Root lost thrown) es;
+          goes = λ d h. let g = tale.goes d h in (g.0, goes-map (Events past T j d) (Events (Root lost masked thrown ∷ past) (made n T (Root lost masked thrown)) j d) starts (f d) g.0 (moves_from (suc n) es d) (pass d) g.1);
+          unborn = λ d u vars h g. unborn-other n (suc n) (Root lost masked thrown ∷ es) es j j d u vars refl refl refl (tale.unborn d u vars h g);
+          all = tale.all ∙ births-left n T (Root lost masked thrown) es;
           lives = tale.lives;
         }
       where
-        pass : (d : ℕ) (y : Bool) (here : PlaceId) (cells : Cells) → Events past T j d y here cells → Events (Root lost thrown ∷ past) (made n T (Root lost thrown)) j d y here cells
+        pass : (d : ℕ) (y : Bool) (here : PlaceId) (cells : Cells) → Events past T j d y here cells → Events (Root lost masked thrown ∷ past) (made n T (Root lost masked thrown)) j d y here cells
         pass d false here cells ev = (
           ev.0,
           λ h. (
@@ -360,7 +360,7 @@ module _ (p : ℕ) (home : ℕ → ℕ) where
     pub tale-death : (n : ℕ) (past : List Entry) (T : Tree) (d : PlaceId) (es : List Entry) (f : ℕ → Term) (j : List PlaceEvent) → (d.0 ≡ p → ⊥) → Tale n (Death d ∷ es) past T f j → Tale (suc n) es (Death d ∷ past) (made n T (Death d)) f j
     tale-death n past T d es f j o tale =
         record {
-          goes = λ c h. let g = tale.goes c h in (g.0, goes-map (Events past T j c) (Events (Death d ∷ past) (made n T (Death d)) j c) starts q (f c) g.0 (moves_from (suc n) es c) (pass c) g.1);
+          goes = λ c h. let g = tale.goes c h in (g.0, goes-map (Events past T j c) (Events (Death d ∷ past) (made n T (Death d)) j c) starts (f c) g.0 (moves_from (suc n) es c) (pass c) g.1);
           unborn = λ c u vars h g. unborn-other n (suc n) (Death d ∷ es) es j j c u vars refl refl refl (tale.unborn c u vars h g);
           all = tale.all ∙ births-left n T (Death d) es;
           lives = rw (ne_eqb d.0 p o) tale.lives;
@@ -377,4 +377,17 @@ module _ (p : ℕ) (home : ℕ → ℕ) where
             ],
           ),
         )
+        pass c true here cells ev = ev
+
+    pub tale-join : (n : ℕ) (past : List Entry) (T : Tree) (d : PlaceId) (es : List Entry) (f : ℕ → Term) (j : List PlaceEvent) → Tale n (Join d ∷ es) past T f j → Tale (suc n) es (Join d ∷ past) (made n T (Join d)) f j
+    tale-join n past T d es f j tale =
+        record {
+          goes = λ c h. let g = tale.goes c h in (g.0, goes-map (Events past T j c) (Events (Join d ∷ past) (made n T (Join d)) j c) starts (f c) g.0 (moves_from (suc n) es c) (pass c) g.1);
+          unborn = λ c u vars h g. unborn-other n (suc n) (Join d ∷ es) es j j c u vars refl refl refl (tale.unborn c u vars h g);
+          all = tale.all ∙ births-left n T (Join d) es;
+          lives = tale.lives;
+        }
+      where
+        pass : (c : ℕ) (y : Bool) (here : PlaceId) (cells : Cells) → Events past T j c y here cells → Events (Join d ∷ past) (made n T (Join d)) j c y here cells
+        pass c false here cells ev = ev
         pass c true here cells ev = ev

@@ -6,7 +6,7 @@ use Rattle.rx_base.specs.declared.ids.TaskId.{TaskId}
 use Rattle.rx_rules.specs.declared.tasks.Task.{Task}
 use Rattle.rx_rules.specs.declared.tasks.Scope.{Scope}
 use Rattle.rx_rules.specs.declared.entries.Act.{Act}
-use Rattle.rx_rules.specs.declared.entries.Act.TheVariants.{Open, At as Calling, Spawn, Arrive, Wait, Release, End, Print as Printed}
+use Rattle.rx_rules.specs.declared.entries.Act.TheVariants.{Open, At as Calling, Spawn, Arrive, Wait, Release, End, Print as Printed, Census as Counted}
 use Rattle.rx_rules.specs.declared.entries.Entry.{Entry}
 use Rattle.rx_rules.specs.declared.entries.Entry.TheVariants.{Step}
 use Rattle.rx_rules.specs.Code.{Block, Stmt, Finish}
@@ -108,53 +108,57 @@ NextScope T act after =
     ((scope_in act ≡ None) × (after.next_scope ≡ T.next_scope)) ⊎ ((s : ℕ) × (scope_in act ≡ Some s) × (s ≡ T.next_scope) × (after.next_scope ≡ suc T.next_scope))
 
 pub next-scope : (T : Tree) (t : TaskId) (act : Act) → AllowedAct T t act → NextScope T act (made_act T t act)
-next-scope T t (Open s r x) a = inr (s.0, refl, a.next, refl)
-next-scope T t (Calling s r c from to x) a = inr (s.0, refl, a.next, refl)
+next-scope T t (Open s r x) a = inr (s.0, refl, a.asks.1, refl)
+next-scope T t (Calling s r c from to x) a = inr (s.0, refl, a.asks.1, refl)
 next-scope T t (Spawn c s from to x) a = inl (refl, refl)
 next-scope T t (Arrive p) a = inl (refl, refl)
 next-scope T t (Wait s thrown) a = inl (refl, refl)
-next-scope T t (Release s lost thrown) a = inl (refl, refl)
+next-scope T t (Release s lost masked thrown) a = inl (refl, refl)
 next-scope T t (End thrown) a = inl (refl, scope-after_end T t thrown)
 next-scope T t (Printed value x) a = inl (refl, refl)
+next-scope T t (Counted places x) a = inl (refl, refl)
 
 -- chains of scopes that are there stay
 pub walk-more : (past : List Entry) (T : Tree) (t : TaskId) (act : Act) (batch : List (List ℕ)) → AllowedAct T t act → (n : ℕ) → n < T.next_scope → walk (links (Step t act batch ∷ past)) n ≡ walk (links past) n
-walk-more past T t (Open s r x) batch a n h = let e : s.0 ≡ T.next_scope = a.next in rw (ne_eqb s.0 n (λ k. omega arith))
-walk-more past T t (Calling s r c from to x) batch a n h = let e : s.0 ≡ T.next_scope = a.next in rw (ne_eqb s.0 n (λ k. omega arith))
+walk-more past T t (Open s r x) batch a n h = let e : s.0 ≡ T.next_scope = a.asks.1 in rw (ne_eqb s.0 n (λ k. omega arith))
+walk-more past T t (Calling s r c from to x) batch a n h = let e : s.0 ≡ T.next_scope = a.asks.1 in rw (ne_eqb s.0 n (λ k. omega arith))
 walk-more past T t (Spawn c s from to x) batch a n h = refl
 walk-more past T t (Arrive p) batch a n h = refl
 walk-more past T t (Wait s thrown) batch a n h = refl
-walk-more past T t (Release s lost thrown) batch a n h = refl
+walk-more past T t (Release s lost masked thrown) batch a n h = refl
 walk-more past T t (End thrown) batch a n h = refl
 walk-more past T t (Printed value x) batch a n h = refl
+walk-more past T t (Counted places x) batch a n h = refl
 
 -- the chain of a new scope goes on from the innermost of its task
 pub walk-new : (past : List Entry) (T : Tree) (t : TaskId) (act : Act) (batch : List (List ℕ)) → AllowedAct T t act → (m : ℕ) → ((x : Task) → task_of T t ≡ Some x → (inner T x).0 ≡ m) → (n : ℕ) → scope_in act ≡ Some n → walk (links (Step t act batch ∷ past)) n ≡ n ∷ walk (links past) m
 walk-new past T t (Open s r x) batch a m h n e =
     let same : s.0 ≡ n = cc in
-    rw (eq-eqb s.0 n same) (ap (λ k. n ∷ walk (links past) k) (ap (λ v. v.0) a.parent ∙ h a.task a.live.acts.stands))
+    rw (eq-eqb s.0 n same) (ap (λ k. n ∷ walk (links past) k) (ap (λ v. v.0) a.asks.2 ∙ h a.task a.stands))
 walk-new past T t (Calling s r c from to x) batch a m h n e =
     let same : s.0 ≡ n = cc in
-    rw (eq-eqb s.0 n same) (ap (λ k. n ∷ walk (links past) k) (ap (λ v. v.0) a.parent ∙ h a.task a.live.acts.stands))
+    rw (eq-eqb s.0 n same) (ap (λ k. n ∷ walk (links past) k) (ap (λ v. v.0) a.asks.2 ∙ h a.task a.stands))
 walk-new past T t (Spawn c s from to x) batch a m h n e = cc
 walk-new past T t (Arrive p) batch a m h n e = cc
 walk-new past T t (Wait s thrown) batch a m h n e = cc
-walk-new past T t (Release s lost thrown) batch a m h n e = cc
+walk-new past T t (Release s lost masked thrown) batch a m h n e = cc
 walk-new past T t (End thrown) batch a m h n e = cc
 walk-new past T t (Printed value x) batch a m h n e = cc
+walk-new past T t (Counted places x) batch a m h n e = cc
 
 -- tasks that are there hang where they hung
 pub under-same : (past : List Entry) (T : Tree) (t : TaskId) (act : Act) (batch : List (List ℕ)) → AllowedAct T t act → (c : ℕ) → c < T.next_task → under_in (born_so_far (Step t act batch ∷ past)) c ≡ under_in (born_so_far past) c
 under-same past T t (Open s r x) batch a c h = refl
-under-same past T t (Calling s r d from to x) batch a c h = let e : d.0 ≡ T.next_task = a.next_task in rw (ne_eqb d.0 c (λ k. omega arith))
-under-same past T t (Spawn d s from to x) batch a c h = let e : d.0 ≡ T.next_task = a.next_task in rw (ne_eqb d.0 c (λ k. omega arith))
+under-same past T t (Calling s r d from to x) batch a c h = let e : d.0 ≡ T.next_task = a.asks.3 in rw (ne_eqb d.0 c (λ k. omega arith))
+under-same past T t (Spawn d s from to x) batch a c h = let e : d.0 ≡ T.next_task = a.asks.1 in rw (ne_eqb d.0 c (λ k. omega arith))
 under-same past T t (Arrive p) batch a c h = refl
 under-same past T t (Wait s thrown) batch a c h = refl
-under-same past T t (Release s lost thrown) batch a c h = refl
+under-same past T t (Release s lost masked thrown) batch a c h = refl
 under-same past T t (End thrown) batch a c h = refl
 under-same past T t (Printed value x) batch a c h = refl
+under-same past T t (Counted places x) batch a c h = refl
 
 -- the scope that a task works in is the innermost that it has open, or the one that it hangs under
-pub inner-of : (q : ℕ) (past : List Entry) (T : Tree) → Tied q past T → (t : TaskId) → own_nums t.0 (cores T) ≡ nums_of (opened past t.0) → (x : Task) → task_of T t ≡ Some x → (inner T x).0 ≡ inner_num past t.0
-inner-of q past T i t own x h =
-    inner-top T x ∙ ap (λ n. top x.under.0 (own_nums n (cores T))) (number-of T t x h) ∙ ap (top x.under.0) own ∙ ap (λ u. top u (nums_of (opened past t.0))) (task-under q past T i t x h)
+pub inner-of : (past : List Entry) (T : Tree) → Tied past T → (t : TaskId) → own_nums t.0 (cores T) ≡ nums_of (opened past t.0) → (x : Task) → task_of T t ≡ Some x → (inner T x).0 ≡ inner_num past t.0
+inner-of past T i t own x h =
+    inner-top T x ∙ ap (λ n. top x.under.0 (own_nums n (cores T))) (number-of T t x h) ∙ ap (top x.under.0) own ∙ ap (λ u. top u (nums_of (opened past t.0))) (task-under past T i t x h)

@@ -6,10 +6,10 @@ use Rattle.rx_base.specs.declared.ids.TaskId.{TaskId}
 use Rattle.rx_base.specs.declared.ids.ScopeId.{ScopeId}
 use Rattle.rx_base.proofs.Elements.{tails-are}
 use Rattle.rx_rules.specs.declared.entries.Act.{Act}
-use Rattle.rx_rules.specs.declared.entries.Act.TheVariants.{Open, At as Calling, Spawn, Arrive, Wait, Release, End, Print as Printed}
+use Rattle.rx_rules.specs.declared.entries.Act.TheVariants.{Open, At as Calling, Spawn, Arrive, Wait, Release, End, Print as Printed, Census as Counted}
 use Rattle.rx_rules.specs.declared.entries.Entry.{Entry}
 use Rattle.rx_rules.specs.declared.entries.Entry.TheVariants.{Step}
-use Rattle.rx_rules.specs.Code.{Block, Stmt, SetTo, New, Get, Put, Forget, Print, Throw, Async, AtAsync, At, Finish, If, Repeat, Try}
+use Rattle.rx_rules.specs.Code.{Block, Stmt, SetTo, New, Get, Put, Forget, Census, Print, Throw, Async, AtAsync, At, Finish, If, Repeat, Try}
 use Rattle.rx_rules.specs.Terms.{Term, Vars}
 use Rattle.rx_rules.specs.Plays.{started_by}
 use Rattle.rx_rules.specs.Tree.{Tree}
@@ -29,7 +29,7 @@ use Rattle.rx_laws.proofs.Lies.{LiesIn, part-of}
 use Rattle.rx_laws.proofs.Stacks.{Stacked, Pushes}
 use Rattle.rx_laws.proofs.Says.{Says, ChildOf}
 use Rattle.rx_laws.proofs.Story.{Shape}
-use Rattle.rx_laws.proofs.ToldPairs.{is_alive, acts_by}
+use Rattle.rx_laws.proofs.ToldPairs.{is_alive}
 use Rattle.rx_laws.proofs.Governed.{first_num, governs-first, outer}
 use Rattle.rx_laws.proofs.Numbered.{On, opened, nums_of, same-paths, stacked-on, on-nums, scope_in, on-after}
 use Rattle.rx_laws.proofs.Owners.{cores, own_nums}
@@ -42,21 +42,22 @@ pub data Hangs (past : List Entry) (T : Tree) (t : TaskId) (act : Act) (batch : 
   calls : (r : ℕ) → scope_in act ≡ Some r → under_in (born_so_far (Step t act batch ∷ past)) T.next_task ≡ r → walk (links (Step t act batch ∷ past)) r ≡ r ∷ walk (links past) (inner_num past t.0) → Hangs past T t act batch
   spawns : scope_in act ≡ None → (g : ℕ) → under_in (born_so_far (Step t act batch ∷ past)) T.next_task ≡ g → walk (links (Step t act batch ∷ past)) g ≡ walk (links past) g → g ≡ first_num (line (bones T) (Some (inner_num past t.0))) → is_on g (nums (bones T)) ≡ true → ((x : List ℕ) → Pushes act x → ⊥) → Hangs past T t act batch
 
-pub hangs : (q : ℕ) (past : List Entry) (T : Tree) → Tied q past T → (t : TaskId) (act : Act) (batch : List (List ℕ)) → AllowedAct T t act → own_nums t.0 (cores T) ≡ nums_of (opened past t.0) → (d : TaskId) → started_by act ≡ Some d → Hangs past T t act batch
-hangs q past T i t (Calling s r c from to x) batch a own d e =
-    calls s.0 refl (rw (eq-eqb c.0 T.next_task a.next_task))
-    (walk-new past T t (Calling s r c from to x) batch a (inner_num past t.0) (inner-of q past T i t own) s.0 refl)
-hangs q past T i t (Spawn c g from to x) batch a own d e =
-    spawns refl g.0 (rw (eq-eqb c.0 T.next_task a.next_task)) refl
-    (ap (λ (v : ScopeId). v.0) a.under ∙ governs-first T a.task ∙ ap (λ m. first_num (line (bones T) (Some m))) (inner-of q past T i t own a.task a.live.acts.stands))
-    (subst (λ (v : ScopeId). is_on v.0 (nums (bones T)) ≡ true) (sym a.under) (governs_stands q past T i t a.task a.live.acts.stands))
+pub hangs : (past : List Entry) (T : Tree) → Tied past T → (t : TaskId) (act : Act) (batch : List (List ℕ)) → AllowedAct T t act → own_nums t.0 (cores T) ≡ nums_of (opened past t.0) → (d : TaskId) → started_by act ≡ Some d → Hangs past T t act batch
+hangs past T i t (Calling s r c from to x) batch a own d e =
+    calls s.0 refl (rw (eq-eqb c.0 T.next_task a.asks.3))
+    (walk-new past T t (Calling s r c from to x) batch a (inner_num past t.0) (inner-of past T i t own) s.0 refl)
+hangs past T i t (Spawn c g from to x) batch a own d e =
+    spawns refl g.0 (rw (eq-eqb c.0 T.next_task a.asks.1)) refl
+    (ap (λ (v : ScopeId). v.0) a.asks.2 ∙ governs-first T a.task ∙ ap (λ m. first_num (line (bones T) (Some m))) (inner-of past T i t own a.task a.stands))
+    (subst (λ (v : ScopeId). is_on v.0 (nums (bones T)) ≡ true) (sym a.asks.2) (governs_stands past T i t a.task a.stands))
     (λ y p. p [])
-hangs q past T i t (Open s r x) batch a own d e = cc
-hangs q past T i t (Arrive p) batch a own d e = cc
-hangs q past T i t (Wait s thrown) batch a own d e = cc
-hangs q past T i t (Release s lost thrown) batch a own d e = cc
-hangs q past T i t (End thrown) batch a own d e = cc
-hangs q past T i t (Printed value x) batch a own d e = cc
+hangs past T i t (Open s r x) batch a own d e = cc
+hangs past T i t (Arrive p) batch a own d e = cc
+hangs past T i t (Wait s thrown) batch a own d e = cc
+hangs past T i t (Release s lost masked thrown) batch a own d e = cc
+hangs past T i t (End thrown) batch a own d e = cc
+hangs past T i t (Printed value x) batch a own d e = cc
+hangs past T i t (Counted places x) batch a own d e = cc
 
 async-of : (v : Stmt) → is_shut v ≡ true → (is_waiter v ≡ true → ⊥) → is_async v ≡ true
 async-of (Async body) h w = refl
@@ -68,6 +69,7 @@ async-of (New name words) h w = absurd (true≢false (sym h))
 async-of (Get name target index) h w = absurd (true≢false (sym h))
 async-of (Put target index value) h w = absurd (true≢false (sym h))
 async-of (Forget target) h w = absurd (true≢false (sym h))
+async-of (Census name) h w = absurd (true≢false (sym h))
 async-of (Print value) h w = absurd (true≢false (sym h))
 async-of (Throw value) h w = absurd (true≢false (sym h))
 async-of (If test first other) h w = absurd (true≢false (sym h))
@@ -78,7 +80,7 @@ cancel : (x a b : List ℕ) → x ++ a ≡ x ++ b → a ≡ b
 cancel [] a b e = e
 cancel (i ∷ x) a b e = cancel x a b (tails-are i i (x ++ a) (x ++ b) e)
 
-module _ (code : Block) (starts : List (Term × Vars)) (q : ℕ) (past : List Entry) (T : Tree) (t : TaskId) (act : Act) (batch told : List (List ℕ)) (f : ℕ → Term) (i : Tied q past T) (s : Shape code past T.next_task f) (sd : Says starts (f t.0) act told) (a : AllowedAct T t act) (low : t.0 < T.next_task) (lives : is_alive T t.0 ≡ true) (k : Kept code past T f) (d : TaskId) (e : started_by act ≡ Some d) where
+module _ (code : Block) (starts : List (Term × Vars)) (past : List Entry) (T : Tree) (t : TaskId) (act : Act) (batch told : List (List ℕ)) (f : ℕ → Term) (i : Tied past T) (s : Shape code past T.next_task f) (sd : Says starts (f t.0) act told) (a : AllowedAct T t act) (low : t.0 < T.next_task) (lives : is_alive T t.0 ≡ true) (k : Kept code past T f) (d : TaskId) (e : started_by act ≡ Some d) where
   abbrev ch : ChildOf starts d (f t.0) sd.after (told ++ own_path act)
   ch = sd.child d e
 
@@ -95,8 +97,7 @@ module _ (code : Block) (starts : List (Term × Vars)) (q : ℕ) (past : List En
 
   inner_there : is_on m (nums (bones T)) ≡ true
   inner_there =
-      let actor = acts_by T t act a in
-      subst (λ v. is_on v (nums (bones T)) ≡ true) (inner-of q past T i t (k.own t.0 (inr lives)) actor.task actor.acts.stands) (inner_stands q past T i t actor.task actor.acts.stands)
+      subst (λ v. is_on v (nums (bones T)) ≡ true) (inner-of past T i t (k.own t.0 (inr lives)) a.task a.stands) (inner_stands past T i t a.task a.stands)
 
   inner_line : nums (line (bones T) (Some m)) ≡ walk (links past) m
   inner_line = (i.scopes m inner_there).walks
@@ -165,7 +166,7 @@ module _ (code : Block) (starts : List (Term × Vars)) (q : ℕ) (past : List En
       ∙ elim (on-after past t act batch o r x on) [
         | inl new ↦ or_left (c == r) (is_on r (walk (links past) m)) (eq-eqb c r (same_number c r (sym one ∙ new.number)))
         | inr old ↦ elim (ch.lies code (s.coded t.0 low) x u at w l) [
-          | inl same ↦ absurd (fresh-path code starts q past T t act batch told f i s sd a low lives k x x (subst (λ z. own_path act ≡ z ∷ []) (sym same) (sd.child_path d e)) o r old (starts-same x))
+          | inl same ↦ absurd (fresh-path code starts past T t act batch told f i s sd a low lives k x x (subst (λ z. own_path act ≡ z ∷ []) (sym same) (sd.child_path d e)) o r old (starts-same x))
           | inr was ↦ or_right (c == r) (is_on r (walk (links past) m)) (in_inner x u at w was o r old)
         ]
       ]

@@ -2,7 +2,7 @@
 use Rattle.std.specs.Prelude.{◌≡◌, ℕ, zero, suc, Bool, true, false, List, [], ◌∷◌, ◌++◌, Option, Some, refl}
 use Rattle.std.proofs.Common.{ap, sym, subst, ◌∙◌}
 use Rattle.std.proofs.lemmas.Bool.{true≢false}
-use Rattle.rx_rules.specs.Code.{Stmt, SetTo, New, Get, Put, Forget, Print, Throw, Async, AtAsync, At, Finish, If, Repeat, Try, Block, Nothing, Then}
+use Rattle.rx_rules.specs.Code.{Stmt, SetTo, New, Get, Put, Forget, Census, Print, Throw, Async, AtAsync, At, Finish, If, Repeat, Try, Block, Nothing, Then}
 use Rattle.rx_rules.specs.Order.{is_kept, is_kept_in}
 use Rattle.rx_laws.proofs.Straight.{stmt_at, stmt_in}
 
@@ -14,6 +14,7 @@ mutual
   kept-begins (Get name target index) x r u e h = refl
   kept-begins (Put target index value) x r u e h = refl
   kept-begins (Forget target) x r u e h = refl
+  kept-begins (Census name) x r u e h = refl
   kept-begins (Print value) x r u e h = refl
   kept-begins (Throw value) x r u e h = refl
   kept-begins (Async body) x r u e h = h

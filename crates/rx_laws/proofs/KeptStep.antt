@@ -13,7 +13,7 @@ use Rattle.rx_rules.specs.declared.entries.Entry.TheVariants.{Step}
 use Rattle.rx_rules.specs.Code.{Block, Stmt, Finish}
 use Rattle.rx_rules.specs.Terms.{Term, Vars}
 use Rattle.rx_rules.specs.Tree.{Tree, quiet, task_of, inner}
-use Rattle.rx_rules.specs.Entries.{AllowedAct, MayRelease, made_act}
+use Rattle.rx_rules.specs.Entries.{AllowedAct, WorksIn, made_act}
 use Rattle.rx_rules.specs.Order.{own_path}
 use Rattle.rx_rules.specs.Laws.{is_on, walk, links, born_so_far}
 use Rattle.rx_laws.proofs.Straight.{code_at, is_waiter}
@@ -34,6 +34,7 @@ use Rattle.rx_laws.proofs.Governed.{tail-below}
 use Rattle.rx_laws.proofs.Opening.{is_opening}
 use Rattle.rx_laws.proofs.Front.{IsOpen}
 use Rattle.rx_rules.specs.declared.tasks.Task.{Task}
+use Rattle.rx_rules.specs.declared.tasks.Scope.{Scope}
 use Rattle.rx_laws.proofs.Numbered.{On, New, opened, opened_after, opened_case, less_one, nums_of, paths_of, same-paths, on-stacked, nums-on, scope_in, on-after}
 use Rattle.rx_laws.proofs.Owners.{Core, cores, own_nums, top, find-own, own-stands, own-filter, Became, leaves, opens, releases, became}
 use Rattle.rx_laws.proofs.Rows.{under_in, Linked, linked-off, linked-own, linked-same, filter-all, living-born, living-low, quiet-under}
@@ -61,18 +62,18 @@ none-open past c h = by_list (opened past c) (same-paths past c ∙ h) where
   by_list (m ∷ ms) h = cc
 
 -- where a scope is quiet, the scopes stay that another task has open
-pub stays-own : (code : Block) (q : ℕ) (past : List Entry) (T : Tree) (f : ℕ → Term) → Tied q past T → Kept code past T f → ((c : ℕ) → T.next_task ≤ c → open_paths past c ≡ []) → (m : ScopeId) → quiet T m ≡ true → (c : ℕ) → Known T c → is_on m.0 (nums_of (opened past c)) ≡ false → filter (is_off (bones T) m.0) (nums_of (opened past c)) ≡ nums_of (opened past c)
-stays-own code q past T f i k none_open m still c (inl unborn) none =
+pub stays-own : (code : Block) (past : List Entry) (T : Tree) (f : ℕ → Term) → Tied past T → Kept code past T f → ((c : ℕ) → T.next_task ≤ c → open_paths past c ≡ []) → (m : ScopeId) → quiet T m ≡ true → (c : ℕ) → Known T c → is_on m.0 (nums_of (opened past c)) ≡ false → filter (is_off (bones T) m.0) (nums_of (opened past c)) ≡ nums_of (opened past c)
+stays-own code past T f i k none_open m still c (inl unborn) none =
     let e : opened past c ≡ [] = none-open past c (none_open c unborn) in
     ap (λ ms. filter (is_off (bones T) m.0) (nums_of ms)) e ∙ ap nums_of (sym e)
-stays-own code q past T f i k none_open m still c (inr alive) none =
+stays-own code past T f i k none_open m still c (inr alive) none =
     filter-all (is_off (bones T) m.0) (nums_of (opened past c))
     (λ j h.
     let stands : is_on j (nums (bones T)) ≡ true = own-stands c j T.scopes (ap (is_on j) (k.own c (inr alive)) ∙ h) in
-    let off : is_on m.0 (walk (links past) j) ≡ false = linked-off (walk (links past)) (under_in (born_so_far past) c) (nums_of (opened past c)) (k.linked c alive) m.0 none (quiet-under q past T i m still c alive) j h in
+    let off : is_on m.0 (walk (links past) j) ≡ false = linked-off (walk (links past)) (under_in (born_so_far past) c) (nums_of (opened past c)) (k.linked c alive) m.0 none (quiet-under past T i m still c alive) j h in
     not_from_false (is_on m.0 (nums (line (bones T) (Some j)))) (ap (is_on m.0) (i.scopes j stands).walks ∙ off))
 
-module _ (code : Block) (starts : List (Term × Vars)) (q : ℕ) (past : List Entry) (T : Tree) (t : TaskId) (act : Act) (batch told : List (List ℕ)) (f : ℕ → Term) (i : Tied q past T) (s : Shape code past T.next_task f) (sd : Says starts (f t.0) act told) (a : AllowedAct T t act) (low : t.0 < T.next_task) (lives : is_alive T t.0 ≡ true) (k : Kept code past T f) where
+module _ (code : Block) (starts : List (Term × Vars)) (past : List Entry) (T : Tree) (t : TaskId) (act : Act) (batch told : List (List ℕ)) (f : ℕ → Term) (i : Tied past T) (s : Shape code past T.next_task f) (sd : Says starts (f t.0) act told) (a : AllowedAct T t act) (low : t.0 < T.next_task) (lives : is_alive T t.0 ≡ true) (k : Kept code past T f) where
   abbrev after : Tree
   after = made_act T t act
 
@@ -98,7 +99,7 @@ module _ (code : Block) (starts : List (Term × Vars)) (q : ℕ) (past : List En
             let e = new_number c r x w in
             let first : r ≡ T.next_scope = e.0 in
             let next : after.next_scope ≡ suc T.next_scope = e.1 in
-            let some : under_in (born_so_far past) t.0 < T.next_scope = living-low q past T i t.0 lives in
+            let some : under_in (born_so_far past) t.0 < T.next_scope = living-low past T i t.0 lives in
             (omega arith, omega arith)
         | inr o ↦
             let b = k.below c r x o in
@@ -147,8 +148,8 @@ module _ (code : Block) (starts : List (Term × Vars)) (q : ℕ) (past : List En
       subst (AllFinish r) (sym e) (λ h. sd.opening code (s.coded t.0 low) x body at w.path, finish-fresh T.next_scope r T.scopes i.falls (omega arith))
   kind_by ks (opens m one next same e) c r x body at (inr o) =
       subst (AllFinish r) (sym e) (λ h. absurd (let b : r < T.next_scope = (k.below c r x o).1 in omega arith), k.kind c r x body o at)
-  kind_by ks (releases m lost thrown is e) c r x body at (inl w) = absurd (none_some r (ap scope_in (sym is) ∙ w.number))
-  kind_by ks (releases m lost thrown is e) c r x body at (inr o) =
+  kind_by ks (releases m lost masked thrown is e) c r x body at (inl w) = absurd (none_some r (ap scope_in (sym is) ∙ w.number))
+  kind_by ks (releases m lost masked thrown is e) c r x body at (inr o) =
       subst (AllFinish r) (sym e) (finish-filter (is_off (bones T) m.0) r (cores T) (k.kind c r x body o at))
 
   pub kind-kept : (c r : ℕ) (x : List ℕ) (body : Block) → On r x (opened (Step t act batch ∷ past) c) → code_at code x ≡ Some (Finish body) → AllFinish r (cores after)
@@ -172,11 +173,11 @@ module _ (code : Block) (starts : List (Term × Vars)) (q : ℕ) (past : List En
   same_chain : (c : ℕ) → c < T.next_task → is_alive T c ≡ true → walk (links (Step t act batch ∷ past)) (under_in (born_so_far (Step t act batch ∷ past)) c) ≡ walk (links past) (under_in (born_so_far past) c)
   same_chain c hc alive =
       ap (walk (links (Step t act batch ∷ past))) (under-same past T t act batch a c hc)
-      ∙ walk-more past T t act batch a (under_in (born_so_far past) c) (living-low q past T i c alive)
+      ∙ walk-more past T t act batch a (under_in (born_so_far past) c) (living-low past T i c alive)
 
   pub under-kept : (c : ℕ) → is_alive T c ≡ true → (x : List ℕ) (u : Stmt) → code_at code x ≡ Some u → is_waiter u ≡ true → LiesIn (left c) x u → (o r : ℕ) → On r x (opened (Step t act batch ∷ past) o) → (o ≡ c → ⊥) → HangsUnder r c
   under-kept c alive x u e w l o r h other =
-      let hc : c < T.next_task = living-born q past T i c alive in
+      let hc : c < T.next_task = living-born past T i c alive in
       ap (is_on r) (same_chain c hc alive)
       ∙ set_case (λ v. LiesIn v x u → is_on r (walk (links past) (under_in (born_so_far past) c)) ≡ true) t.0 c sd.after f
       (λ m j. elim (on-after past t act batch o r x h) [
@@ -194,8 +195,8 @@ module _ (code : Block) (starts : List (Term × Vars)) (q : ℕ) (past : List En
   -- the scopes of the tree
 
   -- what the release of the innermost scope of its task leaves of the scopes that the task has open
-  released_own : (m : ScopeId) (lost : PlaceSet) (thrown : List Fault) → act ≡ Release m lost thrown → (ns : List ℕ) → nums_of (opened past t.0) ≡ m.0 ∷ ns → filter (is_off (bones T) m.0) (m.0 ∷ ns) ≡ ns
-  released_own m lost thrown is ns e =
+  released_own : (m : ScopeId) (lost : PlaceSet) (masked : ℕ) (thrown : List Fault) → act ≡ Release m lost masked thrown → (ns : List ℕ) → nums_of (opened past t.0) ≡ m.0 ∷ ns → filter (is_off (bones T) m.0) (m.0 ∷ ns) ≡ ns
+  released_own m lost masked thrown is ns e =
       let chains : Linked (walk (links past)) (under_in (born_so_far past) t.0) (m.0 ∷ ns) = subst (Linked (walk (links past)) (under_in (born_so_far past) t.0)) e (k.linked t.0 lives) in
       let stands_in : (j : ℕ) → is_on j (m.0 ∷ ns) ≡ true → is_on j (nums (bones T)) ≡ true = λ j h. own-stands t.0 j T.scopes (ap (is_on j) (k.own t.0 (inr lives) ∙ e) ∙ h) in
       let line_m : nums (line (bones T) (Some m.0)) ≡ m.0 ∷ walk (links past) (top (under_in (born_so_far past) t.0) ns) = (i.scopes m.0 (stands_in m.0 (or_left (m.0 == m.0) (is_on m.0 ns) (eq-eqb m.0 m.0 refl)))).walks ∙ chains.0 in
@@ -209,10 +210,10 @@ module _ (code : Block) (starts : List (Term × Vars)) (q : ℕ) (past : List En
       not_from_false (is_on m.0 (nums (line (bones T) (Some j)))) (ap (is_on m.0) (i.scopes j stands).walks ∙ off)))
 
   -- the number of the scope that is released
-  pub top-released : (m : ScopeId) → MayRelease T t m → (ns : List ℕ) × (nums_of (opened past t.0) ≡ m.0 ∷ ns)
-  top-released m r =
-      let g = find-own t T.scopes r.scope r.own in
-      (g.0, sym (k.own t.0 (inr lives)) ∙ g.1 ∙ ap (λ (v : ScopeId). v.0 ∷ g.0) r.is_it)
+  pub top-released : (m : ScopeId) (g : Scope) → WorksIn T t m g → (ns : List ℕ) × (nums_of (opened past t.0) ≡ m.0 ∷ ns)
+  top-released m g r =
+      let o = find-own t T.scopes g r.0 in
+      (o.0, sym (k.own t.0 (inr lives)) ∙ o.1 ∙ ap (λ (v : ScopeId). v.0 ∷ o.0) r.1)
 
   tail-of : (ms : List (ℕ × List ℕ)) (j : ℕ) (ns : List ℕ) → nums_of ms ≡ j ∷ ns → nums_of (less_one ms) ≡ ns
   tail-of [] j ns h = cc
@@ -222,24 +223,24 @@ module _ (code : Block) (starts : List (Term × Vars)) (q : ℕ) (past : List En
   own_open c r ms true e h g = rw e (ap (λ l. r ∷ l) h ∙ sym g)
   own_open c r ms false e h g = rw e h
 
-  may-release : (m : ScopeId) (lost : PlaceSet) (thrown : List Fault) → act ≡ Release m lost thrown → MayRelease T t m
-  may-release m lost thrown is = (subst (AllowedAct T t) is a).0
+  may-release : (m : ScopeId) (lost : PlaceSet) (masked : ℕ) (thrown : List Fault) → act ≡ Release m lost masked thrown → AllowedAct T t (Release m lost masked thrown)
+  may-release m lost masked thrown is = subst (AllowedAct T t) is a
 
   own_by : (ks : List Core) → Became T t act ks → (c : ℕ) → Known T c → own_nums c ks ≡ nums_of (opened (Step t act batch ∷ past) c)
   own_by ks (leaves none same e) c known =
       ap (own_nums c) e ∙ k.own c known ∙ ap nums_of (sym (opened_case past t act batch c (λ ms. ms ≡ opened past c) (λ h. same (opened past c)) (λ h. refl)))
   own_by ks (opens m one next same e) c known =
       ap (own_nums c) e ∙ own_open c m (opened past c) (t.0 == c) refl (k.own c known) (same (opened past c))
-  own_by ks (releases m lost thrown is e) c known =
-      let may : MayRelease T t m = may-release m lost thrown is in
-      let tops = top-released m may in
+  own_by ks (releases m lost masked thrown is e) c known =
+      let may = may-release m lost masked thrown is in
+      let tops = top-released m may.asks.1 may.asks.2 in
       ap (own_nums c) e ∙ own-filter (is_off (bones T) m.0) c (cores T) ∙ ap (filter (is_off (bones T) m.0)) (k.own c known)
       ∙ opened_case past t act batch c (λ ms. filter (is_off (bones T) m.0) (nums_of (opened past c)) ≡ nums_of ms)
       (λ h.
       let e_c : nums_of (opened past c) ≡ m.0 ∷ tops.0 = subst (λ d. nums_of (opened past d) ≡ m.0 ∷ tops.0) h tops.1 in
-      ap (filter (is_off (bones T) m.0)) e_c ∙ released_own m lost thrown is tops.0 tops.1
+      ap (filter (is_off (bones T) m.0)) e_c ∙ released_own m lost masked thrown is tops.0 tops.1
       ∙ sym (ap (λ v. nums_of (opened_after v (opened past c))) is ∙ tail-of (opened past c) m.0 tops.0 e_c))
-      (λ h. stays-own code q past T f i k s.none_open m may.is_quiet c known (false_from_ne_true (is_on m.0 (nums_of (opened past c))) (λ g.
+      (λ h. stays-own code past T f i k s.none_open m may.asks.3.is_quiet c known (false_from_ne_true (is_on m.0 (nums_of (opened past c))) (λ g.
       let on = nums-on m.0 (opened past c) g in
       let mine = nums-on m.0 (opened past t.0) (ap (is_on m.0) tops.1 ∙ or_left (m.0 == m.0) (is_on m.0 tops.0) (eq-eqb m.0 m.0 refl)) in
       h (k.single t.0 c m.0 mine.0 on.0 mine.1 on.1))))
@@ -255,7 +256,7 @@ module _ (code : Block) (starts : List (Term × Vars)) (q : ℕ) (past : List En
   inner_low : (c : ℕ) → is_alive T c ≡ true → inner_num past c < T.next_scope
   inner_low c alive = by_list (nums_of (opened past c)) (all_low c) where
     by_list : (ns : List ℕ) → ((j : ℕ) → is_on j ns ≡ true → j < T.next_scope) → top (under_in (born_so_far past) c) ns < T.next_scope
-    by_list [] h = living-low q past T i c alive
+    by_list [] h = living-low past T i c alive
     by_list (j ∷ ns) h = h j (or_left (j == j) (is_on j ns) (eq-eqb j j refl))
 
   abbrev walk_after : ℕ → List ℕ
@@ -263,7 +264,7 @@ module _ (code : Block) (starts : List (Term × Vars)) (q : ℕ) (past : List En
 
   old_links : (c : ℕ) → is_alive T c ≡ true → Linked walk_after (under_in (born_so_far past) c) (nums_of (opened past c))
   old_links c alive =
-      linked-same (walk (links past)) walk_after T.next_scope (under_in (born_so_far past) c) (nums_of (opened past c)) (walk-more past T t act batch a) (living-low q past T i c alive) (all_low c) (k.linked c alive)
+      linked-same (walk (links past)) walk_after T.next_scope (under_in (born_so_far past) c) (nums_of (opened past c)) (walk-more past T t act batch a) (living-low past T i c alive) (all_low c) (k.linked c alive)
 
   linked_tail : (w : ℕ → List ℕ) (u : ℕ) (ms : List (ℕ × List ℕ)) → Linked w u (nums_of ms) → Linked w u (nums_of (less_one ms))
   linked_tail w u [] h = tt
@@ -276,19 +277,19 @@ module _ (code : Block) (starts : List (Term × Vars)) (q : ℕ) (past : List En
   linked_by ks (opens m one next same e) c alive =
       opened_case past t act batch c (λ ms. Linked walk_after (under_in (born_so_far past) c) (nums_of ms))
       (λ h. subst (Linked walk_after (under_in (born_so_far past) c)) (sym (same (opened past c))) (
-        walk-new past T t act batch a (inner_num past c) (subst (λ d. (x : Task) → task_of T t ≡ Some x → (inner T x).0 ≡ inner_num past d) h (inner-of q past T i t (k.own t.0 (inr lives)))) m one
+        walk-new past T t act batch a (inner_num past c) (subst (λ d. (x : Task) → task_of T t ≡ Some x → (inner T x).0 ≡ inner_num past d) h (inner-of past T i t (k.own t.0 (inr lives)))) m one
             ∙ ap (λ l. m ∷ l) (sym (walk-more past T t act batch a (inner_num past c) (inner_low c alive))),
         old_links c alive,
       ))
       (λ h. old_links c alive)
-  linked_by ks (releases m lost thrown is e) c alive =
+  linked_by ks (releases m lost masked thrown is e) c alive =
       opened_case past t act batch c (λ ms. Linked walk_after (under_in (born_so_far past) c) (nums_of ms))
       (λ h. subst (λ v. Linked walk_after (under_in (born_so_far past) c) (nums_of (opened_after v (opened past c)))) (sym is) (linked_tail walk_after (under_in (born_so_far past) c) (opened past c) (old_links c alive)))
       (λ h. old_links c alive)
 
   pub linked-kept : (c : ℕ) → is_alive T c ≡ true → Linked walk_after (under_in (born_so_far (Step t act batch ∷ past)) c) (nums_of (opened (Step t act batch ∷ past) c))
   linked-kept c alive =
-      subst (λ u. Linked walk_after u (nums_of (opened (Step t act batch ∷ past) c))) (sym (under-same past T t act batch a c (living-born q past T i c alive)))
+      subst (λ u. Linked walk_after u (nums_of (opened (Step t act batch ∷ past) c))) (sym (under-same past T t act batch a c (living-born past T i c alive)))
       (linked_by (cores after) (became T t act a) c alive)
 
   -- what was open stays open
@@ -298,19 +299,19 @@ module _ (code : Block) (starts : List (Term × Vars)) (q : ℕ) (past : List En
   top_path (m ∷ ms) j ns h = (m.1, paths_of ms, refl, inl (let e : m.0 ≡ j = cc in sym e, refl))
 
   -- but the scope that is released: nothing of a living task lies in it
-  nothing-in : (m : ScopeId) (lost : PlaceSet) (thrown : List Fault) → act ≡ Release m lost thrown → (p : List ℕ) (ps : List (List ℕ)) → open_paths past t.0 ≡ p ∷ ps → On m.0 p (opened past t.0) → (c : ℕ) → is_alive T c ≡ true → (u : Stmt) → code_at code p ≡ Some u → is_waiter u ≡ true → LiesIn (left c) p u → ⊥
-  nothing-in m lost thrown is p ps e on c alive u at w =
+  nothing-in : (m : ScopeId) (lost : PlaceSet) (masked : ℕ) (thrown : List Fault) → act ≡ Release m lost masked thrown → (p : List ℕ) (ps : List (List ℕ)) → open_paths past t.0 ≡ p ∷ ps → On m.0 p (opened past t.0) → (c : ℕ) → is_alive T c ≡ true → (u : Stmt) → code_at code p ≡ Some u → is_waiter u ≡ true → LiesIn (left c) p u → ⊥
+  nothing-in m lost masked thrown is p ps e on c alive u at w =
       set_case (λ v. LiesIn v p u → ⊥) t.0 c sd.after f
       (λ h l.
       let y = head-begins sd.after l.head l.is_head in
       let in_p : Starts p y.0 = starts-trans p l.head y.0 (subst (Starts p) (sym l.way) (within-starts p l.next l.rest)) y.2 in
-      starts-not_below p y.0 in_p (sd.released m lost thrown is ps p (subst (λ v. Nested (f t.0) (outermost v)) e (s.nested t.0 low)) y.0 y.1))
+      starts-not_below p y.0 in_p (sd.released m lost masked thrown is ps p (subst (λ v. Nested (f t.0) (outermost v)) e (s.nested t.0 low)) y.0 y.1))
       (λ h l.
       let hangs : is_on m.0 (walk (links past) (under_in (born_so_far past) c)) ≡ true = k.under c alive p u at w l t.0 m.0 on h in
-      true≢false (sym hangs ∙ quiet-under q past T i m (may-release m lost thrown is).is_quiet c alive))
+      true≢false (sym hangs ∙ quiet-under past T i m (may-release m lost masked thrown is).asks.3.is_quiet c alive))
 
-  by_release : (x : List ℕ) (o : IsOpen past x) (m : ScopeId) (lost : PlaceSet) (thrown : List Fault) → act ≡ Release m lost thrown → (p : List ℕ) (ps : List (List ℕ)) → open_paths past t.0 ≡ p ∷ ps → (x ≡ p → ⊥) → Stacked x (open_paths (Step t act batch ∷ past) o.opener)
-  by_release x o m lost thrown is p ps e other =
+  by_release : (x : List ℕ) (o : IsOpen past x) (m : ScopeId) (lost : PlaceSet) (masked : ℕ) (thrown : List Fault) → act ≡ Release m lost masked thrown → (p : List ℕ) (ps : List (List ℕ)) → open_paths past t.0 ≡ p ∷ ps → (x ≡ p → ⊥) → Stacked x (open_paths (Step t act batch ∷ past) o.opener)
+  by_release x o m lost masked thrown is p ps e other =
       open_case past t act batch o.opener (Stacked x)
       (λ h.
       let e_o : open_paths past o.opener ≡ p ∷ ps = subst (λ d. open_paths past d ≡ p ∷ ps) h e in
@@ -325,12 +326,13 @@ module _ (code : Block) (starts : List (Term × Vars)) (q : ℕ) (past : List En
   by_kind false e c alive x u at w l o = open-stays past t act batch x e o
   by_kind true e c alive x u at w l o =
       let r = release-of act e in
-      let tops = top-released r.0 (may-release r.0 r.1 r.2 r.3) in
+      let may = may-release r.0 r.1 r.2 r.3 r.4 in
+      let tops = top-released r.0 may.asks.1 may.asks.2 in
       let p = top_path (opened past t.0) r.0.0 tops.0 tops.1 in
       record {
         opener = o.opener;
-        is_open = by_release x o r.0 r.1 r.2 r.3 p.0 p.1 (sym (same-paths past t.0) ∙ p.2)
-            (λ same. nothing-in r.0 r.1 r.2 r.3 p.0 p.1 (sym (same-paths past t.0) ∙ p.2) p.3 c alive u (subst (λ v. code_at code v ≡ Some u) same at) w (subst (λ v. LiesIn (left c) v u) same l));
+        is_open = by_release x o r.0 r.1 r.2 r.3 r.4 p.0 p.1 (sym (same-paths past t.0) ∙ p.2)
+            (λ same. nothing-in r.0 r.1 r.2 r.3 r.4 p.0 p.1 (sym (same-paths past t.0) ∙ p.2) p.3 c alive u (subst (λ v. code_at code v ≡ Some u) same at) w (subst (λ v. LiesIn (left c) v u) same l));
       }
 
   -- an open scope that holds an item of a living task stays open

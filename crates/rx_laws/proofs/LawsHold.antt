@@ -9,9 +9,9 @@ use Rattle.std.proofs.lemmas.List.Elements.{filter_agree}
 use Rattle.rx_base.specs.declared.place_set.PlaceSet.{PlaceSet}
 use Rattle.rx_base.specs.declared.ids.ScopeId.{ScopeId}
 use Rattle.rx_base.specs.Sets.{all_places, members}
-use Rattle.rx_rules.specs.declared.entries.Act.TheVariants.{Open, At as Calls, Spawn, Arrive, Wait, Release, End, Print}
+use Rattle.rx_rules.specs.declared.entries.Act.TheVariants.{Open, At as Calls, Spawn, Arrive, Wait, Release, End, Print, Census}
 use Rattle.rx_rules.specs.declared.entries.Entry.{Entry}
-use Rattle.rx_rules.specs.declared.entries.Entry.TheVariants.{Step, Root, Death}
+use Rattle.rx_rules.specs.declared.entries.Entry.TheVariants.{Step, Root, Death, Join}
 use Rattle.rx_rules.specs.Tree.{Tree, is_under, quiet, the_root}
 use Rattle.rx_rules.specs.Entries.{Allowed, made, was_lost_at, lost_under}
 use Rattle.rx_rules.specs.Fold.{opening, AllAllowed}
@@ -90,38 +90,40 @@ module _ (F : Facts) (B : List Bone) (s : ℕ) (there : is_on s (nums B) ≡ tru
 
 -- at a release
 
-at_over : (q : ℕ) (past : List Entry) (T : Tree) → Tied q past T → (s : ScopeId) (lost : PlaceSet) → is_on s.0 (nums (bones T)) ≡ true → quiet T s ≡ true → AllOver past s.0 lost
-at_over q past T i s lost there still =
+at_over : (past : List Entry) (T : Tree) → Tied past T → (s : ScopeId) (lost : PlaceSet) → is_on s.0 (nums (bones T)) ≡ true → quiet T s ≡ true → AllOver past s.0 lost
+at_over past T i s lost there still =
     all-over (facts past) (bones T) s.0 there i.scopes (is_under T s) (λ x. on_chain-line T s x.under)
     (not-true (list_any (λ x. is_under T s x && is_none x.struck) T.tasks) still) i.tasks
 
-at_named : (q : ℕ) (past : List Entry) (T : Tree) → Tied q past T → (s : ScopeId) (lost : PlaceSet) → is_on s.0 (nums (bones T)) ≡ true → members lost ≡ lost_under T s → NamesLost past s.0 lost
-at_named q past T i s lost there e =
+at_named : (past : List Entry) (T : Tree) → Tied past T → (s : ScopeId) (lost : PlaceSet) → is_on s.0 (nums (bones T)) ≡ true → members lost ≡ lost_under T s → NamesLost past s.0 lost
+at_named past T i s lost there e =
     e
     ∙ filter_agree (λ p. list_any (λ x. is_under T s x && was_lost_at p x) T.tasks) (λ p. list_any (is_named past s.0 p) (born_so_far past))
     (λ p. all-named (facts past) (bones T) s.0 there i.scopes p (is_under T s) (λ x. on_chain-line T s x.under) i.tasks) all_places
 
-at_entry : (q : ℕ) → q ≤ 16 → (n : ℕ) (past : List Entry) (T : Tree) → Tied q past T → (e : Entry) → Allowed T e → AtRelease AllOver past e × AtRelease NamesLost past e
-at_entry q small n past T i (Step t (Release s lost thrown) batch) a =
-    let there = release_stands q small n past T i t s a.0 in
-    (at_over q past T i s lost there a.0.is_quiet, at_named q past T i s lost there a.1.places)
-at_entry q small n past T i (Root lost thrown) a =
-    let there = root_stands q small n past T i a.0.root a.0.stands in
-    (at_over q past T i the_root lost there a.0.is_quiet, at_named q past T i the_root lost there a.1.places)
-at_entry q small n past T i (Step t (Open s r path) batch) a = (tt, tt)
-at_entry q small n past T i (Step t (Calls s r c from to path) batch) a = (tt, tt)
-at_entry q small n past T i (Step t (Spawn c s from to path) batch) a = (tt, tt)
-at_entry q small n past T i (Step t (Arrive p) batch) a = (tt, tt)
-at_entry q small n past T i (Step t (Wait s thrown) batch) a = (tt, tt)
-at_entry q small n past T i (Step t (End thrown) batch) a = (tt, tt)
-at_entry q small n past T i (Step t (Print value path) batch) a = (tt, tt)
-at_entry q small n past T i (Death d) a = (tt, tt)
+at_entry : (n : ℕ) (past : List Entry) (T : Tree) → Tied past T → (e : Entry) → Allowed T e → AtRelease AllOver past e × AtRelease NamesLost past e
+at_entry n past T i (Step t (Release s lost masked thrown) batch) a =
+    let there = release_stands n past T i t s a.asks.1 a.asks.2 in
+    (at_over past T i s lost there a.asks.3.is_quiet, at_named past T i s lost there a.asks.3.places)
+at_entry n past T i (Root lost masked thrown) a =
+    let there = root_stands n past T i a.0 a.1 in
+    (at_over past T i the_root lost there a.2.is_quiet, at_named past T i the_root lost there a.2.places)
+at_entry n past T i (Step t (Open s r path) batch) a = (tt, tt)
+at_entry n past T i (Step t (Calls s r c from to path) batch) a = (tt, tt)
+at_entry n past T i (Step t (Spawn c s from to path) batch) a = (tt, tt)
+at_entry n past T i (Step t (Arrive p) batch) a = (tt, tt)
+at_entry n past T i (Step t (Wait s thrown) batch) a = (tt, tt)
+at_entry n past T i (Step t (End thrown) batch) a = (tt, tt)
+at_entry n past T i (Step t (Print value path) batch) a = (tt, tt)
+at_entry n past T i (Step t (Census places path) batch) a = (tt, tt)
+at_entry n past T i (Death d) a = (tt, tt)
+at_entry n past T i (Join d) a = (tt, tt)
 
-both_from : (q : ℕ) → q ≤ 16 → (n : ℕ) (past : List Entry) (T : Tree) → Tied q past T → (es : List Entry) → AllAllowed n T es → EachRelease AllOver past es × EachRelease NamesLost past es
-both_from q small n past T i [] a = (tt, tt)
-both_from q small n past T i (e ∷ es) a =
-    let here = at_entry q small n past T i e a.0 in
-    let rest = both_from q small (suc n) (e ∷ past) (made n T e) (tied-made q small n past T i e a.0) es a.1 in
+both_from : (n : ℕ) (past : List Entry) (T : Tree) → Tied past T → (es : List Entry) → AllAllowed n T es → EachRelease AllOver past es × EachRelease NamesLost past es
+both_from n past T i [] a = (tt, tt)
+both_from n past T i (e ∷ es) a =
+    let here = at_entry n past T i e a.0 in
+    let rest = both_from (suc n) (e ∷ past) (made n T e) (tied-made n past T i e a.0) es a.1 in
     ((here.0, rest.0), (here.1, rest.1))
 
 -- the opening tree stands for no entries
@@ -132,11 +134,11 @@ only_zero n h =
       | inr e ↦ absurd (true≢false (sym e))
     ]
 
-pub tied-opening : (q : ℕ) → Tied q [] (opening q)
-tied-opening q =
+pub tied-opening : (places : ℕ) → places ≤ 16 → Tied [] (opening places)
+tied-opening places few =
     record {
       falls = (omega arith, tt);
-      scopes = λ n h. subst (ScopeOk (facts []) (bones (opening q))) (sym (only_zero n h)) (record { walks = refl; free = refl; finish = refl });
+      scopes = λ n h. subst (ScopeOk (facts []) (bones (opening places))) (sym (only_zero n h)) (record { walks = refl; free = refl; finish = refl });
       older = λ g k h. elim (or_cases (g == k) false h) [
         | inl e ↦ let same : g ≡ k = eqb-true g k e in omega arith
         | inr e ↦ absurd (true≢false (sym e))
@@ -147,11 +149,11 @@ tied-opening q =
       tasks = row (record { number = refl; under = refl; place = (refl, refl); struck = refl; going = refl; stands = refl }) none;
       dead_so = λ p h. ap is_some (get_or-replicate 16 p.0 None None h);
       sixteen = refl;
-      same_places = refl;
+      few = few;
     }
 
-pub no-early : (q : ℕ) → q ≤ 16 → (es : List Entry) → AllAllowed 0 (opening q) es → NoEarlyRelease es
-no-early q small es a = (both_from q small 0 [] (opening q) (tied-opening q) es a).0
+pub no-early : (places : ℕ) → places ≤ 16 → (es : List Entry) → AllAllowed 0 (opening places) es → NoEarlyRelease es
+no-early places few es a = (both_from 0 [] (opening places) (tied-opening places few) es a).0
 
-pub loss-exact : (q : ℕ) → q ≤ 16 → (es : List Entry) → AllAllowed 0 (opening q) es → LossExact es
-loss-exact q small es a = (both_from q small 0 [] (opening q) (tied-opening q) es a).1
+pub loss-exact : (places : ℕ) → places ≤ 16 → (es : List Entry) → AllAllowed 0 (opening places) es → LossExact es
+loss-exact places few es a = (both_from 0 [] (opening places) (tied-opening places few) es a).1

@@ -10,6 +10,7 @@ mod Lies
 mod Lines
 mod Losses
 mod Made
+mod Masked
 mod NestedTerm
 mod Paths
 mod Says

@@ -3,7 +3,7 @@ use Rattle.std.specs.Prelude.{◌≡◌, ◌⊎◌, ℕ, true, List, [], ◌∷�
 use Rattle.std.proofs.Common.{ap, sym, subst, ◌∙◌, inl, inr}
 use Rattle.std.proofs.lemmas.Bool.{true≢false}
 use Rattle.rx_base.specs.declared.values.Fault.{Fault}
-use Rattle.rx_rules.specs.Code.{Block, Stmt, SetTo, New, Get, Put, Forget, Print, Throw, Async, AtAsync, At, Finish, If, Repeat, Try}
+use Rattle.rx_rules.specs.Code.{Block, Stmt, SetTo, New, Get, Put, Forget, Census, Print, Throw, Async, AtAsync, At, Finish, If, Repeat, Try}
 use Rattle.rx_rules.specs.Terms.{Term, Empty, Run, Raise, Turns, Trying, Body, Held, at, begins, granted, stmt_granted, body_granted, or_raise, child, stmt_child}
 use Rattle.rx_rules.specs.Order.{is_kept}
 use Rattle.rx_laws.proofs.Straight.{code_at, stmt_at, is_waiter}
@@ -83,6 +83,7 @@ granted-stmt (New name words) z rest h k = inl k
 granted-stmt (Get name target index) z rest h k = inl k
 granted-stmt (Put target index value) z rest h k = inl k
 granted-stmt (Forget target) z rest h k = inl k
+granted-stmt (Census name) z rest h k = inl k
 granted-stmt (Print value) z rest h k = inl k
 granted-stmt (Throw value) z rest h k = inl k
 granted-stmt (Async body) z rest h k = inl k
@@ -128,6 +129,7 @@ stmt-child-head (New name words) z h k = absurd k
 stmt-child-head (Get name target index) z h k = absurd k
 stmt-child-head (Put target index value) z h k = absurd k
 stmt-child-head (Forget target) z h k = absurd k
+stmt-child-head (Census name) z h k = absurd k
 stmt-child-head (Print value) z h k = absurd k
 stmt-child-head (Throw value) z h k = absurd k
 stmt-child-head (Finish body) z h k = absurd k

@@ -1,5 +1,5 @@
 -- Each entry that is allowed keeps what ties the tree to the entries.
-use Rattle.std.specs.Prelude.{◌≡◌, ℕ, ℤ, suc, ◌<◌, ◌≤◌, Bool, true, false, cond, not, ◌&&◌, ◌||◌, ◌==◌, List, [], ◌∷◌, ◌++◌, map, filter, Option, Some, None, is_some, is_none, option_map, refl}
+use Rattle.std.specs.Prelude.{◌≡◌, ℕ, suc, ◌<◌, ◌≤◌, Bool, true, false, cond, not, ◌&&◌, ◌||◌, ◌==◌, List, [], ◌∷◌, ◌++◌, map, filter, Option, Some, None, is_some, is_none, option_map, refl}
 use Rattle.std.specs.List.{list_any, find}
 use Rattle.std.proofs.Common.{ap, sym, subst, ◌∙◌, arith}
 use Rattle.std.proofs.lemmas.Bool.{eqb-true, eq-eqb, or_left, or_right, not-true}
@@ -11,11 +11,11 @@ use Rattle.rx_base.specs.declared.ids.TaskId.{TaskId}
 use Rattle.rx_base.specs.declared.ids.ScopeId.{ScopeId}
 use Rattle.rx_base.proofs.Elements.{find-passes}
 use Rattle.rx_rules.specs.declared.tasks.Where.TheVariants.{At, Travel}
-use Rattle.rx_rules.specs.declared.entries.Act.TheVariants.{Open, At as Calls, Spawn, Arrive, Wait, Release, End, Print}
+use Rattle.rx_rules.specs.declared.entries.Act.TheVariants.{Open, At as Calls, Spawn, Arrive, Wait, Release, End, Print, Census}
 use Rattle.rx_rules.specs.declared.entries.Entry.{Entry}
-use Rattle.rx_rules.specs.declared.entries.Entry.TheVariants.{Step, Root, Death}
+use Rattle.rx_rules.specs.declared.entries.Entry.TheVariants.{Step, Root, Death, Join}
 use Rattle.rx_rules.specs.Tree.{Tree, is_task, is_finish, task_of, scope_of, own_scope, inner, governs, chain_in, on_chain, is_under, quiet, death_of, the_root, is_scope}
-use Rattle.rx_rules.specs.Entries.{change_first, change_scope, born, waiting, resumed, without, after_end, made, Allowed, MayRelease}
+use Rattle.rx_rules.specs.Entries.{change_first, change_scope, born, waiting, resumed, without, after_end, made, Allowed, WorksIn}
 use Rattle.rx_rules.specs.Laws.{TaskBirth, is_on, is_born, born_so_far, hit_at, has_landed, has_ended}
 use Rattle.rx_laws.proofs.Lines.{Bone, bone, bones, nums, line, has_finish, line-in, find-stands, chain-bones, on_chain-line, bones-change, bones-filter}
 use Rattle.rx_laws.proofs.Aligned.{Facts, facts, IsWhere, blow_place, IsRow, found, aligned-change, ended_too, is_other}
@@ -27,9 +27,9 @@ use Rattle.rx_rules.specs.declared.tasks.Scope.{Scope}
 use Rattle.rx_rules.proofs.Lookups.{number-of}
 
 -- a change of a row in what no birth tells, and of scopes in what no bone tells
-pub ties-change : (q : ℕ) (F : Facts) (born died : ℕ → Bool) (bs : List TaskBirth) (next_task next_scope places : ℕ) (dead : List (Option ℕ)) (B C : List Bone) (xs : List Task) → C ≡ B → (p : Task → Bool) (f : Task → Task) → ((b : TaskBirth) (x : Task) → IsRow F B b x → IsRow F B b (f x)) → Ties q F born died bs next_task next_scope places dead B xs → Ties q F born died bs next_task next_scope places dead C (change_first p f xs)
-ties-change q F born died bs next_task next_scope places dead B C xs e p f same i =
-    subst (λ D. Ties q F born died bs next_task next_scope places dead D (change_first p f xs)) (sym e)
+pub ties-change : (F : Facts) (born died : ℕ → Bool) (bs : List TaskBirth) (next_task next_scope places : ℕ) (dead : List (Option ℕ)) (B C : List Bone) (xs : List Task) → C ≡ B → (p : Task → Bool) (f : Task → Task) → ((b : TaskBirth) (x : Task) → IsRow F B b x → IsRow F B b (f x)) → Ties F born died bs next_task next_scope places dead B xs → Ties F born died bs next_task next_scope places dead C (change_first p f xs)
+ties-change F born died bs next_task next_scope places dead B C xs e p f same i =
+    subst (λ D. Ties F born died bs next_task next_scope places dead D (change_first p f xs)) (sym e)
     (record {
       falls = i.falls;
       scopes = i.scopes;
@@ -40,7 +40,7 @@ ties-change q F born died bs next_task next_scope places dead B C xs e p f same 
       tasks = aligned-change F B p f same i.tasks;
       dead_so = i.dead_so;
       sixteen = i.sixteen;
-      same_places = i.same_places;
+      few = i.few;
     })
 
 row-waits : (F : Facts) (B : List Bone) (y : Bool) (b : TaskBirth) (x : Task) → IsRow F B b x → IsRow F B b (record x { waits = y })
@@ -48,8 +48,8 @@ row-waits F B y b x r =
     record { number = r.number; under = r.under; place = r.place; struck = r.struck; going = r.going; stands = r.stands }
 
 -- the scope that a standing task works in stands
-pub inner_stands : (q : ℕ) (past : List Entry) (T : Tree) → Tied q past T → (t : TaskId) (x : Task) → task_of T t ≡ Some x → is_on (inner T x).0 (nums (bones T)) ≡ true
-inner_stands q past T i t x h = by_own (own_scope T x.number) refl where
+pub inner_stands : (past : List Entry) (T : Tree) → Tied past T → (t : TaskId) (x : Task) → task_of T t ≡ Some x → is_on (inner T x).0 (nums (bones T)) ≡ true
+inner_stands past T i t x h = by_own (own_scope T x.number) refl where
   by_own : (o : Option Scope) → own_scope T x.number ≡ o → is_on (elim o as (λ _. ScopeId) [ Some g ↦ g.number | None ↦ x.under ]).0 (nums (bones T)) ≡ true
   by_own (Some g) e = find-stands _ T.scopes g e
   by_own None e =
@@ -72,9 +72,9 @@ finds_some : (gs : List Scope) → has_finish (map bone gs) ≡ true → (root :
 finds_some [] h root = cc
 finds_some (g ∷ gs) h root = finds_step g gs root (is_finish g.kind) refl h (λ k. finds_some gs k root)
 
-pub governs_stands : (q : ℕ) (past : List Entry) (T : Tree) → Tied q past T → (t : TaskId) (x : Task) → task_of T t ≡ Some x → is_on (governs T x).0 (nums (bones T)) ≡ true
-governs_stands q past T i t x h =
-    let o : ScopeOk (facts past) (bones T) (inner T x).0 = i.scopes (inner T x).0 (inner_stands q past T i t x h) in
+pub governs_stands : (past : List Entry) (T : Tree) → Tied past T → (t : TaskId) (x : Task) → task_of T t ≡ Some x → is_on (governs T x).0 (nums (bones T)) ≡ true
+governs_stands past T i t x h =
+    let o : ScopeOk (facts past) (bones T) (inner T x).0 = i.scopes (inner T x).0 (inner_stands past T i t x h) in
     let e : map bone (chain_in T.scopes (Some (inner T x))) ≡ line (bones T) (Some (inner T x).0) = chain-bones T.scopes (Some (inner T x)) in
     let on : is_on (governs T x).0 (nums (map bone (chain_in T.scopes (Some (inner T x))))) ≡ true = finds_some (chain_in T.scopes (Some (inner T x))) (ap has_finish e ∙ o.finish) the_root in
     line-in (bones T) (Some (inner T x).0) (governs T x).0 (subst (λ l. is_on (governs T x).0 (nums l) ≡ true) e on)
@@ -88,8 +88,8 @@ born_where : (from to : PlaceId) (y landed : Bool) → (from.0 == to.0) ≡ y �
 born_where from to true landed e h = rw e (refl, refl)
 born_where from to false landed e h = rw e (h, refl, refl)
 
-row-born : (q : ℕ) (past : List Entry) (T : Tree) → Tied q past T → (F : Facts) (B : List Bone) → F.ended ≡ has_ended past → F.landed ≡ has_landed past → F.hit ≡ hit_at past → (c : TaskId) (s : ScopeId) (from to : PlaceId) → c.0 ≡ T.next_task → to.0 < 16 → is_on s.0 (nums B) ≡ true → IsRow F B (record { task = c.0; under = s.0; from = from.0; to = to.0 }) (born T c s from to)
-row-born q past T i F B fe fl fh c s from to e low there =
+row-born : (past : List Entry) (T : Tree) → Tied past T → (F : Facts) (B : List Bone) → F.ended ≡ has_ended past → F.landed ≡ has_landed past → F.hit ≡ hit_at past → (c : TaskId) (s : ScopeId) (from to : PlaceId) → c.0 ≡ T.next_task → to.0 < 16 → is_on s.0 (nums B) ≡ true → IsRow F B (record { task = c.0; under = s.0; from = from.0; to = to.0 }) (born T c s from to)
+row-born past T i F B fe fl fh c s from to e low there =
     let u = i.later c.0 (omega arith) in
     record {
       number = refl;
@@ -102,63 +102,60 @@ row-born q past T i F B fe fl fh c s from to e low there =
 
 -- One lemma for each kind of entry.
 
-module _ (q : ℕ) (small : q ≤ 16) (n : ℕ) (past : List Entry) (T : Tree) (i : Tied q past T) where
+module _ (n : ℕ) (past : List Entry) (T : Tree) (i : Tied past T) where
   abbrev Keeps : Entry → Type 0
-  Keeps e = Allowed T e → Tied q (e ∷ past) (made n T e)
-
-  makes_print : (t : TaskId) (value : ℤ) (path : List ℕ) (batch : List (List ℕ)) → Keeps (Step t (Print value path) batch)
-  makes_print t value path batch a = i
+  Keeps e = Allowed T e → Tied (e ∷ past) (made n T e)
 
   makes_wait : (t : TaskId) (s : ScopeId) (thrown : List Fault) (batch : List (List ℕ)) → Keeps (Step t (Wait s thrown) batch)
   makes_wait t s thrown batch a =
-      ties-change q (facts past) (is_born past) (has_died past) (born_so_far past) T.next_task T.next_scope T.places T.dead (bones T) _ T.tasks
+      ties-change (facts past) (is_born past) (has_died past) (born_so_far past) T.next_task T.next_scope T.places T.dead (bones T) _ T.tasks
       (bones-change (is_scope s) (λ g. record g { body = thrown }) (λ g. refl) T.scopes)
       (is_task t) waiting (row-waits (facts past) (bones T) true) i
 
   makes_open : (t : TaskId) (s r : ScopeId) (path : List ℕ) (batch : List (List ℕ)) → Keeps (Step t (Open s r path) batch)
   makes_open t s r path batch a =
-      let there : is_on r.0 (nums (bones T)) ≡ true = subst (λ (v : ScopeId). is_on v.0 (nums (bones T)) ≡ true) (sym a.parent) (inner_stands q past T i t a.task a.live.acts.stands) in
-      ties-open q (facts past) (is_born past) (has_died past) (born_so_far past) T.next_task T.next_scope T.places T.dead (bones T) T.tasks i
-      (record { number = s.0; parent = Some r.0; finish = true }) r.0 a.next refl there
+      let there : is_on r.0 (nums (bones T)) ≡ true = subst (λ (v : ScopeId). is_on v.0 (nums (bones T)) ≡ true) (sym a.asks.2) (inner_stands past T i t a.task a.stands) in
+      ties-open (facts past) (is_born past) (has_died past) (born_so_far past) T.next_task T.next_scope T.places T.dead (bones T) T.tasks i
+      (record { number = s.0; parent = Some r.0; finish = true }) r.0 a.asks.1 refl there
 
   makes_spawn : (t c : TaskId) (s : ScopeId) (from to : PlaceId) (path : List ℕ) (batch : List (List ℕ)) → Keeps (Step t (Spawn c s from to path) batch)
   makes_spawn t c s from to path batch a =
-      let there : is_on s.0 (nums (bones T)) ≡ true = subst (λ (v : ScopeId). is_on v.0 (nums (bones T)) ≡ true) (sym a.under) (governs_stands q past T i t a.task a.live.acts.stands) in
-      let low : to.0 < 16 = let k : to.0 < T.places = a.target in let e : T.places ≡ q = i.same_places in omega arith in
-      ties-born q (facts past) (is_born past) (has_died past) (born_so_far past) T.next_task T.next_scope T.places T.dead (bones T) T.tasks i
-      (record { task = c.0; under = s.0; from = from.0; to = to.0 }) (born T c s from to) a.next_task there
-      (row-born q past T i (facts past) (bones T) refl refl refl c s from to a.next_task low there)
+      let there : is_on s.0 (nums (bones T)) ≡ true = subst (λ (v : ScopeId). is_on v.0 (nums (bones T)) ≡ true) (sym a.asks.2) (governs_stands past T i t a.task a.stands) in
+      let low : to.0 < 16 = let k : to.0 < T.places = a.asks.3 in let e : T.places ≤ 16 = i.few in omega arith in
+      ties-born (facts past) (is_born past) (has_died past) (born_so_far past) T.next_task T.next_scope T.places T.dead (bones T) T.tasks i
+      (record { task = c.0; under = s.0; from = from.0; to = to.0 }) (born T c s from to) a.asks.1 there
+      (row-born past T i (facts past) (bones T) refl refl refl c s from to a.asks.1 low there)
 
   makes_call : (t : TaskId) (s r : ScopeId) (c : TaskId) (from to : PlaceId) (path : List ℕ) (batch : List (List ℕ)) → Keeps (Step t (Calls s r c from to path) batch)
   makes_call t s r c from to path batch a =
-      let there : is_on r.0 (nums (bones T)) ≡ true = subst (λ (v : ScopeId). is_on v.0 (nums (bones T)) ≡ true) (sym a.parent) (inner_stands q past T i t a.task a.live.acts.stands) in
-      let low : to.0 < 16 = let k : to.0 < T.places = a.target in let e : T.places ≡ q = i.same_places in omega arith in
+      let there : is_on r.0 (nums (bones T)) ≡ true = subst (λ (v : ScopeId). is_on v.0 (nums (bones T)) ≡ true) (sym a.asks.2) (inner_stands past T i t a.task a.stands) in
+      let low : to.0 < 16 = let k : to.0 < T.places = a.asks.4 in let e : T.places ≤ 16 = i.few in omega arith in
       let P : Bone = record { number = s.0; parent = Some r.0; finish = false } in
       let F : Facts = walks_too s.0 r.0 (facts past) in
-      let o = ties-open q (facts past) (is_born past) (has_died past) (born_so_far past) T.next_task T.next_scope T.places T.dead (bones T) T.tasks i P r.0 a.next refl there in
+      let o = ties-open (facts past) (is_born past) (has_died past) (born_so_far past) T.next_task T.next_scope T.places T.dead (bones T) T.tasks i P r.0 a.asks.1 refl there in
       let new : is_on s.0 (nums (P ∷ bones T)) ≡ true = or_left (s.0 == s.0) (is_on s.0 (nums (bones T))) (eq-eqb s.0 s.0 refl) in
-      let b = ties-born q F (is_born past) (has_died past) (born_so_far past) T.next_task (suc T.next_scope) T.places T.dead (P ∷ bones T) T.tasks o
-      (record { task = c.0; under = s.0; from = from.0; to = to.0 }) (born T c s from to) a.next_task new
-      (row-born q past T i F (P ∷ bones T) refl refl refl c s from to a.next_task low new) in
-      ties-change q F (λ u. (c.0 == u) || is_born past u) (has_died past) (record { task = c.0; under = s.0; from = from.0; to = to.0 } ∷ born_so_far past) (suc T.next_task) (suc T.next_scope) T.places T.dead (P ∷ bones T) (P ∷ bones T) (born T c s from to ∷ T.tasks) refl
+      let b = ties-born F (is_born past) (has_died past) (born_so_far past) T.next_task (suc T.next_scope) T.places T.dead (P ∷ bones T) T.tasks o
+      (record { task = c.0; under = s.0; from = from.0; to = to.0 }) (born T c s from to) a.asks.3 new
+      (row-born past T i F (P ∷ bones T) refl refl refl c s from to a.asks.3 low new) in
+      ties-change F (λ u. (c.0 == u) || is_born past u) (has_died past) (record { task = c.0; under = s.0; from = from.0; to = to.0 } ∷ born_so_far past) (suc T.next_task) (suc T.next_scope) T.places T.dead (P ∷ bones T) (P ∷ bones T) (born T c s from to ∷ T.tasks) refl
       (is_task t) waiting (row-waits F (P ∷ bones T) true) b
 
   makes_arrive : (t : TaskId) (p : PlaceId) (batch : List (List ℕ)) → Keeps (Step t (Arrive p) batch)
   makes_arrive t p batch a =
-      ties-arrive q (facts past) (is_born past) (has_died past) (born_so_far past) T.next_task T.next_scope T.places T.dead (bones T) T.tasks i t p
-      a.task a.acts.stands (number-of T t a.task a.acts.stands)
-      (λ x h. (a.from, let same : a.task ≡ x = let k : Some a.task ≡ Some x = sym a.acts.stands ∙ h in cc in ap (λ (v : Task). v.place) (sym same) ∙ a.travels))
+      ties-arrive (facts past) (is_born past) (has_died past) (born_so_far past) T.next_task T.next_scope T.places T.dead (bones T) T.tasks i t p
+      a.task a.stands (number-of T t a.task a.stands)
+      (λ x h. (a.asks.0, let same : a.task ≡ x = let k : Some a.task ≡ Some x = sym a.stands ∙ h in cc in ap (λ (v : Task). v.place) (sym same) ∙ a.asks.1))
 
   makes_end : (t : TaskId) (thrown : List Fault) (batch : List (List ℕ)) → Keeps (Step t (End thrown) batch)
   makes_end t thrown batch a =
-      let stands : task_of T t ≡ Some a.task = a.live.acts.stands in
-      let e = ties-end q (facts past) (is_born past) (has_died past) (born_so_far past) T.next_task T.next_scope T.places T.dead (bones T) T.tasks i t
+      let stands : task_of T t ≡ Some a.task = a.stands in
+      let e = ties-end (facts past) (is_born past) (has_died past) (born_so_far past) T.next_task T.next_scope T.places T.dead (bones T) T.tasks i t
       a.task stands (number-of T t a.task stands)
-      (λ x h. let same : a.task ≡ x = let k : Some a.task ≡ Some x = sym stands ∙ h in cc in ap (λ (v : Task). v.struck) (sym same) ∙ a.live.acts.unstruck) in
+      (λ x h. let same : a.task ≡ x = let k : Some a.task ≡ Some x = sym stands ∙ h in cc in ap (λ (v : Task). v.struck) (sym same) ∙ a.unstruck) in
       let same_bones : map bone (change_first (is_scope a.task.under) (λ g. record g { ends = g.ends ++ thrown }) T.scopes) ≡ bones T = bones-change (is_scope a.task.under) (λ g. record g { ends = g.ends ++ thrown }) (λ g. refl) T.scopes in
       let made_so : after_end T t thrown ≡ change_scope (λ g. record g { ends = g.ends ++ thrown }) a.task.under (record T { tasks = filter (is_other t) T.tasks }) = rw (stands, after_end) in
-      subst (Tied q (Step t (End thrown) batch ∷ past)) (sym made_so)
-      (subst (λ C. Ties q (ended_too t.0 (facts past)) (is_born past) (has_died past) (born_so_far past) T.next_task T.next_scope T.places T.dead C (filter (is_other t) T.tasks)) (sym same_bones) e)
+      subst (Tied (Step t (End thrown) batch ∷ past)) (sym made_so)
+      (subst (λ C. Ties (ended_too t.0 (facts past)) (is_born past) (has_died past) (born_so_far past) T.next_task T.next_scope T.places T.dead C (filter (is_other t) T.tasks)) (sym same_bones) e)
 
   without_bones : (s : ScopeId) → bones (without T s) ≡ left_of (bones T) s.0
   without_bones s =
@@ -166,43 +163,60 @@ module _ (q : ℕ) (small : q ≤ 16) (n : ℕ) (past : List Entry) (T : Tree) (
         filter-bones : (gs : List Scope) → ((g : Scope) → not (on_chain T s g.number) ≡ is_off (bones T) s.0 g.number.0) → map bone (filter (λ g. not (on_chain T s g.number)) gs) ≡ filter (λ b. is_off (bones T) s.0 b.number) (map bone gs)
         filter-bones gs same = ap (map bone) (filter_agree (λ g. not (on_chain T s g.number)) (λ g. is_off (bones T) s.0 g.number.0) same gs) ∙ bones-filter (is_off (bones T) s.0) gs
 
-  released : (s : ScopeId) → is_on s.0 (nums (bones T)) ≡ true → quiet T s ≡ true → Ties q (released_too s.0 (facts past)) (is_born past) (has_died past) (born_so_far past) T.next_task T.next_scope T.places T.dead (bones (without T s)) (without T s).tasks
+  released : (s : ScopeId) → is_on s.0 (nums (bones T)) ≡ true → quiet T s ≡ true → Ties (released_too s.0 (facts past)) (is_born past) (has_died past) (born_so_far past) T.next_task T.next_scope T.places T.dead (bones (without T s)) (without T s).tasks
   released s there still =
-      subst (λ C. Ties q (released_too s.0 (facts past)) (is_born past) (has_died past) (born_so_far past) T.next_task T.next_scope T.places T.dead C (without T s).tasks) (sym (without_bones s))
-      (ties-release q (facts past) (is_born past) (has_died past) (born_so_far past) T.next_task T.next_scope T.places T.dead (bones T) T.tasks i s.0 there
+      subst (λ C. Ties (released_too s.0 (facts past)) (is_born past) (has_died past) (born_so_far past) T.next_task T.next_scope T.places T.dead C (without T s).tasks) (sym (without_bones s))
+      (ties-release (facts past) (is_born past) (has_died past) (born_so_far past) T.next_task T.next_scope T.places T.dead (bones T) T.tasks i s.0 there
       (is_under T s) (λ x. on_chain-line T s x.under) (not-true (list_any (λ x. is_under T s x && is_none x.struck) T.tasks) still))
 
   -- a scope that may be released stands
-  pub release_stands : (t : TaskId) (s : ScopeId) → MayRelease T t s → is_on s.0 (nums (bones T)) ≡ true
-  release_stands t s a =
-      subst (λ (v : ScopeId). is_on v.0 (nums (bones T)) ≡ true) a.is_it (find-stands _ T.scopes a.scope a.own)
+  pub release_stands : (t : TaskId) (s : ScopeId) (g : Scope) → WorksIn T t s g → is_on s.0 (nums (bones T)) ≡ true
+  release_stands t s g a =
+      subst (λ (v : ScopeId). is_on v.0 (nums (bones T)) ≡ true) a.1 (find-stands _ T.scopes g a.0)
 
-  makes_release : (t : TaskId) (s : ScopeId) (lost : PlaceSet) (thrown : List Fault) (batch : List (List ℕ)) → Keeps (Step t (Release s lost thrown) batch)
-  makes_release t s lost thrown batch a =
-      ties-change q (released_too s.0 (facts past)) (is_born past) (has_died past) (born_so_far past) T.next_task T.next_scope T.places T.dead (bones (without T s)) (bones (without T s)) (without T s).tasks refl
+  makes_release : (t : TaskId) (s : ScopeId) (lost : PlaceSet) (masked : ℕ) (thrown : List Fault) (batch : List (List ℕ)) → Keeps (Step t (Release s lost masked thrown) batch)
+  makes_release t s lost masked thrown batch a =
+      ties-change (released_too s.0 (facts past)) (is_born past) (has_died past) (born_so_far past) T.next_task T.next_scope T.places T.dead (bones (without T s)) (bones (without T s)) (without T s).tasks refl
       (is_task t) resumed (row-waits (released_too s.0 (facts past)) (bones (without T s)) false)
-      (released s (release_stands t s a.0) a.0.is_quiet)
+      (released s (release_stands t s a.asks.1 a.asks.2) a.asks.3.is_quiet)
 
   pub root_stands : (g : Scope) → scope_of T the_root ≡ Some g → is_on 0 (nums (bones T)) ≡ true
   root_stands g h =
       subst (λ k. is_on k (nums (bones T)) ≡ true) (eqb-true g.number.0 0 (find-passes (is_scope the_root) T.scopes g h)) (find-stands _ T.scopes g h)
 
-  makes_root : (lost : PlaceSet) (thrown : List Fault) → Keeps (Root lost thrown)
-  makes_root lost thrown a = released the_root (root_stands a.0.root a.0.stands) a.0.is_quiet
+  makes_root : (lost : PlaceSet) (masked : ℕ) (thrown : List Fault) → Keeps (Root lost masked thrown)
+  makes_root lost masked thrown a = released the_root (root_stands a.0 a.1) a.2.is_quiet
 
   makes_death : (d : PlaceId) → Keeps (Death d)
   makes_death d a =
-      ties-death q (facts past) (is_born past) (has_died past) (born_so_far past) T.next_task T.next_scope T.places T.dead (bones T) T.tasks i
-      (record { place = d; entry = n }) n (let k : d.0 < T.places = a.is_place in let e : T.places ≡ q = i.same_places in omega arith)
+      ties-death (facts past) (is_born past) (has_died past) (born_so_far past) T.next_task T.next_scope T.places T.dead (bones T) T.tasks i
+      (record { place = d; entry = n }) n (let k : d.0 < T.places = a.0 in let e : T.places ≤ 16 = i.few in omega arith)
 
-  pub tied-made : (e : Entry) → Allowed T e → Tied q (e ∷ past) (made n T e)
+  makes_join : (d : PlaceId) → Keeps (Join d)
+  makes_join d a =
+      record {
+        falls = i.falls;
+        scopes = i.scopes;
+        older = i.older;
+        unreleased = i.unreleased;
+        births = i.births;
+        later = i.later;
+        tasks = i.tasks;
+        dead_so = i.dead_so;
+        sixteen = i.sixteen;
+        few = (let k : d.0 ≡ T.places = a.0 in let m : d.0 ≤ 15 = a.1 in omega (arith, k, m));
+      }
+
+  pub tied-made : (e : Entry) → Allowed T e → Tied (e ∷ past) (made n T e)
   tied-made (Step t (Open s r path) batch) a = makes_open t s r path batch a
   tied-made (Step t (Calls s r c from to path) batch) a = makes_call t s r c from to path batch a
   tied-made (Step t (Spawn c s from to path) batch) a = makes_spawn t c s from to path batch a
   tied-made (Step t (Arrive p) batch) a = makes_arrive t p batch a
   tied-made (Step t (Wait s thrown) batch) a = makes_wait t s thrown batch a
-  tied-made (Step t (Release s lost thrown) batch) a = makes_release t s lost thrown batch a
+  tied-made (Step t (Release s lost masked thrown) batch) a = makes_release t s lost masked thrown batch a
   tied-made (Step t (End thrown) batch) a = makes_end t thrown batch a
-  tied-made (Step t (Print value path) batch) a = makes_print t value path batch a
-  tied-made (Root lost thrown) a = makes_root lost thrown a
+  tied-made (Step t (Print value path) batch) a = i
+  tied-made (Step t (Census places path) batch) a = i
+  tied-made (Root lost masked thrown) a = makes_root lost masked thrown a
   tied-made (Death d) a = makes_death d a
+  tied-made (Join d) a = makes_join d a

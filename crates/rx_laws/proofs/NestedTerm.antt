@@ -3,8 +3,8 @@ use Rattle.std.specs.Prelude.{◌≡◌, ℕ, suc, Bool, true, false, cond, List
 use Rattle.std.proofs.Common.{subst, inl, inr}
 use Rattle.std.proofs.lemmas.Bool.{cond_both}
 use Rattle.rx_base.specs.declared.values.Fault.{Fault}
-use Rattle.rx_rules.specs.Code.{Block, Nothing, Then, Stmt, SetTo, New, Get, Put, Forget, Print, Throw, Async, AtAsync, At, Finish, If, Repeat, Try}
-use Rattle.rx_rules.specs.Terms.{Term, Empty, Run, Raise, Turns, Trying, Body, Held, Vars, Does, Local, Makes, Gets, Puts, Forgets, Opens, Calls, Spawns, Waits, Releases, Prints, Done, at, items_from, items, does, stmt_does, trying_does, body_does, begins, granted, stmt_granted, body_granted, eval, target_of, is_zero, catches, replaced, after_it}
+use Rattle.rx_rules.specs.Code.{Block, Nothing, Then, Stmt, SetTo, New, Get, Put, Forget, Census, Print, Throw, Async, AtAsync, At, Finish, If, Repeat, Try}
+use Rattle.rx_rules.specs.Terms.{Term, Empty, Run, Raise, Turns, Trying, Body, Held, Vars, Does, Local, Makes, Gets, Puts, Forgets, Opens, Calls, Spawns, Waits, Releases, Prints, Counts, Done, at, items_from, items, does, stmt_does, trying_does, body_does, begins, granted, stmt_granted, body_granted, eval, target_of, is_zero, catches, replaced, after_it}
 use Rattle.rx_laws.proofs.Paths.{Starts}
 use Rattle.rx_laws.proofs.TermOrder.{Todo, Later, Sorted, Shrinks, Moved, IfLocal, items-todo, begins-todo, local-number, local-place, local-ref, local-within, local-moved, fine-moved, fails-moved, granted-moved, in-at}
 
@@ -36,26 +36,27 @@ items-nested (Then first more) x i rest n = items-nested more x (suc i) rest n
 abbrev Flat : Term → Type 0
 Flat t = Nested t []
 
-stmt-nested : (vars : Vars) (here places : ℕ) (stmt : Stmt) (x : List ℕ) (rest : Term) → Flat rest → IfLocal Flat (stmt_does vars here places stmt x rest)
-stmt-nested vars here places (SetTo name value) x rest c = local-number Flat vars (eval vars here value) _ (λ f. tt) (λ z. c)
-stmt-nested vars here places (New name words) x rest c = tt
-stmt-nested vars here places (Get name target index) x rest c =
+stmt-nested : (vars : Vars) (here : ℕ) (stmt : Stmt) (x : List ℕ) (rest : Term) → Flat rest → IfLocal Flat (stmt_does vars here stmt x rest)
+stmt-nested vars here (SetTo name value) x rest c = local-number Flat vars (eval vars here value) _ (λ f. tt) (λ z. c)
+stmt-nested vars here (New name words) x rest c = tt
+stmt-nested vars here (Get name target index) x rest c =
     local-number Flat vars (eval vars here index) _ (λ f. tt) (λ z. local-ref Flat vars here target (λ r. Gets name r z) (λ f. tt) (λ g. tt))
-stmt-nested vars here places (Put target index value) x rest c =
+stmt-nested vars here (Put target index value) x rest c =
     local-number Flat vars (eval vars here index) _ (λ f. tt)
     (λ k. local-number Flat vars (eval vars here value) _ (λ f. tt) (λ z. local-ref Flat vars here target (λ r. Puts r k z) (λ f. tt) (λ g. tt)))
-stmt-nested vars here places (Forget target) x rest c = local-ref Flat vars here target Forgets (λ f. tt) (λ g. tt)
-stmt-nested vars here places (Print value) x rest c = local-number Flat vars (eval vars here value) Prints (λ f. tt) (λ z. tt)
-stmt-nested vars here places (Throw value) x rest c = local-number Flat vars (eval vars here value) _ (λ f. tt) (λ z. tt)
-stmt-nested vars here places (Async body) x rest c = tt
-stmt-nested vars here places (AtAsync place body) x rest c = local-place Flat vars (target_of (eval vars here place) places) Spawns (λ f. tt) (λ p. tt)
-stmt-nested vars here places (At place body) x rest c = local-place Flat vars (target_of (eval vars here place) places) Calls (λ f. tt) (λ p. tt)
-stmt-nested vars here places (Finish body) x rest c = tt
-stmt-nested vars here places (If test first other) x rest c =
+stmt-nested vars here (Forget target) x rest c = local-ref Flat vars here target Forgets (λ f. tt) (λ g. tt)
+stmt-nested vars here (Census name) x rest c = tt
+stmt-nested vars here (Print value) x rest c = local-number Flat vars (eval vars here value) Prints (λ f. tt) (λ z. tt)
+stmt-nested vars here (Throw value) x rest c = local-number Flat vars (eval vars here value) _ (λ f. tt) (λ z. tt)
+stmt-nested vars here (Async body) x rest c = tt
+stmt-nested vars here (AtAsync place body) x rest c = local-place Flat vars (target_of (eval vars here place) vars.places) Spawns (λ f. tt) (λ p. tt)
+stmt-nested vars here (At place body) x rest c = local-place Flat vars (target_of (eval vars here place) vars.places) Calls (λ f. tt) (λ p. tt)
+stmt-nested vars here (Finish body) x rest c = tt
+stmt-nested vars here (If test first other) x rest c =
     local-number Flat vars (eval vars here test) _ (λ f. tt)
     (λ z. cond_both (is_zero z) (items other (at x 1) rest) (items first (at x 0) rest) Flat (λ t. items-nested other (at x 1) 0 rest c) (λ t. items-nested first (at x 0) 0 rest c))
-stmt-nested vars here places (Repeat times body) x rest c = c
-stmt-nested vars here places (Try body dead_only handler) x rest c = (items-nested body (at x 0) 0 Empty tt, c, tt)
+stmt-nested vars here (Repeat times body) x rest c = c
+stmt-nested vars here (Try body dead_only handler) x rest c = (items-nested body (at x 0) 0 Empty tt, c, tt)
 
 -- two facts of a local step
 if-both : (P Q : Term → Type 0) (d : Does) → IfLocal P d → IfLocal Q d → IfLocal (λ t. P t × Q t) d
@@ -70,6 +71,7 @@ if-both P Q (Spawns place) p q = tt
 if-both P Q (Waits faults) p q = tt
 if-both P Q Releases p q = tt
 if-both P Q (Prints value) p q = tt
+if-both P Q (Counts name) p q = tt
 if-both P Q (Done faults) p q = tt
 
 trying-nested : (vars : Vars) (d : Does) (inside : Term) (dead_only : Bool) (handler : Block) (x : List ℕ) (rest : Term) (ps : List (List ℕ)) → Nested inside ps → Nested rest [] → AllFrom (at x 0) ps → IfLocal (λ t. Nested t ps) d → IfLocal (λ t. Nested t ps) (trying_does vars inside d dead_only handler x rest)
@@ -97,21 +99,21 @@ body-nested d (Body t1 r1) rest p ps n h = local-within (λ t. Moved (Body t1 r1
 body-nested d (Held r1) rest p ps n h = local-within (λ t. Moved (Held r1) t × Nested t ps) (λ t. Nested t (p ∷ ps)) (λ t. Body t rest) (λ t m. body_nests p ps (Held r1) t rest n m.0.shrinks m.1) d h
 
 -- a local step leaves the open scopes
-pub local-nested : (vars : Vars) (here places : ℕ) (t : Term) (ps : List (List ℕ)) → Sorted t → Nested t ps → IfLocal (λ u. Nested u ps) (does vars here places t)
-local-nested vars here places Empty ps s n = tt
-local-nested vars here places (Raise faults) ps s n = tt
-local-nested vars here places (Run stmt x rest) [] s n = stmt-nested vars here places stmt x rest n
-local-nested vars here places (Run stmt x rest) (p ∷ ps) s n = absurd n
-local-nested vars here places (Turns b x k times rest) [] s n =
+pub local-nested : (vars : Vars) (here : ℕ) (t : Term) (ps : List (List ℕ)) → Sorted t → Nested t ps → IfLocal (λ u. Nested u ps) (does vars here t)
+local-nested vars here Empty ps s n = tt
+local-nested vars here (Raise faults) ps s n = tt
+local-nested vars here (Run stmt x rest) [] s n = stmt-nested vars here stmt x rest n
+local-nested vars here (Run stmt x rest) (p ∷ ps) s n = absurd n
+local-nested vars here (Turns b x k times rest) [] s n =
     cond_both (nat_le times k) rest (items b (at x k) (Turns b x (suc k) times rest)) Flat (λ e. n) (λ e. items-nested b (at x k) 0 (Turns b x (suc k) times rest) n)
-local-nested vars here places (Turns b x k times rest) (p ∷ ps) s n = absurd n
-local-nested vars here places (Trying inside dead_only handler x rest) ps s n =
-    trying-nested vars (does vars here places inside) inside dead_only handler x rest ps n.0 n.1 n.2 (local-nested vars here places inside ps s.0 n.0)
-local-nested vars here places (Body inside rest) [] s n = absurd n
-local-nested vars here places (Body inside rest) (p ∷ ps) s n =
-    body-nested (does vars here places inside) inside rest p ps n
-    (if-both (Moved inside) (λ u. Nested u ps) (does vars here places inside) (local-moved vars here places inside s.0) (local-nested vars here places inside ps s.0 n.0))
-local-nested vars here places (Held rest) ps s n = tt
+local-nested vars here (Turns b x k times rest) (p ∷ ps) s n = absurd n
+local-nested vars here (Trying inside dead_only handler x rest) ps s n =
+    trying-nested vars (does vars here inside) inside dead_only handler x rest ps n.0 n.1 n.2 (local-nested vars here inside ps s.0 n.0)
+local-nested vars here (Body inside rest) [] s n = absurd n
+local-nested vars here (Body inside rest) (p ∷ ps) s n =
+    body-nested (does vars here inside) inside rest p ps n
+    (if-both (Moved inside) (λ u. Nested u ps) (does vars here inside) (local-moved vars here inside s.0) (local-nested vars here inside ps s.0 n.0))
+local-nested vars here (Held rest) ps s n = tt
 
 -- so does an answer of the store
 pub fine-nested : (t : Term) (x : List ℕ) (ps : List (List ℕ)) → begins t ≡ Some x → Sorted t → Nested t ps → Nested (replaced t (after_it t)) ps
@@ -206,6 +208,7 @@ stmt-grown (New name words) x rest n l = n
 stmt-grown (Get name target index) x rest n l = n
 stmt-grown (Put target index value) x rest n l = n
 stmt-grown (Forget target) x rest n l = n
+stmt-grown (Census name) x rest n l = n
 stmt-grown (Print value) x rest n l = n
 stmt-grown (Throw value) x rest n l = n
 stmt-grown (Async body) x rest n l = n

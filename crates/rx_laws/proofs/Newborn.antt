@@ -6,9 +6,9 @@ use Rattle.std.proofs.lemmas.List.Sums.{sum_by-cons}
 use Rattle.rx_base.specs.declared.ids.PlaceId.{PlaceId}
 use Rattle.rx_base.specs.declared.ids.TaskId.{TaskId}
 use Rattle.rx_rules.specs.declared.entries.Act.{Act}
-use Rattle.rx_rules.specs.declared.entries.Act.TheVariants.{Open, At as Calling, Spawn, Arrive, Wait, Release, End, Print as Printed}
+use Rattle.rx_rules.specs.declared.entries.Act.TheVariants.{Open, At as Calling, Spawn, Arrive, Wait, Release, End, Print as Printed, Census as Counted}
 use Rattle.rx_rules.specs.declared.entries.Entry.{Entry}
-use Rattle.rx_rules.specs.declared.entries.Entry.TheVariants.{Step, Root, Death}
+use Rattle.rx_rules.specs.declared.entries.Entry.TheVariants.{Step, Root, Death, Join}
 use Rattle.rx_rules.specs.Tree.{Tree, death_of}
 use Rattle.rx_rules.specs.Entries.{AllowedAct, made, made_act}
 use Rattle.rx_rules.specs.Fold.{AllAllowed, births, births_of}
@@ -21,13 +21,14 @@ use Rattle.rx_laws.proofs.Here.{stays_here, here-called, here-spawned}
 
 pub to-same : (past : List Entry) (T : Tree) (t : TaskId) (act : Act) (batch : List (List ℕ)) → AllowedAct T t act → (c : ℕ) → c < T.next_task → to_in (born_so_far (Step t act batch ∷ past)) c ≡ to_in (born_so_far past) c
 to-same past T t (Open s r x) batch a c h = refl
-to-same past T t (Calling s r d from to x) batch a c h = let e : d.0 ≡ T.next_task = a.next_task in rw (ne_eqb d.0 c (λ k. omega arith))
-to-same past T t (Spawn d s from to x) batch a c h = let e : d.0 ≡ T.next_task = a.next_task in rw (ne_eqb d.0 c (λ k. omega arith))
+to-same past T t (Calling s r d from to x) batch a c h = let e : d.0 ≡ T.next_task = a.asks.3 in rw (ne_eqb d.0 c (λ k. omega arith))
+to-same past T t (Spawn d s from to x) batch a c h = let e : d.0 ≡ T.next_task = a.asks.1 in rw (ne_eqb d.0 c (λ k. omega arith))
 to-same past T t (Arrive p) batch a c h = refl
 to-same past T t (Wait s thrown) batch a c h = refl
-to-same past T t (Release s lost thrown) batch a c h = refl
+to-same past T t (Release s lost masked thrown) batch a c h = refl
 to-same past T t (End thrown) batch a c h = refl
 to-same past T t (Printed value x) batch a c h = refl
+to-same past T t (Counted places x) batch a c h = refl
 
 -- an entry that starts no task, or another
 abbrev pub StartsOther : Act → ℕ → Type 0
@@ -39,9 +40,10 @@ birth-other n c t (Calling s r d from to x) batch o = rw (ne_eqb d.0 c (o d refl
 birth-other n c t (Spawn d s from to x) batch o = rw (ne_eqb d.0 c (o d refl))
 birth-other n c t (Arrive p) batch o = refl
 birth-other n c t (Wait s thrown) batch o = refl
-birth-other n c t (Release s lost thrown) batch o = refl
+birth-other n c t (Release s lost masked thrown) batch o = refl
 birth-other n c t (End thrown) batch o = refl
 birth-other n c t (Printed value x) batch o = refl
+birth-other n c t (Counted places x) batch o = refl
 
 pub from-other : (n c : ℕ) (t : TaskId) (act : Act) (batch : List (List ℕ)) (es : List Entry) → StartsOther act c → birth_from n (Step t act batch ∷ es) c ≡ birth_from (suc n) es c
 from-other n c t act batch es o = ap (λ (v : Option Birth). elim v as (λ _. Birth) [ Some b ↦ b | None ↦ birth_from (suc n) es c ]) (birth-other n c t act batch o)
@@ -59,17 +61,18 @@ pub newborn : (n : ℕ) (past : List Entry) (T : Tree) (t : TaskId) (act : Act) 
 newborn n past T t (Calling s r c from to x) batch a d e =
     let same : c ≡ d = cc in
     subst (Newborn n past T t (Calling s r c from to x) batch) same
-    (record { from = from; to = to; birth = rw (eq-eqb c.0 c.0 refl); dest = rw (eq-eqb c.0 c.0 refl); target = a.target; here = here-called T t s r c from to x })
+    (record { from = from; to = to; birth = rw (eq-eqb c.0 c.0 refl); dest = rw (eq-eqb c.0 c.0 refl); target = a.asks.4; here = here-called T t s r c from to x })
 newborn n past T t (Spawn c s from to x) batch a d e =
     let same : c ≡ d = cc in
     subst (Newborn n past T t (Spawn c s from to x) batch) same
-    (record { from = from; to = to; birth = rw (eq-eqb c.0 c.0 refl); dest = rw (eq-eqb c.0 c.0 refl); target = a.target; here = here-spawned T t c s from to x })
+    (record { from = from; to = to; birth = rw (eq-eqb c.0 c.0 refl); dest = rw (eq-eqb c.0 c.0 refl); target = a.asks.3; here = here-spawned T t c s from to x })
 newborn n past T t (Open s r x) batch a d e = cc
 newborn n past T t (Arrive p) batch a d e = cc
 newborn n past T t (Wait s thrown) batch a d e = cc
-newborn n past T t (Release s lost thrown) batch a d e = cc
+newborn n past T t (Release s lost masked thrown) batch a d e = cc
 newborn n past T t (End thrown) batch a d e = cc
 newborn n past T t (Printed value x) batch a d e = cc
+newborn n past T t (Counted places x) batch a d e = cc
 
 pub from-here : (n : ℕ) (t : TaskId) (act : Act) (batch : List (List ℕ)) (es : List Entry) (c : ℕ) (b : Birth) → birth_in n c (Step t act batch) ≡ Some b → birth_from n (Step t act batch ∷ es) c ≡ b
 from-here n t act batch es c b e = ap (λ (v : Option Birth). elim v as (λ _. Birth) [ Some b ↦ b | None ↦ birth_from (suc n) es c ]) e
@@ -84,10 +87,12 @@ births-left n T e es =
 -- a task that is yet to be born begins after entry n
 pub birth-low : (n : ℕ) (T : Tree) (es : List Entry) → AllAllowed n T es → (c : ℕ) → T.next_task ≤ c → c < T.next_task + births es → suc n ≤ (birth_from n es c).low
 birth-low n T [] a c le lt = absurd (let none : births [] ≡ 0 = refl in omega (arith, none))
-birth-low n T (Root lost thrown ∷ es) a c le lt =
-    let rest = birth-low (suc n) (made n T (Root lost thrown)) es a.1 c le (let sum = births-left n T (Root lost thrown) es in omega (arith, sum)) in omega arith
+birth-low n T (Root lost masked thrown ∷ es) a c le lt =
+    let rest = birth-low (suc n) (made n T (Root lost masked thrown)) es a.1 c le (let sum = births-left n T (Root lost masked thrown) es in omega (arith, sum)) in omega arith
 birth-low n T (Death d ∷ es) a c le lt =
     let rest = birth-low (suc n) (made n T (Death d)) es a.1 c le (let sum = births-left n T (Death d) es in omega (arith, sum)) in omega arith
+birth-low n T (Join d ∷ es) a c le lt =
+    let rest = birth-low (suc n) (made n T (Join d)) es a.1 c le (let sum = births-left n T (Join d) es in omega (arith, sum)) in omega arith
 birth-low n T (Step t act batch ∷ es) a c le lt =
     by_start (starting n T t act batch a.0)
     (λ h. birth-low (suc n) (made n T (Step t act batch)) es a.1 c h (let sum = births-left n T (Step t act batch) es in omega (arith, sum)))

@@ -4,9 +4,9 @@ use Rattle.std.proofs.Common.{ap, sym, ◌∙◌, inl, inr}
 use Rattle.std.proofs.lemmas.Bool.{eqb-true, eq-eqb, cond_both, or_cases, or_left, or_right, true≢false}
 use Rattle.rx_base.specs.declared.ids.TaskId.{TaskId}
 use Rattle.rx_rules.specs.declared.entries.Act.{Act}
-use Rattle.rx_rules.specs.declared.entries.Act.TheVariants.{Open, At as Calling, Spawn, Arrive, Wait, Release, End, Print as Printed}
+use Rattle.rx_rules.specs.declared.entries.Act.TheVariants.{Open, At as Calling, Spawn, Arrive, Wait, Release, End, Print as Printed, Census as Counted}
 use Rattle.rx_rules.specs.declared.entries.Entry.{Entry}
-use Rattle.rx_rules.specs.declared.entries.Entry.TheVariants.{Step, Root, Death}
+use Rattle.rx_rules.specs.declared.entries.Entry.TheVariants.{Step, Root, Death, Join}
 use Rattle.rx_rules.specs.Laws.{is_on}
 use Rattle.rx_rules.specs.Order.{own_path}
 use Rattle.rx_laws.proofs.Stacks.{stack_after, open_paths, Stacked}
@@ -21,15 +21,17 @@ opened_after (Calling s r c from to x) ms = (s.0, x) ∷ ms
 opened_after (Spawn c s from to x) ms = ms
 opened_after (Arrive p) ms = ms
 opened_after (Wait s thrown) ms = ms
-opened_after (Release s lost thrown) ms = less_one ms
+opened_after (Release s lost masked thrown) ms = less_one ms
 opened_after (End thrown) ms = ms
 opened_after (Printed value x) ms = ms
+opened_after (Counted places x) ms = ms
 
 abbrev pub opened : List Entry → ℕ → List (ℕ × List ℕ)
 opened [] c = []
 opened (Step t act batch ∷ past) c = cond (t.0 == c) (opened_after act (opened past c)) (opened past c)
-opened (Root lost thrown ∷ past) c = opened past c
+opened (Root lost masked thrown ∷ past) c = opened past c
 opened (Death d ∷ past) c = opened past c
+opened (Join d ∷ past) c = opened past c
 
 abbrev pub paths_of : List (ℕ × List ℕ) → List (List ℕ)
 paths_of [] = []
@@ -45,10 +47,11 @@ after-paths (Calling s r c from to x) ms = refl
 after-paths (Spawn c s from to x) ms = refl
 after-paths (Arrive p) ms = refl
 after-paths (Wait s thrown) ms = refl
-after-paths (Release s lost thrown) [] = refl
-after-paths (Release s lost thrown) (m ∷ ms) = refl
+after-paths (Release s lost masked thrown) [] = refl
+after-paths (Release s lost masked thrown) (m ∷ ms) = refl
 after-paths (End thrown) ms = refl
 after-paths (Printed value x) ms = refl
+after-paths (Counted places x) ms = refl
 
 paths_either : (y : Bool) (ms ns : List (ℕ × List ℕ)) (ps qs : List (List ℕ)) → paths_of ms ≡ ps → paths_of ns ≡ qs → paths_of (cond y ms ns) ≡ cond y ps qs
 paths_either true ms ns ps qs h k = h
@@ -59,8 +62,9 @@ same-paths [] c = refl
 same-paths (Step t act batch ∷ past) c =
     paths_either (t.0 == c) (opened_after act (opened past c)) (opened past c) (stack_after act (open_paths past c)) (open_paths past c)
     (after-paths act (opened past c) ∙ ap (stack_after act) (same-paths past c)) (same-paths past c)
-same-paths (Root lost thrown ∷ past) c = same-paths past c
+same-paths (Root lost masked thrown ∷ past) c = same-paths past c
 same-paths (Death d ∷ past) c = same-paths past c
+same-paths (Join d ∷ past) c = same-paths past c
 
 -- scope s with the statement at x is among them
 abbrev pub On : ℕ → List ℕ → List (ℕ × List ℕ) → Type 0
@@ -97,9 +101,10 @@ scope_in (Calling s r c from to x) = Some s.0
 scope_in (Spawn c s from to x) = None
 scope_in (Arrive p) = None
 scope_in (Wait s thrown) = None
-scope_in (Release s lost thrown) = None
+scope_in (Release s lost masked thrown) = None
 scope_in (End thrown) = None
 scope_in (Printed value x) = None
+scope_in (Counted places x) = None
 
 after-on : (act : Act) (ms : List (ℕ × List ℕ)) (s : ℕ) (x : List ℕ) → On s x (opened_after act ms) → ((scope_in act ≡ Some s) × (own_path act ≡ x ∷ [])) ⊎ On s x ms
 after-on (Open n r y) ms s x (inl e) = inl (ap Some (sym e.0), ap (λ v. v ∷ []) (sym e.1))
@@ -109,10 +114,11 @@ after-on (Calling n r c from to y) ms s x (inr h) = inr h
 after-on (Spawn c n from to y) ms s x h = inr h
 after-on (Arrive p) ms s x h = inr h
 after-on (Wait n thrown) ms s x h = inr h
-after-on (Release n lost thrown) [] s x h = inr h
-after-on (Release n lost thrown) (m ∷ ms) s x h = inr (inr h)
+after-on (Release n lost masked thrown) [] s x h = inr h
+after-on (Release n lost masked thrown) (m ∷ ms) s x h = inr (inr h)
 after-on (End thrown) ms s x h = inr h
 after-on (Printed value y) ms s x h = inr h
+after-on (Counted places y) ms s x h = inr h
 
 -- the entry opens scope s with the statement at x, for task c
 pub record New (t : TaskId) (act : Act) (c s : ℕ) (x : List ℕ) : Type 0 where

@@ -11,7 +11,7 @@ use Rattle.rx_base.specs.declared.values.Fault.{Fault}
 use Rattle.rx_rules.specs.declared.tasks.Task.{Task}
 use Rattle.rx_rules.specs.declared.tasks.Scope.{Scope}
 use Rattle.rx_rules.specs.declared.entries.Act.{Act}
-use Rattle.rx_rules.specs.declared.entries.Act.TheVariants.{Open, At as Calling, Spawn, Arrive, Wait, Release, End, Print as Printed}
+use Rattle.rx_rules.specs.declared.entries.Act.TheVariants.{Open, At as Calling, Spawn, Arrive, Wait, Release, End, Print as Printed, Census as Counted}
 use Rattle.rx_rules.specs.Tree.{Tree, is_finish, is_task, task_of, opened_by, own_scope, inner, on_chain, is_scope}
 use Rattle.rx_rules.specs.Entries.{AllowedAct, made_act, after_end, change_first, change_scope, without}
 use Rattle.rx_rules.specs.Laws.{is_on}
@@ -125,14 +125,15 @@ cores-end T t thrown x e =
 pub data Became (T : Tree) (t : TaskId) : Act → List Core → Type 0 where
   leaves : {act : Act} {ks : List Core} → scope_in act ≡ None → ((ms : List (ℕ × List ℕ)) → opened_after act ms ≡ ms) → ks ≡ cores T → Became T t act ks
   opens : {act : Act} {ks : List Core} (s : ℕ) → scope_in act ≡ Some s → s ≡ T.next_scope → ((ms : List (ℕ × List ℕ)) → nums_of (opened_after act ms) ≡ s ∷ nums_of ms) → ks ≡ record { number = s; opener = Some t.0; finish = is_opening act } ∷ cores T → Became T t act ks
-  releases : {act : Act} {ks : List Core} (s : ScopeId) (lost : PlaceSet) (thrown : List Fault) → act ≡ Release s lost thrown → ks ≡ filter (λ k. is_off (bones T) s.0 k.number) (cores T) → Became T t act ks
+  releases : {act : Act} {ks : List Core} (s : ScopeId) (lost : PlaceSet) (masked : ℕ) (thrown : List Fault) → act ≡ Release s lost masked thrown → ks ≡ filter (λ k. is_off (bones T) s.0 k.number) (cores T) → Became T t act ks
 
 pub became : (T : Tree) (t : TaskId) (act : Act) → AllowedAct T t act → Became T t act (cores (made_act T t act))
-became T t (Open s r x) a = opens s.0 refl a.next (λ ms. refl) refl
-became T t (Calling s r c from to x) a = opens s.0 refl a.next (λ ms. refl) refl
+became T t (Open s r x) a = opens s.0 refl a.asks.1 (λ ms. refl) refl
+became T t (Calling s r c from to x) a = opens s.0 refl a.asks.1 (λ ms. refl) refl
 became T t (Spawn c s from to x) a = leaves refl (λ ms. refl) refl
 became T t (Arrive p) a = leaves refl (λ ms. refl) refl
 became T t (Wait s thrown) a = leaves refl (λ ms. refl) (cores-change (is_scope s) (λ g. record g { body = thrown }) (λ g. refl) T.scopes)
-became T t (Release s lost thrown) a = releases s lost thrown refl (cores-without T s)
-became T t (End thrown) a = leaves refl (λ ms. refl) (cores-end T t thrown a.task a.live.acts.stands)
+became T t (Release s lost masked thrown) a = releases s lost masked thrown refl (cores-without T s)
+became T t (End thrown) a = leaves refl (λ ms. refl) (cores-end T t thrown a.task a.stands)
 became T t (Printed value x) a = leaves refl (λ ms. refl) refl
+became T t (Counted places x) a = leaves refl (λ ms. refl) refl

@@ -2,7 +2,7 @@
 use Rattle.std.specs.Prelude.{◌≡◌, ◌⊎◌, ℕ, zero, suc, ◌<◌, Bool, true, false, cond, ◌==◌, nat_lt, List, [], ◌∷◌, refl, ◌++◌}
 use Rattle.std.proofs.Common.{ap, sym, subst, ◌∙◌, arith, inl, inr}
 use Rattle.std.proofs.lemmas.Bool.{eqb-true, ltb-true, true≢false, false_from_ne_true}
-use Rattle.rx_rules.specs.Code.{Stmt, SetTo, New, Get, Put, Forget, Print, Throw, Async, AtAsync, At, Finish, If, Repeat, Try, Block, Nothing, Then}
+use Rattle.rx_rules.specs.Code.{Stmt, SetTo, New, Get, Put, Forget, Census, Print, Throw, Async, AtAsync, At, Finish, If, Repeat, Try, Block, Nothing, Then}
 use Rattle.rx_rules.specs.Terms.{at}
 use Rattle.rx_rules.specs.Order.{is_kept_in, is_before, is_before_in, comes_before}
 
@@ -111,6 +111,7 @@ mutual
   before-below (Get name target index) x y h = absurd (true≢false (sym h))
   before-below (Put target index value) x y h = absurd (true≢false (sym h))
   before-below (Forget target) x y h = absurd (true≢false (sym h))
+  before-below (Census name) x y h = absurd (true≢false (sym h))
   before-below (Print value) x y h = absurd (true≢false (sym h))
   before-below (Throw value) x y h = absurd (true≢false (sym h))
   before-below (Async body) (i ∷ x) (j ∷ y) h = before-below_in body i x j y h

@@ -77,7 +77,7 @@ row-of F B born n m h (row {b = b} {x = y} {bs = bs} r a) x (inl e) =
     record { birth = b; is_row = subst (IsRow F B b) (sym e) r; low = h.0; under = rw (eq-eqb b.task b.task refl); to = rw (eq-eqb b.task b.task refl) }
 row-of F B born n m h (row {b = b} {x = y} {bs = bs} r a) x (inr i) = further F B b bs n x h.0 (row-of F B born b.task m h.3 a x i)
 
-module _ (q : ℕ) (past : List Entry) (T : Tree) (i : Tied q past T) where
+module _ (past : List Entry) (T : Tree) (i : Tied past T) where
   -- a row tells the scope that its task was born under
   row_under : (x : Task) → In x T.tasks → (x.under.0 ≡ under_in (born_so_far past) x.number.0) × (is_on x.under.0 (nums (bones T)) ≡ true)
   row_under x k =

@@ -11,9 +11,9 @@ use Rattle.rx_base.specs.declared.ids.TaskId.{TaskId}
 use Rattle.rx_base.specs.declared.values.Fault.{Fault}
 use Rattle.rx_rules.specs.declared.events.Cell.{Cell}
 use Rattle.rx_rules.specs.declared.entries.Act.{Act}
-use Rattle.rx_rules.specs.declared.entries.Act.TheVariants.{Open, At as Calls, Spawn, Arrive, Wait, Release, Print, End}
-use Rattle.rx_rules.specs.Code.{Block, Stmt, SetTo, New, Get, Put, Forget, Print as Prints, Throw, Async, AtAsync, At, Finish, If, Repeat, Try}
-use Rattle.rx_rules.specs.Terms.{Term, Empty, Raise, Run, Turns, Trying, Body, Held, Does, Local, Makes, Gets, Puts, Forgets, Opens, Calls as Asks, Spawns, Waits, Releases, Prints as Printing, Done, Vars, at, does, begins, granted, stmt_granted, child, stmt_child, within, trying_does, body_does, stmt_does, no_vars}
+use Rattle.rx_rules.specs.declared.entries.Act.TheVariants.{Open, At as Calls, Spawn, Arrive, Wait, Release, Print, Census, End}
+use Rattle.rx_rules.specs.Code.{Block, Stmt, SetTo, New, Get, Put, Forget, Census as Counts, Print as Prints, Throw, Async, AtAsync, At, Finish, If, Repeat, Try}
+use Rattle.rx_rules.specs.Terms.{Term, Empty, Raise, Run, Turns, Trying, Body, Held, Does, Local, Makes, Gets, Puts, Forgets, Opens, Calls as Asks, Spawns, Waits, Releases, Prints as Printing, Counts as Counting, Done, Vars, at, does, begins, granted, stmt_granted, child, stmt_child, within, trying_does, body_does, stmt_does}
 use Rattle.rx_rules.specs.Plays.{Plays, stops, Begins, Fits, StartsSo, brought, started_by}
 use Rattle.rx_rules.specs.Order.{own_path}
 use Rattle.rx_laws.proofs.Paths.{Starts, Below, Comes, starts-at, starts-trans, below-at, starts-below, below-starts, starts-not_below}
@@ -28,13 +28,13 @@ use Rattle.rx_laws.proofs.Stacks.{Pushes, fits-pushes, fits-begins, stack_after,
 
 -- The rest of a task's entries is made by its term, after the statements of the batch; it may yet have to arrive. Q says what is
 -- known of the events that are left, of a task that travels and of one that does not.
-pub data Goes (Q : Bool → PlaceId → List (ℕ × Cell × List ℕ) → Type 0) (starts : List (Term × Vars)) (places : ℕ) (t : Term) (batch : List (List ℕ)) (moves : List (ℕ × Act × List (List ℕ))) : Type 0 where
-  on : (here : PlaceId) (low : ℕ) (vars : Vars) (cells : List (ℕ × Cell × List ℕ)) → Q false here cells → Plays starts here places low vars t batch cells moves → Goes Q starts places t batch moves
-  travels : (here : PlaceId) (low : ℕ) (vars : Vars) (cells : List (ℕ × Cell × List ℕ)) → Q true here cells → batch ≡ [] → Begins starts here places true low vars t cells moves → Goes Q starts places t batch moves
+pub data Goes (Q : Bool → PlaceId → List (ℕ × Cell × List ℕ) → Type 0) (starts : List (Term × Vars)) (t : Term) (batch : List (List ℕ)) (moves : List (ℕ × Act × List (List ℕ))) : Type 0 where
+  on : (here : PlaceId) (low : ℕ) (vars : Vars) (cells : List (ℕ × Cell × List ℕ)) → Q false here cells → Plays starts here low vars t batch cells moves → Goes Q starts t batch moves
+  travels : (here : PlaceId) (low : ℕ) (vars : Vars) (cells : List (ℕ × Cell × List ℕ)) → Q true here cells → batch ≡ [] → Begins starts here true low vars t cells moves → Goes Q starts t batch moves
 
-pub goes-map : (Q P : Bool → PlaceId → List (ℕ × Cell × List ℕ) → Type 0) (starts : List (Term × Vars)) (places : ℕ) (t : Term) (batch : List (List ℕ)) (moves : List (ℕ × Act × List (List ℕ))) → ((y : Bool) (here : PlaceId) (cells : List (ℕ × Cell × List ℕ)) → Q y here cells → P y here cells) → Goes Q starts places t batch moves → Goes P starts places t batch moves
-goes-map Q P starts places t batch moves f (on here low vars cells q p) = on here low vars cells (f false here cells q) p
-goes-map Q P starts places t batch moves f (travels here low vars cells q e p) = travels here low vars cells (f true here cells q) e p
+pub goes-map : (Q P : Bool → PlaceId → List (ℕ × Cell × List ℕ) → Type 0) (starts : List (Term × Vars)) (t : Term) (batch : List (List ℕ)) (moves : List (ℕ × Act × List (List ℕ))) → ((y : Bool) (here : PlaceId) (cells : List (ℕ × Cell × List ℕ)) → Q y here cells → P y here cells) → Goes Q starts t batch moves → Goes P starts t batch moves
+goes-map Q P starts t batch moves f (on here low vars cells q p) = on here low vars cells (f false here cells q) p
+goes-map Q P starts t batch moves f (travels here low vars cells q e p) = travels here low vars cells (f true here cells q) e p
 
 -- what is known before entry n, whose act is `act`, gives what is known after it
 pub record Passes (Q P : Bool → PlaceId → List (ℕ × Cell × List ℕ) → Type 0) (n : ℕ) (act : Act) : Type 0 where
@@ -57,6 +57,7 @@ NotOpens (Spawns place) = Unit {0}
 NotOpens (Waits faults) = Unit {0}
 NotOpens Releases = Unit {0}
 NotOpens (Printing value) = Unit {0}
+NotOpens (Counting name) = Unit {0}
 NotOpens (Done faults) = Unit {0}
 
 not_opens-within : (f : Term → Term) (d : Does) → NotOpens (within f d) → NotOpens d
@@ -71,23 +72,25 @@ not_opens-within f (Spawns place) h = tt
 not_opens-within f (Waits faults) h = tt
 not_opens-within f Releases h = tt
 not_opens-within f (Printing value) h = tt
+not_opens-within f (Counting name) h = tt
 not_opens-within f (Done faults) h = tt
 
-stmt-left : (vars : Vars) (here places : ℕ) (stmt : Stmt) (x : List ℕ) (rest : Term) → NotOpens (stmt_does vars here places stmt x rest) → Later x rest → Later x (stmt_granted stmt x rest)
-stmt-left vars here places (Finish body) x rest n l = absurd n
-stmt-left vars here places (At place body) x rest n l = l
-stmt-left vars here places (SetTo name value) x rest n l = l
-stmt-left vars here places (New name words) x rest n l = l
-stmt-left vars here places (Get name target index) x rest n l = l
-stmt-left vars here places (Put target index value) x rest n l = l
-stmt-left vars here places (Forget target) x rest n l = l
-stmt-left vars here places (Prints value) x rest n l = l
-stmt-left vars here places (Throw value) x rest n l = l
-stmt-left vars here places (Async body) x rest n l = l
-stmt-left vars here places (AtAsync place body) x rest n l = l
-stmt-left vars here places (If test first other) x rest n l = l
-stmt-left vars here places (Repeat times body) x rest n l = l
-stmt-left vars here places (Try body dead_only handler) x rest n l = l
+stmt-left : (vars : Vars) (here : ℕ) (stmt : Stmt) (x : List ℕ) (rest : Term) → NotOpens (stmt_does vars here stmt x rest) → Later x rest → Later x (stmt_granted stmt x rest)
+stmt-left vars here (Finish body) x rest n l = absurd n
+stmt-left vars here (At place body) x rest n l = l
+stmt-left vars here (SetTo name value) x rest n l = l
+stmt-left vars here (New name words) x rest n l = l
+stmt-left vars here (Get name target index) x rest n l = l
+stmt-left vars here (Put target index value) x rest n l = l
+stmt-left vars here (Forget target) x rest n l = l
+stmt-left vars here (Counts name) x rest n l = l
+stmt-left vars here (Prints value) x rest n l = l
+stmt-left vars here (Throw value) x rest n l = l
+stmt-left vars here (Async body) x rest n l = l
+stmt-left vars here (AtAsync place body) x rest n l = l
+stmt-left vars here (If test first other) x rest n l = l
+stmt-left vars here (Repeat times body) x rest n l = l
+stmt-left vars here (Try body dead_only handler) x rest n l = l
 
 trying-left : (z : List ℕ) (inside after : Term) (x : List ℕ) (dead_only : Bool) (handler : Block) (rest : Term) → Sorted (Trying inside dead_only handler x rest) → Todo inside z → Later z after → Later z (Trying after dead_only handler x rest)
 trying-left z inside after x dead_only handler rest s i l y h =
@@ -122,20 +125,20 @@ body-asks d (Trying t1 d1 h1 x1 r1) rest z e n = not_opens-within (λ t. Body t 
 body-asks d (Body t1 r1) rest z e n = not_opens-within (λ t. Body t rest) d n
 body-asks d (Held r1) rest z e n = not_opens-within (λ t. Body t rest) d n
 
-pub asked-left : (vars : Vars) (here places : ℕ) (faults : List Fault) (t : Term) (z : List ℕ) → begins t ≡ Some z → NotOpens (does vars here places t) → Sorted t → Later z (granted faults t)
-asked-left vars here places faults Empty z e n s = cc
-asked-left vars here places faults (Raise f) z e n s = cc
-asked-left vars here places faults (Run stmt x rest) z e n s =
-    let same : x ≡ z = cc in subst (λ v. Later v (stmt_granted stmt x rest)) same (stmt-left vars here places stmt x rest n s.1)
-asked-left vars here places faults (Turns b x k times rest) z e n s = cc
-asked-left vars here places faults (Trying inside dead_only handler x rest) z e n s =
+pub asked-left : (vars : Vars) (here : ℕ) (faults : List Fault) (t : Term) (z : List ℕ) → begins t ≡ Some z → NotOpens (does vars here t) → Sorted t → Later z (granted faults t)
+asked-left vars here faults Empty z e n s = cc
+asked-left vars here faults (Raise f) z e n s = cc
+asked-left vars here faults (Run stmt x rest) z e n s =
+    let same : x ≡ z = cc in subst (λ v. Later v (stmt_granted stmt x rest)) same (stmt-left vars here stmt x rest n s.1)
+asked-left vars here faults (Turns b x k times rest) z e n s = cc
+asked-left vars here faults (Trying inside dead_only handler x rest) z e n s =
     trying-left z inside (granted faults inside) x dead_only handler rest s (begins-todo inside z e)
-    (asked-left vars here places faults inside z e (trying-asks vars (does vars here places inside) inside dead_only handler x rest z e n) s.0)
-asked-left vars here places faults (Body inside rest) z e n s =
+    (asked-left vars here faults inside z e (trying-asks vars (does vars here inside) inside dead_only handler x rest z e n) s.0)
+asked-left vars here faults (Body inside rest) z e n s =
     subst (Later z) (goes_on inside (granted faults inside) rest z e)
     (body-left z inside (granted faults inside) rest s (begins-todo inside z e)
-    (asked-left vars here places faults inside z e (body-asks (does vars here places inside) inside rest z e n) s.0))
-asked-left vars here places faults (Held rest) z e n s = cc
+    (asked-left vars here faults inside z e (body-asks (does vars here inside) inside rest z e n) s.0))
+asked-left vars here faults (Held rest) z e n s = cc
 
 -- a path that an entry has of its own is the statement that the term begins
 
@@ -144,8 +147,9 @@ own_fits here t Opens (Open s r x) f = inl (x, f, refl)
 own_fits here t (Asks p) (Calls s r c from to x) f = inl (x, f.2, refl)
 own_fits here t (Spawns p) (Spawn c s from to x) f = inl (x, f.2, refl)
 own_fits here t (Waits faults) (Wait s thrown) f = inr (refl, refl)
-own_fits here t Releases (Release s lost thrown) f = inr (refl, refl)
+own_fits here t Releases (Release s lost masked thrown) f = inr (refl, refl)
 own_fits here t (Printing z) (Print value x) f = inl (x, f.1, refl)
+own_fits here t (Counting name) (Census places x) f = inl (x, f, refl)
 own_fits here t d act f = absurd f
 
 -- a task that is started is started by no opening of a finish
@@ -156,6 +160,7 @@ starts_fits here t (Spawns p) act c e f = tt
 starts_fits here t (Waits faults) act c e f = tt
 starts_fits here t Releases act c e f = tt
 starts_fits here t (Printing z) act c e f = tt
+starts_fits here t (Counting name) act c e f = tt
 starts_fits here t Opens act c e f = absurd f
 starts_fits here t d act c e f = absurd f
 
@@ -204,7 +209,7 @@ pub record Says (starts : List (Term × Vars)) (t : Term) (act : Act) (told : Li
   -- a `finish` that the entry begins is opened by it
   pub opening : (code : Block) → Coded code t → (x : List ℕ) (body : Block) → code_at code x ≡ Some (Finish body) → own_path act ≡ x ∷ [] → is_opening act ≡ true
   -- what is left after a release lies after the statement of the scope that is released
-  pub released : (s : ScopeId) (lost : PlaceSet) (thrown : List Fault) → act ≡ Release s lost thrown → (ps : List (List ℕ)) (p : List ℕ) → Nested t (outermost (p ∷ ps)) → Later p after
+  pub released : (s : ScopeId) (lost : PlaceSet) (masked : ℕ) (thrown : List Fault) → act ≡ Release s lost masked thrown → (ps : List (List ℕ)) (p : List ℕ) → Nested t (outermost (p ∷ ps)) → Later p after
 
 within-snoc : (ps : List (List ℕ)) (x : List ℕ) (zs : List (List ℕ)) → AllWithin ps zs → EachStarts ps x → AllWithin ps (zs ++ x ∷ [])
 within-snoc ps x [] a e = (e, tt)
@@ -242,6 +247,7 @@ stmt-shut code (New name words) x e y h = absurd h
 stmt-shut code (Get name target index) x e y h = absurd h
 stmt-shut code (Put target index value) x e y h = absurd h
 stmt-shut code (Forget target) x e y h = absurd h
+stmt-shut code (Counts name) x e y h = absurd h
 stmt-shut code (Prints value) x e y h = absurd h
 stmt-shut code (Throw value) x e y h = absurd h
 stmt-shut code (If test first other) x e y h = absurd h
@@ -257,11 +263,11 @@ child-shut code (Trying inside dead_only handler z rest) x b c y h = child-shut 
 child-shut code (Body inside rest) x b c y h = child-shut code inside x b c.0 y h
 child-shut code (Held rest) x b c y h = absurd h
 
-child-of : (starts : List (Term × Vars)) (here : PlaceId) (places : ℕ) (vars : Vars) (t asking : Term) (act : Act) (fresh : List (List ℕ)) (x : List ℕ) → begins asking ≡ Some x → own_path act ≡ x ∷ [] → Sorted asking → Shrinks t asking → InTurn t fresh asking → ((code : Block) → Coded code t → Coded code asking) → ((ps : List (List ℕ)) → Nested t ps → Nested asking ps) → ((code : Block) → Coded code t → Moves code t asking) → Fits here asking (does vars here.0 places asking) act → StartsSo starts asking vars act → (c : TaskId) → started_by act ≡ Some c → ChildOf starts c t (granted (brought act) asking) (fresh ++ own_path act)
-child-of starts here places vars t asking act fresh x b o s sh i k stay go fits so c e =
+child-of : (starts : List (Term × Vars)) (here : PlaceId) (vars : Vars) (t asking : Term) (act : Act) (fresh : List (List ℕ)) (x : List ℕ) → begins asking ≡ Some x → own_path act ≡ x ∷ [] → Sorted asking → Shrinks t asking → InTurn t fresh asking → ((code : Block) → Coded code t → Coded code asking) → ((ps : List (List ℕ)) → Nested t ps → Nested asking ps) → ((code : Block) → Coded code t → Moves code t asking) → Fits here asking (does vars here.0 asking) act → StartsSo starts asking vars act → (c : TaskId) → started_by act ≡ Some c → ChildOf starts c t (granted (brought act) asking) (fresh ++ own_path act)
+child-of starts here vars t asking act fresh x b o s sh i k stay go fits so c e =
     let born = child-born asking x b in
     let inside : Todo asking x = begins-todo asking x b in
-    let left : Later x (granted (brought act) asking) = asked-left vars here.0 places (brought act) asking x b (starts_fits here asking (does vars here.0 places asking) act c e fits) s in
+    let left : Later x (granted (brought act) asking) = asked-left vars here.0 (brought act) asking x b (starts_fits here asking (does vars here.0 asking) act c e fits) s in
     let within : Shrinks asking (child asking) = λ y h. todo-starts asking x y inside (born.inside y h).0 in
     record {
       term = child asking;
@@ -294,14 +300,14 @@ child-of starts here places vars t asking act fresh x b o s sh i k stay go fits 
     }
 
 -- what is left after a release
-released-later : (here : PlaceId) (vars : Vars) (places : ℕ) (asking : Term) (act : Act) → Fits here asking (does vars here.0 places asking) act → Sorted asking → (s : ScopeId) (lost : PlaceSet) (thrown : List Fault) → act ≡ Release s lost thrown → (ps : List (List ℕ)) (p : List ℕ) → Nested asking (outermost (p ∷ ps)) → Later p (granted (brought act) asking)
-released-later here vars places asking act fits so s lost thrown e ps p n =
+released-later : (here : PlaceId) (vars : Vars) (asking : Term) (act : Act) → Fits here asking (does vars here.0 asking) act → Sorted asking → (s : ScopeId) (lost : PlaceSet) (masked : ℕ) (thrown : List Fault) → act ≡ Release s lost masked thrown → (ps : List (List ℕ)) (p : List ℕ) → Nested asking (outermost (p ∷ ps)) → Later p (granted (brought act) asking)
+released-later here vars asking act fits so s lost masked thrown e ps p n =
     subst (λ a. Later p (granted (brought a) asking)) (sym e)
-    (fits-released here vars places asking s lost thrown ps p (subst (Fits here asking (does vars here.0 places asking)) e fits) so n)
+    (fits-released here vars asking s lost masked thrown ps p (subst (Fits here asking (does vars here.0 asking)) e fits) so n)
 
-says-asks : (starts : List (Term × Vars)) (here : PlaceId) (places : ℕ) (vars : Vars) (t asking : Term) (act : Act) (fresh : List (List ℕ)) → Sorted asking → Shrinks t asking → InTurn t fresh asking → ((code : Block) → Coded code t → Coded code asking) → ((ps : List (List ℕ)) → Nested t ps → Nested asking ps) → ((ps : List (List ℕ)) → Nested t ps → AllWithin ps fresh) → ((code : Block) → Coded code t → Moves code t asking) → Fits here asking (does vars here.0 places asking) act → StartsSo starts asking vars act → ((x : List ℕ) × (begins asking ≡ Some x) × (own_path act ≡ x ∷ [])) ⊎ ((own_path act ≡ []) × (started_by act ≡ None)) → Says starts t act fresh
+says-asks : (starts : List (Term × Vars)) (here : PlaceId) (vars : Vars) (t asking : Term) (act : Act) (fresh : List (List ℕ)) → Sorted asking → Shrinks t asking → InTurn t fresh asking → ((code : Block) → Coded code t → Coded code asking) → ((ps : List (List ℕ)) → Nested t ps → Nested asking ps) → ((ps : List (List ℕ)) → Nested t ps → AllWithin ps fresh) → ((code : Block) → Coded code t → Moves code t asking) → Fits here asking (does vars here.0 asking) act → StartsSo starts asking vars act → ((x : List ℕ) × (begins asking ≡ Some x) × (own_path act ≡ x ∷ [])) ⊎ ((own_path act ≡ []) × (started_by act ≡ None)) → Says starts t act fresh
 unfolding child-of
-says-asks starts here places vars t asking act fresh s sh i k stay deep go fits so (inl own) =
+says-asks starts here vars t asking act fresh s sh i k stay deep go fits so (inl own) =
     let m = granted-moved (brought act) asking s in
     let b = m.begun own.0 own.1 in
     record {
@@ -310,7 +316,7 @@ says-asks starts here places vars t asking act fresh s sh i k stay deep go fits 
       shrinks = λ y h. sh y (m.shrinks y h);
       order = rw own.2 (in_turn-snoc t asking (granted (brought act) asking) own.0 b.0 sh m.shrinks b.1 fresh i);
       coded = λ code d. granted-coded code (brought act) asking (k code d);
-      child = child-of starts here places vars t asking act fresh own.0 own.1 own.2 s sh i k stay go fits so;
+      child = child-of starts here vars t asking act fresh own.0 own.1 own.2 s sh i k stay go fits so;
       child_path = λ c e. own.2;
       own_todo = λ x e. subst (Todo t) (same_path act own.0 x own.2 e) (sh own.0 b.0);
       own_comes = λ x e y h. subst (λ v. Comes v y) (same_path act own.0 x own.2 e) (b.1 y h);
@@ -318,18 +324,18 @@ says-asks starts here places vars t asking act fresh s sh i k stay deep go fits 
       pushes = λ code d x u f w o.
           let same = same_path act own.0 x own.2 o in
           let b : begins asking ≡ Some x = own.1 ∙ ap Some same in
-          fits-pushes here vars places asking act x fits s b (waiter-opens code asking x u (k code d) b f w);
+          fits-pushes here vars asking act x fits s b (waiter-opens code asking x u (k code d) b f w);
       lies = λ code d x u f w l. elim (granted-lies code (brought act) asking (k code d) x u f l) [
-        | inl q ↦ inl (fits-begins here vars places asking act x fits s q)
+        | inl q ↦ inl (fits-begins here vars asking act x fits s q)
         | inr q ↦ inr (go code d x u f w q)
       ];
-      nested = λ ps n. fits-nested here vars places asking act ps fits s (stay (outermost ps) n);
+      nested = λ ps n. fits-nested here vars asking act ps fits s (stay (outermost ps) n);
       opening = λ code d x body f o.
           let same = same_path act own.0 x own.2 o in
-          fits-opening here asking (does vars here.0 places asking) act (finish-opens code vars here.0 places asking x body (own.1 ∙ ap Some same) (k code d) f) fits;
-      released = λ r lost thrown e ps p n. released-later here vars places asking act fits s r lost thrown e ps p (stay (outermost (p ∷ ps)) n);
+          fits-opening here asking (does vars here.0 asking) act (finish-opens code vars here.0 asking x body (own.1 ∙ ap Some same) (k code d) f) fits;
+      released = λ r lost masked thrown e ps p n. released-later here vars asking act fits s r lost masked thrown e ps p (stay (outermost (p ∷ ps)) n);
     }
-says-asks starts here places vars t asking act fresh s sh i k stay deep go fits so (inr own) =
+says-asks starts here vars t asking act fresh s sh i k stay deep go fits so (inr own) =
     let m = granted-moved (brought act) asking s in
     record {
       after = granted (brought act) asking;
@@ -344,12 +350,12 @@ says-asks starts here places vars t asking act fresh s sh i k stay deep go fits 
       inside = λ ps n. rw (own.0, append-nil fresh) (deep ps n);
       pushes = λ code d x u f w o. let h : [] ≡ x ∷ [] = sym own.0 ∙ o in absurd (let f : ⊥ = cc in f);
       lies = λ code d x u f w l. elim (granted-lies code (brought act) asking (k code d) x u f l) [
-        | inl q ↦ inl (fits-begins here vars places asking act x fits s q)
+        | inl q ↦ inl (fits-begins here vars asking act x fits s q)
         | inr q ↦ inr (go code d x u f w q)
       ];
-      nested = λ ps n. fits-nested here vars places asking act ps fits s (stay (outermost ps) n);
+      nested = λ ps n. fits-nested here vars asking act ps fits s (stay (outermost ps) n);
       opening = λ code d x body f o. let h : [] ≡ x ∷ [] = sym own.0 ∙ o in absurd (let f : ⊥ = cc in f);
-      released = λ r lost thrown e ps p n. released-later here vars places asking act fits s r lost thrown e ps p (stay (outermost (p ∷ ps)) n);
+      released = λ r lost masked thrown e ps p n. released-later here vars asking act fits s r lost masked thrown e ps p (stay (outermost (p ∷ ps)) n);
     }
 
 says-ends : (starts : List (Term × Vars)) (t asking : Term) (act : Act) (fresh : List (List ℕ)) (faults : List Fault) → act ≡ End faults → InTurn t fresh asking → ((ps : List (List ℕ)) → Nested t ps → Nested asking ps) → ((ps : List (List ℕ)) → Nested t ps → AllWithin ps fresh) → ((ps : List (List ℕ)) → Nested asking ps → ps ≡ []) → Says starts t act fresh
@@ -368,65 +374,65 @@ says-ends starts t asking act fresh faults is i stay deep closed =
       lies = λ code d x v f w l. absurd l.is_head;
       pushes = λ code d x v f w o. let h : [] ≡ x ∷ [] = ap own_path (sym is) ∙ o in absurd (let f : ⊥ = cc in f);
       opening = λ code d x body f o. let h : [] ≡ x ∷ [] = ap own_path (sym is) ∙ o in absurd (let f : ⊥ = cc in f);
-      released = λ r lost thrown e ps p n y h. absurd h;
+      released = λ r lost masked thrown e ps p n y h. absurd h;
       nested = λ ps n. rw is (subst (Nested Empty) (sym (closed (outermost ps) (stay (outermost ps) n))) tt);
     }
 
 says-lands : (starts : List (Term × Vars)) (t : Term) (p : PlaceId) → Sorted t → Says starts t (Arrive p) []
 says-lands starts t p s =
-    record { after = t; sorted = s; shrinks = λ y h. h; order = tt; coded = λ code d. d; child = λ c e. cc; child_path = λ c e. cc; own_todo = λ x e. cc; own_comes = λ x e y k. cc; inside = λ ps n. tt; lies = λ code d x u f w l. inr l; pushes = λ code d x u f w o. cc; opening = λ code d x body f o. cc; released = λ r lost thrown e ps q m. cc; nested = λ ps n. n }
+    record { after = t; sorted = s; shrinks = λ y h. h; order = tt; coded = λ code d. d; child = λ c e. cc; child_path = λ c e. cc; own_todo = λ x e. cc; own_comes = λ x e y k. cc; inside = λ ps n. tt; lies = λ code d x u f w l. inr l; pushes = λ code d x u f w o. cc; opening = λ code d x body f o. cc; released = λ r lost masked thrown e ps q m. cc; nested = λ ps n. n }
 
 -- what the next entry of a task says, and how the task goes on
-pub record Said (P : Bool → PlaceId → List (ℕ × Cell × List ℕ) → Type 0) (starts : List (Term × Vars)) (places : ℕ) (t : Term) (act : Act) (batch told : List (List ℕ)) (more : List (ℕ × Act × List (List ℕ))) : Type 0 where
+pub record Said (P : Bool → PlaceId → List (ℕ × Cell × List ℕ) → Type 0) (starts : List (Term × Vars)) (t : Term) (act : Act) (batch told : List (List ℕ)) (more : List (ℕ × Act × List (List ℕ))) : Type 0 where
   pub fresh : List (List ℕ)
   pub tells : told ≡ batch ++ fresh
   pub says : Says starts t act fresh
-  pub goes : Goes P starts places says.after [] more
+  pub goes : Goes P starts says.after [] more
 
-said-asks : (Q P : Bool → PlaceId → List (ℕ × Cell × List ℕ) → Type 0) (starts : List (Term × Vars)) (here : PlaceId) (places : ℕ) (t : Term) (n : ℕ) (act : Act) (batch told : List (List ℕ)) (more : List (ℕ × Act × List (List ℕ))) → (u : Turn (Q false here) starts here places t batch n act told more) → (f : Fits here u.asking (does u.vars here.0 places u.asking) act) → StartsSo starts u.asking u.vars act → (low : ℕ) (cells : List (ℕ × Cell × List ℕ)) → P false here cells → Plays starts here places low u.vars (granted (brought act) u.asking) [] cells more → ((x : List ℕ) × (begins u.asking ≡ Some x) × (own_path act ≡ x ∷ [])) ⊎ ((own_path act ≡ []) × (started_by act ≡ None)) → Said P starts places t act batch told more
+said-asks : (Q P : Bool → PlaceId → List (ℕ × Cell × List ℕ) → Type 0) (starts : List (Term × Vars)) (here : PlaceId) (t : Term) (n : ℕ) (act : Act) (batch told : List (List ℕ)) (more : List (ℕ × Act × List (List ℕ))) → (u : Turn (Q false here) starts here t batch n act told more) → (f : Fits here u.asking (does u.vars here.0 u.asking) act) → StartsSo starts u.asking u.vars act → (low : ℕ) (knows : Vars) (cells : List (ℕ × Cell × List ℕ)) → P false here cells → Plays starts here low knows (granted (brought act) u.asking) [] cells more → ((x : List ℕ) × (begins u.asking ≡ Some x) × (own_path act ≡ x ∷ [])) ⊎ ((own_path act ≡ []) × (started_by act ≡ None)) → Said P starts t act batch told more
 unfolding says-asks
-said-asks Q P starts here places t n act batch told more u f so low cells q p (inl own) =
+said-asks Q P starts here t n act batch told more u f so low knows cells q p (inl own) =
     record {
       fresh = u.fresh;
       tells = u.tells;
-      says = says-asks starts here places u.vars t u.asking act u.fresh u.sorted u.shrinks u.order u.coded u.nested u.inside u.moves f so (inl own);
-      goes = on here low u.vars cells q p;
+      says = says-asks starts here u.vars t u.asking act u.fresh u.sorted u.shrinks u.order u.coded u.nested u.inside u.moves f so (inl own);
+      goes = on here low knows cells q p;
     }
-said-asks Q P starts here places t n act batch told more u f so low cells q p (inr own) =
+said-asks Q P starts here t n act batch told more u f so low knows cells q p (inr own) =
     record {
       fresh = u.fresh;
       tells = u.tells;
-      says = says-asks starts here places u.vars t u.asking act u.fresh u.sorted u.shrinks u.order u.coded u.nested u.inside u.moves f so (inr own);
-      goes = on here low u.vars cells q p;
+      says = says-asks starts here u.vars t u.asking act u.fresh u.sorted u.shrinks u.order u.coded u.nested u.inside u.moves f so (inr own);
+      goes = on here low knows cells q p;
     }
 
-said-ends : (Q P : Bool → PlaceId → List (ℕ × Cell × List ℕ) → Type 0) (starts : List (Term × Vars)) (here : PlaceId) (places : ℕ) (t : Term) (n : ℕ) (act : Act) (batch told : List (List ℕ)) (more : List (ℕ × Act × List (List ℕ))) → (u : Turn (Q false here) starts here places t batch n act told more) → (faults : List Fault) → act ≡ End faults → more ≡ [] → P false here [] → Said P starts places t act batch told more
+said-ends : (Q P : Bool → PlaceId → List (ℕ × Cell × List ℕ) → Type 0) (starts : List (Term × Vars)) (here : PlaceId) (t : Term) (n : ℕ) (act : Act) (batch told : List (List ℕ)) (more : List (ℕ × Act × List (List ℕ))) → (u : Turn (Q false here) starts here t batch n act told more) → (faults : List Fault) → act ≡ End faults → more ≡ [] → P false here [] → Said P starts t act batch told more
 unfolding says-ends
-said-ends Q P starts here places t n act batch told more u faults is e q =
+said-ends Q P starts here t n act batch told more u faults is e q =
     record {
       fresh = u.fresh;
       tells = u.tells;
       says = says-ends starts t u.asking act u.fresh faults is u.order u.nested u.inside (u.closed faults is);
-      goes = rw e (on here 0 no_vars [] q stops);
+      goes = rw e (on here 0 u.vars [] q stops);
     }
 
-said-lands : (P : Bool → PlaceId → List (ℕ × Cell × List ℕ) → Type 0) (starts : List (Term × Vars)) (here p : PlaceId) (places n : ℕ) (vars : Vars) (cells : List (ℕ × Cell × List ℕ)) (t : Term) (batch : List (List ℕ)) (more : List (ℕ × Act × List (List ℕ))) → Sorted t → batch ≡ [] → P false here cells → Plays starts here places (suc n) vars t [] cells more → Said P starts places t (Arrive p) batch [] more
+said-lands : (P : Bool → PlaceId → List (ℕ × Cell × List ℕ) → Type 0) (starts : List (Term × Vars)) (here p : PlaceId) (n : ℕ) (vars : Vars) (cells : List (ℕ × Cell × List ℕ)) (t : Term) (batch : List (List ℕ)) (more : List (ℕ × Act × List (List ℕ))) → Sorted t → batch ≡ [] → P false here cells → Plays starts here (suc n) vars t [] cells more → Said P starts t (Arrive p) batch [] more
 unfolding says-lands
-said-lands P starts here p places n vars cells t batch more s e q b =
+said-lands P starts here p n vars cells t batch more s e q b =
     record { fresh = []; tells = rw e refl; says = says-lands starts t p s; goes = on here (suc n) vars cells q b }
 
-said-travels : (Q P : Bool → PlaceId → List (ℕ × Cell × List ℕ) → Type 0) (starts : List (Term × Vars)) (here : PlaceId) (places low : ℕ) (vars : Vars) (cells : List (ℕ × Cell × List ℕ)) (t : Term) (n : ℕ) (act : Act) (batch told : List (List ℕ)) (more : List (ℕ × Act × List (List ℕ))) → Passes Q P n act → Sorted t → batch ≡ [] → Q true here cells → Begins starts here places true low vars t cells ((n, act, told) ∷ more) → Said P starts places t act batch told more
-said-travels Q P starts here places low vars cells t n (Arrive p) batch told more passes s e q b =
-    subst (λ zs. Said P starts places t (Arrive p) batch zs more) (sym b.0)
-    (said-lands P starts here p places n vars cells t batch more s e (passes.lands here p cells refl q) b.1)
-said-travels Q P starts here places low vars cells t n act batch told more passes s e q b = absurd b
+said-travels : (Q P : Bool → PlaceId → List (ℕ × Cell × List ℕ) → Type 0) (starts : List (Term × Vars)) (here : PlaceId) (low : ℕ) (vars : Vars) (cells : List (ℕ × Cell × List ℕ)) (t : Term) (n : ℕ) (act : Act) (batch told : List (List ℕ)) (more : List (ℕ × Act × List (List ℕ))) → Passes Q P n act → Sorted t → batch ≡ [] → Q true here cells → Begins starts here true low vars t cells ((n, act, told) ∷ more) → Said P starts t act batch told more
+said-travels Q P starts here low vars cells t n (Arrive p) batch told more passes s e q b =
+    subst (λ zs. Said P starts t (Arrive p) batch zs more) (sym b.0)
+    (said-lands P starts here p n vars cells t batch more s e (passes.lands here p cells refl q) b.1)
+said-travels Q P starts here low vars cells t n act batch told more passes s e q b = absurd b
 
-pub said : (Q P : Bool → PlaceId → List (ℕ × Cell × List ℕ) → Type 0) (starts : List (Term × Vars)) (places : ℕ) (t : Term) (n : ℕ) (act : Act) (batch told : List (List ℕ)) (more : List (ℕ × Act × List (List ℕ))) → Passes Q P n act → Sorted t → Goes Q starts places t batch ((n, act, told) ∷ more) → Said P starts places t act batch told more
-said Q P starts places t n act batch told more passes s (on here low vars cells q p) = by_turn (next-turn (Q false here) s p (passes.drops here) q) where
-  by_turn : Turn (Q false here) starts here places t batch n act told more → Said P starts places t act batch told more
+pub said : (Q P : Bool → PlaceId → List (ℕ × Cell × List ℕ) → Type 0) (starts : List (Term × Vars)) (t : Term) (n : ℕ) (act : Act) (batch told : List (List ℕ)) (more : List (ℕ × Act × List (List ℕ))) → Passes Q P n act → Sorted t → Goes Q starts t batch ((n, act, told) ∷ more) → Said P starts t act batch told more
+said Q P starts t n act batch told more passes s (on here low vars cells q p) = by_turn (next-turn (Q false here) s p (passes.drops here) q) where
+  by_turn : Turn (Q false here) starts here t batch n act told more → Said P starts t act batch told more
   by_turn u =
       elim u.goes [
-        | inl g ↦ said-asks Q P starts here places t n act batch told more u g.0 g.1 g.2.0 g.2.1 (passes.stays here g.2.1 (λ w e. fits-not_arrive here u.asking (does u.vars here.0 places u.asking) act w e g.0) (λ faults e. fits-not_end here u.asking (does u.vars here.0 places u.asking) act faults e g.0) g.2.2) g.2.3 (own_fits here u.asking (does u.vars here.0 places u.asking) act g.0)
-        | inr g ↦ said-ends Q P starts here places t n act batch told more u g.0 g.1 g.2 (passes.ends here g.3)
+        | inl g ↦ said-asks Q P starts here t n act batch told more u g.0 g.1 g.2.0 g.2.1 g.2.2 (passes.stays here g.2.2 (λ w e. fits-not_arrive here u.asking (does u.vars here.0 u.asking) act w e g.0) (λ faults e. fits-not_end here u.asking (does u.vars here.0 u.asking) act faults e g.0) g.2.3) g.2.4 (own_fits here u.asking (does u.vars here.0 u.asking) act g.0)
+        | inr g ↦ said-ends Q P starts here t n act batch told more u g.0 g.1 g.2 (passes.ends here g.3)
       ]
-said Q P starts places t n act batch told more passes s (travels here low vars cells q e b) = said-travels Q P starts here places low vars cells t n act batch told more passes s e q b
+said Q P starts t n act batch told more passes s (travels here low vars cells q e b) = said-travels Q P starts here low vars cells t n act batch told more passes s e q b

@@ -7,11 +7,11 @@ use Rattle.rx_base.specs.declared.ids.ScopeId.{ScopeId}
 use Rattle.rx_base.specs.declared.place_set.PlaceSet.{PlaceSet}
 use Rattle.rx_base.specs.declared.values.Fault.{Fault}
 use Rattle.rx_rules.specs.declared.entries.Act.{Act}
-use Rattle.rx_rules.specs.declared.entries.Act.TheVariants.{Open, At as Calling, Spawn, Arrive, Wait, Release, End, Print as Printed}
+use Rattle.rx_rules.specs.declared.entries.Act.TheVariants.{Open, At as Calling, Spawn, Arrive, Wait, Release, End, Print as Printed, Census as Counted}
 use Rattle.rx_rules.specs.declared.entries.Entry.{Entry}
-use Rattle.rx_rules.specs.declared.entries.Entry.TheVariants.{Step, Root, Death}
-use Rattle.rx_rules.specs.Code.{Block, Stmt, SetTo, New, Get, Put, Forget, Print, Throw, Async, AtAsync, At, Finish, If, Repeat, Try}
-use Rattle.rx_rules.specs.Terms.{begins, Term, at, Empty, Run, Raise, Turns, Trying, Body, Held, Vars, Does, Local, Makes, Gets, Puts, Forgets, Opens, Calls, Spawns, Waits, Releases, Prints, Done, does, stmt_does, within, with_number, with_place, granted, child, stmt_child, eval, target_of, ref_in, value_of}
+use Rattle.rx_rules.specs.declared.entries.Entry.TheVariants.{Step, Root, Death, Join}
+use Rattle.rx_rules.specs.Code.{Block, Stmt, SetTo, New, Get, Put, Forget, Census, Print, Throw, Async, AtAsync, At, Finish, If, Repeat, Try}
+use Rattle.rx_rules.specs.Terms.{begins, Term, at, Empty, Run, Raise, Turns, Trying, Body, Held, Vars, Does, Local, Makes, Gets, Puts, Forgets, Opens, Calls, Spawns, Waits, Releases, Prints, Counts, Done, does, stmt_does, within, with_number, with_place, granted, child, stmt_child, eval, target_of, ref_in, value_of}
 use Rattle.rx_rules.specs.Plays.{Fits, brought}
 use Rattle.rx_rules.specs.Order.{own_path}
 use Rattle.rx_laws.proofs.Paths.{Starts, starts-trans, starts-at, starts-below, below-starts, below-at}
@@ -28,15 +28,17 @@ stack_after (Calling s r c from to x) ps = x ∷ ps
 stack_after (Spawn c s from to x) ps = ps
 stack_after (Arrive p) ps = ps
 stack_after (Wait s thrown) ps = ps
-stack_after (Release s lost thrown) ps = rest_of ps
+stack_after (Release s lost masked thrown) ps = rest_of ps
 stack_after (End thrown) ps = ps
 stack_after (Printed value x) ps = ps
+stack_after (Counted places x) ps = ps
 
 abbrev pub open_paths : List Entry → ℕ → List (List ℕ)
 open_paths [] c = []
 open_paths (Step t act batch ∷ past) c = cond (t.0 == c) (stack_after act (open_paths past c)) (open_paths past c)
-open_paths (Root lost thrown ∷ past) c = open_paths past c
+open_paths (Root lost masked thrown ∷ past) c = open_paths past c
 open_paths (Death d ∷ past) c = open_paths past c
+open_paths (Join d ∷ past) c = open_paths past c
 
 abbrev pub outermost : List (List ℕ) → List (List ℕ)
 outermost [] = []
@@ -64,10 +66,11 @@ stacked-after (Calling s r c from to y) ps x (inr h) = inr h
 stacked-after (Spawn c s from to y) ps x h = inr h
 stacked-after (Arrive p) ps x h = inr h
 stacked-after (Wait s thrown) ps x h = inr h
-stacked-after (Release s lost thrown) [] x h = inr h
-stacked-after (Release s lost thrown) (p ∷ ps) x h = inr (inr h)
+stacked-after (Release s lost masked thrown) [] x h = inr h
+stacked-after (Release s lost masked thrown) (p ∷ ps) x h = inr (inr h)
 stacked-after (End thrown) ps x h = inr h
 stacked-after (Printed value y) ps x h = inr h
+stacked-after (Counted places y) ps x h = inr h
 
 -- What each request does to the open scopes of the term that makes it.
 
@@ -90,6 +93,7 @@ Asked Opens t = opens_one t ≡ true
 Asked (Calls place) t = opens_one t ≡ true
 Asked (Spawns place) t = opens_one t ≡ false
 Asked (Prints value) t = opens_one t ≡ false
+Asked (Counts name) t = opens_one t ≡ false
 Asked (Waits faults) t = (begins t ≡ None) × ((ps : List (List ℕ)) → Nested t ps → Nested (granted [] t) ps)
 Asked Releases t = (begins t ≡ None) × (Nested t [] → ⊥) × ((faults : List Fault) (ps : List (List ℕ)) (p : List ℕ) → Nested t (ps ++ p ∷ []) → Nested (granted faults t) ps × Later p (granted faults t))
 Asked (Done faults) t = is_bare t ≡ true
@@ -106,25 +110,26 @@ asked_if : (t : Term) (vars : Vars) (d : Does) (after : Term) (b : Bool) → Ask
 asked_if t vars d after true h = h
 asked_if t vars d after false h = tt
 
-asked-stmt : (vars : Vars) (here places : ℕ) (stmt : Stmt) (x : List ℕ) (rest : Term) → Asked (stmt_does vars here places stmt x rest) (Run stmt x rest)
-asked-stmt vars here places (SetTo name value) x rest = asked-number (Run (SetTo name value) x rest) vars (eval vars here value) _ (λ z. tt)
-asked-stmt vars here places (New name words) x rest = tt
-asked-stmt vars here places (Get name target index) x rest =
+asked-stmt : (vars : Vars) (here : ℕ) (stmt : Stmt) (x : List ℕ) (rest : Term) → Asked (stmt_does vars here stmt x rest) (Run stmt x rest)
+asked-stmt vars here (SetTo name value) x rest = asked-number (Run (SetTo name value) x rest) vars (eval vars here value) _ (λ z. tt)
+asked-stmt vars here (New name words) x rest = tt
+asked-stmt vars here (Get name target index) x rest =
     asked-number (Run (Get name target index) x rest) vars (eval vars here index) _
     (λ z. asked_if (Run (Get name target index) x rest) vars (Gets name (ref_in (value_of vars target)) z) _ ((ref_in (value_of vars target)).home.0 == here) tt)
-asked-stmt vars here places (Put target index value) x rest =
+asked-stmt vars here (Put target index value) x rest =
     asked-number (Run (Put target index value) x rest) vars (eval vars here index) _
     (λ k. asked-number (Run (Put target index value) x rest) vars (eval vars here value) _ (λ z. asked_if (Run (Put target index value) x rest) vars (Puts (ref_in (value_of vars target)) k z) _ ((ref_in (value_of vars target)).home.0 == here) tt))
-asked-stmt vars here places (Forget target) x rest = asked_if (Run (Forget target) x rest) vars (Forgets (ref_in (value_of vars target))) _ ((ref_in (value_of vars target)).home.0 == here) tt
-asked-stmt vars here places (Print value) x rest = asked-number (Run (Print value) x rest) vars (eval vars here value) _ (λ z. refl)
-asked-stmt vars here places (Throw value) x rest = asked-number (Run (Throw value) x rest) vars (eval vars here value) _ (λ z. tt)
-asked-stmt vars here places (Async body) x rest = refl
-asked-stmt vars here places (AtAsync place body) x rest = asked-place (Run (AtAsync place body) x rest) vars (target_of (eval vars here place) places) _ (λ p. refl)
-asked-stmt vars here places (At place body) x rest = asked-place (Run (At place body) x rest) vars (target_of (eval vars here place) places) _ (λ p. refl)
-asked-stmt vars here places (Finish body) x rest = refl
-asked-stmt vars here places (If test first other) x rest = asked-number (Run (If test first other) x rest) vars (eval vars here test) _ (λ z. tt)
-asked-stmt vars here places (Repeat times body) x rest = tt
-asked-stmt vars here places (Try body dead_only handler) x rest = tt
+asked-stmt vars here (Forget target) x rest = asked_if (Run (Forget target) x rest) vars (Forgets (ref_in (value_of vars target))) _ ((ref_in (value_of vars target)).home.0 == here) tt
+asked-stmt vars here (Census name) x rest = refl
+asked-stmt vars here (Print value) x rest = asked-number (Run (Print value) x rest) vars (eval vars here value) _ (λ z. refl)
+asked-stmt vars here (Throw value) x rest = asked-number (Run (Throw value) x rest) vars (eval vars here value) _ (λ z. tt)
+asked-stmt vars here (Async body) x rest = refl
+asked-stmt vars here (AtAsync place body) x rest = asked-place (Run (AtAsync place body) x rest) vars (target_of (eval vars here place) vars.places) _ (λ p. refl)
+asked-stmt vars here (At place body) x rest = asked-place (Run (At place body) x rest) vars (target_of (eval vars here place) vars.places) _ (λ p. refl)
+asked-stmt vars here (Finish body) x rest = refl
+asked-stmt vars here (If test first other) x rest = asked-number (Run (If test first other) x rest) vars (eval vars here test) _ (λ z. tt)
+asked-stmt vars here (Repeat times body) x rest = tt
+asked-stmt vars here (Try body dead_only handler) x rest = tt
 
 asked-trying : (d : Does) (inside : Term) (dead_only : Bool) (handler : Block) (x : List ℕ) (rest : Term) → is_bare inside ≡ false → Sorted (Trying inside dead_only handler x rest) → Asked d inside → Asked (within (λ t. Trying t dead_only handler x rest) d) (Trying inside dead_only handler x rest)
 asked-trying (Local left vars) inside dead_only handler x rest b s h = tt
@@ -136,6 +141,7 @@ asked-trying Opens inside dead_only handler x rest b s h = h
 asked-trying (Calls place) inside dead_only handler x rest b s h = h
 asked-trying (Spawns place) inside dead_only handler x rest b s h = h
 asked-trying (Prints value) inside dead_only handler x rest b s h = h
+asked-trying (Counts name) inside dead_only handler x rest b s h = h
 asked-trying (Waits faults) inside dead_only handler x rest b s h = (h.0, λ ps n. (h.1 ps n.0, n.1, n.2))
 asked-trying Releases inside dead_only handler x rest b s h = (
   h.0,
@@ -162,6 +168,7 @@ asked-body Opens inside rest b g s h = h
 asked-body (Calls place) inside rest b g s h = h
 asked-body (Spawns place) inside rest b g s h = h
 asked-body (Prints value) inside rest b g s h = h
+asked-body (Counts name) inside rest b g s h = h
 asked-body (Waits faults) inside rest b g s h = (h.0, goes) where
   goes : (ps : List (List ℕ)) → Nested (Body inside rest) ps → Nested (granted [] (Body inside rest)) ps
   goes [] n = absurd n
@@ -192,26 +199,26 @@ held-released rest (f ∷ fs) [] p n = (tt, λ y k. absurd k)
 held-released rest faults (q ∷ []) p n = absurd n
 held-released rest faults (q ∷ a ∷ ps) p n = absurd n
 
-asked : (vars : Vars) (here places : ℕ) (t : Term) → Sorted t → Asked (does vars here places t) t
-asked vars here places Empty s = refl
-asked vars here places (Raise faults) s = refl
-asked vars here places (Run stmt x rest) s = asked-stmt vars here places stmt x rest
-asked vars here places (Turns body x k times rest) s = tt
-asked vars here places (Trying Empty dead_only handler x rest) s = tt
-asked vars here places (Trying (Raise faults) dead_only handler x rest) s = tt
-asked vars here places (Trying (Run stmt y more) dead_only handler x rest) s = asked-trying (does vars here places (Run stmt y more)) (Run stmt y more) dead_only handler x rest refl s (asked vars here places (Run stmt y more) s.0)
-asked vars here places (Trying (Turns b y k times more) dead_only handler x rest) s = asked-trying (does vars here places (Turns b y k times more)) (Turns b y k times more) dead_only handler x rest refl s (asked vars here places (Turns b y k times more) s.0)
-asked vars here places (Trying (Trying t1 d1 h1 x1 r1) dead_only handler x rest) s = asked-trying (does vars here places (Trying t1 d1 h1 x1 r1)) (Trying t1 d1 h1 x1 r1) dead_only handler x rest refl s (asked vars here places (Trying t1 d1 h1 x1 r1) s.0)
-asked vars here places (Trying (Body t1 r1) dead_only handler x rest) s = asked-trying (does vars here places (Body t1 r1)) (Body t1 r1) dead_only handler x rest refl s (asked vars here places (Body t1 r1) s.0)
-asked vars here places (Trying (Held r1) dead_only handler x rest) s = asked-trying (does vars here places (Held r1)) (Held r1) dead_only handler x rest refl s (asked vars here places (Held r1) s.0)
-asked vars here places (Body Empty rest) s = (refl, held-waits Empty rest refl)
-asked vars here places (Body (Raise faults) rest) s = (refl, held-waits (Raise faults) rest refl)
-asked vars here places (Body (Run stmt y more) rest) s = asked-body (does vars here places (Run stmt y more)) (Run stmt y more) rest refl (λ f. refl) s.0 (asked vars here places (Run stmt y more) s.0)
-asked vars here places (Body (Turns b y k times more) rest) s = asked-body (does vars here places (Turns b y k times more)) (Turns b y k times more) rest refl (λ f. refl) s.0 (asked vars here places (Turns b y k times more) s.0)
-asked vars here places (Body (Trying t1 d1 h1 x1 r1) rest) s = asked-body (does vars here places (Trying t1 d1 h1 x1 r1)) (Trying t1 d1 h1 x1 r1) rest refl (λ f. refl) s.0 (asked vars here places (Trying t1 d1 h1 x1 r1) s.0)
-asked vars here places (Body (Body t1 r1) rest) s = asked-body (does vars here places (Body t1 r1)) (Body t1 r1) rest refl (λ f. refl) s.0 (asked vars here places (Body t1 r1) s.0)
-asked vars here places (Body (Held r1) rest) s = asked-body (does vars here places (Held r1)) (Held r1) rest refl (λ f. refl) s.0 (asked vars here places (Held r1) s.0)
-asked vars here places (Held rest) s = (refl, λ n. n, held-released rest)
+asked : (vars : Vars) (here : ℕ) (t : Term) → Sorted t → Asked (does vars here t) t
+asked vars here Empty s = refl
+asked vars here (Raise faults) s = refl
+asked vars here (Run stmt x rest) s = asked-stmt vars here stmt x rest
+asked vars here (Turns body x k times rest) s = tt
+asked vars here (Trying Empty dead_only handler x rest) s = tt
+asked vars here (Trying (Raise faults) dead_only handler x rest) s = tt
+asked vars here (Trying (Run stmt y more) dead_only handler x rest) s = asked-trying (does vars here (Run stmt y more)) (Run stmt y more) dead_only handler x rest refl s (asked vars here (Run stmt y more) s.0)
+asked vars here (Trying (Turns b y k times more) dead_only handler x rest) s = asked-trying (does vars here (Turns b y k times more)) (Turns b y k times more) dead_only handler x rest refl s (asked vars here (Turns b y k times more) s.0)
+asked vars here (Trying (Trying t1 d1 h1 x1 r1) dead_only handler x rest) s = asked-trying (does vars here (Trying t1 d1 h1 x1 r1)) (Trying t1 d1 h1 x1 r1) dead_only handler x rest refl s (asked vars here (Trying t1 d1 h1 x1 r1) s.0)
+asked vars here (Trying (Body t1 r1) dead_only handler x rest) s = asked-trying (does vars here (Body t1 r1)) (Body t1 r1) dead_only handler x rest refl s (asked vars here (Body t1 r1) s.0)
+asked vars here (Trying (Held r1) dead_only handler x rest) s = asked-trying (does vars here (Held r1)) (Held r1) dead_only handler x rest refl s (asked vars here (Held r1) s.0)
+asked vars here (Body Empty rest) s = (refl, held-waits Empty rest refl)
+asked vars here (Body (Raise faults) rest) s = (refl, held-waits (Raise faults) rest refl)
+asked vars here (Body (Run stmt y more) rest) s = asked-body (does vars here (Run stmt y more)) (Run stmt y more) rest refl (λ f. refl) s.0 (asked vars here (Run stmt y more) s.0)
+asked vars here (Body (Turns b y k times more) rest) s = asked-body (does vars here (Turns b y k times more)) (Turns b y k times more) rest refl (λ f. refl) s.0 (asked vars here (Turns b y k times more) s.0)
+asked vars here (Body (Trying t1 d1 h1 x1 r1) rest) s = asked-body (does vars here (Trying t1 d1 h1 x1 r1)) (Trying t1 d1 h1 x1 r1) rest refl (λ f. refl) s.0 (asked vars here (Trying t1 d1 h1 x1 r1) s.0)
+asked vars here (Body (Body t1 r1) rest) s = asked-body (does vars here (Body t1 r1)) (Body t1 r1) rest refl (λ f. refl) s.0 (asked vars here (Body t1 r1) s.0)
+asked vars here (Body (Held r1) rest) s = asked-body (does vars here (Held r1)) (Held r1) rest refl (λ f. refl) s.0 (asked vars here (Held r1) s.0)
+asked vars here (Held rest) s = (refl, λ n. n, held-released rest)
 
 -- a request that the ledger grants
 pub asked-nested : (here : PlaceId) (t : Term) (d : Does) (act : Act) (ps : List (List ℕ)) → Asked d t → Fits here t d act → Sorted t → Nested t (outermost ps) → Nested (granted (brought act) t) (outermost (stack_after act ps))
@@ -223,22 +230,24 @@ asked-nested here t (Spawns p) (Spawn c s from to x) ps k f so n =
     subst (λ y. Nested (granted [] t) (grown y (outermost ps) x)) k (granted-nested [] t x (outermost ps) f.2 so n)
 asked-nested here t (Prints z) (Printed value x) ps k f so n =
     subst (λ y. Nested (granted [] t) (grown y (outermost ps) x)) k (granted-nested [] t x (outermost ps) f.1 so n)
+asked-nested here t (Counts name) (Counted places x) ps k f so n =
+    subst (λ y. Nested (granted [] t) (grown y (outermost ps) x)) k (granted-nested [] t x (outermost ps) f so n)
 asked-nested here t (Waits faults) (Wait s thrown) ps k f so n = k.1 (outermost ps) n
-asked-nested here t Releases (Release s lost thrown) [] k f so n = absurd (k.1 n)
-asked-nested here t Releases (Release s lost thrown) (p ∷ ps) k f so n = (k.2 (brought (Release s lost thrown)) (outermost ps) p n).0
+asked-nested here t Releases (Release s lost masked thrown) [] k f so n = absurd (k.1 n)
+asked-nested here t Releases (Release s lost masked thrown) (p ∷ ps) k f so n = (k.2 (brought (Release s lost masked thrown)) (outermost ps) p n).0
 asked-nested here t d act ps k f so n = absurd f
 
-pub fits-nested : (here : PlaceId) (vars : Vars) (places : ℕ) (t : Term) (act : Act) (ps : List (List ℕ)) → Fits here t (does vars here.0 places t) act → Sorted t → Nested t (outermost ps) → Nested (granted (brought act) t) (outermost (stack_after act ps))
-fits-nested here vars places t act ps f so n = asked-nested here t (does vars here.0 places t) act ps (asked vars here.0 places t so) f so n
+pub fits-nested : (here : PlaceId) (vars : Vars) (t : Term) (act : Act) (ps : List (List ℕ)) → Fits here t (does vars here.0 t) act → Sorted t → Nested t (outermost ps) → Nested (granted (brought act) t) (outermost (stack_after act ps))
+fits-nested here vars t act ps f so n = asked-nested here t (does vars here.0 t) act ps (asked vars here.0 t so) f so n
 
 -- what is left after a release lies after the statement of the scope that is released
-asked-released : (here : PlaceId) (t : Term) (d : Does) (s : ScopeId) (lost : PlaceSet) (thrown : List Fault) (ps : List (List ℕ)) (p : List ℕ) → Asked d t → Fits here t d (Release s lost thrown) → Nested t (outermost (p ∷ ps)) → Later p (granted (brought (Release s lost thrown)) t)
-asked-released here t Releases s lost thrown ps p k f n = (k.2 (brought (Release s lost thrown)) (outermost ps) p n).1
-asked-released here t d s lost thrown ps p k f n = absurd f
+asked-released : (here : PlaceId) (t : Term) (d : Does) (s : ScopeId) (lost : PlaceSet) (masked : ℕ) (thrown : List Fault) (ps : List (List ℕ)) (p : List ℕ) → Asked d t → Fits here t d (Release s lost masked thrown) → Nested t (outermost (p ∷ ps)) → Later p (granted (brought (Release s lost masked thrown)) t)
+asked-released here t Releases s lost masked thrown ps p k f n = (k.2 (brought (Release s lost masked thrown)) (outermost ps) p n).1
+asked-released here t d s lost masked thrown ps p k f n = absurd f
 
-pub fits-released : (here : PlaceId) (vars : Vars) (places : ℕ) (t : Term) (s : ScopeId) (lost : PlaceSet) (thrown : List Fault) (ps : List (List ℕ)) (p : List ℕ) → Fits here t (does vars here.0 places t) (Release s lost thrown) → Sorted t → Nested t (outermost (p ∷ ps)) → Later p (granted (brought (Release s lost thrown)) t)
-fits-released here vars places t s lost thrown ps p f so n =
-    asked-released here t (does vars here.0 places t) s lost thrown ps p (asked vars here.0 places t so) f n
+pub fits-released : (here : PlaceId) (vars : Vars) (t : Term) (s : ScopeId) (lost : PlaceSet) (masked : ℕ) (thrown : List Fault) (ps : List (List ℕ)) (p : List ℕ) → Fits here t (does vars here.0 t) (Release s lost masked thrown) → Sorted t → Nested t (outermost (p ∷ ps)) → Later p (granted (brought (Release s lost masked thrown)) t)
+fits-released here vars t s lost masked thrown ps p f so n =
+    asked-released here t (does vars here.0 t) s lost masked thrown ps p (asked vars here.0 t so) f n
 
 -- the statement that a request begins is the entry's own
 none-some : (x : List ℕ) → None ≡ Some x → ⊥
@@ -249,12 +258,13 @@ asked-begins here t Opens (Open s r y) x k f e = let same : Some y ≡ Some x = 
 asked-begins here t (Calls p) (Calling s r c from to y) x k f e = let same : Some y ≡ Some x = sym f.2 ∙ e in let it : y ≡ x = cc in ap (λ v. v ∷ []) it
 asked-begins here t (Spawns p) (Spawn c s from to y) x k f e = let same : Some y ≡ Some x = sym f.2 ∙ e in let it : y ≡ x = cc in ap (λ v. v ∷ []) it
 asked-begins here t (Prints z) (Printed value y) x k f e = let same : Some y ≡ Some x = sym f.1 ∙ e in let it : y ≡ x = cc in ap (λ v. v ∷ []) it
+asked-begins here t (Counts name) (Counted places y) x k f e = let same : Some y ≡ Some x = sym f ∙ e in let it : y ≡ x = cc in ap (λ v. v ∷ []) it
 asked-begins here t (Waits faults) (Wait s thrown) x k f e = let bad : None ≡ Some x = sym k.0 ∙ e in absurd (none-some x bad)
-asked-begins here t Releases (Release s lost thrown) x k f e = let bad : None ≡ Some x = sym k.0 ∙ e in absurd (none-some x bad)
+asked-begins here t Releases (Release s lost masked thrown) x k f e = let bad : None ≡ Some x = sym k.0 ∙ e in absurd (none-some x bad)
 asked-begins here t d act x k f e = absurd f
 
-pub fits-begins : (here : PlaceId) (vars : Vars) (places : ℕ) (t : Term) (act : Act) (x : List ℕ) → Fits here t (does vars here.0 places t) act → Sorted t → begins t ≡ Some x → own_path act ≡ x ∷ []
-fits-begins here vars places t act x f so e = asked-begins here t (does vars here.0 places t) act x (asked vars here.0 places t so) f e
+pub fits-begins : (here : PlaceId) (vars : Vars) (t : Term) (act : Act) (x : List ℕ) → Fits here t (does vars here.0 t) act → Sorted t → begins t ≡ Some x → own_path act ≡ x ∷ []
+fits-begins here vars t act x f so e = asked-begins here t (does vars here.0 t) act x (asked vars here.0 t so) f e
 
 -- an act that puts x on its task's stack
 abbrev pub Pushes : Act → List ℕ → Type 0
@@ -265,12 +275,13 @@ asked-pushes here t Opens (Open s r y) x k f e o ps = let same : Some y ≡ Some
 asked-pushes here t (Calls p) (Calling s r c from to y) x k f e o ps = let same : Some y ≡ Some x = sym f.2 ∙ e in let it : x ≡ y = cc in inl it
 asked-pushes here t (Spawns p) (Spawn c s from to y) x k f e o ps = absurd (true≢false (sym o ∙ k))
 asked-pushes here t (Prints z) (Printed value y) x k f e o ps = absurd (true≢false (sym o ∙ k))
+asked-pushes here t (Counts name) (Counted places y) x k f e o ps = absurd (true≢false (sym o ∙ k))
 asked-pushes here t (Waits faults) (Wait s thrown) x k f e o ps = let bad : None ≡ Some x = sym k.0 ∙ e in absurd (none-some x bad)
-asked-pushes here t Releases (Release s lost thrown) x k f e o ps = let bad : None ≡ Some x = sym k.0 ∙ e in absurd (none-some x bad)
+asked-pushes here t Releases (Release s lost masked thrown) x k f e o ps = let bad : None ≡ Some x = sym k.0 ∙ e in absurd (none-some x bad)
 asked-pushes here t d act x k f e o ps = absurd f
 
-pub fits-pushes : (here : PlaceId) (vars : Vars) (places : ℕ) (t : Term) (act : Act) (x : List ℕ) → Fits here t (does vars here.0 places t) act → Sorted t → begins t ≡ Some x → opens_one t ≡ true → Pushes act x
-fits-pushes here vars places t act x f so e o = asked-pushes here t (does vars here.0 places t) act x (asked vars here.0 places t so) f e o
+pub fits-pushes : (here : PlaceId) (vars : Vars) (t : Term) (act : Act) (x : List ℕ) → Fits here t (does vars here.0 t) act → Sorted t → begins t ≡ Some x → opens_one t ≡ true → Pushes act x
+fits-pushes here vars t act x f so e o = asked-pushes here t (does vars here.0 t) act x (asked vars here.0 t so) f e o
 
 -- a task that ends has none open
 bare-closed : (t : Term) → is_bare t ≡ true → (ps : List (List ℕ)) → Nested t ps → ps ≡ []
@@ -280,9 +291,9 @@ bare-closed (Raise faults) b [] n = refl
 bare-closed (Raise faults) b (p ∷ ps) n = absurd n
 bare-closed t b ps n = absurd (true≢false (sym b))
 
-pub done-closed : (here : PlaceId) (vars : Vars) (places : ℕ) (t : Term) (faults : List Fault) → does vars here.0 places t ≡ Done faults → Sorted t → (ps : List (List ℕ)) → Nested t ps → ps ≡ []
-done-closed here vars places t faults e so ps n =
-    bare-closed t (subst (λ d. Asked d t) e (asked vars here.0 places t so)) ps n
+pub done-closed : (here : PlaceId) (vars : Vars) (t : Term) (faults : List Fault) → does vars here.0 t ≡ Done faults → Sorted t → (ps : List (List ℕ)) → Nested t ps → ps ≡ []
+done-closed here vars t faults e so ps n =
+    bare-closed t (subst (λ d. Asked d t) e (asked vars here.0 t so)) ps n
 
 -- a task that asks for more does not end
 pub fits-not_end : (here : PlaceId) (t : Term) (d : Does) (act : Act) (faults : List Fault) → act ≡ End faults → Fits here t d act → ⊥
@@ -290,8 +301,9 @@ fits-not_end here t Opens (Open s r x) faults e f = cc
 fits-not_end here t (Calls p) (Calling s r c from to x) faults e f = cc
 fits-not_end here t (Spawns p) (Spawn c s from to x) faults e f = cc
 fits-not_end here t (Prints z) (Printed value x) faults e f = cc
+fits-not_end here t (Counts name) (Counted places x) faults e f = cc
 fits-not_end here t (Waits fs) (Wait s thrown) faults e f = cc
-fits-not_end here t Releases (Release s lost thrown) faults e f = cc
+fits-not_end here t Releases (Release s lost masked thrown) faults e f = cc
 fits-not_end here t d act faults e f = absurd f
 
 -- nor does it arrive
@@ -300,8 +312,9 @@ fits-not_arrive here t Opens (Open s r x) p e f = cc
 fits-not_arrive here t (Calls q) (Calling s r c from to x) p e f = cc
 fits-not_arrive here t (Spawns q) (Spawn c s from to x) p e f = cc
 fits-not_arrive here t (Prints z) (Printed value x) p e f = cc
+fits-not_arrive here t (Counts name) (Counted places x) p e f = cc
 fits-not_arrive here t (Waits fs) (Wait s thrown) p e f = cc
-fits-not_arrive here t Releases (Release s lost thrown) p e f = cc
+fits-not_arrive here t Releases (Release s lost masked thrown) p e f = cc
 fits-not_arrive here t d act p e f = absurd f
 
 -- a child starts with none open
@@ -315,6 +328,7 @@ stmt-flat (New name words) x = tt
 stmt-flat (Get name target index) x = tt
 stmt-flat (Put target index value) x = tt
 stmt-flat (Forget target) x = tt
+stmt-flat (Census name) x = tt
 stmt-flat (Print value) x = tt
 stmt-flat (Throw value) x = tt
 stmt-flat (If test first other) x = tt

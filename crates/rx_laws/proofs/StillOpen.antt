@@ -7,7 +7,7 @@ use Rattle.rx_base.specs.declared.ids.ScopeId.{ScopeId}
 use Rattle.rx_base.specs.declared.place_set.PlaceSet.{PlaceSet}
 use Rattle.rx_base.specs.declared.values.Fault.{Fault}
 use Rattle.rx_rules.specs.declared.entries.Act.{Act}
-use Rattle.rx_rules.specs.declared.entries.Act.TheVariants.{Open, At as Calling, Spawn, Arrive, Wait, Release, End, Print as Printed}
+use Rattle.rx_rules.specs.declared.entries.Act.TheVariants.{Open, At as Calling, Spawn, Arrive, Wait, Release, End, Print as Printed, Census as Counted}
 use Rattle.rx_rules.specs.declared.entries.Entry.{Entry}
 use Rattle.rx_rules.specs.declared.entries.Entry.TheVariants.{Step}
 use Rattle.rx_rules.specs.Code.{Block, Stmt}
@@ -40,12 +40,13 @@ is_release (Calling s r c from to x) = false
 is_release (Spawn c s from to x) = false
 is_release (Arrive p) = false
 is_release (Wait s thrown) = false
-is_release (Release s lost thrown) = true
+is_release (Release s lost masked thrown) = true
 is_release (End thrown) = false
 is_release (Printed value x) = false
+is_release (Counted places x) = false
 
-pub release-of : (act : Act) → is_release act ≡ true → (s : ScopeId) × (lost : PlaceSet) × (thrown : List Fault) × (act ≡ Release s lost thrown)
-release-of (Release s lost thrown) h = (s, lost, thrown, refl)
+pub release-of : (act : Act) → is_release act ≡ true → (s : ScopeId) × (lost : PlaceSet) × (masked : ℕ) × (thrown : List Fault) × (act ≡ Release s lost masked thrown)
+release-of (Release s lost masked thrown) h = (s, lost, masked, thrown, refl)
 release-of act h = cc
 
 stack-keeps : (act : Act) (ps : List (List ℕ)) (x : List ℕ) → is_release act ≡ false → Stacked x ps → Stacked x (stack_after act ps)
@@ -54,9 +55,10 @@ stack-keeps (Calling s r c from to y) ps x n h = inr h
 stack-keeps (Spawn c s from to y) ps x n h = h
 stack-keeps (Arrive p) ps x n h = h
 stack-keeps (Wait s thrown) ps x n h = h
-stack-keeps (Release s lost thrown) ps x n h = absurd (true≢false n)
+stack-keeps (Release s lost masked thrown) ps x n h = absurd (true≢false n)
 stack-keeps (End thrown) ps x n h = h
 stack-keeps (Printed value y) ps x n h = h
+stack-keeps (Counted places y) ps x n h = h
 
 pub open-stays : (past : List Entry) (t : TaskId) (act : Act) (batch : List (List ℕ)) (x : List ℕ) → is_release act ≡ false → IsOpen past x → IsOpen (Step t act batch ∷ past) x
 open-stays past t act batch x n o =

@@ -3,7 +3,7 @@ use Rattle.std.specs.Prelude.{◌≡◌, ℕ, zero, suc, ◌+◌, Bool, false, L
 use Rattle.std.proofs.Common.{ap, subst, ◌∙◌, arith, append_assoc}
 use Rattle.std.proofs.lemmas.Bool.{cond_both}
 use Rattle.rx_base.specs.declared.values.Fault.{Fault}
-use Rattle.rx_rules.specs.Code.{Expr, Block, Nothing, Then, Stmt, SetTo, New, Get, Put, Forget, Print, Throw, Async, AtAsync, At, Finish, If, Repeat, Try}
+use Rattle.rx_rules.specs.Code.{Expr, Block, Nothing, Then, Stmt, SetTo, New, Get, Put, Forget, Census, Print, Throw, Async, AtAsync, At, Finish, If, Repeat, Try}
 use Rattle.rx_rules.specs.Terms.{Term, Empty, Run, Raise, Turns, Trying, Body, Held, Vars, Does, Gets, Puts, Forgets, Calls, Spawns, Prints, at, items_from, items, does, stmt_does, trying_does, body_does, granted, stmt_granted, body_granted, or_raise, child, stmt_child, eval, target_of, is_zero, catches, replaced, after_it}
 use Rattle.rx_laws.proofs.Straight.{stmt_at, stmt_in, code_at, is_waiter}
 use Rattle.rx_laws.proofs.TermOrder.{IfLocal, local-number, local-place, local-ref, local-within}
@@ -74,34 +74,35 @@ no_part_if test first other zero = refl
 no_part_if test first other (suc zero) = refl
 no_part_if test first other (suc (suc c)) = refl
 
-stmt-coded : (code : Block) (vars : Vars) (here places : ℕ) (stmt : Stmt) (x : List ℕ) (rest : Term) → code_at code x ≡ Some stmt → Coded code rest → IfLocal (Coded code) (stmt_does vars here places stmt x rest)
-stmt-coded code vars here places (SetTo name value) x rest e c =
+stmt-coded : (code : Block) (vars : Vars) (here : ℕ) (stmt : Stmt) (x : List ℕ) (rest : Term) → code_at code x ≡ Some stmt → Coded code rest → IfLocal (Coded code) (stmt_does vars here stmt x rest)
+stmt-coded code vars here (SetTo name value) x rest e c =
     local-number (Coded code) vars (eval vars here value) _ (λ f. tt) (λ z. c)
-stmt-coded code vars here places (New name words) x rest e c = tt
-stmt-coded code vars here places (Get name target index) x rest e c =
+stmt-coded code vars here (New name words) x rest e c = tt
+stmt-coded code vars here (Get name target index) x rest e c =
     local-number (Coded code) vars (eval vars here index) _ (λ f. tt) (λ z. local-ref (Coded code) vars here target (λ r. Gets name r z) (λ f. tt) (λ g. tt))
-stmt-coded code vars here places (Put target index value) x rest e c =
+stmt-coded code vars here (Put target index value) x rest e c =
     local-number (Coded code) vars (eval vars here index) _ (λ f. tt)
     (λ k. local-number (Coded code) vars (eval vars here value) _ (λ f. tt) (λ z. local-ref (Coded code) vars here target (λ r. Puts r k z) (λ f. tt) (λ g. tt)))
-stmt-coded code vars here places (Forget target) x rest e c = local-ref (Coded code) vars here target Forgets (λ f. tt) (λ g. tt)
-stmt-coded code vars here places (Print value) x rest e c =
+stmt-coded code vars here (Forget target) x rest e c = local-ref (Coded code) vars here target Forgets (λ f. tt) (λ g. tt)
+stmt-coded code vars here (Census name) x rest e c = tt
+stmt-coded code vars here (Print value) x rest e c =
     local-number (Coded code) vars (eval vars here value) Prints (λ f. tt) (λ z. tt)
-stmt-coded code vars here places (Throw value) x rest e c =
+stmt-coded code vars here (Throw value) x rest e c =
     local-number (Coded code) vars (eval vars here value) _ (λ f. tt) (λ z. tt)
-stmt-coded code vars here places (Async body) x rest e c = tt
-stmt-coded code vars here places (AtAsync place body) x rest e c =
-    local-place (Coded code) vars (target_of (eval vars here place) places) Spawns (λ f. tt) (λ p. tt)
-stmt-coded code vars here places (At place body) x rest e c =
-    local-place (Coded code) vars (target_of (eval vars here place) places) Calls (λ f. tt) (λ p. tt)
-stmt-coded code vars here places (Finish body) x rest e c = tt
-stmt-coded code vars here places (If test first other) x rest e c =
+stmt-coded code vars here (Async body) x rest e c = tt
+stmt-coded code vars here (AtAsync place body) x rest e c =
+    local-place (Coded code) vars (target_of (eval vars here place) vars.places) Spawns (λ f. tt) (λ p. tt)
+stmt-coded code vars here (At place body) x rest e c =
+    local-place (Coded code) vars (target_of (eval vars here place) vars.places) Calls (λ f. tt) (λ p. tt)
+stmt-coded code vars here (Finish body) x rest e c = tt
+stmt-coded code vars here (If test first other) x rest e c =
     local-number (Coded code) vars (eval vars here test) _ (λ f. tt)
     (λ z. cond_both (is_zero z) (items other (at x 1) rest) (items first (at x 0) rest) (Coded code)
     (λ t. block-coded code other (at x 1) rest (inner-block code x (If test first other) 1 other e (λ i y. refl)) c)
     (λ t. block-coded code first (at x 0) rest (inner-block code x (If test first other) 0 first e (λ i y. refl)) c))
-stmt-coded code vars here places (Repeat times body) x rest e c =
+stmt-coded code vars here (Repeat times body) x rest e c =
     (λ m. inner-block code x (Repeat times body) m body e (λ i y. refl), c, (Repeat times body, e, refl, λ k. refl))
-stmt-coded code vars here places (Try body dead_only handler) x rest e c = (
+stmt-coded code vars here (Try body dead_only handler) x rest e c = (
   block-coded code body (at x 0) Empty (inner-block code x (Try body dead_only handler) 0 body e (λ i y. refl)) tt,
   inner-block code x (Try body dead_only handler) 1 handler e (λ i y. refl),
   c,
@@ -127,17 +128,17 @@ body-coded code d (Trying t1 d1 h1 x1 r1) rest c h = local-within (Coded code) (
 body-coded code d (Body t1 r1) rest c h = local-within (Coded code) (Coded code) (λ t. Body t rest) (λ t m. (m, c.1)) d h
 body-coded code d (Held r1) rest c h = local-within (Coded code) (Coded code) (λ t. Body t rest) (λ t m. (m, c.1)) d h
 
-pub local-coded : (code : Block) (vars : Vars) (here places : ℕ) (t : Term) → Coded code t → IfLocal (Coded code) (does vars here places t)
-local-coded code vars here places Empty c = tt
-local-coded code vars here places (Raise faults) c = tt
-local-coded code vars here places (Run stmt x rest) c = stmt-coded code vars here places stmt x rest c.0 c.1
-local-coded code vars here places (Turns b x k times rest) c =
+pub local-coded : (code : Block) (vars : Vars) (here : ℕ) (t : Term) → Coded code t → IfLocal (Coded code) (does vars here t)
+local-coded code vars here Empty c = tt
+local-coded code vars here (Raise faults) c = tt
+local-coded code vars here (Run stmt x rest) c = stmt-coded code vars here stmt x rest c.0 c.1
+local-coded code vars here (Turns b x k times rest) c =
     cond_both (nat_le times k) rest (items b (at x k) (Turns b x (suc k) times rest)) (Coded code) (λ e. c.1) (λ e. block-coded code b (at x k) (Turns b x (suc k) times rest) (c.0 k) (c.0, c.1, c.2))
-local-coded code vars here places (Trying inside dead_only handler x rest) c =
-    trying-coded code vars (does vars here places inside) inside dead_only handler x rest c (local-coded code vars here places inside c.0)
-local-coded code vars here places (Body inside rest) c =
-    body-coded code (does vars here places inside) inside rest c (local-coded code vars here places inside c.0)
-local-coded code vars here places (Held rest) c = tt
+local-coded code vars here (Trying inside dead_only handler x rest) c =
+    trying-coded code vars (does vars here inside) inside dead_only handler x rest c (local-coded code vars here inside c.0)
+local-coded code vars here (Body inside rest) c =
+    body-coded code (does vars here inside) inside rest c (local-coded code vars here inside c.0)
+local-coded code vars here (Held rest) c = tt
 
 -- an answer
 pub replaced-coded : (code : Block) (t new : Term) → Coded code t → Coded code new → Coded code (replaced t new)
@@ -166,6 +167,7 @@ granted-stmt code (New name words) x rest e c = c
 granted-stmt code (Get name target index) x rest e c = c
 granted-stmt code (Put target index value) x rest e c = c
 granted-stmt code (Forget target) x rest e c = c
+granted-stmt code (Census name) x rest e c = c
 granted-stmt code (Print value) x rest e c = c
 granted-stmt code (Throw value) x rest e c = c
 granted-stmt code (Async body) x rest e c = c
@@ -207,6 +209,7 @@ child-stmt code (New name words) x e = tt
 child-stmt code (Get name target index) x e = tt
 child-stmt code (Put target index value) x e = tt
 child-stmt code (Forget target) x e = tt
+child-stmt code (Census name) x e = tt
 child-stmt code (Print value) x e = tt
 child-stmt code (Throw value) x e = tt
 child-stmt code (Finish body) x e = tt

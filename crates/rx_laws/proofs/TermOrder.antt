@@ -5,8 +5,8 @@ use Rattle.std.proofs.lemmas.Bool.{cond_both}
 use Rattle.rx_base.specs.declared.ids.GlobalRef.{GlobalRef}
 use Rattle.rx_base.specs.declared.values.Fault.{Fault}
 use Rattle.rx_base.specs.declared.values.Fault.TheVariants.{WrongPlace}
-use Rattle.rx_rules.specs.Code.{Block, Nothing, Then, Stmt, SetTo, New, Get, Put, Forget, Print, Throw, Async, AtAsync, At, Finish, If, Repeat, Try}
-use Rattle.rx_rules.specs.Terms.{Term, Empty, Run, Raise, Turns, Trying, Body, Held, Vars, Does, Local, Makes, Gets, Puts, Forgets, Opens, Calls, Spawns, Waits, Releases, Prints, Done, at, items_from, items, does, stmt_does, trying_does, body_does, within, with_number, with_place, on_ref, begins, granted, stmt_granted, body_granted, or_raise, child, stmt_child, raise, eval, target_of, ref_in, value_of, is_zero, catches, replaced, after_it}
+use Rattle.rx_rules.specs.Code.{Block, Nothing, Then, Stmt, SetTo, New, Get, Put, Forget, Census, Print, Throw, Async, AtAsync, At, Finish, If, Repeat, Try}
+use Rattle.rx_rules.specs.Terms.{Term, Empty, Run, Raise, Turns, Trying, Body, Held, Vars, Does, Local, Makes, Gets, Puts, Forgets, Opens, Calls, Spawns, Waits, Releases, Prints, Counts, Done, at, items_from, items, does, stmt_does, trying_does, body_does, within, with_number, with_place, on_ref, begins, granted, stmt_granted, body_granted, or_raise, child, stmt_child, raise, eval, target_of, ref_in, value_of, is_zero, catches, replaced, after_it}
 use Rattle.rx_laws.proofs.Paths.{Starts, Below, Comes, starts-same, starts-trans, starts-at, below-at, below-starts, starts-below, below-comes, within-comes}
 
 -- the paths that a term, or a task that it starts, may still begin: those that begin with a path of an item
@@ -191,6 +191,7 @@ IfLocal P (Spawns place) = Unit {0}
 IfLocal P (Waits faults) = Unit {0}
 IfLocal P Releases = Unit {0}
 IfLocal P (Prints value) = Unit {0}
+IfLocal P (Counts name) = Unit {0}
 IfLocal P (Done faults) = Unit {0}
 
 pub local-number : (P : Term → Type 0) (vars : Vars) (o : Option ℤ) (f : ℤ → Does) → ((faults : List Fault) → P (Raise faults)) → ((z : ℤ) → IfLocal P (f z)) → IfLocal P (with_number vars o f)
@@ -218,34 +219,36 @@ local-within P Q f h (Spawns place) k = tt
 local-within P Q f h (Waits faults) k = tt
 local-within P Q f h Releases k = tt
 local-within P Q f h (Prints value) k = tt
+local-within P Q f h (Counts name) k = tt
 local-within P Q f h (Done faults) k = tt
 
-stmt-placed : (vars : Vars) (here places : ℕ) (stmt : Stmt) (x : List ℕ) (rest : Term) → Sorted rest → Later x rest → IfLocal (Placed x rest) (stmt_does vars here places stmt x rest)
-stmt-placed vars here places (SetTo name value) x rest s l =
+stmt-placed : (vars : Vars) (here : ℕ) (stmt : Stmt) (x : List ℕ) (rest : Term) → Sorted rest → Later x rest → IfLocal (Placed x rest) (stmt_does vars here stmt x rest)
+stmt-placed vars here (SetTo name value) x rest s l =
     local-number (Placed x rest) vars (eval vars here value) _ (placed-raise x rest) (λ z. placed-rest x rest s)
-stmt-placed vars here places (New name words) x rest s l = tt
-stmt-placed vars here places (Get name target index) x rest s l =
+stmt-placed vars here (New name words) x rest s l = tt
+stmt-placed vars here (Get name target index) x rest s l =
     local-number (Placed x rest) vars (eval vars here index) _ (placed-raise x rest) (λ z. local-ref (Placed x rest) vars here target (λ r. Gets name r z) (placed-raise x rest) (λ g. tt))
-stmt-placed vars here places (Put target index value) x rest s l =
+stmt-placed vars here (Put target index value) x rest s l =
     local-number (Placed x rest) vars (eval vars here index) _ (placed-raise x rest)
     (λ k. local-number (Placed x rest) vars (eval vars here value) _ (placed-raise x rest) (λ z. local-ref (Placed x rest) vars here target (λ r. Puts r k z) (placed-raise x rest) (λ g. tt)))
-stmt-placed vars here places (Forget target) x rest s l =
+stmt-placed vars here (Forget target) x rest s l =
     local-ref (Placed x rest) vars here target Forgets (placed-raise x rest) (λ g. tt)
-stmt-placed vars here places (Print value) x rest s l =
+stmt-placed vars here (Census name) x rest s l = tt
+stmt-placed vars here (Print value) x rest s l =
     local-number (Placed x rest) vars (eval vars here value) Prints (placed-raise x rest) (λ z. tt)
-stmt-placed vars here places (Throw value) x rest s l =
+stmt-placed vars here (Throw value) x rest s l =
     local-number (Placed x rest) vars (eval vars here value) _ (placed-raise x rest) (λ z. placed-raise x rest _)
-stmt-placed vars here places (Async body) x rest s l = tt
-stmt-placed vars here places (AtAsync place body) x rest s l =
-    local-place (Placed x rest) vars (target_of (eval vars here place) places) Spawns (placed-raise x rest) (λ p. tt)
-stmt-placed vars here places (At place body) x rest s l =
-    local-place (Placed x rest) vars (target_of (eval vars here place) places) Calls (placed-raise x rest) (λ p. tt)
-stmt-placed vars here places (Finish body) x rest s l = tt
-stmt-placed vars here places (If test first other) x rest s l =
+stmt-placed vars here (Async body) x rest s l = tt
+stmt-placed vars here (AtAsync place body) x rest s l =
+    local-place (Placed x rest) vars (target_of (eval vars here place) vars.places) Spawns (placed-raise x rest) (λ p. tt)
+stmt-placed vars here (At place body) x rest s l =
+    local-place (Placed x rest) vars (target_of (eval vars here place) vars.places) Calls (placed-raise x rest) (λ p. tt)
+stmt-placed vars here (Finish body) x rest s l = tt
+stmt-placed vars here (If test first other) x rest s l =
     local-number (Placed x rest) vars (eval vars here test) _ (placed-raise x rest)
     (λ z. cond_both (is_zero z) (items other (at x 1) rest) (items first (at x 0) rest) (Placed x rest) (λ e. placed-choice other x 1 rest s l) (λ e. placed-choice first x 0 rest s l))
-stmt-placed vars here places (Repeat times body) x rest s l = placed-turns body x times rest s l
-stmt-placed vars here places (Try body dead_only handler) x rest s l = placed-trying body dead_only handler x rest s l
+stmt-placed vars here (Repeat times body) x rest s l = placed-turns body x times rest s l
+stmt-placed vars here (Try body dead_only handler) x rest s l = placed-trying body dead_only handler x rest s l
 
 -- One step of a term.
 
@@ -330,19 +333,20 @@ body-moved d (Body t1 r1) rest s h =
 body-moved d (Held r1) rest s h =
     local-within (Moved (Held r1)) (Moved (Body (Held r1) rest)) (λ t. Body t rest) (λ t m. moved-body (Held r1) t rest s m) d h
 
-local-stmt : (vars : Vars) (here places : ℕ) (stmt : Stmt) (x : List ℕ) (rest : Term) → Sorted rest → Later x rest → (d : Does) → IfLocal (Placed x rest) d → IfLocal (Moved (Run stmt x rest)) d
-local-stmt vars here places stmt x rest s l (Local left v) p = placed-moved stmt x rest left l p
-local-stmt vars here places stmt x rest s l (Makes name words) p = tt
-local-stmt vars here places stmt x rest s l (Gets name target index) p = tt
-local-stmt vars here places stmt x rest s l (Puts target index value) p = tt
-local-stmt vars here places stmt x rest s l (Forgets target) p = tt
-local-stmt vars here places stmt x rest s l Opens p = tt
-local-stmt vars here places stmt x rest s l (Calls place) p = tt
-local-stmt vars here places stmt x rest s l (Spawns place) p = tt
-local-stmt vars here places stmt x rest s l (Waits faults) p = tt
-local-stmt vars here places stmt x rest s l Releases p = tt
-local-stmt vars here places stmt x rest s l (Prints value) p = tt
-local-stmt vars here places stmt x rest s l (Done faults) p = tt
+local-stmt : (vars : Vars) (here : ℕ) (stmt : Stmt) (x : List ℕ) (rest : Term) → Sorted rest → Later x rest → (d : Does) → IfLocal (Placed x rest) d → IfLocal (Moved (Run stmt x rest)) d
+local-stmt vars here stmt x rest s l (Local left v) p = placed-moved stmt x rest left l p
+local-stmt vars here stmt x rest s l (Makes name words) p = tt
+local-stmt vars here stmt x rest s l (Gets name target index) p = tt
+local-stmt vars here stmt x rest s l (Puts target index value) p = tt
+local-stmt vars here stmt x rest s l (Forgets target) p = tt
+local-stmt vars here stmt x rest s l Opens p = tt
+local-stmt vars here stmt x rest s l (Calls place) p = tt
+local-stmt vars here stmt x rest s l (Spawns place) p = tt
+local-stmt vars here stmt x rest s l (Waits faults) p = tt
+local-stmt vars here stmt x rest s l Releases p = tt
+local-stmt vars here stmt x rest s l (Prints value) p = tt
+local-stmt vars here stmt x rest s l (Counts name) p = tt
+local-stmt vars here stmt x rest s l (Done faults) p = tt
 
 turns-moved : (b : Block) (x : List ℕ) (k times : ℕ) (rest : Term) → Sorted rest → Later x rest → Moved (Turns b x k times rest) (items b (at x k) (Turns b x (suc k) times rest))
 turns-moved b x k times rest s l =
@@ -358,19 +362,19 @@ turns-moved b x k times rest s l =
     ])
 
 -- a local step
-pub local-moved : (vars : Vars) (here places : ℕ) (t : Term) → Sorted t → IfLocal (Moved t) (does vars here places t)
-local-moved vars here places Empty s = tt
-local-moved vars here places (Raise faults) s = tt
-local-moved vars here places (Run stmt x rest) s =
-    local-stmt vars here places stmt x rest s.0 s.1 (stmt_does vars here places stmt x rest) (stmt-placed vars here places stmt x rest s.0 s.1)
-local-moved vars here places (Turns b x k times rest) s =
+pub local-moved : (vars : Vars) (here : ℕ) (t : Term) → Sorted t → IfLocal (Moved t) (does vars here t)
+local-moved vars here Empty s = tt
+local-moved vars here (Raise faults) s = tt
+local-moved vars here (Run stmt x rest) s =
+    local-stmt vars here stmt x rest s.0 s.1 (stmt_does vars here stmt x rest) (stmt-placed vars here stmt x rest s.0 s.1)
+local-moved vars here (Turns b x k times rest) s =
     cond_both (nat_le times k) rest (items b (at x k) (Turns b x (suc k) times rest)) (Moved (Turns b x k times rest))
     (λ e. moved-quiet (Turns b x k times rest) rest refl s.0 (λ y h. inr h)) (λ e. turns-moved b x k times rest s.0 s.1)
-local-moved vars here places (Trying inside dead_only handler x rest) s =
-    trying-moved vars (does vars here places inside) inside dead_only handler x rest s (local-moved vars here places inside s.0)
-local-moved vars here places (Body inside rest) s =
-    body-moved (does vars here places inside) inside rest s (local-moved vars here places inside s.0)
-local-moved vars here places (Held rest) s = tt
+local-moved vars here (Trying inside dead_only handler x rest) s =
+    trying-moved vars (does vars here inside) inside dead_only handler x rest s (local-moved vars here inside s.0)
+local-moved vars here (Body inside rest) s =
+    body-moved (does vars here inside) inside rest s (local-moved vars here inside s.0)
+local-moved vars here (Held rest) s = tt
 
 -- an answer of the store
 pub fine-moved : (t : Term) (x : List ℕ) → begins t ≡ Some x → Sorted t → Moved t (replaced t (after_it t))
@@ -400,6 +404,7 @@ granted-stmt (New name words) x rest s l = placed-rest x rest s
 granted-stmt (Get name target index) x rest s l = placed-rest x rest s
 granted-stmt (Put target index value) x rest s l = placed-rest x rest s
 granted-stmt (Forget target) x rest s l = placed-rest x rest s
+granted-stmt (Census name) x rest s l = placed-rest x rest s
 granted-stmt (Print value) x rest s l = placed-rest x rest s
 granted-stmt (Throw value) x rest s l = placed-rest x rest s
 granted-stmt (Async body) x rest s l = placed-rest x rest s
@@ -458,6 +463,7 @@ stmt-born (New name words) x = born-none x
 stmt-born (Get name target index) x = born-none x
 stmt-born (Put target index value) x = born-none x
 stmt-born (Forget target) x = born-none x
+stmt-born (Census name) x = born-none x
 stmt-born (Print value) x = born-none x
 stmt-born (Throw value) x = born-none x
 stmt-born (Finish body) x = born-none x

@@ -6,7 +6,7 @@ use Rattle.std.proofs.Common.{ap, sym, subst, ◌∙◌, arith, inl, inr}
 use Rattle.std.proofs.lemmas.Bool.{eqb-true, eq-eqb, ne_eqb, or_parts, or_cases, or_left, or_right, or_from, cond_both, true≢false}
 use Rattle.rx_base.specs.declared.ids.PlaceId.{PlaceId}
 use Rattle.rx_rules.specs.declared.entries.Entry.{Entry}
-use Rattle.rx_rules.specs.declared.entries.Entry.TheVariants.{Step, Root, Death}
+use Rattle.rx_rules.specs.declared.entries.Entry.TheVariants.{Step, Root, Death, Join}
 use Rattle.rx_rules.specs.Tree.{Tree}
 use Rattle.rx_rules.specs.Laws.{TaskBirth, is_on, hit_at, is_born, born_so_far, is_birth_of, birth_told}
 use Rattle.rx_laws.proofs.Lines.{Bone, bones, nums, line, Falls, has_finish, has-below}
@@ -32,7 +32,7 @@ pub record Unborn (F : Facts) (born : ℕ → Bool) (t : ℕ) : Type 0 where
   pub unlanded : F.landed t ≡ false
 
 -- over the parts of a tree, and what was read
-pub record Ties (q : ℕ) (F : Facts) (born died : ℕ → Bool) (bs : List TaskBirth) (next_task next_scope places : ℕ) (dead : List (Option ℕ)) (B : List Bone) (xs : List Task) : Type 0 where
+pub record Ties (F : Facts) (born died : ℕ → Bool) (bs : List TaskBirth) (next_task next_scope places : ℕ) (dead : List (Option ℕ)) (B : List Bone) (xs : List Task) : Type 0 where
   pub falls : Falls next_scope B
   pub scopes : (n : ℕ) → is_on n (nums B) ≡ true → ScopeOk F B n
   pub older : (g k : ℕ) → is_on k (F.walk g) ≡ true → k ≤ g
@@ -42,12 +42,12 @@ pub record Ties (q : ℕ) (F : Facts) (born died : ℕ → Bool) (bs : List Task
   pub tasks : Aligned F B bs xs
   pub dead_so : (p : PlaceId) → p.0 < 16 → is_some (slice_index_or dead p.0 None) ≡ died p.0
   pub sixteen : length dead ≡ 16
-  pub same_places : places ≡ q
+  pub few : places ≤ 16
 
 -- the tree stands for what stands before
-abbrev pub Tied : ℕ → List Entry → Tree → Type 0
-Tied q past T =
-    Ties q (facts past) (is_born past) (has_died past) (born_so_far past) T.next_task T.next_scope T.places T.dead (bones T) T.tasks
+abbrev pub Tied : List Entry → Tree → Type 0
+Tied past T =
+    Ties (facts past) (is_born past) (has_died past) (born_so_far past) T.next_task T.next_scope T.places T.dead (bones T) T.tasks
 
 -- A task that is yet to be born is hit exactly where the place that it is born for has died.
 
@@ -67,8 +67,9 @@ born-before e past t h = rest_none (birth_told e) (born_so_far past) h where
 pub hit-unborn : (past : List Entry) (b : TaskBirth) → is_born past b.task ≡ false → hit_at past b ≡ cond (has_died past b.to) (Some b.to) None
 hit-unborn [] b h = refl
 hit-unborn (Step t act batch ∷ past) b h = hit-unborn past b (born-before (Step t act batch) past b.task h)
-hit-unborn (Root lost thrown ∷ past) b h = hit-unborn past b h
+hit-unborn (Root lost masked thrown ∷ past) b h = hit-unborn past b h
 hit-unborn (Death d ∷ past) b h = rw (h, hit-unborn past b h) (hit_by (has_died past b.to) b.to d.0)
+hit-unborn (Join d ∷ past) b h = hit-unborn past b h
 
 -- One step for each kind of entry, over the parts.
 
@@ -85,7 +86,7 @@ births-below born n m (b ∷ bs) h t k =
 abbrev pub walks_too : ℕ → ℕ → Facts → Facts
 walks_too s r F = record F { walk = λ g. cond (s == g) (g ∷ F.walk r) (F.walk g) }
 
-module _ (q : ℕ) (F : Facts) (born died : ℕ → Bool) (bs : List TaskBirth) (next_task next_scope places : ℕ) (dead : List (Option ℕ)) (B : List Bone) (xs : List Task) (i : Ties q F born died bs next_task next_scope places dead B xs) where
+module _ (F : Facts) (born died : ℕ → Bool) (bs : List TaskBirth) (next_task next_scope places : ℕ) (dead : List (Option ℕ)) (B : List Bone) (xs : List Task) (i : Ties F born died bs next_task next_scope places dead B xs) where
   opens_scope : (P : Bone) (r n : ℕ) → P.number ≡ next_scope → P.parent ≡ Some r → is_on r (nums B) ≡ true → (y : Bool) → (P.number == n) ≡ y → (y ≡ false → is_on n (nums B) ≡ true) → ScopeOk (walks_too P.number r F) (P ∷ B) n
   opens_scope P r n e up there true k on =
       let old : ScopeOk F B r = i.scopes r there in
@@ -115,7 +116,7 @@ module _ (q : ℕ) (F : Facts) (born died : ℕ → Bool) (bs : List TaskBirth) 
         | inr there ↦ k n there walked
       ]))
 
-  pub ties-open : (P : Bone) (r : ℕ) → P.number ≡ next_scope → P.parent ≡ Some r → is_on r (nums B) ≡ true → Ties q (walks_too P.number r F) born died bs next_task (suc next_scope) places dead (P ∷ B) xs
+  pub ties-open : (P : Bone) (r : ℕ) → P.number ≡ next_scope → P.parent ≡ Some r → is_on r (nums B) ≡ true → Ties (walks_too P.number r F) born died bs next_task (suc next_scope) places dead (P ∷ B) xs
   ties-open P r e up there =
       record {
         falls = (omega arith, subst (λ n. Falls n B) (sym e) i.falls);
@@ -138,12 +139,12 @@ module _ (q : ℕ) (F : Facts) (born died : ℕ → Bool) (bs : List TaskBirth) 
             next_task i.births i.tasks;
         dead_so = i.dead_so;
         sixteen = i.sixteen;
-        same_places = i.same_places;
+        few = i.few;
       }
 
   -- a task is born
 
-  pub ties-born : (b : TaskBirth) (x : Task) → b.task ≡ next_task → is_on b.under (nums B) ≡ true → IsRow F B b x → Ties q F (λ t. (b.task == t) || born t) died (b ∷ bs) (suc next_task) next_scope places dead B (x ∷ xs)
+  pub ties-born : (b : TaskBirth) (x : Task) → b.task ≡ next_task → is_on b.under (nums B) ≡ true → IsRow F B b x → Ties F (λ t. (b.task == t) || born t) died (b ∷ bs) (suc next_task) next_scope places dead B (x ∷ xs)
   ties-born b x e there r =
       record {
         falls = i.falls;
@@ -162,5 +163,5 @@ module _ (q : ℕ) (F : Facts) (born died : ℕ → Bool) (bs : List TaskBirth) 
         tasks = row r i.tasks;
         dead_so = i.dead_so;
         sixteen = i.sixteen;
-        same_places = i.same_places;
+        few = i.few;
       }

@@ -23,7 +23,7 @@ all_off test (b ∷ l) h =
     and_from (test b.number) (list_all (λ b. test b.number) l) (h b.number (or_left (b.number == b.number) (is_on b.number (nums l)) (eq-eqb b.number b.number refl)))
     (all_off test l (λ k m. h k (or_right (b.number == k) (is_on k (nums l)) m)))
 
-module _ (q : ℕ) (F : Facts) (born died : ℕ → Bool) (bs : List TaskBirth) (next_task next_scope places : ℕ) (dead : List (Option ℕ)) (B : List Bone) (xs : List Task) (i : Ties q F born died bs next_task next_scope places dead B xs) where
+module _ (F : Facts) (born died : ℕ → Bool) (bs : List TaskBirth) (next_task next_scope places : ℕ) (dead : List (Option ℕ)) (B : List Bone) (xs : List Task) (i : Ties F born died bs next_task next_scope places dead B xs) where
   -- a task that is found is not yet to be born
   pub found_older : (t : TaskId) (x : Task) → find (is_task t) xs ≡ Some x → x.number.0 ≡ t.0 → t.0 < next_task
   found_older t x h same =
@@ -32,7 +32,7 @@ module _ (q : ℕ) (F : Facts) (born died : ℕ → Bool) (bs : List TaskBirth) 
       let it : x.number.0 ≡ f.birth.task = f.is_row.number in
       omega arith
 
-  pub ties-arrive : (t : TaskId) (p : PlaceId) (x : Task) → find (is_task t) xs ≡ Some x → x.number.0 ≡ t.0 → TravelsTo t p xs → Ties q (landed_too t.0 F) born died bs next_task next_scope places dead B (change_first (is_task t) (arrived p) xs)
+  pub ties-arrive : (t : TaskId) (p : PlaceId) (x : Task) → find (is_task t) xs ≡ Some x → x.number.0 ≡ t.0 → TravelsTo t p xs → Ties (landed_too t.0 F) born died bs next_task next_scope places dead B (change_first (is_task t) (arrived p) xs)
   ties-arrive t p x h same travel =
       record {
         falls = i.falls;
@@ -47,10 +47,10 @@ module _ (q : ℕ) (F : Facts) (born died : ℕ → Bool) (bs : List TaskBirth) 
         tasks = aligned-arrive F B born t p next_task next_scope i.births i.tasks travel;
         dead_so = i.dead_so;
         sixteen = i.sixteen;
-        same_places = i.same_places;
+        few = i.few;
       }
 
-  pub ties-end : (t : TaskId) (x : Task) → find (is_task t) xs ≡ Some x → x.number.0 ≡ t.0 → Unstruck t xs → Ties q (ended_too t.0 F) born died bs next_task next_scope places dead B (filter (is_other t) xs)
+  pub ties-end : (t : TaskId) (x : Task) → find (is_task t) xs ≡ Some x → x.number.0 ≡ t.0 → Unstruck t xs → Ties (ended_too t.0 F) born died bs next_task next_scope places dead B (filter (is_other t) xs)
   ties-end t x h same free =
       record {
         falls = i.falls;
@@ -65,7 +65,7 @@ module _ (q : ℕ) (F : Facts) (born died : ℕ → Bool) (bs : List TaskBirth) 
         tasks = aligned-end F B born t next_task next_scope i.births i.tasks free;
         dead_so = i.dead_so;
         sixteen = i.sixteen;
-        same_places = i.same_places;
+        few = i.few;
       }
 
   dead_step : (d p : PlaceId) (n : ℕ) (y : Bool) → (d.0 == p.0) ≡ y → d.0 < 16 → p.0 < 16 → is_some (slice_index_or (slice_set dead d.0 (Some n)) p.0 None) ≡ ((d.0 == p.0) || died p.0)
@@ -76,7 +76,7 @@ module _ (q : ℕ) (F : Facts) (born died : ℕ → Bool) (bs : List TaskBirth) 
   dead_step d p n false e low small =
       rw e (ap is_some (get_or-set_other dead d.0 p.0 (Some n) None (λ k. true≢false (sym (eq-eqb d.0 p.0 (sym k)) ∙ e))) ∙ i.dead_so p small)
 
-  pub ties-death : (w : Blow) (n : ℕ) → w.place.0 < 16 → Ties q (struck_too born w.place.0 F) born (λ p. (w.place.0 == p) || died p) bs next_task next_scope places (slice_set dead w.place.0 (Some n)) B (map (hit_row w) xs)
+  pub ties-death : (w : Blow) (n : ℕ) → w.place.0 < 16 → Ties (struck_too born w.place.0 F) born (λ p. (w.place.0 == p) || died p) bs next_task next_scope places (slice_set dead w.place.0 (Some n)) B (map (hit_row w) xs)
   ties-death w n low =
       record {
         falls = i.falls;
@@ -88,10 +88,10 @@ module _ (q : ℕ) (F : Facts) (born died : ℕ → Bool) (bs : List TaskBirth) 
         tasks = aligned-struck born F B w next_task next_scope i.births i.tasks;
         dead_so = λ p small. dead_step w.place p n (w.place.0 == p.0) refl low small;
         sixteen = length-set dead w.place.0 (Some n) ∙ i.sixteen;
-        same_places = i.same_places;
+        few = i.few;
       }
 
-  pub ties-release : (s : ℕ) → is_on s (nums B) ≡ true → (u : Task → Bool) → ((x : Task) → u x ≡ is_on s (nums (line B (Some x.under.0)))) → list_any (λ x. u x && is_none x.struck) xs ≡ false → Ties q (released_too s F) born died bs next_task next_scope places dead (left_of B s) (filter (λ x. not (u x && is_some x.struck)) xs)
+  pub ties-release : (s : ℕ) → is_on s (nums B) ≡ true → (u : Task → Bool) → ((x : Task) → u x ≡ is_on s (nums (line B (Some x.under.0)))) → list_any (λ x. u x && is_none x.struck) xs ≡ false → Ties (released_too s F) born died bs next_task next_scope places dead (left_of B s) (filter (λ x. not (u x && is_some x.struck)) xs)
   ties-release s there u same quiet =
       record {
         falls = falls-filter (λ b. is_off B s b.number) next_scope B i.falls;
@@ -114,5 +114,5 @@ module _ (q : ℕ) (F : Facts) (born died : ℕ → Bool) (bs : List TaskBirth) 
         tasks = aligned-release F B next_scope s i.falls (λ n k. (i.scopes n k).walks) u same quiet i.tasks;
         dead_so = i.dead_so;
         sixteen = i.sixteen;
-        same_places = i.same_places;
+        few = i.few;
       }

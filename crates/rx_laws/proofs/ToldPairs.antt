@@ -7,11 +7,11 @@ use Rattle.rx_base.specs.declared.ids.TaskId.{TaskId}
 use Rattle.rx_base.specs.declared.values.Fault.{Fault}
 use Rattle.rx_rules.specs.declared.tasks.Where.TheVariants.{At}
 use Rattle.rx_rules.specs.declared.entries.Act.{Act}
-use Rattle.rx_rules.specs.declared.entries.Act.TheVariants.{Open, At as Calls, Spawn, Arrive, Wait, Release, End, Print}
+use Rattle.rx_rules.specs.declared.entries.Act.TheVariants.{Open, At as Calls, Spawn, Arrive, Wait, Release, End, Print, Census}
 use Rattle.rx_rules.specs.declared.entries.Entry.{Entry}
-use Rattle.rx_rules.specs.declared.entries.Entry.TheVariants.{Step, Root, Death}
+use Rattle.rx_rules.specs.declared.entries.Entry.TheVariants.{Step, Root, Death, Join}
 use Rattle.rx_rules.specs.Tree.{Tree, is_task, task_of, is_under, the_root}
-use Rattle.rx_rules.specs.Entries.{Allowed, AllowedAct, made, after_end, born, waiting, resumed, without, change_first, hit, is_hit, Acts}
+use Rattle.rx_rules.specs.Entries.{Allowed, AllowedAct, made, after_end, born, waiting, resumed, without, change_first, hit, is_hit}
 use Rattle.rx_rules.specs.Code.{Block}
 use Rattle.rx_rules.specs.Terms.{Term, Vars}
 use Rattle.rx_rules.specs.Plays.{started_by}
@@ -91,8 +91,9 @@ alive-born x c xs h =
 
 abbrev pub Starts_it : Entry → ℕ → Type 0
 Starts_it (Step t act batch) c = (d : TaskId) × (started_by act ≡ Some d) × (d.0 ≡ c)
-Starts_it (Root lost thrown) c = ⊥
+Starts_it (Root lost masked thrown) c = ⊥
 Starts_it (Death d) c = ⊥
+Starts_it (Join d) c = ⊥
 
 alive-end : (T : Tree) (t : TaskId) (thrown : List Fault) (c : ℕ) (x : Task) → task_of T t ≡ Some x → is_alive (after_end T t thrown) c ≡ true → is_alive T c ≡ true
 alive-end T t thrown c x e h =
@@ -113,28 +114,14 @@ alive-back n T (Step t (Spawn d s from to path) batch) c a h =
     ]
 alive-back n T (Step t (Arrive p) batch) c a h = inl (sym (alive-change (is_task t) (λ x. record x { place = At p }) c (λ x. refl) T.tasks) ∙ h)
 alive-back n T (Step t (Wait s thrown) batch) c a h = inl (sym (alive-change (is_task t) waiting c (λ x. refl) T.tasks) ∙ h)
-alive-back n T (Step t (Release s lost thrown) batch) c a h =
+alive-back n T (Step t (Release s lost masked thrown) batch) c a h =
     inl (alive-filter (λ x. not (is_under T s x && is_some x.struck)) c T.tasks (sym (alive-change (is_task t) resumed c (λ x. refl) (without T s).tasks) ∙ h))
-alive-back n T (Step t (End thrown) batch) c a h = inl (alive-end T t thrown c a.task a.live.acts.stands h)
+alive-back n T (Step t (End thrown) batch) c a h = inl (alive-end T t thrown c a.task a.stands h)
 alive-back n T (Step t (Print value path) batch) c a h = inl h
-alive-back n T (Root lost thrown) c a h = inl (alive-filter (λ x. not (is_under T the_root x && is_some x.struck)) c T.tasks h)
+alive-back n T (Step t (Census places path) batch) c a h = inl h
+alive-back n T (Root lost masked thrown) c a h = inl (alive-filter (λ x. not (is_under T the_root x && is_some x.struck)) c T.tasks h)
 alive-back n T (Death d) c a h = inl (alive-hit (record { place = d; entry = n }) c T.tasks h)
-
--- the task of an entry acts
-
-pub record Actor (T : Tree) (t : TaskId) : Type 0 where
-  pub task : Task
-  pub acts : Acts T t task
-
-pub acts_by : (T : Tree) (t : TaskId) (act : Act) → AllowedAct T t act → Actor T t
-acts_by T t (Open s r x) a = record { task = a.task; acts = a.live.acts }
-acts_by T t (Calls s r c from to x) a = record { task = a.task; acts = a.live.acts }
-acts_by T t (Spawn c s from to x) a = record { task = a.task; acts = a.live.acts }
-acts_by T t (Arrive p) a = record { task = a.task; acts = a.acts }
-acts_by T t (Wait s thrown) a = record { task = a.task; acts = a.live.acts }
-acts_by T t (Release s lost thrown) a = record { task = a.0.task; acts = a.0.acts }
-acts_by T t (End thrown) a = record { task = a.task; acts = a.live.acts }
-acts_by T t (Print value x) a = record { task = a.task; acts = a.live.acts }
+alive-back n T (Join d) c a h = inl h
 
 -- Pairs.
 
@@ -201,21 +188,22 @@ pub record Pending (T : Tree) (term_at : ℕ → Term) (y : List ℕ) : Type 0 w
 
 abbrev pub by_host : Entry → Bool
 by_host (Step t act batch) = false
-by_host (Root lost thrown) = true
+by_host (Root lost masked thrown) = true
 by_host (Death d) = true
+by_host (Join d) = true
 
 -- a fact of what stands before an entry, the tree and the terms that each entry keeps, and each step between entries
-pub record Keeps (code : Block) (starts : List (Term × Vars)) (q : ℕ) (K : List Entry → Tree → (ℕ → Term) → Type 0) : Type 0 where
-  pub host : (n : ℕ) (past : List Entry) (T : Tree) (e : Entry) (f : ℕ → Term) → Tied q past T → Shape code past T.next_task f → Allowed T e → by_host e ≡ true → K past T f → K (e ∷ past) (made n T e) f
-  pub step : (n : ℕ) (past : List Entry) (T : Tree) (t : TaskId) (act : Act) (batch told : List (List ℕ)) (f : ℕ → Term) → Tied q past T → Shape code past T.next_task f → (sd : Says starts (f t.0) act told) → Allowed T (Step t act batch) → t.0 < T.next_task → is_alive T t.0 ≡ true → started_by act ≡ None → K past T f → K (Step t act batch ∷ past) (made n T (Step t act batch)) (set_at t.0 sd.after f)
-  pub birth : (n : ℕ) (past : List Entry) (T : Tree) (t : TaskId) (act : Act) (batch told : List (List ℕ)) (f : ℕ → Term) → Tied q past T → Shape code past T.next_task f → (sd : Says starts (f t.0) act told) → Allowed T (Step t act batch) → t.0 < T.next_task → is_alive T t.0 ≡ true → (c : TaskId) (e : started_by act ≡ Some c) → c.0 ≡ T.next_task → K past T f → K (Step t act batch ∷ past) (made n T (Step t act batch)) (set_at T.next_task (sd.child c e).term (set_at t.0 sd.after f))
+pub record Keeps (code : Block) (starts : List (Term × Vars)) (K : List Entry → Tree → (ℕ → Term) → Type 0) : Type 0 where
+  pub host : (n : ℕ) (past : List Entry) (T : Tree) (e : Entry) (f : ℕ → Term) → Tied past T → Shape code past T.next_task f → Allowed T e → by_host e ≡ true → K past T f → K (e ∷ past) (made n T e) f
+  pub step : (n : ℕ) (past : List Entry) (T : Tree) (t : TaskId) (act : Act) (batch told : List (List ℕ)) (f : ℕ → Term) → Tied past T → Shape code past T.next_task f → (sd : Says starts (f t.0) act told) → Allowed T (Step t act batch) → t.0 < T.next_task → is_alive T t.0 ≡ true → started_by act ≡ None → K past T f → K (Step t act batch ∷ past) (made n T (Step t act batch)) (set_at t.0 sd.after f)
+  pub birth : (n : ℕ) (past : List Entry) (T : Tree) (t : TaskId) (act : Act) (batch told : List (List ℕ)) (f : ℕ → Term) → Tied past T → Shape code past T.next_task f → (sd : Says starts (f t.0) act told) → Allowed T (Step t act batch) → t.0 < T.next_task → is_alive T t.0 ≡ true → (c : TaskId) (e : started_by act ≡ Some c) → c.0 ≡ T.next_task → K past T f → K (Step t act batch ∷ past) (made n T (Step t act batch)) (set_at T.next_task (sd.child c e).term (set_at t.0 sd.after f))
   pub inner : (past : List Entry) (T : Tree) (c : ℕ) (after : Term) (f : ℕ → Term) → Shape code past T.next_task f → c < T.next_task → Moves code (f c) after → K past T f → K past T (set_at c after f)
 
 -- R holds of each statement that a task begins, within the scopes that it has open, and each one that another living task has
 -- still to begin then
-abbrev pub Others : Block → ℕ → (List Entry → Tree → (ℕ → Term) → Type 0) → (List ℕ → List ℕ → Type 0) → Type 0
-Others code q K R =
-    (past : List Entry) (T : Tree) (f : ℕ → Term) → Tied q past T → Shape code past T.next_task f → K past T f → (t : ℕ) → t < T.next_task → (z : List ℕ) → Todo (f t) z → EachStarts (outermost (open_paths past t)) z → (c : ℕ) → c < T.next_task → (t ≡ c → ⊥) → is_alive T c ≡ true → (w : List ℕ) → Todo (f c) w → R z w
+abbrev pub Others : Block → (List Entry → Tree → (ℕ → Term) → Type 0) → (List ℕ → List ℕ → Type 0) → Type 0
+Others code K R =
+    (past : List Entry) (T : Tree) (f : ℕ → Term) → Tied past T → Shape code past T.next_task f → K past T f → (t : ℕ) → t < T.next_task → (z : List ℕ) → Todo (f t) z → EachStarts (outermost (open_paths past t)) z → (c : ℕ) → c < T.next_task → (t ≡ c → ⊥) → is_alive T c ≡ true → (w : List ℕ) → Todo (f c) w → R z w
 
 pub within-at : (ps zs : List (List ℕ)) (z : List ℕ) → AllWithin ps zs → Among z zs → EachStarts ps z
 within-at ps [] z a m = absurd m
@@ -223,7 +211,7 @@ within-at ps (y ∷ ys) z a (inl e) = subst (EachStarts ps) (sym e) a.0
 within-at ps (y ∷ ys) z a (inr m) = within-at ps ys z a.1 m
 
 -- Pending falls from entry to entry, and what an entry tells is related to all that is pending after it.
-module _ (code : Block) (starts : List (Term × Vars)) (q n : ℕ) (past : List Entry) (T : Tree) (t : TaskId) (act : Act) (batch told : List (List ℕ)) (f : ℕ → Term) (s : Shape code past T.next_task f) (sd : Says starts (f t.0) act told) (a : Allowed T (Step t act batch)) (low : t.0 < T.next_task) (lives : is_alive T t.0 ≡ true) where
+module _ (code : Block) (starts : List (Term × Vars)) (n : ℕ) (past : List Entry) (T : Tree) (t : TaskId) (act : Act) (batch told : List (List ℕ)) (f : ℕ → Term) (s : Shape code past T.next_task f) (sd : Says starts (f t.0) act told) (a : Allowed T (Step t act batch)) (low : t.0 < T.next_task) (lives : is_alive T t.0 ≡ true) where
   old_todo : (w : List ℕ) (c : ℕ) → Todo (set_at t.0 sd.after f c) w → Todo (f c) w
   old_todo w c =
       set_case (λ u. Todo u w → Todo (f c) w) t.0 c sd.after f (λ e h. subst (λ d. Todo (f d) w) e (sd.shrinks w h)) (λ o h. h)
@@ -240,7 +228,7 @@ module _ (code : Block) (starts : List (Term × Vars)) (q n : ℕ) (past : List 
       record { task = p.task; born = (let k : p.task < (made n T (Step t act batch)).next_task = p.born in omega (arith, same)); alive = was_alive none p.task p.alive; todo = old_todo w p.task p.todo }
 
   -- what a task that was there has pending
-  module _ (i : Tied q past T) (K : List Entry → Tree → (ℕ → Term) → Type 0) (kept : K past T f) (R : List ℕ → List ℕ → Type 0) (own : (z w : List ℕ) → Comes z w → R z w) (others : Others code q K R) where
+  module _ (i : Tied past T) (K : List Entry → Tree → (ℕ → Term) → Type 0) (kept : K past T f) (R : List ℕ → List ℕ → Type 0) (own : (z w : List ℕ) → Comes z w → R z w) (others : Others code K R) where
     old_pair : (z : List ℕ) → Among z (told ++ own_path act) → (w : List ℕ) (c : ℕ) → c < T.next_task → is_alive T c ≡ true → Todo (set_at t.0 sd.after f c) w → R z w
     old_pair z m w c low_c alive_c =
         let at = in_turn-at (f t.0) sd.after (told ++ own_path act) sd.order z m in
@@ -280,7 +268,7 @@ module _ (code : Block) (starts : List (Term × Vars)) (q n : ℕ) (past : List 
         (λ k h. record { task = t.0; born = low; alive = lives; todo = ch.shrinks w h })
         (λ o h. record { task = p.task; born = below p.task p.born o; alive = before p.task p.alive o; todo = old_todo w p.task h }) p.todo
 
-    pub cross-birth : (i : Tied q past T) (K : List Entry → Tree → (ℕ → Term) → Type 0) → K past T f → (R : List ℕ → List ℕ → Type 0) → ((z w : List ℕ) → Comes z w → R z w) → Others code q K R → (z : List ℕ) → Among z (told ++ own_path act) → (w : List ℕ) → Pending (made n T (Step t act batch)) (set_at T.next_task ch.term old) w → R z w
+    pub cross-birth : (i : Tied past T) (K : List Entry → Tree → (ℕ → Term) → Type 0) → K past T f → (R : List ℕ → List ℕ → Type 0) → ((z w : List ℕ) → Comes z w → R z w) → Others code K R → (z : List ℕ) → Among z (told ++ own_path act) → (w : List ℕ) → Pending (made n T (Step t act batch)) (set_at T.next_task ch.term old) w → R z w
     cross-birth i K kept R own others z m w p =
         set_case (λ u. Todo u w → R z w) T.next_task p.task ch.term old
         (λ k h. own z w ((in_turn-at (f t.0) ch.term (told ++ own_path act) ch.order z m).1 w h))
@@ -291,10 +279,12 @@ host_none (inl x) = x
 host_none (inr x) = absurd x
 
 pub back-host : (n : ℕ) (T : Tree) (e : Entry) (f : ℕ → Term) → by_host e ≡ true → (made n T e).next_task ≡ T.next_task → Allowed T e → (w : List ℕ) → Pending (made n T e) f w → Pending T f w
-back-host n T (Root lost thrown) f h same a w p =
-    record { task = p.task; born = p.born; alive = host_none (alive-back n T (Root lost thrown) p.task a p.alive); todo = p.todo }
+back-host n T (Root lost masked thrown) f h same a w p =
+    record { task = p.task; born = p.born; alive = host_none (alive-back n T (Root lost masked thrown) p.task a p.alive); todo = p.todo }
 back-host n T (Death d) f h same a w p =
     record { task = p.task; born = p.born; alive = host_none (alive-back n T (Death d) p.task a p.alive); todo = p.todo }
+back-host n T (Join d) f h same a w p =
+    record { task = p.task; born = p.born; alive = host_none (alive-back n T (Join d) p.task a p.alive); todo = p.todo }
 back-host n T (Step t act batch) f h same a w p = cc
 
 -- the task of an entry is born and alive
@@ -302,12 +292,11 @@ pub record Acting (T : Tree) (t : TaskId) : Type 0 where
   pub low : t.0 < T.next_task
   pub lives : is_alive T t.0 ≡ true
 
-pub acting : (q : ℕ) (past : List Entry) (T : Tree) → Tied q past T → (t : TaskId) (act : Act) → AllowedAct T t act → Acting T t
-acting q past T i t act a =
-    let actor = acts_by T t act a in
+pub acting : (past : List Entry) (T : Tree) → Tied past T → (t : TaskId) (act : Act) → AllowedAct T t act → Acting T t
+acting past T i t act a =
     record {
-      low = found_older q (facts past) (is_born past) (has_died past) (born_so_far past) T.next_task T.next_scope T.places T.dead (bones T) T.tasks i t actor.task actor.acts.stands (number-of T t actor.task actor.acts.stands);
-      lives = alive-acts (is_task t) T.tasks actor.task t.0 actor.acts.stands (number-of T t actor.task actor.acts.stands) actor.acts.unstruck;
+      low = found_older (facts past) (is_born past) (has_died past) (born_so_far past) T.next_task T.next_scope T.places T.dead (bones T) T.tasks i t a.task a.stands (number-of T t a.task a.stands);
+      lives = alive-acts (is_task t) T.tasks a.task t.0 a.stands (number-of T t a.task a.stands) a.unstruck;
     }
 
 -- an act starts no task, or the next one
@@ -317,10 +306,11 @@ pub data Starting (n : ℕ) (T : Tree) (t : TaskId) (act : Act) (batch : List (L
 
 pub starting : (n : ℕ) (T : Tree) (t : TaskId) (act : Act) (batch : List (List ℕ)) → AllowedAct T t act → Starting n T t act batch
 starting n T t (Open s1 r x) batch a = starts_none refl refl
-starting n T t (Calls s1 r c from to x) batch a = starts_one c refl a.next_task refl
-starting n T t (Spawn c s1 from to x) batch a = starts_one c refl a.next_task refl
+starting n T t (Calls s1 r c from to x) batch a = starts_one c refl a.asks.3 refl
+starting n T t (Spawn c s1 from to x) batch a = starts_one c refl a.asks.1 refl
 starting n T t (Arrive p) batch a = starts_none refl refl
 starting n T t (Wait s1 thrown) batch a = starts_none refl refl
-starting n T t (Release s1 lost thrown) batch a = starts_none refl refl
+starting n T t (Release s1 lost masked thrown) batch a = starts_none refl refl
 starting n T t (End thrown) batch a = starts_none refl (next-made n T (Step t (End thrown) batch) ∙ add-zero T.next_task)
 starting n T t (Print value x) batch a = starts_none refl refl
+starting n T t (Census places x) batch a = starts_none refl refl

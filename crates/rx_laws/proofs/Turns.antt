@@ -7,7 +7,7 @@ use Rattle.rx_rules.specs.declared.events.Cell.{Cell}
 use Rattle.rx_rules.specs.declared.entries.Act.{Act}
 use Rattle.rx_rules.specs.declared.entries.Act.TheVariants.{End}
 use Rattle.rx_rules.specs.Terms.{Term, Raise, does, begins, granted, Answer, Gives, Fine, Fails, answered, after_it, Vars}
-use Rattle.rx_rules.specs.Plays.{Plays, local, stores, asks, ends, stops, Fits, StartsSo, brought}
+use Rattle.rx_rules.specs.Plays.{Plays, local, stores, asks, ends, stops, Fits, StartsSo, brought, vars_told}
 use Rattle.rx_laws.proofs.Paths.{Comes}
 use Rattle.rx_rules.specs.Code.{Block}
 use Rattle.rx_laws.proofs.TermCode.{Coded, local-coded, replaced-coded, after-coded}
@@ -46,7 +46,7 @@ AllWithin ps [] = Unit {0}
 AllWithin ps (z ∷ zs) = EachStarts ps z × AllWithin ps zs
 
 -- the next entry of a task whose term is t and which has begun the batch
-pub record Turn (Q : List (ℕ × Cell × List ℕ) → Type 0) (starts : List (Term × Vars)) (here : PlaceId) (places : ℕ) (t : Term) (batch : List (List ℕ)) (n : ℕ) (act : Act) (told : List (List ℕ)) (more : List (ℕ × Act × List (List ℕ))) : Type 0 where
+pub record Turn (Q : List (ℕ × Cell × List ℕ) → Type 0) (starts : List (Term × Vars)) (here : PlaceId) (t : Term) (batch : List (List ℕ)) (n : ℕ) (act : Act) (told : List (List ℕ)) (more : List (ℕ × Act × List (List ℕ))) : Type 0 where
   pub vars : Vars
   pub asking : Term
   pub fresh : List (List ℕ)
@@ -64,11 +64,11 @@ pub record Turn (Q : List (ℕ × Cell × List ℕ) → Type 0) (starts : List (
   -- where it ends, it has none open
   pub closed : (faults : List Fault) → act ≡ End faults → (ps : List (List ℕ)) → Nested asking ps → ps ≡ []
   -- it asks the ledger and goes on, or it ends
-  pub goes : (Fits here asking (does vars here.0 places asking) act × StartsSo starts asking vars act × ((low : ℕ) × (cells : List (ℕ × Cell × List ℕ)) × Q cells × Plays starts here places low vars (granted (brought act) asking) [] cells more)) ⊎ ((faults : List Fault) × (act ≡ End faults) × (more ≡ []) × Q [])
+  pub goes : (Fits here asking (does vars here.0 asking) act × StartsSo starts asking vars act × ((low : ℕ) × (knows : Vars) × (cells : List (ℕ × Cell × List ℕ)) × Q cells × Plays starts here low knows (granted (brought act) asking) [] cells more)) ⊎ ((faults : List Fault) × (act ≡ End faults) × (more ≡ []) × Q [])
 
-abbrev pub NextTurn : (List (ℕ × Cell × List ℕ) → Type 0) → List (Term × Vars) → PlaceId → ℕ → Term → List (List ℕ) → List (ℕ × Act × List (List ℕ)) → Type 0
-NextTurn Q starts here places t batch [] = Unit {0}
-NextTurn Q starts here places t batch (m ∷ more) = Turn Q starts here places t batch m.0 m.1 m.2 more
+abbrev pub NextTurn : (List (ℕ × Cell × List ℕ) → Type 0) → List (Term × Vars) → PlaceId → Term → List (List ℕ) → List (ℕ × Act × List (List ℕ)) → Type 0
+NextTurn Q starts here t batch [] = Unit {0}
+NextTurn Q starts here t batch (m ∷ more) = Turn Q starts here t batch m.0 m.1 m.2 more
 
 -- the next entry, if there is one, is not before `low`
 abbrev pub FirstFrom : ℕ → List (ℕ × Act × List (List ℕ)) → Type 0
@@ -89,7 +89,7 @@ first-lower : (low high : ℕ) → low ≤ high → (moves : List (ℕ × Act ×
 first-lower low high h [] k = tt
 first-lower low high h (m ∷ more) k = omega arith
 
-pub first-from : {starts : List (Term × Vars)} {here : PlaceId} {places low : ℕ} {vars : Vars} {t : Term} {batch : List (List ℕ)} {cells : List (ℕ × Cell × List ℕ)} {moves : List (ℕ × Act × List (List ℕ))} → Plays starts here places low vars t batch cells moves → FirstFrom low moves
+pub first-from : {starts : List (Term × Vars)} {here : PlaceId} {low : ℕ} {vars : Vars} {t : Term} {batch : List (List ℕ)} {cells : List (ℕ × Cell × List ℕ)} {moves : List (ℕ × Act × List (List ℕ))} → Plays starts here low vars t batch cells moves → FirstFrom low moves
 first-from (local e p) = first-from p
 first-from (stores {low = low} {moves = moves} {stamp = stamp} a le tells b p) = first-lower low stamp le moves (first-from p)
 first-from (asks le fits so p) = le
@@ -101,9 +101,9 @@ next-left Q stamp cell x cells [] f d h = tt
 next-left Q stamp cell x cells (m ∷ more) f d h = d stamp cell x cells f h
 
 -- a step before it
-earlier : (Q : List (ℕ × Cell × List ℕ) → Type 0) (starts : List (Term × Vars)) (here : PlaceId) (places : ℕ) (t after : Term) (batch : List (List ℕ)) (o : Option (List ℕ)) → begins t ≡ o → ((code : Block) → Coded code t → Coded code after) → ((ps : List (List ℕ)) → Nested t ps → Nested after ps) → ((code : Block) → Coded code t → Moves code t after) → Moved t after → (moves : List (ℕ × Act × List (List ℕ))) → NextTurn Q starts here places after (elim o as (λ _. List (List ℕ)) [ Some x ↦ batch ++ x ∷ [] | None ↦ batch ]) moves → NextTurn Q starts here places t batch moves
-earlier Q starts here places t after batch o e k l g m [] h = tt
-earlier Q starts here places t after batch None e keep stay go m (x ∷ more) h =
+earlier : (Q : List (ℕ × Cell × List ℕ) → Type 0) (starts : List (Term × Vars)) (here : PlaceId) (t after : Term) (batch : List (List ℕ)) (o : Option (List ℕ)) → begins t ≡ o → ((code : Block) → Coded code t → Coded code after) → ((ps : List (List ℕ)) → Nested t ps → Nested after ps) → ((code : Block) → Coded code t → Moves code t after) → Moved t after → (moves : List (ℕ × Act × List (List ℕ))) → NextTurn Q starts here after (elim o as (λ _. List (List ℕ)) [ Some x ↦ batch ++ x ∷ [] | None ↦ batch ]) moves → NextTurn Q starts here t batch moves
+earlier Q starts here t after batch o e k l g m [] h = tt
+earlier Q starts here t after batch None e keep stay go m (x ∷ more) h =
     record {
       vars = h.vars;
       asking = h.asking;
@@ -119,7 +119,7 @@ earlier Q starts here places t after batch None e keep stay go m (x ∷ more) h 
       moves = λ code c y u f w l. go code c y u f w (h.moves code (keep code c) y u f w l);
       goes = h.goes;
     }
-earlier Q starts here places t after batch (Some z) e keep stay go m (x ∷ more) h =
+earlier Q starts here t after batch (Some z) e keep stay go m (x ∷ more) h =
     let b = m.begun z e in
     record {
       vars = h.vars;
@@ -157,16 +157,16 @@ answer-moves (Gives name value) t code c = moves-less code t (answered (Gives na
 answer-moves Fine t code c = moves-less code t (answered Fine t) (fine-head t)
 answer-moves (Fails fault) t code c = moves-less code t (answered (Fails fault) t) (fails-head t (fault ∷ []))
 
-pub next-turn : {starts : List (Term × Vars)} {here : PlaceId} {places low : ℕ} {vars : Vars} {t : Term} {batch : List (List ℕ)} {cells : List (ℕ × Cell × List ℕ)} {moves : List (ℕ × Act × List (List ℕ))} → (Q : List (ℕ × Cell × List ℕ) → Type 0) → Sorted t → Plays starts here places low vars t batch cells moves → Drops Q moves → BeforeNext Q cells moves → NextTurn Q starts here places t batch moves
+pub next-turn : {starts : List (Term × Vars)} {here : PlaceId} {low : ℕ} {vars : Vars} {t : Term} {batch : List (List ℕ)} {cells : List (ℕ × Cell × List ℕ)} {moves : List (ℕ × Act × List (List ℕ))} → (Q : List (ℕ × Cell × List ℕ) → Type 0) → Sorted t → Plays starts here low vars t batch cells moves → Drops Q moves → BeforeNext Q cells moves → NextTurn Q starts here t batch moves
 next-turn Q s (local {vars = vars} {left = left} {t = t} {after = after} {batch = batch} {moves = moves} e p) d q =
-    let m : Moved t after = subst (IfLocal (Moved t)) e (local-moved vars _ _ t s) in
-    earlier Q _ _ _ t after batch (begins t) refl (λ code c. subst (IfLocal (Coded code)) e (local-coded code vars _ _ t c)) (λ ps n. subst (IfLocal (λ u. Nested u ps)) e (local-nested vars _ _ t ps s n))
-    (λ code c. moves-from code t after c (subst (IfLocal (HeadsFrom code t)) e (local-from code vars _ _ t c))) m moves (next-turn Q m.sorted p d q)
+    let m : Moved t after = subst (IfLocal (Moved t)) e (local-moved vars _ t s) in
+    earlier Q _ _ t after batch (begins t) refl (λ code c. subst (IfLocal (Coded code)) e (local-coded code vars _ t c)) (λ ps n. subst (IfLocal (λ u. Nested u ps)) e (local-nested vars _ t ps s n))
+    (λ code c. moves-from code t after c (subst (IfLocal (HeadsFrom code t)) e (local-from code vars _ t c))) m moves (next-turn Q m.sorted p d q)
 next-turn Q s (stores {t = t} {batch = batch} {cells = cells} {moves = moves} {stamp = stamp} {cell = cell} {x = x} a le tells b p) d q =
     let m = answer-moved a t _ b s in
-    earlier Q _ _ _ t (answered a t) batch (begins t) refl (answer-coded a t) (λ ps n. answer-nested a t _ ps b s n) (answer-moves a t) m moves (next-turn Q m.sorted p d (next-left Q stamp cell x cells moves (first-from p) d q))
+    earlier Q _ _ t (answered a t) batch (begins t) refl (answer-coded a t) (λ ps n. answer-nested a t _ ps b s n) (answer-moves a t) m moves (next-turn Q m.sorted p d (next-left Q stamp cell x cells moves (first-from p) d q))
 next-turn Q s (asks {low = low} {vars = vars} {t = t} {batch = batch} {cells = cells} {n = n} {act = act} le fits so p) d q =
-    record { vars = vars; asking = t; fresh = []; tells = sym (append-nil batch); sorted = s; shrinks = λ y h. h; order = tt; coded = λ code c. c; nested = λ ps m. m; inside = λ ps m. tt; moves = λ code c x u e w l. l; closed = λ faults e ps m. absurd (fits-not_end _ t _ act faults e fits); goes = inl (fits, so, (suc n, cells, q, p)) }
+    record { vars = vars; asking = t; fresh = []; tells = sym (append-nil batch); sorted = s; shrinks = λ y h. h; order = tt; coded = λ code c. c; nested = λ ps m. m; inside = λ ps m. tt; moves = λ code c x u e w l. l; closed = λ faults e ps m. absurd (fits-not_end _ t _ act faults e fits); goes = inl (fits, so, (suc n, vars_told (does vars _ t) act vars, cells, q, p)) }
 next-turn Q s (ends {vars = vars} {t = t} {batch = batch} {faults = faults} le e) d q =
-    record { vars = vars; asking = t; fresh = []; tells = sym (append-nil batch); sorted = s; shrinks = λ y h. h; order = tt; coded = λ code c. c; nested = λ ps m. m; inside = λ ps m. tt; moves = λ code c x u e w l. l; closed = λ other k ps m. done-closed _ vars _ t faults e s ps m; goes = inr (faults, refl, refl, q) }
+    record { vars = vars; asking = t; fresh = []; tells = sym (append-nil batch); sorted = s; shrinks = λ y h. h; order = tt; coded = λ code c. c; nested = λ ps m. m; inside = λ ps m. tt; moves = λ code c x u e w l. l; closed = λ other k ps m. done-closed _ vars t faults e s ps m; goes = inr (faults, refl, refl, q) }
 next-turn Q s stops d q = tt

@@ -56,12 +56,12 @@ abbrev pub close : List Entry
 close =
     Step (task 0) (Prints (pos 8) (1 ∷ [])) []
     ∷ Step (task 0) (End []) []
-    ∷ Root (places 0) []
+    ∷ Root (places 0) 0 []
     ∷ []
 
 -- the finish is released, with these losses
 abbrev pub released : ℕ → List Entry
-released lost = Step (task 0) (Release (scope 1) (places lost) []) [] ∷ []
+released lost = Step (task 0) (Release (scope 1) (places lost) 0 []) [] ∷ []
 
 -- a run without deaths
 abbrev pub ordinary : List Entry
@@ -72,9 +72,9 @@ abbrev pub lost_in_transit : List Entry
 lost_in_transit =
     start
     ++ Death (place 1)
-    ∷ Step (task 0) (Release (scope 1) (places 2) []) []
+    ∷ Step (task 0) (Release (scope 1) (places 2) 0 []) []
     ∷ Step (task 0) (End (Dead (place 1) ∷ [])) []
-    ∷ Root (places 0) (Dead (place 1) ∷ [])
+    ∷ Root (places 0) 0 (Dead (place 1) ∷ [])
     ∷ []
 
 -- the finish is released while the child is on its way
@@ -99,7 +99,19 @@ names_finished = start ++ child_entries ++ Death (place 1) ∷ released 2
 
 -- the root names a loss that the finish inside it has named
 abbrev pub named_again : List Entry
-named_again = start ++ Death (place 1) ∷ released 2 ++ Root (places 2) [] ∷ []
+named_again = start ++ Death (place 1) ∷ released 2 ++ Root (places 2) 0 [] ∷ []
+
+-- a release that masks a fault names a lost place
+abbrev pub masks_with_loss : Entry
+masks_with_loss = Step (task 0) (Release (scope 1) (places 2) 1 []) []
+
+-- it names none
+abbrev pub masks_without_loss : Entry
+masks_without_loss = Step (task 0) (Release (scope 1) (places 0) 1 []) []
+
+-- nor does the root's
+abbrev pub root_masks_without_loss : Entry
+root_masks_without_loss = Root (places 0) 1 []
 
 -- a task tells its print twice
 abbrev pub twice_by_one : List Entry

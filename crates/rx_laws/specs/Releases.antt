@@ -1,10 +1,11 @@
 -- What the releases of a history keep.
-use Rattle.std.specs.Prelude.{ℕ, ◌≤◌, List}
+use Rattle.std.specs.Prelude.{◌≡◌, ℕ, ◌≤◌, List, Some, slice_get}
 use Rattle.rx_rules.specs.declared.entries.Entry.{Entry}
 use Rattle.rx_rules.specs.declared.events.PlaceEvent.{PlaceEvent}
 use Rattle.rx_rules.specs.Code.{Block}
 use Rattle.rx_rules.specs.Fold.{opening, AllAllowed}
 use Rattle.rx_rules.specs.Run.{Given, IsRun}
+use Rattle.rx_rules.specs.Inversions.{MaskedMeansLost}
 use Rattle.rx_rules.specs.Laws.{NoEarlyRelease, LossExact}
 
 -- where each entry is allowed, no scope is released before each task under it has ended or is hit
@@ -22,3 +23,9 @@ RunIsNotEarly = (code : Block) (U : Given) (es : List Entry) (js : List (List Pl
 -- the losses of a whole run are exact
 abbrev pub RunIsExact : Type 0
 RunIsExact = (code : Block) (U : Given) (es : List Entry) (js : List (List PlaceEvent)) → IsRun code U es js → LossExact es
+
+-- of each release of a whole run that masks faults the set of lost places is not empty
+abbrev pub RunMaskedIsLost : Type 0
+RunMaskedIsLost =
+    (code : Block) (U : Given) (es : List Entry) (js : List (List PlaceEvent)) → IsRun code U es js →
+    (i : ℕ) (e : Entry) → slice_get es i ≡ Some e → MaskedMeansLost e

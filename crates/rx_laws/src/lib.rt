@@ -1,16 +1,17 @@
 //! The laws of histories and journals, each the contract of a public function with an empty body. They stand on the rules of
-//! rx_rules alone, and so hold of every run, whoever makes it: where a caller has shown that entries are allowed, or that
-//! history and journals are a whole run, it calls the function and has the law. docs/semantics.md states under "The laws" what
-//! each promises and what it does not.
+//! rx_rules and on the laws of rx_sound alone, and so hold of every run, whoever makes it: where a caller has shown that entries
+//! are allowed, or that history and journals are a whole run, it calls the function and has the law. docs/semantics.md states
+//! under "The laws" what each promises and what it does not.
 #![tactic(auto)]
 
 ghost use Rattle.std.specs.Prelude.{[]};
-ghost use Rattle.rx_laws.specs.Releases.{NothingIsEarly, LossesAreExact, RunIsNotEarly, RunIsExact};
+ghost use Rattle.rx_laws.specs.Releases.{NothingIsEarly, LossesAreExact, RunIsNotEarly, RunIsExact, RunMaskedIsLost};
 ghost use Rattle.rx_laws.specs.Once.{AllDiffer, EachIsToldOnce};
 ghost use Rattle.rx_laws.specs.Ordered.{HistoryIsOrdered, RunIsOrdered};
 ghost use Rattle.rx_laws.specs.Examples.{script, no_events, ordinary, lost_in_transit, early, early_at_work, early_elsewhere, unnamed};
 ghost use Rattle.rx_laws.specs.Examples.{names_finished, named_again, twice_by_one, twice_by_two, twice_in_entry, print_too_soon};
-ghost use Rattle.rx_laws.specs.Examples.{batch_too_soon, event_too_soon};
+ghost use Rattle.rx_laws.specs.Examples.{batch_too_soon, event_too_soon, masks_with_loss, masks_without_loss, root_masks_without_loss};
+ghost use Rattle.rx_rules.specs.Inversions.{MaskedMeansLost, MaskedIsLost};
 ghost use Rattle.rx_rules.specs.Laws.{NoEarlyRelease, LossExact};
 ghost use Rattle.rx_rules.specs.Order.{OrderKept, told};
 
@@ -34,6 +35,17 @@ pub fn run_is_not_early()
 /// Losses are exact in a whole run.
 pub fn run_is_exact()
     ensures { RunIsExact }
+{}
+
+/// Masked faults come with losses: in a history of 1 to 16 places whose entries are allowed, each release that counts faults of
+/// scopes below its own names a lost place.
+pub fn masked_is_lost()
+    ensures { MaskedIsLost }
+{}
+
+/// Masked faults come with losses in a whole run.
+pub fn run_masked_is_lost()
+    ensures { RunMaskedIsLost }
 {}
 
 /// No statement instance is told twice in the history of a whole run.
@@ -68,6 +80,13 @@ pub fn losses_compute()
     ensures unnamed { LossExact unnamed → ⊥ }
     ensures names_finished { LossExact names_finished → ⊥ }
     ensures named_again { LossExact named_again → ⊥ }
+{}
+
+/// The law that masked faults come with losses computes.
+pub fn masked_computes()
+    ensures masks_with_loss { MaskedMeansLost masks_with_loss }
+    ensures masks_without_loss { MaskedMeansLost masks_without_loss → ⊥ }
+    ensures root_masks_without_loss { MaskedMeansLost root_masks_without_loss → ⊥ }
 {}
 
 /// The law that no statement instance is told twice computes.

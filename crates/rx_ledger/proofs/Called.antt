@@ -2,16 +2,15 @@
 use Rattle.std.specs.Prelude.{◌≡◌, ◌≢◌, ℕ, suc, ◌==◌, Bool, true, false, cond, List, [], ◌∷◌, ◌++◌, Some, None, refl}
 use Rattle.std.proofs.Common.{ap, ◌∙◌, sym, subst, append_assoc, append-nil, inl, inr}
 use Rattle.std.proofs.lemmas.Bool.{eq-eqb, ne_eqb}
-use Rattle.rx_base.specs.declared.ids.PlaceId.{PlaceId}
 use Rattle.rx_base.specs.declared.ids.TaskId.{TaskId}
-use Rattle.rx_base.specs.declared.ids.Kill.{Kill}
+use Rattle.rx_rules.specs.Run.{Event}
 use Rattle.rx_rules.specs.declared.entries.Act.{Act}
 use Rattle.rx_rules.specs.declared.entries.Entry.{Entry}
-use Rattle.rx_rules.specs.declared.entries.Entry.TheVariants.{Step, Root, Death}
+use Rattle.rx_rules.specs.declared.entries.Entry.TheVariants.{Step, Root, Death, Join}
 use Rattle.rx_rules.specs.Tree.{Tree}
 use Rattle.rx_rules.specs.Entries.{made}
 use Rattle.rx_rules.specs.Fold.{AllAllowed, opening, tree_of}
-use Rattle.rx_rules.specs.Run.{Given, Folds, KillsInOrder, rest_of}
+use Rattle.rx_rules.specs.Run.{Given, Folds, PlanKept, plan_of, rest_of}
 use Rattle.rx_sound.specs.Sound.{Each}
 use Rattle.rx_history.specs.Setups.{given}
 use Rattle.rx_history.specs.declared.setup.Setup.{Setup}
@@ -21,8 +20,11 @@ use Rattle.rx_ticket.specs.declared.tickets.AnyTicket.{AnyTicket}
 use Rattle.rx_ticket.specs.declared.tickets.AnyTicket.TheVariants.{Moving, Running, Held, Host}
 use Rattle.rx_ledger.specs.declared.asks.Request.{Request}
 use Rattle.rx_ledger.specs.declared.asks.Reply.{Reply}
-use Rattle.rx_ledger.specs.declared.asks.Reply.TheVariants.{Opened, Called, Spawned, Landed, Waits, Released, Ended, Printed, RootDone, NotYet, Lost, NoMemory}
-use Rattle.rx_ledger.specs.Told.{deaths}
+use Rattle.rx_ledger.specs.declared.asks.Reply.TheVariants.{Opened, Called, Spawned, Landed, Waits, Released, Ended, Printed, Census as Counted, RootDone, NotYet, Lost, NoMemory}
+use Rattle.rx_kills.specs.declared.schedule.Due.{Due}
+use Rattle.rx_kills.specs.declared.schedule.Due.TheVariants.{Join as Joins, Death as Dies}
+use Rattle.rx_kills.specs.Least.{entry_of}
+use Rattle.rx_ledger.specs.Told.{due_entries}
 use Rattle.rx_ledger.specs.Asking.{MayApply}
 use Rattle.rx_ledger.specs.Answering.{Answers, asker}
 use Rattle.rx_ledger.specs.Kept.{Kept, is_refusal, Refused, Answered, Applied, AppliedIf, IsHistory}
@@ -41,16 +43,17 @@ front_allowed : (n : ℕ) (T : Tree) (es fs : List Entry) → AllAllowed n T (es
 front_allowed n T [] fs h = tt
 front_allowed n T (e ∷ es) fs h = (h.0, front_allowed (suc n) (made n T e) es fs h.1)
 
-front_kills : (n : ℕ) (ks : List Kill) (es fs : List Entry) → KillsInOrder n ks (es ++ fs) → KillsInOrder n ks es
-front_kills n ks [] fs h = tt
-front_kills n ks (Death d ∷ es) fs h = (h.0, front_kills (suc n) (rest_of ks) es fs h.1)
-front_kills n ks (Step t act batch ∷ es) fs h = (h.0, front_kills (suc n) ks es fs h.1)
-front_kills n ks (Root lost thrown ∷ es) fs h = (h.0, front_kills (suc n) ks es fs h.1)
+front_plan : (n : ℕ) (ks : List Event) (es fs : List Entry) → PlanKept n ks (es ++ fs) → PlanKept n ks es
+front_plan n ks [] fs h = tt
+front_plan n ks (Death d ∷ es) fs h = (h.0, front_plan (suc n) (rest_of ks) es fs h.1)
+front_plan n ks (Join d ∷ es) fs h = (h.0, front_plan (suc n) (rest_of ks) es fs h.1)
+front_plan n ks (Step t act batch ∷ es) fs h = (h.0, front_plan (suc n) ks es fs h.1)
+front_plan n ks (Root lost masked thrown ∷ es) fs h = (h.0, front_plan (suc n) ks es fs h.1)
 
 -- what begins a history is one
 pub front_folds : (U : Given) (es fs : List Entry) → Folds U (es ++ fs) → Folds U es
 front_folds U es fs h =
-    record { some = h.some; few = h.few; allowed = front_allowed 0 (opening U.places) es fs h.allowed; kills = front_kills 0 U.kills es fs h.kills }
+    record { some = h.some; few = h.few; allowed = front_allowed 0 (opening U.places) es fs h.allowed; plan = front_plan 0 (plan_of U) es fs h.plan }
 
 -- What an answer appends.
 
@@ -83,10 +86,11 @@ adds T es q (Waits ticket) es' h = acts h.who _ (ap (λ (z : Request). asker z.t
 adds T es q (Released ticket outcome) es' h = acts h.who _ (ap (λ (z : Request). asker z.ticket) h.asked) h.entry.added
 adds T es q Ended es' h = acts h.who _ (ap (λ (z : Request). asker z.ticket) h.asked) h.entry.added
 adds T es q (Printed ticket) es' h = acts h.who _ (ap (λ (z : Request). asker z.ticket) h.asked) h.entry.added
+adds T es q (Counted ticket places) es' h = acts h.who _ (ap (λ (z : Request). asker z.ticket) h.asked) h.entry.added
 adds T es q RootDone es' h =
     elim h.1 [
       | inl s ↦ no_more q es es' s.1
-      | inr s ↦ not_root es es' q (Root s.lost s.thrown) (spares_all (Root s.lost s.thrown) (λ who. tt) (λ who. tt) (λ who. tt)) s.added
+      | inr s ↦ not_root es es' q (Root s.lost s.masked s.thrown) (spares_all (Root s.lost s.masked s.thrown) (λ who. tt) (λ who. tt) (λ who. tt)) s.added
     ]
 adds T es q (NotYet place request) es' h = no_more q es es' h.2
 adds T es q (Lost place at) es' h = no_more q es es' h.1
@@ -110,15 +114,19 @@ more_of : (q : Request) (es es' : List Entry) → Adds q es es' → More q es es
 more_of q es es' (acts who act e h) = record { more = Step who.task act q.batch ∷ []; added = h; spares = λ p d. (spares_one p q who act d e, tt) }
 more_of q es es' (other fs spare h) = record { more = fs; added = h; spares = λ p d. spare p.ticket }
 
-spare_death : (t : AnyTicket) (d : PlaceId) → NotOf t (Death d)
-spare_death (Moving who) d = tt
-spare_death (Running who) d = tt
-spare_death (Held who) d = tt
-spare_death Host d = tt
+spare_one : (t : AnyTicket) (d : Due) → NotOf t (entry_of d)
+spare_one (Moving who) (Dies d) = tt
+spare_one (Moving who) (Joins p) = tt
+spare_one (Running who) (Dies d) = tt
+spare_one (Running who) (Joins p) = tt
+spare_one (Held who) (Dies d) = tt
+spare_one (Held who) (Joins p) = tt
+spare_one Host (Dies d) = tt
+spare_one Host (Joins p) = tt
 
-spare_deaths : (t : AnyTicket) (ds : List PlaceId) (fs : List Entry) → Each (NotOf t) fs → Each (NotOf t) (deaths ds ++ fs)
-spare_deaths t [] fs h = h
-spare_deaths t (d ∷ ds) fs h = (spare_death t d, spare_deaths t ds fs h)
+spare_due : (t : AnyTicket) (ds : List Due) (fs : List Entry) → Each (NotOf t) fs → Each (NotOf t) (due_entries ds ++ fs)
+spare_due t [] fs h = h
+spare_due t (d ∷ ds) fs h = (spare_one t d, spare_due t ds fs h)
 
 -- The history after a call that answers.
 
@@ -137,10 +145,10 @@ by_refusal r k k' q C h f g =
       | false ↦ g
     ]) h
 
--- the history after the deaths that were due
-pub folds_between : (k k' : Kept) (q : Request) (r : Reply) → IsHistory k' → (a : Answered k q r k') → Folds (given k.setup) (k.entries ++ deaths a.dead)
+-- the history after the deaths and joins that were due
+pub folds_between : (k k' : Kept) (q : Request) (r : Reply) → IsHistory k' → (a : Answered k q r k') → Folds (given k.setup) (k.entries ++ due_entries a.due)
 folds_between k k' q r hist a =
-    let es = k.entries ++ deaths a.dead in
+    let es = k.entries ++ due_entries a.due in
     let m = more_of q es k'.entries (adds (tree_of k.setup.places es) es q r k'.entries a.answers) in
     front_folds (given k.setup) es m.more (subst (λ (fs : List Entry). Folds (given k.setup) fs) m.added (folds_seen k k' hist a.setup a.whole))
 
@@ -152,11 +160,11 @@ calls_go_on k k' q r hist may h few =
     subst (λ (z : Reply). MayGoOn (tree_seen k') z × MayBegin (tree_seen k') z) (sym f.back) (subst (λ (T : Tree). MayApply T q) same may, tt))
     (λ (a : Answered k q r k').
     let U = given k.setup in
-    let es = k.entries ++ deaths a.dead in
+    let es = k.entries ++ due_entries a.due in
     let folds = folds_between k k' q r hist a in
     let same = seen_as k k' a.setup in
     let now : HasNumbers (tree_of k.setup.places k'.entries) = subst HasNumbers (sym same) few in
-    let asked = asks_after k.setup.places k.entries a.dead q may in
+    let asked = asks_after k.setup.places k.entries a.due q may in
     subst (λ (T : Tree). MayGoOn T r × MayBegin T r) same
     (tickets_go_on U es k'.entries q r folds asked a.answers now, children_begin U es k'.entries q r folds a.answers now))
 
@@ -168,14 +176,14 @@ calls_keep_others k k' p q r hist apart may h few =
     subst (λ (T : Tree). MayApply T p) same may)
     (λ (a : Answered k q r k').
     let U = given k.setup in
-    let es = k.entries ++ deaths a.dead in
+    let es = k.entries ++ due_entries a.due in
     let m = more_of q es k'.entries (adds (tree_of k.setup.places es) es q r k'.entries a.answers) in
-    let whole : k'.entries ≡ k.entries ++ (deaths a.dead ++ m.more) = m.added ∙ append_assoc k.entries (deaths a.dead) m.more in
+    let whole : k'.entries ≡ k.entries ++ (due_entries a.due ++ m.more) = m.added ∙ append_assoc k.entries (due_entries a.due) m.more in
     let all : Folds U k'.entries = folds_seen k k' hist a.setup a.whole in
     let same = seen_as k k' a.setup in
     let now : HasNumbers (tree_of k.setup.places k'.entries) = subst HasNumbers (sym same) few in
-    let there = tickets_stay_good U k.entries (deaths a.dead ++ m.more) p (subst (λ (fs : List Entry). Folds U fs) whole all)
-    (spare_deaths p.ticket a.dead m.more (m.spares p apart)) (subst (λ (fs : List Entry). HasNumbers (tree_of k.setup.places fs)) whole now) may in
+    let there = tickets_stay_good U k.entries (due_entries a.due ++ m.more) p (subst (λ (fs : List Entry). Folds U fs) whole all)
+    (spare_due p.ticket a.due m.more (m.spares p apart)) (subst (λ (fs : List Entry). HasNumbers (tree_of k.setup.places fs)) whole now) may in
     subst (λ (T : Tree). MayApply T p) same (subst (λ (fs : List Entry). MayApply (tree_of k.setup.places fs) p) (sym whole) there))
 
 -- The scopes of the caller.
@@ -183,12 +191,14 @@ calls_keep_others k k' p q r hist apart may h few =
 pub own_append : (t : TaskId) (own : Owned) (es fs : List Entry) → own_from t own (es ++ fs) ≡ own_from t (own_from t own es) fs
 own_append t own [] fs = refl
 own_append t own (Step u act batch ∷ es) fs = own_append t (cond (u.0 == t.0) (own_after act own) own) es fs
-own_append t own (Root lost thrown ∷ es) fs = own_append t own es fs
+own_append t own (Root lost masked thrown ∷ es) fs = own_append t own es fs
 own_append t own (Death d ∷ es) fs = own_append t own es fs
+own_append t own (Join d ∷ es) fs = own_append t own es fs
 
-pub own_deaths : (t : TaskId) (own : Owned) (ds : List PlaceId) → own_from t own (deaths ds) ≡ own
-own_deaths t own [] = refl
-own_deaths t own (d ∷ ds) = own_deaths t own ds
+pub own_due : (t : TaskId) (own : Owned) (ds : List Due) → own_from t own (due_entries ds) ≡ own
+own_due t own [] = refl
+own_due t own (Dies d ∷ ds) = own_due t own ds
+own_due t own (Joins p ∷ ds) = own_due t own ds
 
 own_next : (es es' : List Entry) (who v : Caller) (act : Act) (batch : List (List ℕ)) → Some v ≡ Some who → es' ≡ es ++ Step v.task act batch ∷ [] → own_told es' who.task ≡ own_after act (own_told es who.task)
 own_next es es' who v act batch e added =
@@ -212,6 +222,7 @@ own_answer T es q (Waits ticket) es' who e h = own_next es es' who h.who _ q.bat
 own_answer T es q (Released ticket outcome) es' who e h = own_next es es' who h.who _ q.batch (sym (ap (λ (z : Request). asker z.ticket) h.asked) ∙ e) h.entry.added
 own_answer T es q Ended es' who e h = own_next es es' who h.who _ q.batch (sym (ap (λ (z : Request). asker z.ticket) h.asked) ∙ e) h.entry.added
 own_answer T es q (Printed ticket) es' who e h = own_next es es' who h.who _ q.batch (sym (ap (λ (z : Request). asker z.ticket) h.asked) ∙ e) h.entry.added
+own_answer T es q (Counted ticket places) es' who e h = own_next es es' who h.who _ q.batch (sym (ap (λ (z : Request). asker z.ticket) h.asked) ∙ e) h.entry.added
 own_answer T es q RootDone es' who e h =
     let none : None ≡ Some who = sym (ap (λ (z : Request). asker z.ticket) h.0) ∙ e in
     absurd (let v : ⊥ = cc in v)
@@ -225,9 +236,9 @@ calls_own k k' q r who e h =
     (λ (f : Refused k q r k').
     own_same k.entries k'.entries who.task f.entries ∙ ap (λ (z : Reply). owned_by z (own_told k.entries who.task)) (sym f.back))
     (λ (a : Answered k q r k').
-    let es = k.entries ++ deaths a.dead in
+    let es = k.entries ++ due_entries a.due in
     own_answer (tree_of k.setup.places es) es q r k'.entries who e a.answers
-    ∙ ap (owned_by r) (own_append who.task [] k.entries (deaths a.dead) ∙ own_deaths who.task (own_told k.entries who.task) a.dead))
+    ∙ ap (owned_by r) (own_append who.task [] k.entries (due_entries a.due) ∙ own_due who.task (own_told k.entries who.task) a.due))
 
 -- The scopes of another task.
 
@@ -252,17 +263,18 @@ own_spared t who own (Step u act batch ∷ fs) s h =
     let other : who.task.0 ≢ u.0 = not_by t who (Step u act batch) s h.0 in
     ap (λ (b : Bool). own_from who.task (cond b (own_after act own) own) fs) (ne_eqb u.0 who.task.0 (λ e. other (sym e)))
     ∙ own_spared t who own fs s h.1
-own_spared t who own (Root lost thrown ∷ fs) s h = own_spared t who own fs s h.1
+own_spared t who own (Root lost masked thrown ∷ fs) s h = own_spared t who own fs s h.1
 own_spared t who own (Death d ∷ fs) s h = own_spared t who own fs s h.1
+own_spared t who own (Join d ∷ fs) s h = own_spared t who own fs s h.1
 
 pub calls_spare_scopes : CallsSpareScopes
 calls_spare_scopes k k' p q r who apart s h =
     by_refusal r k k' q (own_told k'.entries who.task ≡ own_told k.entries who.task) h
     (λ (f : Refused k q r k'). own_same k.entries k'.entries who.task f.entries)
     (λ (a : Answered k q r k').
-    let es = k.entries ++ deaths a.dead in
+    let es = k.entries ++ due_entries a.due in
     let m = more_of q es k'.entries (adds (tree_of k.setup.places es) es q r k'.entries a.answers) in
     ap (λ (fs : List Entry). own_told fs who.task) m.added
     ∙ (own_append who.task [] es m.more
     ∙ (own_spared p.ticket who (own_told es who.task) m.more s (m.spares p apart)
-    ∙ (own_append who.task [] k.entries (deaths a.dead) ∙ own_deaths who.task (own_told k.entries who.task) a.dead))))
+    ∙ (own_append who.task [] k.entries (due_entries a.due) ∙ own_due who.task (own_told k.entries who.task) a.due))))

@@ -11,7 +11,7 @@ use Rattle.rx_base.specs.declared.ids.PlaceId.{PlaceId}
 use Rattle.rx_base.specs.declared.ids.TaskId.{TaskId}
 use Rattle.rx_base.specs.declared.ids.ScopeId.{ScopeId}
 use Rattle.rx_rules.specs.declared.entries.Act.{Act}
-use Rattle.rx_rules.specs.declared.entries.Act.TheVariants.{Open, At as Calls, Spawn, Arrive, Wait, Release, Print}
+use Rattle.rx_rules.specs.declared.entries.Act.TheVariants.{Open, At as Calls, Spawn, Arrive, Wait, Release, Print, Census}
 use Rattle.rx_rules.specs.declared.entries.Entry.{Entry}
 use Rattle.rx_rules.specs.declared.entries.Entry.TheVariants.{Step}
 use Rattle.rx_rules.specs.declared.tasks.Kind.TheVariants.{Call}
@@ -37,7 +37,7 @@ use Rattle.rx_rules.proofs.Lookups.{number-of}
 use Rattle.rx_rules.proofs.Append.{tree-push}
 use Rattle.rx_ledger.proofs.Uncovers.{uncovers}
 use Rattle.rx_ledger.specs.declared.asks.Request.{Request}
-use Rattle.rx_ledger.specs.declared.asks.Reply.TheVariants.{Opened, Called, Spawned, Landed, Waits, Released, Ended, Printed, RootDone, NotYet, Lost, NoMemory}
+use Rattle.rx_ledger.specs.declared.asks.Reply.TheVariants.{Opened, Called, Spawned, Landed, Waits, Released, Ended, Printed, Census as Counted, RootDone, NotYet, Lost, NoMemory}
 use Rattle.rx_ledger.specs.Asking.{MayApply}
 use Rattle.rx_ledger.specs.Answering.{Appends, parent_told}
 use Rattle.rx_ledger.specs.GoingOn.{TicketsGoOn}
@@ -106,14 +106,14 @@ traveller_moves T t x from to r found free travels =
 landed_on : (T : Tree) (who : Caller) → Reached T → MayAskArrive T who → AllowedAct T who.task (Arrive (landing who.place)) → HasNumbers (made_act T who.task (Arrive (landing who.place))) → MayAskMoving (made_act T who.task (Arrive (landing who.place))) (record who { place = At (landing who.place) })
 landed_on T who r may act few =
     let x = act.task in
-    let so = so_says T who Travels x may act.acts.stands in
+    let so = so_says T who Travels x may act.stands in
     record {
       caller = inl (record {
         task = record x { place = At (landing who.place) };
-        stands = found_changed (λ y. record y { place = At (landing who.place) }) who.task T.tasks x (λ y. refl) act.acts.stands;
+        stands = found_changed (λ y. record y { place = At (landing who.place) }) who.task T.tasks x (λ y. refl) act.stands;
         says = record { under = so.says.under; place = refl };
         inner_is = so.inner_is;
-        allowed = record { place = landing who.place; is_at = refl; moves = traveller_moves T who.task x act.from (landing who.place) r act.acts.stands act.acts.unstruck act.travels };
+        allowed = record { place = landing who.place; is_at = refl; moves = traveller_moves T who.task x act.asks.0 (landing who.place) r act.stands act.unstruck act.asks.1 };
       });
       numbers = few;
     }
@@ -123,22 +123,22 @@ free_stays true o e = ap (λ (v : Option Blow). not (true && is_some v)) e
 free_stays false o e = refl
 
 -- it released its scope
-released_on : (U : Given) (es : List Entry) (who : Caller) (lost : PlaceSet) (thrown : List Fault) → Folds U es → MayAskRelease (tree_of U.places es) who → AllowedAct (tree_of U.places es) who.task (Release who.inner lost thrown) → HasNumbers (made_act (tree_of U.places es) who.task (Release who.inner lost thrown)) → MayAskMoving (made_act (tree_of U.places es) who.task (Release who.inner lost thrown)) (record who { inner = parent_told es who.inner })
-released_on U es who lost thrown folds may act few =
+released_on : (U : Given) (es : List Entry) (who : Caller) (lost : PlaceSet) (masked : ℕ) (thrown : List Fault) → Folds U es → MayAskRelease (tree_of U.places es) who → AllowedAct (tree_of U.places es) who.task (Release who.inner lost masked thrown) → HasNumbers (made_act (tree_of U.places es) who.task (Release who.inner lost masked thrown)) → MayAskMoving (made_act (tree_of U.places es) who.task (Release who.inner lost masked thrown)) (record who { inner = parent_told es who.inner })
+released_on U es who lost masked thrown folds may act few =
     let T : Tree = tree_of U.places es in
-    let m = act.0 in
+    let m = act in
     let z = m.task in
     let h = sound (fold_reached U.places es folds.some folds.few folds.allowed) in
-    let so = so_says T who (WaitsInside T who) z may m.acts.stands in
-    let left : find (is_task who.task) (without T who.inner).tasks ≡ Some z = find_filter (is_task who.task) (λ x. not (is_under T who.inner x && is_some x.struck)) T.tasks z m.acts.stands (free_stays (is_under T who.inner z) z.struck m.acts.unstruck) in
+    let so = so_says T who (WaitsInside T who) z may m.stands in
+    let left : find (is_task who.task) (without T who.inner).tasks ≡ Some z = find_filter (is_task who.task) (λ x. not (is_under T who.inner x && is_some x.struck)) T.tasks z m.stands (free_stays (is_under T who.inner z) z.struck m.unstruck) in
     let found = found_changed resumed who.task (without T who.inner).tasks z (λ y. refl) left in
     record {
       caller = inl (record {
         task = resumed z;
         stands = found;
         says = record { under = so.says.under; place = so.says.place };
-        inner_is = uncovers U es who.task who.inner lost thrown (resumed z) folds act found;
-        allowed = record { place = m.scope.home; is_at = own_place T.tasks T.scopes who.task z m.scope h.opened m.acts.stands m.own; moves = refl };
+        inner_is = uncovers U es who.task who.inner lost masked thrown (resumed z) folds act found;
+        allowed = record { place = m.asks.1.home; is_at = own_place T.tasks T.scopes who.task z m.asks.1 h.opened m.stands m.asks.2.0; moves = refl };
       });
       numbers = few;
     }
@@ -148,15 +148,15 @@ module _ (T : Tree) (h : Sound T) where
   pub opened_on : (who : Caller) (s : ScopeId) (path : List ℕ) → MayAskMoving T who → AllowedAct T who.task (Open s who.inner path) → HasNumbers (made_act T who.task (Open s who.inner path)) → MayAskMoving (made_act T who.task (Open s who.inner path)) (record who { inner = s })
   opened_on who s path may act few =
       let x = act.task in
-      let so = so_says T who IsMoving x may act.live.acts.stands in
-      let own : (who.task.0 == x.number.0) ≡ true = eq-eqb who.task.0 x.number.0 (sym (number-of T who.task x act.live.acts.stands)) in
+      let so = so_says T who IsMoving x may act.stands in
+      let own : (who.task.0 == x.number.0) ≡ true = eq-eqb who.task.0 x.number.0 (sym (number-of T who.task x act.stands)) in
       record {
         caller = inl (record {
           task = x;
-          stands = act.live.acts.stands;
+          stands = act.stands;
           says = record { under = so.says.under; place = so.says.place };
           inner_is = rw (own, inner, own_scope) refl;
-          allowed = record { place = act.place; is_at = act.live.is_at; moves = act.live.moves };
+          allowed = record { place = act.asks.0.0; is_at = act.asks.0.1.0; moves = act.asks.0.1.1 };
         });
         numbers = few;
       }
@@ -165,17 +165,17 @@ module _ (T : Tree) (h : Sound T) where
   pub started_on : (who : Caller) (child : TaskId) (s : ScopeId) (from to : PlaceId) (path : List ℕ) → MayAsk T who IsMoving → AllowedAct T who.task (Spawn child s from to path) → HasNumbers (made_act T who.task (Spawn child s from to path)) → MayAskMoving (made_act T who.task (Spawn child s from to path)) who
   started_on who child s from to path may act few =
       let x = act.task in
-      let so = so_says T who IsMoving x may act.live.acts.stands in
-      let low : who.task.0 < T.next_task = task_below T.next_task T.tasks who.task x h.tasks_fall act.live.acts.stands in
-      let next : child.0 ≡ T.next_task = act.next_task in
+      let so = so_says T who IsMoving x may act.stands in
+      let low : who.task.0 < T.next_task = task_below T.next_task T.tasks who.task x h.tasks_fall act.stands in
+      let next : child.0 ≡ T.next_task = act.asks.1 in
       let other : (child.0 == who.task.0) ≡ false = ne_eqb child.0 who.task.0 (λ e. absurd (omega (arith, low, next, e))) in
       record {
         caller = inl (record {
           task = x;
-          stands = rw other act.live.acts.stands;
+          stands = rw other act.stands;
           says = so.says;
           inner_is = so.inner_is;
-          allowed = record { place = from; is_at = act.live.is_at; moves = act.live.moves };
+          allowed = record { place = from; is_at = act.asks.0.0; moves = act.asks.0.1 };
         });
         numbers = few;
       }
@@ -184,16 +184,16 @@ module _ (T : Tree) (h : Sound T) where
   pub waits_on : (who : Caller) (thrown : List Fault) → MayAskWait T who → AllowedAct T who.task (Wait who.inner thrown) → HasNumbers (made_act T who.task (Wait who.inner thrown)) → MayAskRelease (made_act T who.task (Wait who.inner thrown)) who
   waits_on who thrown may act few =
       let x = act.task in
-      let so = so_says T who (HasFinish T who) x may act.live.acts.stands in
-      let own = found_faulted (opened_by who.task) (is_scope who.inner) (λ g. record g { body = thrown }) T.scopes act.scope (λ g. refl) (λ g. refl) act.own in
-      let number : x.number ≡ who.task = task-is x.number who.task (number-of T who.task x act.live.acts.stands) in
+      let so = so_says T who (HasFinish T who) x may act.stands in
+      let own = found_faulted (opened_by who.task) (is_scope who.inner) (λ g. record g { body = thrown }) T.scopes act.asks.1 (λ g. refl) (λ g. refl) act.asks.2.0 in
+      let number : x.number ≡ who.task = task-is x.number who.task (number-of T who.task x act.stands) in
       let found : find (opened_by x.number) (change_first (is_scope who.inner) (λ g. record g { body = thrown }) T.scopes) ≡ Some own.scope = subst (λ (t : TaskId). find (opened_by t) (change_first (is_scope who.inner) (λ g. record g { body = thrown }) T.scopes) ≡ Some own.scope) (sym number) own.found in
       record {
         caller = inl (record {
           task = waiting x;
-          stands = found_changed waiting who.task T.tasks x (λ y. refl) act.live.acts.stands;
+          stands = found_changed waiting who.task T.tasks x (λ y. refl) act.stands;
           says = record { under = so.says.under; place = so.says.place };
-          inner_is = rw (found, inner, own_scope) (own.number ∙ act.is_it);
+          inner_is = rw (found, inner, own_scope) (own.number ∙ act.asks.2.1);
           allowed = record { waits = refl; scope = own.scope; own = own.found };
         });
         numbers = few;
@@ -203,12 +203,12 @@ module _ (T : Tree) (h : Sound T) where
   pub called_on : (who : Caller) (s : ScopeId) (child : TaskId) (from to : PlaceId) (path : List ℕ) → MayAsk T who IsMoving → AllowedAct T who.task (Calls s who.inner child from to path) → HasNumbers (made_act T who.task (Calls s who.inner child from to path)) → MayAskRelease (made_act T who.task (Calls s who.inner child from to path)) (record who { inner = s })
   called_on who s child from to path may act few =
       let x = act.task in
-      let so = so_says T who IsMoving x may act.live.acts.stands in
-      let low : who.task.0 < T.next_task = task_below T.next_task T.tasks who.task x h.tasks_fall act.live.acts.stands in
-      let next : child.0 ≡ T.next_task = act.next_task in
+      let so = so_says T who IsMoving x may act.stands in
+      let low : who.task.0 < T.next_task = task_below T.next_task T.tasks who.task x h.tasks_fall act.stands in
+      let next : child.0 ≡ T.next_task = act.asks.3 in
       let other : (child.0 == who.task.0) ≡ false = ne_eqb child.0 who.task.0 (λ e. absurd (omega (arith, low, next, e))) in
-      let there : find (is_task who.task) (born T child s from to ∷ T.tasks) ≡ Some x = rw other act.live.acts.stands in
-      let own : (who.task.0 == x.number.0) ≡ true = eq-eqb who.task.0 x.number.0 (sym (number-of T who.task x act.live.acts.stands)) in
+      let there : find (is_task who.task) (born T child s from to ∷ T.tasks) ≡ Some x = rw other act.stands in
+      let own : (who.task.0 == x.number.0) ≡ true = eq-eqb who.task.0 x.number.0 (sym (number-of T who.task x act.stands)) in
       let mine : (who.task.0 == who.task.0) ≡ true = eq-eqb who.task.0 who.task.0 refl in
       let g : Scope = record { number = s; kind = Call; opener = Some who.task; home = home_for T who.task; parent = Some who.inner; body = []; ends = [] } in
       record {
@@ -268,10 +268,15 @@ tickets_go_on U es es' q (Waits ticket) folds may h few =
     subst (λ (w : Caller). MayAskRelease (tree_of U.places es') w) (sym h.ticket_is) (subst (λ (V : Tree). MayAskRelease V h.who) (sym same) on)
 tickets_go_on U es es' q (Released ticket outcome) folds may h few =
     let asks = (subst (λ (z : Request). MayApply (tree_of U.places es) z) h.asked may).0 in
-    let same = grown U es es' h.who (Release h.who.inner outcome.lost outcome.thrown) q.batch h.entry in
-    let on = released_on U es h.who outcome.lost outcome.thrown folds asks h.entry.allowed (subst HasNumbers same few) in
+    let same = grown U es es' h.who (Release h.who.inner outcome.lost outcome.masked outcome.thrown) q.batch h.entry in
+    let on = released_on U es h.who outcome.lost outcome.masked outcome.thrown folds asks h.entry.allowed (subst HasNumbers same few) in
     subst (λ (w : Caller). MayAskMoving (tree_of U.places es') w) (sym h.ticket_is) (subst (λ (V : Tree). MayAskMoving V (record h.who { inner = parent_told es h.who.inner })) (sym same) on)
 tickets_go_on U es es' q Ended folds may h few = tt
+tickets_go_on U es es' q (Counted ticket places) folds may h few =
+    let T = tree_of U.places es in
+    let asks = (subst (λ (z : Request). MayApply T z) h.asked may).0 in
+    let same = grown U es es' h.who (Census places h.path) q.batch h.entry in
+    subst (λ (w : Caller). MayAskMoving (tree_of U.places es') w) (sym h.ticket_is) (subst (λ (V : Tree). MayAskMoving V h.who) (sym same) asks)
 tickets_go_on U es es' q (Printed ticket) folds may h few =
     let T = tree_of U.places es in
     let asks = (subst (λ (z : Request). MayApply T z) h.asked may).0 in

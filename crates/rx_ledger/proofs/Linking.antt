@@ -9,9 +9,9 @@ use Rattle.rx_base.specs.declared.place_set.PlaceSet.{PlaceSet}
 use Rattle.rx_base.specs.declared.values.Fault.{Fault}
 use Rattle.rx_base.proofs.SameIds.{task-is}
 use Rattle.rx_rules.specs.declared.entries.Act.{Act}
-use Rattle.rx_rules.specs.declared.entries.Act.TheVariants.{Open, At as Calls, Spawn, Arrive, Wait, Release, End, Print}
+use Rattle.rx_rules.specs.declared.entries.Act.TheVariants.{Open, At as Calls, Spawn, Arrive, Wait, Release, End, Print, Census}
 use Rattle.rx_rules.specs.declared.entries.Entry.{Entry}
-use Rattle.rx_rules.specs.declared.entries.Entry.TheVariants.{Step, Root, Death}
+use Rattle.rx_rules.specs.declared.entries.Entry.TheVariants.{Step, Root, Death, Join}
 use Rattle.rx_rules.specs.declared.tasks.Blow.{Blow}
 use Rattle.rx_rules.specs.declared.tasks.Where.TheVariants.{At}
 use Rattle.rx_rules.specs.declared.tasks.Task.{Task}
@@ -170,22 +170,22 @@ module _ (T : Tree) (r : Reached T) (h : AllLinked T) where
         | false ↦ λ w k. opens_on t x Call s p v z at parent k free
       ]) refl found)
 
-  release_on : (t : TaskId) (s : ScopeId) (lost : PlaceSet) (thrown : List Fault) (may : AllowedAct T t (Release s lost thrown)) (v : TaskId) (z : Task) → task_of T v ≡ Some z → z.struck ≡ None → Linked (links (made_act T t (Release s lost thrown)) v) z.under
-  release_on t s lost thrown may v z found free =
-      (elim (v.0 == t.0) as (λ b. v.0 == t.0 ≡ b → Linked (links (made_act T t (Release s lost thrown)) v) z.under) [
+  release_on : (t : TaskId) (s : ScopeId) (lost : PlaceSet) (masked : ℕ) (thrown : List Fault) (may : AllowedAct T t (Release s lost masked thrown)) (v : TaskId) (z : Task) → task_of T v ≡ Some z → z.struck ≡ None → Linked (links (made_act T t (Release s lost masked thrown)) v) z.under
+  release_on t s lost masked thrown may v z found free =
+      (elim (v.0 == t.0) as (λ b. v.0 == t.0 ≡ b → Linked (links (made_act T t (Release s lost masked thrown)) v) z.under) [
         | true ↦ λ w.
             let it : v ≡ t = task-is v t (eqb-true v.0 t.0 w) in
-            let pops = release_pops T t s lost thrown r may in
+            let pops = release_pops T t s lost masked thrown r may in
             let all : Linked (links T t) z.under = h t z (subst (λ (u : TaskId). task_of T u ≡ Some z) it found) free in
-            let split : Linked (link pops.0 ∷ links (made_act T t (Release s lost thrown)) t) z.under = subst (λ (gs : List Scope). Linked (map link gs) z.under) pops.2 all in
-            subst (λ (u : TaskId). Linked (links (made_act T t (Release s lost thrown)) u) z.under) (sym it) split.1
+            let split : Linked (link pops.0 ∷ links (made_act T t (Release s lost masked thrown)) t) z.under = subst (λ (gs : List Scope). Linked (map link gs) z.under) pops.2 all in
+            subst (λ (u : TaskId). Linked (links (made_act T t (Release s lost masked thrown)) u) z.under) (sym it) split.1
         | false ↦ λ w.
             let own : z.number ≡ v = task-is z.number v (number-of T v z found) in
             let there : task_of T z.number ≡ Some z = subst (λ (u : TaskId). task_of T u ≡ Some z) (sym own) found in
             let apart : z.number.0 ≢ t.0 = λ e. eqb-false v.0 t.0 w (sym (ap (λ (u : TaskId). u.0) own) ∙ e) in
-            let keeps = release_keeps T t s lost thrown z r may there free apart in
-            let same : links (made_act T t (Release s lost thrown)) z.number ≡ links T z.number = ap (map link) keeps in
-            subst (λ (u : TaskId). Linked (links (made_act T t (Release s lost thrown)) u) z.under) own
+            let keeps = release_keeps T t s lost masked thrown z r may there free apart in
+            let same : links (made_act T t (Release s lost masked thrown)) z.number ≡ links T z.number = ap (map link) keeps in
+            subst (λ (u : TaskId). Linked (links (made_act T t (Release s lost masked thrown)) u) z.under) own
             (subst (λ (ls : List Link). Linked ls z.under) (sym same) (h z.number z there free))
       ]) refl
 
@@ -200,15 +200,15 @@ module _ (T : Tree) (r : Reached T) (h : AllLinked T) where
       (subst (λ (ls : List Link). Linked ls y.under) (sym own) (h v y before free))
 
   pub linked_act : (t : TaskId) (act : Act) → AllowedAct T t act → AllLinked (made_act T t act)
-  linked_act t (Open s p path) may v y found free = opens_on t may.task Finish s p v y may.live.acts.stands may.parent found free
+  linked_act t (Open s p path) may v y found free = opens_on t may.task Finish s p v y may.stands may.asks.2 found free
   linked_act t (Calls s p callee from to path) may v y found free =
       let b = before_change waiting t v (born T callee s from to ∷ T.tasks) y (λ x. (refl, refl, refl)) found in
-      calls_on t may.task s p (born T callee s from to) v y b.task may.live.acts.stands may.parent may.next_task b.found b.under (b.struck ∙ free)
+      calls_on t may.task s p (born T callee s from to) v y b.task may.stands may.asks.2 may.asks.3 b.found b.under (b.struck ∙ free)
   linked_act t (Spawn child s from to path) may v y found free =
       (elim (is_task v (born T child s from to)) as (λ b. is_task v (born T child s from to) ≡ b → cond b (Some (born T child s from to)) (find (is_task v) T.tasks) ≡ Some y → Linked (links T v) y.under) [
         | true ↦ λ w k.
             let is : child.0 ≡ v.0 = eqb-true child.0 v.0 w in
-            let next : child.0 ≡ T.next_task = may.next_task in
+            let next : child.0 ≡ T.next_task = may.asks.1 in
             subst (λ (ls : List Link). Linked ls y.under) (sym (unborn v (omega (arith, is, next)))) tt
         | false ↦ λ w k. h v y k free
       ]) refl found
@@ -216,19 +216,21 @@ module _ (T : Tree) (r : Reached T) (h : AllLinked T) where
   linked_act t (Wait s thrown) may v y found free =
       let own = links_faulted (opened_by v) (is_scope s) (λ g. record g { body = thrown }) T.scopes (λ g. refl) (λ g. refl) in
       subst (λ (ls : List Link). Linked ls y.under) (sym own) (was v y (before_change waiting t v T.tasks y (λ x. (refl, refl, refl)) found) free)
-  linked_act t (Release s lost thrown) may v y found free =
+  linked_act t (Release s lost masked thrown) may v y found free =
       let b = before_change resumed t v (without T s).tasks y (λ x. (refl, refl, refl)) found in
       let there = find_unfiltered (λ x. not (is_under T s x && is_some x.struck)) v T.next_task T.tasks b.task (sound r).tasks_fall b.found in
-      subst (λ (u : ScopeId). Linked (links (made_act T t (Release s lost thrown)) v) u) b.under (release_on t s lost thrown may v b.task there (b.struck ∙ free))
-  linked_act t (End thrown) may v y found free = end_on t thrown may.task v y may.live.acts.stands found free
+      subst (λ (u : ScopeId). Linked (links (made_act T t (Release s lost masked thrown)) v) u) b.under (release_on t s lost masked thrown may v b.task there (b.struck ∙ free))
+  linked_act t (End thrown) may v y found free = end_on t thrown may.task v y may.stands found free
   linked_act t (Print value path) may v y found free = h v y found free
+  linked_act t (Census places path) may v y found free = h v y found free
 
   pub linked_entry : (n : ℕ) (e : Entry) → Allowed T e → AllLinked (made n T e)
   linked_entry n (Step t act batch) may = linked_act t act may
-  linked_entry n (Root lost thrown) may = λ v y found free.
-      let none : (without T the_root).tasks ≡ [] = root_empties T (sound r) may.0.is_quiet in
+  linked_entry n (Root lost masked thrown) may = λ v y found free.
+      let none : (without T the_root).tasks ≡ [] = root_empties T (sound r) may.2.is_quiet in
       let gone : None ≡ Some y = sym (ap (λ (xs : List Task). find (is_task v) xs) none) ∙ found in absurd (let z : ⊥ = cc in z)
   linked_entry n (Death d) may = λ v y found free. was v y (before_hit (record { place = d; entry = n }) v T.tasks y free found) free
+  linked_entry n (Join p) may = λ v y found free. h v y found free
 
 pub linked_from : (n : ℕ) (T : Tree) (es : List Entry) → Reached T → All (IsOlder n) T.dead → AllAllowed n T es → AllLinked T → AllLinked (fold_from n T es)
 linked_from n T [] r o may h = h

@@ -1,5 +1,5 @@
 -- A task that was just started.
-use Rattle.std.specs.Prelude.{◌≡◌, ◌≢◌, ℕ, ◌<◌, ◌≤◌, Bool, true, false, cond, List, [], ◌∷◌, ◌++◌, Option, Some, None, is_some, refl}
+use Rattle.std.specs.Prelude.{◌≡◌, ◌≢◌, ℕ, ◌<◌, Bool, true, false, cond, List, [], ◌∷◌, ◌++◌, Option, Some, None, is_some, refl}
 use Rattle.std.proofs.Common.{ap, ◌∙◌, sym, subst, arith, inl, inr}
 use Rattle.std.proofs.lemmas.Bool.{ne_eqb}
 use Rattle.rx_base.specs.declared.ids.TaskId.{TaskId}
@@ -16,22 +16,21 @@ use Rattle.rx_sound.proofs.Reached.{sound}
 use Rattle.rx_sound.proofs.Histories.{fold_reached}
 use Rattle.rx_history.specs.Setups.{given}
 use Rattle.rx_history.specs.declared.asks.Ask.{Ask}
-use Rattle.rx_history.specs.declared.asks.Ask.TheVariants.{Open, At as Calls, Spawn, Arrive, Wait, Release, End, Print, Root}
+use Rattle.rx_history.specs.declared.asks.Ask.TheVariants.{Open, At as Calls, Spawn, Arrive, Wait, Release, End, Print, Root, Census}
 use Rattle.rx_finish.specs.declared.ledger.Caller.{Caller}
 use Rattle.rx_finish.specs.Callers.{MayAsk, MayAskMoving, MayAskTo, MayAskArrive, MayAskWait, MayAskRelease, MayAskEnd}
 use Rattle.rx_ticket.specs.declared.tickets.AnyTicket.{AnyTicket}
 use Rattle.rx_ticket.specs.declared.tickets.AnyTicket.TheVariants.{Moving, Running, Held, Host}
 use Rattle.rx_ledger.specs.declared.asks.Request.{Request}
 use Rattle.rx_ledger.specs.declared.asks.Reply.{Reply}
-use Rattle.rx_ledger.specs.declared.asks.Reply.TheVariants.{Opened, Called, Spawned, Landed, Waits, Released, Ended, Printed, RootDone, NotYet, Lost, NoMemory}
-use Rattle.rx_ledger.specs.Told.{deaths}
+use Rattle.rx_ledger.specs.declared.asks.Reply.TheVariants.{Opened, Called, Spawned, Landed, Waits, Released, Ended, Printed, Census as Counted, RootDone, NotYet, Lost, NoMemory}
+use Rattle.rx_ledger.specs.Told.{due_entries}
 use Rattle.rx_ledger.specs.Answering.{asker}
-use Rattle.rx_ledger.specs.Asking.{IsTravelling, IsRunning, IsHeld, IsHost, MayApply, MayAskFor}
-use Rattle.rx_ledger.specs.Calling.{tree_seen, IsNew, StartedAreNew}
-use Rattle.rx_ledger.specs.Kept.{Kept, Answered, Applied, IsHistory}
-use Rattle.rx_ledger.specs.Owned.{Owned, own_after, own_told}
+use Rattle.rx_ledger.specs.Asking.{IsTravelling, IsRunning, IsHeld, IsHost, MayAskFor}
+use Rattle.rx_ledger.specs.Calling.{IsNew, StartedAreNew}
+use Rattle.rx_ledger.specs.Kept.{Kept, Answered, IsHistory}
+use Rattle.rx_ledger.specs.Owned.{own_after, own_told}
 use Rattle.rx_ledger.proofs.Called.{folds_between, own_append}
-use Rattle.rx_ledger.proofs.Ended.{who_stands}
 use Rattle.rx_ledger.proofs.Keepers.{asks_after}
 use Rattle.rx_ledger.proofs.Others.{all_apart}
 use Rattle.rx_ledger.proofs.OwnTold.{unborn_owns}
@@ -81,6 +80,7 @@ asker_low T t path (Wait thrown) who r e h = number_given T who _ r (of_running 
 asker_low T t path Release who r e h = number_given T who _ r (of_held t who (MayAskRelease T) e h.0)
 asker_low T t path (End thrown) who r e h = number_given T who _ r (of_running t who (MayAskEnd T) e h.0)
 asker_low T t path (Print value) who r e h = number_given T who _ r (of_running t who (MayAskMoving T) e h.0)
+asker_low T t path Census who r e h = number_given T who _ r (of_running t who (MayAskMoving T) e h.0)
 asker_low T t path Root who r e h = no_host t who e h.0
 
 -- The ticket of a task that is started is of the new number.
@@ -102,7 +102,7 @@ ticket_task false false x y c t n e a p q =
 
 module _ (k k' : Kept) (q : Request) (r : Reply) (hist : IsHistory k') (a : Answered k q r k') where
   abbrev before : List Entry
-  before = k.entries ++ deaths a.dead
+  before = k.entries ++ due_entries a.due
 
   abbrev tree : Tree
   tree = tree_of k.setup.places before
@@ -112,13 +112,12 @@ module _ (k k' : Kept) (q : Request) (r : Reply) (hist : IsHistory k') (a : Answ
       let folds = folds_between k k' q r hist a in
       let reached = fold_reached k.setup.places before folds.some folds.few folds.allowed in
       let mine : c.task.0 ≡ tree.next_task = ap (λ (m : TaskId). m.0) his ∙ next in
-      let stands = who_stands tree who.task act may in
-      let low : who.task.0 < tree.next_task = task_below tree.next_task tree.tasks who.task stands.0 (sound reached).tasks_fall stands.1 in
+      let low : who.task.0 < tree.next_task = task_below tree.next_task tree.tasks who.task may.task (sound reached).tasks_fall may.stands in
       let other : who.task.0 ≢ c.task.0 = λ e. absurd (let v : ⊥ = omega (arith, low, mine, e) in v) in
       let none : own_told before c.task ≡ [] = unborn_owns (given k.setup) before c.task folds (omega (arith, mine)) in
       record {
         other = λ p w asks s e.
-            let after = asks_after k.setup.places k.entries a.dead p asks in
+            let after = asks_after k.setup.places k.entries a.due p asks in
             let given_one : w.task.0 < tree.next_task = asker_low tree p.ticket p.path p.ask w reached s after in
             omega (arith, given_one, mine, e);
         bare =
@@ -135,16 +134,17 @@ started_are_new k k' q (Opened ticket scope) t c hist h s e = no_start t s
 started_are_new k k' q (Called ticket callee) t c hist h s e =
     let a = h.answers in
     is_new k k' q (Called ticket callee) hist h a.who c _ a.child a.entry.allowed a.entry.added
-    (ticket_task (is_some (death_of (tree k k' q (Called ticket callee) hist h) a.to)) _ _ _ c t a.child (sym s ∙ a.callee_is) e refl refl) a.entry.allowed.next_task
+    (ticket_task (is_some (death_of (tree k k' q (Called ticket callee) hist h) a.to)) _ _ _ c t a.child (sym s ∙ a.callee_is) e refl refl) a.entry.allowed.asks.3
 started_are_new k k' q (Spawned ticket child) t c hist h s e =
     let a = h.answers in
     is_new k k' q (Spawned ticket child) hist h a.who c _ a.child a.entry.allowed a.entry.added
-    (ticket_task (is_some (death_of (tree k k' q (Spawned ticket child) hist h) a.to)) _ _ _ c t a.child (sym s ∙ a.started_is) e refl refl) a.entry.allowed.next_task
+    (ticket_task (is_some (death_of (tree k k' q (Spawned ticket child) hist h) a.to)) _ _ _ c t a.child (sym s ∙ a.started_is) e refl refl) a.entry.allowed.asks.1
 started_are_new k k' q (Landed ticket) t c hist h s e = no_start t s
 started_are_new k k' q (Waits ticket) t c hist h s e = no_start t s
 started_are_new k k' q (Released ticket outcome) t c hist h s e = no_start t s
 started_are_new k k' q Ended t c hist h s e = no_start t s
 started_are_new k k' q (Printed ticket) t c hist h s e = no_start t s
+started_are_new k k' q (Counted ticket places) t c hist h s e = no_start t s
 started_are_new k k' q RootDone t c hist h s e = no_start t s
 started_are_new k k' q (NotYet place request) t c hist h s e = no_start t s
 started_are_new k k' q (Lost place at) t c hist h s e = no_start t s

@@ -8,16 +8,16 @@ use Rattle.rx_base.specs.declared.ids.ScopeId.{ScopeId}
 use Rattle.rx_base.specs.declared.values.Fault.{Fault}
 use Rattle.rx_base.proofs.Elements.{find-passes}
 use Rattle.rx_rules.specs.declared.entries.Act.{Act}
-use Rattle.rx_rules.specs.declared.entries.Act.TheVariants.{Open, At as Calls, Spawn, Arrive, Wait, Release, End, Print}
+use Rattle.rx_rules.specs.declared.entries.Act.TheVariants.{Open, At as Calls, Spawn, Arrive, Wait, Release, End, Print, Census}
 use Rattle.rx_rules.specs.declared.entries.Entry.{Entry}
-use Rattle.rx_rules.specs.declared.entries.Entry.TheVariants.{Step, Root, Death}
+use Rattle.rx_rules.specs.declared.entries.Entry.TheVariants.{Step, Root, Death, Join}
 use Rattle.rx_rules.specs.declared.tasks.Where.TheVariants.{At}
 use Rattle.rx_rules.specs.declared.tasks.Blow.{Blow}
 use Rattle.rx_rules.specs.declared.tasks.Task.{Task}
 use Rattle.rx_rules.specs.declared.tasks.Scope.{Scope}
 use Rattle.rx_rules.specs.Tree.{Tree, is_task, task_of, is_scope, is_under, on_chain, opened_by, quiet, the_root}
-use Rattle.rx_rules.specs.Entries.{Allowed, AllowedAct, made, made_act, after_end, change_first, change_scope, waiting, resumed, born, without, hit}
-use Rattle.rx_rules.specs.Reached.{Reached, opens, acts, ends, dies}
+use Rattle.rx_rules.specs.Entries.{Allowed, AllowedAct, made, made_act, after_end, change_first, change_scope, waiting, resumed, born, without, hit, widened}
+use Rattle.rx_rules.specs.Reached.{Reached, opens, acts, ends, dies, joins}
 use Rattle.rx_rules.proofs.Lookups.{number-of}
 use Rattle.rx_sound.specs.Sound.{Each, TasksFall, Sound}
 use Rattle.rx_sound.specs.Chains.{meets}
@@ -135,15 +135,16 @@ pub none_act : (T : Tree) (u t : TaskId) (act : Act) → AllowedAct T u act → 
 none_act T u t (Open s r path) may h = h.none
 none_act T u t (Calls s r child from to path) may h =
     none_changed (is_task t) (is_task u) waiting (λ x. refl) (born T child s from to ∷ T.tasks)
-    (none_born T child t s (task_of T t) (born T child s from to) refl may.next_task h.low ∙ h.none)
-none_act T u t (Spawn child s from to path) may h = none_born T child t s (task_of T t) (born T child s from to) refl may.next_task h.low ∙ h.none
+    (none_born T child t s (task_of T t) (born T child s from to) refl may.asks.3 h.low ∙ h.none)
+none_act T u t (Spawn child s from to path) may h = none_born T child t s (task_of T t) (born T child s from to) refl may.asks.1 h.low ∙ h.none
 none_act T u t (Arrive p) may h = none_changed (is_task t) (is_task u) (λ x. record x { place = At p }) (λ x. refl) T.tasks h.none
 none_act T u t (Wait s thrown) may h = none_changed (is_task t) (is_task u) waiting (λ x. refl) T.tasks h.none
-none_act T u t (Release s lost thrown) may h =
+none_act T u t (Release s lost masked thrown) may h =
     none_changed (is_task t) (is_task u) resumed (λ x. refl) (without T s).tasks (none_filtered (is_task t) (λ x. not (leaves T s x)) T.tasks h.none)
 none_act T u t (End thrown) may h =
-    subst (λ (V : Tree). task_of V t ≡ None) (sym (ended T u thrown may.task may.live.acts.stands)) (none_filtered (is_task t) (λ y. not (is_task u y)) T.tasks h.none)
+    subst (λ (V : Tree). task_of V t ≡ None) (sym (ended T u thrown may.task may.stands)) (none_filtered (is_task t) (λ y. not (is_task u y)) T.tasks h.none)
 none_act T u t (Print value path) may h = h.none
+none_act T u t (Census places path) may h = h.none
 
 next_act : (T : Tree) (u t : TaskId) (act : Act) → AllowedAct T u act → t.0 < T.next_task → t.0 < (made_act T u act).next_task
 next_act T u t (Open s r path) may h = h
@@ -151,9 +152,10 @@ next_act T u t (Calls s r child from to path) may h = omega (arith, h)
 next_act T u t (Spawn child s from to path) may h = omega (arith, h)
 next_act T u t (Arrive p) may h = h
 next_act T u t (Wait s thrown) may h = h
-next_act T u t (Release s lost thrown) may h = h
-next_act T u t (End thrown) may h = subst (λ (V : Tree). t.0 < V.next_task) (sym (ended T u thrown may.task may.live.acts.stands)) h
+next_act T u t (Release s lost masked thrown) may h = h
+next_act T u t (End thrown) may h = subst (λ (V : Tree). t.0 < V.next_task) (sym (ended T u thrown may.task may.stands)) h
 next_act T u t (Print value path) may h = h
+next_act T u t (Census places path) may h = h
 
 apart_act : (T : Tree) (u t : TaskId) (act : Act) → AllowedAct T u act → Apart T t → Apart (made_act T u act) t
 apart_act T u t act may h = record { low = next_act T u t act may h.low; none = none_act T u t act may h }
@@ -184,18 +186,20 @@ gone_act T u t (Calls s r child from to path) z h may old e = apart_act T u t (C
 gone_act T u t (Spawn child s from to path) z h may old e = apart_act T u t (Spawn child s from to path) may (old z e)
 gone_act T u t (Arrive p) z h may old e = apart_act T u t (Arrive p) may (old z e)
 gone_act T u t (Wait s thrown) z h may old e = apart_act T u t (Wait s thrown) may (old z e)
-gone_act T u t (Release s lost thrown) z h may old e =
+gone_act T u t (Release s lost masked thrown) z h may old e =
     let a = apart_left T s t z h old e in
     record { low = a.low; none = none_changed (is_task t) (is_task u) resumed (λ x. refl) (without T s).tasks a.none }
 gone_act T u t (End thrown) z h may old e =
-    apart_act T u t (End thrown) may (old z (subst (λ (V : Tree). gone_of V t ≡ Some z) (ended T u thrown may.task may.live.acts.stands) e))
+    apart_act T u t (End thrown) may (old z (subst (λ (V : Tree). gone_of V t ≡ Some z) (ended T u thrown may.task may.stands) e))
 gone_act T u t (Print value path) z h may old e = old z e
+gone_act T u t (Census places path) z h may old e = old z e
 
 pub all_apart : {T : Tree} → Reached T → (t : TaskId) (z : Task) → gone_of T t ≡ Some z → Apart T t
 all_apart (opens places low high) t z e = absurd (let v : ⊥ = cc in v)
 all_apart (acts {T = T} u act r may) t z e = gone_act T u t act z (sound r) may (λ y. all_apart r t y) e
-all_apart (ends {T = T} r may) t z e = apart_left T the_root t z (sound r) (λ y. all_apart r t y) e
+all_apart (ends {T = T} lost masked thrown r may) t z e = apart_left T the_root t z (sound r) (λ y. all_apart r t y) e
 all_apart (dies {T = T} b r may old) t z e = let a = all_apart r t z e in record { low = a.low; none = apart_strike T b t a }
+all_apart (joins {T = T} p r may) t z e = let a = all_apart r t z e in record { low = a.low; none = a.none }
 
 -- Tasks of the tree.
 
@@ -260,9 +264,9 @@ module _ (T : Tree) (r : Reached T) (u t : TaskId) (x : Task) (apart : t.0 ≢ u
   skip : (u.0 == t.0) ≡ false
   skip = ne_eqb u.0 t.0 (λ e. apart (sym e))
 
-  released : (s : ScopeId) (g : Scope) → find (opened_by u) T.scopes ≡ Some g → g.number ≡ s → quiet T s ≡ true → Lasts T (made_act T u (Release s (record { 0 = 0 }) [])) t x
+  released : (s : ScopeId) (g : Scope) → find (opened_by u) T.scopes ≡ Some g → g.number ≡ s → quiet T s ≡ true → Lasts T (made_act T u (Release s (record { 0 = 0 }) 0 [])) t x
   released s g own is still =
-      (elim (is_under T s x) as (λ b. is_under T s x ≡ b → Lasts T (made_act T u (Release s (record { 0 = 0 }) [])) t x) [
+      (elim (is_under T s x) as (λ b. is_under T s x ≡ b → Lasts T (made_act T u (Release s (record { 0 = 0 }) 0 [])) t x) [
         | true ↦ λ w.
             let l = left_now T s t x r found (under_leaves T s t x still found w) in
             inr (record { none = none_changed (is_task t) (is_task u) resumed (λ z. refl) (without T s).tasks l.none; gone = l.gone })
@@ -272,7 +276,7 @@ module _ (T : Tree) (r : Reached T) (u t : TaskId) (x : Task) (apart : t.0 ≢ u
             (λ a. apart (one_opener T.next_scope T.scopes u t g (sound r).falls own (subst (λ (v : ScopeId). list_any (λ k. is_scope v k && opened_by t k) T.scopes ≡ true) (sym is) a))) in
             let s2 = spared T s t x (sound r) found w none in
             inl (record {
-              kept = same_kept (made_act T u (Release s (record { 0 = 0 }) [])) t x (find_other u t resumed (λ z. refl) apart (without T s).tasks x s2.0);
+              kept = same_kept (made_act T u (Release s (record { 0 = 0 }) 0 [])) t x (find_other u t resumed (λ z. refl) apart (without T s).tasks x s2.0);
               owns = s2.1;
             })
       ]) refl
@@ -283,13 +287,13 @@ module _ (T : Tree) (r : Reached T) (u t : TaskId) (x : Task) (apart : t.0 ≢ u
       inl (record {
         kept = same_kept (made_act T u (Calls s p child from to path)) t x
             (find_other u t waiting (λ z. refl) apart (born T child s from to ∷ T.tasks) x
-            (none_born T child t s (task_of T t) (born T child s from to) refl may.next_task low ∙ found));
+            (none_born T child t s (task_of T t) (born T child s from to) refl may.asks.3 low ∙ found));
         owns = rw skip refl;
       })
   act_lasts (Spawn child s from to path) may =
       inl (record {
         kept = same_kept (made_act T u (Spawn child s from to path)) t x
-            (none_born T child t s (task_of T t) (born T child s from to) refl may.next_task low ∙ found);
+            (none_born T child t s (task_of T t) (born T child s from to) refl may.asks.1 low ∙ found);
         owns = refl;
       })
   act_lasts (Arrive p) may =
@@ -302,25 +306,27 @@ module _ (T : Tree) (r : Reached T) (u t : TaskId) (x : Task) (apart : t.0 ≢ u
         kept = same_kept (made_act T u (Wait s thrown)) t x (find_other u t waiting (λ z. refl) apart T.tasks x found);
         owns = links_faulted (opened_by t) (is_scope s) (λ g. record g { body = thrown }) T.scopes (λ g. refl) (λ g. refl);
       })
-  act_lasts (Release s lost thrown) may = released s may.0.scope may.0.own may.0.is_it may.0.is_quiet
+  act_lasts (Release s lost masked thrown) may = released s may.asks.1 may.asks.2.0 may.asks.2.1 may.asks.3.is_quiet
   act_lasts (End thrown) may =
       let z = may.task in
       let V : Tree = change_scope (λ g. record g { ends = g.ends ++ thrown }) z.under (record T { tasks = filter (λ y. not (is_task u y)) T.tasks }) in
       let keeps : not (is_task u x) ≡ true = ap not (ne_eqb x.number.0 u.0 (λ e. apart (sym (number-of T t x found) ∙ e))) in
-      subst (λ (W : Tree). Lasts T W t x) (sym (ended T u thrown z may.live.acts.stands))
+      subst (λ (W : Tree). Lasts T W t x) (sym (ended T u thrown z may.stands))
       (inl (record {
         kept = same_kept V t x (find_filter (is_task t) (λ y. not (is_task u y)) T.tasks x found keeps);
         owns = links_faulted (opened_by t) (is_scope z.under) (λ g. record g { ends = g.ends ++ thrown }) T.scopes (λ g. refl) (λ g. refl);
       }))
   act_lasts (Print value path) may = inl (record { kept = same_kept T t x found; owns = refl })
+  act_lasts (Census places path) may = inl (record { kept = same_kept T t x found; owns = refl })
 
 -- what an entry leaves of a task that does not make it
 pub entry_lasts : (n : ℕ) (T : Tree) (e : Entry) (t : TaskId) (x : Task) → Reached T → Allowed T e → NotBy t e → task_of T t ≡ Some x → Lasts T (made n T e) t x
 entry_lasts n T (Step u act batch) t x r may apart found = act_lasts T r u t x apart found act may
-entry_lasts n T (Root lost thrown) t x r may apart found =
+entry_lasts n T (Root lost masked thrown) t x r may apart found =
     let h : Sound T = sound r in
     let below : is_under T the_root x ≡ true = on_meets the_root T.scopes (Some x.under) ∙ (fits_of T t x h found).rooted in
-    inr (left_now T the_root t x r found (under_leaves T the_root t x may.0.is_quiet found below))
+    inr (left_now T the_root t x r found (under_leaves T the_root t x may.2.is_quiet found below))
+entry_lasts n T (Join p) t x r may apart found = inl (record { kept = same_kept (widened T) t x found; owns = refl })
 entry_lasts n T (Death d) t x r may apart found =
     let b : Blow = record { place = d; entry = n } in
     inl (record {
@@ -342,17 +348,19 @@ gone_stays T u t (Calls s r child from to path) z may e = e
 gone_stays T u t (Spawn child s from to path) z may e = e
 gone_stays T u t (Arrive p) z may e = e
 gone_stays T u t (Wait s thrown) z may e = e
-gone_stays T u t (Release s lost thrown) z may e = find_before (is_task t) T.gone (filter (leaves T s) T.tasks) z e
-gone_stays T u t (End thrown) z may e = subst (λ (V : Tree). gone_of V t ≡ Some z) (sym (ended T u thrown may.task may.live.acts.stands)) e
+gone_stays T u t (Release s lost masked thrown) z may e = find_before (is_task t) T.gone (filter (leaves T s) T.tasks) z e
+gone_stays T u t (End thrown) z may e = subst (λ (V : Tree). gone_of V t ≡ Some z) (sym (ended T u thrown may.task may.stands)) e
 gone_stays T u t (Print value path) z may e = e
+gone_stays T u t (Census places path) z may e = e
 
 pub left_lasts : (n : ℕ) (T : Tree) (e : Entry) (t : TaskId) (x : Task) → Reached T → Allowed T e → Left T t x → Left (made n T e) t x
 left_lasts n T (Step u act batch) t x r may l =
     record { none = none_act T u t act may (all_apart r t x l.gone); gone = gone_stays T u t act x may l.gone }
-left_lasts n T (Root lost thrown) t x r may l =
+left_lasts n T (Root lost masked thrown) t x r may l =
     record {
       none = none_filtered (is_task t) (λ z. not (leaves T the_root z)) T.tasks l.none;
       gone = find_before (is_task t) T.gone (filter (leaves T the_root) T.tasks) x l.gone;
     }
+left_lasts n T (Join p) t x r may l = record { none = l.none; gone = l.gone }
 left_lasts n T (Death d) t x r may l =
     record { none = find-hit (record { place = d; entry = n }) t T.tasks ∙ ap (option_map (hit (record { place = d; entry = n }))) l.none; gone = l.gone }

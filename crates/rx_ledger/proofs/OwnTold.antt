@@ -9,9 +9,9 @@ use Rattle.rx_base.specs.declared.ids.ScopeId.{ScopeId}
 use Rattle.rx_base.proofs.Elements.{find-passes}
 use Rattle.rx_base.proofs.SameIds.{task-is}
 use Rattle.rx_rules.specs.declared.entries.Act.{Act}
-use Rattle.rx_rules.specs.declared.entries.Act.TheVariants.{Open, At as Calls, Spawn, Arrive, Wait, Release, End, Print}
+use Rattle.rx_rules.specs.declared.entries.Act.TheVariants.{Open, At as Calls, Spawn, Arrive, Wait, Release, End, Print, Census}
 use Rattle.rx_rules.specs.declared.entries.Entry.{Entry}
-use Rattle.rx_rules.specs.declared.entries.Entry.TheVariants.{Step, Root, Death}
+use Rattle.rx_rules.specs.declared.entries.Entry.TheVariants.{Step, Root, Death, Join}
 use Rattle.rx_rules.specs.declared.tasks.Kind.{Kind}
 use Rattle.rx_rules.specs.declared.tasks.Kind.TheVariants.{Finish}
 use Rattle.rx_rules.specs.declared.tasks.Blow.{Blow}
@@ -28,7 +28,6 @@ use Rattle.rx_sound.proofs.Histories.{reached_now, dead-now, none_yet}
 use Rattle.rx_sound.proofs.Owning.{release_pops}
 use Rattle.rx_ledger.specs.Owned.{Owned, sort_of, own_after, own_from, own_told, owned, OwnedAsTold, MayWaitNext, MayEndNext, NumbersAreLeft}
 use Rattle.rx_runs.proofs.Endings.{root_empties}
-use Rattle.rx_ledger.proofs.Ended.{who_stands}
 use Rattle.rx_ledger.proofs.Striking.{find-hit}
 use Rattle.rx_ledger.proofs.Linking.{Link, link, links, links_faulted, none_opened}
 use Rattle.rx_ledger.proofs.Others.{none_act, passes_filter, ended, entry_lasts}
@@ -54,14 +53,15 @@ own_act T t (Spawn child s from to path) y reached may found = refl
 own_act T t (Arrive p) y reached may found = refl
 own_act T t (Wait s thrown) y reached may found =
     linked_owned T (made_act T t (Wait s thrown)) t (links_faulted (opened_by t) (is_scope s) (λ g. record g { body = thrown }) T.scopes (λ g. refl) (λ g. refl))
-own_act T t (Release s lost thrown) y reached may found =
-    let pops = release_pops T t s lost thrown reached may in
+own_act T t (Release s lost masked thrown) y reached may found =
+    let pops = release_pops T t s lost masked thrown reached may in
     sym (ap (λ (gs : List Scope). drop 1 (map sort_of gs)) pops.2)
 own_act T t (End thrown) y reached may found =
-    let there : find (is_task t) (filter (λ z. not (is_task t z)) T.tasks) ≡ Some y = subst (λ (V : Tree). task_of V t ≡ Some y) (ended T t thrown may.task may.live.acts.stands) found in
+    let there : find (is_task t) (filter (λ z. not (is_task t z)) T.tasks) ≡ Some y = subst (λ (V : Tree). task_of V t ≡ Some y) (ended T t thrown may.task may.stands) found in
     let off = not-true (is_task t y) (passes_filter (is_task t) (λ z. not (is_task t z)) T.tasks y there) in
     absurd (true≢false (sym (find-passes (is_task t) (filter (λ z. not (is_task t z)) T.tasks) y there) ∙ off))
 own_act T t (Print value path) y reached may found = refl
+own_act T t (Census places path) y reached may found = refl
 
 -- A task that is not yet born has none.
 
@@ -88,11 +88,12 @@ none_owned T u t (Arrive p) may skip e = e
 none_owned T u t (Wait s thrown) may skip e =
     unlinked (filter (opened_by t) (made_act T u (Wait s thrown)).scopes)
     (links_faulted (opened_by t) (is_scope s) (λ g. record g { body = thrown }) T.scopes (λ g. refl) (λ g. refl) ∙ ap (map link) e)
-none_owned T u t (Release s lost thrown) may skip e = none_twice (opened_by t) _ T.scopes e
+none_owned T u t (Release s lost masked thrown) may skip e = none_twice (opened_by t) _ T.scopes e
 none_owned T u t (End thrown) may skip e =
-    subst (λ (V : Tree). filter (opened_by t) V.scopes ≡ []) (sym (ended T u thrown may.task may.live.acts.stands))
+    subst (λ (V : Tree). filter (opened_by t) V.scopes ≡ []) (sym (ended T u thrown may.task may.stands))
     (unlinked _ (links_faulted (opened_by t) (is_scope may.task.under) (λ g. record g { ends = g.ends ++ thrown }) T.scopes (λ g. refl) (λ g. refl) ∙ ap (map link) e))
 none_owned T u t (Print value path) may skip e = e
+none_owned T u t (Census places path) may skip e = e
 
 -- Numbers.
 
@@ -102,14 +103,16 @@ next_more n T (Step t (Calls s r child from to path) batch) = (omega arith, omeg
 next_more n T (Step t (Spawn child s from to path) batch) = (omega arith, omega arith, omega arith)
 next_more n T (Step t (Arrive p) batch) = (omega arith, omega arith, omega arith)
 next_more n T (Step t (Wait s thrown) batch) = (omega arith, omega arith, omega arith)
-next_more n T (Step t (Release s lost thrown) batch) = (omega arith, omega arith, omega arith)
+next_more n T (Step t (Release s lost masked thrown) batch) = (omega arith, omega arith, omega arith)
 next_more n T (Step t (End thrown) batch) = of_found (task_of T t) where
   of_found : (o : Option Task) → (let V : Tree = elim o as (λ _. Tree) [ Some x ↦ change_scope (λ g. record g { ends = g.ends ++ thrown }) x.under (record T { tasks = filter (λ y. not (is_task t y)) T.tasks }) | None ↦ T ] in (T.next_task ≤ V.next_task) × (V.next_task ≤ T.next_task + 1) × (V.next_scope ≤ T.next_scope + 1))
   of_found (Some x) = (omega arith, omega arith, omega arith)
   of_found None = (omega arith, omega arith, omega arith)
 next_more n T (Step t (Print value path) batch) = (omega arith, omega arith, omega arith)
-next_more n T (Root lost thrown) = (omega arith, omega arith, omega arith)
+next_more n T (Step t (Census places path) batch) = (omega arith, omega arith, omega arith)
+next_more n T (Root lost masked thrown) = (omega arith, omega arith, omega arith)
 next_more n T (Death d) = (omega arith, omega arith, omega arith)
+next_more n T (Join d) = (omega arith, omega arith, omega arith)
 
 numbers_from : (n : ℕ) (T : Tree) (es : List Entry) → ((fold_from n T es).next_task ≤ T.next_task + length es) × ((fold_from n T es).next_scope ≤ T.next_scope + length es)
 numbers_from n T [] = (omega arith, omega arith)
@@ -166,14 +169,14 @@ module _ (n : ℕ) (T : Tree) (r : Reached T) (own : TaskId → Owned) (h : Told
             let it : u ≡ t = task-is u t (eqb-true u.0 t.0 w) in
             let mine : AllowedAct T t act = subst (λ (v : TaskId). AllowedAct T v act) it may in
             let now : task_of (made_act T t act) t ≡ Some y = subst (λ (v : TaskId). task_of (made_act T v act) t ≡ Some y) it found in
-            let x = who_stands T t act mine in
             subst (λ (v : TaskId). owned (made_act T v act) t ≡ own_after act (own t)) (sym it)
-            (own_act T t act y r mine now ∙ ap (own_after act) (h.each t x.0 x.1))
+            (own_act T t act y r mine now ∙ ap (own_after act) (h.each t mine.task mine.stands))
         | false ↦ λ w. act_other u t act batch y may w found
       ]) refl
-  entry_each (Root lost thrown) t y may found =
-      let none : (made n T (Root lost thrown)).tasks ≡ [] = root_empties T (sound r) may.0.is_quiet in
+  entry_each (Root lost masked thrown) t y may found =
+      let none : (made n T (Root lost masked thrown)).tasks ≡ [] = root_empties T (sound r) may.2.is_quiet in
       absurd (let gone : None ≡ Some y = sym (ap (λ (xs : List Task). find (is_task t) xs) none) ∙ found in let v : ⊥ = cc in v)
+  entry_each (Join p) t y may found = h.each t y found
   entry_each (Death d) t y may found =
       let b : Blow = record { place = d; entry = n } in
       (elim (task_of T t) as (λ o. task_of T t ≡ o → owned T t ≡ own t) [
@@ -185,20 +188,21 @@ module _ (n : ℕ) (T : Tree) (r : Reached T) (own : TaskId → Owned) (h : Told
   entry_unborn (Step u act batch) t may high =
       let grows : T.next_task ≤ (made_act T u act).next_task = (next_more n T (Step u act batch)).0 in
       let none : own t ≡ [] = h.unborn t (omega (arith, grows, high)) in
-      let x = who_stands T u act may in
-      let low : u.0 < T.next_task = task_below T.next_task T.tasks u x.0 (sound r).tasks_fall x.1 in
+      let low : u.0 < T.next_task = task_below T.next_task T.tasks u may.task (sound r).tasks_fall may.stands in
       let other : (u.0 == t.0) ≡ false = ne_eqb u.0 t.0 (λ e. absurd (omega (arith, grows, high, low, e))) in
       ap (λ (b : Bool). cond b (own_after act (own t)) (own t)) other ∙ none
-  entry_unborn (Root lost thrown) t may high = h.unborn t high
+  entry_unborn (Root lost masked thrown) t may high = h.unborn t high
   entry_unborn (Death d) t may high = h.unborn t high
+  entry_unborn (Join d) t may high = h.unborn t high
 
   told_entry : (e : Entry) → Allowed T e → ToldOwn (made n T e) (λ t. own_from t (own t) (e ∷ []))
   told_entry e may = record { each = λ t y found. entry_each e t y may found; unborn = λ t high. entry_unborn e t may high }
 
 own_split : (t : TaskId) (own : Owned) (e : Entry) (es : List Entry) → own_from t (own_from t own (e ∷ [])) es ≡ own_from t own (e ∷ es)
 own_split t own (Step u act batch) es = refl
-own_split t own (Root lost thrown) es = refl
+own_split t own (Root lost masked thrown) es = refl
 own_split t own (Death d) es = refl
+own_split t own (Join d) es = refl
 
 told_from : (n : ℕ) (T : Tree) (es : List Entry) (own : TaskId → Owned) (t : TaskId) (x : Task) → Reached T → All (IsOlder n) T.dead → AllAllowed n T es → ToldOwn T own → task_of (fold_from n T es) t ≡ Some x → owned (fold_from n T es) t ≡ own_from t (own t) es
 told_from n T [] own t x r o may h found = h.each t x found

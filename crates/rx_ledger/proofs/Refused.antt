@@ -12,10 +12,10 @@ use Rattle.rx_ledger.specs.declared.asks.Reply.TheVariants.{NotYet, NoMemory}
 use Rattle.rx_ledger.specs.declared.books.Books.{Books}
 use Rattle.rx_ledger.specs.Answering.{MustWait}
 use Rattle.rx_ledger.specs.Keeping.{Keeps}
-use Rattle.rx_ledger.specs.Inside.Doing.{books_tree, Calm, DidRequest}
+use Rattle.rx_ledger.specs.Inside.Doing.{books_tree, books_room, Calm, DidRequest}
 
 -- a ledger that stands for the same tree
-pub with_ledger : {L : Type 0} (stands : L → Tree → Type 0) (b : Books L) (l : L) → Keeps stands b → stands l (books_tree b) → Keeps stands (record b { ledger = l })
+pub with_ledger : {L : Type 0} (stands : L → ℕ → Tree → Type 0) (b : Books L) (l : L) → Keeps stands b → stands l (books_room b) (books_tree b) → Keeps stands (record b { ledger = l })
 with_ledger stands b l k h =
     record {
       proper = k.proper;
@@ -30,7 +30,7 @@ with_ledger stands b l k h =
     }
 
 -- a task may not yet release
-pub not_yet : {L : Type 0} (stands : L → Tree → Type 0) (b : Books L) (l : L) (who w : Caller) (batch : List (List ℕ)) (p place : PlaceId) → w ≡ who → p ≡ place → Calm stands b → stands l (books_tree b) → IsUnstruck (books_tree b) w → IsHindered (books_tree b) w.inner place → DidRequest stands b (record { ticket = Held who; ask = Release; batch = batch; path = None }) (NotYet p (record { ticket = Held who; ask = Release; batch = batch; path = None })) (record b { ledger = l })
+pub not_yet : {L : Type 0} (stands : L → ℕ → Tree → Type 0) (b : Books L) (l : L) (who w : Caller) (batch : List (List ℕ)) (p place : PlaceId) → w ≡ who → p ≡ place → Calm stands b → stands l (books_room b) (books_tree b) → IsUnstruck (books_tree b) w → IsHindered (books_tree b) w.inner place → DidRequest stands b (record { ticket = Held who; ask = Release; batch = batch; path = None }) (NotYet p (record { ticket = Held who; ask = Release; batch = batch; path = None })) (record b { ledger = l })
 not_yet stands b l who w batch p place e at calm stood free busy =
     record {
       keeps = with_ledger stands b l calm.keeps stood;
@@ -43,7 +43,7 @@ not_yet stands b l who w batch p place e at calm stood free busy =
     }
 
 -- nor the host
-pub not_yet_root : {L : Type 0} (stands : L → Tree → Type 0) (b : Books L) (l : L) (batch : List (List ℕ)) (p place : PlaceId) → p ≡ place → Calm stands b → stands l (books_tree b) → IsHindered (books_tree b) the_root place → DidRequest stands b (record { ticket = Host; ask = Root; batch = batch; path = None }) (NotYet p (record { ticket = Host; ask = Root; batch = batch; path = None })) (record b { ledger = l })
+pub not_yet_root : {L : Type 0} (stands : L → ℕ → Tree → Type 0) (b : Books L) (l : L) (batch : List (List ℕ)) (p place : PlaceId) → p ≡ place → Calm stands b → stands l (books_room b) (books_tree b) → IsHindered (books_tree b) the_root place → DidRequest stands b (record { ticket = Host; ask = Root; batch = batch; path = None }) (NotYet p (record { ticket = Host; ask = Root; batch = batch; path = None })) (record b { ledger = l })
 not_yet_root stands b l batch p place at calm stood busy =
     record {
       keeps = with_ledger stands b l calm.keeps stood;
@@ -51,5 +51,5 @@ not_yet_root stands b l batch p place at calm stood busy =
       answers = (refl, MustWait.host refl (subst (λ (d : PlaceId). IsHindered (books_tree b) the_root d) (sym at) busy), refl);
     }
 
-pub no_memory : {L : Type 0} (stands : L → Tree → Type 0) (b : Books L) (l : L) (q : Request) → Calm stands b → stands l (books_tree b) → DidRequest stands b q (NoMemory q) (record b { ledger = l })
+pub no_memory : {L : Type 0} (stands : L → ℕ → Tree → Type 0) (b : Books L) (l : L) (q : Request) → Calm stands b → stands l (books_room b) (books_tree b) → DidRequest stands b q (NoMemory q) (record b { ledger = l })
 no_memory stands b l q calm stood = record { keeps = with_ledger stands b l calm.keeps stood; setup = refl; answers = (refl, refl) }

@@ -12,7 +12,7 @@ use Rattle.rx_ticket.specs.declared.tickets.AnyTicket.{AnyTicket}
 use Rattle.rx_ticket.specs.declared.tickets.AnyTicket.TheVariants.{Moving, Running}
 use Rattle.rx_ledger.specs.declared.asks.Request.{Request}
 use Rattle.rx_ledger.specs.declared.asks.Reply.TheVariants.{Opened, Spawned, Waits}
-use Rattle.rx_ledger.specs.Told.{deaths}
+use Rattle.rx_ledger.specs.Told.{due_entries}
 use Rattle.rx_ledger.specs.Answering.{asker}
 use Rattle.rx_ledger.specs.Kept.{Kept, Applied, IsHistory}
 use Rattle.rx_finish.specs.Callers.{MayAskArrive, HasNumbers}
@@ -48,13 +48,13 @@ moving_child false false c x y e = cc
 pub child_apart : (k k' : Kept) (q : Request) (ticket c : Caller) → IsHistory k' → Applied k q (Spawned ticket (Some (Moving c))) k' → c.task.0 ≢ ticket.task.0
 child_apart k k' q ticket c hist h same =
     let a = h.answers in
-    let es = k.entries ++ deaths h.dead in
+    let es = k.entries ++ due_entries h.due in
     let T = tree_of k.setup.places es in
     let folds = folds_between k k' q (Spawned ticket (Some (Moving c))) hist h in
     let so = sound (fold_reached k.setup.places es folds.some folds.few folds.allowed) in
     let act = a.entry.allowed in
-    let low : a.who.task.0 < T.next_task = task_below T.next_task T.tasks a.who.task act.task so.tasks_fall act.live.acts.stands in
-    let next : a.child.0 ≡ T.next_task = act.next_task in
+    let low : a.who.task.0 < T.next_task = task_below T.next_task T.tasks a.who.task act.task so.tasks_fall act.stands in
+    let next : a.child.0 ≡ T.next_task = act.asks.1 in
     let it = moving_child (is_some (death_of T a.to)) _ c _ _ a.started_is in
     let his : c.task.0 ≡ a.child.0 = ap (λ (x : Caller). x.task.0) it in
     let mine : ticket.task.0 ≡ a.who.task.0 = ap (λ (x : Caller). x.task.0) a.ticket_is in

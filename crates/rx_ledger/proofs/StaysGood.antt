@@ -1,12 +1,13 @@
 -- What may be asked of a tree may be asked of it after entries of other tasks.
-use Rattle.std.specs.Prelude.{◌≡◌, ℕ, suc, ◌<◌, Bool, true, false, cond, List, [], ◌∷◌, ◌++◌, map, filter, Option, Some, None, option_map, All, refl}
+use Rattle.std.specs.Prelude.{◌≡◌, ℕ, suc, ◌+◌, ◌≤◌, length, Bool, true, false, cond, List, [], ◌∷◌, ◌++◌, map, filter, Option, Some, None, option_map, All, refl}
 use Rattle.std.specs.List.{find}
-use Rattle.std.proofs.Common.{ap, ◌∙◌, sym, subst, ◌⊎◌, inl, inr}
+use Rattle.std.proofs.Common.{ap, ◌∙◌, sym, arith, ◌⊎◌, inl, inr}
 use Rattle.rx_base.specs.declared.ids.PlaceId.{PlaceId}
 use Rattle.rx_base.specs.declared.ids.TaskId.{TaskId}
 use Rattle.rx_base.specs.declared.ids.ScopeId.{ScopeId}
 use Rattle.rx_base.proofs.SameIds.{task-is}
 use Rattle.rx_rules.specs.declared.entries.Entry.{Entry}
+use Rattle.rx_rules.specs.declared.entries.Entry.TheVariants.{Step, Root, Death, Join}
 use Rattle.rx_rules.specs.declared.tasks.Task.{Task}
 use Rattle.rx_rules.specs.declared.tasks.Scope.{Scope}
 use Rattle.rx_rules.specs.Tree.{Tree, task_of, opened_by, own_scope, inner}
@@ -14,7 +15,7 @@ use Rattle.rx_rules.specs.Entries.{Allowed, made}
 use Rattle.rx_rules.specs.Fold.{AllAllowed, fold_from, opening, tree_of}
 use Rattle.rx_rules.specs.Reached.{Reached, IsOlder, opens}
 use Rattle.rx_rules.proofs.Lookups.{number-of}
-use Rattle.rx_rules.proofs.Append.{made-places, tree-places}
+use Rattle.rx_rules.proofs.Append.{act-places, fold-places}
 use Rattle.rx_sound.specs.Sound.{Each}
 use Rattle.rx_sound.proofs.Histories.{reached_now, dead-now, none_yet}
 use Rattle.rx_finish.specs.declared.ledger.Caller.{Caller}
@@ -22,9 +23,10 @@ use Rattle.rx_finish.specs.Callers.{CallerStands, HasLeft, HasNumbers, MayAskTo,
 use Rattle.rx_ticket.specs.declared.tickets.AnyTicket.{AnyTicket}
 use Rattle.rx_ticket.specs.declared.tickets.AnyTicket.TheVariants.{Moving, Running, Held, Host}
 use Rattle.rx_history.specs.declared.asks.Ask.{Ask}
-use Rattle.rx_history.specs.declared.asks.Ask.TheVariants.{Open, At as Calls, Spawn, Arrive, Wait, Release, End, Print, Root}
+use Rattle.rx_history.specs.declared.asks.Ask.TheVariants.{Open, At as Calls, Spawn, Arrive, Wait, Release, End, Print, Root, Census}
 use Rattle.rx_ledger.specs.Asking.{MayAskFor, IsTravelling as Moves, IsRunning, IsHeld}
 use Rattle.rx_ledger.specs.Staying.{NotBy, NotOf, EntryKeepsTicket, TicketsStayGood}
+use Rattle.rx_ledger.proofs.Keepers.{fold-append}
 use Rattle.rx_ledger.proofs.Linking.{Link, link, links, top, inner_top}
 use Rattle.rx_ledger.proofs.Others.{Stays, entry_lasts, left_lasts}
 
@@ -134,6 +136,7 @@ Serves T ticket (Wait thrown) = IsRunning ticket (λ who. Caught T who (HasFinis
 Serves T ticket Release = IsHeld ticket (λ who. Caught T who (WaitsInside T who))
 Serves T ticket (End thrown) = IsRunning ticket (λ who. Caught T who (IsBare T who))
 Serves T ticket (Print value) = IsRunning ticket (λ who. Caught T who IsMoving)
+Serves T ticket Census = IsRunning ticket (λ who. Caught T who IsMoving)
 Serves T ticket Root = Unit {0}
 
 running_on : (t : AnyTicket) (e : Entry) (P Q : Caller → Type 0) → ((who : Caller) → NotBy who.task e → P who → Q who) → NotOf t e → IsRunning t P → IsRunning t Q
@@ -166,6 +169,7 @@ serves_on n T e t Release r may o h =
 serves_on n T e t (End thrown) r may o h =
     running_on t e _ _ (λ who b. caller_stays n T e who r may b (IsBare T who) (IsBare (made n T e) who) (bare_stays n T e who r may b)) o h
 serves_on n T e t (Print value) r may o h = running_on t e _ _ (λ who b. caller_stays n T e who r may b IsMoving IsMoving (moving_stays n T e who r may b)) o h
+serves_on n T e t Census r may o h = running_on t e _ _ (λ who b. caller_stays n T e who r may b IsMoving IsMoving (moving_stays n T e who r may b)) o h
 serves_on n T e t Root r may o h = tt
 
 running_as : (t : AnyTicket) (P Q : Caller → Type 0) → ((who : Caller) → P who → Q who) → IsRunning t P → IsRunning t Q
@@ -196,17 +200,18 @@ serves T t path (Wait thrown) h = running_as t _ _ (λ who m. m.caller) h.0
 serves T t path Release h = held_as t _ _ (λ who m. m.caller) h.0
 serves T t path (End thrown) h = running_as t _ _ (λ who m. m.caller) h.0
 serves T t path (Print value) h = running_as t _ _ (λ who m. m.caller) h.0
+serves T t path Census h = running_as t _ _ (λ who m. m.caller) h.0
 serves T t path Root h = tt
 
-running_to : (T V : Tree) (t : AnyTicket) (to : PlaceId) → V.places ≡ T.places → HasNumbers V → IsRunning t (λ who. MayAskTo T who to) → IsRunning t (λ who. Caught V who IsMoving) → IsRunning t (λ who. MayAskTo V who to)
+running_to : (T V : Tree) (t : AnyTicket) (to : PlaceId) → T.places ≤ V.places → HasNumbers V → IsRunning t (λ who. MayAskTo T who to) → IsRunning t (λ who. Caught V who IsMoving) → IsRunning t (λ who. MayAskTo V who to)
 running_to T V (Running who) to same few h now =
-    record { asks = record { caller = now; numbers = few }; target = subst (λ (k : ℕ). to.0 < k) (sym same) h.target }
+    record { asks = record { caller = now; numbers = few }; target = (let a = h.target in omega (arith, a, same)) }
 running_to T V (Moving who) to same few h now = h
 running_to T V (Held who) to same few h now = h
 running_to T V Host to same few h now = h
 
 -- and with them
-asks_again : (T V : Tree) (t : AnyTicket) (path : Option (List ℕ)) (a : Ask) → V.places ≡ T.places → HasNumbers V → MayAskFor T t path a → Serves V t a → MayAskFor V t path a
+asks_again : (T V : Tree) (t : AnyTicket) (path : Option (List ℕ)) (a : Ask) → T.places ≤ V.places → HasNumbers V → MayAskFor T t path a → Serves V t a → MayAskFor V t path a
 asks_again T V t path Open same few h now = (running_as t _ _ (λ who c. record { caller = c; numbers = few }) now, h.1)
 asks_again T V t path (Calls to) same few h now = (running_to T V t to same few h.0 now, h.1)
 asks_again T V t path (Spawn to) same few h now = (running_to T V t to same few h.0 now, h.1)
@@ -215,11 +220,25 @@ asks_again T V t path (Wait thrown) same few h now = (running_as t _ _ (λ who c
 asks_again T V t path Release same few h now = (held_as t _ _ (λ who c. record { caller = c; numbers = few }) now, h.1)
 asks_again T V t path (End thrown) same few h now = (running_as t _ _ (λ who c. record { caller = c; numbers = few }) now, h.1)
 asks_again T V t path (Print value) same few h now = (running_as t _ _ (λ who c. record { caller = c; numbers = few }) now, h.1)
+asks_again T V t path Census same few h now = (running_as t _ _ (λ who c. record { caller = c; numbers = few }) now, h.1)
 asks_again T V t path Root same few h now = h
+
+-- no entry makes places fewer
+places_rise : (n : ℕ) (T : Tree) (e : Entry) → T.places ≤ (made n T e).places
+places_rise n T (Step t act batch) = let a = act-places T t act in omega (arith, a)
+places_rise n T (Root lost masked thrown) = omega arith
+places_rise n T (Death d) = omega arith
+places_rise n T (Join p) = omega arith
+
+pub places_more : (q : ℕ) (es more : List Entry) → (tree_of q es).places ≤ (tree_of q (es ++ more)).places
+places_more q es more =
+    let a = ap (λ (T : Tree). T.places) (fold-append 0 (opening q) es more) in
+    let b = fold-places (0 + length es) (tree_of q es) more in
+    omega (arith, a, b)
 
 pub entry_keeps_ticket : EntryKeepsTicket
 entry_keeps_ticket n T e q r may other few h =
-    asks_again T (made n T e) q.ticket q.path q.ask (made-places n T e) few h
+    asks_again T (made n T e) q.ticket q.path q.ask (places_rise n T e) few h
     (serves_on n T e q.ticket q.ask r may other (serves T q.ticket q.path q.ask h))
 
 -- Longer histories.
@@ -239,6 +258,6 @@ pub tickets_stay_good : TicketsStayGood
 tickets_stay_good U es more q folds others few h =
     let T = tree_of U.places es in
     let V = tree_of U.places (es ++ more) in
-    asks_again T V q.ticket q.path q.ask (tree-places U.places (es ++ more) ∙ sym (tree-places U.places es)) few h
+    asks_again T V q.ticket q.path q.ask (places_more U.places es more) few h
     (from_parts 0 (opening U.places) es more q.ticket q.ask (opens U.places folds.some folds.few) none_yet folds.allowed others
     (serves T q.ticket q.path q.ask h))

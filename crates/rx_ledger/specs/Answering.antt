@@ -1,4 +1,4 @@
--- What a keeper answers, where no death is due.
+-- What a keeper answers, where no death and no join is due.
 use Rattle.std.specs.Prelude.{◌≡◌, ◌⊎◌, ℕ, ℤ, Bool, cond, ◌==◌, List, [], ◌∷◌, ◌++◌, Option, Some, None, is_some, slice_index_or}
 use Rattle.rx_base.specs.declared.ids.PlaceId.{PlaceId}
 use Rattle.rx_base.specs.declared.ids.TaskId.{TaskId}
@@ -8,7 +8,7 @@ use Rattle.rx_base.specs.declared.values.Fault.{Fault}
 use Rattle.rx_rules.specs.declared.tasks.Where.{Where}
 use Rattle.rx_rules.specs.declared.tasks.Where.TheVariants.{At, Travel}
 use Rattle.rx_rules.specs.declared.entries.Act.{Act}
-use Rattle.rx_rules.specs.declared.entries.Act.TheVariants.{Open, At as Calls, Spawn, Arrive, Wait, Release, End, Print}
+use Rattle.rx_rules.specs.declared.entries.Act.TheVariants.{Open, At as Calls, Spawn, Arrive, Wait, Release, End, Print, Census}
 use Rattle.rx_rules.specs.declared.entries.Entry.{Entry}
 use Rattle.rx_rules.specs.declared.entries.Entry.TheVariants.{Step, Root}
 use Rattle.rx_rules.specs.Tree.{Tree, death_of, the_root}
@@ -21,10 +21,11 @@ use Rattle.rx_ticket.specs.declared.tickets.AnyTicket.TheVariants.{Moving, Runni
 use Rattle.rx_history.specs.declared.asks.Ask.{Ask}
 use Rattle.rx_history.specs.declared.asks.Ask.TheVariants.{Open as AskOpen, At as AskCall, Spawn as AskSpawn, Arrive as AskArrive}
 use Rattle.rx_history.specs.declared.asks.Ask.TheVariants.{Wait as AskWait, Release as AskRelease, End as AskEnd}
-use Rattle.rx_history.specs.declared.asks.Ask.TheVariants.{Print as AskPrint, Root as AskRoot}
+use Rattle.rx_history.specs.declared.asks.Ask.TheVariants.{Print as AskPrint, Root as AskRoot, Census as AskCensus}
 use Rattle.rx_ledger.specs.declared.asks.Request.{Request}
 use Rattle.rx_ledger.specs.declared.asks.Reply.{Reply}
-use Rattle.rx_ledger.specs.declared.asks.Reply.TheVariants.{Opened, Called, Spawned, Landed, Waits, Released, Ended, Printed}
+use Rattle.rx_ledger.specs.declared.asks.Reply.TheVariants.{Opened, Called, Spawned, Landed}
+use Rattle.rx_ledger.specs.declared.asks.Reply.TheVariants.{Waits, Released, Ended, Printed, Census as Counted}
 use Rattle.rx_ledger.specs.declared.asks.Reply.TheVariants.{RootDone, NotYet, Lost, NoMemory}
 use Rattle.rx_ledger.specs.Told.{parents_told}
 
@@ -109,11 +110,11 @@ pub record WaitsThere (T : Tree) (es : List Entry) (q : Request) (ticket : Calle
   pub ticket_is : ticket ≡ who
 
 -- a task releases the scope at which it waited, and works in that scope's parent
-pub record Releases (T : Tree) (es : List Entry) (q : Request) (ticket : Caller) (lost : PlaceSet) (thrown : List Fault)
+pub record Releases (T : Tree) (es : List Entry) (q : Request) (ticket : Caller) (lost : PlaceSet) (masked : ℕ) (thrown : List Fault)
     (es' : List Entry) : Type 0 where
   pub who : Caller
   pub asked : Asks q (Held who) AskRelease None
-  pub entry : Appends T es who (Release who.inner lost thrown) q.batch es'
+  pub entry : Appends T es who (Release who.inner lost masked thrown) q.batch es'
   pub ticket_is : ticket ≡ record who { inner = parent_told es who.inner }
 
 -- a task ends
@@ -132,12 +133,21 @@ pub record Prints (T : Tree) (es : List Entry) (q : Request) (ticket : Caller) (
   pub entry : Appends T es who (Print value path) q.batch es'
   pub ticket_is : ticket ≡ who
 
+-- a task is told the number of places
+pub record CountsPlaces (T : Tree) (es : List Entry) (q : Request) (ticket : Caller) (places : ℕ) (es' : List Entry) : Type 0 where
+  pub who : Caller
+  pub path : List ℕ
+  pub asked : Asks q (Running who) AskCensus (Some path)
+  pub entry : Appends T es who (Census places path) q.batch es'
+  pub ticket_is : ticket ≡ who
+
 -- the host releases the root
 pub record FreesRoot (T : Tree) (es es' : List Entry) : Type 0 where
   pub lost : PlaceSet
+  pub masked : ℕ
   pub thrown : List Fault
-  pub allowed : Allowed T (Root lost thrown)
-  pub added : es' ≡ es ++ Root lost thrown ∷ []
+  pub allowed : Allowed T (Root lost masked thrown)
+  pub added : es' ≡ es ++ Root lost masked thrown ∷ []
 
 -- who asks, if it is a task
 abbrev pub asker : AnyTicket → Option Caller
@@ -164,9 +174,10 @@ Answers T es q (Called ticket callee) es' = OpensAt T es q ticket callee es'
 Answers T es q (Spawned ticket child) es' = StartsTask T es q ticket child es'
 Answers T es q (Landed ticket) es' = Lands T es q ticket es'
 Answers T es q (Waits ticket) es' = WaitsThere T es q ticket es'
-Answers T es q (Released ticket outcome) es' = Releases T es q ticket outcome.lost outcome.thrown es'
+Answers T es q (Released ticket outcome) es' = Releases T es q ticket outcome.lost outcome.masked outcome.thrown es'
 Answers T es q Ended es' = Ends T es q es'
 Answers T es q (Printed ticket) es' = Prints T es q ticket es'
+Answers T es q (Counted ticket places) es' = CountsPlaces T es q ticket places es'
 Answers T es q RootDone es' = Asks q Host AskRoot None × (((EndsWithRoot es) × (es' ≡ es)) ⊎ FreesRoot T es es')
 Answers T es q (NotYet place request) es' = (request ≡ q) × MustWait T place q × (es' ≡ es)
 Answers T es q (Lost place at) es' = IsLost T q place at × (es' ≡ es)

@@ -6,7 +6,7 @@ use Rattle.rx_finish.specs.Callers.{MayAskMoving, MayAskTo, MayAskArrive, MayAsk
 use Rattle.rx_ticket.specs.declared.tickets.AnyTicket.{AnyTicket}
 use Rattle.rx_ticket.specs.declared.tickets.AnyTicket.TheVariants.{Moving, Running, Held, Host}
 use Rattle.rx_history.specs.declared.asks.Ask.{Ask}
-use Rattle.rx_history.specs.declared.asks.Ask.TheVariants.{Open, At as Calls, Spawn, Arrive, Wait, Release, End, Print, Root}
+use Rattle.rx_history.specs.declared.asks.Ask.TheVariants.{Open, At as Calls, Spawn, Arrive, Wait, Release, End, Print, Root, Census}
 use Rattle.rx_ledger.specs.declared.asks.Request.{Request}
 
 -- the ticket is of a task that travels, and P holds of the caller
@@ -58,6 +58,7 @@ MayAskFor T ticket path (Wait thrown) = IsRunning ticket (MayAskWait T) × NoPat
 MayAskFor T ticket path Release = IsHeld ticket (MayAskRelease T) × NoPath path
 MayAskFor T ticket path (End thrown) = IsRunning ticket (MayAskEnd T) × NoPath path
 MayAskFor T ticket path (Print value) = IsRunning ticket (MayAskMoving T) × HasPath path
+MayAskFor T ticket path Census = IsRunning ticket (MayAskMoving T) × HasPath path
 MayAskFor T ticket path Root = IsHost ticket × NoPath path
 
 -- the same of a request

@@ -8,7 +8,8 @@ use Rattle.rx_finish.specs.Callers.{HasNumbers}
 use Rattle.rx_ticket.specs.declared.tickets.AnyTicket.{AnyTicket}
 use Rattle.rx_ledger.specs.declared.asks.Request.{Request}
 use Rattle.rx_ledger.specs.declared.asks.Reply.{Reply}
-use Rattle.rx_ledger.specs.declared.asks.Reply.TheVariants.{Opened, Called, Spawned, Landed, Waits, Released, Ended, Printed}
+use Rattle.rx_ledger.specs.declared.asks.Reply.TheVariants.{Opened, Called, Spawned, Landed}
+use Rattle.rx_ledger.specs.declared.asks.Reply.TheVariants.{Waits, Released, Ended, Printed, Census as Counted}
 use Rattle.rx_ledger.specs.declared.asks.Reply.TheVariants.{RootDone, NotYet, Lost, NoMemory}
 use Rattle.rx_ledger.specs.Asking.{MayApply}
 use Rattle.rx_ledger.specs.Answering.{asker}
@@ -47,6 +48,7 @@ owned_by (Waits ticket) own = own
 owned_by (Released ticket outcome) own = drop 1 own
 owned_by Ended own = own
 owned_by (Printed ticket) own = own
+owned_by (Counted ticket places) own = own
 owned_by RootDone own = own
 owned_by (NotYet place request) own = own
 owned_by (Lost place at) own = own

@@ -3,7 +3,8 @@ use Rattle.std.specs.Prelude.{Option, Some, None}
 use Rattle.rx_ticket.specs.declared.tickets.AnyTicket.{AnyTicket}
 use Rattle.rx_ticket.specs.declared.tickets.AnyTicket.TheVariants.{Running, Held}
 use Rattle.rx_ledger.specs.declared.asks.Reply.{Reply}
-use Rattle.rx_ledger.specs.declared.asks.Reply.TheVariants.{Opened, Called, Spawned, Landed, Waits, Released, Ended, Printed}
+use Rattle.rx_ledger.specs.declared.asks.Reply.TheVariants.{Opened, Called, Spawned, Landed}
+use Rattle.rx_ledger.specs.declared.asks.Reply.TheVariants.{Waits, Released, Ended, Printed, Census as Counted}
 use Rattle.rx_ledger.specs.declared.asks.Reply.TheVariants.{RootDone, NotYet, Lost, NoMemory}
 
 -- that of the task which asked, also in a request that comes back
@@ -16,6 +17,7 @@ asking_in (Waits ticket) = Some (Held ticket)
 asking_in (Released ticket outcome) = Some (Running ticket)
 asking_in Ended = None
 asking_in (Printed ticket) = Some (Running ticket)
+asking_in (Counted ticket places) = Some (Running ticket)
 asking_in RootDone = None
 asking_in (NotYet place request) = Some request.ticket
 asking_in (Lost place at) = None
@@ -31,6 +33,7 @@ started_in (Waits ticket) = None
 started_in (Released ticket outcome) = None
 started_in Ended = None
 started_in (Printed ticket) = None
+started_in (Counted ticket places) = None
 started_in RootDone = None
 started_in (NotYet place request) = None
 started_in (Lost place at) = None

@@ -3,9 +3,9 @@ use Rattle.std.specs.Prelude.{◌≡◌, ℕ, ◌+◌, ◌<◌, ◌^◌, ◌==�
 use Rattle.rx_base.specs.declared.ids.TaskId.{TaskId}
 use Rattle.rx_base.specs.declared.ids.ScopeId.{ScopeId}
 use Rattle.rx_rules.specs.declared.entries.Act.{Act}
-use Rattle.rx_rules.specs.declared.entries.Act.TheVariants.{Open, At as Calls, Spawn, Arrive, Wait, Release, End, Print}
+use Rattle.rx_rules.specs.declared.entries.Act.TheVariants.{Open, At as Calls, Spawn, Arrive, Wait, Release, End, Print, Census}
 use Rattle.rx_rules.specs.declared.entries.Entry.{Entry}
-use Rattle.rx_rules.specs.declared.entries.Entry.TheVariants.{Step, Root, Death}
+use Rattle.rx_rules.specs.declared.entries.Entry.TheVariants.{Step, Root, Death, Join}
 use Rattle.rx_rules.specs.declared.tasks.Kind.{Kind}
 use Rattle.rx_rules.specs.declared.tasks.Kind.TheVariants.{Finish, Call}
 use Rattle.rx_rules.specs.declared.tasks.Scope.{Scope}
@@ -30,16 +30,18 @@ own_after (Calls s r callee from to path) own = (s, Call) ∷ own
 own_after (Spawn child s from to path) own = own
 own_after (Arrive p) own = own
 own_after (Wait s thrown) own = own
-own_after (Release s lost thrown) own = drop 1 own
+own_after (Release s lost masked thrown) own = drop 1 own
 own_after (End thrown) own = own
 own_after (Print value path) own = own
+own_after (Census places path) own = own
 
 -- the scopes of a task after the entries
 abbrev pub own_from : TaskId → Owned → List Entry → Owned
 own_from t own [] = own
 own_from t own (Step u act batch ∷ es) = own_from t (cond (u.0 == t.0) (own_after act own) own) es
-own_from t own (Root lost thrown ∷ es) = own_from t own es
+own_from t own (Root lost masked thrown ∷ es) = own_from t own es
 own_from t own (Death d ∷ es) = own_from t own es
+own_from t own (Join d ∷ es) = own_from t own es
 
 -- the scopes of a task, as a history tells them
 abbrev pub own_told : List Entry → TaskId → Owned

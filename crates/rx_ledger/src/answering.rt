@@ -1,4 +1,4 @@
-// A request where no death is due.
+// A request where no death and no join is due.
 ghost use Rattle.std.specs.Prelude.{◌≡◌, ◌<◌, Some};
 ghost use Rattle.rx_ticket.specs.declared.tickets.AnyTicket.TheVariants.{Moving, Running, Held, Host};
 ghost use Rattle.rx_ledger.specs.Asking.{MayApply, IsTravelling, IsRunning, IsHeld, HasPath};
@@ -34,6 +34,7 @@ impl<L: FinishLedger> Books<L> {
             Ask::Release => self.release(held(ticket), batch),
             Ask::End { thrown } => self.end(running(ticket), thrown, batch),
             Ask::Print { value } => self.print(running(ticket), value, batch, given(path)),
+            Ask::Census => self.census(running(ticket), batch, given(path)),
             Ask::Root => {
                 host(ticket);
                 self.root(batch)

@@ -46,6 +46,11 @@ pub enum Reply {
     Printed {
         ticket: Ticket<Live>,
     },
+    /// How many places have joined, dead ones among them.
+    Census {
+        ticket: Ticket<Live>,
+        places: u8,
+    },
     RootDone,
     /// An unstruck task is under the scope that is to be released; it is at this place or travels there.
     NotYet {
@@ -78,6 +83,7 @@ impl Reply {
             Reply::Released { ticket, outcome: _ } => (Some(AnyTicket::Running(ticket)), None),
             Reply::Ended => (None, None),
             Reply::Printed { ticket } => (Some(AnyTicket::Running(ticket)), None),
+            Reply::Census { ticket, places: _ } => (Some(AnyTicket::Running(ticket)), None),
             Reply::RootDone => (None, None),
             Reply::NotYet { place: _, request } => (Some(request.into_ticket()), None),
             Reply::Lost { place: _, at: _ } => (None, None),

@@ -2,7 +2,7 @@
 ghost use Rattle.std.specs.Prelude.{◌≡◌, ◌<◌, Some, None};
 ghost use Rattle.rx_finish.specs.Callers.{MayAskMoving, MayAskArrive};
 ghost use Rattle.rx_ticket.specs.declared.tickets.AnyTicket.TheVariants.{Running, Moving};
-ghost use Rattle.rx_history.specs.declared.asks.Ask.TheVariants.{Arrive, Print};
+ghost use Rattle.rx_history.specs.declared.asks.Ask.TheVariants.{Arrive, Print, Census};
 ghost use Rattle.rx_ledger.specs.Inside.Doing.{request_of, books_tree, Calm, DidRequest};
 
 use crate::asks::Reply;
@@ -65,6 +65,32 @@ impl<L: FinishLedger> Books<L> {
                     batch,
                 });
                 Reply::Printed { ticket }
+            }
+            Err(LedgerFault::Lost { place, at }) => {
+                ticket.lost(place, at);
+                Reply::Lost { place, at }
+            }
+            Err(LedgerFault::NoMemory) => unreachable!(),
+            Err(LedgerFault::NotYet { place: _ }) => unreachable!(),
+        }
+    }
+
+    /// Tells how many places have joined. It takes no memory.
+    pub(crate) fn census(&mut self, ticket: Ticket<Live>, batch: Batch, path: Path) -> Reply
+        requires room { 0 < self.old.history.spare }
+        requires calm { Calm L.stands self.old }
+        requires asks { MayAskMoving (books_tree self.old) ticket }
+        ensures { DidRequest L.stands self.old (request_of (Running ticket) Census batch (Some path)) result self.new }
+    {
+        let who = ticket.caller();
+        match self.ledger.census(who) {
+            Ok(places) => {
+                self.history.add(Entry::Step {
+                    task: who.task,
+                    act: Act::Census { places, path },
+                    batch,
+                });
+                Reply::Census { ticket, places }
             }
             Err(LedgerFault::Lost { place, at }) => {
                 ticket.lost(place, at);

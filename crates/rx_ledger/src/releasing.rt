@@ -42,6 +42,7 @@ impl<L: FinishLedger> Books<L> {
                     act: Act::Release {
                         scope: who.inner,
                         lost: outcome.lost,
+                        masked: outcome.masked,
                         thrown: told,
                     },
                     batch,
@@ -89,6 +90,7 @@ impl<L: FinishLedger> Books<L> {
             Ok(outcome) => {
                 self.history.add(Entry::Root {
                     lost: outcome.lost,
+                    masked: outcome.masked,
                     thrown: outcome.thrown,
                 });
                 self.ended = true;

@@ -7,12 +7,12 @@ ghost use Rattle.rx_ledger.specs.Answering.{main_caller};
 use crate::{Keeper, Reply, Request};
 use rx_base::{Batch, NoMemory, Path, PlaceId, PlaceSet, TaskId};
 use rx_counts::CountLedger;
-use rx_history::{Ask, KillList, Setup};
+use rx_history::{Ask, JoinList, KillList, Setup};
 use rx_ticket::{AnyTicket, Live, Ticket};
 use std::alloc::Global;
 use std::test::Fail;
 
-// Two places and no kills.
+// Two places, and no kills and no joins.
 pub(crate) fn calm(alloc: Global) -> Setup
     ensures proper { Proper (given result) }
     ensures places { result.places ≡ 2 }
@@ -21,20 +21,20 @@ pub(crate) fn calm(alloc: Global) -> Setup
         places: 2,
         heap: 256,
         kills: KillList::open(alloc),
+        joins: JoinList::open(alloc),
     }
 }
 
-// A keeper of such a setup, or of one with kills.
+// A keeper of such a setup, or of another.
 pub(crate) fn opened(
     alloc: Global,
     setup: &Setup,
 ) -> Result<(Keeper<CountLedger>, Ticket<Live>), NoMemory>
     requires proper { Proper (given setup.now) }
-    requires places { setup.now.places ≡ 2 }
-    ensures empty { IfOk result (λ r. (r.0.entries ≡ []) × (r.0.setup.places ≡ 2)) }
+    ensures empty { IfOk result (λ r. (r.0.entries ≡ []) × (r.0.setup ≡ setup.now)) }
     ensures ticket { IfOk result (λ r. r.1 ≡ main_caller) }
 {
-    let ledger = CountLedger::open(alloc, 2)?;
+    let ledger = CountLedger::open_for(alloc, setup.places, setup.joins.len() as u8)?;
     match Keeper::open(alloc, ledger, setup) {
         Ok(both) => Ok(both),
         Err(_) => Err(NoMemory),

@@ -13,9 +13,10 @@ ghost use Rattle.rx_ledger.specs.Owned.{own_told};
 
 use crate::tests::{calm, end, finish, finish_child, opened};
 use crate::{Keeper, Reply, Request, laws};
-use rx_base::{Batch, Faults, Kill, NoMemory, Path, PlaceId, PlaceSet};
+use rx_base::{Batch, Faults, Kill, NoMemory, Path, PlaceId, PlaceSet, TaskId};
 use rx_counts::CountLedger;
-use rx_history::{Ask, KillList, Setup};
+use rx_history::{Ask, JoinList, KillList, Setup};
+use rx_rules::{Act, Entry};
 use rx_ticket::{AnyTicket, InTransit, Live, Ticket, Waiting};
 use std::alloc::Global;
 use std::process::Abort;
@@ -199,7 +200,85 @@ fn doomed(alloc: Global) -> Result<Setup, NoMemory>
         places: 2,
         heap: 256,
         kills,
+        joins: JoinList::open(alloc),
     })
+}
+
+// One place, and one that joins before all else.
+fn widening(alloc: Global) -> Result<Setup, NoMemory>
+    ensures proper { IfOk result (λ s. Proper (given s)) }
+{
+    let mut joins = JoinList::open(alloc);
+    joins.push(0)?;
+    Ok(Setup {
+        places: 1,
+        heap: 256,
+        kills: KillList::open(alloc),
+        joins,
+    })
+}
+
+// The path of the first statement.
+fn first_path(alloc: Global) -> Result<Path, NoMemory> {
+    let mut path = Path::open(alloc);
+    path.push(0)?;
+    Ok(path)
+}
+
+// Prints 4.
+fn prints<R: Abort>(
+    rt: &R,
+    alloc: Global,
+    keeper: &mut Keeper<CountLedger>,
+    ticket: Ticket<Live>,
+    path: Path,
+) -> Ticket<Live>
+    requires { MayAskMoving (tree_seen keeper.old) ticket }
+    ensures { MayAskMoving (tree_seen keeper.new) result }
+{
+    match ask(
+        rt,
+        keeper,
+        Request {
+            ticket: AnyTicket::Running(ticket),
+            ask: Ask::Print { value: 4 },
+            batch: Batch::open(alloc),
+            path: Some(path),
+        },
+    ) {
+        Reply::Printed { ticket } => ticket,
+        other => {
+            finish(other);
+            stop(rt)
+        }
+    }
+}
+
+// Asks for the number of places.
+fn counts<R: Abort>(
+    rt: &R,
+    alloc: Global,
+    keeper: &mut Keeper<CountLedger>,
+    ticket: Ticket<Live>,
+) -> (Ticket<Live>, u8)
+    requires { MayAskMoving (tree_seen keeper.old) ticket }
+{
+    match ask(
+        rt,
+        keeper,
+        Request {
+            ticket: AnyTicket::Running(ticket),
+            ask: Ask::Census,
+            batch: Batch::open(alloc),
+            path: Some(Path::open(alloc)),
+        },
+    ) {
+        Reply::Census { ticket, places } => (ticket, places),
+        other => {
+            finish(other);
+            stop(rt)
+        }
+    }
 }
 
 // What the child hears when it wants to arrive.
@@ -264,6 +343,33 @@ fn a_traveller_hinders_the_release(rt: HostRuntime) -> Result<(), Fail> {
         other => finish_wrongly(&rt, other),
     }
     assert_eq!(rt; keeper.len(), 3);
+    Ok(())
+}
+
+#[test]
+fn a_place_joins_before_the_entry(rt: HostRuntime) -> Result<(), Fail> {
+    let alloc = rt.alloc();
+    let path = first_path(alloc)?;
+    let (mut keeper, ticket) = opened(alloc, &widening(alloc)?)?;
+    let ticket = prints(&rt, alloc, &mut keeper, ticket, path);
+    assert_eq!(rt; keeper.len(), 2);
+    let (ticket, places) = counts(&rt, alloc, &mut keeper, ticket);
+    ticket.spent();
+    assert_eq!(rt; places, 2);
+    let (history, _ledger) = keeper.into_history();
+    assert_eq!(rt; history.len(), 3);
+    assert!(rt; matches!(history.item(0), Entry::Join { place: PlaceId(1) }));
+    match history.item(1) {
+        Entry::Step {
+            task: TaskId(0),
+            act: Act::Print { value: 4, path },
+            batch: _,
+        } => {
+            assert_eq!(rt; path.len(), 1);
+            assert_eq!(rt; path.item(0), 0);
+        }
+        _ => stop(&rt),
+    }
     Ok(())
 }
 

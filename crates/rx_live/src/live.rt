@@ -1,11 +1,11 @@
 // Workers that make turns under one lock.
-ghost use Rattle.std.specs.Prelude.{◌≡◌, ◌≤◌, ◌<◌, IfOk};
+ghost use Rattle.std.specs.Prelude.{◌≡◌, ◌≤◌, ◌<◌, length, IfOk};
 ghost use Rattle.rx_rules.specs.Code.{Block};
 ghost use Rattle.rx_rules.specs.Fold.{opening, tree_of};
 ghost use Rattle.rx_rules.specs.Run.{Proper, IsRun};
 ghost use Rattle.rx_nodes.specs.Shape.{Stands};
 ghost use Rattle.rx_history.specs.Events.{events_of};
-ghost use Rattle.rx_history.specs.Setups.{given};
+ghost use Rattle.rx_history.specs.Setups.{given, to_join};
 ghost use Rattle.rx_live.specs.Rounds.{Keeps};
 
 use crate::round::Round;
@@ -42,9 +42,9 @@ impl<L: FinishLedger> Fact<Round<L>, Job> for IsOfJob {
 type Desk<L> = Lock<Round<L>, Job, IsOfJob>;
 
 /// Runs a program under a setup with so many workers, each in a thread of its own where one can be made, over a ledger that stands
-/// for the opening tree. What comes is a whole run, and the ledger, which stands for the tree to which its history folds. `Err` is
-/// want of memory, after which the ledger is gone. Worker k makes each of its turns with the pick k, and comes by the gate before
-/// it.
+/// for the opening tree and has room for the places that are to join. What comes is a whole run, and the ledger, which stands for
+/// the tree to which its history folds. `Err` is want of memory, after which the ledger is gone. Worker k makes each of its turns
+/// with the pick k, and comes by the gate before it.
 pub fn run_live<G: Gate + Sync, R: Threads + Wait + Sync>(
     rt: &R,
     alloc: Global,
@@ -56,10 +56,11 @@ pub fn run_live<G: Gate + Sync, R: Threads + Wait + Sync>(
 ) -> Result<(History, Journals, CountLedger), NoMemory>
     requires proper { Proper (given setup.now) }
     requires workers { (1 ≤ workers) × (workers ≤ 8) }
-    requires opened { ⟦<CountLedger as FinishLedger>⟧.stands ledger (opening setup.now.places) }
+    requires opened { ⟦<CountLedger as FinishLedger>⟧.stands ledger (length setup.now.joins) (opening setup.now.places) }
     ensures run { IfOk result (λ r. (code : Block) → Stands p.now.script code → IsRun code (given setup.now) r.0.entries (events_of r.1)) }
     ensures setup { IfOk result (λ r. given r.0.setup ≡ given setup.now) }
-    ensures ledger { IfOk result (λ r. ⟦<CountLedger as FinishLedger>⟧.stands r.2 (tree_of setup.now.places r.0.entries)) }
+    ensures ledger { IfOk result (λ r. ⟦<CountLedger as FinishLedger>⟧.stands r.2
+        (to_join (given setup.now) (tree_of setup.now.places r.0.entries)) (tree_of setup.now.places r.0.entries)) }
 {
     run_over(rt, alloc, p, setup, workers, ledger, gate)
 }
@@ -76,10 +77,11 @@ fn run_over<L: FinishLedger + Send, G: Gate + Sync, R: Threads + Wait + Sync>(
 ) -> Result<(History, Journals, L), NoMemory>
     requires proper { Proper (given setup.now) }
     requires workers { (1 ≤ workers) × (workers ≤ 8) }
-    requires opened { L.stands ledger (opening setup.now.places) }
+    requires opened { L.stands ledger (length setup.now.joins) (opening setup.now.places) }
     ensures run { IfOk result (λ r. (code : Block) → Stands p.now.script code → IsRun code (given setup.now) r.0.entries (events_of r.1)) }
     ensures setup { IfOk result (λ r. given r.0.setup ≡ given setup.now) }
-    ensures ledger { IfOk result (λ r. L.stands r.2 (tree_of setup.now.places r.0.entries)) }
+    ensures ledger { IfOk result (λ r. L.stands r.2 (to_join (given setup.now) (tree_of setup.now.places r.0.entries))
+        (tree_of setup.now.places r.0.entries)) }
 {
     checked(p);
     let machine = Machine::open(alloc, p, setup.copy(alloc)?, ledger)?;

@@ -3,7 +3,7 @@ use crate::run_live;
 use rx_base::MeetGate;
 use rx_check::check;
 use rx_counts::CountLedger;
-use rx_history::{KillList, Setup};
+use rx_history::{JoinList, KillList, Setup};
 use rx_machine::Machine;
 use rx_script::read_script;
 use std::test::Fail;
@@ -21,8 +21,9 @@ fn two_workers_meet_and_end_a_run(rt: HostRuntime) -> Result<(), Fail> {
         places: 2,
         heap: 256,
         kills: KillList::open(alloc),
+        joins: JoinList::open(alloc),
     };
-    let Ok(ledger) = CountLedger::open(alloc, 2) else {
+    let Ok(ledger) = CountLedger::open_for(alloc, 2, 0) else {
         panic!(rt; "no memory")
     };
     let gate = MeetGate::open(100_000_000);

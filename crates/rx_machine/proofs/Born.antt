@@ -24,7 +24,7 @@ use Rattle.rx_rules.specs.Entries.{AllowedAct, made_act, born}
 use Rattle.rx_rules.specs.Store.{State}
 use Rattle.rx_rules.specs.Plays.{Fits, started_by}
 use Rattle.rx_rules.specs.Run.{Given}
-use Rattle.rx_rules.specs.Picked.{Game, Player, Turn, tree_in, child_of}
+use Rattle.rx_rules.specs.Picked.{Game, Player, Turn, tree_in, child_of, acted as played}
 use Rattle.rx_sound.specs.Chains.{Opened, HasOpener}
 use Rattle.rx_sound.specs.Sound.{Sound, TasksFall}
 use Rattle.rx_store.specs.Kept.{Kept}
@@ -37,8 +37,9 @@ use Rattle.rx_machine.specs.Held.{is_held, HeldInFront}
 use Rattle.rx_machine.specs.Spine.{Spine}
 use Rattle.rx_machine.specs.Slots.{live_task, if_unstruck, own_scopes, own_kinds, SlotIs, IsSeat, seat_at, seat_in}
 use Rattle.rx_stores.specs.Kepts.{StoresAre}
+use Rattle.rx_history.specs.Setups.{to_join}
 use Rattle.rx_machine.specs.Holds.{Seated, HoldsBut, IsPick, HasGone, LeadsTo}
-use Rattle.rx_machine.proofs.Acted.{Went, granted_player, game_after, tree-after, turned, shared}
+use Rattle.rx_machine.proofs.Acted.{Went, game_after, tree-after, turned, shared}
 use Rattle.rx_machine.proofs.Finding.{same_or_not, get_other, get_before}
 use Rattle.rx_machine.proofs.Granting.{unheld-child}
 use Rattle.rx_machine.proofs.Holding.{unheld-front}
@@ -118,30 +119,30 @@ new-is shape T players n p None player h = h
 new-is shape T players n p (Some seat) player h = (p, player, h)
 
 -- An entry that starts a task: the seat goes back changed, the child gets a slot of its own at the end, and all others stay.
-pub started : {L : Type 0} (stands : L → Tree → Type 0) (shape : Shape) (code : Block) (U : Given) (m m' : Machine L) (k i : ℕ) (here : PlaceId) (p q : Player) (S Z : State) (j : List PlaceEvent) (seat seat' : Seat) (slot : Option Seat) (G : Game) (act : Act) (c : TaskId) → HoldsBut stands shape code U m i G → IsPick U k i seat G → HasGone shape U i here p q S Z j seat G → Fits here q.term (does q.vars here.0 U.places q.term) act → AllowedAct (tree_in U G) seat.row.number act → started_by act ≡ Some c → length G.players ≡ (tree_in U G).next_task → ((n : ℕ) → n ≢ i → n ≢ (tree_in U G).next_task → live_task (made_act (tree_in U G) seat.row.number act) n ≡ live_task (tree_in U G) n) → ((n : ℕ) → n ≢ i → n ≢ (tree_in U G).next_task → SameOwn (tree_in U G) (made_act (tree_in U G) seat.row.number act) n) → (made_act (tree_in U G) seat.row.number act).next_task ≡ suc (tree_in U G).next_task → IsSeat shape (made_act (tree_in U G) seat.row.number act) i (granted_player q act) seat' → NewSlot shape (made_act (tree_in U G) seat.row.number act) (tree_in U G).next_task (child_player q) slot → Went stands m m' (made_act (tree_in U G) seat.row.number act) (Step seat.row.number act q.batch) → i < length m.seats.items → m'.seats.items ≡ slice_set m.seats.items i (Some seat') ++ slot ∷ [] → StoresAre U.heap 0 m.stores.items (slice_set G.journals here.0 j) → LeadsTo (Turn U k G true) (Seated stands shape code U m')
+pub started : {L : Type 0} (stands : L → ℕ → Tree → Type 0) (shape : Shape) (code : Block) (U : Given) (m m' : Machine L) (k i : ℕ) (here : PlaceId) (p q : Player) (S Z : State) (j : List PlaceEvent) (seat seat' : Seat) (slot : Option Seat) (G : Game) (act : Act) (c : TaskId) → HoldsBut stands shape code U m i G → IsPick U k i seat G → HasGone shape U i here p q S Z j seat G → Fits here q.term (does q.vars here.0 q.term) act → AllowedAct (tree_in U G) seat.row.number act → started_by act ≡ Some c → length G.players ≡ (tree_in U G).next_task → ((n : ℕ) → n ≢ i → n ≢ (tree_in U G).next_task → live_task (made_act (tree_in U G) seat.row.number act) n ≡ live_task (tree_in U G) n) → ((n : ℕ) → n ≢ i → n ≢ (tree_in U G).next_task → SameOwn (tree_in U G) (made_act (tree_in U G) seat.row.number act) n) → (made_act (tree_in U G) seat.row.number act).next_task ≡ suc (tree_in U G).next_task → IsSeat shape (made_act (tree_in U G) seat.row.number act) i (played here q act) seat' → NewSlot shape (made_act (tree_in U G) seat.row.number act) (tree_in U G).next_task (child_player q) slot → Went stands m m' (to_join U (tree_in U G)) (made_act (tree_in U G) seat.row.number act) (Step seat.row.number act q.batch) → i < length m.seats.items → m'.seats.items ≡ slice_set m.seats.items i (Some seat') ++ slot ∷ [] → StoresAre U.heap 0 m.stores.items (slice_set G.journals here.0 j) → LeadsTo (Turn U k G true) (Seated stands shape code U m')
 started stands shape code U m m' k i here p q S Z j seat seat' slot G act c but pick gone fits may starts count live own next new born_so went inside back stored =
     let T : Tree = tree_in U G in
     let T' : Tree = made_act T seat.row.number act in
     let G' : Game = game_after G seat.row.number here q Z j act in
     let same : T' ≡ tree_in U G' = sym (tree-after U G seat.row.number here q Z j act) in
-    let ps : List Player = slice_set G.players i (granted_player q act) in
+    let ps : List Player = slice_set G.players i (played here q act) in
     let xs : List (Option Seat) = slice_set m.seats.items i (Some seat') in
     let players : ps ++ child_player q ∷ [] ≡ G'.players =
-    subst (λ (n : ℕ). slice_set G.players n (granted_player q act) ++ child_player q ∷ [] ≡ G'.players) pick.number
-    (ap (λ d. slice_set G.players seat.row.number.0 (granted_player q act) ++ d) (sym (child_is q act c starts))) in
-    let ps_long : length ps ≡ T.next_task = length-set G.players i (granted_player q act) ∙ count in
+    subst (λ (n : ℕ). slice_set G.players n (played here q act) ++ child_player q ∷ [] ≡ G'.players) pick.number
+    (ap (λ d. slice_set G.players seat.row.number.0 (played here q act) ++ d) (sym (child_is q act c starts))) in
+    let ps_long : length ps ≡ T.next_task = length-set G.players i (played here q act) ∙ count in
     let xs_long : length xs ≡ T.next_task = length-set m.seats.items i (Some seat') ∙ but.shares.slots in
     let older : i ≢ T.next_task = λ e. let low : i < T.next_task = subst (λ (v : ℕ). i < v) but.shares.slots inside in absurd (omega (arith, e)) in
     let within : i < length G.players = slice_get_within G.players i p gone.player in
-    let mine : slice_get G'.players i ≡ Some (granted_player q act) =
-    subst (λ (v : List Player). slice_get v i ≡ Some (granted_player q act)) players
-    (get_before ps (child_player q) i (λ e. older (e ∙ ps_long)) ∙ get-set G.players i (granted_player q act) within) in
+    let mine : slice_get G'.players i ≡ Some (played here q act) =
+    subst (λ (v : List Player). slice_get v i ≡ Some (played here q act)) players
+    (get_before ps (child_player q) i (λ e. older (e ∙ ps_long)) ∙ get-set G.players i (played here q act) within) in
     let its : slice_get G'.players T.next_task ≡ Some (child_player q) =
     subst (λ (v : List Player). slice_get v T.next_task ≡ Some (child_player q)) players
     (subst (λ (v : ℕ). slice_get (ps ++ child_player q ∷ []) v ≡ Some (child_player q)) ps_long (get-pushed ps (child_player q))) in
     let others : (n : ℕ) → n ≢ i → n ≢ T.next_task → slice_get G'.players n ≡ slice_get G.players n = λ n apart fresh.
     subst (λ (v : List Player). slice_get v n ≡ slice_get G.players n) players
-    (get_before ps (child_player q) n (λ e. fresh (e ∙ ps_long)) ∙ get_other G.players i n (granted_player q act) apart) in
+    (get_before ps (child_player q) n (λ e. fresh (e ∙ ps_long)) ∙ get_other G.players i n (played here q act) apart) in
     let seat_mine : seat_at (xs ++ slot ∷ []) i ≡ Some seat' = ap seat_in (get_before xs slot i (λ e. older (e ∙ xs_long)) ∙ get-set m.seats.items i (Some seat') inside) in
     let seat_new : seat_at (xs ++ slot ∷ []) T.next_task ≡ slot =
     ap seat_in (subst (λ (v : ℕ). slice_get (xs ++ slot ∷ []) v ≡ Some slot) xs_long (get-pushed xs slot)) in
@@ -159,7 +160,7 @@ started stands shape code U m m' k i here p q S Z j seat seat' slot G act c but 
             (subst (λ (v : List (Option Seat)). SlotIs shape T' G'.players n (seat_at v n)) (sym back)
             (elim (same_or_not n i) [
               | inl e ↦ subst (λ (v : ℕ). SlotIs shape T' G'.players v (seat_at (xs ++ slot ∷ []) v)) (sym e)
-                  (subst (λ (o : Option Seat). SlotIs shape T' G'.players i o) (sym seat_mine) (granted_player q act, mine, new))
+                  (subst (λ (o : Option Seat). SlotIs shape T' G'.players i o) (sym seat_mine) (played here q act, mine, new))
               | inr apart ↦
                   elim (same_or_not n T.next_task) [
                     | inl e ↦ subst (λ (v : ℕ). SlotIs shape T' G'.players v (seat_at (xs ++ slot ∷ []) v)) (sym e)

@@ -16,12 +16,12 @@ use Rattle.rx_rules.specs.declared.tasks.Kind.{Kind}
 use Rattle.rx_rules.specs.declared.events.Cell.{Cell}
 use Rattle.rx_rules.specs.declared.events.PlaceEvent.{PlaceEvent}
 use Rattle.rx_rules.specs.declared.events.PlaceEvent.TheVariants.{Done as Did, Close}
-use Rattle.rx_rules.specs.Code.{Block, work, Stmt, SetTo, New, Get, Put, Forget, Print, Throw, Async, AtAsync, At, Finish, If, Repeat, Try}
-use Rattle.rx_rules.specs.Terms.{Vars, Term, Empty, Run, Raise, Turns, Trying, Body, Held, items, at, Answer, Gives, Fine, Fails, answered, vars_after, answer_of, Does, Local, Makes, Gets, Puts, Forgets, Opens, Calls, Spawns, Waits, Releases, Prints, Done, raise, bound, value_of, ref_in, eval, target_of, is_zero, with_number, with_place, stmt_does, within, does, begins, after_it, receives, stmt_receives}
+use Rattle.rx_rules.specs.Code.{Block, work, Stmt, SetTo, New, Get, Put, Forget, Print, Census, Throw, Async, AtAsync, At, Finish, If, Repeat, Try}
+use Rattle.rx_rules.specs.Terms.{Vars, Term, Empty, Run, Raise, Turns, Trying, Body, Held, items, at, Answer, Gives, Fine, Fails, answered, vars_after, answer_of, Does, Local, Makes, Gets, Puts, Forgets, Opens, Calls, Spawns, Waits, Releases, Prints, Counts, Done, raise, bound, value_of, ref_in, eval, target_of, is_zero, with_number, with_place, stmt_does, within, does, begins, after_it, receives, stmt_receives}
 use Rattle.rx_rules.specs.Tree.{Tree}
 use Rattle.rx_rules.specs.Store.{State, opening_state, MayCell, after_cell}
 use Rattle.rx_rules.specs.Plays.{Tells, begun, journal_at}
-use Rattle.rx_rules.specs.Run.{Given, Proper, death_number}
+use Rattle.rx_rules.specs.Run.{Given, in_all, Proper, death_number}
 use Rattle.rx_rules.specs.Picked.{Game, Player, Goes, stays, local, stores, tree_in}
 use Rattle.rx_runs.specs.Steps.{steps, Sinks, TermSinks}
 use Rattle.rx_runs.specs.Games.{Leads, rests, steps as more, NotAbove, JournalSo, GameOk}
@@ -71,6 +71,7 @@ CallSo here (Spawns place) o = Unit {0}
 CallSo here (Waits faults) o = Unit {0}
 CallSo here Releases o = Unit {0}
 CallSo here (Prints value) o = Unit {0}
+CallSo here (Counts name) o = Unit {0}
 CallSo here (Done faults) o = Unit {0}
 
 on-number : (here : ℕ) (vars : Vars) (v : Option ℤ) (f : ℤ → Does) (o : Option ℕ) → ((z : ℤ) → CallSo here (f z) o) → CallSo here (with_number vars v f) o
@@ -85,30 +86,31 @@ on-test : (here : ℕ) (b : Bool) (d e : Does) (o : Option ℕ) → (b ≡ true 
 on-test here true d e o h k = h refl
 on-test here false d e o h k = k
 
-of_stmt : (vars : Vars) (here places : ℕ) (stmt : Stmt) (x : List ℕ) (rest : Term) → CallSo here (stmt_does vars here places stmt x rest) (stmt_receives stmt)
-of_stmt vars here places (SetTo name value) x rest = on-number here vars (eval vars here value) (λ z. Local rest (bound name (Number z) vars)) None (λ z. tt)
-of_stmt vars here places (New name words) x rest = refl
-of_stmt vars here places (Get name target index) x rest =
+of_stmt : (vars : Vars) (here : ℕ) (stmt : Stmt) (x : List ℕ) (rest : Term) → CallSo here (stmt_does vars here stmt x rest) (stmt_receives stmt)
+of_stmt vars here (SetTo name value) x rest = on-number here vars (eval vars here value) (λ z. Local rest (bound name (Number z) vars)) None (λ z. tt)
+of_stmt vars here (New name words) x rest = refl
+of_stmt vars here (Get name target index) x rest =
     let r = ref_in (value_of vars target) in
     on-number here vars (eval vars here index) (λ k. cond (r.home.0 == here) (Gets name r k) (Local (raise WrongPlace) vars)) (Some name)
     (λ k. on-test here (r.home.0 == here) (Gets name r k) (Local (raise WrongPlace) vars) (Some name) (λ e. (eqb-true r.home.0 here e, refl)) tt)
-of_stmt vars here places (Put target index value) x rest =
+of_stmt vars here (Put target index value) x rest =
     let r = ref_in (value_of vars target) in
     on-number here vars (eval vars here index) (λ k. with_number vars (eval vars here value) (λ z. cond (r.home.0 == here) (Puts r k z) (Local (raise WrongPlace) vars))) None
     (λ k. on-number here vars (eval vars here value) (λ z. cond (r.home.0 == here) (Puts r k z) (Local (raise WrongPlace) vars)) None
     (λ z. on-test here (r.home.0 == here) (Puts r k z) (Local (raise WrongPlace) vars) None (λ e. eqb-true r.home.0 here e) tt))
-of_stmt vars here places (Forget target) x rest =
+of_stmt vars here (Forget target) x rest =
     let r = ref_in (value_of vars target) in on-test here (r.home.0 == here) (Forgets r) (Local (raise WrongPlace) vars) None (λ e. eqb-true r.home.0 here e) tt
-of_stmt vars here places (Print value) x rest = on-number here vars (eval vars here value) Prints None (λ z. tt)
-of_stmt vars here places (Throw value) x rest = on-number here vars (eval vars here value) (λ z. Local (raise (Thrown z)) vars) None (λ z. tt)
-of_stmt vars here places (Async body) x rest = tt
-of_stmt vars here places (AtAsync place body) x rest = on-place here vars (target_of (eval vars here place) places) Spawns None (λ p. tt)
-of_stmt vars here places (At place body) x rest = on-place here vars (target_of (eval vars here place) places) Calls None (λ p. tt)
-of_stmt vars here places (Finish body) x rest = tt
-of_stmt vars here places (If test first other) x rest =
+of_stmt vars here (Print value) x rest = on-number here vars (eval vars here value) Prints None (λ z. tt)
+of_stmt vars here (Census name) x rest = tt
+of_stmt vars here (Throw value) x rest = on-number here vars (eval vars here value) (λ z. Local (raise (Thrown z)) vars) None (λ z. tt)
+of_stmt vars here (Async body) x rest = tt
+of_stmt vars here (AtAsync place body) x rest = on-place here vars (target_of (eval vars here place) vars.places) Spawns None (λ p. tt)
+of_stmt vars here (At place body) x rest = on-place here vars (target_of (eval vars here place) vars.places) Calls None (λ p. tt)
+of_stmt vars here (Finish body) x rest = tt
+of_stmt vars here (If test first other) x rest =
     on-number here vars (eval vars here test) (λ z. Local (cond (is_zero z) (items other (at x 1) rest) (items first (at x 0) rest)) vars) None (λ z. tt)
-of_stmt vars here places (Repeat times body) x rest = tt
-of_stmt vars here places (Try body dead_only handler) x rest = tt
+of_stmt vars here (Repeat times body) x rest = tt
+of_stmt vars here (Try body dead_only handler) x rest = tt
 
 inside : (here : ℕ) (f : Term → Term) (d : Does) (o : Option ℕ) → CallSo here d o → CallSo here (within f d) o
 inside here f (Local left vars) o h = tt
@@ -122,28 +124,29 @@ inside here f (Spawns place) o h = tt
 inside here f (Waits faults) o h = tt
 inside here f Releases o h = tt
 inside here f (Prints value) o h = tt
+inside here f (Counts name) o h = tt
 inside here f (Done faults) o h = tt
 
-pub call-so : (vars : Vars) (here places : ℕ) (t : Term) → CallSo here (does vars here places t) (receives t)
-call-so vars here places Empty = tt
-call-so vars here places (Run stmt x rest) = of_stmt vars here places stmt x rest
-call-so vars here places (Raise faults) = tt
-call-so vars here places (Turns body x k times rest) = tt
-call-so vars here places (Trying Empty o b x rest) = tt
-call-so vars here places (Trying (Raise fs) o b x rest) = tt
-call-so vars here places (Trying (Run s y m) o b x rest) = inside here (λ t. Trying t o b x rest) (does vars here places (Run s y m)) (receives (Run s y m)) (call-so vars here places (Run s y m))
-call-so vars here places (Trying (Turns c y k n m) o b x rest) = tt
-call-so vars here places (Trying (Trying u p c y m) o b x rest) = inside here (λ t. Trying t o b x rest) (does vars here places (Trying u p c y m)) (receives (Trying u p c y m)) (call-so vars here places (Trying u p c y m))
-call-so vars here places (Trying (Body u m) o b x rest) = inside here (λ t. Trying t o b x rest) (does vars here places (Body u m)) (receives (Body u m)) (call-so vars here places (Body u m))
-call-so vars here places (Trying (Held m) o b x rest) = tt
-call-so vars here places (Body Empty rest) = tt
-call-so vars here places (Body (Raise fs) rest) = tt
-call-so vars here places (Body (Run s y m) rest) = inside here (λ t. Body t rest) (does vars here places (Run s y m)) (receives (Run s y m)) (call-so vars here places (Run s y m))
-call-so vars here places (Body (Turns c y k n m) rest) = tt
-call-so vars here places (Body (Trying u p c y m) rest) = inside here (λ t. Body t rest) (does vars here places (Trying u p c y m)) (receives (Trying u p c y m)) (call-so vars here places (Trying u p c y m))
-call-so vars here places (Body (Body u m) rest) = inside here (λ t. Body t rest) (does vars here places (Body u m)) (receives (Body u m)) (call-so vars here places (Body u m))
-call-so vars here places (Body (Held m) rest) = tt
-call-so vars here places (Held rest) = tt
+pub call-so : (vars : Vars) (here : ℕ) (t : Term) → CallSo here (does vars here t) (receives t)
+call-so vars here Empty = tt
+call-so vars here (Run stmt x rest) = of_stmt vars here stmt x rest
+call-so vars here (Raise faults) = tt
+call-so vars here (Turns body x k times rest) = tt
+call-so vars here (Trying Empty o b x rest) = tt
+call-so vars here (Trying (Raise fs) o b x rest) = tt
+call-so vars here (Trying (Run s y m) o b x rest) = inside here (λ t. Trying t o b x rest) (does vars here (Run s y m)) (receives (Run s y m)) (call-so vars here (Run s y m))
+call-so vars here (Trying (Turns c y k n m) o b x rest) = tt
+call-so vars here (Trying (Trying u p c y m) o b x rest) = inside here (λ t. Trying t o b x rest) (does vars here (Trying u p c y m)) (receives (Trying u p c y m)) (call-so vars here (Trying u p c y m))
+call-so vars here (Trying (Body u m) o b x rest) = inside here (λ t. Trying t o b x rest) (does vars here (Body u m)) (receives (Body u m)) (call-so vars here (Body u m))
+call-so vars here (Trying (Held m) o b x rest) = tt
+call-so vars here (Body Empty rest) = tt
+call-so vars here (Body (Raise fs) rest) = tt
+call-so vars here (Body (Run s y m) rest) = inside here (λ t. Body t rest) (does vars here (Run s y m)) (receives (Run s y m)) (call-so vars here (Run s y m))
+call-so vars here (Body (Turns c y k n m) rest) = tt
+call-so vars here (Body (Trying u p c y m) rest) = inside here (λ t. Body t rest) (does vars here (Trying u p c y m)) (receives (Trying u p c y m)) (call-so vars here (Trying u p c y m))
+call-so vars here (Body (Body u m) rest) = inside here (λ t. Body t rest) (does vars here (Body u m)) (receives (Body u m)) (call-so vars here (Body u m))
+call-so vars here (Body (Held m) rest) = tt
+call-so vars here (Held rest) = tt
 
 -- what is told of a call, for its statement, the name that waits, the store that may be asked, and the steps that are left
 pub record IsCall (t : Term) (here : PlaceId) (op : CellOp) (d : Does) : Type 0 where
@@ -177,6 +180,7 @@ is_call t here op (Spawns place) e b c s k = absurd (let f : ⊥ = cc in f)
 is_call t here op (Waits faults) e b c s k = absurd (let f : ⊥ = cc in f)
 is_call t here op Releases e b c s k = absurd (let f : ⊥ = cc in f)
 is_call t here op (Prints value) e b c s k = absurd (let f : ⊥ = cc in f)
+is_call t here op (Counts name) e b c s k = absurd (let f : ⊥ = cc in f)
 is_call t here op (Done faults) e b c s k = absurd (let f : ⊥ = cc in f)
 
 pub begun_is : (t : Term) (x : List ℕ) → begins t ≡ Some x → IsBegun t
@@ -241,7 +245,7 @@ stamp-most n s [] le h = le
 stamp-most n s (Did task stamp cell path ∷ j) le h = stamp-most n stamp j h.0 h.1
 stamp-most n s (Close stamp ∷ j) le h = stamp-most n stamp j h.0 h.1
 
-goes-is : {places heap n : ℕ} {t : TaskId} {here : PlaceId} {p q : Player} {S Z : State} {j k : List PlaceEvent} → Goes places heap n t here p S j q Z k → JournalIs n S j → JournalIs n Z k
+goes-is : {heap n : ℕ} {t : TaskId} {here : PlaceId} {p q : Player} {S Z : State} {j k : List PlaceEvent} → Goes heap n t here p S j q Z k → JournalIs n S j → JournalIs n Z k
 goes-is stays h = h
 goes-is (local e g) h = goes-is g h
 goes-is {n = n} {t = t} {j = j} (stores cell x a told b may g) h =
@@ -252,7 +256,7 @@ goes-is {n = n} {t = t} {j = j} (stores cell x a told b may g) h =
     })
 
 -- the journal of the place of an unstruck task
-journal-is : (code : Block) (U : Given) (G : Game) (i : ℕ) (row : Task) (here : PlaceId) (S : State) → GameOk code U G → live_task (tree_in U G) i ≡ Some row → row.place ≡ IsAt here → here.0 < U.places → slice_get G.stores here.0 ≡ Some S → JournalIs (length G.entries) S (journal_at G.journals here.0)
+journal-is : (code : Block) (U : Given) (G : Game) (i : ℕ) (row : Task) (here : PlaceId) (S : State) → GameOk code U G → live_task (tree_in U G) i ≡ Some row → row.place ≡ IsAt here → here.0 < in_all U → slice_get G.stores here.0 ≡ Some S → JournalIs (length G.entries) S (journal_at G.journals here.0)
 journal-is code U G i row here S ok live is_at place store =
     let both = pairs-get 0 here.0 G.journals G.stores (rw ok.one_each place) ok.journals in
     let so : JournalSo U G.entries here.0 both.left both.right = (let z : 0 + here.0 ≡ here.0 = omega arith in subst (λ (v : ℕ). JournalSo U G.entries v both.left both.right) z both.holds) in
@@ -266,13 +270,13 @@ journal-is code U G i row here S ok live is_at place store =
     let journal : both.left ≡ journal_at G.journals here.0 = sym (ap (λ (o : Option (List PlaceEvent)). elim o as (λ _. List PlaceEvent) [ Some j ↦ j | None ↦ [] ]) both.at_left) in
     subst (λ (v : State). JournalIs (length G.entries) v (journal_at G.journals here.0)) same (subst (λ (l : List PlaceEvent). JournalIs (length G.entries) both.right l) journal is)
 
-module _ {L : Type 0} (stands : L → Tree → Type 0) (shape : Shape) (code : Block) (U : Given) (m : Machine L) (k i : ℕ) (here : PlaceId) (q : Player) (seat : Seat) (G : Game) (a : Acting stands shape code U m k i here q seat G) where
+module _ {L : Type 0} (stands : L → ℕ → Tree → Type 0) (shape : Shape) (code : Block) (U : Given) (m : Machine L) (k i : ℕ) (here : PlaceId) (q : Player) (seat : Seat) (G : Game) (a : Acting stands shape code U m k i here q seat G) where
   -- the call that is next
-  pub call_is : (op : CellOp) → TermSinks → ComesSome → GoesSome → MakesSome code → next_of (does q.vars here.0 U.places q.term) ≡ CellStep op → IsCall q.term here op (does q.vars here.0 U.places q.term)
+  pub call_is : (op : CellOp) → TermSinks → ComesSome → GoesSome → MakesSome code → next_of (does q.vars here.0 q.term) ≡ CellStep op → IsCall q.term here op (does q.vars here.0 q.term)
   call_is op sink comes goes some e =
       let began : TermMakesSome a.began.term = comes code U G some a.but.shares.comes i a.began a.gone.player in
-      let both = goes U.places U.heap (length G.entries) seat.row.number here a.began q a.store a.left (journal_at G.journals here.0) a.events a.gone.goes began in
-      is_call q.term here op (does q.vars here.0 U.places q.term) e (begins-so q.vars here.0 U.places q.term) (call-so q.vars here.0 U.places q.term) (both.1 q.vars) (sink q.vars here.0 U.places q.term)
+      let both = goes U.heap (length G.entries) seat.row.number here a.began q a.store a.left (journal_at G.journals here.0) a.events a.gone.goes began in
+      is_call q.term here op (does q.vars here.0 q.term) e (begins-so q.vars here.0 q.term) (call-so q.vars here.0 q.term) (both.1 q.vars) (sink q.vars here.0 q.term)
 
   -- the store of the place
   pub record StoreIs (old : Kept) : Type 0 where
@@ -286,10 +290,10 @@ module _ {L : Type 0} (stands : L → Tree → Type 0) (shape : Shape) (code : B
   store_is come proper =
       let came : CameTo code U G = come code U G proper a.but.shares.comes a.pick.stands in
       let ok = came.ok in
-      let low : here.0 < length G.journals = rw ok.one_each a.place in
+      let low : here.0 < length G.journals = rw ok.one_each a.stored in
       let at : slice_get (slice_set G.journals here.0 a.events) here.0 ≡ Some a.events = get-set G.journals here.0 a.events low in
       let s = stores-at U.heap 0 m.stores.items (slice_set G.journals here.0 a.events) here.0 a.events a.stores at in
-      let start : JournalIs (length G.entries) a.store (journal_at G.journals here.0) = journal-is code U G i seat.row here a.store ok a.gone.seat_is.row a.gone.is_at a.place a.gone.store in (
+      let start : JournalIs (length G.entries) a.store (journal_at G.journals here.0) = journal-is code U G i seat.row here a.store ok a.gone.seat_is.row a.gone.is_at a.stored a.gone.store in (
         s.0,
         record {
           found = s.1;
@@ -307,14 +311,14 @@ module _ {L : Type 0} (stands : L → Tree → Type 0) (shape : Shape) (code : B
       let found = live_stands (tree_in U G) i seat.row a.gone.seat_is.row in
       let row : RowSo G.entries i seat.row.place = (row-found (record { 0 = i }) seat.row (length came.ok.starts) G.entries (tree_in U G).tasks found.0 found.1 came.ok.ties.rows).1 in
       let first : length (journal_at G.journals here.0) + steps a.began.term ≤ 3 * work code + length G.entries = most code U G proper a.but.shares.comes here.0 i a.began a.gone.player row.going in
-      let rest : length a.events + steps q.term ≤ length (journal_at G.journals here.0) + steps a.began.term = tells U.places U.heap (length G.entries) seat.row.number here a.began q a.store a.left (journal_at G.journals here.0) a.events a.gone.goes in
-      let entries : length G.entries ≤ 4 * work code + U.places = came.entries in
-      let places : U.places ≤ 16 = proper.few in omega (arith, first, rest, entries, places, few)
+      let rest : length a.events + steps q.term ≤ length (journal_at G.journals here.0) + steps a.began.term = tells U.heap (length G.entries) seat.row.number here a.began q a.store a.left (journal_at G.journals here.0) a.events a.gone.goes in
+      let entries : length G.entries ≤ 4 * work code + U.places + 2 * length U.joins = came.entries in
+      let places : U.places + length U.joins ≤ 16 = proper.few in omega (arith, first, rest, entries, places, few)
 
 -- the new seat
-answered-seat : (shape : Shape) (T : Tree) (i : ℕ) (here : PlaceId) (places : ℕ) (q : Player) (seat seat' : Seat) (x : List ℕ) (ans : Answer) → IsSeat shape T i q seat → begins q.term ≡ Some x → (does q.vars here.0 places q.term ≡ Releases → ⊥) → StandsFor shape seat'.control (answered ans q.term) → seat'.control.vars ≡ vars_after ans seat.control.vars → seat'.batch ≡ seat.batch ++ x ∷ [] → seat'.row ≡ seat.row → seat'.scopes ≡ seat.scopes → IsSeat shape T i (record { term = answered ans q.term; vars = vars_after ans q.vars; batch = begun q.term q.batch }) seat'
-answered-seat shape T i here places q seat seat' x ans s b free term vars batch row scopes =
-    let away : is_held q.term ≡ false = not_held q.vars here.0 places q.term free in
+answered-seat : (shape : Shape) (T : Tree) (i : ℕ) (here : PlaceId) (q : Player) (seat seat' : Seat) (x : List ℕ) (ans : Answer) → IsSeat shape T i q seat → begins q.term ≡ Some x → (does q.vars here.0 q.term ≡ Releases → ⊥) → StandsFor shape seat'.control (answered ans q.term) → seat'.control.vars ≡ vars_after ans seat.control.vars → seat'.batch ≡ seat.batch ++ x ∷ [] → seat'.row ≡ seat.row → seat'.scopes ≡ seat.scopes → IsSeat shape T i (record { term = answered ans q.term; vars = vars_after ans q.vars; batch = begun q.term q.batch }) seat'
+answered-seat shape T i here q seat seat' x ans s b free term vars batch row scopes =
+    let away : is_held q.term ≡ false = not_held q.vars here.0 q.term free in
     let waits : HeldInFront (answered ans q.term) × (is_held (answered ans q.term) ≡ false) = answer-waits ans q.term s.held in
     record {
       row = s.row ∙ ap (λ (y : Task). Some y) (sym row);
@@ -350,11 +354,11 @@ event-is n t x es mark cell task stamp path last =
     max-left n s le = omega arith
 
 -- a store call lengthens the walk by its event
-pub call-told : {L : Type 0} (stands : L → Tree → Type 0) (shape : Shape) (code : Block) (U : Given) (m : Machine L) (k i : ℕ) (here : PlaceId) (q : Player) (seat : Seat) (G : Game) (op : CellOp) (answer : Result (Option Value) Fault) (x : List ℕ) (old new : Kept) (mark : Mark) (items : List Kept) → (a : Acting stands shape code U m k i here q seat G) → (c : IsCall q.term here op (does q.vars here.0 U.places q.term)) → begins q.term ≡ Some x → next_of (does q.vars here.0 U.places q.term) ≡ CellStep op → StoreIs stands shape code U m k i here q seat G a old → items ≡ slice_set m.stores.items here.0 new → mark.task ≡ seat.row.number → mark.stamp ≡ length G.entries → mark.path ≡ x → Asked old new mark op answer → (Z : State) × (l : List PlaceEvent) × Goes U.places U.heap (length G.entries) seat.row.number here a.began a.store (journal_at G.journals here.0) (record { term = answered (answer_of (receives q.term) answer) q.term; vars = vars_after (answer_of (receives q.term) answer) q.vars; batch = begun q.term q.batch }) Z l × StoresAre U.heap 0 items (slice_set G.journals here.0 l)
+pub call-told : {L : Type 0} (stands : L → ℕ → Tree → Type 0) (shape : Shape) (code : Block) (U : Given) (m : Machine L) (k i : ℕ) (here : PlaceId) (q : Player) (seat : Seat) (G : Game) (op : CellOp) (answer : Result (Option Value) Fault) (x : List ℕ) (old new : Kept) (mark : Mark) (items : List Kept) → (a : Acting stands shape code U m k i here q seat G) → (c : IsCall q.term here op (does q.vars here.0 q.term)) → begins q.term ≡ Some x → next_of (does q.vars here.0 q.term) ≡ CellStep op → StoreIs stands shape code U m k i here q seat G a old → items ≡ slice_set m.stores.items here.0 new → mark.task ≡ seat.row.number → mark.stamp ≡ length G.entries → mark.path ≡ x → Asked old new mark op answer → (Z : State) × (l : List PlaceEvent) × Goes U.heap (length G.entries) seat.row.number here a.began a.store (journal_at G.journals here.0) (record { term = answered (answer_of (receives q.term) answer) q.term; vars = vars_after (answer_of (receives q.term) answer) q.vars; batch = begun q.term q.batch }) Z l × StoresAre U.heap 0 items (slice_set G.journals here.0 l)
 call-told stands shape code U m k i here q seat G op answer x old new mark items a c b e is put task stamp path asked =
     let ans : Answer = answer_of (receives q.term) answer in
     let cell : Cell = asked.cell in
-    let told : Tells (does q.vars here.0 U.places q.term) here cell ans = subst (λ (p : PlaceId). Tells (does q.vars here.0 U.places q.term) p cell ans) is.place (asked.told (does q.vars here.0 U.places q.term) (receives q.term) e c.receives) in
+    let told : Tells (does q.vars here.0 q.term) here cell ans = subst (λ (p : PlaceId). Tells (does q.vars here.0 q.term) p cell ans) is.place (asked.told (does q.vars here.0 q.term) (receives q.term) e c.receives) in
     let state : state_of old.events ≡ a.left = ap state_of is.events ∙ is.journal.state in
     let may : MayCell U.heap a.left cell = subst (λ (S : State). MayCell U.heap S cell) state (subst (λ (w : ℕ). MayCell w (state_of old.events) cell) is.words asked.law) in
     let last : last_stamp old.events ≤ length G.entries = (let w : last_stamp old.events ≡ last_stamp a.events = ap last_stamp is.events in let v : last_stamp a.events ≤ length G.entries = is.journal.last in omega (arith, w, v)) in
@@ -366,11 +370,11 @@ call-told stands shape code U m k i here q seat G op answer x old new mark items
     let stored : StoresAre U.heap 0 items (slice_set G.journals here.0 longer) = subst (λ (ss : List Kept). StoresAre U.heap 0 ss (slice_set G.journals here.0 longer)) (sym put) (subst (λ (js : List (List PlaceEvent)). StoresAre U.heap 0 (slice_set m.stores.items here.0 new) js) (set-twice G.journals here.0 a.events longer) kept) in
     (after_cell a.left cell, longer, goes-stores cell x ans a.gone.goes told b may, stored)
 
-pub called : {L : Type 0} (stands : L → Tree → Type 0) (shape : Shape) (code : Block) (U : Given) (m m' : Machine L) (k i : ℕ) (here : PlaceId) (q : Player) (seat seat' : Seat) (G : Game) (op : CellOp) (answer : Result (Option Value) Fault) (x : List ℕ) (old new : Kept) (mark : Mark) → (a : Acting stands shape code U m k i here q seat G) → (c : IsCall q.term here op (does q.vars here.0 U.places q.term)) → begins q.term ≡ Some x → next_of (does q.vars here.0 U.places q.term) ≡ CellStep op → StoreIs stands shape code U m k i here q seat G a old → OnlyStores m m' → m'.stores.items ≡ slice_set m.stores.items here.0 new → mark.task ≡ seat.row.number → mark.stamp ≡ length G.entries → mark.path ≡ x → Asked old new mark op answer → StandsFor shape seat'.control (answered (answer_of (receives q.term) answer) q.term) → seat'.control.vars ≡ vars_after (answer_of (receives q.term) answer) seat.control.vars → seat'.batch ≡ seat.batch ++ x ∷ [] → seat'.row ≡ seat.row → seat'.scopes ≡ seat.scopes → AfterStep stands shape code U m' k i here q seat' G None
+pub called : {L : Type 0} (stands : L → ℕ → Tree → Type 0) (shape : Shape) (code : Block) (U : Given) (m m' : Machine L) (k i : ℕ) (here : PlaceId) (q : Player) (seat seat' : Seat) (G : Game) (op : CellOp) (answer : Result (Option Value) Fault) (x : List ℕ) (old new : Kept) (mark : Mark) → (a : Acting stands shape code U m k i here q seat G) → (c : IsCall q.term here op (does q.vars here.0 q.term)) → begins q.term ≡ Some x → next_of (does q.vars here.0 q.term) ≡ CellStep op → StoreIs stands shape code U m k i here q seat G a old → OnlyStores m m' → m'.stores.items ≡ slice_set m.stores.items here.0 new → mark.task ≡ seat.row.number → mark.stamp ≡ length G.entries → mark.path ≡ x → Asked old new mark op answer → StandsFor shape seat'.control (answered (answer_of (receives q.term) answer) q.term) → seat'.control.vars ≡ vars_after (answer_of (receives q.term) answer) seat.control.vars → seat'.batch ≡ seat.batch ++ x ∷ [] → seat'.row ≡ seat.row → seat'.scopes ≡ seat.scopes → AfterStep stands shape code U m' k i here q seat' G None
 called stands shape code U m m' k i here q seat seat' G op answer x old new mark a c b e is only put task stamp path asked term vars batch row scopes =
     let ans : Answer = answer_of (receives q.term) answer in
     let w = call-told stands shape code U m k i here q seat G op answer x old new mark m'.stores.items a c b e is put task stamp path asked in (
       record { term = answered ans q.term; vars = vars_after ans q.vars; batch = begun q.term q.batch },
-      acting-on stands shape code U m m' k i here q _ seat seat' G w.0 w.1 a only row w.2 (answered-seat shape (tree_in U G) i here U.places q seat seat' x ans a.gone.seat_is b c.free term vars batch row scopes) w.3,
+      acting-on stands shape code U m m' k i here q _ seat seat' G w.0 w.1 a only row w.2 (answered-seat shape (tree_in U G) i here q seat seat' x ans a.gone.seat_is b c.free term vars batch row scopes) w.3,
       c.sinks ans,
     )

@@ -3,7 +3,6 @@ use Rattle.std.specs.Prelude.{◌≡◌, ◌≢◌, ◌⊎◌, ℕ, zero, suc, �
 use Rattle.std.proofs.Common.{ap, ◌∙◌, sym, subst, arith, inl, inr}
 use Rattle.std.proofs.lemmas.List.{length-set}
 use Rattle.rx_base.specs.declared.ids.PlaceId.{PlaceId}
-use Rattle.rx_base.specs.declared.ids.Kill.{Kill}
 use Rattle.rx_base.proofs.Elements.{get-set}
 use Rattle.rx_rules.specs.declared.tasks.Blow.{Blow}
 use Rattle.rx_rules.specs.declared.entries.Entry.{Entry}
@@ -17,39 +16,40 @@ use Rattle.rx_rules.specs.Fold.{opening}
 use Rattle.rx_rules.specs.Plays.{journal_at}
 use Rattle.rx_rules.specs.Reached.{IsOlder}
 use Rattle.rx_rules.specs.Store.{opening_state}
-use Rattle.rx_rules.specs.Run.{Given, IsDue, rest_of, death_number}
-use Rattle.rx_rules.specs.Picked.{Game, Player, Turn, dies, turns, tree_in}
+use Rattle.rx_rules.specs.Run.{Given, Event, in_all, IsDue, rest_of, death_number}
+use Rattle.rx_rules.specs.Picked.{Game, Player, Turn, due as due_turn, turns, tree_in}
 use Rattle.rx_rules.proofs.Append.{no_root-death, tree-push}
 use Rattle.rx_sound.proofs.Histories.{none_yet, older-from}
 use Rattle.rx_runs.specs.Coming.{CameTo, GamesCome}
 use Rattle.rx_runs.specs.Games.{JournalSo, Leads}
-use Rattle.rx_runs.specs.Ties.{MayCome}
+use Rattle.rx_runs.specs.Ties.{MayBe, MayCome}
 use Rattle.rx_runs.proofs.Pairs.{pairs-get, journal_got}
 use Rattle.rx_finish.specs.Callers.{MayStrike}
-use Rattle.rx_history.specs.Setups.{given}
+use Rattle.rx_history.specs.Setups.{given, to_join}
 use Rattle.rx_store.specs.Kept.{Kept, ends_closed, last_stamp}
 use Rattle.rx_nodes.specs.Shape.{Shape}
 use Rattle.rx_machine.specs.declared.machine.Machine.{Machine}
 use Rattle.rx_machine.specs.declared.seat.Seat.{Seat}
 use Rattle.rx_machine.specs.Slots.{live_task, SlotIs, seat_at, seat_in, left_by}
 use Rattle.rx_stores.specs.Kepts.{StoresAre}
-use Rattle.rx_machine.specs.Runs.{Dying, HasDied}
+use Rattle.rx_machine.specs.Runs.{Falling, HasFallen}
 use Rattle.rx_machine.proofs.Finding.{same_or_not}
 use Rattle.rx_machine.proofs.Acted.{seat_other}
 use Rattle.rx_machine.proofs.Live.{if_missed, strike-live}
 use Rattle.rx_machine.proofs.Called.{stores-at, stores-set, leads-open, stamp-most}
 
--- What the kill that is due says of its place.
+-- What the death that is due says of its place.
 
 pub record DueSo (q : ℕ) (es : List Entry) (d : PlaceId) : Type 0 where
   pub inside : d.0 < q
   pub not_zero : d.0 ≢ 0
   pub lives : death_number 0 d es ≡ None
 
-due-so : (q n : ℕ) (es : List Entry) (d : PlaceId) (ks : List Kill) → IsDue n d ks → MayCome q es ks → DueSo q es d
-due-so q n es d [] due h = absurd due
-due-so q n es d (k ∷ ks) due h =
-    let so : DueSo q es k.place = record { inside = h.0; not_zero = h.1; lives = h.2 } in subst (λ (p : PlaceId). DueSo q es p) due.0 so
+due-so : (all here n : ℕ) (es : List Entry) (d : PlaceId) (xs : List Event) → IsDue n (Death d) xs → MayCome all here es xs → DueSo here es d
+due-so all here n es d [] due h = absurd due
+due-so all here n es d (x ∷ xs) due h =
+    let may : MayBe here es xs (Death d) = subst (λ (e : Entry). MayBe here es xs e) due.0 h.0 in
+    record { inside = may.0; not_zero = may.1; lives = may.2 }
 
 -- The slots.
 
@@ -94,51 +94,48 @@ pub record IsOpen (n : ℕ) (d : PlaceId) (heap : ℕ) (items : List Kept) (j : 
   pub last : last_stamp s.events ≤ n
 
 -- what a death leaves of a machine
-pub record Fell {L : Type 0} (stands : L → Tree → Type 0) (m m' : Machine L) (d : PlaceId) (n : ℕ) (T : Tree) : Type 0 where
-  pub places : m'.places ≡ m.places
+pub record Fell {L : Type 0} (stands : L → ℕ → Tree → Type 0) (m m' : Machine L) (d : PlaceId) (n room : ℕ) (T : Tree) : Type 0 where
   pub setup : m'.history.setup ≡ m.history.setup
   pub entries : m'.history.entries ≡ m.history.entries ++ Death d ∷ []
-  pub kills : m'.kills ≡ rest_of m.kills
+  pub plan : m'.plan ≡ rest_of m.plan
   pub failed : m'.failed ≡ m.failed
-  pub ledger : stands m'.ledger (strike (record { place = d; entry = n }) T)
+  pub ledger : stands m'.ledger room (strike (record { place = d; entry = n }) T)
   pub stores : (s : Kept) → slice_get m.stores.items d.0 ≡ Some s → m'.stores.items ≡ slice_set m.stores.items d.0 (record s { events = s.events ++ Close n ∷ [] })
   pub many : length m'.seats.items ≡ length m.seats.items
   pub each : (i : ℕ) → seat_at m'.seats.items i ≡ left_by d (seat_at m.seats.items i)
 
-module _ {L : Type 0} (stands : L → Tree → Type 0) (shape : Shape) (code : Block) (U : Given) (m : Machine L) (d : PlaceId) (G : Game) (come : GamesCome) (t : Dying stands shape code U m d G) where
+module _ {L : Type 0} (stands : L → ℕ → Tree → Type 0) (shape : Shape) (code : Block) (U : Given) (m : Machine L) (d : PlaceId) (G : Game) (come : GamesCome) (t : Falling stands shape code U m (Death d) G) where
   came : CameTo code U G
   came = come code U G t.can.holds.shares.on.proper t.can.holds.shares.comes t.can.unreleased
 
-  due : DueSo U.places G.entries d
-  due = due-so U.places (length G.entries) G.entries d G.kills t.due came.ok.kills
+  due : DueSo (tree_in U G).places G.entries d
+  due = due-so (in_all U) (tree_in U G).places (length G.entries) G.entries d G.plan t.due came.ok.plan
 
-  few : U.places ≤ 16
+  few : in_all U ≤ 16
   few = t.can.holds.shares.on.proper.few
+
+  stored : d.0 < in_all U
+  stored = let here : d.0 < (tree_in U G).places = due.inside in let most : (tree_in U G).places ≤ in_all U = came.ok.ties.within in omega (arith, here, most)
 
   pub may-strike : MayStrike (tree_in U G) d (length G.entries)
   may-strike =
       let zero_on : 0 + length G.entries ≡ length G.entries = omega arith in
-      let places : (tree_in U G).places ≡ U.places = came.ok.ties.same in
-      let inside : d.0 < U.places = due.inside in
-      let most : U.places ≤ 16 = few in
+      let inside : d.0 < in_all U = stored in
+      let most : in_all U ≤ 16 = few in
       record {
-        dies = record {
-          is_place = omega (arith, places, inside);
-          not_zero = due.not_zero;
-          lives = came.ok.ties.deaths d (omega (arith, inside, most)) ∙ due.lives;
-        };
+        dies = (due.inside, due.not_zero, came.ok.ties.deaths d (omega (arith, inside, most)) ∙ due.lives);
         later = subst (λ (n : ℕ). All (IsOlder n) (tree_in U G).dead) zero_on (older-from 0 (opening U.places) G.entries none_yet);
       }
 
   pub entries-few : length G.entries < 2 ^ 31
   entries-few =
-      let entries : length G.entries ≤ 4 * work code + U.places = came.entries in
-      let most : U.places ≤ 16 = few in
+      let entries : length G.entries ≤ 4 * work code + U.places + 2 * length U.joins = came.entries in
+      let most : U.places + length U.joins ≤ 16 = few in
       let small : work code ≤ 100000 = t.can.holds.shares.on.few in omega (arith, entries, most, small)
 
   pub store-open : (s : Kept) × IsOpen (length G.entries) d U.heap m.stores.items (journal_at G.journals d.0) s
   store-open =
-      let low : d.0 < length G.journals = subst (λ (n : ℕ). d.0 < n) (sym came.ok.one_each) due.inside in
+      let low : d.0 < length G.journals = subst (λ (n : ℕ). d.0 < n) (sym came.ok.one_each) stored in
       let both = pairs-get 0 d.0 G.journals G.stores low came.ok.journals in
       let so : JournalSo U G.entries d.0 both.left both.right = (let z : 0 + d.0 ≡ d.0 = omega arith in subst (λ (v : ℕ). JournalSo U G.entries v both.left both.right) z both.holds) in
       let leads : Leads U.heap opening_state both.left both.right = so.live due.lives in
@@ -155,14 +152,14 @@ module _ {L : Type 0} (stands : L → Tree → Type 0) (shape : Shape) (code : B
         },
       )
 
-  pub fallen : (m' : Machine L) (k : ℕ) → Fell stands m m' d (length G.entries) (tree_in U G) → HasDied stands shape code U m' k G
+  pub fallen : (m' : Machine L) (k : ℕ) → Fell stands m m' d (length G.entries) (to_join U (tree_in U G)) (tree_in U G) → HasFallen stands shape code U m' k G
   fallen m' k f =
       let n : ℕ = length G.entries in
       let b : Blow = record { place = d; entry = length G.entries } in
       let h = t.can.holds in
       let j : List PlaceEvent = journal_at G.journals d.0 ++ Close (length G.entries) ∷ [] in
-      let G' : Game = record G { entries = G.entries ++ Death d ∷ []; journals = slice_set G.journals d.0 j; kills = rest_of G.kills } in
-      let turn : Turn U k G false G' = dies d t.due in
+      let G' : Game = record G { entries = G.entries ++ Death d ∷ []; journals = slice_set G.journals d.0 j; plan = rest_of G.plan } in
+      let turn : Turn U k G false G' = due_turn (Death d) t.due in
       let same : strike b (tree_in U G) ≡ tree_in U G' = sym (tree-push U.places G.entries (Death d)) in
       let s = store-open in
       let s' : Kept = record s.0 { events = s.0.events ++ Close (length G.entries) ∷ [] } in
@@ -175,11 +172,10 @@ module _ {L : Type 0} (stands : L → Tree → Type 0) (shape : Shape) (code : B
             shares = record {
               on = h.shares.on;
               comes = turns h.shares.comes t.can.unreleased turn;
-              places = h.shares.places ∙ sym f.places;
               setup = ap given f.setup ∙ h.shares.setup;
               entries = f.entries ∙ ap (λ es. es ++ Death d ∷ []) h.shares.entries;
-              kills = f.kills ∙ ap rest_of h.shares.kills;
-              ledger = subst (λ (T : Tree). stands m'.ledger T) same f.ledger;
+              plan = f.plan ∙ ap rest_of h.shares.plan;
+              ledger = subst (λ (T : Tree). stands m'.ledger (to_join U T) T) same f.ledger;
               slots = f.many ∙ (h.shares.slots ∙ ap (λ (T : Tree). T.next_task) same);
               failed = f.failed ∙ h.shares.failed;
             };

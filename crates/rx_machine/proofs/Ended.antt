@@ -15,16 +15,16 @@ use Rattle.rx_rules.specs.declared.tasks.Where.TheVariants.{At}
 use Rattle.rx_rules.specs.Code.{Block}
 use Rattle.rx_rules.specs.Terms.{does, Done, Releases, Does}
 use Rattle.rx_rules.specs.Tree.{Tree, task_of, own_scope, opened_by}
-use Rattle.rx_rules.specs.Entries.{MayEnd, made_act, after_end}
+use Rattle.rx_rules.specs.Entries.{AllowedAct, made_act, after_end}
 use Rattle.rx_rules.specs.Run.{Given}
 use Rattle.rx_rules.specs.Picked.{Game, Player, Turn, ends, turns, tree_in}
-use Rattle.rx_rules.proofs.Append.{tree-push}
+use Rattle.rx_rules.proofs.Append.{act-places, tree-push}
 use Rattle.rx_finish.specs.declared.ledger.Caller.{Caller}
 use Rattle.rx_finish.specs.declared.ledger.LedgerFault.{LedgerFault}
 use Rattle.rx_finish.specs.declared.ledger.LedgerFault.TheVariants.{NotYet, Lost, NoMemory}
 use Rattle.rx_finish.specs.Callers.{HasNumbers, IsBare, MayAskEnd}
 use Rattle.rx_finish.specs.Calls.{EndReply, blow_of}
-use Rattle.rx_history.specs.Setups.{given}
+use Rattle.rx_history.specs.Setups.{given, to_join}
 use Rattle.rx_store.specs.Kept.{Kept}
 use Rattle.rx_nodes.specs.Shape.{Shape}
 use Rattle.rx_machine.specs.declared.machine.Machine.{Machine}
@@ -37,16 +37,16 @@ use Rattle.rx_machine.specs.Holds.{Seated, Acting, LeadsTo}
 use Rattle.rx_machine.proofs.Finding.{same_or_not}
 use Rattle.rx_machine.proofs.Live.{live_number, live_stands, less-same, less-other, without_task}
 use Rattle.rx_machine.proofs.Own.{end-tasks, end-own, slot-on}
-use Rattle.rx_machine.proofs.Acted.{Went}
+use Rattle.rx_machine.proofs.Acted.{same-room, Went}
 use Rattle.rx_machine.proofs.Asking.{id_of, not_lost, seat_asks, moving}
 use Rattle.rx_machine.proofs.Granting.{held-releases}
 use Rattle.rx_machine.proofs.SpineGrants.{EmptyWhereDone, spine-done}
 
 -- a task that has nothing left to run does not wait
-end-free : (q : Player) (here places : ℕ) (fs : List Fault) → does q.vars here places q.term ≡ Done fs → is_held q.term ≡ false
-end-free q here places fs asks =
+end-free : (q : Player) (here : ℕ) (fs : List Fault) → does q.vars here q.term ≡ Done fs → is_held q.term ≡ false
+end-free q here fs asks =
     (elim (is_held q.term) as (λ b. is_held q.term ≡ b → b ≡ false) [
-      | true ↦ λ e. absurd (let f : Done fs ≡ Releases = sym asks ∙ held-releases q.vars here places q.term e in let g : ⊥ = cc in g)
+      | true ↦ λ e. absurd (let f : Done fs ≡ Releases = sym asks ∙ held-releases q.vars here q.term e in let g : ⊥ = cc in g)
       | false ↦ λ e. refl
     ]) refl
 
@@ -60,14 +60,14 @@ none-found p (g ∷ gs) h =
     ] h
 
 -- the ledger may be asked
-pub end-asks : (shape : Shape) (T : Tree) (i : ℕ) (q : Player) (seat : Seat) (here : PlaceId) (places : ℕ) (fs : List Fault) → IsSeat shape T i q seat → HasNumbers T → seat.row.place ≡ At here → does q.vars here.0 places q.term ≡ Done fs → MayAskEnd T (caller seat.row seat.scopes.items)
-end-asks shape T i q seat here places fs s numbers is_at asks =
-    let empty : reverse (own_kinds T i) ≡ [] = subst (λ (d : Does). EmptyWhereDone (reverse (own_kinds T i)) d) asks (spine-done (reverse (own_kinds T i)) q.vars here.0 places q.term s.spine) in
+pub end-asks : (shape : Shape) (T : Tree) (i : ℕ) (q : Player) (seat : Seat) (here : PlaceId) (fs : List Fault) → IsSeat shape T i q seat → HasNumbers T → seat.row.place ≡ At here → does q.vars here.0 q.term ≡ Done fs → MayAskEnd T (caller seat.row seat.scopes.items)
+end-asks shape T i q seat here fs s numbers is_at asks =
+    let empty : reverse (own_kinds T i) ≡ [] = subst (λ (d : Does). EmptyWhereDone (reverse (own_kinds T i)) d) asks (spine-done (reverse (own_kinds T i)) q.vars here.0 q.term s.spine) in
     let none : own_kinds T i ≡ [] = sym (reverse-reverse (own_kinds T i)) ∙ ap (λ (ks : List Kind). reverse ks) empty in
     let id : seat.row.number ≡ record { 0 = i } = id_of seat.row.number i (live_number T i seat.row s.row) in
     seat_asks shape T i q seat (IsBare T (caller seat.row seat.scopes.items)) s numbers
     (record {
-      moving = moving shape T i q seat here s is_at (end-free q here.0 places fs asks);
+      moving = moving shape T i q seat here s is_at (end-free q here.0 fs asks);
       none_open = subst (λ (t : TaskId). own_scope T t ≡ None) (sym id) (none-found (opened_by (record { 0 = i })) T.scopes none);
     })
 
@@ -81,7 +81,7 @@ end-refused T who thrown (NotYet place, back) S free h = absurd h
 end-next : (T : Tree) (t : TaskId) (thrown : List Fault) (x : Task) → task_of T t ≡ Some x → (after_end T t thrown).next_task ≡ T.next_task
 end-next T t thrown x h = rw (h, after_end) refl
 
-pub ended : {L : Type 0} (stands : L → Tree → Type 0) (shape : Shape) (code : Block) (U : Given) (m m' : Machine L) (k i : ℕ) (here : PlaceId) (q : Player) (seat : Seat) (G : Game) (fs : List Fault) → Acting stands shape code U m k i here q seat G → does q.vars here.0 U.places q.term ≡ Done fs → MayEnd (tree_in U G) seat.row.number → Went stands m m' (made_act (tree_in U G) seat.row.number (End fs)) (Step seat.row.number (End fs) seat.batch) → m'.seats.items ≡ m.seats.items → LeadsTo (Turn U k G true) (Seated stands shape code U m')
+pub ended : {L : Type 0} (stands : L → ℕ → Tree → Type 0) (shape : Shape) (code : Block) (U : Given) (m m' : Machine L) (k i : ℕ) (here : PlaceId) (q : Player) (seat : Seat) (G : Game) (fs : List Fault) → Acting stands shape code U m k i here q seat G → does q.vars here.0 q.term ≡ Done fs → AllowedAct (tree_in U G) seat.row.number (End fs) → Went stands m m' (to_join U (tree_in U G)) (made_act (tree_in U G) seat.row.number (End fs)) (Step seat.row.number (End fs) seat.batch) → m'.seats.items ≡ m.seats.items → LeadsTo (Turn U k G true) (Seated stands shape code U m')
 ended stands shape code U m m' k i here q seat G fs a asks may went back =
     let T : Tree = tree_in U G in
     let t : TaskId = seat.row.number in
@@ -94,7 +94,7 @@ ended stands shape code U m m' k i here q seat G fs a asks may went back =
     let found : task_of T t ≡ Some seat.row = subst (λ (v : TaskId). task_of T v ≡ Some seat.row) (sym (id_of t i pick.number)) (live_stands T i seat.row s.row).0 in
     let gone : live_task T' i ≡ None = end-tasks T t fs seat.row i found ∙ subst (λ (n : ℕ). live_task (without_task t T) n ≡ None) pick.number (less-same T t) in
     let turn : Turn U k G true G' =
-    ends seat.row here a.began q a.store a.left a.events fs pick.none_due pick.picked a.gone.is_at
+    ends seat.row here a.began q a.store a.left a.events fs (pick.none_due, pick.picked) a.gone.is_at
     (subst (λ (n : ℕ). slice_get G.players n ≡ Some a.began) (sym pick.number) a.gone.player) a.gone.store a.gone.goes asks may in (
       G',
       turn,
@@ -102,11 +102,10 @@ ended stands shape code U m m' k i here q seat G fs a asks may went back =
         shares = record {
           on = h.on;
           comes = turns h.comes pick.stands turn;
-          places = h.places ∙ sym went.places;
           setup = ap given went.setup ∙ h.setup;
           entries = went.entries ∙ (ap (λ es. es ++ Step t (End fs) seat.batch ∷ []) h.entries ∙ ap (λ b. G.entries ++ Step t (End fs) b ∷ []) s.batch);
-          kills = went.kills ∙ h.kills;
-          ledger = subst (λ (T : Tree). stands m'.ledger T) same went.ledger;
+          plan = went.plan ∙ h.plan;
+          ledger = subst (λ (T : Tree). stands m'.ledger (to_join U T) T) same (same-room stands m'.ledger U T T' (act-places T t (End fs)) went.ledger);
           slots = ap (λ xs. length xs) back ∙ (h.slots ∙ (sym (end-next T t fs seat.row found) ∙ ap (λ (T : Tree). T.next_task) same));
           failed = went.failed ∙ h.failed;
         };

@@ -22,13 +22,14 @@ use Rattle.rx_finish.specs.declared.ledger.LedgerFault.TheVariants.{NotYet, Lost
 use Rattle.rx_finish.specs.Calls.{OpenReply, blow_of}
 use Rattle.rx_nodes.specs.Shape.{Shape}
 use Rattle.rx_control.specs.Stands.{StandsFor}
+use Rattle.rx_history.specs.Setups.{to_join}
 use Rattle.rx_machine.specs.declared.machine.Machine.{Machine}
 use Rattle.rx_machine.specs.declared.seat.Seat.{Seat}
 use Rattle.rx_machine.specs.Slots.{own_scopes, own_kinds}
 use Rattle.rx_machine.specs.Held.{is_held}
 use Rattle.rx_machine.specs.Spine.{Spine}
 use Rattle.rx_machine.specs.Holds.{Seated, Acting, LeadsTo}
-use Rattle.rx_machine.proofs.Acted.{Went, acted}
+use Rattle.rx_machine.proofs.Acted.{told-nothing, Went, acted}
 use Rattle.rx_machine.proofs.Asking.{not_lost}
 use Rattle.rx_machine.proofs.Beginning.{Begins, begins-so}
 use Rattle.rx_machine.proofs.Granting.{AfterGrant, after-grant, held-releases}
@@ -36,14 +37,14 @@ use Rattle.rx_machine.proofs.SpineGrants.{GrantsSpine, spine-grant}
 use Rattle.rx_machine.proofs.Own.{opened-same, opened-other}
 
 -- the statement that begins the finish
-pub open-begins : (q : Player) (here places : ℕ) → does q.vars here places q.term ≡ Opens → (x : List ℕ) × (begins q.term ≡ Some x)
-open-begins q here places asks = subst (λ (d : Does). Begins d (begins q.term)) asks (begins-so q.vars here places q.term)
+pub open-begins : (q : Player) (here : ℕ) → does q.vars here q.term ≡ Opens → (x : List ℕ) × (begins q.term ≡ Some x)
+open-begins q here asks = subst (λ (d : Does). Begins d (begins q.term)) asks (begins-so q.vars here q.term)
 
 -- a task that begins a finish does not wait
-pub open-free : (q : Player) (here places : ℕ) → does q.vars here places q.term ≡ Opens → is_held q.term ≡ false
-open-free q here places asks =
+pub open-free : (q : Player) (here : ℕ) → does q.vars here q.term ≡ Opens → is_held q.term ≡ false
+open-free q here asks =
     (elim (is_held q.term) as (λ b. is_held q.term ≡ b → b ≡ false) [
-      | true ↦ λ e. absurd (let f : Opens ≡ Releases = sym asks ∙ held-releases q.vars here places q.term e in let g : ⊥ = cc in g)
+      | true ↦ λ e. absurd (let f : Opens ≡ Releases = sym asks ∙ held-releases q.vars here q.term e in let g : ⊥ = cc in g)
       | false ↦ λ e. refl
     ]) refl
 
@@ -57,15 +58,15 @@ open-refused T who (NotYet place) S free h = absurd h
 reversed-push : {X : Type 0} (xs : List X) (y : X) → reverse (xs ++ y ∷ []) ≡ y ∷ reverse xs
 reversed-push xs y = reverse-append xs (y ∷ [])
 
-pub finish-opened : {L : Type 0} (stands : L → Tree → Type 0) (shape : Shape) (code : Block) (U : Given) (m m' : Machine L) (k i : ℕ) (here : PlaceId) (q : Player) (seat seat' : Seat) (G : Game) (s r : ScopeId) (x : List ℕ) → Acting stands shape code U m k i here q seat G → does q.vars here.0 U.places q.term ≡ Opens → begins q.term ≡ Some x → AllowedAct (tree_in U G) seat.row.number (Open s r x) → StandsFor shape seat'.control (granted [] q.term) → seat'.control.vars ≡ seat.control.vars → seat'.row ≡ seat.row → seat'.scopes.items ≡ seat.scopes.items ++ s ∷ [] → seat'.batch ≡ [] → Went stands m m' (made_act (tree_in U G) seat.row.number (Open s r x)) (Step seat.row.number (Open s r x) seat.batch) → m'.seats.items ≡ slice_set m.seats.items i (Some seat') → LeadsTo (Turn U k G true) (Seated stands shape code U m')
+pub finish-opened : {L : Type 0} (stands : L → ℕ → Tree → Type 0) (shape : Shape) (code : Block) (U : Given) (m m' : Machine L) (k i : ℕ) (here : PlaceId) (q : Player) (seat seat' : Seat) (G : Game) (s r : ScopeId) (x : List ℕ) → Acting stands shape code U m k i here q seat G → does q.vars here.0 q.term ≡ Opens → begins q.term ≡ Some x → AllowedAct (tree_in U G) seat.row.number (Open s r x) → StandsFor shape seat'.control (granted [] q.term) → seat'.control.vars ≡ seat.control.vars → seat'.row ≡ seat.row → seat'.scopes.items ≡ seat.scopes.items ++ s ∷ [] → seat'.batch ≡ [] → Went stands m m' (to_join U (tree_in U G)) (made_act (tree_in U G) seat.row.number (Open s r x)) (Step seat.row.number (Open s r x) seat.batch) → m'.seats.items ≡ slice_set m.seats.items i (Some seat') → LeadsTo (Turn U k G true) (Seated stands shape code U m')
 finish-opened stands shape code U m m' k i here q seat seat' G s r x a asks path may term vars row scopes batch went back =
     let T : Tree = tree_in U G in
     let h = a.gone.seat_is in
     let t : TaskId = seat.row.number in
     let number : t.0 ≡ i = a.pick.number in
-    let grant : AfterGrant Opens (granted [] q.term) = subst (λ (d : Does). AfterGrant d (granted [] q.term)) asks (after-grant q.vars here.0 U.places [] q.term h.held) in
-    let spine : GrantsSpine (reverse (own_kinds T i)) Opens (granted [] q.term) = subst (λ (d : Does). GrantsSpine (reverse (own_kinds T i)) d (granted [] q.term)) asks (spine-grant (reverse (own_kinds T i)) q.vars here.0 U.places [] q.term h.spine) in
-    let free : is_held q.term ≡ false = open-free q here.0 U.places asks in
+    let grant : AfterGrant Opens (granted [] q.term) = subst (λ (d : Does). AfterGrant d (granted [] q.term)) asks (after-grant q.vars here.0 [] q.term h.held) in
+    let spine : GrantsSpine (reverse (own_kinds T i)) Opens (granted [] q.term) = subst (λ (d : Does). GrantsSpine (reverse (own_kinds T i)) d (granted [] q.term)) asks (spine-grant (reverse (own_kinds T i)) q.vars here.0 [] q.term h.spine) in
+    let free : is_held q.term ≡ false = open-free q here.0 asks in
     let own = opened-same T t Finish s r in
     let own_now : own_scopes (opened T t Finish s r) i ≡ s ∷ own_scopes T i = subst (λ (n : ℕ). own_scopes (opened T t Finish s r) n ≡ s ∷ own_scopes T n) number own.0 in
     let kinds_now : own_kinds (opened T t Finish s r) i ≡ Finish ∷ own_kinds T i = subst (λ (n : ℕ). own_kinds (opened T t Finish s r) n ≡ Finish ∷ own_kinds T n) number own.1 in
@@ -74,13 +75,13 @@ finish-opened stands shape code U m m' k i here q seat seat' G s r x a asks path
       row = h.row ∙ ap (λ r. Some r) (sym row);
       scopes = own_now ∙ (ap (λ ss. s ∷ ss) h.scopes ∙ (sym (reversed-push seat.scopes.items s) ∙ ap (λ ss. reverse ss) (sym scopes)));
       term = term;
-      vars = vars ∙ h.vars;
+      vars = vars ∙ (h.vars ∙ sym (told-nothing (does q.vars here.0 q.term) (Open s r x) q.vars refl));
       batch = batch;
       waits = ap (λ r. r.waits) row ∙ (h.waits ∙ (free ∙ sym grant.1));
       held = grant.0;
       spine = subst (λ (ks : List Kind). Spine (granted [] q.term) ks) (sym (ap (λ ks. reverse ks) kinds_now ∙ reverse-cons Finish (own_kinds T i))) spine;
     })
-    (record { places = went.places; setup = went.setup; entries = went.entries ∙ ap (λ b. m.history.entries ++ Step t (Open s r x) b ∷ []) h.batch; kills = went.kills; failed = went.failed; stores = went.stores; ledger = went.ledger })
+    (record { setup = went.setup; entries = went.entries ∙ ap (λ b. m.history.entries ++ Step t (Open s r x) b ∷ []) h.batch; plan = went.plan; failed = went.failed; stores = went.stores; ledger = went.ledger })
     a.inside back a.stores
   where
     reverse-cons : {X : Type 0} (y : X) (ys : List X) → reverse (y ∷ ys) ≡ reverse ys ++ y ∷ []

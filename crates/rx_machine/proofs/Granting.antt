@@ -4,8 +4,8 @@ use Rattle.std.proofs.Common.{ap}
 use Rattle.rx_base.specs.declared.values.Fault.{Fault}
 use Rattle.rx_base.specs.declared.values.Fault.TheVariants.{Thrown, WrongPlace}
 use Rattle.rx_base.specs.declared.values.Value.TheVariants.{Num as Number}
-use Rattle.rx_rules.specs.Code.{Block, Stmt, SetTo, New, Get, Put, Forget, Print, Throw, Async, AtAsync, At, Finish, If, Repeat, Try}
-use Rattle.rx_rules.specs.Terms.{Vars, Term, Empty, Run, Raise, Turns, Trying, Body, Held, items, at, Does, Local, Makes, Gets, Puts, Forgets, Opens, Calls, Spawns, Waits, Releases, Prints, Done, raise, bound, value_of, ref_in, eval, target_of, is_zero, with_number, with_place, stmt_does, within, does, stmt_granted, or_raise, granted, stmt_child, child, replaced, after_it}
+use Rattle.rx_rules.specs.Code.{Block, Stmt, SetTo, New, Get, Put, Forget, Print, Census, Throw, Async, AtAsync, At, Finish, If, Repeat, Try}
+use Rattle.rx_rules.specs.Terms.{Vars, Term, Empty, Run, Raise, Turns, Trying, Body, Held, items, at, Does, Local, Makes, Gets, Puts, Forgets, Opens, Calls, Spawns, Waits, Releases, Prints, Counts, Done, raise, bound, value_of, ref_in, eval, target_of, is_zero, with_number, with_place, stmt_does, within, does, stmt_granted, or_raise, granted, stmt_child, child, replaced, after_it}
 use Rattle.rx_machine.specs.Held.{is_held, Unheld, HeldInFront}
 use Rattle.rx_machine.proofs.Holding.{unheld-front, unheld-items}
 
@@ -22,6 +22,7 @@ AfterGrant (Spawns place) t = HeldInFront t × (is_held t ≡ false)
 AfterGrant (Waits faults) t = HeldInFront t × (is_held t ≡ true)
 AfterGrant Releases t = HeldInFront t × (is_held t ≡ false)
 AfterGrant (Prints value) t = HeldInFront t × (is_held t ≡ false)
+AfterGrant (Counts name) t = HeldInFront t × (is_held t ≡ false)
 AfterGrant (Done faults) t = Unit {0}
 
 on-number : (vars : Vars) (o : Option ℤ) (f : ℤ → Does) (t : Term) → ((z : ℤ) → AfterGrant (f z) t) → AfterGrant (with_number vars o f) t
@@ -36,31 +37,32 @@ on-test : (b : Bool) (d e : Does) (t : Term) → AfterGrant d t → AfterGrant e
 on-test true d e t h k = h
 on-test false d e t h k = k
 
-of_stmt : (vars : Vars) (here places : ℕ) (stmt : Stmt) (x : List ℕ) (rest : Term) → Unheld rest → AfterGrant (stmt_does vars here places stmt x rest) (stmt_granted stmt x rest)
-of_stmt vars here places (SetTo name value) x rest h = on-number vars (eval vars here value) (λ z. Local rest (bound name (Number z) vars)) rest (λ z. tt)
-of_stmt vars here places (New name words) x rest h = tt
-of_stmt vars here places (Get name target index) x rest h =
+of_stmt : (vars : Vars) (here : ℕ) (stmt : Stmt) (x : List ℕ) (rest : Term) → Unheld rest → AfterGrant (stmt_does vars here stmt x rest) (stmt_granted stmt x rest)
+of_stmt vars here (SetTo name value) x rest h = on-number vars (eval vars here value) (λ z. Local rest (bound name (Number z) vars)) rest (λ z. tt)
+of_stmt vars here (New name words) x rest h = tt
+of_stmt vars here (Get name target index) x rest h =
     let r = ref_in (value_of vars target) in
     on-number vars (eval vars here index) (λ k. cond (r.home.0 == here) (Gets name r k) (Local (raise WrongPlace) vars)) rest
     (λ k. on-test (r.home.0 == here) (Gets name r k) (Local (raise WrongPlace) vars) rest tt tt)
-of_stmt vars here places (Put target index value) x rest h =
+of_stmt vars here (Put target index value) x rest h =
     let r = ref_in (value_of vars target) in
     on-number vars (eval vars here index) (λ k. with_number vars (eval vars here value) (λ z. cond (r.home.0 == here) (Puts r k z) (Local (raise WrongPlace) vars))) rest
     (λ k. on-number vars (eval vars here value) (λ z. cond (r.home.0 == here) (Puts r k z) (Local (raise WrongPlace) vars)) rest
     (λ z. on-test (r.home.0 == here) (Puts r k z) (Local (raise WrongPlace) vars) rest tt tt))
-of_stmt vars here places (Forget target) x rest h =
+of_stmt vars here (Forget target) x rest h =
     let r = ref_in (value_of vars target) in on-test (r.home.0 == here) (Forgets r) (Local (raise WrongPlace) vars) rest tt tt
-of_stmt vars here places (Print value) x rest h = on-number vars (eval vars here value) Prints rest (λ z. unheld-front rest h)
-of_stmt vars here places (Throw value) x rest h = on-number vars (eval vars here value) (λ z. Local (raise (Thrown z)) vars) rest (λ z. tt)
-of_stmt vars here places (Async body) x rest h = unheld-front rest h
-of_stmt vars here places (AtAsync place body) x rest h = on-place vars (target_of (eval vars here place) places) Spawns rest (λ p. unheld-front rest h)
-of_stmt vars here places (At place body) x rest h = on-place vars (target_of (eval vars here place) places) Calls (Held rest) (λ p. (h, refl))
-of_stmt vars here places (Finish body) x rest h =
+of_stmt vars here (Print value) x rest h = on-number vars (eval vars here value) Prints rest (λ z. unheld-front rest h)
+of_stmt vars here (Census name) x rest h = unheld-front rest h
+of_stmt vars here (Throw value) x rest h = on-number vars (eval vars here value) (λ z. Local (raise (Thrown z)) vars) rest (λ z. tt)
+of_stmt vars here (Async body) x rest h = unheld-front rest h
+of_stmt vars here (AtAsync place body) x rest h = on-place vars (target_of (eval vars here place) vars.places) Spawns rest (λ p. unheld-front rest h)
+of_stmt vars here (At place body) x rest h = on-place vars (target_of (eval vars here place) vars.places) Calls (Held rest) (λ p. (h, refl))
+of_stmt vars here (Finish body) x rest h =
     let r = unheld-front (items body x Empty) (unheld-items body x 0 Empty tt) in ((r.0, h), r.1)
-of_stmt vars here places (If test first other) x rest h =
+of_stmt vars here (If test first other) x rest h =
     on-number vars (eval vars here test) (λ z. Local (cond (is_zero z) (items other (at x 1) rest) (items first (at x 0) rest)) vars) rest (λ z. tt)
-of_stmt vars here places (Repeat times body) x rest h = tt
-of_stmt vars here places (Try body dead_only handler) x rest h = tt
+of_stmt vars here (Repeat times body) x rest h = tt
+of_stmt vars here (Try body dead_only handler) x rest h = tt
 
 in-try : (o : Bool) (b : Block) (x : List ℕ) (rest : Term) (d : Does) (t : Term) → Unheld rest → AfterGrant d t → AfterGrant (within (λ t. Trying t o b x rest) d) (Trying t o b x rest)
 in-try o b x rest (Local left vars) t u h = tt
@@ -74,6 +76,7 @@ in-try o b x rest (Spawns place) t u h = ((h.0, u), h.1)
 in-try o b x rest (Waits faults) t u h = ((h.0, u), h.1)
 in-try o b x rest Releases t u h = ((h.0, u), h.1)
 in-try o b x rest (Prints value) t u h = ((h.0, u), h.1)
+in-try o b x rest (Counts name) t u h = ((h.0, u), h.1)
 in-try o b x rest (Done faults) t u h = tt
 
 in-body : (rest : Term) (d : Does) (t : Term) → Unheld rest → AfterGrant d t → AfterGrant (within (λ t. Body t rest) d) (Body t rest)
@@ -88,54 +91,55 @@ in-body rest (Spawns place) t u h = ((h.0, u), h.1)
 in-body rest (Waits faults) t u h = ((h.0, u), h.1)
 in-body rest Releases t u h = ((h.0, u), h.1)
 in-body rest (Prints value) t u h = ((h.0, u), h.1)
+in-body rest (Counts name) t u h = ((h.0, u), h.1)
 in-body rest (Done faults) t u h = tt
 
 released : (faults : List Fault) (rest : Term) → Unheld rest → HeldInFront (or_raise faults rest) × (is_held (or_raise faults rest) ≡ false)
 released [] rest h = unheld-front rest h
 released (f ∷ fs) rest h = (tt, refl)
 
-pub after-grant : (vars : Vars) (here places : ℕ) (faults : List Fault) (t : Term) → HeldInFront t → AfterGrant (does vars here places t) (granted faults t)
-after-grant vars here places faults Empty h = tt
-after-grant vars here places faults (Run stmt x rest) h = of_stmt vars here places stmt x rest h
-after-grant vars here places faults (Raise fs) h = tt
-after-grant vars here places faults (Turns body x k times rest) h = tt
-after-grant vars here places faults (Trying Empty o b x rest) h = tt
-after-grant vars here places faults (Trying (Raise fs) o b x rest) h = tt
-after-grant vars here places faults (Trying (Run s y m) o b x rest) h = in-try o b x rest (does vars here places (Run s y m)) (granted faults (Run s y m)) h.1 (after-grant vars here places faults (Run s y m) h.0)
-after-grant vars here places faults (Trying (Turns c y k n m) o b x rest) h = in-try o b x rest (does vars here places (Turns c y k n m)) (granted faults (Turns c y k n m)) h.1 (after-grant vars here places faults (Turns c y k n m) h.0)
-after-grant vars here places faults (Trying (Trying u p c y m) o b x rest) h = in-try o b x rest (does vars here places (Trying u p c y m)) (granted faults (Trying u p c y m)) h.1 (after-grant vars here places faults (Trying u p c y m) h.0)
-after-grant vars here places faults (Trying (Body u m) o b x rest) h = in-try o b x rest (does vars here places (Body u m)) (granted faults (Body u m)) h.1 (after-grant vars here places faults (Body u m) h.0)
-after-grant vars here places faults (Trying (Held m) o b x rest) h = in-try o b x rest Releases (or_raise faults m) h.1 (released faults m h.0)
-after-grant vars here places faults (Body Empty rest) h = (h.1, refl)
-after-grant vars here places faults (Body (Raise fs) rest) h = (h.1, refl)
-after-grant vars here places faults (Body (Run s y m) rest) h = in-body rest (does vars here places (Run s y m)) (granted faults (Run s y m)) h.1 (after-grant vars here places faults (Run s y m) h.0)
-after-grant vars here places faults (Body (Turns c y k n m) rest) h = in-body rest (does vars here places (Turns c y k n m)) (granted faults (Turns c y k n m)) h.1 (after-grant vars here places faults (Turns c y k n m) h.0)
-after-grant vars here places faults (Body (Trying u p c y m) rest) h = in-body rest (does vars here places (Trying u p c y m)) (granted faults (Trying u p c y m)) h.1 (after-grant vars here places faults (Trying u p c y m) h.0)
-after-grant vars here places faults (Body (Body u m) rest) h = in-body rest (does vars here places (Body u m)) (granted faults (Body u m)) h.1 (after-grant vars here places faults (Body u m) h.0)
-after-grant vars here places faults (Body (Held m) rest) h = in-body rest Releases (or_raise faults m) h.1 (released faults m h.0)
-after-grant vars here places faults (Held rest) h = released faults rest h
+pub after-grant : (vars : Vars) (here : ℕ) (faults : List Fault) (t : Term) → HeldInFront t → AfterGrant (does vars here t) (granted faults t)
+after-grant vars here faults Empty h = tt
+after-grant vars here faults (Run stmt x rest) h = of_stmt vars here stmt x rest h
+after-grant vars here faults (Raise fs) h = tt
+after-grant vars here faults (Turns body x k times rest) h = tt
+after-grant vars here faults (Trying Empty o b x rest) h = tt
+after-grant vars here faults (Trying (Raise fs) o b x rest) h = tt
+after-grant vars here faults (Trying (Run s y m) o b x rest) h = in-try o b x rest (does vars here (Run s y m)) (granted faults (Run s y m)) h.1 (after-grant vars here faults (Run s y m) h.0)
+after-grant vars here faults (Trying (Turns c y k n m) o b x rest) h = in-try o b x rest (does vars here (Turns c y k n m)) (granted faults (Turns c y k n m)) h.1 (after-grant vars here faults (Turns c y k n m) h.0)
+after-grant vars here faults (Trying (Trying u p c y m) o b x rest) h = in-try o b x rest (does vars here (Trying u p c y m)) (granted faults (Trying u p c y m)) h.1 (after-grant vars here faults (Trying u p c y m) h.0)
+after-grant vars here faults (Trying (Body u m) o b x rest) h = in-try o b x rest (does vars here (Body u m)) (granted faults (Body u m)) h.1 (after-grant vars here faults (Body u m) h.0)
+after-grant vars here faults (Trying (Held m) o b x rest) h = in-try o b x rest Releases (or_raise faults m) h.1 (released faults m h.0)
+after-grant vars here faults (Body Empty rest) h = (h.1, refl)
+after-grant vars here faults (Body (Raise fs) rest) h = (h.1, refl)
+after-grant vars here faults (Body (Run s y m) rest) h = in-body rest (does vars here (Run s y m)) (granted faults (Run s y m)) h.1 (after-grant vars here faults (Run s y m) h.0)
+after-grant vars here faults (Body (Turns c y k n m) rest) h = in-body rest (does vars here (Turns c y k n m)) (granted faults (Turns c y k n m)) h.1 (after-grant vars here faults (Turns c y k n m) h.0)
+after-grant vars here faults (Body (Trying u p c y m) rest) h = in-body rest (does vars here (Trying u p c y m)) (granted faults (Trying u p c y m)) h.1 (after-grant vars here faults (Trying u p c y m) h.0)
+after-grant vars here faults (Body (Body u m) rest) h = in-body rest (does vars here (Body u m)) (granted faults (Body u m)) h.1 (after-grant vars here faults (Body u m) h.0)
+after-grant vars here faults (Body (Held m) rest) h = in-body rest Releases (or_raise faults m) h.1 (released faults m h.0)
+after-grant vars here faults (Held rest) h = released faults rest h
 
 -- a term that waits releases
-pub held-releases : (vars : Vars) (here places : ℕ) (t : Term) → is_held t ≡ true → does vars here places t ≡ Releases
-held-releases vars here places Empty h = cc
-held-releases vars here places (Run stmt x rest) h = cc
-held-releases vars here places (Raise faults) h = cc
-held-releases vars here places (Turns body x k times rest) h = cc
-held-releases vars here places (Trying Empty o b x rest) h = cc
-held-releases vars here places (Trying (Raise fs) o b x rest) h = cc
-held-releases vars here places (Trying (Run s y m) o b x rest) h = cc
-held-releases vars here places (Trying (Turns c y k n m) o b x rest) h = cc
-held-releases vars here places (Trying (Trying u p c y m) o b x rest) h = ap (within (λ t. Trying t o b x rest)) (held-releases vars here places (Trying u p c y m) h)
-held-releases vars here places (Trying (Body u m) o b x rest) h = ap (within (λ t. Trying t o b x rest)) (held-releases vars here places (Body u m) h)
-held-releases vars here places (Trying (Held m) o b x rest) h = refl
-held-releases vars here places (Body Empty rest) h = cc
-held-releases vars here places (Body (Raise fs) rest) h = cc
-held-releases vars here places (Body (Run s y m) rest) h = cc
-held-releases vars here places (Body (Turns c y k n m) rest) h = cc
-held-releases vars here places (Body (Trying u p c y m) rest) h = ap (within (λ t. Body t rest)) (held-releases vars here places (Trying u p c y m) h)
-held-releases vars here places (Body (Body u m) rest) h = ap (within (λ t. Body t rest)) (held-releases vars here places (Body u m) h)
-held-releases vars here places (Body (Held m) rest) h = refl
-held-releases vars here places (Held rest) h = refl
+pub held-releases : (vars : Vars) (here : ℕ) (t : Term) → is_held t ≡ true → does vars here t ≡ Releases
+held-releases vars here Empty h = cc
+held-releases vars here (Run stmt x rest) h = cc
+held-releases vars here (Raise faults) h = cc
+held-releases vars here (Turns body x k times rest) h = cc
+held-releases vars here (Trying Empty o b x rest) h = cc
+held-releases vars here (Trying (Raise fs) o b x rest) h = cc
+held-releases vars here (Trying (Run s y m) o b x rest) h = cc
+held-releases vars here (Trying (Turns c y k n m) o b x rest) h = cc
+held-releases vars here (Trying (Trying u p c y m) o b x rest) h = ap (within (λ t. Trying t o b x rest)) (held-releases vars here (Trying u p c y m) h)
+held-releases vars here (Trying (Body u m) o b x rest) h = ap (within (λ t. Trying t o b x rest)) (held-releases vars here (Body u m) h)
+held-releases vars here (Trying (Held m) o b x rest) h = refl
+held-releases vars here (Body Empty rest) h = cc
+held-releases vars here (Body (Raise fs) rest) h = cc
+held-releases vars here (Body (Run s y m) rest) h = cc
+held-releases vars here (Body (Turns c y k n m) rest) h = cc
+held-releases vars here (Body (Trying u p c y m) rest) h = ap (within (λ t. Body t rest)) (held-releases vars here (Trying u p c y m) h)
+held-releases vars here (Body (Body u m) rest) h = ap (within (λ t. Body t rest)) (held-releases vars here (Body u m) h)
+held-releases vars here (Body (Held m) rest) h = refl
+held-releases vars here (Held rest) h = refl
 
 -- what a store's answer leaves does not wait
 pub after-answer : (t new : Term) → HeldInFront t → Unheld new → HeldInFront (replaced t new) × (is_held (replaced t new) ≡ false)
@@ -163,6 +167,7 @@ of_child (Get name target index) x = tt
 of_child (Put target index value) x = tt
 of_child (Forget target) x = tt
 of_child (Print value) x = tt
+of_child (Census name) x = tt
 of_child (Throw value) x = tt
 of_child (Async body) x = unheld-items body x 0 Empty tt
 of_child (AtAsync place body) x = unheld-items body x 0 Empty tt
@@ -195,6 +200,7 @@ IsNoRelease (Spawns place) = Unit {0}
 IsNoRelease (Waits faults) = Unit {0}
 IsNoRelease Releases = ⊥
 IsNoRelease (Prints value) = Unit {0}
+IsNoRelease (Counts name) = Unit {0}
 IsNoRelease (Done faults) = Unit {0}
 
 free-number : (vars : Vars) (o : Option ℤ) (f : ℤ → Does) → ((z : ℤ) → IsNoRelease (f z)) → IsNoRelease (with_number vars o f)
@@ -209,30 +215,31 @@ free-test : (b : Bool) (d e : Does) → IsNoRelease d → IsNoRelease e → IsNo
 free-test true d e h k = h
 free-test false d e h k = k
 
-free_stmt : (vars : Vars) (here places : ℕ) (stmt : Stmt) (x : List ℕ) (rest : Term) → IsNoRelease (stmt_does vars here places stmt x rest)
-free_stmt vars here places (SetTo name value) x rest = free-number vars (eval vars here value) (λ z. Local rest (bound name (Number z) vars)) (λ z. tt)
-free_stmt vars here places (New name words) x rest = tt
-free_stmt vars here places (Get name target index) x rest =
+free_stmt : (vars : Vars) (here : ℕ) (stmt : Stmt) (x : List ℕ) (rest : Term) → IsNoRelease (stmt_does vars here stmt x rest)
+free_stmt vars here (SetTo name value) x rest = free-number vars (eval vars here value) (λ z. Local rest (bound name (Number z) vars)) (λ z. tt)
+free_stmt vars here (New name words) x rest = tt
+free_stmt vars here (Get name target index) x rest =
     let r = ref_in (value_of vars target) in
     free-number vars (eval vars here index) (λ k. cond (r.home.0 == here) (Gets name r k) (Local (raise WrongPlace) vars))
     (λ k. free-test (r.home.0 == here) (Gets name r k) (Local (raise WrongPlace) vars) tt tt)
-free_stmt vars here places (Put target index value) x rest =
+free_stmt vars here (Put target index value) x rest =
     let r = ref_in (value_of vars target) in
     free-number vars (eval vars here index) (λ k. with_number vars (eval vars here value) (λ z. cond (r.home.0 == here) (Puts r k z) (Local (raise WrongPlace) vars)))
     (λ k. free-number vars (eval vars here value) (λ z. cond (r.home.0 == here) (Puts r k z) (Local (raise WrongPlace) vars))
     (λ z. free-test (r.home.0 == here) (Puts r k z) (Local (raise WrongPlace) vars) tt tt))
-free_stmt vars here places (Forget target) x rest =
+free_stmt vars here (Forget target) x rest =
     let r = ref_in (value_of vars target) in free-test (r.home.0 == here) (Forgets r) (Local (raise WrongPlace) vars) tt tt
-free_stmt vars here places (Print value) x rest = free-number vars (eval vars here value) Prints (λ z. tt)
-free_stmt vars here places (Throw value) x rest = free-number vars (eval vars here value) (λ z. Local (raise (Thrown z)) vars) (λ z. tt)
-free_stmt vars here places (Async body) x rest = tt
-free_stmt vars here places (AtAsync place body) x rest = free-place vars (target_of (eval vars here place) places) Spawns (λ p. tt)
-free_stmt vars here places (At place body) x rest = free-place vars (target_of (eval vars here place) places) Calls (λ p. tt)
-free_stmt vars here places (Finish body) x rest = tt
-free_stmt vars here places (If test first other) x rest =
+free_stmt vars here (Print value) x rest = free-number vars (eval vars here value) Prints (λ z. tt)
+free_stmt vars here (Census name) x rest = tt
+free_stmt vars here (Throw value) x rest = free-number vars (eval vars here value) (λ z. Local (raise (Thrown z)) vars) (λ z. tt)
+free_stmt vars here (Async body) x rest = tt
+free_stmt vars here (AtAsync place body) x rest = free-place vars (target_of (eval vars here place) vars.places) Spawns (λ p. tt)
+free_stmt vars here (At place body) x rest = free-place vars (target_of (eval vars here place) vars.places) Calls (λ p. tt)
+free_stmt vars here (Finish body) x rest = tt
+free_stmt vars here (If test first other) x rest =
     free-number vars (eval vars here test) (λ z. Local (cond (is_zero z) (items other (at x 1) rest) (items first (at x 0) rest)) vars) (λ z. tt)
-free_stmt vars here places (Repeat times body) x rest = tt
-free_stmt vars here places (Try body dead_only handler) x rest = tt
+free_stmt vars here (Repeat times body) x rest = tt
+free_stmt vars here (Try body dead_only handler) x rest = tt
 
 free-within : (f : Term → Term) (d : Does) → IsNoRelease d → IsNoRelease (within f d)
 free-within f (Local left vars) h = tt
@@ -246,25 +253,26 @@ free-within f (Spawns place) h = tt
 free-within f (Waits faults) h = tt
 free-within f Releases h = h
 free-within f (Prints value) h = tt
+free-within f (Counts name) h = tt
 free-within f (Done faults) h = tt
 
-pub unheld-stays : (vars : Vars) (here places : ℕ) (t : Term) → is_held t ≡ false → IsNoRelease (does vars here places t)
-unheld-stays vars here places Empty h = tt
-unheld-stays vars here places (Run stmt x rest) h = free_stmt vars here places stmt x rest
-unheld-stays vars here places (Raise faults) h = tt
-unheld-stays vars here places (Turns body x k times rest) h = tt
-unheld-stays vars here places (Trying Empty o b x rest) h = tt
-unheld-stays vars here places (Trying (Raise fs) o b x rest) h = tt
-unheld-stays vars here places (Trying (Run s y m) o b x rest) h = free-within (λ t. Trying t o b x rest) (does vars here places (Run s y m)) (unheld-stays vars here places (Run s y m) h)
-unheld-stays vars here places (Trying (Turns c y k n m) o b x rest) h = free-within (λ t. Trying t o b x rest) (does vars here places (Turns c y k n m)) (unheld-stays vars here places (Turns c y k n m) h)
-unheld-stays vars here places (Trying (Trying u p c y m) o b x rest) h = free-within (λ t. Trying t o b x rest) (does vars here places (Trying u p c y m)) (unheld-stays vars here places (Trying u p c y m) h)
-unheld-stays vars here places (Trying (Body u m) o b x rest) h = free-within (λ t. Trying t o b x rest) (does vars here places (Body u m)) (unheld-stays vars here places (Body u m) h)
-unheld-stays vars here places (Trying (Held m) o b x rest) h = absurd (let f : ⊥ = cc in f)
-unheld-stays vars here places (Body Empty rest) h = tt
-unheld-stays vars here places (Body (Raise fs) rest) h = tt
-unheld-stays vars here places (Body (Run s y m) rest) h = free-within (λ t. Body t rest) (does vars here places (Run s y m)) (unheld-stays vars here places (Run s y m) h)
-unheld-stays vars here places (Body (Turns c y k n m) rest) h = free-within (λ t. Body t rest) (does vars here places (Turns c y k n m)) (unheld-stays vars here places (Turns c y k n m) h)
-unheld-stays vars here places (Body (Trying u p c y m) rest) h = free-within (λ t. Body t rest) (does vars here places (Trying u p c y m)) (unheld-stays vars here places (Trying u p c y m) h)
-unheld-stays vars here places (Body (Body u m) rest) h = free-within (λ t. Body t rest) (does vars here places (Body u m)) (unheld-stays vars here places (Body u m) h)
-unheld-stays vars here places (Body (Held m) rest) h = absurd (let f : ⊥ = cc in f)
-unheld-stays vars here places (Held rest) h = absurd (let f : ⊥ = cc in f)
+pub unheld-stays : (vars : Vars) (here : ℕ) (t : Term) → is_held t ≡ false → IsNoRelease (does vars here t)
+unheld-stays vars here Empty h = tt
+unheld-stays vars here (Run stmt x rest) h = free_stmt vars here stmt x rest
+unheld-stays vars here (Raise faults) h = tt
+unheld-stays vars here (Turns body x k times rest) h = tt
+unheld-stays vars here (Trying Empty o b x rest) h = tt
+unheld-stays vars here (Trying (Raise fs) o b x rest) h = tt
+unheld-stays vars here (Trying (Run s y m) o b x rest) h = free-within (λ t. Trying t o b x rest) (does vars here (Run s y m)) (unheld-stays vars here (Run s y m) h)
+unheld-stays vars here (Trying (Turns c y k n m) o b x rest) h = free-within (λ t. Trying t o b x rest) (does vars here (Turns c y k n m)) (unheld-stays vars here (Turns c y k n m) h)
+unheld-stays vars here (Trying (Trying u p c y m) o b x rest) h = free-within (λ t. Trying t o b x rest) (does vars here (Trying u p c y m)) (unheld-stays vars here (Trying u p c y m) h)
+unheld-stays vars here (Trying (Body u m) o b x rest) h = free-within (λ t. Trying t o b x rest) (does vars here (Body u m)) (unheld-stays vars here (Body u m) h)
+unheld-stays vars here (Trying (Held m) o b x rest) h = absurd (let f : ⊥ = cc in f)
+unheld-stays vars here (Body Empty rest) h = tt
+unheld-stays vars here (Body (Raise fs) rest) h = tt
+unheld-stays vars here (Body (Run s y m) rest) h = free-within (λ t. Body t rest) (does vars here (Run s y m)) (unheld-stays vars here (Run s y m) h)
+unheld-stays vars here (Body (Turns c y k n m) rest) h = free-within (λ t. Body t rest) (does vars here (Turns c y k n m)) (unheld-stays vars here (Turns c y k n m) h)
+unheld-stays vars here (Body (Trying u p c y m) rest) h = free-within (λ t. Body t rest) (does vars here (Trying u p c y m)) (unheld-stays vars here (Trying u p c y m) h)
+unheld-stays vars here (Body (Body u m) rest) h = free-within (λ t. Body t rest) (does vars here (Body u m)) (unheld-stays vars here (Body u m) h)
+unheld-stays vars here (Body (Held m) rest) h = absurd (let f : ⊥ = cc in f)
+unheld-stays vars here (Held rest) h = absurd (let f : ⊥ = cc in f)

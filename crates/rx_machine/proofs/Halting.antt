@@ -11,19 +11,19 @@ use Rattle.rx_base.proofs.Elements.{not-empty}
 use Rattle.rx_rules.specs.declared.tasks.Task.{Task}
 use Rattle.rx_rules.specs.declared.tasks.Where.TheVariants.{At, Travel}
 use Rattle.rx_rules.specs.declared.entries.Entry.{Entry}
-use Rattle.rx_rules.specs.declared.entries.Entry.TheVariants.{Step, Root, Death}
+use Rattle.rx_rules.specs.declared.entries.Entry.TheVariants.{Step, Root, Death, Join}
 use Rattle.rx_rules.specs.declared.entries.Act.TheVariants.{Arrive, End}
 use Rattle.rx_rules.specs.declared.events.Cell.{Cell}
 use Rattle.rx_rules.specs.declared.events.PlaceEvent.{PlaceEvent}
 use Rattle.rx_rules.specs.declared.events.PlaceEvent.TheVariants.{Done as Did, Close}
 use Rattle.rx_rules.specs.Code.{Block}
-use Rattle.rx_rules.specs.Terms.{Term, Vars, Answer, answered, vars_after, begins, Does, Local, Makes, Gets, Puts, Forgets, Opens, Calls, Spawns, Waits, Releases, Prints, Done, does}
+use Rattle.rx_rules.specs.Terms.{Term, Vars, Answer, answered, vars_after, begins, Does, Local, Makes, Gets, Puts, Forgets, Opens, Calls, Spawns, Waits, Releases, Prints, Counts, Done, does}
 use Rattle.rx_rules.specs.Tree.{Tree, task_of}
 use Rattle.rx_rules.specs.Store.{State, after_cell}
 use Rattle.rx_rules.specs.Plays.{Tells, begun, journal_at}
-use Rattle.rx_rules.specs.Entries.{MayArrive}
+use Rattle.rx_rules.specs.Entries.{AllowedAct}
 use Rattle.rx_rules.specs.Run.{Given, Proper, NoRoot}
-use Rattle.rx_rules.specs.Picked.{Game, Player, Turn, dies, arrives, moves, ends, root, Comes, Goes, stays, local, stores, enabled, tree_in}
+use Rattle.rx_rules.specs.Picked.{Game, Player, Turn, due, arrives, moves, ends, root, Comes, Goes, stays, local, stores, enabled, tree_in}
 use Rattle.rx_rules.proofs.Kills.{due-not}
 use Rattle.rx_runs.specs.Coming.{GoesOn}
 use Rattle.rx_runs.proofs.Walks.{IsLast, fits_last}
@@ -48,7 +48,7 @@ use Rattle.rx_stores.proofs.Journals.{journals_are}
 -- Walks.
 
 -- a walk only adds events
-goes-more : {places heap n : ℕ} {t : TaskId} {here : PlaceId} {p q : Player} {S Z : State} {j k : List PlaceEvent} → Goes places heap n t here p S j q Z k → IsPrefix j k
+goes-more : {heap n : ℕ} {t : TaskId} {here : PlaceId} {p q : Player} {S Z : State} {j k : List PlaceEvent} → Goes heap n t here p S j q Z k → IsPrefix j k
 goes-more {j = j} stays = ([], append-nil j)
 goes-more (local e g) = goes-more g
 goes-more {n = n} {t = t} {j = j} (stores cell x a told b may g) = let r = goes-more g in (Did t n cell x ∷ r.0, sym (append_assoc j (Did t n cell x ∷ []) r.0) ∙ r.1)
@@ -65,31 +65,32 @@ tells_not (Spawns place) here c a h l = h
 tells_not (Waits faults) here c a h l = h
 tells_not Releases here c a h l = h
 tells_not (Prints value) here c a h l = h
+tells_not (Counts name) here c a h l = h
 tells_not (Done faults) here c a h l = h
 
 -- the events of a part of a walk begin those of the whole walk
-goes-part : {places heap n : ℕ} {t : TaskId} {here : PlaceId} {p q r : Player} {S Z W : State} {j k l : List PlaceEvent} → Goes places heap n t here p S j q Z k → Goes places heap n t here p S j r W l → IsLast (does r.vars here.0 places r.term) → IsPrefix k l
+goes-part : {heap n : ℕ} {t : TaskId} {here : PlaceId} {p q r : Player} {S Z W : State} {j k l : List PlaceEvent} → Goes heap n t here p S j q Z k → Goes heap n t here p S j r W l → IsLast (does r.vars here.0 r.term) → IsPrefix k l
 goes-part stays h b = goes-more h
 goes-part (local {after = u} {left = v} e g) stays b = absurd (subst IsLast e b)
-goes-part {places = places} {heap = heap} {n = n} {t = t} {here = here} {p = p} {r = r} {S = S} {W = W} {j = j} {l = l} (local {after = u} {left = v} e g) (local {after = x} {left = y} f h) b =
+goes-part {heap = heap} {n = n} {t = t} {here = here} {p = p} {r = r} {S = S} {W = W} {j = j} {l = l} (local {after = u} {left = v} e g) (local {after = x} {left = y} f h) b =
     let same : Local u v ≡ Local x y = sym e ∙ f in
     let term : u ≡ x = cc in
     let vars : v ≡ y = cc in
     goes-part g
-    (subst (λ (w : Vars). Goes places heap n t here (record { term = u; vars = w; batch = begun p.term p.batch }) S j r W l) (sym vars)
-    (subst (λ (w : Term). Goes places heap n t here (record { term = w; vars = y; batch = begun p.term p.batch }) S j r W l) (sym term) h)) b
+    (subst (λ (w : Vars). Goes heap n t here (record { term = u; vars = w; batch = begun p.term p.batch }) S j r W l) (sym vars)
+    (subst (λ (w : Term). Goes heap n t here (record { term = w; vars = y; batch = begun p.term p.batch }) S j r W l) (sym term) h)) b
 goes-part {here = here} (local {after = u} {left = v} e g) (stores cell x w tells at may h) b = absurd (subst (λ d. Tells d here cell w) e tells)
 goes-part {here = here} (stores cell x w tells at may g) stays b = absurd (tells_not _ here cell w tells b)
 goes-part {here = here} (stores cell x w tells at may g) (local e h) b = absurd (subst (λ d. Tells d here cell w) e tells)
-goes-part {places = places} {heap = heap} {n = n} {t = t} {here = here} {p = p} {r = r} {S = S} {W = W} {j = j} {l = l} (stores cell x w tells at may g) (stores cell2 x2 w2 tells2 at2 may2 h) b =
-    let both = tell_once heap S here (does p.vars here.0 places p.term) cell cell2 w w2 tells tells2 may may2 in
+goes-part {heap = heap} {n = n} {t = t} {here = here} {p = p} {r = r} {S = S} {W = W} {j = j} {l = l} (stores cell x w tells at may g) (stores cell2 x2 w2 tells2 at2 may2 h) b =
+    let both = tell_once heap S here (does p.vars here.0 p.term) cell cell2 w w2 tells tells2 may may2 in
     let path : x ≡ x2 = (let e : Some x ≡ Some x2 = sym at ∙ at2 in cc) in
-    let one : Goes places heap n t here (record { term = answered w2 p.term; vars = vars_after w2 p.vars; batch = begun p.term p.batch }) (after_cell S cell) (j ++ Did t n cell x2 ∷ []) r W l =
-    subst (λ (v : Cell). Goes places heap n t here (record { term = answered w2 p.term; vars = vars_after w2 p.vars; batch = begun p.term p.batch }) (after_cell S v) (j ++ Did t n v x2 ∷ []) r W l) (sym both.0) h in
-    let two : Goes places heap n t here (record { term = answered w2 p.term; vars = vars_after w2 p.vars; batch = begun p.term p.batch }) (after_cell S cell) (j ++ Did t n cell x ∷ []) r W l =
-    subst (λ (v : List ℕ). Goes places heap n t here (record { term = answered w2 p.term; vars = vars_after w2 p.vars; batch = begun p.term p.batch }) (after_cell S cell) (j ++ Did t n cell v ∷ []) r W l) (sym path) one in
+    let one : Goes heap n t here (record { term = answered w2 p.term; vars = vars_after w2 p.vars; batch = begun p.term p.batch }) (after_cell S cell) (j ++ Did t n cell x2 ∷ []) r W l =
+    subst (λ (v : Cell). Goes heap n t here (record { term = answered w2 p.term; vars = vars_after w2 p.vars; batch = begun p.term p.batch }) (after_cell S v) (j ++ Did t n v x2 ∷ []) r W l) (sym both.0) h in
+    let two : Goes heap n t here (record { term = answered w2 p.term; vars = vars_after w2 p.vars; batch = begun p.term p.batch }) (after_cell S cell) (j ++ Did t n cell x ∷ []) r W l =
+    subst (λ (v : List ℕ). Goes heap n t here (record { term = answered w2 p.term; vars = vars_after w2 p.vars; batch = begun p.term p.batch }) (after_cell S cell) (j ++ Did t n cell v ∷ []) r W l) (sym path) one in
     goes-part g
-    (subst (λ (v : Answer). Goes places heap n t here (record { term = answered v p.term; vars = vars_after v p.vars; batch = begun p.term p.batch }) (after_cell S cell) (j ++ Did t n cell x ∷ []) r W l) (sym both.1) two) b
+    (subst (λ (v : Answer). Goes heap n t here (record { term = answered v p.term; vars = vars_after v p.vars; batch = begun p.term p.batch }) (after_cell S cell) (j ++ Did t n cell x ∷ []) r W l) (sym both.1) two) b
 
 -- Journals.
 
@@ -111,22 +112,25 @@ begin-both (l ∷ js) (suc n) j k h = (([], append-nil l), begin-both js n j k h
 
 -- a turn adds an entry, and events to one journal at most
 turn-tells : (U : Given) (k : ℕ) (used : Bool) (G G' : Game) → Turn U k G used G' → IsPrefix G.entries G'.entries × BeginEach G.journals G'.journals
-turn-tells U k used G G' (dies d due) = ((Death d ∷ [], refl), begin-set G.journals d.0 (journal_at G.journals d.0 ++ Close (length G.entries) ∷ []) (Close (length G.entries) ∷ [], refl))
-turn-tells U k used G G' (arrives x p none_due pick may) = ((Step x.number (Arrive p) [] ∷ [], refl), begin-same G.journals)
-turn-tells U k used G G' (moves x here p q S Z j act none_due pick at player store goes fits may) = ((Step x.number act q.batch ∷ [], refl), begin-set G.journals here.0 j (goes-more goes))
-turn-tells U k used G G' (ends x here p q S Z j f none_due pick at player store goes done may) = ((Step x.number (End f) q.batch ∷ [], refl), begin-set G.journals here.0 j (goes-more goes))
-turn-tells U k used G G' (root lost thrown none_due none may) = ((Root lost thrown ∷ [], refl), begin-same G.journals)
+turn-tells U k used G G' (due (Join p) is) = ((Join p ∷ [], refl), begin-same G.journals)
+turn-tells U k used G G' (due (Step t act batch) is) = ((Step t act batch ∷ [], refl), begin-same G.journals)
+turn-tells U k used G G' (due (Root lost masked thrown) is) = ((Root lost masked thrown ∷ [], refl), begin-same G.journals)
+turn-tells U k used G G' (due (Death d) is) = ((Death d ∷ [], refl), begin-set G.journals d.0 (journal_at G.journals d.0 ++ Close (length G.entries) ∷ []) (Close (length G.entries) ∷ [], refl))
+turn-tells U k used G G' (arrives x p (none_due, pick) may) = ((Step x.number (Arrive p) [] ∷ [], refl), begin-same G.journals)
+turn-tells U k used G G' (moves x here p q S Z j act (none_due, pick) at player store goes fits may) = ((Step x.number act q.batch ∷ [], refl), begin-set G.journals here.0 j (goes-more goes))
+turn-tells U k used G G' (ends x here p q S Z j f (none_due, pick) at player store goes done may) = ((Step x.number (End f) q.batch ∷ [], refl), begin-set G.journals here.0 j (goes-more goes))
+turn-tells U k used G G' (root lost masked thrown none_due none may) = ((Root lost masked thrown ∷ [], refl), begin-same G.journals)
 
 -- no arrival is made of a task at a place
-not_away : (T : Tree) (x y : Task) (here p : PlaceId) → x ≡ y → task_of T x.number ≡ Some x → x.place ≡ At here → MayArrive T y.number p → ⊥
+not_away : (T : Tree) (x y : Task) (here p : PlaceId) → x ≡ y → task_of T x.number ≡ Some x → x.place ≡ At here → AllowedAct T y.number (Arrive p) → ⊥
 not_away T x y here p same stands is_at may =
     let stands_y : task_of T y.number ≡ Some y = subst (λ (v : Task). task_of T v.number ≡ Some v) same stands in
-    let is : may.task ≡ y = (let e : Some may.task ≡ Some y = sym may.acts.stands ∙ stands_y in cc) in
-    let e : Travel may.from p ≡ At here = sym may.travels ∙ (ap (λ (v : Task). v.place) (is ∙ sym same) ∙ is_at) in cc
+    let is : may.task ≡ y = (let e : Some may.task ≡ Some y = sym may.stands ∙ stands_y in cc) in
+    let e : Travel may.asks.0 p ≡ At here = sym may.asks.1 ∙ (ap (λ (v : Task). v.place) (is ∙ sym same) ∙ is_at) in cc
 
 module _ (U : Given) (k : ℕ) (G : Game) (items : List Kept) (h : HasTold U k G items) where
   -- the part that was told begins the walk of the turn
-  begins-walk : (y : Task) (there : PlaceId) (p2 r : Player) (S2 W : State) (l : List PlaceEvent) → slice_get (enabled (tree_in U G)) (k % length (enabled (tree_in U G))) ≡ Some y → y.place ≡ At there → slice_get G.players y.number.0 ≡ Some p2 → slice_get G.stores there.0 ≡ Some S2 → Goes U.places U.heap (length G.entries) y.number there p2 S2 (journal_at G.journals there.0) r W l → IsLast (does r.vars there.0 U.places r.term) → BeginEach (slice_set G.journals h.here.0 h.events) (slice_set G.journals there.0 l)
+  begins-walk : (y : Task) (there : PlaceId) (p2 r : Player) (S2 W : State) (l : List PlaceEvent) → slice_get (enabled (tree_in U G)) (k % length (enabled (tree_in U G))) ≡ Some y → y.place ≡ At there → slice_get G.players y.number.0 ≡ Some p2 → slice_get G.stores there.0 ≡ Some S2 → Goes U.heap (length G.entries) y.number there p2 S2 (journal_at G.journals there.0) r W l → IsLast (does r.vars there.0 r.term) → BeginEach (slice_set G.journals h.here.0 h.events) (slice_set G.journals there.0 l)
   begins-walk y there p2 r S2 W l pick2 at2 player2 store2 goes2 last2 =
       let n : ℕ = length G.entries in
       let x : Task = h.task in
@@ -137,23 +141,23 @@ module _ (U : Given) (k : ℕ) (G : Game) (items : List Kept) (h : HasTold U k G
       let place : here ≡ there = (let e : At here ≡ At there = sym h.is_at ∙ ap (λ (v : Task). v.place) task ∙ at2 in cc) in
       let same_p : p ≡ p2 = (let e : Some p ≡ Some p2 = sym h.player ∙ ap (λ (v : Task). slice_get G.players v.number.0) task ∙ player2 in cc) in
       let same_s : S ≡ S2 = (let e : Some S ≡ Some S2 = sym h.found ∙ ap (λ (v : PlaceId). slice_get G.stores v.0) place ∙ store2 in cc) in
-      let a : Goes U.places U.heap n x.number there p2 S2 (journal_at G.journals there.0) r W l = subst (λ (v : Task). Goes U.places U.heap n v.number there p2 S2 (journal_at G.journals there.0) r W l) (sym task) goes2 in
-      let b : Goes U.places U.heap n x.number here p2 S2 (journal_at G.journals here.0) r W l = subst (λ (v : PlaceId). Goes U.places U.heap n x.number v p2 S2 (journal_at G.journals v.0) r W l) (sym place) a in
-      let c : Goes U.places U.heap n x.number here p S2 (journal_at G.journals here.0) r W l = subst (λ (v : Player). Goes U.places U.heap n x.number here v S2 (journal_at G.journals here.0) r W l) (sym same_p) b in
-      let d : Goes U.places U.heap n x.number here p S (journal_at G.journals here.0) r W l = subst (λ (v : State). Goes U.places U.heap n x.number here p v (journal_at G.journals here.0) r W l) (sym same_s) c in
-      let part : IsPrefix h.events l = goes-part h.goes d (subst (λ (v : PlaceId). IsLast (does r.vars v.0 U.places r.term)) (sym place) last2) in
+      let a : Goes U.heap n x.number there p2 S2 (journal_at G.journals there.0) r W l = subst (λ (v : Task). Goes U.heap n v.number there p2 S2 (journal_at G.journals there.0) r W l) (sym task) goes2 in
+      let b : Goes U.heap n x.number here p2 S2 (journal_at G.journals here.0) r W l = subst (λ (v : PlaceId). Goes U.heap n x.number v p2 S2 (journal_at G.journals v.0) r W l) (sym place) a in
+      let c : Goes U.heap n x.number here p S2 (journal_at G.journals here.0) r W l = subst (λ (v : Player). Goes U.heap n x.number here v S2 (journal_at G.journals here.0) r W l) (sym same_p) b in
+      let d : Goes U.heap n x.number here p S (journal_at G.journals here.0) r W l = subst (λ (v : State). Goes U.heap n x.number here p v (journal_at G.journals here.0) r W l) (sym same_s) c in
+      let part : IsPrefix h.events l = goes-part h.goes d (subst (λ (v : PlaceId). IsLast (does r.vars v.0 r.term)) (sym place) last2) in
       subst (λ (v : PlaceId). BeginEach (slice_set G.journals here.0 h.events) (slice_set G.journals v.0 l)) place (begin-both G.journals here.0 h.events l part)
 
   -- so the journals begin those of each turn
   begins-turn : (used : Bool) (G' : Game) → Turn U k G used G' → BeginEach (slice_set G.journals h.here.0 h.events) G'.journals
-  begins-turn used G' (dies d due) = absurd (due-not (length G.entries) d G.kills due h.none_due)
-  begins-turn used G' (arrives y p none_due pick may) =
+  begins-turn used G' (due e is) = absurd (due-not (length G.entries) e G.plan is h.none_due)
+  begins-turn used G' (arrives y p (none_due, pick) may) =
       let task : h.task ≡ y = (let e : Some h.task ≡ Some y = sym h.picked ∙ pick in cc) in absurd (not_away (tree_in U G) h.task y h.here p task h.stands h.is_at may)
-  begins-turn used G' (moves y there p2 r S2 W l act none_due pick at player store goes fits may) =
-      begins-walk y there p2 r S2 W l pick at player store goes (fits_last there r.term (does r.vars there.0 U.places r.term) act fits)
-  begins-turn used G' (ends y there p2 r S2 W l f none_due pick at player store goes done may) =
+  begins-turn used G' (moves y there p2 r S2 W l act (none_due, pick) at player store goes fits may) =
+      begins-walk y there p2 r S2 W l pick at player store goes (fits_last there r.term (does r.vars there.0 r.term) act fits)
+  begins-turn used G' (ends y there p2 r S2 W l f (none_due, pick) at player store goes done may) =
       begins-walk y there p2 r S2 W l pick at player store goes (subst IsLast (sym done) tt)
-  begins-turn used G' (root lost thrown none_due none may) = absurd (not-empty (enabled (tree_in U G)) (k % length (enabled (tree_in U G))) h.task none h.picked)
+  begins-turn used G' (root lost masked thrown none_due none may) = absurd (not-empty (enabled (tree_in U G)) (k % length (enabled (tree_in U G))) h.task none h.picked)
 
 -- What a refused turn leaves.
 
@@ -191,7 +195,7 @@ begun-told code U k G es items law proper comes unreleased entries h =
     (subst (λ (v : List (List PlaceEvent)). HasBegun U k G G.entries v) (sym (journals_are U.heap 0 items (slice_set G.journals h.here.0 h.events) h.stores)) so)
 
 -- what the task that the pick k moves has told
-walk-told : {L : Type 0} (stands : L → Tree → Type 0) (shape : Shape) (code : Block) (U : Given) (m : Machine L) (k i : ℕ) (here : PlaceId) (q r : Player) (seat : Seat) (G : Game) (items : List Kept) (Z : State) (l : List PlaceEvent) → (a : Acting stands shape code U m k i here q seat G) → Goes U.places U.heap (length G.entries) seat.row.number here a.began a.store (journal_at G.journals here.0) r Z l → StoresAre U.heap 0 items (slice_set G.journals here.0 l) → HasTold U k G items
+walk-told : {L : Type 0} (stands : L → ℕ → Tree → Type 0) (shape : Shape) (code : Block) (U : Given) (m : Machine L) (k i : ℕ) (here : PlaceId) (q r : Player) (seat : Seat) (G : Game) (items : List Kept) (Z : State) (l : List PlaceEvent) → (a : Acting stands shape code U m k i here q seat G) → Goes U.heap (length G.entries) seat.row.number here a.began a.store (journal_at G.journals here.0) r Z l → StoresAre U.heap 0 items (slice_set G.journals here.0 l) → HasTold U k G items
 walk-told stands shape code U m k i here q r seat G items Z l a goes stored =
     record {
       task = seat.row;
@@ -212,12 +216,12 @@ walk-told stands shape code U m k i here q r seat G items Z l a goes stored =
     }
 
 -- in the middle of a turn
-pub acting-told : {L : Type 0} (stands : L → Tree → Type 0) (shape : Shape) (code : Block) (U : Given) (m : Machine L) (k i : ℕ) (here : PlaceId) (q : Player) (seat : Seat) (G : Game) (items : List Kept) → items ≡ m.stores.items → Acting stands shape code U m k i here q seat G → HasTold U k G items
+pub acting-told : {L : Type 0} (stands : L → ℕ → Tree → Type 0) (shape : Shape) (code : Block) (U : Given) (m : Machine L) (k i : ℕ) (here : PlaceId) (q : Player) (seat : Seat) (G : Game) (items : List Kept) → items ≡ m.stores.items → Acting stands shape code U m k i here q seat G → HasTold U k G items
 acting-told stands shape code U m k i here q seat G items same a =
     walk-told stands shape code U m k i here q q seat G items a.left a.events a a.gone.goes (subst (λ (v : List Kept). StoresAre U.heap 0 v (slice_set G.journals here.0 a.events)) (sym same) a.stores)
 
 -- where a store has answered
-pub called-told : {L : Type 0} (stands : L → Tree → Type 0) (shape : Shape) (code : Block) (U : Given) (m : Machine L) (k i : ℕ) (here : PlaceId) (q : Player) (seat : Seat) (G : Game) (op : CellOp) (answer : Result (Option Value) Fault) (x : List ℕ) (old new : Kept) (mark : Mark) (items : List Kept) → (a : Acting stands shape code U m k i here q seat G) → (c : IsCall q.term here op (does q.vars here.0 U.places q.term)) → begins q.term ≡ Some x → next_of (does q.vars here.0 U.places q.term) ≡ CellStep op → StoreIs stands shape code U m k i here q seat G a old → items ≡ slice_set m.stores.items here.0 new → mark.task ≡ seat.row.number → mark.stamp ≡ length G.entries → mark.path ≡ x → Asked old new mark op answer → HasTold U k G items
+pub called-told : {L : Type 0} (stands : L → ℕ → Tree → Type 0) (shape : Shape) (code : Block) (U : Given) (m : Machine L) (k i : ℕ) (here : PlaceId) (q : Player) (seat : Seat) (G : Game) (op : CellOp) (answer : Result (Option Value) Fault) (x : List ℕ) (old new : Kept) (mark : Mark) (items : List Kept) → (a : Acting stands shape code U m k i here q seat G) → (c : IsCall q.term here op (does q.vars here.0 q.term)) → begins q.term ≡ Some x → next_of (does q.vars here.0 q.term) ≡ CellStep op → StoreIs stands shape code U m k i here q seat G a old → items ≡ slice_set m.stores.items here.0 new → mark.task ≡ seat.row.number → mark.stamp ≡ length G.entries → mark.path ≡ x → Asked old new mark op answer → HasTold U k G items
 called-told stands shape code U m k i here q seat G op answer x old new mark items a c b e is put task stamp path asked =
     let w = call-told stands shape code U m k i here q seat G op answer x old new mark items a c b e is put task stamp path asked in
     walk-told stands shape code U m k i here q _ seat G items w.0 w.1 a w.2 w.3
@@ -225,12 +229,12 @@ called-told stands shape code U m k i here q seat G op answer x old new mark ite
 -- A turn that was refused.
 
 -- it has told nothing
-pub refused-same : {L : Type 0} (stands : L → Tree → Type 0) (shape : Shape) (code : Block) (U : Given) (m m' : Machine L) (k : ℕ) (G : Game) → GoesOn → Seated stands shape code U m G → NoRoot G.entries → m'.history.entries ≡ m.history.entries → m'.stores ≡ m.stores → HasBegun U k G m'.history.entries (map (λ s. s.events) m'.stores.items)
+pub refused-same : {L : Type 0} (stands : L → ℕ → Tree → Type 0) (shape : Shape) (code : Block) (U : Given) (m m' : Machine L) (k : ℕ) (G : Game) → GoesOn → Seated stands shape code U m G → NoRoot G.entries → m'.history.entries ≡ m.history.entries → m'.stores ≡ m.stores → HasBegun U k G m'.history.entries (map (λ s. s.events) m'.stores.items)
 refused-same stands shape code U m m' k G law h unreleased history stored =
     begun-same code U k G m'.history.entries (map (λ (s : Kept). s.events) m'.stores.items) law h.shares.on.proper h.shares.comes unreleased (history ∙ h.shares.entries)
     (ap (λ v. map (λ (s : Kept). s.events) v.items) stored ∙ journals_are U.heap 0 m.stores.items G.journals h.stores)
 
 -- it has told a part
-pub refused-told : {L : Type 0} (stands : L → Tree → Type 0) (shape : Shape) (code : Block) (U : Given) (m m' : Machine L) (k : ℕ) (G : Game) → GoesOn → Seated stands shape code U m G → NoRoot G.entries → m'.history ≡ m.history → HasTold U k G m'.stores.items → HasBegun U k G m'.history.entries (map (λ s. s.events) m'.stores.items)
+pub refused-told : {L : Type 0} (stands : L → ℕ → Tree → Type 0) (shape : Shape) (code : Block) (U : Given) (m m' : Machine L) (k : ℕ) (G : Game) → GoesOn → Seated stands shape code U m G → NoRoot G.entries → m'.history ≡ m.history → HasTold U k G m'.stores.items → HasBegun U k G m'.history.entries (map (λ s. s.events) m'.stores.items)
 refused-told stands shape code U m m' k G law h unreleased history told =
     begun-told code U k G m'.history.entries m'.stores.items law h.shares.on.proper h.shares.comes unreleased (ap (λ l. l.entries) history ∙ h.shares.entries) told

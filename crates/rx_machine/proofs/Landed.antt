@@ -20,7 +20,7 @@ use Rattle.rx_finish.specs.declared.ledger.Caller.{Caller}
 use Rattle.rx_finish.specs.declared.ledger.LedgerFault.{LedgerFault}
 use Rattle.rx_finish.specs.declared.ledger.LedgerFault.TheVariants.{NotYet, Lost, NoMemory}
 use Rattle.rx_finish.specs.Calls.{ArriveReply, RootReply, blow_of}
-use Rattle.rx_history.specs.Setups.{given}
+use Rattle.rx_history.specs.Setups.{given, to_join}
 use Rattle.rx_store.specs.Kept.{Kept}
 use Rattle.rx_nodes.specs.Shape.{Shape}
 use Rattle.rx_control.specs.declared.control.Control.{Control}
@@ -53,7 +53,7 @@ root-refused T (NotYet place) S calm h = absurd (let f : true ≡ false = sym ca
 abbrev there : PlaceId → Task → Task
 there to x = record x { place = At to }
 
-pub landed : {L : Type 0} (stands : L → Tree → Type 0) (shape : Shape) (code : Block) (U : Given) (m m' : Machine L) (k i : ℕ) (to : PlaceId) (seat seat' : Seat) (G : Game) → Landing stands shape code U m k i to seat G → AllowedAct (tree_in U G) seat.row.number (Arrive to) → seat'.row ≡ there to seat.row → seat'.scopes ≡ seat.scopes → seat'.control ≡ seat.control → seat'.batch ≡ seat.batch → Went stands m m' (made_act (tree_in U G) seat.row.number (Arrive to)) (Step seat.row.number (Arrive to) []) → m'.seats.items ≡ slice_set m.seats.items i (Some seat') → LeadsTo (Turn U k G true) (Seated stands shape code U m')
+pub landed : {L : Type 0} (stands : L → ℕ → Tree → Type 0) (shape : Shape) (code : Block) (U : Given) (m m' : Machine L) (k i : ℕ) (to : PlaceId) (seat seat' : Seat) (G : Game) → Landing stands shape code U m k i to seat G → AllowedAct (tree_in U G) seat.row.number (Arrive to) → seat'.row ≡ there to seat.row → seat'.scopes ≡ seat.scopes → seat'.control ≡ seat.control → seat'.batch ≡ seat.batch → Went stands m m' (to_join U (tree_in U G)) (made_act (tree_in U G) seat.row.number (Arrive to)) (Step seat.row.number (Arrive to) []) → m'.seats.items ≡ slice_set m.seats.items i (Some seat') → LeadsTo (Turn U k G true) (Seated stands shape code U m')
 landed stands shape code U m m' k i to seat seat' G a may row scopes control batch went back =
     let T : Tree = tree_in U G in
     let t : TaskId = seat.row.number in
@@ -61,7 +61,7 @@ landed stands shape code U m m' k i to seat seat' G a may row scopes control bat
     let G' : Game = record G { entries = G.entries ++ Step t (Arrive to) [] ∷ [] } in
     let same : T' ≡ tree_in U G' = sym (tree-push U.places G.entries (Step t (Arrive to) [])) in
     let h = a.but.shares in
-    let turn : Turn U k G true G' = arrives seat.row to a.pick.none_due a.pick.picked may in
+    let turn : Turn U k G true G' = arrives seat.row to (a.pick.none_due, a.pick.picked) may in
     let number : t.0 ≡ i = a.pick.number in
     let s = a.seat_is in
     let live_t : live_task T t.0 ≡ Some seat.row = subst (λ (n : ℕ). live_task T n ≡ Some seat.row) (sym number) s.row in
@@ -82,11 +82,10 @@ landed stands shape code U m m' k i to seat seat' G a may row scopes control bat
         shares = record {
           on = h.on;
           comes = turns h.comes a.pick.stands turn;
-          places = h.places ∙ sym went.places;
           setup = ap given went.setup ∙ h.setup;
           entries = went.entries ∙ ap (λ es. es ++ Step t (Arrive to) [] ∷ []) h.entries;
-          kills = went.kills ∙ h.kills;
-          ledger = subst (λ (T : Tree). stands m'.ledger T) same went.ledger;
+          plan = went.plan ∙ h.plan;
+          ledger = subst (λ (T : Tree). stands m'.ledger (to_join U T) T) same went.ledger;
           slots = ap (λ xs. length xs) back ∙ (length-set m.seats.items i (Some seat') ∙ (h.slots ∙ ap (λ (T : Tree). T.next_task) same));
           failed = went.failed ∙ h.failed;
         };
@@ -107,19 +106,19 @@ landed stands shape code U m m' k i to seat seat' G a may row scopes control bat
 none-left : (T : Tree) → T.tasks ≡ [] → enabled T ≡ []
 none-left T e = ap (λ (xs : List Task). reverse (filter (is_enabled T) xs)) e
 
-pub finished : {L : Type 0} (stands : L → Tree → Type 0) (shape : Shape) (code : Block) (U : Given) (m m' : Machine L) (k : ℕ) (G : Game) (lost : PlaceSet) (thrown : List Fault) → Releasing stands shape code U m G → NoRoot G.entries → Allowed (tree_in U G) (Root lost thrown) → m'.history.entries ≡ m.history.entries ++ Root lost thrown ∷ [] → m'.history.setup ≡ m.history.setup → m'.stores ≡ m.stores → m'.ready ≡ m.ready → stands m'.ledger (without (tree_in U G) the_root) → LeadsTo (Turn U k G false) (Finished stands U m')
-finished stands shape code U m m' k G lost thrown a open_still may entries setup stores ready ledger =
-    let G' : Game = record G { entries = G.entries ++ Root lost thrown ∷ [] } in
+pub finished : {L : Type 0} (stands : L → ℕ → Tree → Type 0) (shape : Shape) (code : Block) (U : Given) (m m' : Machine L) (k : ℕ) (G : Game) (lost : PlaceSet) (masked : ℕ) (thrown : List Fault) → Releasing stands shape code U m G → NoRoot G.entries → Allowed (tree_in U G) (Root lost masked thrown) → m'.history.entries ≡ m.history.entries ++ Root lost masked thrown ∷ [] → m'.history.setup ≡ m.history.setup → m'.stores ≡ m.stores → m'.ready ≡ m.ready → stands m'.ledger (to_join U (tree_in U G)) (without (tree_in U G) the_root) → LeadsTo (Turn U k G false) (Finished stands U m')
+finished stands shape code U m m' k G lost masked thrown a open_still may entries setup stores ready ledger =
+    let G' : Game = record G { entries = G.entries ++ Root lost masked thrown ∷ [] } in
     let h = a.holds.shares in
-    let same : without (tree_in U G) the_root ≡ tree_in U G' = sym (tree-push U.places G.entries (Root lost thrown)) in (
+    let same : without (tree_in U G) the_root ≡ tree_in U G' = sym (tree-push U.places G.entries (Root lost masked thrown)) in (
       G',
-      root lost thrown a.none_due a.none_enabled may,
+      root lost masked thrown a.none_due a.none_enabled may,
       record {
-        entries = entries ∙ ap (λ es. es ++ Root lost thrown ∷ []) h.entries;
+        entries = entries ∙ ap (λ es. es ++ Root lost masked thrown ∷ []) h.entries;
         setup = ap given setup ∙ h.setup;
-        ledger = subst (λ (T : Tree). stands m'.ledger T) same ledger;
+        ledger = subst (λ (T : Tree). stands m'.ledger (to_join U T) T) same ledger;
         stores = subst (λ (ss : List Kept). StoresAre U.heap 0 ss G.journals) (ap (λ v. v.items) (sym stores)) a.holds.stores;
-        ended = root-push G.entries lost thrown open_still;
+        ended = root-push G.entries lost masked thrown open_still;
         none_enabled = subst (λ (T : Tree). enabled T ≡ []) same (none-left (without (tree_in U G) the_root) a.none_left);
         none_ready = ap (λ (r : Ready). r.tasks.members) ready ∙ a.none_ready;
       },

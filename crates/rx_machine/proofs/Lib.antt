@@ -9,6 +9,7 @@ pub mod SpineGrants
 pub mod Beginning
 pub mod Asking
 pub mod Printed
+pub mod Counted
 pub mod FinishBegun
 pub mod OriginsKept
 pub mod FirstGame
@@ -30,6 +31,8 @@ pub mod Requested
 pub mod SeatTaken
 pub mod BeforeTurn
 pub mod Deaths
+pub mod Joins
 pub mod Halting
 pub mod Noting
 pub mod Programs
+pub mod Knowing

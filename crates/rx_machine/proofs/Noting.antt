@@ -8,16 +8,16 @@ use Rattle.rx_base.specs.declared.values.Fault.{Fault}
 use Rattle.rx_base.proofs.Elements.{get-pushed, length-push}
 use Rattle.rx_rules.specs.declared.tasks.Task.{Task}
 use Rattle.rx_rules.specs.declared.entries.Act.{Act}
-use Rattle.rx_rules.specs.declared.entries.Act.TheVariants.{Open, At as Calls, Spawn, Arrive, Wait, Release, End, Print}
+use Rattle.rx_rules.specs.declared.entries.Act.TheVariants.{Open, At as Calls, Spawn, Arrive, Wait, Release, End, Print, Census}
 use Rattle.rx_rules.specs.declared.entries.Entry.{Entry}
-use Rattle.rx_rules.specs.declared.entries.Entry.TheVariants.{Step, Root, Death}
+use Rattle.rx_rules.specs.declared.entries.Entry.TheVariants.{Step, Root, Death, Join}
 use Rattle.rx_rules.specs.Code.{Block}
 use Rattle.rx_rules.specs.Tree.{Tree, task_of, on_chain, the_root}
 use Rattle.rx_rules.specs.Entries.{AllowedAct, made_act, made, after_end}
 use Rattle.rx_rules.specs.Fold.{tree_of}
 use Rattle.rx_rules.specs.Reached.{Reached}
-use Rattle.rx_rules.specs.Run.{Given, NoRoot}
-use Rattle.rx_rules.specs.Picked.{Game, Player, Turn, dies, arrives, moves, ends, root, enabled, tree_in}
+use Rattle.rx_rules.specs.Run.{Given}
+use Rattle.rx_rules.specs.Picked.{Game, Player, Turn, due, arrives, moves, ends, root, enabled, tree_in}
 use Rattle.rx_rules.proofs.Append.{tree-push}
 use Rattle.rx_rank.specs.Numbers.{Ascends, marked}
 use Rattle.rx_sound.specs.Sound.{Sound, ReachedSound}
@@ -25,6 +25,8 @@ use Rattle.rx_sound.specs.Enabling.{able, OthersStay, nearest_opener, FreesOne, 
 use Rattle.rx_sound.specs.Histories.{FoldReached}
 use Rattle.rx_runs.specs.Coming.{GamesCome}
 use Rattle.rx_nodes.specs.Shape.{Shape}
+use Rattle.rx_runs.specs.Ties.{MayCome}
+use Rattle.rx_runs.proofs.Planned.{due_planned}
 use Rattle.rx_machine.specs.declared.machine.Machine.{Machine}
 use Rattle.rx_machine.specs.declared.enabled.Ready.{Ready}
 use Rattle.rx_machine.specs.declared.enabled.Origin.{Origin}
@@ -33,7 +35,7 @@ use Rattle.rx_machine.specs.Slots.{live_task, SlotIs, seat_at}
 use Rattle.rx_machine.specs.Picking.{slot_able, is_listed, IsReady}
 use Rattle.rx_machine.specs.Origins.{TellsOrigins, origin_in, origin_by}
 use Rattle.rx_machine.specs.Holds.{Seated, Holds, CanTurn}
-use Rattle.rx_machine.specs.Runs.{HasMoved, HasDied, AfterTurn, WentOn, Taken}
+use Rattle.rx_machine.specs.Runs.{HasMoved, HasFallen, AfterTurn, WentOn, Taken}
 use Rattle.rx_machine.proofs.Finding.{same_or_not}
 use Rattle.rx_machine.proofs.Live.{live_stands, live_number}
 use Rattle.rx_machine.proofs.Whole.{stays_open}
@@ -42,16 +44,15 @@ use Rattle.rx_machine.proofs.OriginsKept.{with_row, tells_act, tells_without, ac
 use Rattle.rx_machine.proofs.Readying.{marked_same, marked_other, ascends_marked, slot_task, able_high}
 
 -- nothing but the set is another
-pub seated-same : {L : Type 0} (stands : L → Tree → Type 0) (shape : Shape) (code : Block) (U : Given) (m : Machine L) (r : Ready) (G : Game) → Seated stands shape code U m G → Seated stands shape code U (record m { ready = r }) G
+pub seated-same : {L : Type 0} (stands : L → ℕ → Tree → Type 0) (shape : Shape) (code : Block) (U : Given) (m : Machine L) (r : Ready) (G : Game) → Seated stands shape code U m G → Seated stands shape code U (record m { ready = r }) G
 seated-same stands shape code U m r G a =
     record {
       shares = record {
         on = a.shares.on;
         comes = a.shares.comes;
-        places = a.shares.places;
         setup = a.shares.setup;
         entries = a.shares.entries;
-        kills = a.shares.kills;
+        plan = a.shares.plan;
         ledger = a.shares.ledger;
         slots = a.shares.slots;
         failed = a.shares.failed;
@@ -60,7 +61,7 @@ seated-same stands shape code U m r G a =
       seats = a.seats;
     }
 
-pub can-same : {L : Type 0} (stands : L → Tree → Type 0) (shape : Shape) (code : Block) (U : Given) (m : Machine L) (r : Ready) (G : Game) → CanTurn stands shape code U m G → CanTurn stands shape code U (record m { ready = r }) G
+pub can-same : {L : Type 0} (stands : L → ℕ → Tree → Type 0) (shape : Shape) (code : Block) (U : Given) (m : Machine L) (r : Ready) (G : Game) → CanTurn stands shape code U m G → CanTurn stands shape code U (record m { ready = r }) G
 can-same stands shape code U m r G c = record { holds = seated-same stands shape code U m r G c.holds; unreleased = c.unreleased; numbers = c.numbers; reached = c.reached }
 
 -- How many tasks there are after an entry.
@@ -81,27 +82,29 @@ grows-act T t (Calls s r callee from to path) = one_more T (made_act T t (Calls 
 grows-act T t (Spawn child s from to path) = one_more T (made_act T t (Spawn child s from to path)) refl
 grows-act T t (Arrive p) = grows T (made_act T t (Arrive p)) refl
 grows-act T t (Wait s thrown) = grows T (made_act T t (Wait s thrown)) refl
-grows-act T t (Release s lost thrown) = grows T (made_act T t (Release s lost thrown)) refl
+grows-act T t (Release s lost masked thrown) = grows T (made_act T t (Release s lost masked thrown)) refl
 grows-act T t (End thrown) = grows T (after_end T t thrown) (of_end (task_of T t) refl) where
   of_end : (o : Option Task) → task_of T t ≡ o → (after_end T t thrown).next_task ≡ T.next_task
   of_end (Some x) e = rw (e, after_end) refl
   of_end None e = rw (e, after_end) refl
 grows-act T t (Print value path) = grows T T refl
+grows-act T t (Census places path) = grows T T refl
 
 grows-made : (n : ℕ) (T : Tree) (e : Entry) → Grows T (made n T e)
 grows-made n T (Step t act batch) = grows-act T t act
-grows-made n T (Root lost thrown) = grows T (made n T (Root lost thrown)) refl
+grows-made n T (Root lost masked thrown) = grows T (made n T (Root lost masked thrown)) refl
 grows-made n T (Death d) = grows T (made n T (Death d)) refl
+grows-made n T (Join p) = grows T (made n T (Join p)) refl
 
 grows-push : (U : Given) (G : Game) (e : Entry) → Grows (tree_in U G) (tree_of U.places (G.entries ++ e ∷ []))
 grows-push U G e = subst (λ (T : Tree). Grows (tree_in U G) T) (sym (tree-push U.places G.entries e)) (grows-made (length G.entries) (tree_in U G) e)
 
 pub turn-grows : (U : Given) (k : ℕ) (used : Bool) (G H : Game) → Turn U k G used H → Grows (tree_in U G) (tree_in U H)
-turn-grows U k used G H (dies d due) = grows-push U G (Death d)
-turn-grows U k used G H (arrives x p none_due pick may) = grows-push U G (Step x.number (Arrive p) [])
-turn-grows U k used G H (moves x here p q S Z j act none_due pick at player store goes fits may) = grows-push U G (Step x.number act q.batch)
-turn-grows U k used G H (ends x here p q S Z j f none_due pick at player store goes done may) = grows-push U G (Step x.number (End f) q.batch)
-turn-grows U k used G H (root lost thrown none_due none may) = grows-push U G (Root lost thrown)
+turn-grows U k used G H (due e is) = grows-push U G e
+turn-grows U k used G H (arrives x p (none_due, pick) may) = grows-push U G (Step x.number (Arrive p) [])
+turn-grows U k used G H (moves x here p q S Z j act (none_due, pick) at player store goes fits may) = grows-push U G (Step x.number act q.batch)
+turn-grows U k used G H (ends x here p q S Z j f (none_due, pick) at player store goes done may) = grows-push U G (Step x.number (End f) q.batch)
+turn-grows U k used G H (root lost masked thrown none_due none may) = grows-push U G (Root lost masked thrown)
 
 -- The act of a turn.
 
@@ -115,11 +118,11 @@ pub record TurnAct (U : Given) (k : ℕ) (G H : Game) : Type 0 where
   pub tree : tree_in U H ≡ made_act (tree_in U G) task.number act
 
 pub turn-act : (U : Given) (k : ℕ) (G H : Game) → Turn U k G true H → TurnAct U k G H
-turn-act U k G H (arrives x p none_due pick may) = record { task = x; act = Arrive p; batch = []; entries = refl; picked = pick; allowed = may; tree = tree-push U.places G.entries (Step x.number (Arrive p) []) }
-turn-act U k G H (moves x here p q S Z j act none_due pick at player store goes fits may) = record { task = x; act = act; batch = q.batch; entries = refl; picked = pick; allowed = may; tree = tree-push U.places G.entries (Step x.number act q.batch) }
-turn-act U k G H (ends x here p q S Z j f none_due pick at player store goes done may) = record { task = x; act = End f; batch = q.batch; entries = refl; picked = pick; allowed = may; tree = tree-push U.places G.entries (Step x.number (End f) q.batch) }
+turn-act U k G H (arrives x p (none_due, pick) may) = record { task = x; act = Arrive p; batch = []; entries = refl; picked = pick; allowed = may; tree = tree-push U.places G.entries (Step x.number (Arrive p) []) }
+turn-act U k G H (moves x here p q S Z j act (none_due, pick) at player store goes fits may) = record { task = x; act = act; batch = q.batch; entries = refl; picked = pick; allowed = may; tree = tree-push U.places G.entries (Step x.number act q.batch) }
+turn-act U k G H (ends x here p q S Z j f (none_due, pick) at player store goes done may) = record { task = x; act = End f; batch = q.batch; entries = refl; picked = pick; allowed = may; tree = tree-push U.places G.entries (Step x.number (End f) q.batch) }
 
-module _ {L : Type 0} (stands : L → Tree → Type 0) (shape : Shape) (code : Block) (U : Given) (m : Machine L) (k i : ℕ) (under : ScopeId) (before : ℕ) (G H : Game) (sound : ReachedSound) (h : HasMoved stands shape code U m k i under before G H) where
+module _ {L : Type 0} (stands : L → ℕ → Tree → Type 0) (shape : Shape) (code : Block) (U : Given) (m : Machine L) (k i : ℕ) (under : ScopeId) (before : ℕ) (G H : Game) (sound : ReachedSound) (h : HasMoved stands shape code U m k i under before G H) where
   abbrev mine : TurnAct U k G H
   mine = turn-act U k G H h.turn
 
@@ -259,7 +262,7 @@ module _ {L : Type 0} (stands : L → Tree → Type 0) (shape : Shape) (code : B
       )
 
 -- nothing but what tells of enabled tasks is another, and the set is the same
-pub moved-same : {L : Type 0} (stands : L → Tree → Type 0) (shape : Shape) (code : Block) (U : Given) (m : Machine L) (r : Ready) (k i : ℕ) (under : ScopeId) (before : ℕ) (G H : Game) → r.tasks ≡ m.ready.tasks → HasMoved stands shape code U m k i under before G H → HasMoved stands shape code U (record m { ready = r }) k i under before G H
+pub moved-same : {L : Type 0} (stands : L → ℕ → Tree → Type 0) (shape : Shape) (code : Block) (U : Given) (m : Machine L) (r : Ready) (k i : ℕ) (under : ScopeId) (before : ℕ) (G H : Game) → r.tasks ≡ m.ready.tasks → HasMoved stands shape code U m k i under before G H → HasMoved stands shape code U (record m { ready = r }) k i under before G H
 moved-same stands shape code U m r k i under before G H same h =
     record {
       can = can-same stands shape code U m r H h.can;
@@ -285,7 +288,7 @@ noted-all shape T T' ps os old ns before after more size slots ready ascends not
 )
 
 -- what is noted after a turn of the task of slot i
-pub has-moved : {L : Type 0} (stands : L → Tree → Type 0) (shape : Shape) (code : Block) (U : Given) (m m' : Machine L) (k i : ℕ) (under : ScopeId) (before : ℕ) (G : Game) → GamesCome → FoldReached → (t : Taken stands shape code U m k i G) → IsReady (tree_in U G) m.ready.tasks.members → (a : AfterTurn stands shape code U m' k G) → m'.ready ≡ m.ready → ((seat : Seat) → seat_at m.seats.items i ≡ Some seat → under ≡ seat.row.under) → before ≡ length m.seats.items → HasMoved stands shape code U m' k i under before G a.0
+pub has-moved : {L : Type 0} (stands : L → ℕ → Tree → Type 0) (shape : Shape) (code : Block) (U : Given) (m m' : Machine L) (k i : ℕ) (under : ScopeId) (before : ℕ) (G : Game) → GamesCome → FoldReached → (t : Taken stands shape code U m k i G) → IsReady (tree_in U G) m.ready.tasks.members → (a : AfterTurn stands shape code U m' k G) → m'.ready ≡ m.ready → ((seat : Seat) → seat_at m.seats.items i ≡ Some seat → under ≡ seat.row.under) → before ≡ length m.seats.items → HasMoved stands shape code U m' k i under before G a.0
 has-moved stands shape code U m m' k i under before G come fold t ready a same hung size =
     let slot = subst (λ (o : Option Seat). SlotIs shape (tree_in U G) G.players i o) t.at (t.can.holds.seats i) in
     record {
@@ -302,7 +305,7 @@ has-moved stands shape code U m m' k i under before G come fold t ready a same h
     }
 
 -- there is room for the numbers of all slots
-pub room-left : {L : Type 0} (stands : L → Tree → Type 0) (shape : Shape) (code : Block) (U : Given) (m m' : Machine L) (k i : ℕ) (G : Game) → Taken stands shape code U m k i G → AfterTurn stands shape code U m' k G → m'.ready ≡ m.ready → length m.seats.items < m.ready.tasks.room → length m'.seats.items ≤ m'.ready.tasks.room
+pub room-left : {L : Type 0} (stands : L → ℕ → Tree → Type 0) (shape : Shape) (code : Block) (U : Given) (m m' : Machine L) (k i : ℕ) (G : Game) → Taken stands shape code U m k i G → AfterTurn stands shape code U m' k G → m'.ready ≡ m.ready → length m.seats.items < m.ready.tasks.room → length m'.seats.items ≤ m'.ready.tasks.room
 room-left stands shape code U m m' k i G t a same room =
     let most = (turn-grows U k true G a.0 a.1).most in
     let old = t.can.holds.shares.slots in
@@ -311,7 +314,7 @@ room-left stands shape code U m m' k i G t a same room =
     omega (arith, most, old, new, room, size)
 
 -- the slot of the task is there still
-pub inside-still : {L : Type 0} (stands : L → Tree → Type 0) (shape : Shape) (code : Block) (U : Given) (m m' : Machine L) (k i : ℕ) (G : Game) → Taken stands shape code U m k i G → AfterTurn stands shape code U m' k G → i < length m'.seats.items
+pub inside-still : {L : Type 0} (stands : L → ℕ → Tree → Type 0) (shape : Shape) (code : Block) (U : Given) (m m' : Machine L) (k i : ℕ) (G : Game) → Taken stands shape code U m k i G → AfterTurn stands shape code U m' k G → i < length m'.seats.items
 inside-still stands shape code U m m' k i G t a =
     let least = (turn-grows U k true G a.0 a.1).least in
     let old = t.can.holds.shares.slots in
@@ -320,7 +323,7 @@ inside-still stands shape code U m m' k i G t a =
     omega (arith, least, old, new, inside)
 
 -- the turn was noted
-pub went-on : {L : Type 0} (stands : L → Tree → Type 0) (shape : Shape) (code : Block) (U : Given) (m m' : Machine L) (k i : ℕ) (under : ScopeId) (before : ℕ) (G H : Game) → HasMoved stands shape code U m k i under before G H → m' ≡ record m { ready = m'.ready } → IsReady (tree_in U H) m'.ready.tasks.members → TellsOrigins (tree_in U H) m'.ready.origins.items → WentOn stands shape code U m' k true G
+pub went-on : {L : Type 0} (stands : L → ℕ → Tree → Type 0) (shape : Shape) (code : Block) (U : Given) (m m' : Machine L) (k i : ℕ) (under : ScopeId) (before : ℕ) (G H : Game) → HasMoved stands shape code U m k i under before G H → m' ≡ record m { ready = m'.ready } → IsReady (tree_in U H) m'.ready.tasks.members → TellsOrigins (tree_in U H) m'.ready.origins.items → WentOn stands shape code U m' k true G
 went-on {L = L} stands shape code U m m' k i under before G H h same ready told = (
   H,
   h.turn,
@@ -333,15 +336,19 @@ went-on {L = L} stands shape code U m m' k i under before G H h same ready told 
 )
 
 -- a turn without a pick opens no scope
-turn-tells : (U : Given) (k : ℕ) (G H : Game) (origins : List Origin) → Turn U k G false H → TellsOrigins (tree_in U G) origins → TellsOrigins (tree_in U H) origins
-turn-tells U k G H origins (dies d due) h =
+turn-tells : (U : Given) (k : ℕ) (G H : Game) (origins : List Origin) (all here : ℕ) → MayCome all here G.entries G.plan → Turn U k G false H → TellsOrigins (tree_in U G) origins → TellsOrigins (tree_in U H) origins
+turn-tells U k G H origins all here come (due (Step t act batch) is) h = absurd (due_planned (length G.entries) all here G.entries G.plan (Step t act batch) is come)
+turn-tells U k G H origins all here come (due (Root lost masked thrown) is) h = absurd (due_planned (length G.entries) all here G.entries G.plan (Root lost masked thrown) is come)
+turn-tells U k G H origins all here come (due (Death d) is) h =
     subst (λ (T : Tree). TellsOrigins T origins) (sym (tree-push U.places G.entries (Death d))) (record { size = h.size; tells = h.tells })
-turn-tells U k G H origins (root lost thrown none_due none may) h =
-    subst (λ (T : Tree). TellsOrigins T origins) (sym (tree-push U.places G.entries (Root lost thrown))) (tells_without (tree_in U G) the_root origins h)
+turn-tells U k G H origins all here come (due (Join p) is) h =
+    subst (λ (T : Tree). TellsOrigins T origins) (sym (tree-push U.places G.entries (Join p))) (record { size = h.size; tells = h.tells })
+turn-tells U k G H origins all here come (root lost masked thrown none_due none may) h =
+    subst (λ (T : Tree). TellsOrigins T origins) (sym (tree-push U.places G.entries (Root lost masked thrown))) (tells_without (tree_in U G) the_root origins h)
 
 -- the death was noted
-pub died-on : {L : Type 0} (stands : L → Tree → Type 0) (shape : Shape) (code : Block) (U : Given) (m m' : Machine L) (k : ℕ) (G : Game) (old : List ℕ) → ReachedSound → Reached (tree_in U G) → (a : HasDied stands shape code U m k G) → CanTurn stands shape code U m a.0 → IsReady (tree_in U G) old → m' ≡ record m { ready = m'.ready } → (Ascends 0 old → Ascends 0 m'.ready.tasks.members) → ((n : ℕ) → n < length m.seats.items → is_listed n m'.ready.tasks.members ≡ slot_able (tree_in U a.0) (seat_at m.seats.items n)) → ((n : ℕ) → length m.seats.items ≤ n → is_listed n m'.ready.tasks.members ≡ is_listed n old) → TellsOrigins (tree_in U G) m'.ready.origins.items → WentOn stands shape code U m' k false G
-died-on {L = L} stands shape code U m m' k G old sound reached a can ready same ascends noted others told = (
+pub died-on : {L : Type 0} (stands : L → ℕ → Tree → Type 0) (shape : Shape) (code : Block) (U : Given) (m m' : Machine L) (k : ℕ) (G : Game) (old : List ℕ) (all here : ℕ) → MayCome all here G.entries G.plan → ReachedSound → Reached (tree_in U G) → (a : HasFallen stands shape code U m k G) → CanTurn stands shape code U m a.0 → IsReady (tree_in U G) old → m' ≡ record m { ready = m'.ready } → (Ascends 0 old → Ascends 0 m'.ready.tasks.members) → ((n : ℕ) → n < length m.seats.items → is_listed n m'.ready.tasks.members ≡ slot_able (tree_in U a.0) (seat_at m.seats.items n)) → ((n : ℕ) → length m.seats.items ≤ n → is_listed n m'.ready.tasks.members ≡ is_listed n old) → TellsOrigins (tree_in U G) m'.ready.origins.items → WentOn stands shape code U m' k false G
+died-on {L = L} stands shape code U m m' k G old all here come sound reached a can ready same ascends noted others told = (
   a.0,
   a.1,
   record {
@@ -350,12 +357,12 @@ died-on {L = L} stands shape code U m m' k G old sound reached a can ready same 
     ready =
         noted-all shape (tree_in U G) (tree_in U a.0) a.0.players m.seats.items old m'.ready.tasks.members
         (sound (tree_in U G) reached) (sound (tree_in U a.0) can.reached) (turn-grows U k false G a.0 a.1) a.2.0.shares.slots a.2.0.seats ready ascends noted others;
-    origins = turn-tells U k G a.0 m'.ready.origins.items a.1 told;
+    origins = turn-tells U k G a.0 m'.ready.origins.items all here come a.1 told;
   },
 )
 
 -- a turn can be made where there is more room
-pub roomy-can : {L : Type 0} (stands : L → Tree → Type 0) (shape : Shape) (code : Block) (U : Given) (m m' : Machine L) (G : Game) → GamesCome → FoldReached → m' ≡ record m { history = m'.history; ready = m'.ready } → (m'.history.entries ≡ m.history.entries) × (m'.history.setup ≡ m.history.setup) → Holds stands shape code U m G → CanTurn stands shape code U m' G
+pub roomy-can : {L : Type 0} (stands : L → ℕ → Tree → Type 0) (shape : Shape) (code : Block) (U : Given) (m m' : Machine L) (G : Game) → GamesCome → FoldReached → m' ≡ record m { history = m'.history; ready = m'.ready } → (m'.history.entries ≡ m.history.entries) × (m'.history.setup ≡ m.history.setup) → Holds stands shape code U m G → CanTurn stands shape code U m' G
 roomy-can {L = L} stands shape code U m m' G come fold same told h =
     subst (λ (x : Machine L). CanTurn stands shape code U x G) (sym same)
     (can-same stands shape code U (record m { history = m'.history }) m'.ready G

@@ -13,7 +13,7 @@ use Rattle.rx_rules.specs.declared.tasks.Scope.{Scope}
 use Rattle.rx_rules.specs.declared.tasks.Kind.{Kind}
 use Rattle.rx_rules.specs.declared.tasks.Kind.TheVariants.{Finish, Call}
 use Rattle.rx_rules.specs.declared.entries.Act.{Act}
-use Rattle.rx_rules.specs.declared.entries.Act.TheVariants.{Open, At as Calls, Spawn, Arrive, Wait, Release, End, Print}
+use Rattle.rx_rules.specs.declared.entries.Act.TheVariants.{Open, At as Calls, Spawn, Arrive, Wait, Release, End, Print, Census}
 use Rattle.rx_rules.specs.Tree.{Tree, task_of, is_scope, on_chain, the_root}
 use Rattle.rx_rules.specs.Entries.{AllowedAct, made_act, after_end, change_first, waiting, resumed, add_task, opened, born, without}
 use Rattle.rx_rules.specs.Reached.{Reached}
@@ -69,21 +69,22 @@ tells_opened T t kind s r origins next h =
 
 -- what an act makes of it
 pub tells_act : (T : Tree) (t : TaskId) (act : Act) (origins : List Origin) → AllowedAct T t act → TellsOrigins T origins → TellsOrigins (made_act T t act) (with_row (origin_in t act) origins)
-tells_act T t (Open s r path) origins may h = tells_opened T t Finish s r origins may.next h
+tells_act T t (Open s r path) origins may h = tells_opened T t Finish s r origins may.asks.1 h
 tells_act T t (Calls s r callee from to path) origins may h =
-    let o : TellsOrigins (opened T t Call s r) (origins ++ row_of t r ∷ []) = tells_opened T t Call s r origins may.next h in
+    let o : TellsOrigins (opened T t Call s r) (origins ++ row_of t r ∷ []) = tells_opened T t Call s r origins may.asks.1 h in
     record { size = o.size; tells = o.tells }
 tells_act T t (Spawn child s from to path) origins may h = record { size = h.size; tells = h.tells }
 tells_act T t (Arrive p) origins may h = record { size = h.size; tells = h.tells }
 tells_act T t (Wait s thrown) origins may h =
     record { size = h.size; tells = each_change (OriginIsTold origins) (is_scope s) (λ g. record g { body = thrown }) T.scopes (λ g k old. old) h.tells }
-tells_act T t (Release s lost thrown) origins may h =
+tells_act T t (Release s lost masked thrown) origins may h =
     record { size = h.size; tells = each_filter (OriginIsTold origins) (λ g. not (on_chain T s g.number)) T.scopes h.tells }
 tells_act T t (End thrown) origins may h = of_end (task_of T t) refl where
   of_end : (o : Option Task) → task_of T t ≡ o → TellsOrigins (after_end T t thrown) origins
   of_end (Some x) e = rw (e, after_end) (record { size = h.size; tells = each_change (OriginIsTold origins) (is_scope x.under) (λ g. record g { ends = g.ends ++ thrown }) T.scopes (λ g k old. old) h.tells })
   of_end None e = rw (e, after_end) h
 tells_act T t (Print value path) origins may h = h
+tells_act T t (Census places path) origins may h = h
 
 -- a release of the root takes rows of none
 pub tells_without : (T : Tree) (s : ScopeId) (origins : List Origin) → TellsOrigins T origins → TellsOrigins (without T s) origins
@@ -179,23 +180,24 @@ none_above_root T under s reached law way e =
 
 -- after an act its task stands unstruck, or else it has ended
 pub acts_on : (T : Tree) (t : TaskId) (act : Act) → Sound T → AllowedAct T t act → ((thrown : List Fault) × (act ≡ End thrown)) ⊎ ((y : Task) × (live_task (made_act T t act) t.0 ≡ Some y))
-acts_on T t (Open s r path) h may = inr (may.task, stands_live T t.0 may.task may.live.acts.stands may.live.acts.unstruck)
+acts_on T t (Open s r path) h may = inr (may.task, stands_live T t.0 may.task may.stands may.unstruck)
 acts_on T t (Calls s r callee from to path) h may =
     let x : Task = born T callee s from to in
-    let low : t.0 < T.next_task = task_below T.next_task T.tasks t may.task h.tasks_fall may.live.acts.stands in
-    let next : callee.0 ≡ T.next_task = may.next_task in
-    let stands : live_task (opened T t Call s r) t.0 ≡ Some may.task = stands_live (opened T t Call s r) t.0 may.task may.live.acts.stands may.live.acts.unstruck in
-    inr (waiting may.task, change-same (add_task x (opened T t Call s r)) waiting t may.task (λ x. refl) (add-other (opened T t Call s r) x t.0 (λ e. absurd (omega (arith, e, low, next))) ∙ stands) may.live.acts.unstruck)
+    let low : t.0 < T.next_task = task_below T.next_task T.tasks t may.task h.tasks_fall may.stands in
+    let next : callee.0 ≡ T.next_task = may.asks.3 in
+    let stands : live_task (opened T t Call s r) t.0 ≡ Some may.task = stands_live (opened T t Call s r) t.0 may.task may.stands may.unstruck in
+    inr (waiting may.task, change-same (add_task x (opened T t Call s r)) waiting t may.task (λ x. refl) (add-other (opened T t Call s r) x t.0 (λ e. absurd (omega (arith, e, low, next))) ∙ stands) may.unstruck)
 acts_on T t (Spawn child s from to path) h may =
     let x : Task = born T child s from to in
-    let low : t.0 < T.next_task = task_below T.next_task T.tasks t may.task h.tasks_fall may.live.acts.stands in
-    let next : child.0 ≡ T.next_task = may.next_task in
-    inr (may.task, add-other T x t.0 (λ e. absurd (omega (arith, e, low, next))) ∙ stands_live T t.0 may.task may.live.acts.stands may.live.acts.unstruck)
+    let low : t.0 < T.next_task = task_below T.next_task T.tasks t may.task h.tasks_fall may.stands in
+    let next : child.0 ≡ T.next_task = may.asks.1 in
+    inr (may.task, add-other T x t.0 (λ e. absurd (omega (arith, e, low, next))) ∙ stands_live T t.0 may.task may.stands may.unstruck)
 acts_on T t (Arrive p) h may =
-    inr (record (may.task) { place = At p }, change-same T (λ x. record x { place = At p }) t may.task (λ x. refl) (stands_live T t.0 may.task may.acts.stands may.acts.unstruck) may.acts.unstruck)
+    inr (record (may.task) { place = At p }, change-same T (λ x. record x { place = At p }) t may.task (λ x. refl) (stands_live T t.0 may.task may.stands may.unstruck) may.unstruck)
 acts_on T t (Wait s thrown) h may =
-    inr (waiting may.task, change-same (record T { scopes = change_first (is_scope s) (λ g. record g { body = thrown }) T.scopes }) waiting t may.task (λ x. refl) (stands_live T t.0 may.task may.live.acts.stands may.live.acts.unstruck) may.live.acts.unstruck)
-acts_on T t (Release s lost thrown) h may =
-    inr (resumed may.0.task, change-same (without T s) resumed t may.0.task (λ x. refl) (release-live T s t.0 h.tasks_fall ∙ stands_live T t.0 may.0.task may.0.acts.stands may.0.acts.unstruck) may.0.acts.unstruck)
+    inr (waiting may.task, change-same (record T { scopes = change_first (is_scope s) (λ g. record g { body = thrown }) T.scopes }) waiting t may.task (λ x. refl) (stands_live T t.0 may.task may.stands may.unstruck) may.unstruck)
+acts_on T t (Release s lost masked thrown) h may =
+    inr (resumed may.task, change-same (without T s) resumed t may.task (λ x. refl) (release-live T s t.0 h.tasks_fall ∙ stands_live T t.0 may.task may.stands may.unstruck) may.unstruck)
 acts_on T t (End thrown) h may = inl (thrown, refl)
-acts_on T t (Print value path) h may = inr (may.task, stands_live T t.0 may.task may.live.acts.stands may.live.acts.unstruck)
+acts_on T t (Print value path) h may = inr (may.task, stands_live T t.0 may.task may.stands may.unstruck)
+acts_on T t (Census places path) h may = inr (may.task, stands_live T t.0 may.task may.stands may.unstruck)

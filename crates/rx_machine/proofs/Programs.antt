@@ -2,7 +2,7 @@
 use Rattle.std.proofs.Common.{◌≡◌, ℕ, ◌<◌, ◌≤◌, true, false, Bool, refl, arith}
 use Rattle.std.specs.Prelude.{nat_lt, ◌&&◌}
 use Rattle.std.proofs.lemmas.Bool.Decides.{nat_tests}
-use Rattle.rx_rules.specs.Code.{Stmt, SetTo, New, Get, Put, Forget, Print, Throw, Async, AtAsync, At, Finish, If, Repeat, Try, Block, Nothing, Then, work}
+use Rattle.rx_rules.specs.Code.{Stmt, SetTo, New, Get, Put, Forget, Print, Census, Throw, Async, AtAsync, At, Finish, If, Repeat, Try, Block, Nothing, Then, work}
 use Rattle.rx_rules.specs.Run.{Given, Proper}
 use Rattle.rx_nodes.specs.Grammar.{Fits, AllFit, may_hold}
 use Rattle.rx_runs.specs.SomeWords.{MakesSome, StmtMakesSome}
@@ -24,6 +24,7 @@ mutual
   stmt-makes (Put t i e) f = tt
   stmt-makes (Forget t) f = tt
   stmt-makes (Print e) f = tt
+  stmt-makes (Census name) f = tt
   stmt-makes (Throw e) f = tt
   stmt-makes (Async b) f = makes-some b f
   stmt-makes (AtAsync e b) f = makes-some b f

@@ -27,6 +27,7 @@ use Rattle.rx_finish.specs.Callers.{HasNumbers, WaitsInside, MayAskRelease}
 use Rattle.rx_finish.specs.Calls.{ReleaseReply, blow_of}
 use Rattle.rx_nodes.specs.Shape.{Shape}
 use Rattle.rx_control.specs.Stands.{StandsFor}
+use Rattle.rx_history.specs.Setups.{to_join}
 use Rattle.rx_machine.specs.declared.machine.Machine.{Machine}
 use Rattle.rx_machine.specs.declared.seat.Seat.{Seat}
 use Rattle.rx_machine.specs.Inside.Callers.{caller}
@@ -36,7 +37,7 @@ use Rattle.rx_machine.specs.Held.{is_held}
 use Rattle.rx_machine.specs.Holds.{Seated, Acting, IsPick, LeadsTo}
 use Rattle.rx_machine.proofs.Live.{live_number, live_stands, change-other, change-same, release-live}
 use Rattle.rx_machine.proofs.Own.{release-own}
-use Rattle.rx_machine.proofs.Acted.{Went, acted}
+use Rattle.rx_machine.proofs.Acted.{told-nothing, Went, acted}
 use Rattle.rx_machine.proofs.Asking.{id_of, not_lost, seat_asks, seat_inner}
 use Rattle.rx_machine.proofs.Granting.{AfterGrant, after-grant, IsNoRelease, unheld-stays}
 use Rattle.rx_machine.proofs.SpineGrants.{GrantsSpine, spine-grant}
@@ -83,31 +84,31 @@ pick-quiet U k i seat G pick waits =
     quiet-there (is_none seat.row.struck) seat.row.waits (quiet T (inner T seat.row)) enabled_so waits
 
 -- a task that releases waits
-pub release-held : (q : Player) (here places : ℕ) → does q.vars here places q.term ≡ Releases → is_held q.term ≡ true
-release-held q here places asks =
+pub release-held : (q : Player) (here : ℕ) → does q.vars here q.term ≡ Releases → is_held q.term ≡ true
+release-held q here asks =
     (elim (is_held q.term) as (λ b. is_held q.term ≡ b → b ≡ true) [
       | true ↦ λ e. refl
-      | false ↦ λ e. absurd (subst (λ (d : Does). IsNoRelease d) asks (unheld-stays q.vars here places q.term e))
+      | false ↦ λ e. absurd (subst (λ (d : Does). IsNoRelease d) asks (unheld-stays q.vars here q.term e))
     ]) refl
 
 -- the ledger may be asked
-pub release-asks : (shape : Shape) (T : Tree) (i : ℕ) (q : Player) (seat : Seat) (here : PlaceId) (places : ℕ) → IsSeat shape T i q seat → HasNumbers T → does q.vars here.0 places q.term ≡ Releases → MayAskRelease T (caller seat.row seat.scopes.items)
-release-asks shape T i q seat here places s numbers asks =
-    let spine : GrantsSpine (reverse (own_kinds T i)) Releases (granted [] q.term) = subst (λ (d : Does). GrantsSpine (reverse (own_kinds T i)) d (granted [] q.term)) asks (spine-grant (reverse (own_kinds T i)) q.vars here.0 places [] q.term s.spine) in
+pub release-asks : (shape : Shape) (T : Tree) (i : ℕ) (q : Player) (seat : Seat) (here : PlaceId) → IsSeat shape T i q seat → HasNumbers T → does q.vars here.0 q.term ≡ Releases → MayAskRelease T (caller seat.row seat.scopes.items)
+release-asks shape T i q seat here s numbers asks =
+    let spine : GrantsSpine (reverse (own_kinds T i)) Releases (granted [] q.term) = subst (λ (d : Does). GrantsSpine (reverse (own_kinds T i)) d (granted [] q.term)) asks (spine-grant (reverse (own_kinds T i)) q.vars here.0 [] q.term s.spine) in
     let found = innermost T i spine.0 spine.1 spine.2 in
     let id : seat.row.number ≡ record { 0 = i } = id_of seat.row.number i (live_number T i seat.row s.row) in
     seat_asks shape T i q seat (WaitsInside T (caller seat.row seat.scopes.items)) s numbers
     (record {
-      waits = s.waits ∙ release-held q here.0 places asks;
+      waits = s.waits ∙ release-held q here.0 asks;
       scope = found.0;
       own = subst (λ (t : TaskId). own_scope T t ≡ Some found.0) (sym id) found.1;
     })
 
 -- the scope is quiet
-pub release-quiet : (shape : Shape) (U : Given) (k i : ℕ) (q : Player) (seat : Seat) (here : PlaceId) (G : Game) → IsSeat shape (tree_in U G) i q seat → IsPick U k i seat G → does q.vars here.0 U.places q.term ≡ Releases → quiet (tree_in U G) (caller seat.row seat.scopes.items).inner ≡ true
+pub release-quiet : (shape : Shape) (U : Given) (k i : ℕ) (q : Player) (seat : Seat) (here : PlaceId) (G : Game) → IsSeat shape (tree_in U G) i q seat → IsPick U k i seat G → does q.vars here.0 q.term ≡ Releases → quiet (tree_in U G) (caller seat.row seat.scopes.items).inner ≡ true
 release-quiet shape U k i q seat here G s pick asks =
     let T : Tree = tree_in U G in
-    subst (λ (v : ScopeId). quiet T v ≡ true) (seat_inner shape T i q seat s) (pick-quiet U k i seat G pick (s.waits ∙ release-held q here.0 U.places asks))
+    subst (λ (v : ScopeId). quiet T v ≡ true) (seat_inner shape T i q seat s) (pick-quiet U k i seat G pick (s.waits ∙ release-held q here.0 asks))
 
 -- the ledger refuses for want of memory alone
 pub release-refused : (T : Tree) (who : Caller) (e : LedgerFault) (S : Tree → Type 0) → blow_of T who.task ≡ None → quiet T who.inner ≡ true → ReleaseReply T who (Err e) S → e ≡ NoMemory
@@ -126,18 +127,18 @@ kinds-left ks ls front j k h e =
     let rest : ls ≡ reverse front = cc in
     sym (reverse-reverse front) ∙ ap (λ (v : List Kind). reverse v) (sym rest)
 
-pub released : {L : Type 0} (stands : L → Tree → Type 0) (sound : ReachedSound) (keeps : ReleaseKeeps) (pops : ReleasePops) (shape : Shape) (code : Block) (U : Given) (m m' : Machine L) (k i : ℕ) (here : PlaceId) (q : Player) (seat seat' : Seat) (G : Game) (s : ScopeId) (lost : PlaceSet) (thrown : List Fault) → Acting stands shape code U m k i here q seat G → does q.vars here.0 U.places q.term ≡ Releases → AllowedAct (tree_in U G) seat.row.number (Release s lost thrown) → StandsFor shape seat'.control (granted (raised_by lost thrown) q.term) → seat'.control.vars ≡ seat.control.vars → seat'.row ≡ resumed seat.row → ((below : List ScopeId) (x : ScopeId) → seat.scopes.items ≡ below ++ x ∷ [] → seat'.scopes.items ≡ below) → seat'.batch ≡ [] → Went stands m m' (made_act (tree_in U G) seat.row.number (Release s lost thrown)) (Step seat.row.number (Release s lost thrown) seat.batch) → m'.seats.items ≡ slice_set m.seats.items i (Some seat') → LeadsTo (Turn U k G true) (Seated stands shape code U m')
-released stands sound keeps pops shape code U m m' k i here q seat seat' G s lost thrown a asks may term vars row popped batch went back =
+pub released : {L : Type 0} (stands : L → ℕ → Tree → Type 0) (sound : ReachedSound) (keeps : ReleaseKeeps) (pops : ReleasePops) (shape : Shape) (code : Block) (U : Given) (m m' : Machine L) (k i : ℕ) (here : PlaceId) (q : Player) (seat seat' : Seat) (G : Game) (s : ScopeId) (lost : PlaceSet) (masked : ℕ) (thrown : List Fault) → Acting stands shape code U m k i here q seat G → does q.vars here.0 q.term ≡ Releases → AllowedAct (tree_in U G) seat.row.number (Release s lost masked thrown) → StandsFor shape seat'.control (granted (raised_by lost thrown) q.term) → seat'.control.vars ≡ seat.control.vars → seat'.row ≡ resumed seat.row → ((below : List ScopeId) (x : ScopeId) → seat.scopes.items ≡ below ++ x ∷ [] → seat'.scopes.items ≡ below) → seat'.batch ≡ [] → Went stands m m' (to_join U (tree_in U G)) (made_act (tree_in U G) seat.row.number (Release s lost masked thrown)) (Step seat.row.number (Release s lost masked thrown) seat.batch) → m'.seats.items ≡ slice_set m.seats.items i (Some seat') → LeadsTo (Turn U k G true) (Seated stands shape code U m')
+released stands sound keeps pops shape code U m m' k i here q seat seat' G s lost masked thrown a asks may term vars row popped batch went back =
     let T : Tree = tree_in U G in
     let t : TaskId = seat.row.number in
-    let T' : Tree = made_act T t (Release s lost thrown) in
+    let T' : Tree = made_act T t (Release s lost masked thrown) in
     let faults : List Fault = raised_by lost thrown in
     let at = a.gone.seat_is in
     let falls : TasksFall T.next_task T.tasks = (sound T a.reached).tasks_fall in
     let id : t ≡ record { 0 = i } = id_of t i a.pick.number in
-    let grant : AfterGrant Releases (granted faults q.term) = subst (λ (d : Does). AfterGrant d (granted faults q.term)) asks (after-grant q.vars here.0 U.places faults q.term at.held) in
-    let spine : GrantsSpine (reverse (own_kinds T i)) Releases (granted faults q.term) = subst (λ (d : Does). GrantsSpine (reverse (own_kinds T i)) d (granted faults q.term)) asks (spine-grant (reverse (own_kinds T i)) q.vars here.0 U.places faults q.term at.spine) in
-    let pop = pops T t s lost thrown a.reached may in
+    let grant : AfterGrant Releases (granted faults q.term) = subst (λ (d : Does). AfterGrant d (granted faults q.term)) asks (after-grant q.vars here.0 faults q.term at.held) in
+    let spine : GrantsSpine (reverse (own_kinds T i)) Releases (granted faults q.term) = subst (λ (d : Does). GrantsSpine (reverse (own_kinds T i)) d (granted faults q.term)) asks (spine-grant (reverse (own_kinds T i)) q.vars here.0 faults q.term at.spine) in
+    let pop = pops T t s lost masked thrown a.reached may in
     let first : filter (opened_by (record { 0 = i })) T.scopes ≡ pop.0 ∷ filter (opened_by (record { 0 = i })) T'.scopes =
     subst (λ (v : TaskId). filter (opened_by v) T.scopes ≡ pop.0 ∷ filter (opened_by v) T'.scopes) id pop.2 in
     let scopes_were : own_scopes T i ≡ pop.0.number ∷ own_scopes T' i = ap (λ gs. map (λ g. g.number) gs) first in
@@ -147,7 +148,7 @@ released stands sound keeps pops shape code U m m' k i here q seat seat' G s los
     let now : live_task T' i ≡ Some (resumed seat.row) =
     subst (λ (n : ℕ). live_task T' n ≡ Some (resumed seat.row)) a.pick.number
     (change-same (without T s) resumed t seat.row (λ x. refl) stood (live_stands T i seat.row at.row).1) in
-    acted stands shape code U m m' k i here a.began q a.store a.left a.events seat seat' G (Release s lost thrown) a.but a.pick a.gone (subst (λ (d : Does). Fits here q.term d (Release s lost thrown)) (sym asks) tt) may refl
+    acted stands shape code U m m' k i here a.began q a.store a.left a.events seat seat' G (Release s lost masked thrown) a.but a.pick a.gone (subst (λ (d : Does). Fits here q.term d (Release s lost masked thrown)) (sym asks) tt) may refl
     (λ n apart. change-other (without T s) resumed t n (λ x. refl) (λ e. apart (sym e ∙ a.pick.number)) ∙ release-live T s n falls)
     (λ n apart y h.
     let number : y.number.0 ≡ n = live_number T n y h in
@@ -156,17 +157,17 @@ released stands sound keeps pops shape code U m m' k i here q seat seat' G s los
     let found : task_of T y.number ≡ Some y = subst (λ (v : TaskId). task_of T v ≡ Some y) (sym own_id) both.0 in
     release-own T T' n
     (subst (λ (v : TaskId). filter (opened_by v) T'.scopes ≡ filter (opened_by v) T.scopes) own_id
-    (keeps T t s lost thrown y a.reached may found both.1 (λ e. apart (sym number ∙ (e ∙ a.pick.number))))))
+    (keeps T t s lost masked thrown y a.reached may found both.1 (λ e. apart (sym number ∙ (e ∙ a.pick.number))))))
     refl
     (record {
       row = now ∙ ap (λ r. Some r) (sym row);
       scopes = sym (reverse-reverse (own_scopes T' i)) ∙ ap (λ (v : List ScopeId). reverse v) (sym left);
       term = term;
-      vars = vars ∙ at.vars;
+      vars = vars ∙ (at.vars ∙ sym (told-nothing (does q.vars here.0 q.term) (Release s lost masked thrown) q.vars refl));
       batch = batch;
       waits = ap (λ r. r.waits) row ∙ sym grant.1;
       held = grant.0;
       spine = subst (λ (ks : List Kind). Spine (granted faults q.term) ks) (kinds-left (own_kinds T i) (own_kinds T' i) spine.0 pop.0.kind spine.1 kinds_were spine.2) spine.3;
     })
-    (record { places = went.places; setup = went.setup; entries = went.entries ∙ ap (λ b. m.history.entries ++ Step t (Release s lost thrown) b ∷ []) at.batch; kills = went.kills; failed = went.failed; stores = went.stores; ledger = went.ledger })
+    (record { setup = went.setup; entries = went.entries ∙ ap (λ b. m.history.entries ++ Step t (Release s lost masked thrown) b ∷ []) at.batch; plan = went.plan; failed = went.failed; stores = went.stores; ledger = went.ledger })
     a.inside back a.stores

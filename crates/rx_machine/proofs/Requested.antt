@@ -1,12 +1,12 @@
 -- Which request a told step is.
-use Rattle.std.specs.Prelude.{◌≡◌, ℤ, List, Result, Ok, Err, OnOk, OnErr, refl}
+use Rattle.std.specs.Prelude.{◌≡◌, ℕ, ℤ, List, Result, Ok, Err, OnOk, OnErr, refl}
 use Rattle.std.proofs.Common.{ap, sym, ◌∙◌}
 use Rattle.rx_base.specs.declared.ids.PlaceId.{PlaceId}
 use Rattle.rx_base.specs.declared.values.Fault.{Fault}
-use Rattle.rx_rules.specs.Terms.{Does, Local, Makes, Gets, Puts, Forgets, Opens, Calls, Spawns, Waits, Releases, Prints, Done}
+use Rattle.rx_rules.specs.Terms.{Does, Local, Makes, Gets, Puts, Forgets, Opens, Calls, Spawns, Waits, Releases, Prints, Counts, Done}
 use Rattle.rx_control.specs.declared.step.CellOp.{CellOp}
 use Rattle.rx_control.specs.declared.step.Want.{Want}
-use Rattle.rx_control.specs.declared.step.Want.TheVariants.{Open, At, Spawn, Wait, Release, Print}
+use Rattle.rx_control.specs.declared.step.Want.TheVariants.{Open, At, Spawn, Wait, Release, Print, Census}
 use Rattle.rx_control.specs.declared.step.Next.{Next}
 use Rattle.rx_control.specs.declared.step.Next.TheVariants.{Local as LocalStep, Cell, Book, Done as Ended}
 use Rattle.rx_control.specs.Next.{next_of}
@@ -24,6 +24,7 @@ asks_open (Spawns place) h = cc
 asks_open (Waits faults) h = cc
 asks_open Releases h = cc
 asks_open (Prints value) h = cc
+asks_open (Counts name) h = cc
 asks_open (Done faults) h = cc
 
 pub asks_call : (d : Does) (to : PlaceId) → next_of d ≡ Book (At to) → d ≡ Calls to.0
@@ -38,6 +39,7 @@ asks_call (Spawns place) to h = cc
 asks_call (Waits faults) to h = cc
 asks_call Releases to h = cc
 asks_call (Prints value) to h = cc
+asks_call (Counts name) to h = cc
 asks_call (Done faults) to h = cc
 
 pub asks_spawn : (d : Does) (to : PlaceId) → next_of d ≡ Book (Spawn to) → d ≡ Spawns to.0
@@ -52,6 +54,7 @@ asks_spawn (Spawns place) to h = let e : record { 0 = place } ≡ to = cc in ap 
 asks_spawn (Waits faults) to h = cc
 asks_spawn Releases to h = cc
 asks_spawn (Prints value) to h = cc
+asks_spawn (Counts name) to h = cc
 asks_spawn (Done faults) to h = cc
 
 pub asks_wait : (d : Does) → next_of d ≡ Book Wait → (fs : List Fault) × (d ≡ Waits fs)
@@ -66,6 +69,7 @@ asks_wait (Spawns place) h = absurd (let f : ⊥ = cc in f)
 asks_wait (Waits faults) h = (faults, refl)
 asks_wait Releases h = absurd (let f : ⊥ = cc in f)
 asks_wait (Prints value) h = absurd (let f : ⊥ = cc in f)
+asks_wait (Counts name) h = absurd (let f : ⊥ = cc in f)
 asks_wait (Done faults) h = absurd (let f : ⊥ = cc in f)
 
 pub asks_release : (d : Does) → next_of d ≡ Book Release → d ≡ Releases
@@ -80,6 +84,7 @@ asks_release (Spawns place) h = cc
 asks_release (Waits faults) h = cc
 asks_release Releases h = refl
 asks_release (Prints value) h = cc
+asks_release (Counts name) h = cc
 asks_release (Done faults) h = cc
 
 pub asks_print : (d : Does) (value : ℤ) → next_of d ≡ Book (Print value) → d ≡ Prints value
@@ -94,7 +99,23 @@ asks_print (Spawns place) z h = cc
 asks_print (Waits faults) z h = cc
 asks_print Releases z h = cc
 asks_print (Prints value) z h = cc
+asks_print (Counts name) z h = cc
 asks_print (Done faults) z h = cc
+
+pub asks_census : (d : Does) → next_of d ≡ Book Census → (name : ℕ) × (d ≡ Counts name)
+asks_census (Local left vars) h = absurd (let f : ⊥ = cc in f)
+asks_census (Makes name words) h = absurd (let f : ⊥ = cc in f)
+asks_census (Gets name target index) h = absurd (let f : ⊥ = cc in f)
+asks_census (Puts target index value) h = absurd (let f : ⊥ = cc in f)
+asks_census (Forgets target) h = absurd (let f : ⊥ = cc in f)
+asks_census Opens h = absurd (let f : ⊥ = cc in f)
+asks_census (Calls place) h = absurd (let f : ⊥ = cc in f)
+asks_census (Spawns place) h = absurd (let f : ⊥ = cc in f)
+asks_census (Waits faults) h = absurd (let f : ⊥ = cc in f)
+asks_census Releases h = absurd (let f : ⊥ = cc in f)
+asks_census (Prints value) h = absurd (let f : ⊥ = cc in f)
+asks_census (Counts name) h = (name, refl)
+asks_census (Done faults) h = absurd (let f : ⊥ = cc in f)
 
 pub asks_end : (d : Does) → next_of d ≡ Ended → (fs : List Fault) × (d ≡ Done fs)
 asks_end (Local left vars) h = absurd (let f : ⊥ = cc in f)
@@ -108,6 +129,7 @@ asks_end (Spawns place) h = absurd (let f : ⊥ = cc in f)
 asks_end (Waits faults) h = absurd (let f : ⊥ = cc in f)
 asks_end Releases h = absurd (let f : ⊥ = cc in f)
 asks_end (Prints value) h = absurd (let f : ⊥ = cc in f)
+asks_end (Counts name) h = absurd (let f : ⊥ = cc in f)
 asks_end (Done faults) h = (faults, refl)
 
 pub asks_no_local : (d : Does) → IsAsked d → next_of d ≡ LocalStep → ⊥
@@ -122,6 +144,7 @@ asks_no_local (Spawns place) a h = cc
 asks_no_local (Waits faults) a h = cc
 asks_no_local Releases a h = cc
 asks_no_local (Prints value) a h = cc
+asks_no_local (Counts name) a h = cc
 asks_no_local (Done faults) a h = cc
 
 pub asks_no_cell : (d : Does) (op : CellOp) → IsAsked d → next_of d ≡ Cell op → ⊥
@@ -136,6 +159,7 @@ asks_no_cell (Spawns place) op a h = cc
 asks_no_cell (Waits faults) op a h = cc
 asks_no_cell Releases op a h = cc
 asks_no_cell (Prints value) op a h = cc
+asks_no_cell (Counts name) op a h = cc
 asks_no_cell (Done faults) op a h = cc
 
 -- the same of what was told
@@ -156,6 +180,9 @@ told_release n d w r is which = asks_release d (sym r.0 ∙ (is ∙ ap (λ v. Bo
 
 pub told_print : (n : Next) (d : Does) (w : Want) (value : ℤ) → IsRequest n d → n ≡ Book w → w ≡ Print value → d ≡ Prints value
 told_print n d w value r is which = asks_print d value (sym r.0 ∙ (is ∙ ap (λ v. Book v) which))
+
+pub told_census : (n : Next) (d : Does) (w : Want) → IsRequest n d → n ≡ Book w → w ≡ Census → (name : ℕ) × (d ≡ Counts name)
+told_census n d w r is which = asks_census d (sym r.0 ∙ (is ∙ ap (λ v. Book v) which))
 
 pub told_end : (n : Next) (d : Does) → IsRequest n d → n ≡ Ended → (fs : List Fault) × (d ≡ Done fs)
 told_end n d r is = asks_end d (sym r.0 ∙ is)

@@ -1,6 +1,6 @@
 -- The start of a turn: the seat of the task that moves is taken out of its slot.
-use Rattle.std.specs.Prelude.{◌≡◌, ℕ, ◌<◌, List, length, Option, Some, None, slice_get, slice_set}
-use Rattle.std.proofs.Common.{ap, ◌∙◌, sym, subst}
+use Rattle.std.specs.Prelude.{◌≡◌, ℕ, ◌<◌, ◌≤◌, List, length, Option, Some, None, slice_get, slice_set}
+use Rattle.std.proofs.Common.{arith, ap, ◌∙◌, sym, subst}
 use Rattle.std.proofs.lemmas.List.{length-set}
 use Rattle.rx_base.specs.declared.ids.PlaceId.{PlaceId}
 use Rattle.rx_base.proofs.Elements.{get-set}
@@ -11,13 +11,13 @@ use Rattle.rx_rules.specs.Code.{Block}
 use Rattle.rx_rules.specs.Tree.{Tree}
 use Rattle.rx_rules.specs.Plays.{journal_at}
 use Rattle.rx_rules.specs.Reached.{Reached}
-use Rattle.rx_rules.specs.Run.{Given}
+use Rattle.rx_rules.specs.Run.{Given, in_all}
 use Rattle.rx_rules.specs.Picked.{Game, Player, stays, tree_in}
 use Rattle.rx_sound.specs.Sound.{Sound, Inside}
 use Rattle.rx_sound.proofs.Reach.{fits_of}
 use Rattle.rx_runs.specs.Coming.{CameTo, GamesCome}
 use Rattle.rx_runs.proofs.Pairs.{pairs-get, journal_got, set_same}
-use Rattle.rx_history.specs.Setups.{given}
+use Rattle.rx_history.specs.Setups.{given, to_join}
 use Rattle.rx_nodes.specs.Shape.{Shape}
 use Rattle.rx_machine.specs.declared.machine.Machine.{Machine}
 use Rattle.rx_machine.specs.declared.seat.Seat.{Seat}
@@ -40,7 +40,7 @@ pub record Found (shape : Shape) (U : Given) (k i : ℕ) (seat : Seat) (G : Game
   pub is_player : slice_get G.players i ≡ Some player
   pub seat_is : IsSeat shape (tree_in U G) i player seat
 
-pub found : {L : Type 0} (stands : L → Tree → Type 0) (shape : Shape) (code : Block) (U : Given) (m : Machine L) (k i : ℕ) (seat : Seat) (G : Game) → Taken stands shape code U m k i G → seat_at m.seats.items i ≡ Some seat → Found shape U k i seat G
+pub found : {L : Type 0} (stands : L → ℕ → Tree → Type 0) (shape : Shape) (code : Block) (U : Given) (m : Machine L) (k i : ℕ) (seat : Seat) (G : Game) → Taken stands shape code U m k i G → seat_at m.seats.items i ≡ Some seat → Found shape U k i seat G
 found stands shape code U m k i seat G t at =
     let T = tree_in U G in
     let same : t.seat ≡ seat = let e : Some t.seat ≡ Some seat = sym t.at ∙ at in cc in
@@ -52,18 +52,17 @@ found stands shape code U m k i seat G t at =
       seat_is = slot.2;
     }
 
-pub holds-but : {L : Type 0} (stands : L → Tree → Type 0) (shape : Shape) (code : Block) (U : Given) (m m' : Machine L) (i : ℕ) (G : Game) → Seated stands shape code U m G → i < length m.seats.items → Emptied m m' i → HoldsBut stands shape code U m' i G
+pub holds-but : {L : Type 0} (stands : L → ℕ → Tree → Type 0) (shape : Shape) (code : Block) (U : Given) (m m' : Machine L) (i : ℕ) (G : Game) → Seated stands shape code U m G → i < length m.seats.items → Emptied m m' i → HoldsBut stands shape code U m' i G
 holds-but {L = L} stands shape code U m m' i G h inside e =
     let s = h.shares in
     record {
       shares = record {
         on = s.on;
         comes = s.comes;
-        places = s.places ∙ sym (ap (λ (x : Machine L). x.places) e.same);
         setup = ap (λ (x : Machine L). given x.history.setup) e.same ∙ s.setup;
         entries = ap (λ (x : Machine L). x.history.entries) e.same ∙ s.entries;
-        kills = ap (λ (x : Machine L). x.kills) e.same ∙ s.kills;
-        ledger = subst (λ (x : Machine L). stands x.ledger (tree_in U G)) (sym e.same) s.ledger;
+        plan = ap (λ (x : Machine L). x.plan) e.same ∙ s.plan;
+        ledger = subst (λ (x : Machine L). stands x.ledger (to_join U (tree_in U G)) (tree_in U G)) (sym e.same) s.ledger;
         slots = ap (λ xs. length xs) e.left ∙ (length-set m.seats.items i None ∙ s.slots);
         failed = ap (λ (x : Machine L). x.failed) e.same ∙ s.failed;
       };
@@ -78,7 +77,7 @@ pub inside-still : {L : Type 0} (m m' : Machine L) (i : ℕ) → Emptied m m' i 
 inside-still m m' i e inside = subst (λ (n : ℕ). i < n) (sym (ap (λ xs. length xs) e.left ∙ length-set m.seats.items i None)) inside
 
 -- a task that travels is landing
-pub lands : {L : Type 0} (stands : L → Tree → Type 0) (shape : Shape) (code : Block) (U : Given) (m m' : Machine L) (k i : ℕ) (from to : PlaceId) (seat : Seat) (G : Game) → Taken stands shape code U m k i G → seat_at m.seats.items i ≡ Some seat → Emptied m m' i → seat.row.place ≡ Travel from to → Landing stands shape code U m' k i to seat G
+pub lands : {L : Type 0} (stands : L → ℕ → Tree → Type 0) (shape : Shape) (code : Block) (U : Given) (m m' : Machine L) (k i : ℕ) (from to : PlaceId) (seat : Seat) (G : Game) → Taken stands shape code U m k i G → seat_at m.seats.items i ≡ Some seat → Emptied m m' i → seat.row.place ≡ Travel from to → Landing stands shape code U m' k i to seat G
 lands stands shape code U m m' k i from to seat G t at e travels =
     let f = found stands shape code U m k i seat G t at in
     record {
@@ -95,15 +94,17 @@ lands stands shape code U m m' k i from to seat G t at e travels =
     }
 
 -- a task at a place is acting, as the player that it was
-pub acts : {L : Type 0} (stands : L → Tree → Type 0) (shape : Shape) (code : Block) (U : Given) (m m' : Machine L) (k i : ℕ) (here : PlaceId) (seat : Seat) (G : Game) → GamesCome → ((T : Tree) → Reached T → Sound T) → Taken stands shape code U m k i G → seat_at m.seats.items i ≡ Some seat → Emptied m m' i → seat.row.place ≡ At here → (q : Player) × Acting stands shape code U m' k i here q seat G
+pub acts : {L : Type 0} (stands : L → ℕ → Tree → Type 0) (shape : Shape) (code : Block) (U : Given) (m m' : Machine L) (k i : ℕ) (here : PlaceId) (seat : Seat) (G : Game) → GamesCome → ((T : Tree) → Reached T → Sound T) → Taken stands shape code U m k i G → seat_at m.seats.items i ≡ Some seat → Emptied m m' i → seat.row.place ≡ At here → (q : Player) × Acting stands shape code U m' k i here q seat G
 acts stands shape code U m m' k i here seat G come sound t at e is_at =
     let T = tree_in U G in
     let f = found stands shape code U m k i seat G t at in
     let came : CameTo code U G = come code U G t.can.holds.shares.on.proper t.can.holds.shares.comes t.can.unreleased in
     let row = live_stands T i seat.row f.seat_is.row in
     let fits = fits_of T (record { 0 = i }) seat.row (sound T t.can.reached) row.0 in
-    let place : here.0 < U.places = subst (λ (n : ℕ). here.0 < n) came.ok.ties.same (subst (λ (w : Where). Inside T.places w) is_at fits.inside) in
-    let low : here.0 < length G.journals = subst (λ (n : ℕ). here.0 < n) (sym came.ok.one_each) place in
+    let place : here.0 < T.places = subst (λ (w : Where). Inside T.places w) is_at fits.inside in
+    let most : T.places ≤ in_all U = came.ok.ties.within in
+    let stored : here.0 < in_all U = omega (arith, place, most) in
+    let low : here.0 < length G.journals = subst (λ (n : ℕ). here.0 < n) (sym came.ok.one_each) stored in
     let both = pairs-get 0 here.0 G.journals G.stores low came.ok.journals in
     let got : slice_get G.journals here.0 ≡ Some (journal_at G.journals here.0) = both.at_left ∙ ap (λ (j : List PlaceEvent). Some j) (sym (journal_got G.journals here.0 both.left both.at_left)) in (
       f.player,
@@ -119,6 +120,7 @@ acts stands shape code U m m' k i here seat G come sound t at e is_at =
         reached = t.can.reached;
         inside = inside-still m m' i e t.inside;
         place = place;
+        stored = stored;
         stores = subst (λ (js : List (List PlaceEvent)). StoresAre U.heap 0 m'.stores.items js) (sym (set_same G.journals here.0 (journal_at G.journals here.0) got)) (stores-stay U.heap G.journals m m' i e t.can.holds.stores);
         players = came.players;
       },

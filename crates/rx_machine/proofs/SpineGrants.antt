@@ -6,8 +6,8 @@ use Rattle.rx_base.specs.declared.values.Fault.TheVariants.{Thrown, WrongPlace}
 use Rattle.rx_base.specs.declared.values.Value.TheVariants.{Num as Number}
 use Rattle.rx_rules.specs.declared.tasks.Kind.{Kind}
 use Rattle.rx_rules.specs.declared.tasks.Kind.TheVariants.{Finish as OfFinish, Call as OfCall}
-use Rattle.rx_rules.specs.Code.{Block, Stmt, SetTo, New, Get, Put, Forget, Print, Throw, Async, AtAsync, At, Finish, If, Repeat, Try}
-use Rattle.rx_rules.specs.Terms.{Vars, Term, Empty, Run, Raise, Turns, Trying, Body, Held, items, at, Does, Local, Makes, Gets, Puts, Forgets, Opens, Calls, Spawns, Waits, Releases, Prints, Done, raise, bound, value_of, ref_in, eval, target_of, is_zero, with_number, with_place, stmt_does, within, does, stmt_granted, or_raise, granted, stmt_child, child, replaced}
+use Rattle.rx_rules.specs.Code.{Block, Stmt, SetTo, New, Get, Put, Forget, Print, Census, Throw, Async, AtAsync, At, Finish, If, Repeat, Try}
+use Rattle.rx_rules.specs.Terms.{Vars, Term, Empty, Run, Raise, Turns, Trying, Body, Held, items, at, Does, Local, Makes, Gets, Puts, Forgets, Opens, Calls, Spawns, Waits, Releases, Prints, Counts, Done, raise, bound, value_of, ref_in, eval, target_of, is_zero, with_number, with_place, stmt_does, within, does, stmt_granted, or_raise, granted, stmt_child, child, replaced}
 use Rattle.rx_machine.specs.Spine.{NoScopeOpen, Spine}
 use Rattle.rx_machine.proofs.Spines.{flat-spine, flat-items}
 
@@ -24,6 +24,7 @@ GrantsSpine ks (Spawns place) t = Spine t ks
 GrantsSpine ks (Waits faults) t = Spine t ks × ((front : List Kind) × (ks ≡ front ++ OfFinish ∷ []))
 GrantsSpine ks Releases t = (front : List Kind) × (k : Kind) × (ks ≡ front ++ k ∷ []) × Spine t front
 GrantsSpine ks (Prints value) t = Spine t ks
+GrantsSpine ks (Counts name) t = Spine t ks
 GrantsSpine ks (Done faults) t = Unit {0}
 
 on-number : (ks : List Kind) (vars : Vars) (o : Option ℤ) (f : ℤ → Does) (t : Term) → ((z : ℤ) → GrantsSpine ks (f z) t) → GrantsSpine ks (with_number vars o f) t
@@ -38,30 +39,31 @@ on-test : (ks : List Kind) (b : Bool) (d e : Does) (t : Term) → GrantsSpine ks
 on-test ks true d e t h k = h
 on-test ks false d e t h k = k
 
-of_stmt : (vars : Vars) (here places : ℕ) (stmt : Stmt) (x : List ℕ) (rest : Term) → NoScopeOpen rest → GrantsSpine [] (stmt_does vars here places stmt x rest) (stmt_granted stmt x rest)
-of_stmt vars here places (SetTo name value) x rest h = on-number [] vars (eval vars here value) (λ z. Local rest (bound name (Number z) vars)) rest (λ z. tt)
-of_stmt vars here places (New name words) x rest h = tt
-of_stmt vars here places (Get name target index) x rest h =
+of_stmt : (vars : Vars) (here : ℕ) (stmt : Stmt) (x : List ℕ) (rest : Term) → NoScopeOpen rest → GrantsSpine [] (stmt_does vars here stmt x rest) (stmt_granted stmt x rest)
+of_stmt vars here (SetTo name value) x rest h = on-number [] vars (eval vars here value) (λ z. Local rest (bound name (Number z) vars)) rest (λ z. tt)
+of_stmt vars here (New name words) x rest h = tt
+of_stmt vars here (Get name target index) x rest h =
     let r = ref_in (value_of vars target) in
     on-number [] vars (eval vars here index) (λ k. cond (r.home.0 == here) (Gets name r k) (Local (raise WrongPlace) vars)) rest
     (λ k. on-test [] (r.home.0 == here) (Gets name r k) (Local (raise WrongPlace) vars) rest tt tt)
-of_stmt vars here places (Put target index value) x rest h =
+of_stmt vars here (Put target index value) x rest h =
     let r = ref_in (value_of vars target) in
     on-number [] vars (eval vars here index) (λ k. with_number vars (eval vars here value) (λ z. cond (r.home.0 == here) (Puts r k z) (Local (raise WrongPlace) vars))) rest
     (λ k. on-number [] vars (eval vars here value) (λ z. cond (r.home.0 == here) (Puts r k z) (Local (raise WrongPlace) vars)) rest
     (λ z. on-test [] (r.home.0 == here) (Puts r k z) (Local (raise WrongPlace) vars) rest tt tt))
-of_stmt vars here places (Forget target) x rest h =
+of_stmt vars here (Forget target) x rest h =
     let r = ref_in (value_of vars target) in on-test [] (r.home.0 == here) (Forgets r) (Local (raise WrongPlace) vars) rest tt tt
-of_stmt vars here places (Print value) x rest h = on-number [] vars (eval vars here value) Prints rest (λ z. flat-spine rest h)
-of_stmt vars here places (Throw value) x rest h = on-number [] vars (eval vars here value) (λ z. Local (raise (Thrown z)) vars) rest (λ z. tt)
-of_stmt vars here places (Async body) x rest h = flat-spine rest h
-of_stmt vars here places (AtAsync place body) x rest h = on-place [] vars (target_of (eval vars here place) places) Spawns rest (λ p. flat-spine rest h)
-of_stmt vars here places (At place body) x rest h = on-place [] vars (target_of (eval vars here place) places) Calls (Held rest) (λ p. h)
-of_stmt vars here places (Finish body) x rest h = (refl, flat-spine (items body x Empty) (flat-items body x 0 Empty tt), h)
-of_stmt vars here places (If test first other) x rest h =
+of_stmt vars here (Print value) x rest h = on-number [] vars (eval vars here value) Prints rest (λ z. flat-spine rest h)
+of_stmt vars here (Census name) x rest h = flat-spine rest h
+of_stmt vars here (Throw value) x rest h = on-number [] vars (eval vars here value) (λ z. Local (raise (Thrown z)) vars) rest (λ z. tt)
+of_stmt vars here (Async body) x rest h = flat-spine rest h
+of_stmt vars here (AtAsync place body) x rest h = on-place [] vars (target_of (eval vars here place) vars.places) Spawns rest (λ p. flat-spine rest h)
+of_stmt vars here (At place body) x rest h = on-place [] vars (target_of (eval vars here place) vars.places) Calls (Held rest) (λ p. h)
+of_stmt vars here (Finish body) x rest h = (refl, flat-spine (items body x Empty) (flat-items body x 0 Empty tt), h)
+of_stmt vars here (If test first other) x rest h =
     on-number [] vars (eval vars here test) (λ z. Local (cond (is_zero z) (items other (at x 1) rest) (items first (at x 0) rest)) vars) rest (λ z. tt)
-of_stmt vars here places (Repeat times body) x rest h = tt
-of_stmt vars here places (Try body dead_only handler) x rest h = tt
+of_stmt vars here (Repeat times body) x rest h = tt
+of_stmt vars here (Try body dead_only handler) x rest h = tt
 
 in-try : (ks : List Kind) (o : Bool) (b : Block) (x : List ℕ) (rest : Term) (d : Does) (t : Term) → NoScopeOpen rest → GrantsSpine ks d t → GrantsSpine ks (within (λ t. Trying t o b x rest) d) (Trying t o b x rest)
 in-try ks o b x rest (Local left vars) t u h = tt
@@ -75,6 +77,7 @@ in-try ks o b x rest (Spawns place) t u h = (h, u)
 in-try ks o b x rest (Waits faults) t u h = ((h.0, u), h.1)
 in-try ks o b x rest Releases t u h = (h.0, h.1, h.2, (h.3, u))
 in-try ks o b x rest (Prints value) t u h = (h, u)
+in-try ks o b x rest (Counts name) t u h = (h, u)
 in-try ks o b x rest (Done faults) t u h = tt
 
 in-body : (ks : List Kind) (rest : Term) (d : Does) (t : Term) → NoScopeOpen rest → GrantsSpine ks d t → GrantsSpine (OfFinish ∷ ks) (within (λ t. Body t rest) d) (Body t rest)
@@ -89,6 +92,7 @@ in-body ks rest (Spawns place) t u h = (refl, h, u)
 in-body ks rest (Waits faults) t u h = ((refl, h.0, u), (OfFinish ∷ h.1.0, ap (λ v. OfFinish ∷ v) h.1.1))
 in-body ks rest Releases t u h = (OfFinish ∷ h.0, h.1, ap (λ v. OfFinish ∷ v) h.2, (refl, h.3, u))
 in-body ks rest (Prints value) t u h = (refl, h, u)
+in-body ks rest (Counts name) t u h = (refl, h, u)
 in-body ks rest (Done faults) t u h = tt
 
 raised : (faults : List Fault) (rest : Term) → NoScopeOpen rest → Spine (or_raise faults rest) []
@@ -99,29 +103,29 @@ raised (f ∷ fs) rest h = refl
 waits-now : (ks : List Kind) (rest : Term) → ks ≡ [] → NoScopeOpen rest → Spine (Held rest) (OfFinish ∷ ks) × ((front : List Kind) × (OfFinish ∷ ks ≡ front ++ OfFinish ∷ []))
 waits-now ks rest e u = (subst (λ (v : List Kind). Spine (Held rest) (OfFinish ∷ v)) (sym e) u, ([], ap (λ v. OfFinish ∷ v) e))
 
-pub spine-grant : (ks : List Kind) (vars : Vars) (here places : ℕ) (faults : List Fault) (t : Term) → Spine t ks → GrantsSpine ks (does vars here places t) (granted faults t)
-spine-grant ks vars here places faults Empty h = tt
-spine-grant ks vars here places faults (Run stmt x rest) h = subst (λ (v : List Kind). GrantsSpine v (stmt_does vars here places stmt x rest) (stmt_granted stmt x rest)) (sym h.0) (of_stmt vars here places stmt x rest h.1)
-spine-grant ks vars here places faults (Raise fs) h = tt
-spine-grant ks vars here places faults (Turns body x k times rest) h = tt
-spine-grant ks vars here places faults (Trying Empty o b x rest) h = tt
-spine-grant ks vars here places faults (Trying (Raise fs) o b x rest) h = tt
-spine-grant ks vars here places faults (Trying (Run s y m) o b x rest) h = in-try ks o b x rest (does vars here places (Run s y m)) (granted faults (Run s y m)) h.1 (spine-grant ks vars here places faults (Run s y m) h.0)
-spine-grant ks vars here places faults (Trying (Turns c y k n m) o b x rest) h = in-try ks o b x rest (does vars here places (Turns c y k n m)) (granted faults (Turns c y k n m)) h.1 (spine-grant ks vars here places faults (Turns c y k n m) h.0)
-spine-grant ks vars here places faults (Trying (Trying u p c y m) o b x rest) h = in-try ks o b x rest (does vars here places (Trying u p c y m)) (granted faults (Trying u p c y m)) h.1 (spine-grant ks vars here places faults (Trying u p c y m) h.0)
-spine-grant ks vars here places faults (Trying (Body u m) o b x rest) h = in-try ks o b x rest (does vars here places (Body u m)) (granted faults (Body u m)) h.1 (spine-grant ks vars here places faults (Body u m) h.0)
-spine-grant ks vars here places faults (Trying (Held m) o b x rest) h = in-try ks o b x rest (does vars here places (Held m)) (granted faults (Held m)) h.1 (spine-grant ks vars here places faults (Held m) h.0)
-spine-grant [] vars here places faults (Body inside rest) h = absurd h
-spine-grant (k ∷ ks) vars here places faults (Body Empty rest) h = subst (λ (v : Kind). GrantsSpine (v ∷ ks) (Waits []) (Held rest)) (sym h.0) (waits-now ks rest h.1 h.2)
-spine-grant (k ∷ ks) vars here places faults (Body (Raise fs) rest) h = subst (λ (v : Kind). GrantsSpine (v ∷ ks) (Waits fs) (Held rest)) (sym h.0) (waits-now ks rest h.1 h.2)
-spine-grant (k ∷ ks) vars here places faults (Body (Run s y m) rest) h = subst (λ (v : Kind). GrantsSpine (v ∷ ks) (does vars here places (Body (Run s y m) rest)) (granted faults (Body (Run s y m) rest))) (sym h.0) (in-body ks rest (does vars here places (Run s y m)) (granted faults (Run s y m)) h.2 (spine-grant ks vars here places faults (Run s y m) h.1))
-spine-grant (k ∷ ks) vars here places faults (Body (Turns c y j n m) rest) h = subst (λ (v : Kind). GrantsSpine (v ∷ ks) (does vars here places (Body (Turns c y j n m) rest)) (granted faults (Body (Turns c y j n m) rest))) (sym h.0) (in-body ks rest (does vars here places (Turns c y j n m)) (granted faults (Turns c y j n m)) h.2 (spine-grant ks vars here places faults (Turns c y j n m) h.1))
-spine-grant (k ∷ ks) vars here places faults (Body (Trying u p c y m) rest) h = subst (λ (v : Kind). GrantsSpine (v ∷ ks) (does vars here places (Body (Trying u p c y m) rest)) (granted faults (Body (Trying u p c y m) rest))) (sym h.0) (in-body ks rest (does vars here places (Trying u p c y m)) (granted faults (Trying u p c y m)) h.2 (spine-grant ks vars here places faults (Trying u p c y m) h.1))
-spine-grant (k ∷ ks) vars here places faults (Body (Body u m) rest) h = subst (λ (v : Kind). GrantsSpine (v ∷ ks) (does vars here places (Body (Body u m) rest)) (granted faults (Body (Body u m) rest))) (sym h.0) (in-body ks rest (does vars here places (Body u m)) (granted faults (Body u m)) h.2 (spine-grant ks vars here places faults (Body u m) h.1))
-spine-grant (k ∷ ks) vars here places faults (Body (Held m) rest) h = subst (λ (v : Kind). GrantsSpine (v ∷ ks) Releases (Body (or_raise faults m) rest)) (sym h.0) (in-body ks rest Releases (or_raise faults m) h.2 (spine-grant ks vars here places faults (Held m) h.1))
-spine-grant [] vars here places faults (Held rest) h = absurd h
-spine-grant (k ∷ []) vars here places faults (Held rest) h = ([], k, refl, raised faults rest h)
-spine-grant (k ∷ j ∷ ks) vars here places faults (Held rest) h = absurd h
+pub spine-grant : (ks : List Kind) (vars : Vars) (here : ℕ) (faults : List Fault) (t : Term) → Spine t ks → GrantsSpine ks (does vars here t) (granted faults t)
+spine-grant ks vars here faults Empty h = tt
+spine-grant ks vars here faults (Run stmt x rest) h = subst (λ (v : List Kind). GrantsSpine v (stmt_does vars here stmt x rest) (stmt_granted stmt x rest)) (sym h.0) (of_stmt vars here stmt x rest h.1)
+spine-grant ks vars here faults (Raise fs) h = tt
+spine-grant ks vars here faults (Turns body x k times rest) h = tt
+spine-grant ks vars here faults (Trying Empty o b x rest) h = tt
+spine-grant ks vars here faults (Trying (Raise fs) o b x rest) h = tt
+spine-grant ks vars here faults (Trying (Run s y m) o b x rest) h = in-try ks o b x rest (does vars here (Run s y m)) (granted faults (Run s y m)) h.1 (spine-grant ks vars here faults (Run s y m) h.0)
+spine-grant ks vars here faults (Trying (Turns c y k n m) o b x rest) h = in-try ks o b x rest (does vars here (Turns c y k n m)) (granted faults (Turns c y k n m)) h.1 (spine-grant ks vars here faults (Turns c y k n m) h.0)
+spine-grant ks vars here faults (Trying (Trying u p c y m) o b x rest) h = in-try ks o b x rest (does vars here (Trying u p c y m)) (granted faults (Trying u p c y m)) h.1 (spine-grant ks vars here faults (Trying u p c y m) h.0)
+spine-grant ks vars here faults (Trying (Body u m) o b x rest) h = in-try ks o b x rest (does vars here (Body u m)) (granted faults (Body u m)) h.1 (spine-grant ks vars here faults (Body u m) h.0)
+spine-grant ks vars here faults (Trying (Held m) o b x rest) h = in-try ks o b x rest (does vars here (Held m)) (granted faults (Held m)) h.1 (spine-grant ks vars here faults (Held m) h.0)
+spine-grant [] vars here faults (Body inside rest) h = absurd h
+spine-grant (k ∷ ks) vars here faults (Body Empty rest) h = subst (λ (v : Kind). GrantsSpine (v ∷ ks) (Waits []) (Held rest)) (sym h.0) (waits-now ks rest h.1 h.2)
+spine-grant (k ∷ ks) vars here faults (Body (Raise fs) rest) h = subst (λ (v : Kind). GrantsSpine (v ∷ ks) (Waits fs) (Held rest)) (sym h.0) (waits-now ks rest h.1 h.2)
+spine-grant (k ∷ ks) vars here faults (Body (Run s y m) rest) h = subst (λ (v : Kind). GrantsSpine (v ∷ ks) (does vars here (Body (Run s y m) rest)) (granted faults (Body (Run s y m) rest))) (sym h.0) (in-body ks rest (does vars here (Run s y m)) (granted faults (Run s y m)) h.2 (spine-grant ks vars here faults (Run s y m) h.1))
+spine-grant (k ∷ ks) vars here faults (Body (Turns c y j n m) rest) h = subst (λ (v : Kind). GrantsSpine (v ∷ ks) (does vars here (Body (Turns c y j n m) rest)) (granted faults (Body (Turns c y j n m) rest))) (sym h.0) (in-body ks rest (does vars here (Turns c y j n m)) (granted faults (Turns c y j n m)) h.2 (spine-grant ks vars here faults (Turns c y j n m) h.1))
+spine-grant (k ∷ ks) vars here faults (Body (Trying u p c y m) rest) h = subst (λ (v : Kind). GrantsSpine (v ∷ ks) (does vars here (Body (Trying u p c y m) rest)) (granted faults (Body (Trying u p c y m) rest))) (sym h.0) (in-body ks rest (does vars here (Trying u p c y m)) (granted faults (Trying u p c y m)) h.2 (spine-grant ks vars here faults (Trying u p c y m) h.1))
+spine-grant (k ∷ ks) vars here faults (Body (Body u m) rest) h = subst (λ (v : Kind). GrantsSpine (v ∷ ks) (does vars here (Body (Body u m) rest)) (granted faults (Body (Body u m) rest))) (sym h.0) (in-body ks rest (does vars here (Body u m)) (granted faults (Body u m)) h.2 (spine-grant ks vars here faults (Body u m) h.1))
+spine-grant (k ∷ ks) vars here faults (Body (Held m) rest) h = subst (λ (v : Kind). GrantsSpine (v ∷ ks) Releases (Body (or_raise faults m) rest)) (sym h.0) (in-body ks rest Releases (or_raise faults m) h.2 (spine-grant ks vars here faults (Held m) h.1))
+spine-grant [] vars here faults (Held rest) h = absurd h
+spine-grant (k ∷ []) vars here faults (Held rest) h = ([], k, refl, raised faults rest h)
+spine-grant (k ∷ j ∷ ks) vars here faults (Held rest) h = absurd h
 
 -- a statement stands at the front
 abbrev pub IsBegun : Term → Type 0
@@ -146,6 +150,7 @@ EmptyWhereDone ks (Spawns place) = Unit {0}
 EmptyWhereDone ks (Waits faults) = Unit {0}
 EmptyWhereDone ks Releases = Unit {0}
 EmptyWhereDone ks (Prints value) = Unit {0}
+EmptyWhereDone ks (Counts name) = Unit {0}
 EmptyWhereDone ks (Done faults) = ks ≡ []
 
 -- a term that goes on is not done
@@ -161,6 +166,7 @@ IsUndone (Spawns place) = Unit {0}
 IsUndone (Waits faults) = Unit {0}
 IsUndone Releases = Unit {0}
 IsUndone (Prints value) = Unit {0}
+IsUndone (Counts name) = Unit {0}
 IsUndone (Done faults) = ⊥
 
 number-undone : (vars : Vars) (o : Option ℤ) (f : ℤ → Does) → ((z : ℤ) → IsUndone (f z)) → IsUndone (with_number vars o f)
@@ -175,30 +181,31 @@ test-undone : (b : Bool) (d e : Does) → IsUndone d → IsUndone e → IsUndone
 test-undone true d e h k = h
 test-undone false d e h k = k
 
-stmt-undone : (vars : Vars) (here places : ℕ) (stmt : Stmt) (x : List ℕ) (rest : Term) → IsUndone (stmt_does vars here places stmt x rest)
-stmt-undone vars here places (SetTo name value) x rest = number-undone vars (eval vars here value) (λ z. Local rest (bound name (Number z) vars)) (λ z. tt)
-stmt-undone vars here places (New name words) x rest = tt
-stmt-undone vars here places (Get name target index) x rest =
+stmt-undone : (vars : Vars) (here : ℕ) (stmt : Stmt) (x : List ℕ) (rest : Term) → IsUndone (stmt_does vars here stmt x rest)
+stmt-undone vars here (SetTo name value) x rest = number-undone vars (eval vars here value) (λ z. Local rest (bound name (Number z) vars)) (λ z. tt)
+stmt-undone vars here (New name words) x rest = tt
+stmt-undone vars here (Get name target index) x rest =
     let r = ref_in (value_of vars target) in
     number-undone vars (eval vars here index) (λ k. cond (r.home.0 == here) (Gets name r k) (Local (raise WrongPlace) vars))
     (λ k. test-undone (r.home.0 == here) (Gets name r k) (Local (raise WrongPlace) vars) tt tt)
-stmt-undone vars here places (Put target index value) x rest =
+stmt-undone vars here (Put target index value) x rest =
     let r = ref_in (value_of vars target) in
     number-undone vars (eval vars here index) (λ k. with_number vars (eval vars here value) (λ z. cond (r.home.0 == here) (Puts r k z) (Local (raise WrongPlace) vars)))
     (λ k. number-undone vars (eval vars here value) (λ z. cond (r.home.0 == here) (Puts r k z) (Local (raise WrongPlace) vars))
     (λ z. test-undone (r.home.0 == here) (Puts r k z) (Local (raise WrongPlace) vars) tt tt))
-stmt-undone vars here places (Forget target) x rest =
+stmt-undone vars here (Forget target) x rest =
     let r = ref_in (value_of vars target) in test-undone (r.home.0 == here) (Forgets r) (Local (raise WrongPlace) vars) tt tt
-stmt-undone vars here places (Print value) x rest = number-undone vars (eval vars here value) Prints (λ z. tt)
-stmt-undone vars here places (Throw value) x rest = number-undone vars (eval vars here value) (λ z. Local (raise (Thrown z)) vars) (λ z. tt)
-stmt-undone vars here places (Async body) x rest = tt
-stmt-undone vars here places (AtAsync place body) x rest = place-undone vars (target_of (eval vars here place) places) Spawns (λ p. tt)
-stmt-undone vars here places (At place body) x rest = place-undone vars (target_of (eval vars here place) places) Calls (λ p. tt)
-stmt-undone vars here places (Finish body) x rest = tt
-stmt-undone vars here places (If test first other) x rest =
+stmt-undone vars here (Print value) x rest = number-undone vars (eval vars here value) Prints (λ z. tt)
+stmt-undone vars here (Census name) x rest = tt
+stmt-undone vars here (Throw value) x rest = number-undone vars (eval vars here value) (λ z. Local (raise (Thrown z)) vars) (λ z. tt)
+stmt-undone vars here (Async body) x rest = tt
+stmt-undone vars here (AtAsync place body) x rest = place-undone vars (target_of (eval vars here place) vars.places) Spawns (λ p. tt)
+stmt-undone vars here (At place body) x rest = place-undone vars (target_of (eval vars here place) vars.places) Calls (λ p. tt)
+stmt-undone vars here (Finish body) x rest = tt
+stmt-undone vars here (If test first other) x rest =
     number-undone vars (eval vars here test) (λ z. Local (cond (is_zero z) (items other (at x 1) rest) (items first (at x 0) rest)) vars) (λ z. tt)
-stmt-undone vars here places (Repeat times body) x rest = tt
-stmt-undone vars here places (Try body dead_only handler) x rest = tt
+stmt-undone vars here (Repeat times body) x rest = tt
+stmt-undone vars here (Try body dead_only handler) x rest = tt
 
 within-undone : (f : Term → Term) (d : Does) → IsUndone d → IsUndone (within f d)
 within-undone f (Local left vars) h = tt
@@ -212,6 +219,7 @@ within-undone f (Spawns place) h = tt
 within-undone f (Waits faults) h = tt
 within-undone f Releases h = tt
 within-undone f (Prints value) h = tt
+within-undone f (Counts name) h = tt
 within-undone f (Done faults) h = h
 
 undone-empty : (ks : List Kind) (d : Does) → IsUndone d → EmptyWhereDone ks d
@@ -226,35 +234,36 @@ undone-empty ks (Spawns place) h = tt
 undone-empty ks (Waits faults) h = tt
 undone-empty ks Releases h = tt
 undone-empty ks (Prints value) h = tt
+undone-empty ks (Counts name) h = tt
 undone-empty ks (Done faults) h = absurd h
 
 mutual
-  in-try-undone : (vars : Vars) (here places : ℕ) (inside : Term) (o : Bool) (b : Block) (x : List ℕ) (rest : Term) → IsUndone (does vars here places (Trying inside o b x rest))
-  in-try-undone vars here places Empty o b x rest = tt
-  in-try-undone vars here places (Run s y m) o b x rest = within-undone (λ t. Trying t o b x rest) (does vars here places (Run s y m)) (stmt-undone vars here places s y m)
-  in-try-undone vars here places (Raise fs) o b x rest = tt
-  in-try-undone vars here places (Turns c y k n m) o b x rest = tt
-  in-try-undone vars here places (Trying u p c y m) o b x rest = within-undone (λ t. Trying t o b x rest) (does vars here places (Trying u p c y m)) (in-try-undone vars here places u p c y m)
-  in-try-undone vars here places (Body u m) o b x rest = within-undone (λ t. Trying t o b x rest) (does vars here places (Body u m)) (in-body-undone vars here places u m)
-  in-try-undone vars here places (Held m) o b x rest = tt
+  in-try-undone : (vars : Vars) (here : ℕ) (inside : Term) (o : Bool) (b : Block) (x : List ℕ) (rest : Term) → IsUndone (does vars here (Trying inside o b x rest))
+  in-try-undone vars here Empty o b x rest = tt
+  in-try-undone vars here (Run s y m) o b x rest = within-undone (λ t. Trying t o b x rest) (does vars here (Run s y m)) (stmt-undone vars here s y m)
+  in-try-undone vars here (Raise fs) o b x rest = tt
+  in-try-undone vars here (Turns c y k n m) o b x rest = tt
+  in-try-undone vars here (Trying u p c y m) o b x rest = within-undone (λ t. Trying t o b x rest) (does vars here (Trying u p c y m)) (in-try-undone vars here u p c y m)
+  in-try-undone vars here (Body u m) o b x rest = within-undone (λ t. Trying t o b x rest) (does vars here (Body u m)) (in-body-undone vars here u m)
+  in-try-undone vars here (Held m) o b x rest = tt
 
-  in-body-undone : (vars : Vars) (here places : ℕ) (inside rest : Term) → IsUndone (does vars here places (Body inside rest))
-  in-body-undone vars here places Empty rest = tt
-  in-body-undone vars here places (Run s y m) rest = within-undone (λ t. Body t rest) (does vars here places (Run s y m)) (stmt-undone vars here places s y m)
-  in-body-undone vars here places (Raise fs) rest = tt
-  in-body-undone vars here places (Turns c y k n m) rest = tt
-  in-body-undone vars here places (Trying u p c y m) rest = within-undone (λ t. Body t rest) (does vars here places (Trying u p c y m)) (in-try-undone vars here places u p c y m)
-  in-body-undone vars here places (Body u m) rest = within-undone (λ t. Body t rest) (does vars here places (Body u m)) (in-body-undone vars here places u m)
-  in-body-undone vars here places (Held m) rest = tt
+  in-body-undone : (vars : Vars) (here : ℕ) (inside rest : Term) → IsUndone (does vars here (Body inside rest))
+  in-body-undone vars here Empty rest = tt
+  in-body-undone vars here (Run s y m) rest = within-undone (λ t. Body t rest) (does vars here (Run s y m)) (stmt-undone vars here s y m)
+  in-body-undone vars here (Raise fs) rest = tt
+  in-body-undone vars here (Turns c y k n m) rest = tt
+  in-body-undone vars here (Trying u p c y m) rest = within-undone (λ t. Body t rest) (does vars here (Trying u p c y m)) (in-try-undone vars here u p c y m)
+  in-body-undone vars here (Body u m) rest = within-undone (λ t. Body t rest) (does vars here (Body u m)) (in-body-undone vars here u m)
+  in-body-undone vars here (Held m) rest = tt
 
-pub spine-done : (ks : List Kind) (vars : Vars) (here places : ℕ) (t : Term) → Spine t ks → EmptyWhereDone ks (does vars here places t)
-spine-done ks vars here places Empty h = h
-spine-done ks vars here places (Run stmt x rest) h = undone-empty ks (stmt_does vars here places stmt x rest) (stmt-undone vars here places stmt x rest)
-spine-done ks vars here places (Raise faults) h = h
-spine-done ks vars here places (Turns body x k times rest) h = tt
-spine-done ks vars here places (Trying inside o b x rest) h = undone-empty ks (does vars here places (Trying inside o b x rest)) (in-try-undone vars here places inside o b x rest)
-spine-done ks vars here places (Body inside rest) h = undone-empty ks (does vars here places (Body inside rest)) (in-body-undone vars here places inside rest)
-spine-done ks vars here places (Held rest) h = tt
+pub spine-done : (ks : List Kind) (vars : Vars) (here : ℕ) (t : Term) → Spine t ks → EmptyWhereDone ks (does vars here t)
+spine-done ks vars here Empty h = h
+spine-done ks vars here (Run stmt x rest) h = undone-empty ks (stmt_does vars here stmt x rest) (stmt-undone vars here stmt x rest)
+spine-done ks vars here (Raise faults) h = h
+spine-done ks vars here (Turns body x k times rest) h = tt
+spine-done ks vars here (Trying inside o b x rest) h = undone-empty ks (does vars here (Trying inside o b x rest)) (in-try-undone vars here inside o b x rest)
+spine-done ks vars here (Body inside rest) h = undone-empty ks (does vars here (Body inside rest)) (in-body-undone vars here inside rest)
+spine-done ks vars here (Held rest) h = tt
 
 -- a store's answer leaves the open scopes
 pub spine-answer : (ks : List Kind) (t new : Term) → Spine t ks → NoScopeOpen new → IsBegun t → Spine (replaced t new) ks
@@ -274,6 +283,7 @@ flat_child (Get name target index) x = tt
 flat_child (Put target index value) x = tt
 flat_child (Forget target) x = tt
 flat_child (Print value) x = tt
+flat_child (Census name) x = tt
 flat_child (Throw value) x = tt
 flat_child (Async body) x = flat-items body x 0 Empty tt
 flat_child (AtAsync place body) x = flat-items body x 0 Empty tt

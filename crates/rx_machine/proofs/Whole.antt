@@ -7,16 +7,17 @@ use Rattle.rx_base.specs.declared.ids.TaskId.{TaskId}
 use Rattle.rx_rules.specs.declared.entries.Act.{Act}
 use Rattle.rx_rules.specs.declared.entries.Act.TheVariants.{Arrive, End}
 use Rattle.rx_rules.specs.declared.entries.Entry.{Entry}
-use Rattle.rx_rules.specs.declared.entries.Entry.TheVariants.{Step, Root, Death}
+use Rattle.rx_rules.specs.declared.entries.Entry.TheVariants.{Step, Root, Death, Join}
 use Rattle.rx_rules.specs.Code.{Block, work}
 use Rattle.rx_rules.specs.Tree.{Tree}
-use Rattle.rx_rules.specs.Run.{Given, NoRoot}
-use Rattle.rx_rules.specs.Picked.{Game, Turn, dies, arrives, moves, ends, root, Turns, none, more, IsPicked, start_game, tree_in, used_after}
+use Rattle.rx_rules.specs.Run.{Given, IsDue, in_all, NoRoot}
+use Rattle.rx_rules.specs.Picked.{Game, Turn, due, arrives, moves, ends, root, Turns, none, more, IsPicked, start_game, tree_in, used_after}
 use Rattle.rx_rules.proofs.Append.{no_root-push}
+use Rattle.rx_runs.proofs.Planned.{IsPlanned, due_planned}
 use Rattle.rx_runs.specs.Coming.{GamesCome}
 use Rattle.rx_history.specs.Logs.{Log}
 use Rattle.rx_history.specs.Events.{AllEvents, events_of}
-use Rattle.rx_history.specs.Setups.{given}
+use Rattle.rx_history.specs.Setups.{given, to_join}
 use Rattle.rx_nodes.specs.Shape.{Shape}
 use Rattle.rx_machine.specs.declared.machine.Machine.{Machine}
 use Rattle.rx_stores.proofs.Journals.{journals_are}
@@ -27,23 +28,25 @@ use Rattle.rx_machine.specs.Runs.{WentOn, picks_in, RanFrom, Gives}
 
 -- the root stands after it
 pub stays_open : (U : Given) (k : ℕ) (G G' : Game) → Turn U k G true G' → NoRoot G.entries → NoRoot G'.entries
-stays_open U k G G' (arrives x p none_due pick may) h = no_root-push G.entries (Step x.number (Arrive p) []) h tt
-stays_open U k G G' (moves x here p q S Z j act none_due pick at player store goes fits may) h = no_root-push G.entries (Step x.number act q.batch) h tt
-stays_open U k G G' (ends x here p q S Z j f none_due pick at player store goes done may) h = no_root-push G.entries (Step x.number (End f) q.batch) h tt
+stays_open U k G G' (arrives x p (none_due, pick) may) h = no_root-push G.entries (Step x.number (Arrive p) []) h tt
+stays_open U k G G' (moves x here p q S Z j act (none_due, pick) at player store goes fits may) h = no_root-push G.entries (Step x.number act q.batch) h tt
+stays_open U k G G' (ends x here p q S Z j f (none_due, pick) at player store goes done may) h = no_root-push G.entries (Step x.number (End f) q.batch) h tt
 
 -- The picks that turns use.
 
 pub pick-more : (es : List Entry) (t : TaskId) (act : Act) (batch : List (List ℕ)) → picks_in (es ++ Step t act batch ∷ []) ≡ suc (picks_in es)
 pick-more [] t act batch = refl
 pick-more (Step u a b ∷ es) t act batch = ap suc (pick-more es t act batch)
-pick-more (Root lost thrown ∷ es) t act batch = pick-more es t act batch
+pick-more (Root lost masked thrown ∷ es) t act batch = pick-more es t act batch
 pick-more (Death d ∷ es) t act batch = pick-more es t act batch
+pick-more (Join p ∷ es) t act batch = pick-more es t act batch
 
 pub no-pick-more : (es : List Entry) (e : Entry) → picks_in (e ∷ []) ≡ 0 → picks_in (es ++ e ∷ []) ≡ picks_in es
 no-pick-more [] e h = h
 no-pick-more (Step t act batch ∷ es) e h = ap suc (no-pick-more es e h)
-no-pick-more (Root lost thrown ∷ es) e h = no-pick-more es e h
+no-pick-more (Root lost masked thrown ∷ es) e h = no-pick-more es e h
 no-pick-more (Death d ∷ es) e h = no-pick-more es e h
+no-pick-more (Join p ∷ es) e h = no-pick-more es e h
 
 -- a turn adds one entry, and uses a pick exactly where that is a task's
 pub record AddsEntry (used : Bool) (G G' : Game) : Type 0 where
@@ -51,20 +54,23 @@ pub record AddsEntry (used : Bool) (G G' : Game) : Type 0 where
   pub entries : G'.entries ≡ G.entries ++ entry ∷ []
   pub uses : (es : List Entry) → picks_in (es ++ entry ∷ []) ≡ used_after used (picks_in es)
 
-pub turn-adds : (U : Given) (k : ℕ) (G G' : Game) (used : Bool) → Turn U k G used G' → AddsEntry used G G'
-turn-adds U k G G' false (dies d due) = record { entry = Death d; entries = refl; uses = λ es. no-pick-more es (Death d) refl }
-turn-adds U k G G' true (arrives x p none_due pick may) = record { entry = Step x.number (Arrive p) []; entries = refl; uses = λ es. pick-more es x.number (Arrive p) [] }
-turn-adds U k G G' true (moves x here p q S Z j act none_due pick at player store goes fits may) = record { entry = Step x.number act q.batch; entries = refl; uses = λ es. pick-more es x.number act q.batch }
-turn-adds U k G G' true (ends x here p q S Z j f none_due pick at player store goes done may) = record { entry = Step x.number (End f) q.batch; entries = refl; uses = λ es. pick-more es x.number (End f) q.batch }
-turn-adds U k G G' false (root lost thrown none_due none_enabled may) = record { entry = Root lost thrown; entries = refl; uses = λ es. no-pick-more es (Root lost thrown) refl }
+pub turn-adds : (U : Given) (k : ℕ) (G G' : Game) (used : Bool) → ((e : Entry) → IsDue (length G.entries) e G.plan → IsPlanned e) → Turn U k G used G' → AddsEntry used G G'
+turn-adds U k G G' false planned (due (Death d) is) = record { entry = Death d; entries = refl; uses = λ es. no-pick-more es (Death d) refl }
+turn-adds U k G G' false planned (due (Join p) is) = record { entry = Join p; entries = refl; uses = λ es. no-pick-more es (Join p) refl }
+turn-adds U k G G' false planned (due (Step t act batch) is) = absurd (planned (Step t act batch) is)
+turn-adds U k G G' false planned (due (Root lost masked thrown) is) = absurd (planned (Root lost masked thrown) is)
+turn-adds U k G G' true planned (arrives x p (none_due, pick) may) = record { entry = Step x.number (Arrive p) []; entries = refl; uses = λ es. pick-more es x.number (Arrive p) [] }
+turn-adds U k G G' true planned (moves x here p q S Z j act (none_due, pick) at player store goes fits may) = record { entry = Step x.number act q.batch; entries = refl; uses = λ es. pick-more es x.number act q.batch }
+turn-adds U k G G' true planned (ends x here p q S Z j f (none_due, pick) at player store goes done may) = record { entry = Step x.number (End f) q.batch; entries = refl; uses = λ es. pick-more es x.number (End f) q.batch }
+turn-adds U k G G' false planned (root lost masked thrown none_due none_enabled may) = record { entry = Root lost masked thrown; entries = refl; uses = λ es. no-pick-more es (Root lost masked thrown) refl }
 
-pub turn-uses : (U : Given) (k : ℕ) (G G' : Game) (used : Bool) → Turn U k G used G' → picks_in G'.entries ≡ used_after used (picks_in G.entries)
-turn-uses U k G G' used t = let a = turn-adds U k G G' used t in ap picks_in a.entries ∙ a.uses G.entries
+pub turn-uses : (U : Given) (k : ℕ) (G G' : Game) (used : Bool) → ((e : Entry) → IsDue (length G.entries) e G.plan → IsPlanned e) → Turn U k G used G' → picks_in G'.entries ≡ used_after used (picks_in G.entries)
+turn-uses U k G G' used planned t = let a = turn-adds U k G G' used planned t in ap picks_in a.entries ∙ a.uses G.entries
 
 -- Turns from a game on.
 
 -- after i turns from a game on, of which j used a pick, the machine stands for a game
-pub record RunTo {L : Type 0} (stands : L → Tree → Type 0) (shape : Shape) (code : Block) (U : Given) (picks : ℕ → ℕ) (G : Game) (m : Machine L) (i j : ℕ) : Type 0 where
+pub record RunTo {L : Type 0} (stands : L → ℕ → Tree → Type 0) (shape : Shape) (code : Block) (U : Given) (picks : ℕ → ℕ) (G : Game) (m : Machine L) (i j : ℕ) : Type 0 where
   pub game : Game
   pub holds : Holds stands shape code U m game
   pub added : List Entry
@@ -73,7 +79,7 @@ pub record RunTo {L : Type 0} (stands : L → Tree → Type 0) (shape : Shape) (
   pub used : j ≡ picks_in added
   pub made : (n : ℕ) (G' : Game) → Turns U picks n j game G' → Turns U picks (i + n) 0 G G'
 
-pub run-begins : {L : Type 0} (stands : L → Tree → Type 0) (shape : Shape) (code : Block) (U : Given) (picks : ℕ → ℕ) (G : Game) (m : Machine L) → Holds stands shape code U m G → RunTo stands shape code U picks G m 0 0
+pub run-begins : {L : Type 0} (stands : L → ℕ → Tree → Type 0) (shape : Shape) (code : Block) (U : Given) (picks : ℕ → ℕ) (G : Game) (m : Machine L) → Holds stands shape code U m G → RunTo stands shape code U picks G m 0 0
 run-begins stands shape code U picks G m h =
     record {
       game = G;
@@ -91,9 +97,10 @@ added-more es fs added e gs grown adds = grown ∙ (ap (λ xs. xs ++ e ∷ []) a
 size-more : (added : List Entry) (e : Entry) (i : ℕ) → length added ≡ i → length (added ++ e ∷ []) ≡ i + 1
 size-more added e i h = let one : length (e ∷ []) ≡ 1 = refl in omega (arith, length-append added (e ∷ []), h, one)
 
-pub run-goes : {L : Type 0} (stands : L → Tree → Type 0) (shape : Shape) (code : Block) (U : Given) (picks : ℕ → ℕ) (G : Game) (m m' : Machine L) (i j k : ℕ) (used : Bool) → (r : RunTo stands shape code U picks G m i j) → k ≡ picks j → WentOn stands shape code U m' k used r.game → RunTo stands shape code U picks G m' (i + 1) (used_after used j)
-run-goes stands shape code U picks G m m' i j k used r e a =
-    let more_one = turn-adds U k r.game a.0 used a.1 in
+pub run-goes : {L : Type 0} (stands : L → ℕ → Tree → Type 0) (shape : Shape) (code : Block) (U : Given) (picks : ℕ → ℕ) (G : Game) (m m' : Machine L) (i j k : ℕ) (used : Bool) → GamesCome → (r : RunTo stands shape code U picks G m i j) → k ≡ picks j → WentOn stands shape code U m' k used r.game → RunTo stands shape code U picks G m' (i + 1) (used_after used j)
+run-goes stands shape code U picks G m m' i j k used come r e a =
+    let s = r.holds.seated.shares in
+    let more_one = turn-adds U k r.game a.0 used (λ x d. due_planned (length r.game.entries) (in_all U) (tree_in U r.game).places r.game.entries r.game.plan x d (come code U r.game s.on.proper s.comes r.holds.unreleased).ok.plan) a.1 in
     record {
       game = a.0;
       holds = a.2;
@@ -112,45 +119,46 @@ picks-left picks old new j true were are n = let e : j + suc n ≡ suc j + n = o
 picks-left picks old new j false were are n = are n ∙ were n
 
 -- its turns and the entries before them are few
-run-few : {L : Type 0} (stands : L → Tree → Type 0) (shape : Shape) (code : Block) (U : Given) (picks : ℕ → ℕ) (G : Game) (m : Machine L) (i j : ℕ) → GamesCome → (r : RunTo stands shape code U picks G m i j) → length G.entries + i ≤ 4 * work code + U.places
+run-few : {L : Type 0} (stands : L → ℕ → Tree → Type 0) (shape : Shape) (code : Block) (U : Given) (picks : ℕ → ℕ) (G : Game) (m : Machine L) (i j : ℕ) → GamesCome → (r : RunTo stands shape code U picks G m i j) → length G.entries + i ≤ 4 * work code + U.places + 2 * length U.joins
 run-few stands shape code U picks G m i j come r =
     let s = r.holds.seated.shares in
-    let most : length r.game.entries ≤ 4 * work code + U.places = (come code U r.game s.on.proper s.comes r.holds.unreleased).entries in
+    let most : length r.game.entries ≤ 4 * work code + U.places + 2 * length U.joins = (come code U r.game s.on.proper s.comes r.holds.unreleased).entries in
     omega (arith, most, r.size, ap (λ es. length es) r.adds, length-append G.entries r.added)
 
 -- no run makes so many turns
-pub run-stops : {L : Type 0} (stands : L → Tree → Type 0) (shape : Shape) (code : Block) (U : Given) (picks : ℕ → ℕ) (G : Game) (m : Machine L) (i j : ℕ) → GamesCome → RunTo stands shape code U picks G m i j → i ≤ 400040
+pub run-stops : {L : Type 0} (stands : L → ℕ → Tree → Type 0) (shape : Shape) (code : Block) (U : Given) (picks : ℕ → ℕ) (G : Game) (m : Machine L) (i j : ℕ) → GamesCome → RunTo stands shape code U picks G m i j → i ≤ 400055
 run-stops stands shape code U picks G m i j come r =
     let most = run-few stands shape code U picks G m i j come r in
     let few : work code ≤ 100000 = r.holds.seated.shares.on.few in
-    let places : U.places ≤ 16 = r.holds.seated.shares.on.proper.few in
+    let places : U.places + length U.joins ≤ 16 = r.holds.seated.shares.on.proper.few in
     omega (arith, most, few, places)
 
 -- The end.
 
 -- what the machine gives out is that of the game
-pub gives-holds : {L : Type 0} (stands : L → Tree → Type 0) (shape : Shape) (code : Block) (U : Given) (m : Machine L) (G : Game) (r : Log × AllEvents × L) → r.0 ≡ m.history → events_of r.1 ≡ map (λ s. s.events) m.stores.items → r.2 ≡ m.ledger → Holds stands shape code U m G → Gives stands U G r
+pub gives-holds : {L : Type 0} (stands : L → ℕ → Tree → Type 0) (shape : Shape) (code : Block) (U : Given) (m : Machine L) (G : Game) (r : Log × AllEvents × L) → r.0 ≡ m.history → events_of r.1 ≡ map (λ s. s.events) m.stores.items → r.2 ≡ m.ledger → Holds stands shape code U m G → Gives stands U G r
 gives-holds stands shape code U m G r history events ledger h =
     record {
       entries = ap (λ l. l.entries) history ∙ h.seated.shares.entries;
       setup = ap (λ l. given l.setup) history ∙ h.seated.shares.setup;
       journals = events ∙ journals_are U.heap 0 m.stores.items G.journals h.seated.stores;
-      ledger = subst (λ x. stands x (tree_in U G)) (sym ledger) h.seated.shares.ledger;
+      ledger = subst (λ x. stands x (to_join U (tree_in U G)) (tree_in U G)) (sym ledger) h.seated.shares.ledger;
     }
 
-pub gives-finished : {L : Type 0} (stands : L → Tree → Type 0) (U : Given) (m : Machine L) (G : Game) (r : Log × AllEvents × L) → r.0 ≡ m.history → events_of r.1 ≡ map (λ s. s.events) m.stores.items → r.2 ≡ m.ledger → Finished stands U m G → Gives stands U G r
+pub gives-finished : {L : Type 0} (stands : L → ℕ → Tree → Type 0) (U : Given) (m : Machine L) (G : Game) (r : Log × AllEvents × L) → r.0 ≡ m.history → events_of r.1 ≡ map (λ s. s.events) m.stores.items → r.2 ≡ m.ledger → Finished stands U m G → Gives stands U G r
 gives-finished stands U m G r history events ledger f =
     record {
       entries = ap (λ l. l.entries) history ∙ f.entries;
       setup = ap (λ l. given l.setup) history ∙ f.setup;
       journals = events ∙ journals_are U.heap 0 m.stores.items G.journals f.stores;
-      ledger = subst (λ x. stands x (tree_in U G)) (sym ledger) f.ledger;
+      ledger = subst (λ x. stands x (to_join U (tree_in U G)) (tree_in U G)) (sym ledger) f.ledger;
     }
 
-pub run-ends : {L : Type 0} (stands : L → Tree → Type 0) (shape : Shape) (code : Block) (U : Given) (picks : ℕ → ℕ) (G : Game) (m m' : Machine L) (i j k : ℕ) (left : ℕ → ℕ) → GamesCome → (r : RunTo stands shape code U picks G m i j) → k ≡ picks j → ((n : ℕ) → left n ≡ picks (j + n)) → (a : LeadsTo (Turn U k r.game false) (Finished stands U m')) → (parts : Log × AllEvents × L) → Gives stands U a.0 parts → RanFrom stands code U picks left G parts
+pub run-ends : {L : Type 0} (stands : L → ℕ → Tree → Type 0) (shape : Shape) (code : Block) (U : Given) (picks : ℕ → ℕ) (G : Game) (m m' : Machine L) (i j k : ℕ) (left : ℕ → ℕ) → GamesCome → (r : RunTo stands shape code U picks G m i j) → k ≡ picks j → ((n : ℕ) → left n ≡ picks (j + n)) → (a : LeadsTo (Turn U k r.game false) (Finished stands U m')) → (parts : Log × AllEvents × L) → Gives stands U a.0 parts → RanFrom stands code U picks left G parts
 run-ends stands shape code U picks G m m' i j k left come r e are a parts gives =
     let t : Turn U (picks j) r.game false a.0 = subst (λ x. Turn U x r.game false a.0) e a.1 in
-    let last = turn-adds U k r.game a.0 false a.1 in
+    let s = r.holds.seated.shares in
+    let last = turn-adds U k r.game a.0 false (λ x d. due_planned (length r.game.entries) (in_all U) (tree_in U r.game).places r.game.entries r.game.plan x d (come code U r.game s.on.proper s.comes r.holds.unreleased).ok.plan) a.1 in
     let used : j ≡ picks_in (r.added ++ last.entry ∷ []) = r.used ∙ sym (last.uses r.added) in
     let most = run-few stands shape code U picks G m i j come r in
     record {
@@ -166,6 +174,6 @@ run-ends stands shape code U picks G m m' i j k left come r e are a parts gives 
     }
 
 -- from the game before the first turn they are the picked run
-pub run-picked : {L : Type 0} (stands : L → Tree → Type 0) (code : Block) (U : Given) (picks left : ℕ → ℕ) (parts : Log × AllEvents × L) → RanFrom stands code U picks left (start_game code U) parts → IsPicked code U picks parts.0.entries (events_of parts.1)
+pub run-picked : {L : Type 0} (stands : L → ℕ → Tree → Type 0) (code : Block) (U : Given) (picks left : ℕ → ℕ) (parts : Log × AllEvents × L) → RanFrom stands code U picks left (start_game code U) parts → IsPicked code U picks parts.0.entries (events_of parts.1)
 run-picked stands code U picks left parts r =
     record { turns = r.turns; game = r.game; made = r.made; ended = r.ended; entries = r.gives.entries; journals = r.gives.journals }

@@ -9,10 +9,10 @@ use Rattle.rx_rules.specs.Entries.{without}
 use Rattle.rx_rules.specs.Store.{State}
 use Rattle.rx_rules.specs.Plays.{journal_at}
 use Rattle.rx_rules.specs.Reached.{Reached}
-use Rattle.rx_rules.specs.Run.{Given, Proper, NoRoot, NoneDue, EndsWithRoot}
+use Rattle.rx_rules.specs.Run.{Given, in_all, Proper, NoRoot, NoneDue, EndsWithRoot}
 use Rattle.rx_rules.specs.Picked.{Game, Player, Goes, Comes, tree_in, enabled}
 use Rattle.rx_runs.specs.SomeWords.{MakesSome}
-use Rattle.rx_history.specs.Setups.{given}
+use Rattle.rx_history.specs.Setups.{given, to_join}
 use Rattle.rx_stores.specs.Kepts.{StoresAre}
 use Rattle.rx_nodes.specs.Shape.{Shape}
 use Rattle.rx_finish.specs.Callers.{HasNumbers, HasRoot}
@@ -28,27 +28,26 @@ pub record RunsOn (code : Block) (U : Given) : Type 0 where
   pub few : work code ≤ 100000
   pub makes : MakesSome code
 
--- what a machine and a game share beside the seats: `stands` says for which trees a ledger stands
-pub record Shares {L : Type 0} (stands : L → Tree → Type 0) (code : Block) (U : Given) (m : Machine L) (G : Game) : Type 0 where
+-- what a machine and a game share beside the seats: `stands` says for which trees a ledger stands, with room for so many places more
+pub record Shares {L : Type 0} (stands : L → ℕ → Tree → Type 0) (code : Block) (U : Given) (m : Machine L) (G : Game) : Type 0 where
   pub on : RunsOn code U
   pub comes : Comes code U G
-  pub places : U.places ≡ m.places
   pub setup : given m.history.setup ≡ U
   pub entries : m.history.entries ≡ G.entries
-  pub kills : m.kills ≡ G.kills
-  pub ledger : stands m.ledger (tree_in U G)
+  pub plan : m.plan ≡ G.plan
+  pub ledger : stands m.ledger (to_join U (tree_in U G)) (tree_in U G)
   pub slots : length m.seats.items ≡ (tree_in U G).next_task
   pub failed : m.failed ≡ false
 
 -- the machine stands for the game, but for what tells which tasks are enabled
-pub record Seated {L : Type 0} (stands : L → Tree → Type 0) (shape : Shape) (code : Block) (U : Given) (m : Machine L) (G : Game)
+pub record Seated {L : Type 0} (stands : L → ℕ → Tree → Type 0) (shape : Shape) (code : Block) (U : Given) (m : Machine L) (G : Game)
     : Type 0 where
   pub shares : Shares stands code U m G
   pub stores : StoresAre U.heap 0 m.stores.items G.journals
   pub seats : (n : ℕ) → SlotIs shape (tree_in U G) G.players n (seat_at m.seats.items n)
 
 -- the machine stands for the game, in which the root stands
-pub record Holds {L : Type 0} (stands : L → Tree → Type 0) (shape : Shape) (code : Block) (U : Given) (m : Machine L) (G : Game)
+pub record Holds {L : Type 0} (stands : L → ℕ → Tree → Type 0) (shape : Shape) (code : Block) (U : Given) (m : Machine L) (G : Game)
     : Type 0 where
   pub seated : Seated stands shape code U m G
   pub unreleased : NoRoot G.entries
@@ -56,7 +55,7 @@ pub record Holds {L : Type 0} (stands : L → Tree → Type 0) (shape : Shape) (
   pub origins : TellsOrigins (tree_in U G) m.ready.origins.items
 
 -- it stands for the game, but for that and for the seat of task i, which has been taken out to make a turn
-pub record HoldsBut {L : Type 0} (stands : L → Tree → Type 0) (shape : Shape) (code : Block) (U : Given) (m : Machine L) (i : ℕ)
+pub record HoldsBut {L : Type 0} (stands : L → ℕ → Tree → Type 0) (shape : Shape) (code : Block) (U : Given) (m : Machine L) (i : ℕ)
     (G : Game) : Type 0 where
   pub shares : Shares stands code U m G
   pub empty : seat_at m.seats.items i ≡ None
@@ -65,7 +64,7 @@ pub record HoldsBut {L : Type 0} (stands : L → Tree → Type 0) (shape : Shape
 -- task i is the one that the pick k moves
 pub record IsPick (U : Given) (k i : ℕ) (seat : Seat) (G : Game) : Type 0 where
   pub stands : NoRoot G.entries
-  pub none_due : NoneDue (length G.entries) G.kills
+  pub none_due : NoneDue (length G.entries) G.plan
   pub picked : slice_get (enabled (tree_in U G)) (k % length (enabled (tree_in U G))) ≡ Some seat.row
   pub number : seat.row.number.0 ≡ i
 
@@ -75,7 +74,7 @@ pub record HasGone (shape : Shape) (U : Given) (i : ℕ) (here : PlaceId) (p q :
   pub player : slice_get G.players i ≡ Some p
   pub store : slice_get G.stores here.0 ≡ Some S
   pub is_at : seat.row.place ≡ At here
-  pub goes : Goes U.places U.heap (length G.entries) seat.row.number here p S (journal_at G.journals here.0) q Z j
+  pub goes : Goes U.heap (length G.entries) seat.row.number here p S (journal_at G.journals here.0) q Z j
   pub seat_is : IsSeat shape (tree_in U G) i q seat
 
 -- a turn that leads to a game with P
@@ -83,7 +82,7 @@ abbrev pub LeadsTo : (Game → Type 0) → (Game → Type 0) → Type 0
 LeadsTo Turned P = (G : Game) × Turned G × P G
 
 -- task i, which the pick k moves and which was taken out of its slot, has come to the player q
-pub record Acting {L : Type 0} (stands : L → Tree → Type 0) (shape : Shape) (code : Block) (U : Given) (m : Machine L) (k i : ℕ)
+pub record Acting {L : Type 0} (stands : L → ℕ → Tree → Type 0) (shape : Shape) (code : Block) (U : Given) (m : Machine L) (k i : ℕ)
     (here : PlaceId) (q : Player) (seat : Seat) (G : Game) : Type 0 where
   pub but : HoldsBut stands shape code U m i G
   pub pick : IsPick U k i seat G
@@ -95,12 +94,13 @@ pub record Acting {L : Type 0} (stands : L → Tree → Type 0) (shape : Shape) 
   pub numbers : HasNumbers (tree_in U G)
   pub reached : Reached (tree_in U G)
   pub inside : i < length m.seats.items
-  pub place : here.0 < U.places
+  pub place : here.0 < (tree_in U G).places
+  pub stored : here.0 < in_all U
   pub stores : StoresAre U.heap 0 m.stores.items (slice_set G.journals here.0 events)
   pub players : length G.players ≡ (tree_in U G).next_task
 
 -- task i, which the pick k moves and which was taken out of its slot, travels to a place
-pub record Landing {L : Type 0} (stands : L → Tree → Type 0) (shape : Shape) (code : Block) (U : Given) (m : Machine L) (k i : ℕ)
+pub record Landing {L : Type 0} (stands : L → ℕ → Tree → Type 0) (shape : Shape) (code : Block) (U : Given) (m : Machine L) (k i : ℕ)
     (to : PlaceId) (seat : Seat) (G : Game) : Type 0 where
   pub but : HoldsBut stands shape code U m i G
   pub pick : IsPick U k i seat G
@@ -114,10 +114,10 @@ pub record Landing {L : Type 0} (stands : L → Tree → Type 0) (shape : Shape)
   pub stores : StoresAre U.heap 0 m.stores.items G.journals
 
 -- what is left of a run after the root's release
-pub record Finished {L : Type 0} (stands : L → Tree → Type 0) (U : Given) (m : Machine L) (G : Game) : Type 0 where
+pub record Finished {L : Type 0} (stands : L → ℕ → Tree → Type 0) (U : Given) (m : Machine L) (G : Game) : Type 0 where
   pub entries : m.history.entries ≡ G.entries
   pub setup : given m.history.setup ≡ U
-  pub ledger : stands m.ledger (tree_in U G)
+  pub ledger : stands m.ledger (to_join U (tree_in U G)) (tree_in U G)
   pub stores : StoresAre U.heap 0 m.stores.items G.journals
   pub ended : EndsWithRoot G.entries
   -- no task is enabled, and none is told as enabled
@@ -125,11 +125,11 @@ pub record Finished {L : Type 0} (stands : L → Tree → Type 0) (U : Given) (m
   pub none_ready : m.ready.tasks.members ≡ []
 
 -- no task is enabled, and the root may be released, which leaves no task
-pub record Releasing {L : Type 0} (stands : L → Tree → Type 0) (shape : Shape) (code : Block) (U : Given) (m : Machine L) (G : Game)
+pub record Releasing {L : Type 0} (stands : L → ℕ → Tree → Type 0) (shape : Shape) (code : Block) (U : Given) (m : Machine L) (G : Game)
     : Type 0 where
   pub holds : Seated stands shape code U m G
   pub unreleased : NoRoot G.entries
-  pub none_due : NoneDue (length G.entries) G.kills
+  pub none_due : NoneDue (length G.entries) G.plan
   pub none_enabled : enabled (tree_in U G) ≡ []
   pub is_quiet : quiet (tree_in U G) the_root ≡ true
   pub root : HasRoot (tree_in U G)
@@ -137,7 +137,7 @@ pub record Releasing {L : Type 0} (stands : L → Tree → Type 0) (shape : Shap
   pub none_left : (without (tree_in U G) the_root).tasks ≡ []
 
 -- the machine stands for a game in which the root stands, and what holds of such a game
-pub record CanTurn {L : Type 0} (stands : L → Tree → Type 0) (shape : Shape) (code : Block) (U : Given) (m : Machine L) (G : Game)
+pub record CanTurn {L : Type 0} (stands : L → ℕ → Tree → Type 0) (shape : Shape) (code : Block) (U : Given) (m : Machine L) (G : Game)
     : Type 0 where
   pub holds : Seated stands shape code U m G
   pub unreleased : NoRoot G.entries

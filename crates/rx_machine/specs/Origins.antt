@@ -4,9 +4,9 @@ use Rattle.rx_base.specs.declared.ids.TaskId.{TaskId}
 use Rattle.rx_base.specs.declared.ids.ScopeId.{ScopeId}
 use Rattle.rx_rules.specs.declared.tasks.Scope.{Scope}
 use Rattle.rx_rules.specs.declared.entries.Act.{Act}
-use Rattle.rx_rules.specs.declared.entries.Act.TheVariants.{Open, At as Calls, Spawn, Arrive, Wait, Release, End, Print}
+use Rattle.rx_rules.specs.declared.entries.Act.TheVariants.{Open, At as Calls, Spawn, Arrive, Wait, Release, End, Print, Census}
 use Rattle.rx_rules.specs.declared.entries.Entry.{Entry}
-use Rattle.rx_rules.specs.declared.entries.Entry.TheVariants.{Step, Root, Death}
+use Rattle.rx_rules.specs.declared.entries.Entry.TheVariants.{Step, Root, Death, Join}
 use Rattle.rx_rules.specs.Tree.{Tree}
 use Rattle.rx_sound.specs.Sound.{Each}
 use Rattle.rx_machine.specs.declared.enabled.Origin.{Origin}
@@ -29,12 +29,14 @@ origin_in t (Calls s r callee from to path) = Some (record { opener = t; parent 
 origin_in t (Spawn child s from to path) = None
 origin_in t (Arrive p) = None
 origin_in t (Wait s thrown) = None
-origin_in t (Release s lost thrown) = None
+origin_in t (Release s lost masked thrown) = None
 origin_in t (End thrown) = None
 origin_in t (Print value path) = None
+origin_in t (Census places path) = None
 
 -- the same of an entry
 abbrev pub origin_by : Entry → Option Origin
 origin_by (Step t act batch) = origin_in t act
-origin_by (Root lost thrown) = None
+origin_by (Root lost masked thrown) = None
 origin_by (Death d) = None
+origin_by (Join p) = None

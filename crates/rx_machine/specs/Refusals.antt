@@ -41,13 +41,13 @@ pub record HasTold (U : Given) (k : ℕ) (G : Game) (items : List Kept) : Type 0
   pub store : State
   pub left : State
   pub events : List PlaceEvent
-  pub none_due : NoneDue (length G.entries) G.kills
+  pub none_due : NoneDue (length G.entries) G.plan
   pub picked : slice_get (enabled (tree_in U G)) (k % length (enabled (tree_in U G))) ≡ Some task
   pub stands : task_of (tree_in U G) task.number ≡ Some task
   pub is_at : task.place ≡ At here
   pub player : slice_get G.players task.number.0 ≡ Some began
   pub found : slice_get G.stores here.0 ≡ Some store
-  pub goes : Goes U.places U.heap (length G.entries) task.number here began store (journal_at G.journals here.0) now left events
+  pub goes : Goes U.heap (length G.entries) task.number here began store (journal_at G.journals here.0) now left events
   pub stores : StoresAre U.heap 0 items (slice_set G.journals here.0 events)
 
 -- a turn with the pick k was refused from the game: what is told of it begins what the turn leads to, and as many tasks are told as

@@ -34,6 +34,8 @@ impl<L: FinishLedger> Machine<L> {
         ensures ready { self.new.ready ≡ self.old.ready }
     {
         rx_sound::reached_is_sound();
+        rx_runs::known_places_are_there();
+        rx_runs::going_tells_no_places();
         let path = path_of(self.alloc, p, &seat.control)?;
         let control = seat.control.child(self.alloc, p)?;
         self.seats.reserve(1)?;
@@ -75,6 +77,8 @@ impl<L: FinishLedger> Machine<L> {
         ensures ready { self.new.ready ≡ self.old.ready }
     {
         rx_sound::reached_is_sound();
+        rx_runs::known_places_are_there();
+        rx_runs::going_tells_no_places();
         let path = path_of(self.alloc, p, &seat.control)?;
         let control = seat.control.child(self.alloc, p)?;
         self.seats.reserve(1)?;

@@ -1,8 +1,9 @@
 // The turn of a death.
 ghost use Rattle.std.specs.Prelude.{◌≡◌, ◌<◌, ℕ, length};
+ghost use Rattle.rx_rules.specs.declared.entries.Entry.TheVariants.{Death};
 ghost use Rattle.rx_machine.specs.Slots.{seat_at, is_struck as strikes, left_by};
-ghost use Rattle.rx_machine.specs.Runs.{HasDied};
-ghost use Rattle.rx_machine.specs.Inside.Games.{SomeDying, EachDying};
+ghost use Rattle.rx_machine.specs.Runs.{HasFallen};
+ghost use Rattle.rx_machine.specs.Inside.Games.{SomeFalling, EachFalling};
 
 use crate::machine::Machine;
 use crate::seat::Seat;
@@ -14,8 +15,9 @@ impl<L: FinishLedger> Machine<L> {
     /// Makes the death of a place that is due. It takes no memory.
     pub(crate) fn die(&mut self, place: PlaceId)
         requires room { 0 < self.old.history.spare }
-        requires game { SomeDying L.stands self.old place }
-        ensures made { EachDying L.stands self.old place (λ shape code U G. (k : ℕ) → HasDied L.stands shape code U self.new k G) }
+        requires game { SomeFalling L.stands self.old (Death place) }
+        ensures made { EachFalling L.stands self.old (Death place) (λ shape code U G.
+            (k : ℕ) → HasFallen L.stands shape code U self.new k G) }
         ensures ready { self.new.ready ≡ self.old.ready }
         ensures slots { length self.new.seats.items ≡ length self.old.seats.items }
     {
@@ -24,7 +26,7 @@ impl<L: FinishLedger> Machine<L> {
         self.ledger.death(place, at);
         self.stores.close(place, at);
         self.history.add(Entry::Death { place });
-        self.kills.done();
+        self.plan.done();
         give_up(&mut self.seats, place);
     }
 }

@@ -212,6 +212,7 @@ fn origin_by(entry: &Entry) -> Option<Origin>
         Entry::Step { task, act, .. } => origin_in(*task, act),
         Entry::Root { .. } => None,
         Entry::Death { .. } => None,
+        Entry::Join { .. } => None,
     }
 }
 
@@ -234,6 +235,7 @@ fn origin_in(opener: TaskId, act: &Act) -> Option<Origin>
         Act::Release { .. } => None,
         Act::End { .. } => None,
         Act::Print { .. } => None,
+        Act::Census { .. } => None,
     }
 }
 

@@ -1,9 +1,9 @@
 // The machine.
-ghost use Rattle.std.specs.Prelude.{◌≡◌, [], ◌∷◌, Some, length, IfOk};
+ghost use Rattle.std.specs.Prelude.{◌≡◌, ◌≤◌, [], ◌∷◌, Some, length, IfOk};
 ghost use Rattle.rx_rules.specs.Code.{Block};
 ghost use Rattle.rx_rules.specs.Terms.{Empty, no_vars, items};
 ghost use Rattle.rx_rules.specs.Fold.{opening};
-ghost use Rattle.rx_rules.specs.Run.{Proper};
+ghost use Rattle.rx_rules.specs.Run.{in_all, Proper};
 ghost use Rattle.rx_rules.specs.Picked.{start_game};
 ghost use Rattle.rx_history.specs.Setups.{given};
 ghost use Rattle.rx_nodes.specs.Shape.{Stands};
@@ -34,27 +34,26 @@ pub struct Machine<L: FinishLedger> {
     /// What tells which tasks are enabled.
     pub(crate) ready: Ready,
     pub(crate) stores: Stores,
-    /// The kills that are not done.
-    pub(crate) kills: Kills,
-    pub(crate) places: u8,
+    /// The deaths and joins that are not done.
+    pub(crate) plan: Kills,
     /// Whether memory was refused, after which nothing goes on.
     pub(crate) failed: bool,
     pub(crate) alloc: Global,
 }
 
 impl<L: FinishLedger> Machine<L> {
-    /// Before the first turn of a program under a setup, over a ledger that stands for the opening tree.
+    /// Before the first turn of a program under a setup, over a ledger that stands for the opening tree and has
+    /// room for the places that are to join.
     pub fn open(alloc: Global, p: &Program, setup: Setup, ledger: L) -> Result<Machine<L>, NoMemory>
         requires proper { Proper (given setup) }
-        requires opened { L.stands ledger (opening (given setup).places) }
+        requires opened { L.stands ledger (length (given setup).joins) (opening (given setup).places) }
         ensures { IfOk result (λ m. (code : Block) → Stands p.now.script code
             → Holds L.stands p.now.script code (given setup) m (start_game code (given setup))) }
     {
         checked(p);
-        let kills = Kills::open(alloc, &setup.kills)?;
-        let places = setup.places;
-        let stores = Stores::open(alloc, places, setup.heap)?;
-        let seats = root_alone(alloc, root_seat(alloc, p)?)?;
+        let plan = Kills::open(alloc, &setup.kills, &setup.joins, setup.places)?;
+        let stores = Stores::open(alloc, all_places(&setup), setup.heap)?;
+        let seats = root_alone(alloc, root_seat(alloc, p, setup.places)?)?;
         let ready = root_ready(alloc)?;
         Ok(Machine {
             ledger,
@@ -62,22 +61,29 @@ impl<L: FinishLedger> Machine<L> {
             seats,
             ready,
             stores,
-            kills,
-            places,
+            plan,
             failed: false,
             alloc,
         })
     }
 }
 
-/// The seat of the main activity, which is at place 0 under the root.
-fn root_seat(alloc: Global, p: &Program) -> Result<Seat, NoMemory>
+/// How many places there are or may join.
+fn all_places(setup: &Setup) -> u8
+    requires { in_all (given setup.now) ≤ 16 }
+    ensures { result ≡ in_all (given setup.now) }
+{
+    setup.places + setup.joins.len() as u8
+}
+
+/// The seat of the main activity, which is at place 0 under the root and knows so many places.
+fn root_seat(alloc: Global, p: &Program, places: u8) -> Result<Seat, NoMemory>
     ensures row { IfOk result (λ seat. seat.row ≡ root_row) }
     ensures bare { IfOk result (λ seat. (seat.scopes.items ≡ []) × (seat.batch ≡ [])) }
     ensures control { IfOk result (λ seat. (b : Block) → Stands p.now.script b
-        → StandsFor p.now.script seat.control (items b [] Empty) × (seat.control.vars ≡ no_vars)) }
+        → StandsFor p.now.script seat.control (items b [] Empty) × (seat.control.vars ≡ no_vars places)) }
 {
-    let control = Control::main(alloc, p)?;
+    let control = Control::main(alloc, p, places)?;
     Ok(Seat {
         row: Task {
             number: TaskId(0),

@@ -57,6 +57,7 @@ impl<L: FinishLedger> Machine<L> {
             Next::Book(Want::Wait) => self.wait(p, i, seat),
             Next::Book(Want::Release) => self.release(p, i, seat),
             Next::Book(Want::Print { value }) => self.print(p, i, seat, value),
+            Next::Book(Want::Census) => self.census(p, i, seat),
             Next::Done => self.end(seat),
             Next::Local => unreachable!(),
             Next::Cell(_) => unreachable!(),

@@ -45,6 +45,7 @@ impl<L: FinishLedger> Machine<L> {
             Act::Release {
                 scope: who.inner,
                 lost: outcome.lost,
+                masked: outcome.masked,
                 thrown: outcome.thrown,
             },
         );
@@ -64,6 +65,7 @@ impl<L: FinishLedger> Machine<L> {
             Ok(outcome) => {
                 self.history.add(Entry::Root {
                     lost: outcome.lost,
+                    masked: outcome.masked,
                     thrown: outcome.thrown,
                 });
                 Ok(())

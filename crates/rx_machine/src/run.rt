@@ -17,12 +17,12 @@ use rx_history::{History, Journals};
 use rx_picks::Picks;
 
 // More turns than a run can make of a script whose work is at most 100,000.
-const LIMIT: u32 = 400_041;
+const LIMIT: u32 = 400_056;
 
 impl<L: FinishLedger> Machine<L> {
     /// Makes the turns that are left of the picked run, up to the root's release, with the program that the machine was opened with;
     /// the run has not ended. It uses one pick for each entry of a task, and no other. With the turns that the machine had made they
-    /// are at most `4 * work + 2 * places + 8`. A machine of which a turn was refused answers `NoMemory` and uses no pick.
+    /// are at most `4 * work + 2 * places + 3 * joins + 8`. A machine of which a turn was refused answers `NoMemory` and uses no pick.
     pub fn run<P: Picks>(
         mut self,
         p: &Program,

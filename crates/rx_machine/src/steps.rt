@@ -37,7 +37,7 @@ impl<L: FinishLedger> Machine<L> {
         ensures same { OnlyStores self.old self.new }
         ensures next { IfOk result (λ next. EachActing L.stands p.now.script self.old i here seat.old (λ code U k q G.
             (r : Player) × Acting L.stands p.now.script code U self.new k i here r seat.new G
-            × IsRequest next (does r.vars here.0 U.places r.term))) }
+            × IsRequest next (does r.vars here.0 r.term))) }
         ensures refused { OnErr result (EachActing L.stands p.now.script self.old i here seat.old (λ code U k q G.
             HasTold U k G self.new.stores.items)) }
     {
@@ -68,9 +68,9 @@ impl<L: FinishLedger> Machine<L> {
             HasTold U k G self.new.stores.items)) }
     {
         rx_runs::terms_sink();
-        match seat.control.next(p, here, self.places) {
+        match seat.control.next(p, here) {
             Next::Local => {
-                local_step(self.alloc, p, seat, here, self.places)?;
+                local_step(self.alloc, p, seat, here)?;
                 Ok(None)
             }
             Next::Cell(op) => {
@@ -94,10 +94,10 @@ impl<L: FinishLedger> Machine<L> {
         requires game { SomeDoing L.stands p.now.script self.old i here seat.old (λ d. next_of d ≡ Cell op) }
         ensures same { OnlyStores self.old self.new }
         ensures next { OnOk result (EachActing L.stands p.now.script self.old i here seat.old (λ code U k q G.
-            next_of (does q.vars here.0 U.places q.term) ≡ Cell op
+            next_of (does q.vars here.0 q.term) ≡ Cell op
             → AfterStep L.stands p.now.script code U self.new k i here q seat.new G None)) }
         ensures refused { OnErr result (EachActing L.stands p.now.script self.old i here seat.old (λ code U k q G.
-            next_of (does q.vars here.0 U.places q.term) ≡ Cell op → HasTold U k G self.new.stores.items)) }
+            next_of (does q.vars here.0 q.term) ≡ Cell op → HasTold U k G self.new.stores.items)) }
     {
         rx_runs::games_come();
         rx_runs::few_events_are_told();
@@ -118,20 +118,14 @@ impl<L: FinishLedger> Machine<L> {
 }
 
 // Makes the local step that is next.
-fn local_step(
-    alloc: Global,
-    p: &Program,
-    seat: &mut Seat,
-    here: PlaceId,
-    places: u8,
-) -> Result<(), NoMemory>
+fn local_step(alloc: Global, p: &Program, seat: &mut Seat, here: PlaceId) -> Result<(), NoMemory>
     requires { (t : Term) × StandsFor p.now.script seat.old.control t }
     ensures { OnOk result ((t : Term) → StandsFor p.now.script seat.old.control t
-        → Leaves p.now.script seat.new.control (does seat.old.control.vars here.0 places t)
+        → Leaves p.now.script seat.new.control (does seat.old.control.vars here.0 t)
         × (seat.new.batch ≡ begun t seat.old.batch) × (seat.new.row ≡ seat.old.row) × (seat.new.scopes ≡ seat.old.scopes)) }
 {
     begin(alloc, p, seat)?;
-    seat.control.local(alloc, p, here, places)?;
+    seat.control.local(alloc, p, here)?;
     Ok(())
 }
 

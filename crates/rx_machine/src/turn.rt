@@ -1,6 +1,7 @@
-// A turn: the place whose kill is due dies, or else the pick's task moves, or the root is released.
+// A turn: what is due of the plan is done, a death or a join, or else the pick's task moves, or the root is released.
 ghost use Rattle.std.specs.Prelude.{◌≡◌, ◌<◌, ◌^◌, ◌%◌, ℕ, suc, length, map, slice_get, Some, Ok, OnOk, OnErr, true, false};
 ghost use Rattle.std.specs.Prelude.{vec_len, vec_capacity};
+ghost use Rattle.rx_rules.specs.declared.entries.Entry.TheVariants.{Death};
 ghost use Rattle.rx_rules.specs.Code.{Block};
 ghost use Rattle.rx_rules.specs.Run.{Given};
 ghost use Rattle.rx_rules.specs.Picked.{Game, Turn as MadeTurn, tree_in};
@@ -9,21 +10,22 @@ ghost use Rattle.rx_machine.specs.Picking.{IsReady};
 ghost use Rattle.rx_machine.specs.Origins.{TellsOrigins};
 ghost use Rattle.rx_machine.specs.Holds.{Finished, LeadsTo};
 ghost use Rattle.rx_machine.specs.Refusals.{HasBegun};
-ghost use Rattle.rx_machine.specs.Runs.{Dying, WentOn, CanRun, HasGoneOn, HasEnded, WasRefused};
-ghost use Rattle.rx_machine.specs.Inside.Games.{EachDying, SomeCalm, EachCalm};
+ghost use Rattle.rx_machine.specs.Runs.{Falling, WentOn, CanRun, HasGoneOn, HasEnded, WasRefused};
+ghost use Rattle.rx_machine.specs.Inside.Games.{EachFalling, SomeCalm, EachCalm};
 
 use crate::machine::Machine;
 use crate::seat::under_of;
 use rx_base::{NoMemory, PlaceId};
 use rx_check::Program;
 use rx_finish::FinishLedger;
+use rx_kills::Due;
 use rx_picks::Picks;
 use rx_rank::Ranks;
 
 /// Whether a turn went on with the run or ended it.
 #[derive(Clone, Copy, Debug, PartialEq, Eq)]
 pub enum Turn {
-    /// An enabled task has moved, or a place has died.
+    /// An enabled task has moved, or a place has died or joined.
     Moved,
     /// No task is enabled, and the root was released.
     Ended,
@@ -59,7 +61,7 @@ impl<L: FinishLedger> Machine<L> {
         }
     }
 
-    /// Makes one turn: true where an enabled task has moved or a place has died, false where the root is released.
+    /// Makes one turn: true where an enabled task has moved or a place has died or joined, false where the root is released.
     pub(crate) fn make_turn<P: Picks>(
         &mut self,
         p: &Program,
@@ -78,9 +80,13 @@ impl<L: FinishLedger> Machine<L> {
         rx_sound::fold_is_reached();
         rx_sound::reached_is_sound();
         self.make_room()?;
-        match self.kills.due(self.history.len() as u32) {
-            Some(place) => {
+        match self.plan.due(self.history.len() as u32) {
+            Some(Due::Death(place)) => {
                 self.make_death(place);
+                Ok(true)
+            }
+            Some(Due::Join(place)) => {
+                self.make_join(place);
                 Ok(true)
             }
             None => self.take_pick(p, picks),
@@ -108,9 +114,10 @@ impl<L: FinishLedger> Machine<L> {
     fn make_death(&mut self, place: PlaceId)
         requires room { 0 < self.old.history.spare }
         requires slots { length self.old.seats.items < self.old.ready.tasks.room }
-        requires game { (shape : Shape) × (code : Block) × (U : Given) × (G : Game) × Dying L.stands shape code U self.old place G
+        requires game { (shape : Shape) × (code : Block) × (U : Given) × (G : Game) × Falling L.stands shape code U self.old (Death place) G
             × IsReady (tree_in U G) self.old.ready.tasks.members × TellsOrigins (tree_in U G) self.old.ready.origins.items }
-        ensures { EachDying L.stands self.old place (λ shape code U G. (k : ℕ) → IsReady (tree_in U G) self.old.ready.tasks.members
+        ensures { EachFalling L.stands self.old (Death place) (λ shape code U G. (k : ℕ)
+            → IsReady (tree_in U G) self.old.ready.tasks.members
             → TellsOrigins (tree_in U G) self.old.ready.origins.items → WentOn L.stands shape code U self.new k false G) }
     {
         rx_runs::games_come();
@@ -120,8 +127,8 @@ impl<L: FinishLedger> Machine<L> {
         self.note_all();
     }
 
-    // Makes the turn of a pick, no kill being due: true where an enabled task has moved, false where none is enabled and the root is
-    // released.
+    // Makes the turn of a pick, nothing planned being due: true where an enabled task has moved, false where none is enabled and the
+    // root is released.
     fn take_pick<P: Picks>(&mut self, p: &Program, picks: &mut P) -> Result<bool, NoMemory>
         requires room { 0 < self.old.history.spare }
         requires slots { length self.old.seats.items < self.old.ready.tasks.room }

@@ -2,7 +2,7 @@
 use Rattle.std.specs.Prelude.{◌≡◌, ℕ, ◌+◌, ◌<◌, ◌≤◌, ◌==◌, ◌≢◌, Bool, true, false, List, [], ◌∷◌, ◌++◌, length, refl}
 use Rattle.std.proofs.Common.{sym, subst, arith, inl, inr}
 use Rattle.std.proofs.lemmas.Bool.{eqb-true, eqb-false}
-use Rattle.rx_rules.specs.Code.{Expr, Num, Name, Here, Bin, Stmt, SetTo, New, Get, Put, Forget, Print, Throw, Async, AtAsync, At, Finish, If, Repeat, Try, Block, Nothing, Then}
+use Rattle.rx_rules.specs.Code.{Expr, Num, Name, Here, Bin, Stmt, SetTo, New, Get, Put, Forget, Census, Print, Throw, Async, AtAsync, At, Finish, If, Repeat, Try, Block, Nothing, Then}
 use Rattle.rx_token.specs.declared.token.Token.{Token}
 use Rattle.rx_token.specs.declared.token.Token.TheVariants.{Key, Called, Number, Oper, Mark, Bad}
 use Rattle.rx_token.specs.declared.token.Keyword.TheVariants.{Async as KAsync, Else as KElse}
@@ -79,6 +79,7 @@ mutual
   pick-stmt P (Put t i e) n h (inr (inr u)) =
       pick-expr P e n (each-left P (spell e) (Mark Semicolon ∷ []) (each-right P (spell i) (Mark RSquare ∷ Mark Equals ∷ (spell e ++ Mark Semicolon ∷ [])) h.1)) u
   pick-stmt P (Forget t) n h u = subst P (sym u) h.0
+  pick-stmt P (Census m) n h u = subst P (sym u) h.0
   pick-stmt P (Print e) n h u = pick-expr P e n (each-left P (spell e) (Mark Semicolon ∷ []) h) u
   pick-stmt P (Throw e) n h u = pick-expr P e n (each-left P (spell e) (Mark Semicolon ∷ []) h) u
   pick-stmt P (Async b) n h u = pick-block P b n (each-left P (spellings b) (Mark RBrace ∷ []) h) u
@@ -125,6 +126,7 @@ mutual
   fill-stmt P (Put t i e) h =
       (h t (inl refl), each-join P (spell i) (Mark RSquare ∷ Mark Equals ∷ (spell e ++ Mark Semicolon ∷ [])) (fill-expr P i (λ n u. h n (inr (inl u)))) (each-join P (spell e) (Mark Semicolon ∷ []) (fill-expr P e (λ n u. h n (inr (inr u)))) tt))
   fill-stmt P (Forget t) h = (h t refl, tt)
+  fill-stmt P (Census m) h = (h m refl, tt)
   fill-stmt P (Print e) h = each-join P (spell e) (Mark Semicolon ∷ []) (fill-expr P e h) tt
   fill-stmt P (Throw e) h = each-join P (spell e) (Mark Semicolon ∷ []) (fill-expr P e h) tt
   fill-stmt P (Async b) h = each-join P (spellings b) (Mark RBrace ∷ []) (fill-block P b h) tt

@@ -1,13 +1,13 @@
 -- The grammar of scripts: the tokens that spell a tree.
 use Rattle.std.specs.Prelude.{◌≡◌, ℕ, List, [], ◌∷◌, ◌++◌, Bool, true, false, nat_lt, ◌&&◌, pos}
-use Rattle.rx_rules.specs.Code.{Op, Add, Sub, Mul, Less, Equal, Expr, Num, Name, Here, Bin, Stmt, SetTo, New, Get, Put, Forget}
+use Rattle.rx_rules.specs.Code.{Op, Add, Sub, Mul, Less, Equal, Expr, Num, Name, Here, Bin, Stmt, SetTo, New, Get, Put, Forget, Census}
 use Rattle.rx_rules.specs.Code.{Print, Throw, Async, AtAsync, At, Finish, If, Repeat, Try, Block, Nothing, Then}
 use Rattle.rx_token.specs.declared.token.Op.{Op as Operation}
 use Rattle.rx_token.specs.declared.token.Op.TheVariants.{Add as AddSign, Sub as SubSign, Mul as MulSign, Less as LessSign}
 use Rattle.rx_token.specs.declared.token.Op.TheVariants.{Equal as EqualSign}
 use Rattle.rx_token.specs.declared.token.Keyword.TheVariants.{Set as KSet, New as KNew, Get as KGet, Put as KPut, Forget as KForget}
-use Rattle.rx_token.specs.declared.token.Keyword.TheVariants.{Print as KPrint, Throw as KThrow, Async as KAsync, At as KAt}
-use Rattle.rx_token.specs.declared.token.Keyword.TheVariants.{Finish as KFinish, If as KIf, Else as KElse, Repeat as KRepeat}
+use Rattle.rx_token.specs.declared.token.Keyword.TheVariants.{Census as KCensus, Print as KPrint, Throw as KThrow, Async as KAsync}
+use Rattle.rx_token.specs.declared.token.Keyword.TheVariants.{At as KAt, Finish as KFinish, If as KIf, Else as KElse, Repeat as KRepeat}
 use Rattle.rx_token.specs.declared.token.Keyword.TheVariants.{Try as KTry, Catch as KCatch, Dead as KDead, Here as KHere}
 use Rattle.rx_token.specs.declared.token.Sign.TheVariants.{OpenBrace as LBrace, CloseBrace as RBrace, OpenParen as LParen}
 use Rattle.rx_token.specs.declared.token.Sign.TheVariants.{CloseParen as RParen, OpenSquare as LSquare, CloseSquare as RSquare}
@@ -44,6 +44,7 @@ abbrev mutual
   spelling (Get n t e) = Key KGet ∷ Called n ∷ Mark Equals ∷ Called t ∷ Mark LSquare ∷ (spell e ++ Mark RSquare ∷ Mark Semicolon ∷ [])
   spelling (Put t i e) = Key KPut ∷ Called t ∷ Mark LSquare ∷ (spell i ++ Mark RSquare ∷ Mark Equals ∷ (spell e ++ Mark Semicolon ∷ []))
   spelling (Forget t) = Key KForget ∷ Called t ∷ Mark Semicolon ∷ []
+  spelling (Census n) = Key KCensus ∷ Called n ∷ Mark Semicolon ∷ []
   spelling (Print e) = Key KPrint ∷ (spell e ++ Mark Semicolon ∷ [])
   spelling (Throw e) = Key KThrow ∷ (spell e ++ Mark Semicolon ∷ [])
   spelling (Async b) = (Key KAsync ∷ Mark LBrace ∷ []) ++ (spellings b ++ Mark RBrace ∷ [])
@@ -76,6 +77,7 @@ abbrev mutual
   Fits (Get n t e) = Unit {0}
   Fits (Put t i e) = Unit {0}
   Fits (Forget t) = Unit {0}
+  Fits (Census n) = Unit {0}
   Fits (Print e) = Unit {0}
   Fits (Throw e) = Unit {0}
   Fits (Async b) = AllFit b

@@ -1,6 +1,6 @@
 -- The names that a script mentions, by number.
 use Rattle.std.specs.Prelude.{◌≡◌, ℕ, ◌<◌, List, length, ◌⊎◌}
-use Rattle.rx_rules.specs.Code.{Expr, Num, Name, Here, Bin, Stmt, SetTo, New, Get, Put, Forget, Print, Throw, Async, AtAsync, At}
+use Rattle.rx_rules.specs.Code.{Expr, Num, Name, Here, Bin, Stmt, SetTo, New, Get, Put, Forget, Census, Print, Throw, Async, AtAsync, At}
 use Rattle.rx_rules.specs.Code.{Finish, If, Repeat, Try, Block, Nothing, Then}
 use Rattle.rx_token.specs.Tokens.{AreNames}
 use Rattle.rx_nodes.specs.Grammar.{spellings}
@@ -20,6 +20,7 @@ abbrev mutual
   StmtMentions n (Get name target index) = (n ≡ name) ⊎ ((n ≡ target) ⊎ Uses n index)
   StmtMentions n (Put target index value) = (n ≡ target) ⊎ (Uses n index ⊎ Uses n value)
   StmtMentions n (Forget target) = n ≡ target
+  StmtMentions n (Census name) = n ≡ name
   StmtMentions n (Print value) = Uses n value
   StmtMentions n (Throw value) = Uses n value
   StmtMentions n (Async body) = Mentions n body

@@ -11,11 +11,12 @@ use Rattle.rx_nodes.specs.declared.nodes.Expr.{Expr as Part}
 use Rattle.rx_nodes.specs.declared.nodes.Expr.TheVariants.{Num as NumPart, Name as NamePart, Here as HerePart, Bin as BinPart}
 use Rattle.rx_nodes.specs.declared.nodes.Stmt.{Stmt as Node}
 use Rattle.rx_nodes.specs.declared.nodes.Stmt.TheVariants.{Set as SetNode, New as NewNode, Get as GetNode, Put as PutNode}
-use Rattle.rx_nodes.specs.declared.nodes.Stmt.TheVariants.{Forget as ForgetNode, Print as PrintNode, Throw as ThrowNode}
-use Rattle.rx_nodes.specs.declared.nodes.Stmt.TheVariants.{Async as AsyncNode, AtAsync as AtAsyncNode, At as AtNode}
-use Rattle.rx_nodes.specs.declared.nodes.Stmt.TheVariants.{Finish as FinishNode, If as IfNode, Repeat as RepeatNode, Try as TryNode}
+use Rattle.rx_nodes.specs.declared.nodes.Stmt.TheVariants.{Forget as ForgetNode, Census as CensusNode, Print as PrintNode}
+use Rattle.rx_nodes.specs.declared.nodes.Stmt.TheVariants.{Throw as ThrowNode, Async as AsyncNode, AtAsync as AtAsyncNode}
+use Rattle.rx_nodes.specs.declared.nodes.Stmt.TheVariants.{At as AtNode, Finish as FinishNode, If as IfNode, Repeat as RepeatNode}
+use Rattle.rx_nodes.specs.declared.nodes.Stmt.TheVariants.{Try as TryNode}
 use Rattle.rx_rules.specs.Code.{Op, Add, Sub, Mul, Less, Equal, Expr, Num, Name, Here, Bin, Block, Nothing, Then, Stmt, SetTo, New}
-use Rattle.rx_rules.specs.Code.{Get, Put, Forget, Print, Throw, Async, AtAsync, At, Finish, If, Repeat, Try}
+use Rattle.rx_rules.specs.Code.{Get, Put, Forget, Census, Print, Throw, Async, AtAsync, At, Finish, If, Repeat, Try}
 
 -- statements, expressions, blocks and names by number, and the block of the whole script
 pub record Shape : Type 0 where
@@ -54,6 +55,7 @@ abbrev mutual
   StmtIs s (GetNode name target index) (Get n t e) = (n ≡ name.0) × (t ≡ target.0) × ExprStands s.exprs index e
   StmtIs s (PutNode target index value) (Put t e f) = (t ≡ target.0) × ExprStands s.exprs index e × ExprStands s.exprs value f
   StmtIs s (ForgetNode target) (Forget t) = t ≡ target.0
+  StmtIs s (CensusNode name) (Census n) = n ≡ name.0
   StmtIs s (PrintNode value) (Print e) = ExprStands s.exprs value e
   StmtIs s (ThrowNode value) (Throw e) = ExprStands s.exprs value e
   StmtIs s (AsyncNode body) (Async b) = (ids : List StmtId) × (slice_get s.blocks body.0 ≡ Some ids) × ListStands s ids b

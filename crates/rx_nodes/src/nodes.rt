@@ -51,6 +51,9 @@ pub enum Stmt {
     Forget {
         target: NameId,
     },
+    Census {
+        name: NameId,
+    },
     Print {
         value: ExprId,
     },

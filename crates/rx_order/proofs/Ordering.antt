@@ -3,7 +3,7 @@ use Rattle.std.proofs.Common.{◌≡◌, ℕ, zero, suc, ◌+◌, ◌<◌, ◌�
 use Rattle.std.specs.Prelude.{Option, Some, None, slice_get, ◌==◌, nat_lt}
 use Rattle.std.proofs.lemmas.Bool.Decides.{nat_tests}
 use Rattle.rx_base.proofs.Elements.{drop-next}
-use Rattle.rx_rules.specs.Code.{Stmt, Block, SetTo, New, Get, Put, Forget, Print, Throw, Async, AtAsync, At, Finish, If, Repeat, Try}
+use Rattle.rx_rules.specs.Code.{Stmt, Block, SetTo, New, Get, Put, Forget, Census, Print, Throw, Async, AtAsync, At, Finish, If, Repeat, Try}
 use Rattle.rx_rules.specs.Order.{is_before, is_before_in, comes_before}
 use Rattle.rx_nodes.specs.Shape.{Shape, BlockStands}
 use Rattle.rx_order.specs.declared.parts.Part.{Part}
@@ -35,6 +35,7 @@ before-is (New n k) x y = refl
 before-is (Get n u i) x y = refl
 before-is (Put u i e) x y = refl
 before-is (Forget u) x y = refl
+before-is (Census n) x y = refl
 before-is (Print e) x y = refl
 before-is (Throw e) x y = refl
 before-is (Async b) [] y = refl

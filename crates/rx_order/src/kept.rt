@@ -87,6 +87,7 @@ fn kept_by(stmt: Stmt) -> Option<bool>
         Stmt::Get { .. } => Some(true),
         Stmt::Put { .. } => Some(true),
         Stmt::Forget { .. } => Some(true),
+        Stmt::Census { .. } => Some(true),
         Stmt::Print { .. } => Some(true),
         Stmt::Throw { .. } => Some(true),
     }

@@ -96,6 +96,7 @@ fn is_ordered(stmt: Stmt) -> bool
         Stmt::Get { .. } => true,
         Stmt::Put { .. } => true,
         Stmt::Forget { .. } => true,
+        Stmt::Census { .. } => true,
         Stmt::Print { .. } => true,
         Stmt::Throw { .. } => true,
     }

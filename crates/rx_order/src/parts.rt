@@ -106,6 +106,7 @@ pub(crate) fn part_of(stmt: Stmt, path: &Path, at: usize) -> Option<Part>
         Stmt::Get { .. } => None,
         Stmt::Put { .. } => None,
         Stmt::Forget { .. } => None,
+        Stmt::Census { .. } => None,
         Stmt::Print { .. } => None,
         Stmt::Throw { .. } => None,
     }

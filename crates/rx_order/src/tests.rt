@@ -154,6 +154,8 @@ fn branches_turns_and_handlers(rt: HostRuntime) -> Result<(), Fail> {
         ),
         (b"at 1 { print 1; } print 2;", &[0], &[0, 0], (false, false)),
         (b"set x = 1; print x;", &[0], &[1], (true, false)),
+        (b"census x; print x;", &[0], &[1], (true, false)),
+        (b"census x;", &[0], &[0, 0], (false, false)),
     ] {
         assert_eq!(rt; answers(rt.alloc(), script, x, y)?, want);
     }

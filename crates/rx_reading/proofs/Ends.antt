@@ -1,25 +1,27 @@
 -- Where loops end.
-use Rattle.std.proofs.Common.{◌≡◌, ℕ, ◌+◌, ◌≤◌, Bool, true, false, ◌&&◌, not, ◌==◌, List, [], ◌∷◌, ◌++◌, length, drop, suc, refl, ap, sym, ◌∙◌, subst, arith, length-append}
+use Rattle.std.proofs.Common.{◌≡◌, ℕ, ◌+◌, ◌≤◌, Bool, true, false, cond, nat_le, ◌&&◌, not, ◌==◌, List, [], ◌∷◌, ◌++◌, length, drop, suc, refl, ap, sym, ◌∙◌, subst, arith, length-append}
 use Rattle.std.specs.Prelude.{Option, Some, None, option_map, slice_get, ℤ, FitsSigned}
 use Rattle.std.specs.Int.{w64}
-use Rattle.std.proofs.lemmas.Bool.{eqb-true, and_parts}
+use Rattle.std.proofs.lemmas.Bool.{eqb-true, and_parts, le-leb}
 use Rattle.std.proofs.lemmas.Option.{same_Some, none-some}
 use Rattle.rx_base.specs.declared.ids.Kill.{Kill}
 use Rattle.rx_text.proofs.Lists.{left-more}
 use Rattle.rx_history.specs.Events.{AllEvents, events_of}
 use Rattle.rx_history.specs.KillOrder.{ComesLast}
+use Rattle.rx_history.specs.JoinOrder.{IsAtLeastLast}
 use Rattle.rx_history.specs.Logs.{Log}
 use Rattle.rx_history.specs.Setups.{given}
 use Rattle.rx_trace.specs.Text.{trace_text}
-use Rattle.rx_reading.specs.Inside.FieldWords.{number_of, number_at}
+use Rattle.rx_reading.specs.Inside.FieldWords.{next, number_below, number_of, number_at}
 use Rattle.rx_history.specs.KillOrder.{is_before}
-use Rattle.rx_reading.specs.Inside.Machine.{ReadingState, may_follow, read_line}
+use Rattle.rx_reading.specs.Inside.Machine.{ReadingState, may_follow, joins_of, is_there, all_there, read_line}
 use Rattle.rx_reading.specs.Reading.{IsBadLine}
 use Rattle.rx_reading.specs.Inside.Stages.{state_of}
-use Rattle.rx_reading.specs.Words.{Lacks}
+use Rattle.rx_reading.specs.Words.{Lacks, first_word}
 use Rattle.rx_reading.specs.declared.stage.Stage.{Stage}
 use Rattle.rx_reading.specs.declared.stage.Stage.TheVariants as stages
 use Rattle.rx_reading.proofs.Figures.{number-takes}
+use Rattle.rx_reading.proofs.Joining.{push-through}
 use Rattle.rx_reading.proofs.Places.{HasRead, IsOpen, ended-more, read-more, read-all, bad-here, bad-end}
 use Rattle.rx_reading.proofs.Plans.{after-is}
 use Rattle.rx_reading.proofs.States.{ended}
@@ -54,6 +56,44 @@ pub comes-last : (ks : List Kill) (kill : Kill) → may_follow ks kill ≡ true 
 comes-last [] kill e = tt
 comes-last (k ∷ []) kill e = after-is k kill (and_parts (is_before k kill) (not (k.place.0 == kill.place.0)) (and_parts (comes k kill) true e).0).0
 comes-last (k ∷ j ∷ ks) kill e = comes-last (j ∷ ks) kill (and_parts (comes k kill) (may_follow (j ∷ ks) kill) e).1
+
+-- one kill more has its place there
+pub there-more : (places : ℕ) (joins : List ℕ) (ks : List Kill) (i : ℕ) (k : Kill) → slice_get ks i ≡ Some k → is_there places joins k ≡ true → all_there places joins (drop i ks) ≡ all_there places joins ks → all_there places joins (drop (i + 1) ks) ≡ all_there places joins ks
+there-more places joins ks i k here holds left = sym (left-more (all_there places joins) ks i k here ∙ ap (λ b. b && all_there places joins (drop (i + 1) ks)) holds) ∙ left
+
+pub there-none : (places : ℕ) (joins : List ℕ) (ks : List Kill) (i : ℕ) (k : Kill) → slice_get ks i ≡ Some k → is_there places joins k ≡ false → all_there places joins (drop i ks) ≡ all_there places joins ks → false ≡ all_there places joins ks
+there-none places joins ks i k here fails left = sym (left-more (all_there places joins) ks i k here ∙ ap (λ b. b && all_there places joins (drop (i + 1) ks)) fails) ∙ left
+
+abbrev worded : List ℕ → List (List ℕ) → List ℕ × List (List ℕ)
+worded w ws = (w, ws)
+
+abbrev consed : ℕ → List ℕ → List ℕ
+consed n ns = n ∷ ns
+
+-- the moments so far and those of what is left are all, and a moment from `low` on is at least the last so far
+abbrev pub JoinsLeft : ℕ → List ℕ → List (List ℕ) → List (List ℕ) → Type 0
+JoinsLeft low joins words all =
+    (option_map (λ es. joins ++ es) (joins_of low words) ≡ joins_of 0 all) × ((e : ℕ) → low ≤ e → IsAtLeastLast joins e)
+
+last-pushed : (es : List ℕ) (m e : ℕ) → m ≤ e → IsAtLeastLast (es ++ m ∷ []) e
+last-pushed [] m e h = h
+last-pushed (x ∷ []) m e h = h
+last-pushed (x ∷ y ∷ es) m e h = last-pushed (y ∷ es) m e h
+
+-- one moment more was read
+pub joins-more : (low : ℕ) (joins more : List ℕ) (words rest all : List (List ℕ)) (w : List ℕ) (m : ℕ) → JoinsLeft low joins words all → Some (worded w rest) ≡ first_word words → number_below 1000001 w ≡ Some m → low ≤ m → more ≡ joins ++ m ∷ [] → JoinsLeft m more rest all
+joins-more low joins more [] rest all w m left first is above grown = absurd (none-some (worded w rest) (sym first))
+joins-more low joins more (v ∷ ws) rest all w m left first is above grown =
+    let e = same_Some (worded w rest) (worded v ws) first in
+    let word : w ≡ v = ap (λ x. x.0) e in
+    let tail : rest ≡ ws = ap (λ x. x.1) e in
+    let read : joins_of low (v ∷ ws) ≡ option_map (consed m) (joins_of m rest) =
+    ap (λ o. next o (λ k. cond (nat_le low k) (option_map (consed k) (joins_of k ws)) None)) (ap (number_below 1000001) (sym word) ∙ is)
+    ∙ ap (λ b. cond b (option_map (consed m) (joins_of m ws)) None) (le-leb low m above)
+    ∙ ap (λ us. option_map (consed m) (joins_of m us)) (sym tail) in (
+      ap (λ xs. option_map (λ es. xs ++ es) (joins_of m rest)) grown ∙ push-through joins m (joins_of m rest) ∙ ap (option_map (λ es. joins ++ es)) (sym read) ∙ left.0,
+      λ n h. subst (λ (xs : List ℕ). IsAtLeastLast xs n) (sym grown) (last-pushed joins m n h),
+    )
 
 -- the lines before the line of this number have been read
 abbrev pub At : List ℕ → ℕ → ReadingState → List ℕ → Type 0
@@ -98,6 +138,7 @@ pub open-unless : (s : Stage) (rest : List ℕ) → ((h : Log) (j : AllEvents) �
 open-unless stages.Untitled rest never U es js is none = cc
 open-unless stages.Titled rest never U es js is none = cc
 open-unless (stages.Sized places heap) rest never U es js is none = cc
+open-unless (stages.Listed places heap kills) rest never U es js is none = cc
 open-unless (stages.Planned setup) rest never U es js is none = cc
 open-unless (stages.Entering history) rest never U es js is none = cc
 open-unless (stages.Logging history journals journal) rest never U es js is none = cc

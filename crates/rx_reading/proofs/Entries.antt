@@ -10,24 +10,25 @@ use Rattle.rx_base.specs.declared.place_set.PlaceSet.{PlaceSet}
 use Rattle.rx_base.specs.declared.values.Fault.{Fault}
 use Rattle.rx_base.proofs.Elements.{flat4}
 use Rattle.rx_rules.specs.declared.entries.Act.{Act}
-use Rattle.rx_rules.specs.declared.entries.Act.TheVariants.{Open, At, Spawn, Arrive, Wait, Release, End, Print}
+use Rattle.rx_rules.specs.declared.entries.Act.TheVariants.{Open, At, Spawn, Arrive, Wait, Release, End, Print, Census}
 use Rattle.rx_rules.specs.declared.entries.Entry.{Entry}
-use Rattle.rx_rules.specs.declared.entries.Entry.TheVariants.{Step, Root, Death}
+use Rattle.rx_rules.specs.declared.entries.Entry.TheVariants.{Step, Root, Death, Join}
 use Rattle.rx_trace.specs.EntryLines.{act_word, act_fields, entry_text}
-use Rattle.rx_trace.specs.Fields.{number_field, path_field, place_field, task_field, scope_field, fault_field}
-use Rattle.rx_trace.specs.Parts.{lost_part, thrown_part, batch_part}
+use Rattle.rx_trace.specs.Fields.{natural_field, number_field, path_field, place_field, task_field, scope_field, fault_field}
+use Rattle.rx_trace.specs.Parts.{lost_part, masked_part, thrown_part, batch_part}
 use Rattle.rx_reading.specs.Limits.{IsShort, FitsPath, FitsFault, FitsAct, FitsEntry}
 use Rattle.rx_reading.specs.Words.{fields}
-use Rattle.rx_reading.specs.Inside.Readers.{Reader, either}
-use Rattle.rx_reading.specs.Inside.FieldWords.{number_below, number_of, place_of, task_spelt, scope_spelt, path_of, fault_of, number_at, place_at, task_at, scope_at, path_at}
-use Rattle.rx_reading.specs.Inside.PartWords.{lost_read, thrown_at, batch_at}
-use Rattle.rx_reading.specs.Inside.EntryWords.{open_at, at_at, spawn_at, arrive_at, wait_at, release_at, end_at, print_at, step_at, root_at, death_at, entry_at}
+use Rattle.rx_reading.specs.Inside.Readers.{Reader, followed, done, either}
+use Rattle.rx_reading.specs.Inside.FieldWords.{number_below, number_of, place_of, task_spelt, scope_spelt, path_of, fault_of, count_of, number_at, place_at, task_at, scope_at, path_at, count_at}
+use Rattle.rx_reading.specs.Inside.PartWords.{lost_read, masked_read, thrown_at, batch_at}
+use Rattle.rx_reading.specs.Inside.EntryWords.{open_at, at_at, spawn_at, arrive_at, wait_at, release_at, end_at, print_at, census_at, step_at, root_at, death_at, join_at, entry_at}
 use Rattle.rx_reading.proofs.Cuts.{Plain, all-map}
 use Rattle.rx_reading.proofs.Faults.{plain-word-is, fault-item, fault-takes}
-use Rattle.rx_reading.proofs.Fields.{place-item, place-takes, task-item, task-takes, scope-item, scope-takes, path-item, path-takes, value-item, value-takes, one-word, word-again}
+use Rattle.rx_reading.proofs.Fields.{place-item, place-takes, task-item, task-takes, scope-item, scope-takes, path-item, path-takes, value-item, value-takes, IsCount, count-item, count-takes, one-word, word-again}
 use Rattle.rx_reading.proofs.Figures.{no-number}
 use Rattle.rx_reading.proofs.Losses.{lost-takes, lost-again}
-use Rattle.rx_reading.proofs.Spelt.{Takes, takes-done, takes-followed, takes-keyed, takes-either, takes-part, Again, Any, again-as, again-done, again-keyed, again-kind, again-there, again-followed, again-field, NotFirst, Item, AfterPart, Starts, AgainPart, again-part, again-last}
+use Rattle.rx_reading.proofs.Masks.{masked-take, Unmasked, masked-again}
+use Rattle.rx_reading.proofs.Spelt.{Takes, takes-done, takes-followed, takes-keyed, takes-either, takes-part, Again, Any, again-as, again-done, again-keyed, again-kind, again-there, again-followed, before-followed, again-field, NotFirst, Item, AfterPart, Starts, AgainPart, again-part, again-last}
 
 abbrev IsScope : ScopeId → Type 0
 IsScope s = IsShort s.0
@@ -78,8 +79,8 @@ flat-at s i r t f o p = simp (append_assoc, append-nil)
 flat-spawn : (t i s f o p : List ℕ) → t ++ (i ++ (s ++ (f ++ (o ++ (p ++ []))))) ≡ (((t ++ i) ++ s) ++ (f ++ o)) ++ p
 flat-spawn t i s f o p = simp (append_assoc, append-nil)
 
-flat-release : (s l t : List ℕ) → s ++ (l ++ (t ++ [])) ≡ s ++ (l ++ t)
-flat-release s l t = simp append-nil
+flat-release : (s l m t : List ℕ) → s ++ (l ++ (m ++ (t ++ []))) ≡ s ++ ((l ++ m) ++ t)
+flat-release s l m t = simp (append_assoc, append-nil)
 
 open-takes : (places : ℕ) → Takes open_at (IsAct places (codes "open"))
 open-takes places =
@@ -127,8 +128,9 @@ release-takes : (places : ℕ) → places ≤ 16 → Takes (release_at places) (
 release-takes places few =
     takes-followed scope_at _ scope_field IsScope (IsAct places (codes "release")) scope-one (λ scope a.
     takes-followed (lost_read places) _ lost_part (λ s. s.0 < 2 ^ places) _ (lost-takes places few) (λ lost b.
-    takes-followed (thrown_at places) _ thrown_part (AllByRecursion (FitsFault places)) _ (thrown-one places) (λ thrown c.
-    takes-done (Release scope lost thrown) _ (flat-release (scope_field scope) (lost_part lost) (thrown_part thrown), ((a, b, c), refl)))))
+    takes-followed masked_read _ masked_part IsShort _ masked-take (λ masked c.
+    takes-followed (thrown_at places) _ thrown_part (AllByRecursion (FitsFault places)) _ (thrown-one places) (λ thrown d.
+    takes-done (Release scope lost masked thrown) _ (flat-release (scope_field scope) (lost_part lost) (masked_part masked) (thrown_part thrown), ((a, b, c, d), refl))))))
 
 end-takes : (places : ℕ) → Takes (end_at places) (IsAct places (codes "end"))
 end-takes places =
@@ -140,6 +142,12 @@ print-takes places =
     takes-followed number_at _ number_field IsValue (IsAct places (codes "print")) value-one (λ value a.
     takes-followed path_at _ path_field FitsPath _ path-one (λ path b.
     takes-done (Print value path) _ (flat2 (number_field value) (path_field path), ((a, b), refl))))
+
+census-takes : (places : ℕ) → Takes census_at (IsAct places (codes "census"))
+census-takes places =
+    takes-followed (count_at 16) _ natural_field (IsCount 16) (IsAct places (codes "census")) (one-word (count_of 16) natural_field (IsCount 16) (count-takes 16)) (λ count a.
+    takes-followed path_at _ path_field FitsPath _ path-one (λ path b.
+    takes-done (Census count path) _ (flat2 (natural_field count) (path_field path), ((a.0, a.1, b), refl))))
 
 -- an entry, by its text after this word
 abbrev IsAfter : ℕ → List ℕ → Entry → List ℕ → Type 0
@@ -157,13 +165,19 @@ root-takes : (places : ℕ) → places ≤ 16 → Takes (root_at places) (λ e t
 root-takes places few =
     takes-keyed (codes "s0") _ (λ e t. IsAfter places (codes "release") e ((32 ∷ codes "host") ++ t)) (
     takes-followed (lost_read places) _ lost_part (λ s. s.0 < 2 ^ places) _ (lost-takes places few) (λ lost a.
-    takes-followed (thrown_at places) _ thrown_part (AllByRecursion (FitsFault places)) _ (thrown-one places) (λ thrown b.
-    takes-done (Root lost thrown) _ (flat-release (codes " release host s0") (lost_part lost) (thrown_part thrown), (a, b)))))
+    takes-followed masked_read _ masked_part IsShort _ masked-take (λ masked b.
+    takes-followed (thrown_at places) _ thrown_part (AllByRecursion (FitsFault places)) _ (thrown-one places) (λ thrown c.
+    takes-done (Root lost masked thrown) _ (flat-release (codes " release host s0") (lost_part lost) (masked_part masked) (thrown_part thrown), (a, b, c))))))
 
 death-takes : (places : ℕ) → Takes (death_at places) (IsAfter places (codes "death"))
 death-takes places =
     takes-followed (place_at places) _ place_field (IsPlace places) (IsAfter places (codes "death")) (place-one places) (λ place a.
     takes-done (Death place) _ (flat2 (codes " death") (place_field place), a))
+
+join-takes : (places : ℕ) → Takes (join_at places) (IsAfter places (codes "join"))
+join-takes places =
+    takes-followed (place_at places) _ place_field (IsPlace places) (IsAfter places (codes "join")) (place-one places) (λ place a.
+    takes-done (Join place) _ (flat2 (codes " join") (place_field place), a))
 
 abbrev pub IsEntry : ℕ → Entry → List ℕ → Type 0
 IsEntry places e t = (t ≡ entry_text e) × FitsEntry places e
@@ -181,7 +195,9 @@ entry-takes places few =
     takes-either (codes "host") _ _ (IsAfter places (codes "release")) (root-takes places few) (step-takes places (codes "release") (release_at places) (release-takes places few))) (
     takes-either (codes "end") _ _ S (step-takes places (codes "end") (end_at places) (end-takes places)) (
     takes-either (codes "print") _ _ S (step-takes places (codes "print") print_at (print-takes places)) (
-    takes-keyed (codes "death") _ S (death-takes places)))))))))
+    takes-either (codes "census") _ _ S (step-takes places (codes "census") census_at (census-takes places)) (
+    takes-either (codes "death") _ _ S (death-takes places) (
+    takes-keyed (codes "join") _ S (join-takes places)))))))))))
 
 -- nothing, or a batch
 abbrev OnlyBatch : List (List ℕ) → Type 0
@@ -203,12 +219,23 @@ only-thrown places (w ∷ ws) o = subst (λ (v : List ℕ). AfterPart (codes "th
 no-place : (places : ℕ) (w : List ℕ) → places ≤ 16 → number_below places w ≡ None → place_of places w ≡ None
 no-place places w few e = ap (option_map (λ n. record { 0 = n })) e
 
--- before places that were lost comes nothing of them
+-- after places that were lost comes nothing of them
 only-lost : (places : ℕ) (front rest : List (List ℕ)) → places ≤ 16 → Starts (codes "thrown") front → OnlyBatch rest → AfterPart (codes "lost") (place_of places) (front ++ rest)
 only-lost places [] [] few s o = tt
 only-lost places [] (w ∷ ws) few s o = subst (λ (v : List ℕ). AfterPart (codes "lost") (place_of places) (v ∷ ws)) (sym o) (refl, no-place places (codes "|") few (no-number places (codes "|") (omega arith) refl))
 only-lost places (w ∷ front) rest few s o =
     subst (λ (v : List ℕ). AfterPart (codes "lost") (place_of places) (v ∷ (front ++ rest))) (sym s) (refl, no-place places (codes "thrown") few (no-number places (codes "thrown") (omega arith) refl))
+
+unmasked : (front rest : List (List ℕ)) → Starts (codes "thrown") front → OnlyBatch rest → Unmasked (front ++ rest)
+unmasked [] [] s o = tt
+unmasked [] (w ∷ ws) s o = subst (λ (v : List ℕ). Unmasked (v ∷ ws)) (sym o) refl
+unmasked (w ∷ front) rest s o = subst (λ (v : List ℕ). Unmasked (v ∷ (front ++ rest))) (sym s) refl
+
+-- the same where a number of masked faults may come between
+then-masked : (places : ℕ) (number front rest : List (List ℕ)) → places ≤ 16 → Starts (codes "masked") number → Starts (codes "thrown") front → OnlyBatch rest → AfterPart (codes "lost") (place_of places) (number ++ (front ++ rest))
+then-masked places [] front rest few m s o = only-lost places front rest few s o
+then-masked places (w ∷ number) front rest few m s o =
+    subst (λ (v : List ℕ). AfterPart (codes "lost") (place_of places) (v ∷ (number ++ (front ++ rest)))) (sym m) (refl, no-place places (codes "masked") few (no-number places (codes "masked") (omega arith) refl))
 
 end-batch : (rest : List (List ℕ)) → IsEnd rest → AfterPart (codes "|") path_of rest
 end-batch [] e = tt
@@ -290,6 +317,13 @@ print-again places value path fits =
     again-field path_at _ path (Print value path) (path_field path) _ Any (path-again path fits.1) (
     again-done (Print value path) Any)))
 
+census-again : (places count : ℕ) (path : List ℕ) → FitsAct places (Census count path) → Again census_at (Census count path) (act_fields (Census count path)) OnlyBatch
+census-again places count path fits =
+    again-as census_at (Census count path) _ _ Any OnlyBatch (flat2 (natural_field count) (path_field path)) (λ rest o. tt) (
+    again-field (count_at 16) _ count (Census count path) (natural_field count) _ Any (word-again (count_of 16) natural_field count (count-item 16 count (omega arith) (fits.0, fits.1))) (
+    again-field path_at _ path (Census count path) (path_field path) _ Any (path-again path fits.2) (
+    again-done (Census count path) Any)))
+
 abbrev waiting : ScopeId → List Fault → Act
 waiting scope thrown = Wait scope thrown
 
@@ -304,15 +338,29 @@ ending thrown = End thrown
 end-again : (places : ℕ) (thrown : List Fault) → places ≤ 16 → FitsAct places (End thrown) → Again (end_at places) (End thrown) (act_fields (End thrown)) OnlyBatch
 end-again places thrown few fits = (again-last (thrown_at places) ending thrown _ _ _ OnlyBatch (only-thrown places) (thrown-again places thrown few fits)).again
 
-abbrev releasing : ScopeId → PlaceSet → List Fault → Act
-releasing scope lost thrown = Release scope lost thrown
+-- what a release names, by whatever is made of it
+parts-again : {A : Type 0} (places : ℕ) (make : PlaceSet → ℕ → List Fault → A) (lost : PlaceSet) (masked : ℕ) (thrown : List Fault) (M : List (List ℕ) → Type 0) → ((rest : List (List ℕ)) → M rest → OnlyBatch rest) → places ≤ 16 → lost.0 < 2 ^ places → IsShort masked → AllByRecursion (FitsFault places) thrown
+    → Again (followed (lost_read places) (λ l. followed masked_read (λ k. followed (thrown_at places) (λ t. done (make l k t))))) (make lost masked thrown) (lost_part lost ++ (masked_part masked ++ thrown_part thrown)) M
+parts-again {A} places make lost masked thrown M only few low short fits =
+    let a : A = make lost masked thrown in
+    let last = again-last (thrown_at places) (make lost masked) thrown _ _ _ M (λ rest m. only-thrown places rest (only rest m)) (thrown-again places thrown few fits) in
+    let number = masked-again masked short in
+    let more = before-followed masked_read (λ k. followed (thrown_at places) (λ t. done (make lost k t))) masked a (masked_part masked) (thrown_part thrown) (AfterPart (codes "lost") (place_of places)) Unmasked M number.again last.again
+    (λ rest m. unmasked last.again.front rest last.starts (only rest m))
+    (λ rest m. then-masked places number.again.front last.again.front rest few number.starts last.starts (only rest m)) in
+    again-followed (lost_read places) _ lost a (lost_part lost) _ _ M (lost-again places lost few low) more.again more.before
 
-release-again : (places : ℕ) (scope : ScopeId) (lost : PlaceSet) (thrown : List Fault) → places ≤ 16 → FitsAct places (Release scope lost thrown) → Again (release_at places) (Release scope lost thrown) (act_fields (Release scope lost thrown)) OnlyBatch
-release-again places scope lost thrown few fits =
-    let last = again-last (thrown_at places) (releasing scope lost) thrown _ _ _ OnlyBatch (only-thrown places) (thrown-again places thrown few fits.2) in
-    again-field scope_at _ scope (Release scope lost thrown) (scope_field scope) (lost_part lost ++ thrown_part thrown) OnlyBatch (scope-again scope fits.0) (
-    again-followed (lost_read places) _ lost (Release scope lost thrown) (lost_part lost) (thrown_part thrown) _ OnlyBatch (lost-again places lost few fits.1) last.again
-    (λ rest o. only-lost places last.again.front rest few last.starts o))
+flat-parts : (s l m t : List ℕ) → s ++ (l ++ (m ++ t)) ≡ s ++ ((l ++ m) ++ t)
+flat-parts s l m t = simp append_assoc
+
+abbrev releasing : ScopeId → PlaceSet → ℕ → List Fault → Act
+releasing scope lost masked thrown = Release scope lost masked thrown
+
+release-again : (places : ℕ) (scope : ScopeId) (lost : PlaceSet) (masked : ℕ) (thrown : List Fault) → places ≤ 16 → FitsAct places (Release scope lost masked thrown) → Again (release_at places) (Release scope lost masked thrown) (act_fields (Release scope lost masked thrown)) OnlyBatch
+release-again places scope lost masked thrown few fits =
+    again-as (release_at places) (Release scope lost masked thrown) _ _ OnlyBatch OnlyBatch (flat-parts (scope_field scope) (lost_part lost) (masked_part masked) (thrown_part thrown)) (λ rest o. o) (
+    again-field scope_at _ scope (Release scope lost masked thrown) (scope_field scope) _ OnlyBatch (scope-again scope fits.0)
+    (parts-again places (releasing scope) lost masked thrown OnlyBatch (λ rest o. o) few fits.1 fits.2 fits.3))
 
 abbrev stepped : TaskId → Act → List (List ℕ) → Entry
 stepped task act batch = Step task act batch
@@ -338,15 +386,19 @@ not-host ((b ∷ bs) ∷ ws) x e =
     second : (a b c d : ℕ) (x y : List ℕ) → a ∷ b ∷ x ≡ c ∷ d ∷ y → b ≡ d
     second a b c d x y e = cc
 
-abbrev rooted : PlaceSet → List Fault → Entry
-rooted lost thrown = Root lost thrown
+abbrev rooted : PlaceSet → ℕ → List Fault → Entry
+rooted lost masked thrown = Root lost masked thrown
 
-root-again : (places : ℕ) (lost : PlaceSet) (thrown : List Fault) → places ≤ 16 → FitsEntry places (Root lost thrown) → Again (root_at places) (Root lost thrown) (codes " s0" ++ (lost_part lost ++ thrown_part thrown)) IsEnd
-root-again places lost thrown few fits =
-    let last = again-last (thrown_at places) (rooted lost) thrown _ _ _ IsEnd (λ rest e. only-thrown places rest (end-only rest e)) (thrown-again places thrown few fits.1) in
-    again-keyed (codes "s0") _ (Root lost thrown) (lost_part lost ++ thrown_part thrown) IsEnd (plain-word-is (codes "s0") refl) (
-    again-followed (lost_read places) _ lost (Root lost thrown) (lost_part lost) (thrown_part thrown) _ IsEnd (lost-again places lost few fits.0) last.again
-    (λ rest e. only-lost places last.again.front rest few last.starts (end-only rest e)))
+root-again : (places : ℕ) (lost : PlaceSet) (masked : ℕ) (thrown : List Fault) → places ≤ 16 → FitsEntry places (Root lost masked thrown) → Again (root_at places) (Root lost masked thrown) (codes " s0" ++ (lost_part lost ++ (masked_part masked ++ thrown_part thrown))) IsEnd
+root-again places lost masked thrown few fits =
+    again-keyed (codes "s0") _ (Root lost masked thrown) _ IsEnd (plain-word-is (codes "s0") refl)
+    (parts-again places rooted lost masked thrown IsEnd end-only few fits.0 fits.1 fits.2)
+
+join-again : (places : ℕ) (place : PlaceId) → places ≤ 16 → place.0 < places → Again (join_at places) (Join place) (place_field place) IsEnd
+join-again places place few fits =
+    again-as (join_at places) (Join place) _ _ Any IsEnd (append-nil (place_field place)) (λ rest e. tt) (
+    again-field (place_at places) _ place (Join place) (place_field place) _ Any (place-once places place few fits) (
+    again-done (Join place) Any))
 
 death-again : (places : ℕ) (place : PlaceId) → places ≤ 16 → place.0 < places → Again (death_at places) (Death place) (place_field place) IsEnd
 death-again places place few fits =
@@ -361,10 +413,10 @@ stepped-again places key act_at task act batch is plain picks fits h =
     (flat-step (32 ∷ key) (task_field task) (act_fields act) (batch_part batch) ∙ ap (λ w. ((w ++ task_field task) ++ act_fields act) ++ batch_part batch) is) (λ rest e. e)
     (again-kind (entry_at places) (step_at act_at) key (Step task act batch) _ IsEnd picks plain (step-again places act_at task act batch fits.0 fits.2 h))
 
-release-step : (places : ℕ) (task : TaskId) (scope : ScopeId) (lost : PlaceSet) (thrown : List Fault) (batch : List (List ℕ)) → places ≤ 16 → FitsEntry places (Step task (Release scope lost thrown) batch) → Again (entry_at places) (Step task (Release scope lost thrown) batch) (entry_text (Step task (Release scope lost thrown) batch)) IsEnd
-release-step places task scope lost thrown batch few fits =
-    let act : Act = Release scope lost thrown in
-    let h = step-again places (release_at places) task act batch fits.0 fits.2 (release-again places scope lost thrown few fits.1) in
+release-step : (places : ℕ) (task : TaskId) (scope : ScopeId) (lost : PlaceSet) (masked : ℕ) (thrown : List Fault) (batch : List (List ℕ)) → places ≤ 16 → FitsEntry places (Step task (Release scope lost masked thrown) batch) → Again (entry_at places) (Step task (Release scope lost masked thrown) batch) (entry_text (Step task (Release scope lost masked thrown) batch)) IsEnd
+release-step places task scope lost masked thrown batch few fits =
+    let act : Act = Release scope lost masked thrown in
+    let h = step-again places (release_at places) task act batch fits.0 fits.2 (release-again places scope lost masked thrown few fits.1) in
     again-as (entry_at places) (Step task act batch) _ _ IsEnd IsEnd (flat-step (codes " release") (task_field task) (act_fields act) (batch_part batch)) (λ rest e. e)
     (again-kind (entry_at places) (either (codes "host") (root_at places) (step_at (release_at places))) (codes "release") (Step task act batch) _ IsEnd (λ ws. refl) (plain-word-is (codes "release") refl)
     (again-there (codes "host") (root_at places) (step_at (release_at places)) (Step task act batch) _ IsEnd h (not-host h.front _ h.spelled)))
@@ -376,12 +428,17 @@ entry-again places (Step task (At scope parent callee from to path) batch) few f
 entry-again places (Step task (Spawn child scope from to path) batch) few fits = stepped-again places (codes "spawn") (spawn_at places) task (Spawn child scope from to path) batch refl (plain-word-is (codes "spawn") refl) (λ ws. refl) fits (spawn-again places child scope from to path few fits.1)
 entry-again places (Step task (Arrive place) batch) few fits = stepped-again places (codes "arrive") (arrive_at places) task (Arrive place) batch refl (plain-word-is (codes "arrive") refl) (λ ws. refl) fits (arrive-again places place few fits.1)
 entry-again places (Step task (Wait scope thrown) batch) few fits = stepped-again places (codes "wait") (wait_at places) task (Wait scope thrown) batch refl (plain-word-is (codes "wait") refl) (λ ws. refl) fits (wait-again places scope thrown few fits.1)
-entry-again places (Step task (Release scope lost thrown) batch) few fits = release-step places task scope lost thrown batch few fits
+entry-again places (Step task (Release scope lost masked thrown) batch) few fits = release-step places task scope lost masked thrown batch few fits
 entry-again places (Step task (End thrown) batch) few fits = stepped-again places (codes "end") (end_at places) task (End thrown) batch refl (plain-word-is (codes "end") refl) (λ ws. refl) fits (end-again places thrown few fits.1)
 entry-again places (Step task (Print value path) batch) few fits = stepped-again places (codes "print") print_at task (Print value path) batch refl (plain-word-is (codes "print") refl) (λ ws. refl) fits (print-again places value path fits.1)
-entry-again places (Root lost thrown) few fits =
-    again-kind (entry_at places) (either (codes "host") (root_at places) (step_at (release_at places))) (codes "release") (Root lost thrown) _ IsEnd (λ ws. refl) (plain-word-is (codes "release") refl)
-    (again-kind (either (codes "host") (root_at places) (step_at (release_at places))) (root_at places) (codes "host") (Root lost thrown) _ IsEnd (λ ws. refl) (plain-word-is (codes "host") refl)
-    (root-again places lost thrown few fits))
+entry-again places (Step task (Census count path) batch) few fits = stepped-again places (codes "census") census_at task (Census count path) batch refl (plain-word-is (codes "census") refl) (λ ws. refl) fits (census-again places count path fits.1)
+entry-again places (Root lost masked thrown) few fits =
+    let root : Entry = Root lost masked thrown in
+    again-as (entry_at places) root _ _ IsEnd IsEnd (flat-parts (codes " release host s0") (lost_part lost) (masked_part masked) (thrown_part thrown)) (λ rest e. e)
+    (again-kind (entry_at places) (either (codes "host") (root_at places) (step_at (release_at places))) (codes "release") root _ IsEnd (λ ws. refl) (plain-word-is (codes "release") refl)
+    (again-kind (either (codes "host") (root_at places) (step_at (release_at places))) (root_at places) (codes "host") root _ IsEnd (λ ws. refl) (plain-word-is (codes "host") refl)
+    (root-again places lost masked thrown few fits)))
 entry-again places (Death place) few fits =
     again-kind (entry_at places) (death_at places) (codes "death") (Death place) (place_field place) IsEnd (λ ws. refl) (plain-word-is (codes "death") refl) (death-again places place few fits)
+entry-again places (Join place) few fits =
+    again-kind (entry_at places) (join_at places) (codes "join") (Join place) (place_field place) IsEnd (λ ws. refl) (plain-word-is (codes "join") refl) (join-again places place few fits)

@@ -1,9 +1,9 @@
 -- The fields of a line, each of one word.
-use Rattle.std.proofs.Common.{◌≡◌, ℕ, ◌<◌, ◌≤◌, ◌^◌, Bool, true, false, cond, nat_le, List, [], ◌∷◌, ◌++◌, length, refl, ap, sym, ◌∙◌, subst, arith, append-nil, append_assoc}
-use Rattle.std.specs.Prelude.{◌≢◌, nat_lt, IfSome, Option, Some, None, option_map, codes, ℤ, FitsSigned}
+use Rattle.std.proofs.Common.{◌≡◌, ℕ, ◌<◌, ◌≤◌, ◌^◌, Bool, true, false, cond, nat_le, List, [], ◌∷◌, ◌++◌, length, refl, ap, sym, ◌∙◌, subst, arith, append_assoc}
+use Rattle.std.specs.Prelude.{◌≢◌, ◌+◌, ◌==◌, IfSome, Option, Some, None, option_map, codes, ℤ, FitsSigned}
 use Rattle.std.specs.Int.{w64}
 use Rattle.std.specs.List.{AllByRecursion, flat_map}
-use Rattle.std.proofs.lemmas.Bool.{eqb-false, le-leb}
+use Rattle.std.proofs.lemmas.Bool.{eqb-false, eq-eqb, ne_eqb, le-leb}
 use Rattle.std.proofs.lemmas.Bool.Decides.{nat_tests}
 use Rattle.std.proofs.lemmas.Option.{same_Some, none-some}
 use Rattle.rx_base.specs.declared.ids.PlaceId.{PlaceId}
@@ -18,8 +18,8 @@ use Rattle.rx_reading.specs.Words.{Lacks, pieces, stripped}
 use Rattle.rx_reading.specs.Inside.Readers.{word}
 use Rattle.rx_kills.specs.Words.{IsKillWord}
 use Rattle.rx_kills.proofs.Spelling.{spelling}
-use Rattle.rx_reading.specs.Inside.FieldWords.{next, number_below, number_of, natural_of, place_of, task_spelt, scope_spelt, naturals_of, path_of, kill_of}
-use Rattle.rx_reading.proofs.Cuts.{IsPlain, Plain, Together, marked, all-append, all-map, pieces-cut, pieces-one, pieces-marked, pieces-together, stripped-is, stripped-again}
+use Rattle.rx_reading.specs.Inside.FieldWords.{next, number_below, number_of, natural_of, place_of, task_spelt, scope_spelt, naturals_of, path_of, kill_of, above_zero, count_of, masked_of}
+use Rattle.rx_reading.proofs.Cuts.{IsPlain, Plain, Together, marked, all-append, all-map, pieces-marked, pieces-together, stripped-is, stripped-again}
 use Rattle.rx_reading.proofs.Figures.{IsFigure, below-takes, below-again, number-takes, number-again, number-plain, natural-plain, natural-figures}
 use Rattle.rx_reading.proofs.Spelt.{Takes, takes-word, Again, Any, again-word, again-as, Item}
 
@@ -200,35 +200,90 @@ sign-text front back = sym (append_assoc front (codes "@") back)
 kill-text : (kill : Kill) → 32 ∷ (natural_text kill.place.0 ++ 64 ∷ natural_text kill.moment) ≡ kill_field kill
 kill-text kill = sign-text (natural_field kill.place.0) (natural_text kill.moment)
 
-abbrev pub IsKill : ℕ → Kill → Type 0
-IsKill places kill = (kill.place.0 < places) × (kill.moment ≤ 1000000)
+abbrev pub IsKill : Kill → Type 0
+IsKill kill = (kill.place.0 < 16) × (kill.moment ≤ 1000000)
 
-pub kill-takes : (places : ℕ) (w : List ℕ) (kill : Kill) → kill_of places w ≡ Some kill → (32 ∷ w ≡ kill_field kill) × IsKill places kill
-kill-takes places w kill e = by (spelling w).kill (spelling w).spelled e
+pub kill-takes : (w : List ℕ) (kill : Kill) → kill_of w ≡ Some kill → (32 ∷ w ≡ kill_field kill) × IsKill kill
+kill-takes w kill e = by (spelling w).kill (spelling w).spelled e
   where
-    low : (k : Kill) → IsKillWord w k → (b : Bool) → nat_lt k.place.0 places ≡ b → cond b (Some k) None ≡ Some kill → (32 ∷ w ≡ kill_field kill) × IsKill places kill
-    low k s false h f = absurd (none-some kill f)
-    low k s true h f =
-        subst (λ (j : Kill). (32 ∷ w ≡ kill_field j) × IsKill places j) (same_Some k kill f)
-        (ap (λ v. 32 ∷ v) s.spelled ∙ kill-text k, (let p : k.place.0 < places = grind (arith, nat_tests) in p, s.moment))
-
-    by : (o : Option Kill) → IfSome o (IsKillWord w) → next o (λ k. cond (nat_lt k.place.0 places) (Some k) None) ≡ Some kill → (32 ∷ w ≡ kill_field kill) × IsKill places kill
+    by : (o : Option Kill) → IfSome o (IsKillWord w) → o ≡ Some kill → (32 ∷ w ≡ kill_field kill) × IsKill kill
     by None s f = absurd (none-some kill f)
-    by (Some k) s f = low k s (nat_lt k.place.0 places) refl f
+    by (Some k) s f =
+        subst (λ (j : Kill). (32 ∷ w ≡ kill_field j) × IsKill j) (same_Some k kill f)
+        (ap (λ v. 32 ∷ v) s.spelled ∙ kill-text k, (s.place, s.moment))
 
-pub kill-item : (places : ℕ) (kill : Kill) → places ≤ 16 → IsKill places kill → Item (kill_of places) kill_field kill
-kill-item places kill few fits =
-    let place : kill.place.0 < places = fits.0 in
+pub kill-item : (kill : Kill) → IsKill kill → Item kill_of kill_field kill
+kill-item kill fits =
+    let place : kill.place.0 < 16 = fits.0 in
     let moment : kill.moment ≤ 1000000 = fits.1 in
     let text = natural_text kill.place.0 ++ 64 ∷ natural_text kill.moment in
-    let is : IsKillWord text kill = record { place = omega (arith, place, few); moment = moment; spelled = refl } in
-    let below : nat_lt kill.place.0 places ≡ true = grind (arith, nat_tests) in
+    let is : IsKillWord text kill = record { place = place; moment = moment; spelled = refl } in
     record {
       text = text;
       spelled = kill-text kill;
       plain = all-append IsPlain (natural_text kill.place.0) (64 ∷ natural_text kill.moment) (natural-plain kill.place.0 (omega arith)) ((eqb-false 64 32 refl, eqb-false 64 10 refl), natural-plain kill.moment (omega arith));
-      reads = ap (λ o. next o (λ k. cond (nat_lt k.place.0 places) (Some k) None)) ((spelling text).exact kill is) ∙ ap (λ b. cond b (Some kill) None) below;
+      reads = (spelling text).exact kill is;
     }
+
+-- a word that is read as this kill
+pub kill-is : (w : List ℕ) (o : Option Kill) → IfSome o (IsKillWord w) → ((k : Kill) → IsKillWord w k → o ≡ Some k) → o ≡ kill_of w
+kill-is w o spelled exact = by (spelling w).kill (spelling w).spelled o spelled exact (spelling w).exact
+  where
+    by : (r : Option Kill) → IfSome r (IsKillWord w) → (o : Option Kill) → IfSome o (IsKillWord w) → ((k : Kill) → IsKillWord w k → o ≡ Some k) → ((k : Kill) → IsKillWord w k → r ≡ Some k) → o ≡ r
+    by (Some k) is o spelled exact all = exact k is
+    by None is None spelled exact all = refl
+    by None is (Some k) spelled exact all = absurd (none-some k (all k spelled))
+
+-- numbers that are not 0
+above-zero : (k n : ℕ) → above_zero k ≡ Some n → (k ≡ n) × (1 ≤ n)
+above-zero k n e = by (k == 0) refl e
+  where
+    by : (b : Bool) → (k == 0) ≡ b → cond b None (Some k) ≡ Some n → (k ≡ n) × (1 ≤ n)
+    by true h f = absurd (none-some n f)
+    by false h f =
+        let apart : k ≢ 0 = λ z. (let t : (k == 0) ≡ true = eq-eqb k 0 z in cc) in
+        let some : 1 ≤ k = omega (arith, apart) in
+        (same_Some k n f, subst (λ m. 1 ≤ m) (same_Some k n f) some)
+
+zero-above : (n : ℕ) → 1 ≤ n → above_zero n ≡ Some n
+zero-above n some = let apart : n ≢ 0 = λ z. omega arith in ap (λ b. cond b None (Some n)) (ne_eqb n 0 apart)
+
+-- a number from 1 to a limit
+abbrev pub IsCount : ℕ → ℕ → Type 0
+IsCount most n = (1 ≤ n) × (n ≤ most)
+
+pub count-takes : (most : ℕ) (w : List ℕ) (n : ℕ) → count_of most w ≡ Some n → (32 ∷ w ≡ natural_field n) × IsCount most n
+count-takes most w n e =
+    let two = next-is (number_below (most + 1) w) above_zero n e in
+    let is = below-takes (most + 1) w two.first two.was in
+    let low : two.first < most + 1 = is.1 in
+    let above = above-zero two.first n two.then_was in
+    let same : two.first ≡ n = above.0 in
+    (ap (λ t. 32 ∷ t) is.0 ∙ ap natural_field same, (above.1, omega arith))
+
+pub count-item : (most n : ℕ) → most ≤ 4096 → IsCount most n → Item (count_of most) natural_field n
+count-item most n few fits =
+    let some : 1 ≤ n = fits.0 in
+    let low : n ≤ most = fits.1 in
+    record {
+      text = natural_text n;
+      spelled = refl;
+      plain = natural-plain n (omega arith);
+      reads = ap (λ o. next o above_zero) (below-again (most + 1) n (omega arith) (omega arith)) ∙ zero-above n some;
+    }
+
+-- a number of masked faults
+pub masked-takes : (w : List ℕ) (n : ℕ) → masked_of w ≡ Some n → (32 ∷ w ≡ natural_field n) × IsShort n × (1 ≤ n)
+masked-takes w n e =
+    let two = next-is (natural_of w) above_zero n e in
+    let is = natural-takes w two.first two.was in
+    let above = above-zero two.first n two.then_was in
+    (is.0 ∙ ap natural_field above.0, subst IsShort above.0 is.1, above.1)
+
+pub masked-item : (n : ℕ) → IsShort n → 1 ≤ n → Item masked_of natural_field n
+masked-item n short some =
+    let one = natural-item n short in
+    record { text = one.text; spelled = one.spelled; plain = one.plain; reads = ap (λ o. next o above_zero) one.reads ∙ zero-above n some }
 
 -- the readers of one word
 pub one-word : {A : Type 0} (of : List ℕ → Option A) (spell : A → List ℕ) (P : A → Type 0) → ((w : List ℕ) (a : A) → of w ≡ Some a → (32 ∷ w ≡ spell a) × P a) → Takes (word of) (λ a t. (t ≡ spell a) × P a)

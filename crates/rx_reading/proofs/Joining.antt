@@ -15,7 +15,7 @@ Left pre rest word = option_map (λ ns. pre ++ ns) (naturals_of (pieces 46 rest)
 front-read : (rest front tail : List ℕ) → rest ≡ front ++ 46 ∷ tail → Lacks 46 front → naturals_of (pieces 46 rest) ≡ next (natural_of front) (λ n. option_map (consed n) (naturals_of (pieces 46 tail)))
 front-read rest front tail is lacks = ap (λ r. naturals_of (pieces 46 r)) is ∙ ap naturals_of (pieces-cut 46 front tail lacks)
 
-push-through : (pre : List ℕ) (n : ℕ) (o : Option (List ℕ)) → option_map (λ ns. (pre ++ n ∷ []) ++ ns) o ≡ option_map (λ ns. pre ++ ns) (option_map (consed n) o)
+pub push-through : (pre : List ℕ) (n : ℕ) (o : Option (List ℕ)) → option_map (λ ns. (pre ++ n ∷ []) ++ ns) o ≡ option_map (λ ns. pre ++ ns) (option_map (consed n) o)
 push-through pre n None = refl
 push-through pre n (Some ns) = ap Some (append_assoc pre (n ∷ []) ns)
 

@@ -4,10 +4,12 @@ pub mod Figures
 pub mod Fields
 pub mod Faults
 pub mod Losses
+pub mod Masks
 pub mod Entries
 pub mod Events
 pub mod Wholes
 pub mod Plans
+pub mod Joins
 pub mod States
 pub mod Places
 pub mod Taken

@@ -10,19 +10,20 @@ use Rattle.rx_base.specs.declared.ids.Kill.{Kill}
 use Rattle.rx_base.proofs.Elements.{tails-are, same-bytes}
 use Rattle.rx_rules.specs.declared.entries.Entry.{Entry}
 use Rattle.rx_rules.specs.declared.events.PlaceEvent.{PlaceEvent}
-use Rattle.rx_rules.specs.Run.{Given}
+use Rattle.rx_rules.specs.Run.{Given, in_all}
 use Rattle.rx_text.specs.Numbers.{natural_text}
 use Rattle.rx_text.proofs.Digits.{digit-first, digits-all, some-decimal}
 use Rattle.rx_trace.specs.EntryLines.{entry_text}
 use Rattle.rx_trace.specs.EventLines.{event_text}
-use Rattle.rx_trace.specs.Fields.{kill_field}
+use Rattle.rx_trace.specs.Fields.{natural_field, kill_field}
 use Rattle.rx_trace.specs.Text.{trace_text}
 use Rattle.rx_reading.specs.Limits.{FitsEntry, FitsEvent, FitJournals, FitsSetup, IsWithin}
-use Rattle.rx_reading.specs.Inside.Machine.{ReadingState, Untitled, Titled, Sized, Planned, Entering, Logging, Over, begins_journal, entry_of, event_line_of, state_with_sizes, read_line}
+use Rattle.rx_reading.specs.Inside.Machine.{ReadingState, Untitled, Titled, Sized, Listed, Planned, Entering, Logging, Over, begins_journal, entry_of, event_line_of, state_with_sizes, read_line}
 use Rattle.rx_reading.specs.Reading.{IsText, BeginsText, IsLine, AreLines, IsBadLine, TextsTellThePair, TextsHaveNoBadLine}
 use Rattle.rx_reading.specs.Words.{Lacks}
 use Rattle.rx_reading.proofs.Cuts.{IsPlain, bytes-same, all-append, all-map}
 use Rattle.rx_reading.proofs.Plans.{sizes_text, sizes-again, kills-line-again}
+use Rattle.rx_reading.proofs.Joins.{joins-line-again, are-kills, in-turn, are-there, at_once, once-many, once-rising, once-early, once-there}
 use Rattle.rx_reading.proofs.States.{state_text, SoFar, FitEntries, ended, stepped, over-is-text, journals-fit-end}
 use Rattle.rx_reading.proofs.Wholes.{LineAgain, entry-line-again, event-line-again, number-plain-all}
 
@@ -89,7 +90,7 @@ r-untitled : Reached Untitled
 r-untitled = record { lines = []; spelled = refl; lacks = tt; runs = refl }
 
 r-titled : Reached Titled
-r-titled = reached-more Untitled (codes "rx10 trace 1") Titled tt r-untitled (fixed (codes "rx10 trace 1") Titled None (lacks-is (codes "rx10 trace 1") refl))
+r-titled = reached-more Untitled (codes "rx10 trace 2") Titled tt r-untitled (fixed (codes "rx10 trace 2") Titled None (lacks-is (codes "rx10 trace 2") refl))
 
 sized-again : (places heap : ℕ) → SoFar (Sized places heap) → LineAgain (read_line Titled (sizes_text places heap)) (Sized places heap) (sizes_text places heap)
 sized-again places heap so = let h = sizes-again places heap so.0 so.1 in record { reads = ap state_with_sizes h.reads; lacks = h.lacks }
@@ -97,19 +98,37 @@ sized-again places heap so = let h = sizes-again places heap so.0 so.1 in record
 r-sized : (places heap : ℕ) → SoFar (Sized places heap) → Reached (Sized places heap)
 r-sized places heap so = reached-more Titled (sizes_text places heap) (Sized places heap) tt r-titled (sized-again places heap so)
 
-abbrev given_of : ℕ → ℕ → List Kill → Given
-given_of places heap kills = record { places = places; heap = heap; kills = kills }
+abbrev given_of : ℕ → ℕ → List Kill → List ℕ → Given
+given_of places heap kills joins = record { places = places; heap = heap; kills = kills; joins = joins }
 
-planned-again : (U : Given) → FitsSetup U → LineAgain (read_line (Sized U.places U.heap) (codes "kills" ++ flat_map kill_field U.kills)) (Planned U) (codes "kills" ++ flat_map kill_field U.kills)
+abbrev kills_text : List Kill → List ℕ
+kills_text kills = codes "kills" ++ flat_map kill_field kills
+
+abbrev joins_text : List ℕ → List ℕ
+joins_text joins = codes "joins" ++ flat_map natural_field joins
+
+listed-again : (places heap : ℕ) (kills : List Kill) → SoFar (Listed places heap kills) → LineAgain (read_line (Sized places heap) (kills_text kills)) (Listed places heap kills) (kills_text kills)
+listed-again places heap kills so =
+    let h = kills-line-again kills so.2 so.3 in
+    record { reads = ap (option_map (λ ks. Listed places heap ks)) h.reads; lacks = h.lacks }
+
+r-listed : (places heap : ℕ) (kills : List Kill) → SoFar (Listed places heap kills) → Reached (Listed places heap kills)
+r-listed places heap kills so =
+    reached-more (Sized places heap) (kills_text kills) (Listed places heap kills) (so.0, so.1) (r-sized places heap (so.0, so.1)) (listed-again places heap kills so)
+
+planned-again : (U : Given) → FitsSetup U → LineAgain (read_line (Listed U.places U.heap U.kills) (joins_text U.joins)) (Planned U) (joins_text U.joins)
 planned-again U so =
-    let h = kills-line-again U.places U.kills so.0.few so.0.kills so.1 in
-    record { reads = ap (option_map (λ kills. Planned (given_of U.places U.heap kills))) h.reads; lacks = h.lacks }
+    let h = joins-line-again U.places U.kills U.joins so.0.joins so.2 so.0.few (are-there U U.kills so.0.kills) in
+    record { reads = ap (option_map (λ joins. Planned (given_of U.places U.heap U.kills joins))) h.reads; lacks = h.lacks }
 
-sizes-of : (U : Given) → FitsSetup U → SoFar (Sized U.places U.heap)
-sizes-of U so = ((so.0.some, so.0.few), (so.0.words, so.0.small))
+kills-of : (U : Given) → FitsSetup U → SoFar (Listed U.places U.heap U.kills)
+kills-of U so =
+    let all : in_all U ≤ 16 = so.0.few in
+    let few : U.places ≤ 16 = omega arith in
+    ((so.0.some, few), (so.0.words, so.0.small), in-turn U U.kills all so.0.kills, so.1)
 
 r-planned : (U : Given) → FitsSetup U → Reached (Planned U)
-r-planned U so = reached-more (Sized U.places U.heap) (codes "kills" ++ flat_map kill_field U.kills) (Planned U) (sizes-of U so) (r-sized U.places U.heap (sizes-of U so)) (planned-again U so)
+r-planned U so = reached-more (Listed U.places U.heap U.kills) (joins_text U.joins) (Planned U) (kills-of U so) (r-listed U.places U.heap U.kills (kills-of U so)) (planned-again U so)
 
 r-begun : (U : Given) → FitsSetup U → Reached (Entering U [])
 r-begun U so = reached-more (Planned U) (codes "history") (Entering U []) so (r-planned U so) (fixed (codes "history") (Entering U []) None (lacks-is (codes "history") refl))
@@ -132,17 +151,17 @@ not-done : (n : ℕ) (rest : List ℕ) → bytes_eq (natural_text n ++ rest) (co
 not-done n rest = digit-apart (natural_text n ++ rest) (codes "done") (numbered n rest) refl
 
 -- the lines of entries
-entered-again : (U : Given) (es : List Entry) (e : Entry) → FitsSetup U → length es < 2 ^ 32 → FitsEntry U.places e → LineAgain (read_line (Entering U es) (natural_text (length es) ++ entry_text e)) (Entering U (es ++ e ∷ [])) (natural_text (length es) ++ entry_text e)
+entered-again : (U : Given) (es : List Entry) (e : Entry) → FitsSetup U → length es < 2 ^ 32 → FitsEntry (in_all U) e → LineAgain (read_line (Entering U es) (natural_text (length es) ++ entry_text e)) (Entering U (es ++ e ∷ [])) (natural_text (length es) ++ entry_text e)
 entered-again U es e so low fits =
     let line = natural_text (length es) ++ entry_text e in
-    let h = entry-line-again U.places (length es) e so.0.few low fits in
+    let h = entry-line-again (in_all U) (length es) e so.0.few low fits in
     record {
-      reads = ap (λ b. cond b (Some (Logging U es [] [])) (option_map (λ x. Entering U (es ++ x ∷ [])) (entry_of U.places (length es) line))) (no-journal 0 (length es) (entry_text e))
+      reads = ap (λ b. cond b (Some (Logging U es [] [])) (option_map (λ x. Entering U (es ++ x ∷ [])) (entry_of (in_all U) (length es) line))) (no-journal 0 (length es) (entry_text e))
           ∙ ap (option_map (λ x. Entering U (es ++ x ∷ []))) h.reads;
       lacks = h.lacks;
     }
 
-r-entering : (U : Given) (pre es : List Entry) → FitsSetup U → length (pre ++ es) ≤ 2 ^ 32 → AllByRecursion (FitsEntry U.places) pre → AllByRecursion (FitsEntry U.places) es → Reached (Entering U pre) → Reached (Entering U (pre ++ es))
+r-entering : (U : Given) (pre es : List Entry) → FitsSetup U → length (pre ++ es) ≤ 2 ^ 32 → AllByRecursion (FitsEntry (in_all U)) pre → AllByRecursion (FitsEntry (in_all U)) es → Reached (Entering U pre) → Reached (Entering U (pre ++ es))
 r-entering U pre [] so long fit fits r = subst (λ xs. Reached (Entering U xs)) (sym (append-nil pre)) r
 r-entering U pre (e ∷ es) so long fit fits r =
     let more : length pre + length (e ∷ es) ≤ 2 ^ 32 = subst (λ n. n ≤ 2 ^ 32) (length-append pre (e ∷ es)) long in
@@ -150,13 +169,13 @@ r-entering U pre (e ∷ es) so long fit fits r =
     let next = reached-more (Entering U pre) (natural_text (length pre) ++ entry_text e) (Entering U (pre ++ e ∷ [])) (so, (let some : length pre ≤ 2 ^ 32 = omega arith in some), fit) r (entered-again U pre e so low fits.0) in
     let same = append_assoc pre (e ∷ []) es in
     subst (λ xs. Reached (Entering U xs)) same
-    (r-entering U (pre ++ e ∷ []) es so (subst (λ xs. length xs ≤ 2 ^ 32) (sym same) long) (all-append (FitsEntry U.places) pre (e ∷ []) fit (fits.0, tt)) fits.1 next)
+    (r-entering U (pre ++ e ∷ []) es so (subst (λ xs. length xs ≤ 2 ^ 32) (sym same) long) (all-append (FitsEntry (in_all U)) pre (e ∷ []) fit (fits.0, tt)) fits.1 next)
 
 r-entries : (U : Given) (es : List Entry) → FitEntries U es → Reached (Entering U es)
 r-entries U es so = r-entering U [] es so.0 so.1 tt so.2 (r-begun U so.0)
 
 -- a place that is the first
-first-place : (U : Given) → FitsSetup U → 0 < U.places
+first-place : (U : Given) → FitsSetup U → 0 < in_all U
 first-place U so = let some : 1 ≤ U.places = so.0.some in omega arith
 
 r-logs : (U : Given) (es : List Entry) → FitEntries U es → Reached (Logging U es [] [])
@@ -168,7 +187,7 @@ abbrev event_answer : Given → List Entry → List (List PlaceEvent) → List P
 event_answer U es js j line = option_map (λ e. Logging U es js (j ++ e ∷ [])) (event_line_of (length js) (length j) line)
 
 abbrev last_answer : Given → List Entry → List (List PlaceEvent) → List PlaceEvent → List ℕ → Option ReadingState
-last_answer U es js j line = cond (bytes_eq line (codes "done") && length js + 1 == U.places) (Some (Over U es (js ++ j ∷ []))) (event_answer U es js j line)
+last_answer U es js j line = cond (bytes_eq line (codes "done") && length js + 1 == in_all U) (Some (Over U es (js ++ j ∷ []))) (event_answer U es js j line)
 
 -- the lines of events
 logged-again : (U : Given) (es : List Entry) (js : List (List PlaceEvent)) (j : List PlaceEvent) (e : PlaceEvent) → FitsEvent (length js) e → LineAgain (read_line (Logging U es js j) (natural_text (length j) ++ event_text e)) (Logging U es js (j ++ e ∷ [])) (natural_text (length j) ++ event_text e)
@@ -176,8 +195,8 @@ logged-again U es js j e fits =
     let line = natural_text (length j) ++ event_text e in
     let h = event-line-again (length js) (length j) e fits in
     record {
-      reads = ap (λ b. cond (b && nat_lt (length js + 1) U.places) (Some (Logging U es (js ++ j ∷ []) [])) (last_answer U es js j line)) (no-journal (length js + 1) (length j) (event_text e))
-          ∙ ap (λ b. cond (b && length js + 1 == U.places) (Some (Over U es (js ++ j ∷ []))) (event_answer U es js j line)) (not-done (length j) (event_text e))
+      reads = ap (λ b. cond (b && nat_lt (length js + 1) (in_all U)) (Some (Logging U es (js ++ j ∷ []) [])) (last_answer U es js j line)) (no-journal (length js + 1) (length j) (event_text e))
+          ∙ ap (λ b. cond (b && length js + 1 == in_all U) (Some (Over U es (js ++ j ∷ []))) (event_answer U es js j line)) (not-done (length j) (event_text e))
           ∙ ap (option_map (λ x. Logging U es js (j ++ x ∷ []))) h.reads;
       lacks = h.lacks;
     }
@@ -191,34 +210,34 @@ r-logging U es js pre (e ∷ j) so fits r =
     subst (λ xs. Reached (Logging U es js xs)) (append_assoc pre (e ∷ []) j) (r-logging U es js (pre ++ e ∷ []) j after.so_far fits.1 next)
 
 -- the line of the next journal, and the last line
-next-again : (U : Given) (es : List Entry) (js : List (List PlaceEvent)) (j : List PlaceEvent) → length js + 1 < U.places → LineAgain (read_line (Logging U es js j) (codes "journal " ++ natural_text (length js + 1))) (Logging U es (js ++ j ∷ []) []) (codes "journal " ++ natural_text (length js + 1))
+next-again : (U : Given) (es : List Entry) (js : List (List PlaceEvent)) (j : List PlaceEvent) → length js + 1 < in_all U → LineAgain (read_line (Logging U es js j) (codes "journal " ++ natural_text (length js + 1))) (Logging U es (js ++ j ∷ []) []) (codes "journal " ++ natural_text (length js + 1))
 next-again U es js j below =
     let line = codes "journal " ++ natural_text (length js + 1) in
     record {
-      reads = ap (λ b. cond (b && nat_lt (length js + 1) U.places) (Some (Logging U es (js ++ j ∷ []) [])) (last_answer U es js j line)) (same-bytes line)
-          ∙ ap (λ b. cond b (Some (Logging U es (js ++ j ∷ []) [])) (last_answer U es js j line)) (lt-ltb (length js + 1) U.places below);
+      reads = ap (λ b. cond (b && nat_lt (length js + 1) (in_all U)) (Some (Logging U es (js ++ j ∷ []) [])) (last_answer U es js j line)) (same-bytes line)
+          ∙ ap (λ b. cond b (Some (Logging U es (js ++ j ∷ []) [])) (last_answer U es js j line)) (lt-ltb (length js + 1) (in_all U) below);
       lacks = journal-lacks (length js + 1);
     }
 
-over-again : (U : Given) (es : List Entry) (js : List (List PlaceEvent)) (j : List PlaceEvent) → length js + 1 ≡ U.places → LineAgain (read_line (Logging U es js j) (codes "done")) (Over U es (js ++ j ∷ [])) (codes "done")
+over-again : (U : Given) (es : List Entry) (js : List (List PlaceEvent)) (j : List PlaceEvent) → length js + 1 ≡ in_all U → LineAgain (read_line (Logging U es js j) (codes "done")) (Over U es (js ++ j ∷ [])) (codes "done")
 over-again U es js j all = record {
-  reads = ap (λ b. cond b (Some (Over U es (js ++ j ∷ []))) (event_answer U es js j (codes "done"))) (eq-eqb (length js + 1) U.places all);
+  reads = ap (λ b. cond b (Some (Over U es (js ++ j ∷ []))) (event_answer U es js j (codes "done"))) (eq-eqb (length js + 1) (in_all U) all);
   lacks = lacks-is (codes "done") refl;
 }
 
-r-journals : (U : Given) (es : List Entry) (before rest : List (List PlaceEvent)) (p : ℕ) → p ≡ length before → FitEntries U es → length (before ++ rest) < U.places → FitJournals 0 before → FitJournals p rest → Reached (Logging U es before []) → Reached (Logging U es (before ++ rest) [])
+r-journals : (U : Given) (es : List Entry) (before rest : List (List PlaceEvent)) (p : ℕ) → p ≡ length before → FitEntries U es → length (before ++ rest) < in_all U → FitJournals 0 before → FitJournals p rest → Reached (Logging U es before []) → Reached (Logging U es (before ++ rest) [])
 r-journals U es before [] p is so low fit fits r = subst (λ xs. Reached (Logging U es xs [])) (sym (append-nil before)) r
 r-journals U es before (j ∷ rest) p is so low fit fits r =
-    let long : length before + length (j ∷ rest) < U.places = subst (λ n. n < U.places) (length-append before (j ∷ rest)) low in
-    let here : length before < U.places = omega arith in
-    let below : length before + 1 < U.places = omega arith in
+    let long : length before + length (j ∷ rest) < in_all U = subst (λ n. n < in_all U) (length-append before (j ∷ rest)) low in
+    let here : length before < in_all U = omega arith in
+    let below : length before + 1 < in_all U = omega arith in
     let own : AllByRecursion (FitsEvent (length before)) j = subst (λ k. AllByRecursion (FitsEvent k) j) is fits.0 in
     let logs = r-logging U es before [] j (so, here, fit, tt) own r in
     let next = reached-more (Logging U es before j) (codes "journal " ++ natural_text (length before + 1)) (Logging U es (before ++ j ∷ []) []) (so, here, fit, own) logs (next-again U es before j below) in
     let same = append_assoc before (j ∷ []) rest in
     let grown : p + 1 ≡ length (before ++ j ∷ []) = omega (arith, length-append before (j ∷ []), is) in
     subst (λ xs. Reached (Logging U es xs [])) same
-    (r-journals U es (before ++ j ∷ []) rest (p + 1) grown so (subst (λ xs. length xs < U.places) (sym same) low) (journals-fit-end before j fit own) fits.1 next)
+    (r-journals U es (before ++ j ∷ []) rest (p + 1) grown so (subst (λ xs. length xs < in_all U) (sym same) low) (journals-fit-end before j fit own) fits.1 next)
 
 r-logged : (U : Given) (es : List Entry) (js : List (List PlaceEvent)) (j : List PlaceEvent) → SoFar (Logging U es js j) → Reached (Logging U es js j)
 r-logged U es js j so =
@@ -240,13 +259,13 @@ last-of p j (k ∷ js) fits =
     record { front = j ∷ more.front; last = more.last; whole = ap (λ xs. j ∷ xs) more.whole; fit = (fits.0, more.fit); own = subst (λ n. AllByRecursion (FitsEvent n) more.last) e more.own }
 
 r-over : (U : Given) (es : List Entry) (js : List (List PlaceEvent)) → IsWithin U es js → Reached (Over U es js)
-r-over U es [] so = let none : 0 ≡ U.places = so.one_each in let some : 1 ≤ U.places = so.setup_fits.0.some in absurd (omega arith)
+r-over U es [] so = let none : 0 ≡ in_all U = so.one_each in let some : 1 ≤ U.places = so.setup_fits.0.some in absurd (omega arith)
 r-over U es (j ∷ js) so =
     let l = last-of 0 j js so.journals_fit in
     let from : 0 + length l.front ≡ length l.front = omega arith in
     let own : AllByRecursion (FitsEvent (length l.front)) l.last = subst (λ n. AllByRecursion (FitsEvent n) l.last) from l.own in
-    let count : length l.front + 1 ≡ U.places = sym (length-append l.front (l.last ∷ [])) ∙ sym (ap length l.whole) ∙ so.one_each in
-    let low : length l.front < U.places = omega arith in
+    let count : length l.front + 1 ≡ in_all U = sym (length-append l.front (l.last ∷ [])) ∙ sym (ap length l.whole) ∙ so.one_each in
+    let low : length l.front < in_all U = omega arith in
     let here : SoFar (Logging U es l.front l.last) = ((so.setup_fits, so.numbered, so.entries_fit), low, l.fit, own) in
     subst (λ xs. Reached (Over U es xs)) (sym l.whole)
     (reached-more (Logging U es l.front l.last) (codes "done") (Over U es (l.front ++ l.last ∷ [])) here (r-logged U es l.front l.last here) (over-again U es l.front l.last count))
@@ -256,6 +275,7 @@ reached : (s : ReadingState) → SoFar s → Reached s
 reached Untitled so = r-untitled
 reached Titled so = r-titled
 reached (Sized places heap) so = r-sized places heap so
+reached (Listed places heap kills) so = r-listed places heap kills so
 reached (Planned U) so = r-planned U so
 reached (Entering U es) so = r-entries U es so
 reached (Logging U es js j) so = r-logged U es js j so
@@ -273,20 +293,20 @@ begins-from s line next so e b =
 over-begins : (U : Given) (es : List Entry) (js : List (List PlaceEvent)) → IsWithin U es js → BeginsText (state_text (Over U es js))
 over-begins U es js so = ([], (U, es, js, so, append-nil (state_text (Over U es js)) ∙ sym (over-is-text U es js)))
 
-log-begins : (n : ℕ) (U : Given) (es : List Entry) (js : List (List PlaceEvent)) (j : List PlaceEvent) → length js + 1 + n ≡ U.places → SoFar (Logging U es js j) → BeginsText (state_text (Logging U es js j))
+log-begins : (n : ℕ) (U : Given) (es : List Entry) (js : List (List PlaceEvent)) (j : List PlaceEvent) → length js + 1 + n ≡ in_all U → SoFar (Logging U es js j) → BeginsText (state_text (Logging U es js j))
 log-begins zero U es js j left so =
-    let all : length js + 1 ≡ U.places = omega arith in
+    let all : length js + 1 ≡ in_all U = omega arith in
     begins-from (Logging U es js j) (codes "done") (Over U es (js ++ j ∷ [])) so (over-again U es js j all).reads (λ k. over-begins U es (js ++ j ∷ []) k)
 log-begins (suc n) U es js j left so =
-    let below : length js + 1 < U.places = omega arith in
-    let long : length (js ++ j ∷ []) + 1 + n ≡ U.places = omega (arith, length-append js (j ∷ [])) in
+    let below : length js + 1 < in_all U = omega arith in
+    let long : length (js ++ j ∷ []) + 1 + n ≡ in_all U = omega (arith, length-append js (j ∷ [])) in
     begins-from (Logging U es js j) (codes "journal " ++ natural_text (length js + 1)) (Logging U es (js ++ j ∷ []) []) so (next-again U es js j below).reads (λ k. log-begins n U es (js ++ j ∷ []) [] long k)
 
 logging-begins : (U : Given) (es : List Entry) (js : List (List PlaceEvent)) (j : List PlaceEvent) → SoFar (Logging U es js j) → BeginsText (state_text (Logging U es js j))
 logging-begins U es js j so =
-    let low : length js < U.places = so.1 in
-    let left : length js + 1 + (U.places - length js - 1) ≡ U.places = omega arith in
-    log-begins (U.places - length js - 1) U es js j left so
+    let low : length js < in_all U = so.1 in
+    let left : length js + 1 + (in_all U - length js - 1) ≡ in_all U = omega arith in
+    log-begins (in_all U - length js - 1) U es js j left so
 
 entering-begins : (U : Given) (es : List Entry) → SoFar (Entering U es) → BeginsText (state_text (Entering U es))
 entering-begins U es so =
@@ -295,8 +315,33 @@ entering-begins U es so =
 planned-begins : (U : Given) → FitsSetup U → BeginsText (state_text (Planned U))
 planned-begins U so = begins-from (Planned U) (codes "history") (Entering U []) so refl (λ k. entering-begins U [] k)
 
+-- the places of the kills may all join at once
+widest : (places heap : ℕ) (kills : List Kill) → SoFar (Listed places heap kills) → FitsSetup (given_of places heap kills (at_once (16 - places)))
+widest places heap kills so =
+    let n = 16 - places in
+    let few : places ≤ 16 = so.0.1 in
+    let many : length (at_once n) ≡ n = once-many n in
+    let U = given_of places heap kills (at_once n) in
+    let all : in_all U ≤ 16 = omega arith in (
+      record {
+        some = so.0.0;
+        few = all;
+        words = so.1.0;
+        small = so.1.1;
+        kills = are-kills U kills so.2 (once-there places kills few so.2);
+        joins = once-rising n;
+      },
+      so.3,
+      once-early n,
+    )
+
+listed-begins : (places heap : ℕ) (kills : List Kill) → SoFar (Listed places heap kills) → BeginsText (state_text (Listed places heap kills))
+listed-begins places heap kills so =
+    let U = given_of places heap kills (at_once (16 - places)) in
+    begins-from (Listed places heap kills) (joins_text U.joins) (Planned U) so (planned-again U (widest places heap kills so)).reads (λ k. planned-begins U k)
+
 sized-begins : (places heap : ℕ) → SoFar (Sized places heap) → BeginsText (state_text (Sized places heap))
-sized-begins places heap so = begins-from (Sized places heap) (codes "kills") (Planned (given_of places heap [])) so refl (λ k. planned-begins (given_of places heap []) k)
+sized-begins places heap so = begins-from (Sized places heap) (codes "kills") (Listed places heap []) so refl (λ k. listed-begins places heap [] k)
 
 titled-begins : BeginsText (state_text Titled)
 titled-begins =
@@ -307,9 +352,10 @@ titled-begins =
 
 -- what has been read begins a text
 pub begins : (s : ReadingState) → SoFar s → BeginsText (state_text s)
-begins Untitled so = begins-from Untitled (codes "rx10 trace 1") Titled tt refl (λ k. titled-begins)
+begins Untitled so = begins-from Untitled (codes "rx10 trace 2") Titled tt refl (λ k. titled-begins)
 begins Titled so = titled-begins
 begins (Sized places heap) so = sized-begins places heap so
+begins (Listed places heap kills) so = listed-begins places heap kills so
 begins (Planned U) so = planned-begins U so
 begins (Entering U es) so = entering-begins U es so
 begins (Logging U es js j) so = logging-begins U es js j so

@@ -187,13 +187,24 @@ again-there key r other a t N h apart = record {
   reads = λ rest n. not-first-reads key r other h.front rest (Some (a, rest)) apart (h.reads rest n);
 }
 
-pub again-followed : {A B : Type 0} (r : Reader A) (f : A → Reader B) (a : A) (b : B) (t u : List ℕ) (N M : List (List ℕ) → Type 0) → Again r a t N → (h : Again (f a) b u M) → ((rest : List (List ℕ)) → M rest → N (h.front ++ rest)) → Again (followed r f) b (t ++ u) M
-again-followed r f a b t u N M g h follows = record {
-  front = g.front ++ h.front;
-  spelled = fields-append g.front h.front ∙ ap (λ x. x ++ fields h.front) g.spelled ∙ ap (λ x. t ++ x) h.spelled;
-  plain = all-append Plain g.front h.front g.plain h.plain;
-  reads = λ rest m. ap (λ ws. after (r ws) f) (append_assoc g.front h.front rest) ∙ ap (λ o. after o f) (g.reads (h.front ++ rest) (follows rest m)) ∙ h.reads rest m;
+-- the text is read, and with what follows it is as K says
+pub record AgainBefore {A : Type 0} (r : Reader A) (a : A) (text : List ℕ) (K N : List (List ℕ) → Type 0) : Type 0 where
+  pub again : Again r a text N
+  pub before : (rest : List (List ℕ)) → N rest → K (again.front ++ rest)
+
+pub before-followed : {A B : Type 0} (r : Reader A) (f : A → Reader B) (a : A) (b : B) (t u : List ℕ) (K N M : List (List ℕ) → Type 0) → (g : Again r a t N) → (h : Again (f a) b u M) → ((rest : List (List ℕ)) → M rest → N (h.front ++ rest)) → ((rest : List (List ℕ)) → M rest → K (g.front ++ (h.front ++ rest))) → AgainBefore (followed r f) b (t ++ u) K M
+before-followed r f a b t u K N M g h follows begins = record {
+  again = record {
+    front = g.front ++ h.front;
+    spelled = fields-append g.front h.front ∙ ap (λ x. x ++ fields h.front) g.spelled ∙ ap (λ x. t ++ x) h.spelled;
+    plain = all-append Plain g.front h.front g.plain h.plain;
+    reads = λ rest m. ap (λ ws. after (r ws) f) (append_assoc g.front h.front rest) ∙ ap (λ o. after o f) (g.reads (h.front ++ rest) (follows rest m)) ∙ h.reads rest m;
+  };
+  before = λ rest m. subst K (sym (append_assoc g.front h.front rest)) (begins rest m);
 }
+
+pub again-followed : {A B : Type 0} (r : Reader A) (f : A → Reader B) (a : A) (b : B) (t u : List ℕ) (N M : List (List ℕ) → Type 0) → Again r a t N → (h : Again (f a) b u M) → ((rest : List (List ℕ)) → M rest → N (h.front ++ rest)) → Again (followed r f) b (t ++ u) M
+again-followed r f a b t u N M g h follows = (before-followed r f a b t u Any N M g h follows (λ rest m. tt)).again
 
 -- a field, after which anything may follow
 pub again-field : {A B : Type 0} (r : Reader A) (f : A → Reader B) (a : A) (b : B) (t u : List ℕ) (M : List (List ℕ) → Type 0) → Again r a t Any → Again (f a) b u M → Again (followed r f) b (t ++ u) M

@@ -8,23 +8,24 @@ use Rattle.std.proofs.lemmas.Option.{same_Some, none-some}
 use Rattle.rx_base.specs.declared.ids.Kill.{Kill}
 use Rattle.rx_rules.specs.declared.entries.Entry.{Entry}
 use Rattle.rx_rules.specs.declared.events.PlaceEvent.{PlaceEvent}
-use Rattle.rx_rules.specs.Run.{Given}
+use Rattle.rx_rules.specs.Run.{Given, in_all}
 use Rattle.rx_text.specs.Numbers.{natural_text}
 use Rattle.rx_trace.specs.EntryLines.{entry_text, entry_line, entry_lines}
 use Rattle.rx_trace.specs.EventLines.{event_text, event_line, event_lines, journal_lines, journals_lines}
-use Rattle.rx_trace.specs.Fields.{kill_field}
-use Rattle.rx_trace.specs.Text.{setup_lines, trace_text}
+use Rattle.rx_trace.specs.Fields.{natural_field}
+use Rattle.rx_trace.specs.Text.{sizes_line, kills_line, joins_line, setup_lines, trace_text}
 use Rattle.rx_reading.specs.Limits.{FitsEntry, FitsEvent, FitJournals, FitsSetup, IsWithin}
 use Rattle.rx_reading.specs.Inside.Readers.{all_read}
 use Rattle.rx_reading.specs.Words.{pieces}
-use Rattle.rx_reading.specs.Inside.Machine.{ReadingState, Untitled, Titled, Sized, Planned, Entering, Logging, Over, sizes_at, kills_line_of, entry_of, event_line_of, begins_journal, state_with_sizes, read_line}
+use Rattle.rx_reading.specs.Inside.Machine.{ReadingState, Untitled, Titled, Sized, Listed, Planned, Entering, Logging, Over, sizes_at, kills_line_of, joins_line_of, entry_of, event_line_of, begins_journal, state_with_sizes, read_line}
 use Rattle.rx_reading.proofs.Cuts.{bytes-same, all-append}
-use Rattle.rx_reading.proofs.Fields.{map-is}
-use Rattle.rx_reading.proofs.Plans.{IsCount, sizes_text, sizes-take, KillsLine, kills-take}
+use Rattle.rx_reading.proofs.Fields.{IsCount, map-is}
+use Rattle.rx_reading.proofs.Plans.{sizes-take, Moments, InTurn, kills-take}
+use Rattle.rx_reading.proofs.Joins.{JoinsLine, joins-take, are-kills}
 use Rattle.rx_reading.proofs.Wholes.{entry-line-takes, event-line-takes}
 
 abbrev title : List ℕ
-title = codes "rx10 trace 1\n"
+title = codes "rx10 trace 2\n"
 
 abbrev entries_text : Given → List Entry → List ℕ
 entries_text U es = title ++ setup_lines U ++ codes "history\n" ++ entry_lines 0 es
@@ -33,23 +34,25 @@ entries_text U es = title ++ setup_lines U ++ codes "history\n" ++ entry_lines 0
 abbrev pub state_text : ReadingState → List ℕ
 state_text Untitled = []
 state_text Titled = title
-state_text (Sized places heap) = title ++ (sizes_text places heap ++ codes "\n")
+state_text (Sized places heap) = title ++ sizes_line places heap
+state_text (Listed places heap kills) = title ++ sizes_line places heap ++ kills_line kills
 state_text (Planned U) = title ++ setup_lines U
 state_text (Entering U es) = entries_text U es
 state_text (Logging U es js j) = entries_text U es ++ journals_lines 0 (js ++ j ∷ [])
 state_text (Over U es js) = entries_text U es ++ journals_lines 0 js ++ codes "done\n"
 
 abbrev pub FitEntries : Given → List Entry → Type 0
-FitEntries U es = FitsSetup U × (length es ≤ 2 ^ 32) × AllByRecursion (FitsEntry U.places) es
+FitEntries U es = FitsSetup U × (length es ≤ 2 ^ 32) × AllByRecursion (FitsEntry (in_all U)) es
 
 -- what has been read keeps the limits
 abbrev pub SoFar : ReadingState → Type 0
 SoFar Untitled = Unit {0}
 SoFar Titled = Unit {0}
 SoFar (Sized places heap) = IsCount 16 places × IsCount 4096 heap
+SoFar (Listed places heap kills) = IsCount 16 places × IsCount 4096 heap × InTurn kills × Moments kills
 SoFar (Planned U) = FitsSetup U
 SoFar (Entering U es) = FitEntries U es
-SoFar (Logging U es js j) = FitEntries U es × (length js < U.places) × FitJournals 0 js × AllByRecursion (FitsEvent (length js)) j
+SoFar (Logging U es js j) = FitEntries U es × (length js < in_all U) × FitJournals 0 js × AllByRecursion (FitsEvent (length js)) j
 SoFar (Over U es js) = IsWithin U es js
 
 abbrev pub ended : List ℕ → List ℕ
@@ -77,24 +80,43 @@ sized line after (Some x) is e =
     subst (λ s. Stepped Titled line s) (same_Some (Sized x.0 x.1) after e)
     (record { text = ap (λ t. title ++ (t ++ codes "\n")) (sym known.0); so_far = (known.1, known.2) })
 
-abbrev given_of : ℕ → ℕ → List Kill → Given
-given_of places heap kills = record { places = places; heap = heap; kills = kills }
+abbrev given_of : ℕ → ℕ → List Kill → List ℕ → Given
+given_of places heap kills joins = record { places = places; heap = heap; kills = kills; joins = joins }
 
-planned-text : (places heap : ℕ) (kills : List Kill) (line : List ℕ) → line ≡ codes "kills" ++ flat_map kill_field kills → state_text (Planned (given_of places heap kills)) ≡ state_text (Sized places heap) ++ ended line
-unfolding setup_lines
-planned-text places heap kills line is =
-    sym (append_assoc title (sizes_text places heap ++ codes "\n") (codes "kills" ++ flat_map kill_field kills ++ codes "\n"))
-    ∙ ap (λ l. state_text (Sized places heap) ++ ended l) (sym is)
-
-planned-fits : (places heap : ℕ) (kills : List Kill) (line : List ℕ) → IsCount 16 places → IsCount 4096 heap → KillsLine places line kills → FitsSetup (given_of places heap kills)
-planned-fits places heap kills line a b k = (record { some = a.0; few = a.1; words = b.0; small = b.1; kills = k.all }, k.moments)
-
-planned : (places heap : ℕ) (line : List ℕ) (after : ReadingState) → SoFar (Sized places heap) → read_line (Sized places heap) line ≡ Some after → Stepped (Sized places heap) line after
-planned places heap line after so e =
-    let m = map-is (λ kills. Planned (given_of places heap kills)) (kills_line_of places (pieces 32 line)) after e in
-    let known = kills-take places line m.value m.was in
+listed : (places heap : ℕ) (line : List ℕ) (after : ReadingState) → SoFar (Sized places heap) → read_line (Sized places heap) line ≡ Some after → Stepped (Sized places heap) line after
+listed places heap line after so e =
+    let m = map-is (λ kills. Listed places heap kills) (kills_line_of (pieces 32 line)) after e in
+    let known = kills-take line m.value m.was in
     subst (λ s. Stepped (Sized places heap) line s) m.is
-    (record { text = planned-text places heap m.value line known.text; so_far = planned-fits places heap m.value line so.0 so.1 known })
+    (record { text = ap (λ l. state_text (Sized places heap) ++ ended l) (sym known.text); so_far = (so.0, so.1, known.all, known.moments) })
+
+planned-text : (places heap : ℕ) (kills : List Kill) (joins : List ℕ) (line : List ℕ) → line ≡ codes "joins" ++ flat_map natural_field joins → state_text (Planned (given_of places heap kills joins)) ≡ state_text (Listed places heap kills) ++ ended line
+unfolding setup_lines
+planned-text places heap kills joins line is =
+    sym (append_assoc title (sizes_line places heap ++ kills_line kills) (joins_line joins))
+    ∙ ap (λ t. t ++ joins_line joins) (sym (append_assoc title (sizes_line places heap) (kills_line kills)))
+    ∙ ap (λ l. state_text (Listed places heap kills) ++ ended l) (sym is)
+
+planned-fits : (places heap : ℕ) (kills : List Kill) (joins line : List ℕ) → SoFar (Listed places heap kills) → JoinsLine places kills line joins → FitsSetup (given_of places heap kills joins)
+planned-fits places heap kills joins line so j = (
+  record {
+    some = so.0.0;
+    few = j.few;
+    words = so.1.0;
+    small = so.1.1;
+    kills = are-kills (given_of places heap kills joins) kills so.2 j.there;
+    joins = j.rising;
+  },
+  so.3,
+  j.early,
+)
+
+planned : (places heap : ℕ) (kills : List Kill) (line : List ℕ) (after : ReadingState) → SoFar (Listed places heap kills) → read_line (Listed places heap kills) line ≡ Some after → Stepped (Listed places heap kills) line after
+planned places heap kills line after so e =
+    let m = map-is (λ joins. Planned (given_of places heap kills joins)) (joins_line_of places kills (pieces 32 line)) after e in
+    let known = joins-take places kills line m.value m.was in
+    subst (λ s. Stepped (Listed places heap kills) line s) m.is
+    (record { text = planned-text places heap kills m.value line known.text; so_far = planned-fits places heap kills m.value line so known })
 
 -- an item more at the end
 entries-push : (n : ℕ) (es : List Entry) (e : Entry) → entry_lines n (es ++ e ∷ []) ≡ entry_lines n es ++ entry_line (n + length es) e
@@ -147,14 +169,14 @@ entry-text U es line e is =
     ∙ sym (append_assoc front (entry_lines 0 es) (entry_line (length es) e))
     ∙ ap (λ l. entries_text U es ++ ended l) (sym is)
 
-entered : (U : Given) (es : List Entry) (line : List ℕ) (after : ReadingState) → SoFar (Entering U es) → option_map (λ e. Entering U (es ++ e ∷ [])) (entry_of U.places (length es) line) ≡ Some after → Stepped (Entering U es) line after
+entered : (U : Given) (es : List Entry) (line : List ℕ) (after : ReadingState) → SoFar (Entering U es) → option_map (λ e. Entering U (es ++ e ∷ [])) (entry_of (in_all U) (length es) line) ≡ Some after → Stepped (Entering U es) line after
 entered U es line after so e =
-    let m = map-is (λ x. Entering U (es ++ x ∷ [])) (entry_of U.places (length es) line) after e in
-    let known = entry-line-takes U.places (length es) line m.value so.0.0.few m.was in
+    let m = map-is (λ x. Entering U (es ++ x ∷ [])) (entry_of (in_all U) (length es) line) after e in
+    let known = entry-line-takes (in_all U) (length es) line m.value so.0.0.few m.was in
     let low : length es < 2 ^ 32 = known.low in
     let long : length (es ++ m.value ∷ []) ≤ 2 ^ 32 = omega (arith, length-append es (m.value ∷ [])) in
     subst (λ s. Stepped (Entering U es) line s) m.is
-    (record { text = entry-text U es line m.value known.text; so_far = (so.0, long, all-push (FitsEntry U.places) es m.value so.2 known.fits) })
+    (record { text = entry-text U es line m.value known.text; so_far = (so.0, long, all-push (FitsEntry (in_all U)) es m.value so.2 known.fits) })
 
 journal-line : ℕ → List ℕ
 journal-line p = codes "journal " ++ natural_text p
@@ -199,7 +221,7 @@ logged U es js j line after so e =
     subst (λ s. Stepped (Logging U es js j) line s) m.is
     (record { text = event-text U es js j line m.value known.text; so_far = (so.0, so.1, so.2, all-push (FitsEvent (length js)) j m.value so.3 known.fits) })
 
-over-within : (U : Given) (es : List Entry) (js : List (List PlaceEvent)) (j : List PlaceEvent) → SoFar (Logging U es js j) → length js + 1 ≡ U.places → IsWithin U es (js ++ j ∷ [])
+over-within : (U : Given) (es : List Entry) (js : List (List PlaceEvent)) (j : List PlaceEvent) → SoFar (Logging U es js j) → length js + 1 ≡ in_all U → IsWithin U es (js ++ j ∷ [])
 over-within U es js j so all = record {
   setup_fits = so.0.0;
   numbered = so.0.1;
@@ -209,38 +231,39 @@ over-within U es js j so all = record {
 }
 
 logging : (U : Given) (es : List Entry) (js : List (List PlaceEvent)) (j : List PlaceEvent) (line : List ℕ) (after : ReadingState) → SoFar (Logging U es js j) → read_line (Logging U es js j) line ≡ Some after → Stepped (Logging U es js j) line after
-logging U es js j line after so e = by (begins_journal (length js + 1) line && nat_lt (length js + 1) U.places) refl e
+logging U es js j line after so e = by (begins_journal (length js + 1) line && nat_lt (length js + 1) (in_all U)) refl e
   where
     s : ReadingState
     s = Logging U es js j
 
-    last : (b : Bool) → (bytes_eq line (codes "done") && length js + 1 == U.places) ≡ b → cond b (Some (Over U es (js ++ j ∷ []))) (event_answer U es js j line) ≡ Some after → Stepped s line after
+    last : (b : Bool) → (bytes_eq line (codes "done") && length js + 1 == in_all U) ≡ b → cond b (Some (Over U es (js ++ j ∷ []))) (event_answer U es js j line) ≡ Some after → Stepped s line after
     last false h f = logged U es js j line after so f
     last true h f =
-        let both = and_parts (bytes_eq line (codes "done")) (length js + 1 == U.places) h in
+        let both = and_parts (bytes_eq line (codes "done")) (length js + 1 == in_all U) h in
         subst (λ x. Stepped s line x) (same_Some (Over U es (js ++ j ∷ [])) after f)
-        (record { text = over-text U es js j line (bytes-same line (codes "done") both.0); so_far = over-within U es js j so (eqb-true (length js + 1) U.places both.1) })
+        (record { text = over-text U es js j line (bytes-same line (codes "done") both.0); so_far = over-within U es js j so (eqb-true (length js + 1) (in_all U) both.1) })
 
-    by : (b : Bool) → (begins_journal (length js + 1) line && nat_lt (length js + 1) U.places) ≡ b → cond b (Some (Logging U es (js ++ j ∷ []) [])) (cond (bytes_eq line (codes "done") && length js + 1 == U.places) (Some (Over U es (js ++ j ∷ []))) (event_answer U es js j line)) ≡ Some after → Stepped s line after
-    by false h f = last (bytes_eq line (codes "done") && length js + 1 == U.places) refl f
+    by : (b : Bool) → (begins_journal (length js + 1) line && nat_lt (length js + 1) (in_all U)) ≡ b → cond b (Some (Logging U es (js ++ j ∷ []) [])) (cond (bytes_eq line (codes "done") && length js + 1 == in_all U) (Some (Over U es (js ++ j ∷ []))) (event_answer U es js j line)) ≡ Some after → Stepped s line after
+    by false h f = last (bytes_eq line (codes "done") && length js + 1 == in_all U) refl f
     by true h f =
-        let both = and_parts (begins_journal (length js + 1) line) (nat_lt (length js + 1) U.places) h in
-        let below : length js + 1 < U.places = ltb-true (length js + 1) U.places both.1 in
-        let long : length (js ++ j ∷ []) < U.places = omega (arith, length-append js (j ∷ [])) in
+        let both = and_parts (begins_journal (length js + 1) line) (nat_lt (length js + 1) (in_all U)) h in
+        let below : length js + 1 < in_all U = ltb-true (length js + 1) (in_all U) both.1 in
+        let long : length (js ++ j ∷ []) < in_all U = omega (arith, length-append js (j ∷ [])) in
         subst (λ x. Stepped s line x) (same_Some (Logging U es (js ++ j ∷ []) []) after f)
         (record { text = next-text U es js j line (bytes-same line _ both.0); so_far = (so.0, long, journals-fit-end js j so.2 so.3, tt) })
 
 -- what is read of a line is its text
 pub stepped : (s : ReadingState) (line : List ℕ) (after : ReadingState) → SoFar s → read_line s line ≡ Some after → Stepped s line after
-stepped Untitled line after so e = same-line line (codes "rx10 trace 1") Untitled Titled after None (refused Untitled line after) (λ is. record { text = ap ended (sym is); so_far = tt }) e
+stepped Untitled line after so e = same-line line (codes "rx10 trace 2") Untitled Titled after None (refused Untitled line after) (λ is. record { text = ap ended (sym is); so_far = tt }) e
 stepped Titled line after so e = sized line after (all_read (sizes_at (pieces 32 line))) refl e
-stepped (Sized places heap) line after so e = planned places heap line after so e
+stepped (Sized places heap) line after so e = listed places heap line after so e
+stepped (Listed places heap kills) line after so e = planned places heap kills line after so e
 stepped (Planned U) line after so e =
     same-line line (codes "history") (Planned U) (Entering U []) after None (refused (Planned U) line after)
     (λ is. record { text = append-nil (title ++ setup_lines U ++ codes "history\n") ∙ ap (λ l. title ++ setup_lines U ++ ended l) (sym is); so_far = (so, omega arith, tt) }) e
 stepped (Entering U es) line after so e =
     same-line line (codes "journal " ++ natural_text 0) (Entering U es) (Logging U es [] []) after _ (entered U es line after so)
-    (λ is. record { text = begun-text U es line is; so_far = (so, (let some : 1 ≤ U.places = so.0.0.some in omega arith), tt, tt) }) e
+    (λ is. record { text = begun-text U es line is; so_far = (so, (let some : 1 ≤ U.places = so.0.0.some in let all : 0 < in_all U = omega arith in all), tt, tt) }) e
 stepped (Logging U es js j) line after so e = logging U es js j line after so e
 stepped (Over U es js) line after so e = refused (Over U es js) line after e
 

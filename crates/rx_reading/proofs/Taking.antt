@@ -12,7 +12,7 @@ use Rattle.std.proofs.lemmas.Nat.{pow_pos}
 use Rattle.std.proofs.lemmas.Bool.{lt-ltb}
 use Rattle.std.proofs.lemmas.Option.{same_Some, none-some}
 use Rattle.rx_reading.specs.Inside.FieldWords.{place_of}
-use Rattle.rx_reading.specs.Inside.Readers.{Reader, gathered, many, one_or_more, part}
+use Rattle.rx_reading.specs.Inside.Readers.{Reader, either, gathered, many, one_or_more, part}
 use Rattle.rx_reading.specs.Words.{first_word, next_of}
 use Rattle.rx_reading.specs.Inside.PartWords.{set_of, place_joined, places_at, key_of, left_of, item_of}
 use Rattle.rx_reading.proofs.Cuts.{bytes-same}
@@ -167,3 +167,15 @@ by-word q r (v ∷ ws) rest w key first same picks =
 
 pub item-none-as : {A : Type 0} (of : List ℕ → Option A) (ws : List (List ℕ)) (w : List ℕ) → Some w ≡ next_of ws → of w ≡ None → (r : Option A) → r ≡ None → paired r ws ≡ item_of of ws
 item-none-as of ws w next is r none = ap (λ o. paired o ws) none ∙ item-none of ws w next is
+
+-- the first word is another
+pub other-word : {A : Type 0} (key : List ℕ) (r other : Reader A) (words new : List (List ℕ)) (b : Bool) → (b, new) ≡ key_of key words → b ≡ false → other [] ≡ None → other new ≡ either key r other words
+other-word key r other [] new b e is none = ap other (pair-second b false new [] e) ∙ none
+other-word {A} key r other (w ∷ ws) new b e is none = by (bytes_eq w key) refl e
+  where
+    clash : true ≡ false → ⊥
+    clash t = cc
+
+    by : (t : Bool) → bytes_eq w key ≡ t → paired b new ≡ cond t (paired true ws) (paired false (w ∷ ws)) → other new ≡ cond t (r ws) (other (w ∷ ws))
+    by true h f = absurd (clash (sym (pair-first b true new ws f) ∙ is))
+    by false h f = ap other (pair-second b false new (w ∷ ws) f)

@@ -6,14 +6,14 @@ use Rattle.rx_base.specs.declared.ids.GlobalRef.{GlobalRef}
 use Rattle.rx_base.specs.declared.values.Fault.{Fault}
 use Rattle.rx_base.specs.declared.values.Fault.TheVariants.{Dead, Thrown, Overflow, NoPlace, WrongPlace, Stale, Index, HeapFull}
 use Rattle.rx_rules.specs.declared.entries.Act.{Act}
-use Rattle.rx_rules.specs.declared.entries.Act.TheVariants.{Open, At, Spawn, Arrive, Wait, Release, End, Print}
+use Rattle.rx_rules.specs.declared.entries.Act.TheVariants.{Open, At, Spawn, Arrive, Wait, Release, End, Print, Census}
 use Rattle.rx_rules.specs.declared.entries.Entry.{Entry}
-use Rattle.rx_rules.specs.declared.entries.Entry.TheVariants.{Step, Root, Death}
+use Rattle.rx_rules.specs.declared.entries.Entry.TheVariants.{Step, Root, Death, Join}
 use Rattle.rx_rules.specs.declared.events.Cell.{Cell}
 use Rattle.rx_rules.specs.declared.events.Cell.TheVariants.{Make, MakeFull, Get, Put, Forget, GetRefused, PutRefused, ForgetStale}
 use Rattle.rx_rules.specs.declared.events.PlaceEvent.{PlaceEvent}
 use Rattle.rx_rules.specs.declared.events.PlaceEvent.TheVariants.{Done, Close}
-use Rattle.rx_rules.specs.Run.{Given, Proper}
+use Rattle.rx_rules.specs.Run.{Given, in_all, Proper}
 
 -- a number without a sign
 abbrev pub IsShort : ℕ → Type 0
@@ -43,15 +43,18 @@ FitsAct places (Spawn child scope from to path) =
     IsShort child.0 × IsShort scope.0 × (from.0 < places) × (to.0 < places) × FitsPath path
 FitsAct places (Arrive place) = place.0 < places
 FitsAct places (Wait scope thrown) = IsShort scope.0 × AllByRecursion (FitsFault places) thrown
-FitsAct places (Release scope lost thrown) = IsShort scope.0 × (lost.0 < 2 ^ places) × AllByRecursion (FitsFault places) thrown
+FitsAct places (Release scope lost masked thrown) =
+    IsShort scope.0 × (lost.0 < 2 ^ places) × IsShort masked × AllByRecursion (FitsFault places) thrown
 FitsAct places (End thrown) = AllByRecursion (FitsFault places) thrown
 FitsAct places (Print value path) = FitsSigned w64 value × FitsPath path
+FitsAct places (Census count path) = (1 ≤ count) × (count ≤ 16) × FitsPath path
 
 -- the numbers of an entry
 abbrev pub FitsEntry : ℕ → Entry → Type 0
 FitsEntry places (Step task act batch) = IsShort task.0 × FitsAct places act × AllByRecursion FitsPath batch
-FitsEntry places (Root lost thrown) = (lost.0 < 2 ^ places) × AllByRecursion (FitsFault places) thrown
+FitsEntry places (Root lost masked thrown) = (lost.0 < 2 ^ places) × IsShort masked × AllByRecursion (FitsFault places) thrown
 FitsEntry places (Death place) = place.0 < places
+FitsEntry places (Join place) = place.0 < places
 
 -- a reference to a block of this place
 abbrev pub FitsBlock : ℕ → GlobalRef → Type 0
@@ -80,12 +83,12 @@ FitJournals p (j ∷ js) = AllByRecursion (FitsEvent p) j × FitJournals (p + 1)
 
 -- a setup that is proper, and each moment at most 1,000,000
 abbrev pub FitsSetup : Given → Type 0
-FitsSetup setup = Proper setup × AllByRecursion (λ k. k.moment ≤ 1000000) setup.kills
+FitsSetup setup = Proper setup × AllByRecursion (λ k. k.moment ≤ 1000000) setup.kills × AllByRecursion (λ e. e ≤ 1000000) setup.joins
 
 -- what a trace text can tell
 pub record IsWithin (setup : Given) (entries : List Entry) (journals : List (List PlaceEvent)) : Type 0 where
   pub setup_fits : FitsSetup setup
   pub numbered : length entries ≤ 2 ^ 32
-  pub entries_fit : AllByRecursion (FitsEntry setup.places) entries
-  pub one_each : length journals ≡ setup.places
+  pub entries_fit : AllByRecursion (FitsEntry (in_all setup)) entries
+  pub one_each : length journals ≡ in_all setup
   pub journals_fit : FitJournals 0 journals

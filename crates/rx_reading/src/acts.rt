@@ -1,10 +1,12 @@
 // What an entry of a task tells of it, after the task.
 ghost use Rattle.std.specs.Prelude.{◌≡◌, ◌≤◌, codes, IfOk};
 ghost use Rattle.rx_reading.specs.Words.{answer_left};
-ghost use Rattle.rx_reading.specs.Inside.EntryWords.{open_at, at_at, spawn_at, arrive_at, wait_at, release_at, end_at, print_at, act_at};
+ghost use Rattle.rx_reading.specs.Inside.EntryWords.{open_at, at_at, spawn_at, arrive_at, wait_at, release_at, end_at, print_at};
+ghost use Rattle.rx_reading.specs.Inside.EntryWords.{census_at, act_at};
 
 use crate::parts::{
-    keyword, lost_part, number_field, path_field, place_field, scope_field, task_field, thrown_part,
+    count_field, keyword, lost_part, masked_part, number_field, path_field, place_field,
+    scope_field, task_field, thrown_part,
 };
 use crate::words::Words;
 use rx_base::NoMemory;
@@ -22,6 +24,7 @@ pub(crate) enum Kind {
     Release,
     End,
     Print,
+    Census,
 }
 
 // An act of this kind.
@@ -43,6 +46,7 @@ pub(crate) fn act(
         Kind::Release => release(alloc, words, places),
         Kind::End => end(alloc, words, places),
         Kind::Print => print(alloc, words),
+        Kind::Census => census(alloc, words),
     }
 }
 
@@ -161,12 +165,16 @@ fn release(alloc: Global, words: &mut Words<'_>, places: u8) -> Result<Option<Ac
     let Some(lost) = lost_part(words, places) else {
         return Ok(None);
     };
+    let Some(masked) = masked_part(words) else {
+        return Ok(None);
+    };
     let Some(thrown) = thrown_part(alloc, words, places)? else {
         return Ok(None);
     };
     Ok(Some(Act::Release {
         scope,
         lost,
+        masked,
         thrown,
     }))
 }
@@ -190,4 +198,19 @@ fn print(alloc: Global, words: &mut Words<'_>) -> Result<Option<Act>, NoMemory>
         return Ok(None);
     };
     Ok(Some(Act::Print { value, path }))
+}
+
+fn census(alloc: Global, words: &mut Words<'_>) -> Result<Option<Act>, NoMemory>
+    ensures { IfOk result (λ act. answer_left act words.new ≡ census_at words.old) }
+{
+    let Some(count) = count_field(words, 16) else {
+        return Ok(None);
+    };
+    let Some(path) = path_field(alloc, words)? else {
+        return Ok(None);
+    };
+    match u8::try_from(count) {
+        Ok(places) => Ok(Some(Act::Census { places, path })),
+        Err(_) => Ok(None),
+    }
 }

@@ -1,10 +1,12 @@
 // The words of an entry.
 ghost use Rattle.std.specs.Prelude.{◌≡◌, ◌≤◌, codes, IfOk};
 ghost use Rattle.rx_reading.specs.Words.{answer_left};
-ghost use Rattle.rx_reading.specs.Inside.EntryWords.{act_at, step_at, release_or_root_at, root_at, death_at, entry_at};
+ghost use Rattle.rx_reading.specs.Inside.EntryWords.{act_at, step_at, release_or_root_at, root_at, death_at, join_at, entry_at};
 
 use crate::acts::{Kind, act};
-use crate::parts::{batch_part, keyword, lost_part, place_field, task_field, thrown_part};
+use crate::parts::{
+    batch_part, keyword, lost_part, masked_part, place_field, task_field, thrown_part,
+};
 use crate::words::Words;
 use rx_base::NoMemory;
 use rx_history::Entry;
@@ -38,8 +40,12 @@ pub(crate) fn entry(
         step(alloc, words, places, Kind::End)
     } else if word == b"print".as_slice() {
         step(alloc, words, places, Kind::Print)
+    } else if word == b"census".as_slice() {
+        step(alloc, words, places, Kind::Census)
     } else if word == b"death".as_slice() {
         Ok(death(words, places))
+    } else if word == b"join".as_slice() {
+        Ok(join(words, places))
     } else {
         Ok(None)
     }
@@ -90,10 +96,17 @@ fn root(alloc: Global, words: &mut Words<'_>, places: u8) -> Result<Option<Entry
     let Some(lost) = lost_part(words, places) else {
         return Ok(None);
     };
+    let Some(masked) = masked_part(words) else {
+        return Ok(None);
+    };
     let Some(thrown) = thrown_part(alloc, words, places)? else {
         return Ok(None);
     };
-    Ok(Some(Entry::Root { lost, thrown }))
+    Ok(Some(Entry::Root {
+        lost,
+        masked,
+        thrown,
+    }))
 }
 
 fn death(words: &mut Words<'_>, places: u8) -> Option<Entry>
@@ -101,4 +114,11 @@ fn death(words: &mut Words<'_>, places: u8) -> Option<Entry>
 {
     let place = place_field(words, places)?;
     Some(Entry::Death { place })
+}
+
+fn join(words: &mut Words<'_>, places: u8) -> Option<Entry>
+    ensures { answer_left result words.new ≡ join_at places words.old }
+{
+    let place = place_field(words, places)?;
+    Some(Entry::Join { place })
 }

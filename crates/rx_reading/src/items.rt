@@ -110,18 +110,9 @@ fn plain(word: &[u8]) -> Option<Fault>
     }
 }
 
-// The kill that a word spells, where its place is one of so many.
-pub(crate) fn kill(word: &[u8], places: u8) -> Option<Kill>
-    ensures { result ≡ kill_of places word.now }
+// The kill that a word spells.
+pub(crate) fn kill(word: &[u8]) -> Option<Kill>
+    ensures { result ≡ kill_of word.now }
 {
-    match read_kill(word) {
-        Some(kill) => {
-            if kill.place.0 < places {
-                Some(kill)
-            } else {
-                None
-            }
-        }
-        None => None,
-    }
+    read_kill(word)
 }

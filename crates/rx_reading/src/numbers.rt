@@ -1,8 +1,8 @@
 // Numbers as words, each in its one spelling.
-ghost use Rattle.std.specs.Prelude.{◌≡◌, ◌≤◌, ◌^◌, IfSome};
+ghost use Rattle.std.specs.Prelude.{◌≡◌, ◌<◌, ◌≤◌, ◌^◌, IfSome};
 ghost use Rattle.std.specs.Str.{bytes_eq};
 ghost use Rattle.rx_text.specs.Numbers.{natural_text};
-ghost use Rattle.rx_reading.specs.Inside.FieldWords.{number_of, natural_of, number_below, short_of};
+ghost use Rattle.rx_reading.specs.Inside.FieldWords.{number_of, natural_of, number_below, count_of, short_of};
 
 use itoa::Buffer;
 use rx_text::scan_num;
@@ -41,6 +41,15 @@ pub(crate) fn below(word: &[u8], limit: u32) -> Option<u32>
 {
     let n = natural(word)?;
     if n < limit { Some(n) } else { None }
+}
+
+// The number from 1 to a limit that a word is.
+pub(crate) fn count(word: &[u8], most: u32) -> Option<u32>
+    requires { most < 5000 }
+    ensures { result ≡ count_of most word.now }
+{
+    let n = below(word, most + 1)?;
+    if n == 0 { None } else { Some(n) }
 }
 
 // Whether a word is the number n.

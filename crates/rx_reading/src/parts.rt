@@ -1,12 +1,13 @@
-// The fields of a line, and the parts that are there only where their list is not empty.
+// The fields of a line, and the parts that are there only where their list is not empty, or their number not 0.
 ghost use Rattle.std.specs.Prelude.{◌≡◌, ◌≤◌, ◌<◌, ◌^◌, IfOk};
 ghost use Rattle.rx_reading.specs.Words.{answer_left};
-ghost use Rattle.rx_reading.specs.Inside.FieldWords.{natural_at, number_at, place_at, task_at, scope_at, path_at, block_at, fault_of};
-ghost use Rattle.rx_reading.specs.Inside.FieldWords.{path_of, place_of};
-ghost use Rattle.rx_reading.specs.Inside.PartWords.{set_of, places_at, lost_read, thrown_at, batch_at, item_of, key_of, left_of};
+ghost use Rattle.rx_reading.specs.Inside.FieldWords.{natural_at, number_at, place_at, task_at, scope_at, path_at, count_at, block_at};
+ghost use Rattle.rx_reading.specs.Inside.FieldWords.{path_of, place_of, masked_of, fault_of};
+ghost use Rattle.rx_reading.specs.Inside.PartWords.{set_of, places_at, lost_read, masked_read, thrown_at, batch_at};
+ghost use Rattle.rx_reading.specs.Inside.PartWords.{item_of, key_of, left_of};
 
 use crate::items::{fault, path, place, scope, task};
-use crate::numbers::{natural, number};
+use crate::numbers::{count, natural, number};
 use crate::words::Words;
 use rx_base::{
     Batch, Fault, Faults, GlobalRef, NoMemory, Path, PlaceId, PlaceSet, ScopeId, TaskId,
@@ -23,6 +24,14 @@ pub(crate) fn number_field(words: &mut Words<'_>) -> Option<i64>
     ensures { answer_left result words.new ≡ number_at words.old }
 {
     number(words.next()?)
+}
+
+// A number from 1 to a limit.
+pub(crate) fn count_field(words: &mut Words<'_>, most: u32) -> Option<u32>
+    requires { most < 5000 }
+    ensures { answer_left result words.new ≡ count_at most words.old }
+{
+    count(words.next()?, most)
 }
 
 pub(crate) fn place_field(words: &mut Words<'_>, places: u8) -> Option<PlaceId>
@@ -142,6 +151,24 @@ fn place_set(words: &mut Words<'_>, places: u8) -> Option<PlaceSet>
         set = set.with(place);
     }
     Some(set)
+}
+
+// How many faults are masked.
+pub(crate) fn masked_part(words: &mut Words<'_>) -> Option<u32>
+    ensures { answer_left result words.new ≡ masked_read words.old }
+{
+    if !keyword(words, b"masked") {
+        return Some(0);
+    }
+    masked(words.next()?)
+}
+
+// A number of masked faults, which is not told where it is 0.
+fn masked(word: &[u8]) -> Option<u32>
+    ensures { result ≡ masked_of word.now }
+{
+    let n = natural(word)?;
+    if n == 0 { None } else { Some(n) }
 }
 
 // The faults with which a body or a task ended.

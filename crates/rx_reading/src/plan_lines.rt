@@ -1,34 +1,18 @@
 // The lines of the setup.
-ghost use Rattle.std.specs.Prelude.{◌≡◌, ◌<◌, ◌==◌, ◌&&◌, not, IfOk};
+ghost use Rattle.std.specs.Prelude.{◌≡◌, ◌<◌, ◌≤◌, ◌==◌, ◌&&◌, not, IfOk};
 ghost use Rattle.rx_history.specs.KillOrder.{ComesLast};
-ghost use Rattle.rx_reading.specs.Words.{answer_left, pieces};
-ghost use Rattle.rx_reading.specs.Inside.Readers.{word, all_read};
+ghost use Rattle.rx_reading.specs.Words.{pieces};
+ghost use Rattle.rx_reading.specs.Inside.Readers.{all_read};
 ghost use Rattle.rx_history.specs.KillOrder.{is_before};
-ghost use Rattle.rx_reading.specs.Inside.Machine.{count_of, sizes_at, may_follow, kills_line_of};
+ghost use Rattle.rx_reading.specs.Inside.Machine.{sizes_at, may_follow, kills_line_of, joins_of, is_there, all_there, joins_line_of};
 
 use crate::items::kill;
 use crate::numbers::below;
-use crate::parts::keyword;
+use crate::parts::{count_field, keyword};
 use crate::words::{Words, split_words};
 use rx_base::{Kill, NoMemory};
-use rx_history::KillList;
+use rx_history::{JoinList, KillList};
 use std::alloc::Global;
-
-// A number from 1 to a limit.
-fn count(word: &[u8], most: u32) -> Option<u32>
-    requires { most < 5000 }
-    ensures count { result ≡ count_of most word.now }
-{
-    let n = below(word, most + 1)?;
-    if n == 0 { None } else { Some(n) }
-}
-
-fn count_field(words: &mut Words<'_>, most: u32) -> Option<u32>
-    requires { most < 5000 }
-    ensures { answer_left result words.new ≡ word (count_of most) words.old }
-{
-    count(words.next()?, most)
-}
 
 // The line of the places and their heaps.
 pub(crate) fn sizes(line: &[u8]) -> Option<(u8, u32)>
@@ -54,12 +38,8 @@ pub(crate) fn sizes(line: &[u8]) -> Option<(u8, u32)>
 }
 
 // The line of the kills.
-pub(crate) fn read_kills(
-    alloc: Global,
-    line: &[u8],
-    places: u8,
-) -> Result<Option<KillList>, NoMemory>
-    ensures { IfOk result (λ kills. kills ≡ kills_line_of places (pieces 32 line.now)) }
+pub(crate) fn read_kills(alloc: Global, line: &[u8]) -> Result<Option<KillList>, NoMemory>
+    ensures { IfOk result (λ kills. kills ≡ kills_line_of (pieces 32 line.now)) }
 {
     let (first, mut words) = split_words(line);
     if first != b"kills".as_slice() {
@@ -67,7 +47,7 @@ pub(crate) fn read_kills(
     }
     let mut kills = KillList::open(alloc);
     'kills: while let Some(word) = words.next() {
-        let Some(kill) = kill(word, places) else {
+        let Some(kill) = kill(word) else {
             return Ok(None);
         };
         if kill.place.0 == 0 || !follows(&kills, kill) {
@@ -97,4 +77,69 @@ fn comes_after(first: Kill, second: Kill) -> bool
     (first.moment < second.moment
         || (first.moment == second.moment && first.place.0 < second.place.0))
         && first.place.0 != second.place.0
+}
+
+// The line of the joins, where so many places and these kills were told before.
+pub(crate) fn read_joins(
+    alloc: Global,
+    line: &[u8],
+    places: u8,
+    kills: &KillList,
+) -> Result<Option<JoinList>, NoMemory>
+    requires { places ≤ 16 }
+    ensures { IfOk result (λ joins. joins ≡ joins_line_of places kills.now (pieces 32 line.now)) }
+{
+    let (first, mut words) = split_words(line);
+    if first != b"joins".as_slice() {
+        return Ok(None);
+    }
+    let Some(joins) = moments(alloc, &mut words)? else {
+        return Ok(None);
+    };
+    if joins.len() > usize::from(16 - places) || !all_there(places, &joins, kills) {
+        return Ok(None);
+    }
+    Ok(Some(joins))
+}
+
+// The moments that follow, none below the one before it.
+fn moments(alloc: Global, words: &mut Words<'_>) -> Result<Option<JoinList>, NoMemory>
+    ensures moments { IfOk result (λ joins. joins ≡ joins_of 0 words.old) }
+{
+    let mut joins = JoinList::open(alloc);
+    let mut low = 0;
+    'joins: while let Some(word) = words.next() {
+        let Some(moment) = below(word, 1_000_001) else {
+            return Ok(None);
+        };
+        if moment < low {
+            return Ok(None);
+        }
+        joins.push(moment)?;
+        low = moment;
+    }
+    Ok(Some(joins))
+}
+
+// Whether the place of each kill is there at its moment.
+fn all_there(places: u8, joins: &JoinList, kills: &KillList) -> bool
+    ensures there { result ≡ all_there places joins.now kills.now }
+{
+    for i in 0..kills.len() {
+        if !is_there(places, joins, kills.item(i)) {
+            return false;
+        }
+    }
+    true
+}
+
+// Whether the place of a kill is there at its moment: it was there at the opening, or has joined.
+fn is_there(places: u8, joins: &JoinList, kill: Kill) -> bool
+    ensures { result ≡ is_there places joins.now kill }
+{
+    if kill.place.0 < places {
+        return true;
+    }
+    let i = usize::from(kill.place.0 - places);
+    i < joins.len() && joins.item(i) <= kill.moment
 }

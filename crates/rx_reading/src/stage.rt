@@ -4,18 +4,19 @@ ghost use Rattle.std.specs.Str.{bytes_eq};
 ghost use Rattle.rx_reading.specs.Words.{answer_left, pieces};
 ghost use Rattle.rx_history.specs.Events.{events_of};
 ghost use Rattle.rx_history.specs.Setups.{given};
-ghost use Rattle.rx_reading.specs.Inside.Machine.{Untitled, Titled, Sized, Planned, Entering, Logging, Over, begins_journal, entry_of};
-ghost use Rattle.rx_reading.specs.Inside.Machine.{event_line_of, read_line};
+ghost use Rattle.rx_rules.specs.Run.{in_all};
+ghost use Rattle.rx_reading.specs.Inside.Machine.{Untitled, Titled, Sized, Listed, Planned, Entering, Logging, Over};
+ghost use Rattle.rx_reading.specs.Inside.Machine.{begins_journal, entry_of, event_line_of, read_line};
 ghost use Rattle.rx_reading.specs.Inside.Stages.{state_of, IsReady};
 
 use crate::entry_reader::entry;
 use crate::event_reader::event;
 use crate::items::strip;
 use crate::numbers::is_number;
-use crate::plan_lines::{read_kills, sizes};
+use crate::plan_lines::{read_joins, read_kills, sizes};
 use crate::words::split_words;
 use rx_base::NoMemory;
-use rx_history::{Entry, History, Journal, Journals, PlaceEvent, Setup};
+use rx_history::{Entry, History, Journal, Journals, KillList, PlaceEvent, Setup};
 use std::alloc::Global;
 
 // What has been read.
@@ -26,6 +27,11 @@ pub(crate) enum Stage {
     Sized {
         places: u8,
         heap: u32,
+    },
+    Listed {
+        places: u8,
+        heap: u32,
+        kills: KillList,
     },
     Planned {
         setup: Setup,
@@ -103,7 +109,12 @@ pub(crate) fn next_stage(
     match stage {
         Stage::Untitled => Ok(titled(line)),
         Stage::Titled => Ok(sized(line)),
-        Stage::Sized { places, heap } => planned(alloc, places, heap, line),
+        Stage::Sized { places, heap } => listed(alloc, places, heap, line),
+        Stage::Listed {
+            places,
+            heap,
+            kills,
+        } => planned(alloc, places, heap, kills, line),
         Stage::Planned { setup } => Ok(begun(alloc, setup, line)),
         Stage::Entering { history } => entering(alloc, history, line),
         Stage::Logging {
@@ -118,7 +129,7 @@ pub(crate) fn next_stage(
 fn titled(line: &[u8]) -> Option<Stage>
     ensures { option_map state_of result ≡ read_line Untitled line.now }
 {
-    if line == b"rx10 trace 1".as_slice() {
+    if line == b"rx10 trace 2".as_slice() {
         Some(Stage::Titled)
     } else {
         None
@@ -132,16 +143,37 @@ fn sized(line: &[u8]) -> Option<Stage>
     Some(Stage::Sized { places, heap })
 }
 
-fn planned(alloc: Global, places: u8, heap: u32, line: &[u8]) -> Result<Option<Stage>, NoMemory>
+fn listed(alloc: Global, places: u8, heap: u32, line: &[u8]) -> Result<Option<Stage>, NoMemory>
     ensures { IfOk result (λ next. option_map state_of next ≡ read_line (Sized places heap) line.now) }
 {
-    let Some(kills) = read_kills(alloc, line, places)? else {
+    let Some(kills) = read_kills(alloc, line)? else {
+        return Ok(None);
+    };
+    Ok(Some(Stage::Listed {
+        places,
+        heap,
+        kills,
+    }))
+}
+
+fn planned(
+    alloc: Global,
+    places: u8,
+    heap: u32,
+    kills: KillList,
+    line: &[u8],
+) -> Result<Option<Stage>, NoMemory>
+    requires { places ≤ 16 }
+    ensures { IfOk result (λ next. option_map state_of next ≡ read_line (Listed places heap kills) line.now) }
+{
+    let Some(joins) = read_joins(alloc, line, places, &kills)? else {
         return Ok(None);
     };
     let setup = Setup {
         places,
         heap,
         kills,
+        joins,
     };
     Ok(Some(Stage::Planned { setup }))
 }
@@ -158,9 +190,17 @@ fn begun(alloc: Global, setup: Setup, line: &[u8]) -> Option<Stage>
     }
 }
 
+// The number of the places that are there or join.
+fn places_in_all(setup: &Setup) -> u8
+    requires { in_all (given setup.now) ≤ 16 }
+    ensures { result ≡ in_all (given setup.now) }
+{
+    setup.places + setup.joins.len() as u8
+}
+
 // An entry, or the line that begins the first journal.
 fn entering(alloc: Global, history: History, line: &[u8]) -> Result<Option<Stage>, NoMemory>
-    requires { history.setup.places ≤ 16 }
+    requires { in_all (given history.setup) ≤ 16 }
     ensures { IfOk result (λ next. option_map state_of next ≡ read_line (Entering (given history.setup) history.entries) line.now) }
 {
     if is_journal(line, 0) {
@@ -170,7 +210,7 @@ fn entering(alloc: Global, history: History, line: &[u8]) -> Result<Option<Stage
             journal: Journal::open(alloc),
         }));
     }
-    match read_entry(alloc, line, history.len(), history.setup.places)? {
+    match read_entry(alloc, line, history.len(), places_in_all(&history.setup))? {
         Some(entry) => entered(history, entry),
         None => Ok(None),
     }
@@ -194,13 +234,13 @@ fn logging(
     journal: Journal,
     line: &[u8],
 ) -> Result<Option<Stage>, NoMemory>
-    requires few { history.setup.places ≤ 16 }
-    requires below { length journals.journals < history.setup.places }
+    requires few { in_all (given history.setup) ≤ 16 }
+    requires below { length journals.journals < in_all (given history.setup) }
     ensures { IfOk result (λ next. option_map state_of next ≡ read_line
         (Logging (given history.setup) history.entries (events_of journals) journal.events) line.now) }
 {
     let home = journals.len();
-    let places = usize::from(history.setup.places);
+    let places = usize::from(places_in_all(&history.setup));
     if is_next_journal(line, home + 1, places) {
         return next_journal(alloc, history, journals, journal);
     }

@@ -6,9 +6,9 @@ use Rattle.rx_base.specs.declared.ids.PlaceId.{PlaceId}
 use Rattle.rx_base.specs.declared.ids.TaskId.{TaskId}
 use Rattle.rx_base.specs.declared.values.Fault.{Fault}
 use Rattle.rx_rules.specs.declared.entries.Act.{Act}
-use Rattle.rx_rules.specs.declared.entries.Act.TheVariants.{Open, At as Calls, Spawn, Arrive, Wait, Release, End, Print}
+use Rattle.rx_rules.specs.declared.entries.Act.TheVariants.{Open, At as Calls, Spawn, Arrive, Wait, Release, End, Print, Census}
 use Rattle.rx_rules.specs.declared.entries.Entry.{Entry}
-use Rattle.rx_rules.specs.declared.entries.Entry.TheVariants.{Step, Root, Death}
+use Rattle.rx_rules.specs.declared.entries.Entry.TheVariants.{Step, Root, Death, Join}
 use Rattle.rx_rules.specs.declared.tasks.Task.{Task}
 use Rattle.rx_rules.specs.Tree.{Tree, is_task, task_of}
 use Rattle.rx_rules.specs.Entries.{made, made_act, after_end, change_scope}
@@ -31,24 +31,26 @@ tree-push places es e = fold-push 0 (opening places) es e ∙ ap (λ k. made k (
 pub no_root-push : (es : List Entry) (e : Entry) → NoRoot es → NoRoot (e ∷ []) → NoRoot (es ++ e ∷ [])
 no_root-push [] e h k = k
 no_root-push (Step t act batch ∷ es) e h k = no_root-push es e h k
-no_root-push (Root lost thrown ∷ es) e h k = h
+no_root-push (Root lost masked thrown ∷ es) e h k = h
 no_root-push (Death d ∷ es) e h k = no_root-push es e h k
+no_root-push (Join p ∷ es) e h k = no_root-push es e h k
 
 pub no_root-death : (es : List Entry) (d : PlaceId) → NoRoot es → NoRoot (es ++ Death d ∷ [])
 no_root-death es d h = no_root-push es (Death d) h tt
 
-pub root-push : (es : List Entry) (lost : PlaceSet) (thrown : List Fault) → NoRoot es → EndsWithRoot (es ++ Root lost thrown ∷ [])
-root-push [] lost thrown h = refl
-root-push (Step t act batch ∷ es) lost thrown h = root-push es lost thrown h
-root-push (Root l f ∷ es) lost thrown h = absurd h
-root-push (Death d ∷ es) lost thrown h = root-push es lost thrown h
+pub root-push : (es : List Entry) (lost : PlaceSet) (masked : ℕ) (thrown : List Fault) → NoRoot es → EndsWithRoot (es ++ Root lost masked thrown ∷ [])
+root-push [] lost masked thrown h = refl
+root-push (Step t act batch ∷ es) lost masked thrown h = root-push es lost masked thrown h
+root-push (Root l m f ∷ es) lost masked thrown h = absurd h
+root-push (Death d ∷ es) lost masked thrown h = root-push es lost masked thrown h
+root-push (Join p ∷ es) lost masked thrown h = root-push es lost masked thrown h
 
 -- What the end of a task leaves.
 
 pub end-tasks : (T : Tree) (t : TaskId) (thrown : List Fault) (x : Task) → task_of T t ≡ Some x → (after_end T t thrown).tasks ≡ filter (λ y. not (is_task t y)) T.tasks
 end-tasks T t thrown x h = rw (h, after_end) refl
 
--- No entry changes how many places there are.
+-- A join alone changes how many places there are.
 
 pub end-places : (T : Tree) (t : TaskId) (thrown : List Fault) → (after_end T t thrown).places ≡ T.places
 end-places T t thrown = of_found (task_of T t)
@@ -63,18 +65,26 @@ act-places T t (Calls s r callee from to path) = refl
 act-places T t (Spawn child s from to path) = refl
 act-places T t (Arrive p) = refl
 act-places T t (Wait s thrown) = refl
-act-places T t (Release s lost thrown) = refl
+act-places T t (Release s lost masked thrown) = refl
 act-places T t (End thrown) = end-places T t thrown
 act-places T t (Print value path) = refl
+act-places T t (Census n path) = refl
 
-pub made-places : (n : ℕ) (T : Tree) (e : Entry) → (made n T e).places ≡ T.places
-made-places n T (Step t act batch) = act-places T t act
-made-places n T (Root lost thrown) = refl
-made-places n T (Death d) = refl
+-- how many places join
+pub joins_in : List Entry → ℕ
+joins_in [] = 0
+joins_in (Step t act batch ∷ es) = joins_in es
+joins_in (Root lost masked thrown ∷ es) = joins_in es
+joins_in (Death d ∷ es) = joins_in es
+joins_in (Join p ∷ es) = suc (joins_in es)
 
-pub fold-places : (n : ℕ) (T : Tree) (es : List Entry) → (fold_from n T es).places ≡ T.places
-fold-places n T [] = refl
-fold-places n T (e ∷ es) = fold-places (suc n) (made n T e) es ∙ made-places n T e
+pub fold-places : (n : ℕ) (T : Tree) (es : List Entry) → (fold_from n T es).places ≡ T.places + joins_in es
+unfolding joins_in
+fold-places n T [] = omega arith
+fold-places n T (Step t act batch ∷ es) = let h = fold-places (suc n) (made n T (Step t act batch)) es in let e = act-places T t act in omega (arith, h, e)
+fold-places n T (Root lost masked thrown ∷ es) = fold-places (suc n) (made n T (Root lost masked thrown)) es
+fold-places n T (Death d ∷ es) = fold-places (suc n) (made n T (Death d)) es
+fold-places n T (Join p ∷ es) = let h = fold-places (suc n) (made n T (Join p)) es in omega (arith, h)
 
-pub tree-places : (places : ℕ) (es : List Entry) → (tree_of places es).places ≡ places
+pub tree-places : (places : ℕ) (es : List Entry) → (tree_of places es).places ≡ places + joins_in es
 tree-places places es = fold-places 0 (opening places) es

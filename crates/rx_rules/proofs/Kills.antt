@@ -2,8 +2,8 @@
 use Rattle.std.specs.Prelude.{ℕ, ◌<◌, ◌≤◌, List, [], ◌∷◌}
 use Rattle.std.proofs.Common.{inl, inr, arith}
 use Rattle.rx_base.specs.declared.ids.Kill.{Kill}
-use Rattle.rx_base.specs.declared.ids.PlaceId.{PlaceId}
-use Rattle.rx_rules.specs.Run.{ComesAfter, IsDue, NoneDue}
+use Rattle.rx_rules.specs.declared.entries.Entry.{Entry}
+use Rattle.rx_rules.specs.Run.{ComesAfter, Event, IsDue, NoneDue}
 
 -- what comes after a later kill comes after the earlier one
 pub further : (a b c : Kill) → ComesAfter a b → ComesAfter b c → ComesAfter a c
@@ -12,6 +12,7 @@ further a b c (inl x) (inr y) = let e = y.0 in inl (omega arith)
 further a b c (inr x) (inl y) = let e = x.0 in inl (omega arith)
 further a b c (inr x) (inr y) = let e = x.0 in let f = y.0 in let g = x.1 in let h = y.1 in inr (omega arith, omega arith)
 
-pub due-not : (n : ℕ) (d : PlaceId) (ks : List Kill) → IsDue n d ks → NoneDue n ks → ⊥
-due-not n d [] h k = h
-due-not n d (a ∷ ks) h k = let low : a.moment ≤ n = h.1 in let high : n < a.moment = k in absurd (omega arith)
+-- what is due is not free of what is due
+pub due-not : (n : ℕ) (e : Entry) (xs : List Event) → IsDue n e xs → NoneDue n xs → ⊥
+due-not n e [] h k = h
+due-not n e (x ∷ xs) h k = let low : x.moment ≤ n = h.1 in let high : n < x.moment = k in absurd (omega arith)

@@ -5,3 +5,4 @@ pub mod Inverting
 pub mod Lookups
 pub mod Append
 pub mod Kills
+pub mod Setups

@@ -4,9 +4,9 @@ use Rattle.std.proofs.Common.{sym, subst, ◌∙◌, arith, add-zero, add-one}
 use Rattle.std.proofs.lemmas.List.Sums.{sum_by-cons}
 use Rattle.rx_base.specs.declared.values.Fault.{Fault}
 use Rattle.rx_base.specs.declared.ids.TaskId.{TaskId}
-use Rattle.rx_rules.specs.declared.entries.Act.TheVariants.{Open, At as Calls, Spawn, Arrive, Wait, Release, End, Print}
+use Rattle.rx_rules.specs.declared.entries.Act.TheVariants.{Open, At as Calls, Spawn, Arrive, Wait, Release, End, Print, Census}
 use Rattle.rx_rules.specs.declared.entries.Entry.{Entry}
-use Rattle.rx_rules.specs.declared.entries.Entry.TheVariants.{Step, Root, Death}
+use Rattle.rx_rules.specs.declared.entries.Entry.TheVariants.{Step, Root, Death, Join}
 use Rattle.rx_rules.specs.Tree.{Tree, is_task, task_of}
 use Rattle.rx_rules.specs.Entries.{made, after_end, change_scope}
 use Rattle.rx_rules.specs.Inversions.{NumbersInOrder, CountFrom, born_in, opened_in}
@@ -30,10 +30,12 @@ next-made n T (Step t (Calls s r callee from to path) batch) = sym (add-one T.ne
 next-made n T (Step t (Spawn child s from to path) batch) = sym (add-one T.next_task)
 next-made n T (Step t (Arrive p) batch) = sym (add-zero T.next_task)
 next-made n T (Step t (Wait s thrown) batch) = sym (add-zero T.next_task)
-next-made n T (Step t (Release s lost thrown) batch) = sym (add-zero T.next_task)
+next-made n T (Step t (Release s lost masked thrown) batch) = sym (add-zero T.next_task)
 next-made n T (Step t (End thrown) batch) = next-after_end T t thrown ∙ sym (add-zero T.next_task)
 next-made n T (Step t (Print value path) batch) = sym (add-zero T.next_task)
-next-made n T (Root lost thrown) = sym (add-zero T.next_task)
+next-made n T (Step t (Census places path) batch) = sym (add-zero T.next_task)
+next-made n T (Root lost masked thrown) = sym (add-zero T.next_task)
+next-made n T (Join joined) = sym (add-zero T.next_task)
 next-made n T (Death d) = sym (add-zero T.next_task)
 
 pub next-fold : (n : ℕ) (T : Tree) (es : List Entry) → (fold_from n T es).next_task ≡ T.next_task + births es
@@ -62,19 +64,21 @@ scope-after_end T t thrown =
 number-from : (n : ℕ) (T : Tree) (es : List Entry) → AllAllowed n T es → CountFrom T.next_task (filter_map born_in es) × CountFrom T.next_scope (filter_map opened_in es)
 number-from n T [] h = (tt, tt)
 number-from n T (Step t (Open s r path) batch ∷ es) h =
-    let more = number-from (suc n) (made n T (Step t (Open s r path) batch)) es h.1 in (more.0, (h.0.next, more.1))
+    let more = number-from (suc n) (made n T (Step t (Open s r path) batch)) es h.1 in (more.0, (h.0.asks.1, more.1))
 number-from n T (Step t (Calls s r callee from to path) batch ∷ es) h =
-    let more = number-from (suc n) (made n T (Step t (Calls s r callee from to path) batch)) es h.1 in ((h.0.next_task, more.0), (h.0.next, more.1))
+    let more = number-from (suc n) (made n T (Step t (Calls s r callee from to path) batch)) es h.1 in ((h.0.asks.3, more.0), (h.0.asks.1, more.1))
 number-from n T (Step t (Spawn child s from to path) batch ∷ es) h =
-    let more = number-from (suc n) (made n T (Step t (Spawn child s from to path) batch)) es h.1 in ((h.0.next_task, more.0), more.1)
+    let more = number-from (suc n) (made n T (Step t (Spawn child s from to path) batch)) es h.1 in ((h.0.asks.1, more.0), more.1)
 number-from n T (Step t (Arrive p) batch ∷ es) h = number-from (suc n) (made n T (Step t (Arrive p) batch)) es h.1
 number-from n T (Step t (Wait s thrown) batch ∷ es) h = number-from (suc n) (made n T (Step t (Wait s thrown) batch)) es h.1
-number-from n T (Step t (Release s lost thrown) batch ∷ es) h = number-from (suc n) (made n T (Step t (Release s lost thrown) batch)) es h.1
+number-from n T (Step t (Release s lost masked thrown) batch ∷ es) h = number-from (suc n) (made n T (Step t (Release s lost masked thrown) batch)) es h.1
 number-from n T (Step t (End thrown) batch ∷ es) h =
     let more = number-from (suc n) (made n T (Step t (End thrown) batch)) es h.1 in
     (subst (λ (k : ℕ). CountFrom k (filter_map born_in es)) (next-after_end T t thrown) more.0, subst (λ (k : ℕ). CountFrom k (filter_map opened_in es)) (scope-after_end T t thrown) more.1)
 number-from n T (Step t (Print value path) batch ∷ es) h = number-from (suc n) (made n T (Step t (Print value path) batch)) es h.1
-number-from n T (Root lost thrown ∷ es) h = number-from (suc n) (made n T (Root lost thrown)) es h.1
+number-from n T (Step t (Census places path) batch ∷ es) h = number-from (suc n) (made n T (Step t (Census places path) batch)) es h.1
+number-from n T (Root lost masked thrown ∷ es) h = number-from (suc n) (made n T (Root lost masked thrown)) es h.1
+number-from n T (Join p ∷ es) h = number-from (suc n) (made n T (Join p)) es h.1
 number-from n T (Death d ∷ es) h = number-from (suc n) (made n T (Death d)) es h.1
 
 pub numbers-in_order : NumbersInOrder

@@ -1,6 +1,6 @@
 -- What an entry asks of the tree, and what it makes of it.
-use Rattle.std.specs.Prelude.{◌≡◌, ◌≢◌, ℕ, suc, ◌<◌, Bool, true, false, cond, not, ◌&&◌, ◌||◌, ◌==◌, List, [], ◌∷◌, ◌++◌, map, filter}
-use Rattle.std.specs.Prelude.{Some, None, is_some, is_none, option_map, slice_set}
+use Rattle.std.specs.Prelude.{◌≡◌, ◌≢◌, ℕ, suc, ◌<◌, ◌≤◌, min, Bool, true, false, cond, not, ◌&&◌, ◌||◌, ◌==◌, List, [], ◌∷◌, ◌++◌, map}
+use Rattle.std.specs.Prelude.{filter, length, sum_by, Some, None, is_some, is_none, option_map, slice_set}
 use Rattle.std.specs.List.{list_any}
 use Rattle.rx_base.specs.declared.values.Fault.{Fault}
 use Rattle.rx_base.specs.declared.ids.PlaceId.{PlaceId}
@@ -11,9 +11,9 @@ use Rattle.rx_base.specs.Sets.{all_places, members}
 use Rattle.rx_rules.specs.declared.tasks.Where.{Where}
 use Rattle.rx_rules.specs.declared.tasks.Where.TheVariants.{At, Travel}
 use Rattle.rx_rules.specs.declared.entries.Act.{Act}
-use Rattle.rx_rules.specs.declared.entries.Act.TheVariants.{Open, At as Calls, Spawn, Arrive, Wait, Release, End, Print}
+use Rattle.rx_rules.specs.declared.entries.Act.TheVariants.{Open, At as Calls, Spawn, Arrive, Wait, Release, End, Print, Census}
 use Rattle.rx_rules.specs.declared.entries.Entry.{Entry}
-use Rattle.rx_rules.specs.declared.entries.Entry.TheVariants.{Step, Root, Death}
+use Rattle.rx_rules.specs.declared.entries.Entry.TheVariants.{Step, Root, Death, Join}
 use Rattle.rx_rules.specs.Tree.{Tree, Task, Scope, Blow, Kind, Finish, Call, is_task, is_scope, task_of, scope_of, death_of, on_chain}
 use Rattle.rx_rules.specs.Tree.{is_under, quiet, own_scope, inner, governs, the_root}
 
@@ -56,16 +56,12 @@ born T number under from to =
 abbrev pub add_task : Task → Tree → Tree
 add_task x T = record T { tasks = x ∷ T.tasks; next_task = suc T.next_task }
 
--- one scope more
-abbrev pub add_scope : Scope → Tree → Tree
-add_scope g T = record T { scopes = g ∷ T.scopes; next_scope = suc T.next_scope }
-
--- a scope that a task opens, with its place as home
+-- one scope more: a task opens it, with its place as home
 abbrev pub opened : Tree → TaskId → Kind → ScopeId → ScopeId → Tree
 opened T t kind s r =
-    add_scope
-    (record { number = s; kind = kind; opener = Some t; home = home_for T t; parent = Some r; body = []; ends = [] })
-    T
+    let g : Scope =
+    record { number = s; kind = kind; opener = Some t; home = home_for T t; parent = Some r; body = []; ends = [] } in
+    record T { scopes = g ∷ T.scopes; next_scope = suc T.next_scope }
 
 -- the task waits
 abbrev pub waiting : Task → Task
@@ -90,6 +86,10 @@ hit b x = cond (is_none x.struck && is_hit b.place x.place) (record x { struck =
 abbrev pub strike : Blow → Tree → Tree
 strike b T = record T { tasks = map (hit b) T.tasks; dead = slice_set T.dead b.place.0 (Some b.entry) }
 
+-- a place that joins
+abbrev pub widened : Tree → Tree
+widened T = record T { places = suc T.places }
+
 -- Releases.
 
 -- the task was lost at the place
@@ -104,6 +104,12 @@ lost_under T s = filter (λ p. list_any (λ x. is_under T s x && was_lost_at p x
 abbrev pub thrown_of : Tree → ScopeId → List Fault
 thrown_of T s = elim (scope_of T s) [ Some g ↦ g.body ++ g.ends | None ↦ [] ]
 
+-- how many faults the scopes below s hold; the count stops at the greatest number of 32 bits
+abbrev pub masked_under : Tree → ScopeId → ℕ
+masked_under T s =
+    min 4294967295
+    (sum_by (λ g. length (g.body ++ g.ends)) (filter (λ g. on_chain T s g.number && not (is_scope s g)) T.scopes))
+
 -- the scope, those below it and the struck tasks under it are gone
 abbrev pub without : Tree → ScopeId → Tree
 without T s =
@@ -115,121 +121,65 @@ without T s =
 
 -- What each entry asks.
 
--- the task stands in the tree and no death has struck it
-pub record Acts (T : Tree) (t : TaskId) (x : Task) : Type 0 where
-  pub stands : task_of T t ≡ Some x
-  pub unstruck : x.struck ≡ None
+-- the task is at the place and does not wait
+abbrev pub IsLive : PlaceId → Task → Type 0
+IsLive p x = (x.place ≡ At p) × (x.waits ≡ false)
 
--- it is at the place and does not wait
-pub record IsLive (T : Tree) (t : TaskId) (p : PlaceId) (x : Task) : Type 0 where
-  pub acts : Acts T t x
-  pub is_at : x.place ≡ At p
-  pub moves : x.waits ≡ false
+-- the task is live somewhere
+abbrev pub IsLiveHere : Task → Type 0
+IsLiveHere x = (p : PlaceId) × IsLive p x
 
--- a finish is opened: the next scope, inside the inner one
-pub record MayOpen (T : Tree) (t : TaskId) (s r : ScopeId) : Type 0 where
-  pub task : Task
-  pub place : PlaceId
-  pub live : IsLive T t place task
-  pub next : s.0 ≡ T.next_scope
-  pub parent : r ≡ inner T task
+-- the scope of its own in which the task works
+abbrev pub WorksIn : Tree → TaskId → ScopeId → Scope → Type 0
+WorksIn T t s g = (own_scope T t ≡ Some g) × (g.number ≡ s)
 
--- an at is opened: the next scope, the next task, and a place that exists
-pub record MayCall (T : Tree) (t : TaskId) (s r : ScopeId) (callee : TaskId) (from to : PlaceId) : Type 0 where
-  pub task : Task
-  pub live : IsLive T t from task
-  pub next : s.0 ≡ T.next_scope
-  pub parent : r ≡ inner T task
-  pub next_task : callee.0 ≡ T.next_task
-  pub target : to.0 < T.places
-
--- a task is started: the next task, under the governing finish, for a place that exists
-pub record MaySpawn (T : Tree) (t child : TaskId) (s : ScopeId) (from to : PlaceId) : Type 0 where
-  pub task : Task
-  pub live : IsLive T t from task
-  pub next_task : child.0 ≡ T.next_task
-  pub under : s ≡ governs T task
-  pub target : to.0 < T.places
-
--- a task arrives where it travels to
-pub record MayArrive (T : Tree) (t : TaskId) (p : PlaceId) : Type 0 where
-  pub task : Task
-  pub from : PlaceId
-  pub acts : Acts T t task
-  pub travels : task.place ≡ Travel from p
-
--- a task waits at a finish: the scope of its own that it works in
-pub record MayWait (T : Tree) (t : TaskId) (s : ScopeId) : Type 0 where
-  pub task : Task
-  pub place : PlaceId
-  pub scope : Scope
-  pub live : IsLive T t place task
-  pub own : own_scope T t ≡ Some scope
-  pub is_it : scope.number ≡ s
-  pub finish : scope.kind ≡ Finish
-
--- a task releases the scope at which it waits, where that is quiet
-pub record MayRelease (T : Tree) (t : TaskId) (s : ScopeId) : Type 0 where
-  pub task : Task
-  pub scope : Scope
-  pub acts : Acts T t task
-  pub waits : task.waits ≡ true
-  pub own : own_scope T t ≡ Some scope
-  pub is_it : scope.number ≡ s
+-- what a release names and counts, and that the scope is quiet
+pub record MayFree (T : Tree) (s : ScopeId) (lost : PlaceSet) (masked : ℕ) (thrown : List Fault) : Type 0 where
   pub is_quiet : quiet T s ≡ true
-
--- a task ends: it has no scope of its own
-pub record MayEnd (T : Tree) (t : TaskId) : Type 0 where
-  pub task : Task
-  pub place : PlaceId
-  pub live : IsLive T t place task
-  pub none_open : own_scope T t ≡ None
-
--- a live task prints
-pub record MayPrint (T : Tree) (t : TaskId) : Type 0 where
-  pub task : Task
-  pub place : PlaceId
-  pub live : IsLive T t place task
-
--- what a release names
-pub record Names (T : Tree) (s : ScopeId) (lost : PlaceSet) (thrown : List Fault) : Type 0 where
   pub places : members lost ≡ lost_under T s
+  pub count : masked ≡ masked_under T s
   pub faults : thrown ≡ thrown_of T s
 
--- the host releases the root where it stands and is quiet
-pub record MayReleaseRoot (T : Tree) : Type 0 where
-  pub root : Scope
-  pub stands : scope_of T the_root ≡ Some root
-  pub is_quiet : quiet T the_root ≡ true
+-- what an act of task t, which is x, asks
+abbrev pub ActAsks : Tree → TaskId → Task → Act → Type 0
+ActAsks T t x (Open s r path) = IsLiveHere x × (s.0 ≡ T.next_scope) × (r ≡ inner T x)
+ActAsks T t x (Calls s r callee from to path) =
+    IsLive from x × (s.0 ≡ T.next_scope) × (r ≡ inner T x) × (callee.0 ≡ T.next_task) × (to.0 < T.places)
+ActAsks T t x (Spawn child s from to path) =
+    IsLive from x × (child.0 ≡ T.next_task) × (s ≡ governs T x) × (to.0 < T.places)
+ActAsks T t x (Arrive p) = (from : PlaceId) × (x.place ≡ Travel from p)
+ActAsks T t x (Wait s thrown) = IsLiveHere x × (g : Scope) × WorksIn T t s g × (g.kind ≡ Finish)
+ActAsks T t x (Release s lost masked thrown) =
+    (x.waits ≡ true) × (g : Scope) × WorksIn T t s g × MayFree T s lost masked thrown
+ActAsks T t x (End thrown) = IsLiveHere x × (own_scope T t ≡ None)
+ActAsks T t x (Print value path) = IsLiveHere x
+ActAsks T t x (Census places path) = IsLiveHere x × (places ≡ T.places)
 
--- a place that exists, lives and is not 0 dies
-pub record MayDie (T : Tree) (d : PlaceId) : Type 0 where
-  pub is_place : d.0 < T.places
-  pub not_zero : d.0 ≢ 0
-  pub lives : death_of T d ≡ None
+-- task t stands in the tree, no death has struck it, and P holds of it
+pub record Unstruck (T : Tree) (t : TaskId) (P : Task → Type 0) : Type 0 where
+  pub task : Task
+  pub stands : task_of T t ≡ Some task
+  pub unstruck : task.struck ≡ None
+  pub asks : P task
 
--- where an act of task t is allowed
+-- an act of task t is allowed: the task is unstruck, and as the act asks
 abbrev pub AllowedAct : Tree → TaskId → Act → Type 0
-AllowedAct T t (Open s r path) = MayOpen T t s r
-AllowedAct T t (Calls s r callee from to path) = MayCall T t s r callee from to
-AllowedAct T t (Spawn child s from to path) = MaySpawn T t child s from to
-AllowedAct T t (Arrive p) = MayArrive T t p
-AllowedAct T t (Wait s thrown) = MayWait T t s
-AllowedAct T t (Release s lost thrown) = MayRelease T t s × Names T s lost thrown
-AllowedAct T t (End thrown) = MayEnd T t
-AllowedAct T t (Print value path) = MayPrint T t
+AllowedAct T t act = Unstruck T t (λ x. ActAsks T t x act)
 
--- where an entry is allowed
+-- an entry is allowed; the root is there to be released once, place 0 does not die, and no place dies twice
 abbrev pub Allowed : Tree → Entry → Type 0
 Allowed T (Step t act batch) = AllowedAct T t act
-Allowed T (Root lost thrown) = MayReleaseRoot T × Names T the_root lost thrown
-Allowed T (Death d) = MayDie T d
+Allowed T (Root lost masked thrown) =
+    (g : Scope) × (scope_of T the_root ≡ Some g) × MayFree T the_root lost masked thrown
+Allowed T (Death d) = (d.0 < T.places) × (d.0 ≢ 0) × (death_of T d ≡ None)
+Allowed T (Join p) = (p.0 ≡ T.places) × (p.0 ≤ 15)
 
 -- the task has left, and its faults have joined those of its scope
 abbrev pub after_end : Tree → TaskId → List Fault → Tree
 after_end T t thrown =
     elim (task_of T t) [
-      | Some x ↦ change_scope (λ g. record g { ends = g.ends ++ thrown }) x.under
+      | Some x ↦
+          change_scope (λ g. record g { ends = g.ends ++ thrown }) x.under
           (record T { tasks = filter (λ y. not (is_task t y)) T.tasks })
       | None ↦ T
     ]
@@ -242,12 +192,14 @@ made_act T t (Calls s r callee from to path) =
 made_act T t (Spawn child s from to path) = add_task (born T child s from to) T
 made_act T t (Arrive p) = change_task (λ x. record x { place = At p }) t T
 made_act T t (Wait s thrown) = change_task waiting t (change_scope (λ g. record g { body = thrown }) s T)
-made_act T t (Release s lost thrown) = change_task resumed t (without T s)
+made_act T t (Release s lost masked thrown) = change_task resumed t (without T s)
 made_act T t (End thrown) = after_end T t thrown
 made_act T t (Print value path) = T
+made_act T t (Census places path) = T
 
 -- what entry n makes
 abbrev pub made : ℕ → Tree → Entry → Tree
 made n T (Step t act batch) = made_act T t act
-made n T (Root lost thrown) = without T the_root
+made n T (Root lost masked thrown) = without T the_root
 made n T (Death d) = strike (record { place = d; entry = n }) T
+made n T (Join p) = widened T

@@ -1,13 +1,14 @@
 -- What no run has, stated of the definitions: these laws show that they exclude what they must.
-use Rattle.std.specs.Prelude.{◌≡◌, ℕ, suc, ◌+◌, ◌<◌, ◌≤◌, true, List, [], ◌∷◌, ◌++◌, Option, Some, None}
+use Rattle.std.specs.Prelude.{◌≡◌, ◌≢◌, ℕ, suc, ◌+◌, ◌<◌, ◌≤◌, true, List, [], ◌∷◌, ◌++◌, Option, Some, None, slice_get}
 use Rattle.std.specs.List.{filter_map}
+use Rattle.rx_base.specs.Sets.{members}
 use Rattle.rx_base.specs.declared.ids.Kill.{Kill}
 use Rattle.rx_base.specs.declared.ids.PlaceId.{PlaceId}
 use Rattle.rx_base.specs.declared.values.Fault.{Fault}
 use Rattle.rx_rules.specs.declared.entries.Act.{Act}
-use Rattle.rx_rules.specs.declared.entries.Act.TheVariants.{Open, At as Calls, Spawn, Arrive, Wait, Release, End, Print}
+use Rattle.rx_rules.specs.declared.entries.Act.TheVariants.{Open, At as Calls, Spawn, Arrive, Release, End}
 use Rattle.rx_rules.specs.declared.entries.Entry.{Entry}
-use Rattle.rx_rules.specs.declared.entries.Entry.TheVariants.{Step, Root, Death}
+use Rattle.rx_rules.specs.declared.entries.Entry.TheVariants.{Step, Root}
 use Rattle.rx_rules.specs.declared.events.Cell.{Cell}
 use Rattle.rx_rules.specs.declared.events.PlaceEvent.{PlaceEvent}
 use Rattle.rx_rules.specs.Code.{Block}
@@ -19,8 +20,8 @@ use Rattle.rx_rules.specs.Examples.{p, loss_in_transit}
 -- no whole run over so many places begins with these entries, whatever the script, heap, kills, journals and the rest
 abbrev pub BeginsNoRun : ℕ → List Entry → Type 0
 BeginsNoRun places front =
-    (code : Block) (heap : ℕ) (kills : List Kill) (rest : List Entry) (js : List (List PlaceEvent))
-    → IsRun code (record { places = places; heap = heap; kills = kills }) (front ++ rest) js → ⊥
+    (code : Block) (heap : ℕ) (kills : List Kill) (joins : List ℕ) (rest : List Entry) (js : List (List PlaceEvent))
+    → IsRun code (record { places = places; heap = heap; kills = kills; joins = joins }) (front ++ rest) js → ⊥
 
 -- the history of the loss in transit, whose death is entry 3, is no run where that death is due at entry 2
 abbrev pub KillOneEntryLate : Type 0
@@ -29,6 +30,7 @@ KillOneEntryLate =
       places = 2;
       heap = heap;
       kills = record { place = p 1; moment = 2 } ∷ [];
+      joins = [];
     }) loss_in_transit js → ⊥
 
 -- the entries of task t in a history: number, act and batch
@@ -71,29 +73,15 @@ NeverArrived =
 
 -- the task that an entry brings
 abbrev pub born_in : Entry → Option ℕ
-born_in (Step t (Open s r path) batch) = None
 born_in (Step t (Calls s r callee from to path) batch) = Some callee.0
 born_in (Step t (Spawn child s from to path) batch) = Some child.0
-born_in (Step t (Arrive p) batch) = None
-born_in (Step t (Wait s thrown) batch) = None
-born_in (Step t (Release s lost thrown) batch) = None
-born_in (Step t (End thrown) batch) = None
-born_in (Step t (Print value path) batch) = None
-born_in (Root lost thrown) = None
-born_in (Death d) = None
+born_in _ = None
 
 -- the scope that an entry opens
 abbrev pub opened_in : Entry → Option ℕ
 opened_in (Step t (Open s r path) batch) = Some s.0
 opened_in (Step t (Calls s r callee from to path) batch) = Some s.0
-opened_in (Step t (Spawn child s from to path) batch) = None
-opened_in (Step t (Arrive p) batch) = None
-opened_in (Step t (Wait s thrown) batch) = None
-opened_in (Step t (Release s lost thrown) batch) = None
-opened_in (Step t (End thrown) batch) = None
-opened_in (Step t (Print value path) batch) = None
-opened_in (Root lost thrown) = None
-opened_in (Death d) = None
+opened_in _ = None
 
 -- the numbers are n, n + 1, .. in order
 abbrev pub CountFrom : ℕ → List ℕ → Type 0
@@ -105,3 +93,15 @@ abbrev pub NumbersInOrder : Type 0
 NumbersInOrder =
     (places : ℕ) (es : List Entry) → AllAllowed 0 (opening places) es → CountFrom 1 (filter_map born_in es)
     × CountFrom 1 (filter_map opened_in es)
+
+-- of a release that masks faults the set of lost places is not empty
+abbrev pub MaskedMeansLost : Entry → Type 0
+MaskedMeansLost (Step t (Release s lost masked thrown) batch) = masked ≢ 0 → members lost ≢ []
+MaskedMeansLost (Root lost masked thrown) = masked ≢ 0 → members lost ≢ []
+MaskedMeansLost _ = Unit {0}
+
+-- the same of each release of a history whose entries are allowed
+abbrev pub MaskedIsLost : Type 0
+MaskedIsLost =
+    (places : ℕ) (es : List Entry) → 1 ≤ places → places ≤ 16 → AllAllowed 0 (opening places) es →
+    (i : ℕ) (e : Entry) → slice_get es i ≡ Some e → MaskedMeansLost e

@@ -5,7 +5,7 @@ use Rattle.std.specs.Option.{option_or}
 use Rattle.std.specs.List.{list_any, list_all, cons_option}
 use Rattle.rx_base.specs.declared.place_set.PlaceSet.{PlaceSet}
 use Rattle.rx_base.specs.Sets.{all_places, members}
-use Rattle.rx_rules.specs.declared.entries.Act.TheVariants.{Open, At as Calls, Spawn, Arrive, Wait, Release, End, Print}
+use Rattle.rx_rules.specs.declared.entries.Act.TheVariants.{Open, At as Calls, Spawn, Arrive, Release, End}
 use Rattle.rx_rules.specs.declared.entries.Entry.{Entry}
 use Rattle.rx_rules.specs.declared.entries.Entry.TheVariants.{Step, Root, Death}
 
@@ -107,8 +107,8 @@ hit_at (e ∷ past) b = hit_at past b
 
 -- the entry releases the scope
 abbrev pub releases : ℕ → Entry → Bool
-releases g (Step t (Release s lost thrown) batch) = s.0 == g
-releases g (Root lost thrown) = 0 == g
+releases g (Step t (Release s lost masked thrown) batch) = s.0 == g
+releases g (Root lost masked thrown) = 0 == g
 releases g _ = false
 
 -- the scope was released
@@ -117,8 +117,8 @@ was_released past g = list_any (releases g) past
 
 -- what is asked of each release: of what stands before it, its scope, and the places that it names
 abbrev pub AtRelease : (List Entry → ℕ → PlaceSet → Type 0) → List Entry → Entry → Type 0
-AtRelease P past (Step t (Release s lost thrown) batch) = P past s.0 lost
-AtRelease P past (Root lost thrown) = P past 0 lost
+AtRelease P past (Step t (Release s lost masked thrown) batch) = P past s.0 lost
+AtRelease P past (Root lost masked thrown) = P past 0 lost
 AtRelease P past _ = Unit {0}
 
 -- the same of each release among the entries

@@ -1,19 +1,18 @@
 -- A task's term, answered by its events and entries, makes exactly these.
-use Rattle.std.specs.Prelude.{◌≡◌, ℕ, suc, ℤ, ◌+◌, ◌≤◌, Bool, true, false, cond, ◌==◌, List, [], ◌∷◌, ◌++◌, Option, Some, None}
+use Rattle.std.specs.Prelude.{◌≡◌, ℕ, suc, pos, ◌+◌, ◌≤◌, Bool, true, false, cond, ◌==◌, List, [], ◌∷◌, ◌++◌, Option, Some, None}
 use Rattle.std.specs.Prelude.{slice_get, length, map, not}
 use Rattle.std.specs.List.{filter_map, cons_option}
 use Rattle.rx_base.specs.declared.ids.PlaceId.{PlaceId}
 use Rattle.rx_base.specs.declared.ids.TaskId.{TaskId}
 use Rattle.rx_base.specs.declared.place_set.PlaceSet.{PlaceSet}
 use Rattle.rx_base.specs.Sets.{members}
-use Rattle.rx_base.specs.declared.ids.GlobalRef.{GlobalRef}
 use Rattle.rx_base.specs.declared.values.Value.TheVariants.{Num as Number, Ref}
 use Rattle.rx_base.specs.declared.values.Fault.{Fault}
 use Rattle.rx_base.specs.declared.values.Fault.TheVariants.{Dead, Stale, Index, HeapFull}
 use Rattle.rx_rules.specs.declared.entries.Act.{Act}
-use Rattle.rx_rules.specs.declared.entries.Act.TheVariants.{Open, At as Calls, Spawn, Arrive, Wait, Release, End, Print}
+use Rattle.rx_rules.specs.declared.entries.Act.TheVariants.{Open, At as Calls, Spawn, Arrive, Wait, Release, End, Print, Census}
 use Rattle.rx_rules.specs.declared.entries.Entry.{Entry}
-use Rattle.rx_rules.specs.declared.entries.Entry.TheVariants.{Step, Root, Death}
+use Rattle.rx_rules.specs.declared.entries.Entry.TheVariants.{Step}
 use Rattle.rx_rules.specs.declared.events.Cell.{Cell}
 use Rattle.rx_rules.specs.declared.events.Cell.TheVariants.{Make, MakeFull, Get, Put, Forget, GetRefused, PutRefused, ForgetStale}
 use Rattle.rx_rules.specs.declared.events.PlaceEvent.{PlaceEvent}
@@ -21,8 +20,8 @@ use Rattle.rx_rules.specs.declared.events.PlaceEvent.TheVariants.{Done as Did, C
 use Rattle.rx_rules.specs.Code.{Block}
 use Rattle.rx_rules.specs.Fold.{births}
 use Rattle.rx_rules.specs.Terms.{Term, Empty, Vars, no_vars, Answer, Gives, Fine, Fails, answered, vars_after, Does, Local, Makes, Gets}
-use Rattle.rx_rules.specs.Terms.{Puts, Forgets, Opens, Calls as Asks, Spawns, Waits, Releases, Prints, Done, does, begins, granted}
-use Rattle.rx_rules.specs.Terms.{child, items}
+use Rattle.rx_rules.specs.Terms.{Puts, Forgets, Opens, Calls as Asks, Spawns, Waits, Releases, Prints, Counts, Done, does, begins}
+use Rattle.rx_rules.specs.Terms.{bound, granted, child, items}
 
 -- the faults that a release raises: one for each place, and then those thrown
 abbrev pub raised_by : PlaceSet → List Fault → List Fault
@@ -47,6 +46,14 @@ Tells (Forgets target) here (Forget r) a = (r ≡ target) × (a ≡ Fine)
 Tells (Forgets target) here (ForgetStale r) a = (r ≡ target) × (a ≡ Fails Stale)
 Tells _ here cell a = ⊥
 
+-- the events of a task, each with its stamp and path
+abbrev pub Cells : Type 0
+Cells = List (ℕ × Cell × List ℕ)
+
+-- the entries of a task, each with its number and batch
+abbrev pub Moves : Type 0
+Moves = List (ℕ × Act × List (List ℕ))
+
 -- each task's term and variables at its birth
 abbrev pub Starts : Type 0
 Starts = List (Term × Vars)
@@ -57,8 +64,9 @@ Fits here t Opens (Open s r x) = begins t ≡ Some x
 Fits here t (Asks place) (Calls s r c from to x) = (to.0 ≡ place) × (from ≡ here) × (begins t ≡ Some x)
 Fits here t (Spawns place) (Spawn c s from to x) = (to.0 ≡ place) × (from ≡ here) × (begins t ≡ Some x)
 Fits here t (Waits faults) (Wait s thrown) = thrown ≡ faults
-Fits here t Releases (Release s lost thrown) = Unit {0}
+Fits here t Releases (Release s lost masked thrown) = Unit {0}
 Fits here t (Prints value) (Print z x) = (z ≡ value) × (begins t ≡ Some x)
+Fits here t (Counts name) (Census n x) = begins t ≡ Some x
 Fits here t _ act = ⊥
 
 -- the task that an act starts
@@ -69,42 +77,48 @@ started_by _ = None
 
 -- the task that the act starts begins with the child's term and a copy of the variables
 abbrev pub StartsSo : Starts → Term → Vars → Act → Type 0
-StartsSo starts t vars act = elim (started_by act) [ Some c ↦ slice_get starts c.0 ≡ Some (child t, vars) | None ↦ Unit {0} ]
+StartsSo starts t vars act =
+    elim (started_by act) [ Some c ↦ slice_get starts c.0 ≡ Some (child t, vars) | None ↦ Unit {0} ]
 
 -- the faults that a granted request brings
 abbrev pub brought : Act → List Fault
-brought (Release s lost thrown) = raised_by lost thrown
+brought (Release s lost masked thrown) = raised_by lost thrown
 brought _ = []
 
--- A task at `here` whose variables are vars and whose term is t, and which has begun the statements of the batch since its
--- last entry, makes these events and these moves, each in order. No stamp and no number is below `low`: that is the stamp of
--- its event before, or one more than the number of the entry before that concerns it.
-pub data Plays (starts : List (Term × Vars)) (here : PlaceId) (places : ℕ) : ℕ → Vars → Term → List (List ℕ)
-    → List (ℕ × Cell × List ℕ) → List (ℕ × Act × List (List ℕ)) → Type 0 where
-  local : {low : ℕ} {vars left : Vars} {t after : Term} {batch : List (List ℕ)} {cells : List (ℕ × Cell × List ℕ)}
-      {moves : List (ℕ × Act × List (List ℕ))} → does vars here.0 places t ≡ Local after left
-      → Plays starts here places low left after (begun t batch) cells moves → Plays starts here places low vars t batch cells moves
-  stores : {low : ℕ} {vars : Vars} {t : Term} {batch : List (List ℕ)} {cells : List (ℕ × Cell × List ℕ)}
-      {moves : List (ℕ × Act × List (List ℕ))} {stamp : ℕ} {cell : Cell} {x : List ℕ} (a : Answer) → low ≤ stamp
-      → Tells (does vars here.0 places t) here cell a → begins t ≡ Some x
-      → Plays starts here places stamp (vars_after a vars) (answered a t) (begun t batch) cells moves
-      → Plays starts here places low vars t batch ((stamp, cell, x) ∷ cells) moves
-  asks : {low : ℕ} {vars : Vars} {t : Term} {batch : List (List ℕ)} {cells : List (ℕ × Cell × List ℕ)}
-      {moves : List (ℕ × Act × List (List ℕ))} {n : ℕ} {act : Act} → low ≤ n → Fits here t (does vars here.0 places t) act
-      → StartsSo starts t vars act → Plays starts here places (suc n) vars (granted (brought act) t) [] cells moves
-      → Plays starts here places low vars t batch cells ((n, act, batch) ∷ moves)
-  ends : {low : ℕ} {vars : Vars} {t : Term} {batch : List (List ℕ)} {n : ℕ} {faults : List Fault} → low ≤ n
-      → does vars here.0 places t ≡ Done faults → Plays starts here places low vars t batch [] ((n, End faults, batch) ∷ [])
-  -- a task stops anywhere; that no other than a struck one does is a law of whole runs
-  stops : {low : ℕ} {vars : Vars} {t : Term} {batch : List (List ℕ)} → Plays starts here places low vars t batch [] []
+-- what the task knows after an act: a census tells it the number of places
+abbrev pub vars_told : Does → Act → Vars → Vars
+vars_told (Counts name) (Census n x) vars = record (bound name (Number (pos n)) vars) { places = n }
+vars_told _ act vars = vars
+
+-- A task at `here` that has these variables and this term, and that has begun the statements of the batch since its last
+-- entry, makes these events and these moves, each in order. A struck task stops anywhere: that others do not is a law. No
+-- stamp and no number is below `low`: that is the stamp of its event before, or one more than the number of its last entry.
+pub data Plays (starts : List (Term × Vars)) (here : PlaceId)
+    : ℕ → Vars → Term → List (List ℕ) → Cells → Moves → Type 0 where
+  local : {low : ℕ} {vars left : Vars} {t after : Term} {batch : List (List ℕ)} {cells : Cells} {moves : Moves} →
+      does vars here.0 t ≡ Local after left → Plays starts here low left after (begun t batch) cells moves →
+      Plays starts here low vars t batch cells moves
+  stores : {low : ℕ} {vars : Vars} {t : Term} {batch : List (List ℕ)} {cells : Cells} {moves : Moves}
+      {stamp : ℕ} {cell : Cell} {x : List ℕ} (a : Answer) →
+      low ≤ stamp → Tells (does vars here.0 t) here cell a → begins t ≡ Some x →
+      Plays starts here stamp (vars_after a vars) (answered a t) (begun t batch) cells moves →
+      Plays starts here low vars t batch ((stamp, cell, x) ∷ cells) moves
+  asks : {low : ℕ} {vars : Vars} {t : Term} {batch : List (List ℕ)} {cells : Cells} {moves : Moves}
+      {n : ℕ} {act : Act} →
+      low ≤ n → Fits here t (does vars here.0 t) act → StartsSo starts t vars act →
+      Plays starts here (suc n) (vars_told (does vars here.0 t) act vars) (granted (brought act) t) [] cells moves →
+      Plays starts here low vars t batch cells ((n, act, batch) ∷ moves)
+  ends : {low : ℕ} {vars : Vars} {t : Term} {batch : List (List ℕ)} {n : ℕ} {faults : List Fault} →
+      low ≤ n → does vars here.0 t ≡ Done faults → Plays starts here low vars t batch [] ((n, End faults, batch) ∷ [])
+  stops : {low : ℕ} {vars : Vars} {t : Term} {batch : List (List ℕ)} → Plays starts here low vars t batch [] []
 
 -- where a task travels, its arrival comes first
-abbrev pub Begins : Starts → PlaceId → ℕ → Bool → ℕ → Vars → Term → List (ℕ × Cell × List ℕ) → List (ℕ × Act × List (List ℕ)) → Type 0
-Begins starts here places false low vars t cells moves = Plays starts here places low vars t [] cells moves
-Begins starts here places true low vars t cells [] = cells ≡ []
-Begins starts here places true low vars t cells ((n, Arrive p, batch) ∷ moves) =
-    (batch ≡ []) × Plays starts here places (suc n) vars t [] cells moves
-Begins starts here places true low vars t cells _ = ⊥
+abbrev pub Begins : Starts → PlaceId → Bool → ℕ → Vars → Term → Cells → Moves → Type 0
+Begins starts here false low vars t cells moves = Plays starts here low vars t [] cells moves
+Begins starts here true low vars t cells [] = cells ≡ []
+Begins starts here true low vars t cells ((n, Arrive p, batch) ∷ moves) =
+    (batch ≡ []) × Plays starts here (suc n) vars t [] cells moves
+Begins starts here true low vars t cells _ = ⊥
 
 -- Reading a history.
 
@@ -135,8 +149,10 @@ pub record Birth : Type 0 where
 
 -- the birth of task t, if entry n is it
 abbrev pub birth_in : ℕ → ℕ → Entry → Option Birth
-birth_in n t (Step u (Calls s r c from to x) batch) = cond (c.0 == t) (Some (record { from = from; to = to; low = suc n })) None
-birth_in n t (Step u (Spawn c s from to x) batch) = cond (c.0 == t) (Some (record { from = from; to = to; low = suc n })) None
+birth_in n t (Step u (Calls s r c from to x) batch) =
+    cond (c.0 == t) (Some (record { from = from; to = to; low = suc n })) None
+birth_in n t (Step u (Spawn c s from to x) batch) =
+    cond (c.0 == t) (Some (record { from = from; to = to; low = suc n })) None
 birth_in n t _ = None
 
 -- the birth of task t among the entries from n on; task 0 is at place 0 from the start
@@ -153,17 +169,17 @@ abbrev pub travels : Birth → Bool
 travels b = not (b.from.0 == b.to.0)
 
 -- tasks n, n + 1, .. start so, and each makes exactly its events and entries
-abbrev pub EachPlays : List (Term × Vars) → ℕ → List Entry → List (List PlaceEvent) → ℕ → List (Term × Vars) → Type 0
-EachPlays starts places es js n [] = Unit {0}
-EachPlays starts places es js n (s ∷ more) =
-    Begins starts (birth_of es n).to places (travels (birth_of es n)) (birth_of es n).low s.1 s.0
+abbrev pub EachPlays : Starts → List Entry → List (List PlaceEvent) → ℕ → Starts → Type 0
+EachPlays starts es js n [] = Unit {0}
+EachPlays starts es js n (s ∷ more) =
+    Begins starts (birth_of es n).to (travels (birth_of es n)) (birth_of es n).low s.1 s.0
     (filter_map (cell_of n) (journal_at js (birth_of es n).to.0))
     (moves_from 0 es n)
-    × EachPlays starts places es js (suc n) more
+    × EachPlays starts es js (suc n) more
 
--- each task's term, answered by its events and entries, makes exactly these
+-- each task's term, answered by its events and entries, makes exactly these; task 0 knows the places of the setup
 pub record Played (code : Block) (places : ℕ) (es : List Entry) (js : List (List PlaceEvent)) : Type 0 where
   pub starts : List (Term × Vars)
-  pub main : slice_get starts 0 ≡ Some (items code [] Empty, no_vars)
+  pub main : slice_get starts 0 ≡ Some (items code [] Empty, no_vars places)
   pub all : length starts ≡ 1 + births es
-  pub each : EachPlays starts places es js 0 starts
+  pub each : EachPlays starts es js 0 starts

@@ -1,10 +1,14 @@
 -- The trees that can be reached.
-use Rattle.std.specs.Prelude.{ℕ, ◌<◌, ◌≤◌, Option, Some, None, All}
+use Rattle.std.specs.Prelude.{ℕ, suc, ◌<◌, ◌≤◌, List, Option, Some, None, All}
 use Rattle.rx_base.specs.declared.ids.TaskId.{TaskId}
+use Rattle.rx_base.specs.declared.ids.PlaceId.{PlaceId}
+use Rattle.rx_base.specs.declared.place_set.PlaceSet.{PlaceSet}
+use Rattle.rx_base.specs.declared.values.Fault.{Fault}
+use Rattle.rx_rules.specs.declared.entries.Entry.TheVariants.{Root, Death, Join}
 use Rattle.rx_rules.specs.declared.tasks.Blow.{Blow}
 use Rattle.rx_rules.specs.declared.entries.Act.{Act}
 use Rattle.rx_rules.specs.Tree.{Tree, the_root}
-use Rattle.rx_rules.specs.Entries.{AllowedAct, made_act, MayDie, MayReleaseRoot, strike, without}
+use Rattle.rx_rules.specs.Entries.{AllowedAct, Allowed, made_act, strike, without}
 use Rattle.rx_rules.specs.Fold.{opening}
 
 -- an earlier death, if there is one
@@ -16,5 +20,7 @@ IsOlder n (Some old) = old < n
 pub data Reached : Tree → Type 0 where
   opens : (places : ℕ) → 1 ≤ places → places ≤ 16 → Reached (opening places)
   acts : {T : Tree} (t : TaskId) (act : Act) → Reached T → AllowedAct T t act → Reached (made_act T t act)
-  ends : {T : Tree} → Reached T → MayReleaseRoot T → Reached (without T the_root)
-  dies : {T : Tree} (b : Blow) → Reached T → MayDie T b.place → All (IsOlder b.entry) T.dead → Reached (strike b T)
+  ends : {T : Tree} (lost : PlaceSet) (masked : ℕ) (thrown : List Fault) → Reached T → Allowed T (Root lost masked thrown)
+      → Reached (without T the_root)
+  dies : {T : Tree} (b : Blow) → Reached T → Allowed T (Death b.place) → All (IsOlder b.entry) T.dead → Reached (strike b T)
+  joins : {T : Tree} (p : PlaceId) → Reached T → Allowed T (Join p) → Reached (record T { places = suc T.places })

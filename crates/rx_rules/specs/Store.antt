@@ -82,7 +82,10 @@ MayCell w S (ForgetStale r) = block_of S r ≡ None
 -- the store after an event; what is refused or read changes nothing
 abbrev pub after_cell : State → Cell → State
 after_cell S (Make n start generation) =
-    record S { blocks = record { start = start; generation = generation; words = replicate n (pos 0) } ∷ S.blocks; made = suc S.made }
+    record S {
+      blocks = record { start = start; generation = generation; words = replicate n (pos 0) } ∷ S.blocks;
+      made = suc S.made;
+    }
 after_cell S (Put r i value) = record S { blocks = map (λ b. cond (is_block r b) (set_word i value b) b) S.blocks }
 after_cell S (Forget r) = record S { blocks = filter (λ b. not (is_block r b)) S.blocks }
 after_cell S _ = S

@@ -1,7 +1,7 @@
 -- What a task has still to run, and the steps of it.
 use Rattle.std.specs.Prelude.{ℕ, suc, ℤ, pos, negsuc, ◌+ℤ◌, ◌-ℤ◌, ◌*ℤ◌, int_lt, int_le, Bool, true, false, cond, ◌&&◌, ◌==◌, nat_lt}
 use Rattle.std.specs.Prelude.{nat_le, List, [], ◌∷◌, ◌++◌, Option, Some, None, Result, Ok, Err, slice_get, slice_set, replicate}
-use Rattle.std.specs.Prelude.{option_map}
+use Rattle.std.specs.Prelude.{option_map, option_and_then}
 use Rattle.std.specs.List.{list_all}
 use Rattle.rx_base.specs.declared.ids.GlobalRef.{GlobalRef}
 use Rattle.rx_base.specs.declared.values.Value.{Value}
@@ -9,28 +9,24 @@ use Rattle.rx_base.specs.declared.values.Value.TheVariants.{Num as Number, Ref}
 use Rattle.rx_base.specs.declared.values.Fault.{Fault}
 use Rattle.rx_base.specs.declared.values.Fault.TheVariants.{Dead, Thrown, Overflow, NoPlace, WrongPlace}
 use Rattle.rx_rules.specs.Code.{Op, Add, Sub, Mul, Less, Equal, Expr, Num, Name, Here, Bin, Block, Nothing, Then, Stmt, SetTo, New, Get}
-use Rattle.rx_rules.specs.Code.{Put, Forget, Print, Throw, Async, AtAsync, At, Finish, If, Repeat, Try}
+use Rattle.rx_rules.specs.Code.{Put, Forget, Print, Throw, Census, Async, AtAsync, At, Finish, If, Repeat, Try}
 
--- Variables: the value of each name, by its number.
-
+-- what a task knows: the value of each name, by its number, and how many places there are
 pub record Vars : Type 0 where
   pub values : List (Option Value)
+  pub places : ℕ
 
 -- no name has a value; there are at most 32 names
-abbrev pub no_vars : Vars
-no_vars = record { values = replicate 32 None }
-
-abbrev pub joined : Option (Option Value) → Option Value
-joined (Some v) = v
-joined None = None
+abbrev pub no_vars : ℕ → Vars
+no_vars places = record { values = replicate 32 None; places = places }
 
 -- the value of a name, where it has one
 abbrev pub value_of : Vars → ℕ → Option Value
-value_of vars x = joined (slice_get vars.values x)
+value_of vars x = option_and_then (λ v. v) (slice_get vars.values x)
 
 -- the variables with a value for a name
 abbrev pub bound : ℕ → Value → Vars → Vars
-bound name v vars = record { values = slice_set vars.values name (Some v) }
+bound name v vars = record vars { values = slice_set vars.values name (Some v) }
 
 -- Expressions, from left to right.
 
@@ -116,6 +112,7 @@ pub data Does : Type 0 where
   Waits : (faults : List Fault) → Does
   Releases : Does
   Prints : (value : ℤ) → Does
+  Counts : (name : ℕ) → Does
   -- the task ends
   Done : (faults : List Fault) → Does
 
@@ -136,7 +133,7 @@ raise f = Raise (f ∷ [])
 abbrev pub target_of : Option ℤ → ℕ → Result ℕ Fault
 target_of None places = Err Overflow
 target_of (Some (pos p)) places = cond (nat_lt p places) (Ok p) (Err NoPlace)
-target_of (Some (negsuc n)) places = Err NoPlace
+target_of _ places = Err NoPlace
 
 -- the reference that a variable holds
 abbrev pub ref_in : Option Value → GlobalRef
@@ -163,29 +160,30 @@ abbrev pub is_zero : ℤ → Bool
 is_zero z = int_le z (pos 0) && int_le (pos 0) z
 
 -- what the statement with the path x does
-abbrev pub stmt_does : Vars → ℕ → ℕ → Stmt → List ℕ → Term → Does
-stmt_does vars here places (SetTo name value) x rest =
+abbrev pub stmt_does : Vars → ℕ → Stmt → List ℕ → Term → Does
+stmt_does vars here (SetTo name value) x rest =
     with_number vars (eval vars here value) (λ z. Local rest (bound name (Number z) vars))
-stmt_does vars here places (New name words) x rest = Makes name words
-stmt_does vars here places (Get name target index) x rest =
+stmt_does vars here (New name words) x rest = Makes name words
+stmt_does vars here (Get name target index) x rest =
     with_number vars (eval vars here index) (λ k. on_ref vars here target (λ r. Gets name r k))
-stmt_does vars here places (Put target index value) x rest =
+stmt_does vars here (Put target index value) x rest =
     with_number vars (eval vars here index)
     (λ k. with_number vars (eval vars here value) (λ z. on_ref vars here target (λ r. Puts r k z)))
-stmt_does vars here places (Forget target) x rest = on_ref vars here target Forgets
-stmt_does vars here places (Print value) x rest = with_number vars (eval vars here value) Prints
-stmt_does vars here places (Throw value) x rest =
+stmt_does vars here (Forget target) x rest = on_ref vars here target Forgets
+stmt_does vars here (Print value) x rest = with_number vars (eval vars here value) Prints
+stmt_does vars here (Throw value) x rest =
     with_number vars (eval vars here value) (λ z. Local (raise (Thrown z)) vars)
-stmt_does vars here places (Async body) x rest = Spawns here
-stmt_does vars here places (AtAsync place body) x rest =
-    with_place vars (target_of (eval vars here place) places) Spawns
-stmt_does vars here places (At place body) x rest = with_place vars (target_of (eval vars here place) places) Calls
-stmt_does vars here places (Finish body) x rest = Opens
-stmt_does vars here places (If test first other) x rest =
+stmt_does vars here (Census name) x rest = Counts name
+stmt_does vars here (Async body) x rest = Spawns here
+stmt_does vars here (AtAsync place body) x rest =
+    with_place vars (target_of (eval vars here place) vars.places) Spawns
+stmt_does vars here (At place body) x rest = with_place vars (target_of (eval vars here place) vars.places) Calls
+stmt_does vars here (Finish body) x rest = Opens
+stmt_does vars here (If test first other) x rest =
     with_number vars (eval vars here test)
     (λ z. Local (cond (is_zero z) (items other (at x 1) rest) (items first (at x 0) rest)) vars)
-stmt_does vars here places (Repeat times body) x rest = Local (Turns body x 0 times rest) vars
-stmt_does vars here places (Try body dead_only handler) x rest =
+stmt_does vars here (Repeat times body) x rest = Local (Turns body x 0 times rest) vars
+stmt_does vars here (Try body dead_only handler) x rest =
     Local (Trying (items body (at x 0) Empty) dead_only handler x rest) vars
 
 -- the local step of a term in a context
@@ -206,17 +204,17 @@ body_does Empty inside rest = Waits []
 body_does (Raise faults) inside rest = Waits faults
 body_does _ inside rest = within (λ t. Body t rest) inside
 
--- what a term does next, at a place of so many
-abbrev pub does : Vars → ℕ → ℕ → Term → Does
-does vars here places Empty = Done []
-does vars here places (Raise faults) = Done faults
-does vars here places (Run stmt x rest) = stmt_does vars here places stmt x rest
-does vars here places (Turns body x k times rest) =
+-- what a term does next, at a place
+abbrev pub does : Vars → ℕ → Term → Does
+does vars here Empty = Done []
+does vars here (Raise faults) = Done faults
+does vars here (Run stmt x rest) = stmt_does vars here stmt x rest
+does vars here (Turns body x k times rest) =
     Local (cond (nat_le times k) rest (items body (at x k) (Turns body x (suc k) times rest))) vars
-does vars here places (Trying inside dead_only handler x rest) =
-    trying_does vars inside (does vars here places inside) dead_only handler x rest
-does vars here places (Body inside rest) = body_does inside (does vars here places inside) rest
-does vars here places (Held rest) = Releases
+does vars here (Trying inside dead_only handler x rest) =
+    trying_does vars inside (does vars here inside) dead_only handler x rest
+does vars here (Body inside rest) = body_does inside (does vars here inside) rest
+does vars here (Held rest) = Releases
 
 -- the innermost statement, with its path and the items after it, where one stands there
 pub record Front : Type 0 where

@@ -97,7 +97,8 @@ the_root = record { 0 = 0 }
 
 -- the first finish of the walk; the root is one, and stands until the end
 abbrev pub governing_in : List Scope → Option ScopeId → ScopeId
-governing_in scopes want = elim (find (λ g. is_finish g.kind) (chain_in scopes want)) [ Some g ↦ g.number | None ↦ the_root ]
+governing_in scopes want =
+    elim (find (λ g. is_finish g.kind) (chain_in scopes want)) [ Some g ↦ g.number | None ↦ the_root ]
 
 -- the first finish from the scope along parents
 abbrev pub governing : Tree → ScopeId → ScopeId

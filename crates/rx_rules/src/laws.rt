@@ -8,9 +8,13 @@ ghost use Rattle.rx_rules.specs.Examples.{full_setup, ordinary_case, ordinary_ca
 ghost use Rattle.rx_rules.specs.Examples.{adoption, adoption_journals, two_losses, two_losses_journals, at_waits, at_waits_journals};
 ghost use Rattle.rx_rules.specs.Examples.{source_dies, source_dies_journals, stale_reference, stale_reference_journals, full_heap};
 ghost use Rattle.rx_rules.specs.Examples.{full_heap_journals, early_release, runs_struck_message, names_finished_task};
-ghost use Rattle.rx_rules.specs.Examples.{drops_adopted_losses};
+ghost use Rattle.rx_rules.specs.Examples.{drops_adopted_losses, masked_script, masked_setup, masked_fault, masked_fault_journals};
+ghost use Rattle.rx_rules.specs.Examples.{joining_script, joining_setup, joining_place, joining_place_journals, brief_setup};
+ghost use Rattle.rx_rules.specs.Examples.{brief_place, brief_place_journals, joiner_setup, hides_masked_fault, skips_a_place};
+ghost use Rattle.rx_rules.specs.Examples.{counts_too_many};
 ghost use Rattle.rx_rules.specs.Fold.{tree_of, births};
-ghost use Rattle.rx_rules.specs.Run.{IsRun};
+ghost use Rattle.rx_rules.specs.Code.{Nothing};
+ghost use Rattle.rx_rules.specs.Run.{IsRun, Proper};
 ghost use Rattle.rx_rules.specs.Inversions.{BeginsNoRun, KillOneEntryLate, EndsLast, ArrivesFirst, NeverArrived, NumbersInOrder};
 
 /// The ordinary case is a whole run: a task is started, travels, arrives, prints and ends, and its finish is released.
@@ -53,6 +57,21 @@ pub fn full_heap_is_a_run()
     ensures { IsRun full_script full_setup full_heap full_heap_journals }
 {}
 
+/// A finish that adopts a task counts the fault with which it ended.
+pub fn masked_fault_is_a_run()
+    ensures { IsRun masked_script masked_setup masked_fault masked_fault_journals }
+{}
+
+/// A place joins, is counted, and is where a task is started.
+pub fn joining_place_is_a_run()
+    ensures { IsRun joining_script joining_setup joining_place joining_place_journals }
+{}
+
+/// Of a join and a death that are due at once the join comes first.
+pub fn brief_place_is_a_run()
+    ensures { IsRun Nothing brief_setup brief_place brief_place_journals }
+{}
+
 /// No finish is released while a task under it travels.
 pub fn early_release_is_no_run()
     ensures { BeginsNoRun 2 early_release }
@@ -71,6 +90,31 @@ pub fn named_finished_task_is_no_run()
 /// No release drops a loss that its scope has adopted.
 pub fn dropped_loss_is_no_run()
     ensures { BeginsNoRun 4 drops_adopted_losses }
+{}
+
+/// No release hides a fault that it masks.
+pub fn hidden_fault_is_no_run()
+    ensures { BeginsNoRun 3 hides_masked_fault }
+{}
+
+/// No place joins but the next.
+pub fn skipped_place_is_no_run()
+    ensures { BeginsNoRun 1 skips_a_place }
+{}
+
+/// No census counts a place that has not joined.
+pub fn early_census_is_no_run()
+    ensures { BeginsNoRun 1 counts_too_many }
+{}
+
+/// A place that joins does not die before.
+pub fn kill_before_join_is_not_proper()
+    ensures { Proper (joiner_setup 4) → ⊥ }
+{}
+
+/// It may die at once.
+pub fn kill_at_join_is_proper()
+    ensures { Proper (joiner_setup 5) }
 {}
 
 /// No kill is done an entry late.

@@ -1,4 +1,4 @@
--- No run is longer than what its script, its kills and the main task's end cost.
+-- No run is longer than what its script, its plan and the main task's end cost.
 use Rattle.std.specs.Prelude.{◌≡◌, ◌≢◌, ℕ, zero, suc, ◌+◌, ◌*◌, ◌<◌, ◌≤◌, ◌%◌, Bool, true, false, cond, List, [], ◌∷◌, ◌++◌, length, slice_get, slice_set, Option, Some, None, refl}
 use Rattle.std.proofs.Common.{ap, ◌∙◌, sym, subst, arith}
 use Rattle.std.proofs.lemmas.Bool.{or_right}
@@ -8,21 +8,20 @@ use Rattle.rx_base.specs.declared.ids.PlaceId.{PlaceId}
 use Rattle.rx_base.specs.declared.ids.TaskId.{TaskId}
 use Rattle.rx_rules.specs.declared.tasks.Where.{Where}
 use Rattle.rx_rules.specs.declared.tasks.Where.TheVariants.{At, Travel}
-use Rattle.rx_base.specs.declared.ids.Kill.{Kill}
 use Rattle.rx_rules.specs.declared.tasks.Task.{Task}
 use Rattle.rx_base.specs.declared.values.Fault.{Fault}
 use Rattle.rx_rules.specs.declared.entries.Act.{Act}
-use Rattle.rx_rules.specs.declared.entries.Act.TheVariants.{Open, At as Calls, Spawn, Arrive, Wait, Release, End, Print}
+use Rattle.rx_rules.specs.declared.entries.Act.TheVariants.{Open, At as Calls, Spawn, Arrive, Wait, Release, End, Print, Census}
 use Rattle.rx_rules.specs.declared.entries.Entry.{Entry}
-use Rattle.rx_rules.specs.declared.entries.Entry.TheVariants.{Step, Death}
+use Rattle.rx_rules.specs.declared.entries.Entry.TheVariants.{Step, Root, Death, Join}
 use Rattle.rx_rules.specs.Code.{Block, work}
 use Rattle.rx_rules.specs.Terms.{Empty, items, granted, child}
 use Rattle.rx_rules.specs.Tree.{Tree}
 use Rattle.rx_rules.specs.Entries.{AllowedAct}
 use Rattle.rx_rules.specs.Plays.{Birth, birth_of, moves_from, travels, started_by, brought}
-use Rattle.rx_rules.specs.Run.{Given, IsDue, rest_of}
+use Rattle.rx_rules.specs.Run.{Given, Event, in_all, plan_of, IsDue, rest_of}
 use Rattle.rx_rules.specs.Picked as picked
-use Rattle.rx_rules.specs.Picked.{Player, Game, Turn, Turns, start_game, enabled, tree_in, child_of}
+use Rattle.rx_rules.specs.Picked.{Player, Game, Turn, Turns, start_game, enabled, tree_in, acted, child_of}
 use Rattle.rx_rules.specs.Run.{NoRoot}
 use Rattle.rx_rules.proofs.Numbers.{next-tree}
 use Rattle.rx_runs.specs.Costs.{cost}
@@ -32,11 +31,12 @@ use Rattle.rx_runs.proofs.Pushes.{birth-push}
 use Rattle.rx_runs.proofs.Pairs.{pairs-get, pairs-length, set_same}
 use Rattle.rx_runs.proofs.Told.{Told, told, StartsAt}
 use Rattle.rx_runs.proofs.Rows.{row-found}
-use Rattle.rx_runs.proofs.Tying.{no_move}
+use Rattle.rx_runs.proofs.Planned.{IsPlanned, due_planned}
+use Rattle.rx_runs.proofs.Tying.{no_move, no_move_joins}
 use Rattle.rx_runs.proofs.Journals.{longer}
 use Rattle.rx_runs.proofs.Keeping.{picked_row, root_not, turn_keeps}
 use Rattle.rx_runs.proofs.Theorem.{turn_grows}
-use Rattle.rx_runs.proofs.Pigeons.{kills_fit}
+use Rattle.rx_runs.proofs.Plans.{plan_few}
 use Rattle.rx_runs.proofs.Opening.{starts_ok}
 use Rattle.rx_runs.proofs.Costs.{cost_items}
 use Rattle.rx_runs.specs.Bounds.{TurnsBounded, EntriesBounded}
@@ -114,17 +114,25 @@ children_owe es ps r (Some c) = owes-push es 0 ps (record { term = child r.term;
 
 starts_at : (size : ℕ) (T : Tree) (t : TaskId) (act : Act) → T.next_task ≡ size → AllowedAct T t act → StartsAt size act
 starts_at size T t (Open s r x) e may = tt
-starts_at size T t (Calls s r c from to x) e may = may.next_task ∙ e
-starts_at size T t (Spawn c s from to x) e may = may.next_task ∙ e
+starts_at size T t (Calls s r c from to x) e may = may.asks.3 ∙ e
+starts_at size T t (Spawn c s from to x) e may = may.asks.1 ∙ e
 starts_at size T t (Arrive p) e may = tt
 starts_at size T t (Wait s thrown) e may = tt
-starts_at size T t (Release s lost thrown) e may = tt
+starts_at size T t (Release s lost masked thrown) e may = tt
 starts_at size T t (End thrown) e may = tt
 starts_at size T t (Print value x) e may = tt
+starts_at size T t (Census places x) e may = tt
 
-pub one_less : (n : ℕ) (d : PlaceId) (ks : List Kill) → IsDue n d ks → length (rest_of ks) + 1 ≤ length ks
-one_less n d [] h = absurd h
-one_less n d (k ∷ ks) h = omega arith
+pub one_less : (n : ℕ) (e : Entry) (xs : List Event) → IsDue n e xs → length (rest_of xs) + 1 ≤ length xs
+one_less n e [] h = absurd h
+one_less n e (x ∷ xs) h = omega arith
+
+-- a death and a join are of no task
+planned_same : (es : List Entry) (e : Entry) (m : ℕ) → IsPlanned e → Same es (es ++ e ∷ []) m
+planned_same es (Death d) m h = (birth-push 0 es (Death d) m refl, no_move es d m)
+planned_same es (Join p) m h = (birth-push 0 es (Join p) m refl, no_move_joins es p m)
+planned_same es (Step t act batch) m h = absurd h
+planned_same es (Root lost masked thrown) m h = absurd h
 
 module _ (code : Block) (U : Given) (G : Game) (ok : GameOk code U G) where
   next_one : (tree_in U G).next_task ≡ length ok.starts
@@ -134,7 +142,7 @@ module _ (code : Block) (U : Given) (G : Game) (ok : GameOk code U G) where
   step_pays t act batch p q c at low player le =
       let fs : List Entry = G.entries ++ Step t act batch ∷ [] in
       let d : Told (length ok.starts) G.entries fs t act batch = told (length ok.starts) G.entries t act batch at in
-      let long : length ok.starts ≡ length G.players = pairs-length (PlayerSo ok.starts U.places G.entries G.journals) 0 ok.starts G.players ok.each in
+      let long : length ok.starts ≡ length G.players = pairs-length (PlayerSo ok.starts G.entries G.journals) 0 ok.starts G.players ok.each in
       let z : 0 + t.0 ≡ t.0 = omega arith in
       let now : owed (birth_of fs t.0) (moves_from 0 fs t.0) q ≡ owed (birth_of G.entries t.0) (moves_from 0 G.entries t.0 ++ (length G.entries, act, batch) ∷ []) q = ap (λ (b : Birth). owed b (moves_from 0 fs t.0) q) (d.births t.0 low) ∙ ap (λ (ms : Moves). owed (birth_of G.entries t.0) ms q) d.own in
       let less : owed (birth_of fs t.0) (moves_from 0 fs t.0) q + c ≤ owed (birth_of G.entries t.0) (moves_from 0 G.entries t.0) p = subst (λ (v : ℕ). v + c ≤ owed (birth_of G.entries t.0) (moves_from 0 G.entries t.0) p) (sym now) le in
@@ -142,14 +150,14 @@ module _ (code : Block) (U : Given) (G : Game) (ok : GameOk code U G) where
       (subst (λ (i : ℕ). owed (birth_of fs i) (moves_from 0 fs i) q + c ≤ owed (birth_of G.entries i) (moves_from 0 G.entries i) p) (sym z) less)
 
   -- an entry is paid by the task that makes it
-  pays_move : (i : ℕ) (x : Task) (here : PlaceId) (p r : Player) (act : Act) → slice_get (enabled (tree_in U G)) i ≡ Some x → x.place ≡ At here → slice_get G.players x.number.0 ≡ Some p → cost r.term ≤ cost p.term → cost (granted (brought act) r.term) + brings (child r.term) (started_by act) + 1 ≤ cost r.term → AllowedAct (tree_in U G) x.number act → owes (G.entries ++ Step x.number act r.batch ∷ []) 0 (slice_set G.players x.number.0 (record { term = granted (brought act) r.term; vars = r.vars; batch = [] }) ++ child_of r act) + 1 ≤ owes G.entries 0 G.players
+  pays_move : (i : ℕ) (x : Task) (here : PlaceId) (p r : Player) (act : Act) → slice_get (enabled (tree_in U G)) i ≡ Some x → x.place ≡ At here → slice_get G.players x.number.0 ≡ Some p → cost r.term ≤ cost p.term → cost (granted (brought act) r.term) + brings (child r.term) (started_by act) + 1 ≤ cost r.term → AllowedAct (tree_in U G) x.number act → owes (G.entries ++ Step x.number act r.batch ∷ []) 0 (slice_set G.players x.number.0 (acted here r act) ++ child_of r act) + 1 ≤ owes G.entries 0 G.players
   pays_move i x here p r act pick at player walk fit may =
       let t : TaskId = x.number in
-      let last : Player = record { term = granted (brought act) r.term; vars = r.vars; batch = [] } in
+      let last : Player = acted here r act in
       let fs : List Entry = G.entries ++ Step t act r.batch ∷ [] in
       let b : Birth = birth_of G.entries t.0 in
       let ms : Moves = moves_from 0 G.entries t.0 in
-      let found = picked_row U.places (length ok.starts) G.entries (tree_in U G) i x ok.ties pick in
+      let found = picked_row (in_all U) (length ok.starts) G.entries (tree_in U G) i x ok.ties pick in
       let old : cost p.term + 1 ≤ owed b ms p = owed_old b ms p found.1.going in
       let new : owed b (ms ++ (length G.entries, act, r.batch) ∷ []) last ≤ cost (granted (brought act) r.term) + 1 = owed_new b ms (length G.entries, act, r.batch) last in
       let set : owes fs 0 (slice_set G.players t.0 last) + (brings (child r.term) (started_by act) + 1) ≤ owes G.entries 0 G.players = step_pays t act r.batch p last (brings (child r.term) (started_by act) + 1) (starts_at (length ok.starts) (tree_in U G) t act next_one may) found.0 player (omega (arith, old, new, walk, fit)) in
@@ -161,7 +169,7 @@ module _ (code : Block) (U : Given) (G : Game) (ok : GameOk code U G) where
       let t : TaskId = x.number in
       let b : Birth = birth_of G.entries t.0 in
       let ms : Moves = moves_from 0 G.entries t.0 in
-      let found = picked_row U.places (length ok.starts) G.entries (tree_in U G) i x ok.ties pick in
+      let found = picked_row (in_all U) (length ok.starts) G.entries (tree_in U G) i x ok.ties pick in
       let old : cost p.term + 1 ≤ owed b ms p = owed_old b ms p found.1.going in
       let m : ℕ × Act × List (List ℕ) = (length G.entries, End faults, batch) in
       let over : has_end (ms ++ m ∷ []) ≡ true = list_any-append is_end ms (m ∷ []) ∙ or_right (has_end ms) (has_end (m ∷ [])) refl in
@@ -180,34 +188,35 @@ module _ (code : Block) (U : Given) (G : Game) (ok : GameOk code U G) where
       let set : owes (G.entries ++ Step t (Arrive p) [] ∷ []) 0 (slice_set G.players t.0 o) + 1 ≤ owes G.entries 0 G.players = step_pays t (Arrive p) [] o o 1 tt low player (omega (arith, new, empty, one)) in
       subst (λ (ps : List Player). owes (G.entries ++ Step t (Arrive p) [] ∷ []) 0 ps + 1 ≤ owes G.entries 0 G.players) (set_same G.players t.0 o player) set
 
--- what is made, what is owed and the kills that are left never grow
+-- what is made, what is owed and what is left of the plan never grow
 abbrev pub total : Game → ℕ
-total G = length G.entries + owes G.entries 0 G.players + length G.kills
+total G = length G.entries + owes G.entries 0 G.players + length G.plan
 
 pub turn_pays : (code : Block) (U : Given) (k : ℕ) (used : Bool) (G G' : Game) → GameOk code U G → Turn U k G used G' → NoRoot G'.entries → total G' ≤ total G
-turn_pays code U k used G G' ok (picked.dies d due) h =
-    let fs : List Entry = G.entries ++ Death d ∷ [] in
-    let same : owes fs 0 G.players ≡ owes G.entries 0 G.players = owes-map G.entries fs 0 G.players (λ m le low. (birth-push 0 G.entries (Death d) m refl, no_move G.entries d m)) in
-    let size : length fs ≡ suc (length G.entries) = longer G.entries (Death d) in
-    let less : length (rest_of G.kills) + 1 ≤ length G.kills = one_less (length G.entries) d G.kills due in
+turn_pays code U k used G G' ok (picked.due e now) h =
+    let fs : List Entry = G.entries ++ e ∷ [] in
+    let planned : IsPlanned e = due_planned (length G.entries) (in_all U) (tree_in U G).places G.entries G.plan e now ok.plan in
+    let same : owes fs 0 G.players ≡ owes G.entries 0 G.players = owes-map G.entries fs 0 G.players (λ m le low. planned_same G.entries e m planned) in
+    let size : length fs ≡ suc (length G.entries) = longer G.entries e in
+    let less : length (rest_of G.plan) + 1 ≤ length G.plan = one_less (length G.entries) e G.plan now in
     omega (arith, same, size, less)
-turn_pays code U k used G G' ok (picked.arrives x p none_due pick may) h =
+turn_pays code U k used G G' ok (picked.arrives x p takes may) h =
     let t : TaskId = x.number in
-    let found = row-found t may.task (length ok.starts) G.entries (tree_in U G).tasks may.acts.stands may.acts.unstruck ok.ties.rows in
-    let row : RowSo G.entries t.0 (Travel may.from p) = subst (λ (w : Where). RowSo G.entries t.0 w) may.travels found.1 in
+    let found = row-found t may.task (length ok.starts) G.entries (tree_in U G).tasks may.stands may.unstruck ok.ties.rows in
+    let row : RowSo G.entries t.0 (Travel may.asks.0 p) = subst (λ (w : Where). RowSo G.entries t.0 w) may.asks.1 found.1 in
     let both = pairs-get 0 t.0 ok.starts G.players found.0 ok.each in
-    let paid : owes (G.entries ++ Step t (Arrive p) [] ∷ []) 0 G.players + 1 ≤ owes G.entries 0 G.players = pays_arrival code U G ok t p may.from both.right found.0 row both.at_right in
+    let paid : owes (G.entries ++ Step t (Arrive p) [] ∷ []) 0 G.players + 1 ≤ owes G.entries 0 G.players = pays_arrival code U G ok t p may.asks.0 both.right found.0 row both.at_right in
     let size : length (G.entries ++ Step t (Arrive p) [] ∷ []) ≡ suc (length G.entries) = longer G.entries (Step t (Arrive p) []) in
     omega (arith, paid, size)
-turn_pays code U k used G G' ok (picked.moves x here p q S Z j act none_due pick at player store goes fits may) h =
-    let paid : owes G'.entries 0 G'.players + 1 ≤ owes G.entries 0 G.players = pays_move code U G ok (k % length (enabled (tree_in U G))) x here p q act pick at player (goes_cost goes) (fits_cost here U.places q act fits) may in
+turn_pays code U k used G G' ok (picked.moves x here p q S Z j act takes at player store goes fits may) h =
+    let paid : owes G'.entries 0 G'.players + 1 ≤ owes G.entries 0 G.players = pays_move code U G ok (k % length (enabled (tree_in U G))) x here p q act takes.1 at player (goes_cost goes) (fits_cost here q act fits) may in
     let size : length (G.entries ++ Step x.number act q.batch ∷ []) ≡ suc (length G.entries) = longer G.entries (Step x.number act q.batch) in
     omega (arith, paid, size)
-turn_pays code U k used G G' ok (picked.ends x here p q S Z j faults none_due pick at player store goes done may) h =
-    let paid : owes (G.entries ++ Step x.number (End faults) q.batch ∷ []) 0 G.players + 1 ≤ owes G.entries 0 G.players = pays_end code U G ok (k % length (enabled (tree_in U G))) x p faults q.batch pick player in
+turn_pays code U k used G G' ok (picked.ends x here p q S Z j faults takes at player store goes done may) h =
+    let paid : owes (G.entries ++ Step x.number (End faults) q.batch ∷ []) 0 G.players + 1 ≤ owes G.entries 0 G.players = pays_end code U G ok (k % length (enabled (tree_in U G))) x p faults q.batch takes.1 player in
     let size : length (G.entries ++ Step x.number (End faults) q.batch ∷ []) ≡ suc (length G.entries) = longer G.entries (Step x.number (End faults) q.batch) in
     omega (arith, paid, size)
-turn_pays code U k used G G' ok (picked.root lost thrown none_due empty may) h = absurd (root_not G.entries lost thrown h)
+turn_pays code U k used G G' ok (picked.root lost masked thrown none_due empty may) h = absurd (root_not G.entries lost masked thrown h)
 
 turns_pay : (code : Block) (U : Given) (picks : ℕ → ℕ) (n j : ℕ) (G G' : Game) → GameOk code U G → Turns U picks n j G G' → length G'.entries ≤ total G + 1
 turns_pay code U picks n j G G' ok picked.none = omega arith
@@ -233,12 +242,12 @@ pub entries_bounded : EntriesBounded
 entries_bounded code U picks n G proper ts =
     let all : length G.entries ≤ total (start_game code U) + 1 = turns_pay code U picks n 0 (start_game code U) G (starts_ok code U proper) ts in
     let first : cost (items code [] Empty) ≡ 4 * work code + 0 = cost_items code [] 0 Empty in
-    let start : total (start_game code U) ≡ 0 + ((1 + cost (items code [] Empty) + 0) + 0) + length U.kills = refl in
-    let few : length U.kills + 1 ≤ U.places = kills_fit U.places U.kills proper.some proper.kills in
+    let start : total (start_game code U) ≡ 0 + ((1 + cost (items code [] Empty) + 0) + 0) + length (plan_of U) = refl in
+    let few : length (plan_of U) + 1 ≤ U.places + 2 * length U.joins = plan_few U proper in
     omega (arith, all, first, start, few)
 
 pub turns_bounded : TurnsBounded
 turns_bounded code U picks n G proper ts =
     let made : length G.entries ≡ n + 0 = turns_make U picks n 0 (start_game code U) G ts in
-    let few : length G.entries ≤ 4 * work code + U.places + 1 = entries_bounded code U picks n G proper ts in
+    let few : length G.entries ≤ 4 * work code + U.places + 2 * length U.joins + 1 = entries_bounded code U picks n G proper ts in
     omega (arith, made, few)

@@ -2,15 +2,15 @@
 use Rattle.std.specs.Prelude.{◌≡◌, ℕ, suc, ◌+◌, ◌*◌, ◌≤◌, List, [], ◌∷◌, ◌++◌, length, refl}
 use Rattle.std.proofs.Common.{◌∙◌, sym, arith}
 use Rattle.std.proofs.lemmas.List.Sums.{sum_by-cons}
-use Rattle.rx_rules.specs.declared.entries.Act.TheVariants.{Open, At as Calls, Spawn, Arrive, Wait, Release, End, Print}
+use Rattle.rx_rules.specs.declared.entries.Act.TheVariants.{Open, At as Calls, Spawn, Arrive, Wait, Release, End, Print, Census}
 use Rattle.rx_rules.specs.declared.entries.Entry.{Entry}
-use Rattle.rx_rules.specs.declared.entries.Entry.TheVariants.{Step, Root, Death}
+use Rattle.rx_rules.specs.declared.entries.Entry.TheVariants.{Step, Root, Death, Join}
 use Rattle.rx_rules.specs.Code.{Block, work}
 use Rattle.rx_rules.specs.Terms.{Empty, items}
 use Rattle.rx_rules.specs.Tree.{Tree}
 use Rattle.rx_rules.specs.Entries.{made}
 use Rattle.rx_rules.specs.Fold.{births, births_of, fold_from, opening}
-use Rattle.rx_rules.specs.Run.{Given, Proper, NoRoot}
+use Rattle.rx_rules.specs.Run.{Given, Proper, plan_of, NoRoot}
 use Rattle.rx_rules.specs.Picked.{Game, Comes, opens, turns, start_game, tree_in}
 use Rattle.rx_rules.proofs.Numbers.{scope-after_end, next-tree}
 use Rattle.rx_runs.specs.Costs.{cost}
@@ -24,7 +24,8 @@ use Rattle.rx_runs.proofs.Bounding.{total, turn_pays}
 use Rattle.rx_runs.proofs.Costs.{cost_items}
 use Rattle.rx_runs.proofs.Keeping.{turn_keeps}
 use Rattle.rx_runs.proofs.Opening.{starts_ok}
-use Rattle.rx_runs.proofs.Pigeons.{kills_fit}
+use Rattle.rx_runs.proofs.Knowing.{comes_knowing}
+use Rattle.rx_runs.proofs.Plans.{plan_few}
 
 scope-made : (n : ℕ) (T : Tree) (e : Entry) → (made n T e).next_scope ≤ T.next_scope + 1
 scope-made n T (Step t (Open s r path) batch) = omega arith
@@ -32,11 +33,13 @@ scope-made n T (Step t (Calls s r callee from to path) batch) = omega arith
 scope-made n T (Step t (Spawn child s from to path) batch) = omega arith
 scope-made n T (Step t (Arrive p) batch) = omega arith
 scope-made n T (Step t (Wait s thrown) batch) = omega arith
-scope-made n T (Step t (Release s lost thrown) batch) = omega arith
+scope-made n T (Step t (Release s lost masked thrown) batch) = omega arith
 scope-made n T (Step t (End thrown) batch) = let e = scope-after_end T t thrown in omega (arith, e)
 scope-made n T (Step t (Print value path) batch) = omega arith
-scope-made n T (Root lost thrown) = omega arith
+scope-made n T (Step t (Census value path) batch) = omega arith
+scope-made n T (Root lost masked thrown) = omega arith
 scope-made n T (Death d) = omega arith
+scope-made n T (Join p) = omega arith
 
 scope-fold : (n : ℕ) (T : Tree) (es : List Entry) → (fold_from n T es).next_scope ≤ T.next_scope + length es
 scope-fold n T [] = omega arith
@@ -51,11 +54,13 @@ birth-one (Step t (Calls s r callee from to path) batch) = omega arith
 birth-one (Step t (Spawn child s from to path) batch) = omega arith
 birth-one (Step t (Arrive p) batch) = omega arith
 birth-one (Step t (Wait s thrown) batch) = omega arith
-birth-one (Step t (Release s lost thrown) batch) = omega arith
+birth-one (Step t (Release s lost masked thrown) batch) = omega arith
 birth-one (Step t (End thrown) batch) = omega arith
 birth-one (Step t (Print value path) batch) = omega arith
-birth-one (Root lost thrown) = omega arith
+birth-one (Step t (Census value path) batch) = omega arith
+birth-one (Root lost masked thrown) = omega arith
 birth-one (Death d) = omega arith
+birth-one (Join p) = omega arith
 
 births-few : (es : List Entry) → births es ≤ length es
 births-few [] = omega arith
@@ -68,8 +73,9 @@ births-few (e ∷ es) =
 stood : (es : List Entry) (e : Entry) → NoRoot (es ++ e ∷ []) → NoRoot es
 stood [] e h = tt
 stood (Step t act batch ∷ es) e h = stood es e h
-stood (Root lost thrown ∷ es) e h = absurd h
+stood (Root lost masked thrown ∷ es) e h = absurd h
 stood (Death d ∷ es) e h = stood es e h
+stood (Join p ∷ es) e h = stood es e h
 
 came : (code : Block) (U : Given) (G : Game) → Proper U → Comes code U G → NoRoot G.entries → GameOk code U G × AllFit (tree_in U G) G.players × (total G ≤ total (start_game code U))
 came code U G proper opens h = (starts_ok code U proper, starts_fit code U, omega arith)
@@ -82,7 +88,7 @@ came code U G' proper (turns {G = G} c free t) h =
 pub goes_on : GoesOn
 goes_on code U G proper c h k =
     let was = came code U G proper c h in
-    let t = next_of code U G was.0 was.1 k in
+    let t = next_of code U G was.0 was.1 (comes_knowing code U G c) k in
     (t.0, t.1, t.2)
 
 pub games_come : GamesCome
@@ -91,12 +97,12 @@ games_come code U G proper c h =
     let ok = both.0 in
     let all : total G ≤ total (start_game code U) = both.2 in
     let first : cost (items code [] Empty) ≡ 4 * work code + 0 = cost_items code [] 0 Empty in
-    let start : total (start_game code U) ≡ 0 + ((1 + cost (items code [] Empty) + 0) + 0) + length U.kills = refl in
-    let few : length U.kills + 1 ≤ U.places = kills_fit U.places U.kills proper.some proper.kills in
+    let start : total (start_game code U) ≡ 0 + ((1 + cost (items code [] Empty) + 0) + 0) + length (plan_of U) = refl in
+    let few : length (plan_of U) + 1 ≤ U.places + 2 * length U.joins = plan_few U proper in
     let scopes : (tree_in U G).next_scope ≤ 1 + length G.entries = scope-fold 0 (opening U.places) G.entries in
     let tasks : (tree_in U G).next_task ≡ 1 + births G.entries = next-tree U.places G.entries in
     let born : births G.entries ≤ length G.entries = births-few G.entries in
-    let size : length ok.starts ≡ length G.players = pairs-length (PlayerSo ok.starts U.places G.entries G.journals) 0 ok.starts G.players ok.each in
+    let size : length ok.starts ≡ length G.players = pairs-length (PlayerSo ok.starts G.entries G.journals) 0 ok.starts G.players ok.each in
     let starts : length ok.starts ≡ 1 + births G.entries = ok.all in
     record {
       ok = ok;

@@ -11,7 +11,7 @@ use Rattle.rx_base.specs.declared.values.Fault.TheVariants.{WrongPlace, Thrown}
 use Rattle.rx_base.proofs.Numbers.{add-one}
 use Rattle.rx_rules.specs.Code as code
 use Rattle.rx_rules.specs.Code.{Block, Nothing, Then, Stmt, work, work_of}
-use Rattle.rx_rules.specs.Terms.{bound, Term, Empty, Raise, Run, Turns, Trying, Body, Held, Does, Local, Makes, Gets, Puts, Forgets, Opens, Calls, Spawns, Waits, Releases, Prints, Done, granted, child, Vars, does, items, items_from, at, eval, with_number, with_place, target_of, on_ref, ref_in, is_zero, stmt_does, trying_does, body_does, catches, or_raise, raise, value_of, within}
+use Rattle.rx_rules.specs.Terms.{bound, Term, Empty, Raise, Run, Turns, Trying, Body, Held, Does, Local, Makes, Gets, Puts, Forgets, Opens, Calls, Spawns, Waits, Releases, Prints, Counts, Done, granted, child, Vars, does, items, items_from, at, eval, with_number, with_place, target_of, on_ref, ref_in, is_zero, stmt_does, trying_does, body_does, catches, or_raise, raise, value_of, within}
 use Rattle.rx_rules.specs.Terms.{Answer, Gives, Fine, Fails, answered}
 use Rattle.rx_runs.specs.Costs.{cost, Spends}
 
@@ -70,42 +70,44 @@ repeated n w r = let e : n - 0 ≡ n = omega arith in let one : 1 + w ≡ suc w 
 tried : (b h r c : ℕ) → c ≡ 4 * b + 0 → c + 4 * h + r ≤ 4 * (1 + b + h) + r
 tried b h r c e = omega arith
 
-stmt_spends : (vars : Vars) (here places : ℕ) (stmt : Stmt) (x : List ℕ) (rest : Term) → Spends (Run stmt x rest) (stmt_does vars here places stmt x rest)
-stmt_spends vars here places (code.SetTo name value) x rest =
+stmt_spends : (vars : Vars) (here : ℕ) (stmt : Stmt) (x : List ℕ) (rest : Term) → Spends (Run stmt x rest) (stmt_does vars here stmt x rest)
+stmt_spends vars here (code.SetTo name value) x rest =
     with_number_spends (Run (code.SetTo name value) x rest) vars (eval vars here value) (λ z. Local rest (bound name (Number z) vars)) (λ z. omega arith)
-stmt_spends vars here places (code.New name words) x rest = store (code.New name words) x rest
-stmt_spends vars here places (code.Get name target index) x rest =
+stmt_spends vars here (code.New name words) x rest = store (code.New name words) x rest
+stmt_spends vars here (code.Get name target index) x rest =
     let t : Term = Run (code.Get name target index) x rest in
     with_number_spends t vars (eval vars here index) (λ k. on_ref vars here target (λ r. Gets name r k)) (λ k. on_ref_spends t vars here target (λ r. Gets name r k) (λ r. store (code.Get name target index) x rest))
-stmt_spends vars here places (code.Put target index value) x rest =
+stmt_spends vars here (code.Put target index value) x rest =
     let t : Term = Run (code.Put target index value) x rest in
     with_number_spends t vars (eval vars here index)
     (λ k. with_number vars (eval vars here value) (λ z. on_ref vars here target (λ r. Puts r k z)))
     (λ k. with_number_spends t vars (eval vars here value) (λ z. on_ref vars here target (λ r. Puts r k z)) (λ z. on_ref_spends t vars here target (λ r. Puts r k z) (λ r. store (code.Put target index value) x rest)))
-stmt_spends vars here places (code.Forget target) x rest =
+stmt_spends vars here (code.Forget target) x rest =
     on_ref_spends (Run (code.Forget target) x rest) vars here target Forgets (λ r. store (code.Forget target) x rest)
-stmt_spends vars here places (code.Print value) x rest =
+stmt_spends vars here (code.Census name) x rest =
+    let e : cost (granted [] (Run (code.Census name) x rest)) ≡ cost rest = refl in omega arith
+stmt_spends vars here (code.Print value) x rest =
     with_number_spends (Run (code.Print value) x rest) vars (eval vars here value) Prints (λ z. let e : cost (granted [] (Run (code.Print value) x rest)) ≡ cost rest = refl in omega arith)
-stmt_spends vars here places (code.Throw value) x rest =
+stmt_spends vars here (code.Throw value) x rest =
     with_number_spends (Run (code.Throw value) x rest) vars (eval vars here value) (λ z. Local (raise (Thrown z)) vars) (λ z. omega arith)
-stmt_spends vars here places (code.Async body) x rest =
+stmt_spends vars here (code.Async body) x rest =
     let e : cost (items body x Empty) ≡ 4 * work body + 0 = cost_items body x 0 Empty in
     started (work body) (cost rest) (cost (items body x Empty)) e
-stmt_spends vars here places (code.AtAsync place body) x rest =
+stmt_spends vars here (code.AtAsync place body) x rest =
     let e : cost (items body x Empty) ≡ 4 * work body + 0 = cost_items body x 0 Empty in
-    with_place_spends (Run (code.AtAsync place body) x rest) vars (target_of (eval vars here place) places) Spawns (λ p. started (work body) (cost rest) (cost (items body x Empty)) e)
-stmt_spends vars here places (code.At place body) x rest =
+    with_place_spends (Run (code.AtAsync place body) x rest) vars (target_of (eval vars here place) vars.places) Spawns (λ p. started (work body) (cost rest) (cost (items body x Empty)) e)
+stmt_spends vars here (code.At place body) x rest =
     let e : cost (items body x Empty) ≡ 4 * work body + 0 = cost_items body x 0 Empty in
-    with_place_spends (Run (code.At place body) x rest) vars (target_of (eval vars here place) places) Calls (λ p. called (work body) (cost rest) (cost (items body x Empty)) e)
-stmt_spends vars here places (code.Finish body) x rest =
+    with_place_spends (Run (code.At place body) x rest) vars (target_of (eval vars here place) vars.places) Calls (λ p. called (work body) (cost rest) (cost (items body x Empty)) e)
+stmt_spends vars here (code.Finish body) x rest =
     opened (work body) (cost rest) (cost (items body x Empty)) (cost_items body x 0 Empty)
-stmt_spends vars here places (code.If test first other) x rest =
+stmt_spends vars here (code.If test first other) x rest =
     let a : cost (items first (at x 0) rest) ≡ 4 * work first + cost rest = cost_items first (at x 0) 0 rest in
     let b : cost (items other (at x 1) rest) ≡ 4 * work other + cost rest = cost_items other (at x 1) 0 rest in
     with_number_spends (Run (code.If test first other) x rest) vars (eval vars here test) (λ z. Local (cond (is_zero z) (items other (at x 1) rest) (items first (at x 0) rest)) vars)
     (λ z. two_ways (is_zero z) (items other (at x 1) rest) (items first (at x 0) rest) (4 * (1 + max (work first) (work other)) + cost rest) (chosen_other (work first) (work other) (cost rest) _ b) (chosen_first (work first) (work other) (cost rest) _ a))
-stmt_spends vars here places (code.Repeat times body) x rest = repeated times (work body) (cost rest)
-stmt_spends vars here places (code.Try body dead_only handler) x rest =
+stmt_spends vars here (code.Repeat times body) x rest = repeated times (work body) (cost rest)
+stmt_spends vars here (code.Try body dead_only handler) x rest =
     tried (work body) (work handler) (cost rest) (cost (items body (at x 0) Empty)) (cost_items body (at x 0) 0 Empty)
 
 add_both : (a b h r : ℕ) → a ≤ b → a + h + r ≤ b + h + r
@@ -137,6 +139,7 @@ in_trying inside dead_only handler x rest (Spawns p) h = add_child (cost (grante
 in_trying inside dead_only handler x rest (Waits faults) h = add-one (cost (granted [] inside)) (cost inside) (4 * work handler) (cost rest) h
 in_trying inside dead_only handler x rest Releases h = λ faults. add-one (cost (granted faults inside)) (cost inside) (4 * work handler) (cost rest) (h faults)
 in_trying inside dead_only handler x rest (Prints value) h = add-one (cost (granted [] inside)) (cost inside) (4 * work handler) (cost rest) h
+in_trying inside dead_only handler x rest (Counts name) h = add-one (cost (granted [] inside)) (cost inside) (4 * work handler) (cost rest) h
 in_trying inside dead_only handler x rest (Done faults) h = tt
 
 caught : (b : Bool) (handler : Block) (x : List ℕ) (rest : Term) (faults : List Fault) → cost (cond b (items handler (at x 1) rest) (Raise faults)) ≤ 0 + 4 * work handler + cost rest
@@ -165,6 +168,7 @@ in_body inside rest (Spawns p) g h = subst (λ (t : Term). cost t + cost (child 
 in_body inside rest (Waits faults) g h = subst (λ (t : Term). cost t + 1 ≤ cost (Body inside rest)) (sym (g [])) (add-one (cost (granted [] inside)) (cost inside) 2 (cost rest) h)
 in_body inside rest Releases g h = λ faults. subst (λ (t : Term). cost t + 1 ≤ cost (Body inside rest)) (sym (g faults)) (add-one (cost (granted faults inside)) (cost inside) 2 (cost rest) (h faults))
 in_body inside rest (Prints value) g h = subst (λ (t : Term). cost t + 1 ≤ cost (Body inside rest)) (sym (g [])) (add-one (cost (granted [] inside)) (cost inside) 2 (cost rest) h)
+in_body inside rest (Counts name) g h = subst (λ (t : Term). cost t + 1 ≤ cost (Body inside rest)) (sym (g [])) (add-one (cost (granted [] inside)) (cost inside) 2 (cost rest) h)
 in_body inside rest (Done faults) g h = tt
 
 body_spends : (inside rest : Term) (d : Does) → Spends inside d → Spends (Body inside rest) (body_does inside d rest)
@@ -191,11 +195,11 @@ held_spends rest [] = omega arith
 held_spends rest (f ∷ fs) = omega arith
 
 -- each step of a term
-pub spends : (vars : Vars) (here places : ℕ) (t : Term) → Spends t (does vars here places t)
-spends vars here places Empty = tt
-spends vars here places (Raise faults) = tt
-spends vars here places (Run stmt x rest) = stmt_spends vars here places stmt x rest
-spends vars here places (Turns body x k times rest) = turn_spends (nat_le times k) body x k times rest refl
-spends vars here places (Trying inside dead_only handler x rest) = trying_spends vars inside (does vars here places inside) dead_only handler x rest (spends vars here places inside)
-spends vars here places (Body inside rest) = body_spends inside rest (does vars here places inside) (spends vars here places inside)
-spends vars here places (Held rest) = held_spends rest
+pub spends : (vars : Vars) (here : ℕ) (t : Term) → Spends t (does vars here t)
+spends vars here Empty = tt
+spends vars here (Raise faults) = tt
+spends vars here (Run stmt x rest) = stmt_spends vars here stmt x rest
+spends vars here (Turns body x k times rest) = turn_spends (nat_le times k) body x k times rest refl
+spends vars here (Trying inside dead_only handler x rest) = trying_spends vars inside (does vars here inside) dead_only handler x rest (spends vars here inside)
+spends vars here (Body inside rest) = body_spends inside rest (does vars here inside) (spends vars here inside)
+spends vars here (Held rest) = held_spends rest

@@ -10,9 +10,9 @@ use Rattle.rx_base.specs.declared.values.Fault.{Fault}
 use Rattle.rx_rules.specs.declared.tasks.Where.TheVariants.{At}
 use Rattle.rx_rules.specs.declared.tasks.Task.{Task}
 use Rattle.rx_rules.specs.declared.entries.Act.{Act}
-use Rattle.rx_rules.specs.declared.entries.Act.TheVariants.{Open, At as Calls, Spawn, Arrive, Wait, Release, End, Print}
+use Rattle.rx_rules.specs.declared.entries.Act.TheVariants.{Open, At as Calls, Spawn, Arrive, Wait, Release, End, Print, Census}
 use Rattle.rx_rules.specs.declared.entries.Entry.{Entry}
-use Rattle.rx_rules.specs.declared.entries.Entry.TheVariants.{Step, Root, Death}
+use Rattle.rx_rules.specs.declared.entries.Entry.TheVariants.{Step, Root, Death, Join}
 use Rattle.rx_rules.specs.Tree.{Tree, is_task, task_of, is_under, quiet, the_root}
 use Rattle.rx_rules.specs.Entries.{change_first, waiting, resumed, without, hit, born, made, made_act, after_end, Allowed, AllowedAct}
 use Rattle.rx_rules.specs.Fold.{births, AllAllowed, opening, fold_from, tree_of}
@@ -118,22 +118,24 @@ held_end T u thrown batch x t e held low =
 held_act : (T : Tree) (u : TaskId) (act : Act) (batch : List (List ℕ)) (t : ℕ) → AllowedAct T u act → (t < T.next_task → Held T t) → t < (made_act T u act).next_task → After (made_act T u act) (Step u act batch) t
 held_act T u (Open s r x) batch t may held low = inl (held low)
 held_act T u (Calls s r c from to x) batch t may held low =
-    inl (⊎_elim (λ (a : list_any (is_number t) (born T c s from to ∷ T.tasks) ≡ true). inl (any_change (is_number t) (is_task u) waiting (λ y. refl) (born T c s from to ∷ T.tasks) ∙ a)) (λ (a : list_any (is_number t) T.gone ≡ true). inr a) (held_new T (born T c s from to) t may.next_task held low))
-held_act T u (Spawn c s from to x) batch t may held low = inl (held_new T (born T c s from to) t may.next_task held low)
+    inl (⊎_elim (λ (a : list_any (is_number t) (born T c s from to ∷ T.tasks) ≡ true). inl (any_change (is_number t) (is_task u) waiting (λ y. refl) (born T c s from to ∷ T.tasks) ∙ a)) (λ (a : list_any (is_number t) T.gone ≡ true). inr a) (held_new T (born T c s from to) t may.asks.3 held low))
+held_act T u (Spawn c s from to x) batch t may held low = inl (held_new T (born T c s from to) t may.asks.1 held low)
 held_act T u (Arrive p) batch t may held low =
     inl (held_tasks T (made_act T u (Arrive p)) t (λ a. any_change (is_number t) (is_task u) (λ y. record y { place = At p }) (λ y. refl) T.tasks ∙ a) refl (held low))
 held_act T u (Wait s thrown) batch t may held low =
     inl (held_tasks T (made_act T u (Wait s thrown)) t (λ a. any_change (is_number t) (is_task u) waiting (λ y. refl) T.tasks ∙ a) refl (held low))
-held_act T u (Release s lost thrown) batch t may held low =
-    inl (held_tasks (without T s) (made_act T u (Release s lost thrown)) t (λ a. any_change (is_number t) (is_task u) resumed (λ y. refl) (without T s).tasks ∙ a) refl (held_without T s t (held low)))
-held_act T u (End thrown) batch t may held low = held_end T u thrown batch may.task t may.live.acts.stands held low
+held_act T u (Release s lost masked thrown) batch t may held low =
+    inl (held_tasks (without T s) (made_act T u (Release s lost masked thrown)) t (λ a. any_change (is_number t) (is_task u) resumed (λ y. refl) (without T s).tasks ∙ a) refl (held_without T s t (held low)))
+held_act T u (End thrown) batch t may held low = held_end T u thrown batch may.task t may.stands held low
 held_act T u (Print value x) batch t may held low = inl (held low)
+held_act T u (Census places x) batch t may held low = inl (held low)
 
 held_entry : (n : ℕ) (T : Tree) (e : Entry) (t : ℕ) → Allowed T e → (t < T.next_task → Held T t) → t < (made n T e).next_task → After (made n T e) e t
 held_entry n T (Step u act batch) t may held low = held_act T u act batch t may held low
-held_entry n T (Root lost thrown) t may held low = inl (held_without T the_root t (held low))
+held_entry n T (Root lost masked thrown) t may held low = inl (held_without T the_root t (held low))
 held_entry n T (Death d) t may held low =
     inl (held_tasks T (made n T (Death d)) t (λ a. any_map (is_number t) (hit (record { place = d; entry = n })) (λ x. ap (λ (v : TaskId). v.0 == t) (hit_number (record { place = d; entry = n }) x)) T.tasks ∙ a) refl (held low))
+held_entry n T (Join p) t may held low = inl (held low)
 
 -- along a history
 held_from : (n : ℕ) (T : Tree) (es : List Entry) (t : ℕ) → AllAllowed n T es → (t < T.next_task → Held T t) → t < (fold_from n T es).next_task → (Held (fold_from n T es) t) ⊎ (has_ended es t ≡ true)
@@ -166,10 +168,11 @@ root_empties T h still =
 
 pub empty_at_end : (n : ℕ) (T : Tree) (es : List Entry) → Reached T → All (IsOlder n) T.dead → AllAllowed n T es → EndsWithRoot es → (fold_from n T es).tasks ≡ []
 empty_at_end n T [] r o h e = absurd e
-empty_at_end n T (Root lost thrown ∷ es) r o h e =
-    subst (λ (fs : List Entry). (fold_from (suc n) (without T the_root) fs).tasks ≡ []) (sym e) (root_empties T (sound r) h.0.0.is_quiet)
+empty_at_end n T (Root lost masked thrown ∷ es) r o h e =
+    subst (λ (fs : List Entry). (fold_from (suc n) (without T the_root) fs).tasks ≡ []) (sym e) (root_empties T (sound r) h.0.2.is_quiet)
 empty_at_end n T (Step t act batch ∷ es) r o h e = empty_at_end (suc n) (made n T (Step t act batch)) es (reached_now n T (Step t act batch) r o h.0) (dead-now n T (Step t act batch) o) h.1 e
 empty_at_end n T (Death d ∷ es) r o h e = empty_at_end (suc n) (made n T (Death d)) es (reached_now n T (Death d) r o h.0) (dead-now n T (Death d) o) h.1 e
+empty_at_end n T (Join p ∷ es) r o h e = empty_at_end (suc n) (made n T (Join p)) es (reached_now n T (Join p) r o h.0) (dead-now n T (Join p) o) h.1 e
 
 first_held : (places t : ℕ) → t < 1 → Held (opening places) t
 first_held places t low = let e : 0 ≡ t = omega arith in inl (ap (λ b. b || false) (eq-eqb 0 t e))

@@ -11,15 +11,15 @@ use Rattle.rx_base.specs.declared.values.Fault.{Fault}
 use Rattle.rx_base.proofs.Bools.{or-first}
 use Rattle.rx_rules.specs.declared.entries.Act.TheVariants.{Arrive, End}
 use Rattle.rx_rules.specs.declared.entries.Entry.{Entry}
-use Rattle.rx_rules.specs.declared.entries.Entry.TheVariants.{Step, Root, Death}
+use Rattle.rx_rules.specs.declared.entries.Entry.TheVariants.{Step, Root, Death, Join}
 use Rattle.rx_rules.specs.declared.events.PlaceEvent.{PlaceEvent}
 use Rattle.rx_rules.specs.declared.events.PlaceEvent.TheVariants.{Done as Did, Close}
 use Rattle.rx_rules.specs.Code.{Block, work}
 use Rattle.rx_rules.specs.Store.{State}
 use Rattle.rx_rules.specs.Terms.{Empty, items, answered, Does, does, granted, child}
 use Rattle.rx_rules.specs.Plays.{journal_at, moves_from, move_of, brought, started_by}
-use Rattle.rx_rules.specs.Run.{Given, Proper}
-use Rattle.rx_rules.specs.Picked.{Player, Game, Goes, stays, local, stores, Turn, dies, arrives, moves, ends, root, Comes, opens, turns, child_of, start_game, tree_in}
+use Rattle.rx_rules.specs.Run.{Given, in_all, Proper}
+use Rattle.rx_rules.specs.Picked.{Player, Game, Goes, stays, local, stores, Turn, due as planned, arrives, moves, ends, root, Comes, opens, turns, acted, child_of, closed_by, start_game, tree_in}
 use Rattle.rx_runs.specs.Steps.{steps, Sinks}
 use Rattle.rx_runs.specs.Ties.{Moves, is_end, has_end}
 use Rattle.rx_runs.specs.Games.{GameOk}
@@ -35,18 +35,18 @@ use Rattle.rx_runs.proofs.Left.{told_sinks, going}
 
 -- Local steps and store calls.
 
-tells : {places heap n : ℕ} {t : TaskId} {here : PlaceId} {p q : Player} {S Z : State} {j k : List PlaceEvent} → Goes places heap n t here p S j q Z k → length k + steps q.term ≤ length j + steps p.term
+tells : {heap n : ℕ} {t : TaskId} {here : PlaceId} {p q : Player} {S Z : State} {j k : List PlaceEvent} → Goes heap n t here p S j q Z k → length k + steps q.term ≤ length j + steps p.term
 tells stays = omega arith
-tells {places = places} {here = here} {p = p} {q = q} {j = j} {k = k} (local {after = after} e g) =
-    let less : steps after + 1 ≤ steps p.term = subst (λ (d : Does). Sinks p.term d) e (sinks p.vars here.0 places p.term) in
+tells {here = here} {p = p} {q = q} {j = j} {k = k} (local {after = after} e g) =
+    let less : steps after + 1 ≤ steps p.term = subst (λ (d : Does). Sinks p.term d) e (sinks p.vars here.0 p.term) in
     let rest : length k + steps q.term ≤ length j + steps after = tells g in omega (arith, less, rest)
-tells {places = places} {n = n} {t = t} {here = here} {p = p} {q = q} {j = j} {k = k} (stores cell x a told b may g) =
-    let less : steps (answered a p.term) + 1 ≤ steps p.term = told_sinks p.term (does p.vars here.0 places p.term) here cell a (sinks p.vars here.0 places p.term) told in
+tells {n = n} {t = t} {here = here} {p = p} {q = q} {j = j} {k = k} (stores cell x a told b may g) =
+    let less : steps (answered a p.term) + 1 ≤ steps p.term = told_sinks p.term (does p.vars here.0 p.term) here cell a (sinks p.vars here.0 p.term) told in
     let rest : length k + steps q.term ≤ length (j ++ Did t n cell x ∷ []) + steps (answered a p.term) = tells g in
     let long : length (j ++ Did t n cell x ∷ []) ≡ length j + 1 = length-append j (Did t n cell x ∷ []) in omega (arith, less, rest, long)
 
 pub going_tells : GoingTells
-going_tells places heap n t here p q S Z j k g = tells g
+going_tells heap n t here p q S Z j k g = tells g
 
 -- Credits: a number for each task, at least the steps that it has left where it has not ended.
 
@@ -140,42 +140,49 @@ pub record Spent (n : ℕ) (G : Game) : Type 0 where
   pub each : Credits G.entries 0 credits G.players
   pub most : (i : ℕ) → length (journal_at G.journals i) + sum_of credits ≤ n + length G.entries
 
+-- a planned entry makes no journal longer by more than one
+closed : (G : Game) (e : Entry) (all most : ℕ) (i : ℕ) → ((i : ℕ) → length (journal_at G.journals i) + all ≤ most) → length (journal_at (closed_by G e) i) + all ≤ most + 1
+closed G (Death d) all most i h =
+    let long : length (journal_at G.journals d.0 ++ Close (length G.entries) ∷ []) ≡ length (journal_at G.journals d.0) + 1 = length-append (journal_at G.journals d.0) (Close (length G.entries) ∷ []) in
+    at-set (λ j. length j + all ≤ most + 1) G.journals d.0 i (journal_at G.journals d.0 ++ Close (length G.entries) ∷ []) (omega (arith, h d.0, long)) (omega (arith, h i))
+closed G (Join p) all most i h = omega (arith, h i)
+closed G (Step t act batch) all most i h = omega (arith, h i)
+closed G (Root lost masked thrown) all most i h = omega (arith, h i)
+
 turn_spends : (code : Block) (n : ℕ) (U : Given) (k : ℕ) {used : Bool} {G G' : Game} → GameOk code U G → Turn U k G used G' → Spent n G → Spent n G'
-turn_spends code n U k {G = G} ok (dies d due) h = record {
+turn_spends code n U k {G = G} ok (planned e now) h = record {
   credits = h.credits;
-  each = grow G.entries (G.entries ++ Death d ∷ []) 0 h.credits G.players (still G.entries (Death d)) h.each;
+  each = grow G.entries (G.entries ++ e ∷ []) 0 h.credits G.players (still G.entries e) h.each;
   most = λ i.
-      let more : length (G.entries ++ Death d ∷ []) ≡ suc (length G.entries) = longer G.entries (Death d) in
-      let long : length (journal_at G.journals d.0 ++ Close (length G.entries) ∷ []) ≡ length (journal_at G.journals d.0) + 1 = length-append (journal_at G.journals d.0) (Close (length G.entries) ∷ []) in
-      let mine : length (journal_at G.journals d.0) + sum_of h.credits ≤ n + length G.entries = h.most d.0 in
-      let other : length (journal_at G.journals i) + sum_of h.credits ≤ n + length G.entries = h.most i in
-      at-set (λ j. length j + sum_of h.credits ≤ n + length (G.entries ++ Death d ∷ [])) G.journals d.0 i (journal_at G.journals d.0 ++ Close (length G.entries) ∷ []) (omega (arith, more, mine, long)) (omega (arith, more, other));
+      let more : length (G.entries ++ e ∷ []) ≡ suc (length G.entries) = longer G.entries e in
+      let one : length (journal_at (closed_by G e) i) + sum_of h.credits ≤ n + length G.entries + 1 = closed G e (sum_of h.credits) (n + length G.entries) i h.most in
+      omega (arith, more, one);
 }
-turn_spends code n U k {G = G} ok (arrives x p due at may) h = record {
+turn_spends code n U k {G = G} ok (arrives x p takes may) h = record {
   credits = h.credits;
   each = grow G.entries (G.entries ++ Step x.number (Arrive p) [] ∷ []) 0 h.credits G.players (still G.entries (Step x.number (Arrive p) [])) h.each;
   most = λ i.
       let more : length (G.entries ++ Step x.number (Arrive p) [] ∷ []) ≡ suc (length G.entries) = longer G.entries (Step x.number (Arrive p) []) in
       let was : length (journal_at G.journals i) + sum_of h.credits ≤ n + length G.entries = h.most i in omega (arith, more, was);
 }
-turn_spends code n U k {G = G} ok (root lost thrown due none may) h = record {
+turn_spends code n U k {G = G} ok (root lost masked thrown due none may) h = record {
   credits = h.credits;
-  each = grow G.entries (G.entries ++ Root lost thrown ∷ []) 0 h.credits G.players (still G.entries (Root lost thrown)) h.each;
+  each = grow G.entries (G.entries ++ Root lost masked thrown ∷ []) 0 h.credits G.players (still G.entries (Root lost masked thrown)) h.each;
   most = λ i.
-      let more : length (G.entries ++ Root lost thrown ∷ []) ≡ suc (length G.entries) = longer G.entries (Root lost thrown) in
+      let more : length (G.entries ++ Root lost masked thrown ∷ []) ≡ suc (length G.entries) = longer G.entries (Root lost masked thrown) in
       let was : length (journal_at G.journals i) + sum_of h.credits ≤ n + length G.entries = h.most i in omega (arith, more, was);
 }
-turn_spends code n U k {G = G} ok (moves x here p q S Z j act due at where_is player store goes fits may) h =
+turn_spends code n U k {G = G} ok (moves x here p q S Z j act takes where_is player store goes fits may) h =
     let e : Entry = Step x.number act q.batch in
-    let last : Player = record { term = granted (brought act) q.term; vars = q.vars; batch = [] } in
-    let found = picked_row U.places (length ok.starts) G.entries (tree_in U G) _ x ok.ties at in
+    let last : Player = acted here q act in
+    let found = picked_row (in_all U) (length ok.starts) G.entries (tree_in U G) _ x ok.ties takes.1 in
     let z : 0 + x.number.0 ≡ x.number.0 = omega arith in
     let free : has_end (moves_from 0 G.entries (0 + x.number.0)) ≡ false = subst (λ (v : ℕ). has_end (moves_from 0 G.entries v) ≡ false) (sym z) found.1.going in
     let w = credit-get G.entries 0 h.credits G.players x.number.0 p h.each player free in
     let least : steps p.term ≤ w.0 = w.2 in
     let rest : length j + steps q.term ≤ length (journal_at G.journals here.0) + steps p.term = tells goes in
     let less : steps q.term ≤ steps p.term = going goes in
-    let step : steps (granted (brought act) q.term) + share (child q.term) (started_by act) + 1 ≤ steps q.term = asks_steps here q.term (does q.vars here.0 U.places q.term) act (sinks q.vars here.0 U.places q.term) fits in
+    let step : steps (granted (brought act) q.term) + share (child q.term) (started_by act) + 1 ≤ steps q.term = asks_steps here q.term (does q.vars here.0 q.term) act (sinks q.vars here.0 q.term) fits in
     let set : sum_of (slice_set h.credits x.number.0 (steps (granted (brought act) q.term))) + w.0 ≡ sum_of h.credits + steps (granted (brought act) q.term) = sum-set h.credits x.number.0 w.0 (steps (granted (brought act) q.term)) w.1 in
     let all : sum_of (slice_set h.credits x.number.0 (steps (granted (brought act) q.term)) ++ young q (started_by act)) ≡ sum_of (slice_set h.credits x.number.0 (steps (granted (brought act) q.term))) + sum_of (young q (started_by act)) = sum-more (slice_set h.credits x.number.0 (steps (granted (brought act) q.term))) (young q (started_by act)) in
     let small : sum_of (young q (started_by act)) ≤ share (child q.term) (started_by act) = sum-young q (started_by act) in
@@ -191,9 +198,9 @@ turn_spends code n U k {G = G} ok (moves x here p q S Z j act due at where_is pl
           at-set (λ l. length l + sum_of (slice_set h.credits x.number.0 (steps (granted (brought act) q.term)) ++ young q (started_by act)) ≤ n + length (G.entries ++ e ∷ [])) G.journals here.0 i j
           (omega (arith, least, rest, step, set, all, small, more, mine)) (omega (arith, least, less, step, set, all, small, more, other));
     }
-turn_spends code n U k {G = G} ok (ends x here p q S Z j faults due at where_is player store goes done may) h =
+turn_spends code n U k {G = G} ok (ends x here p q S Z j faults takes where_is player store goes done may) h =
     let e : Entry = Step x.number (End faults) q.batch in
-    let found = picked_row U.places (length ok.starts) G.entries (tree_in U G) _ x ok.ties at in
+    let found = picked_row (in_all U) (length ok.starts) G.entries (tree_in U G) _ x ok.ties takes.1 in
     let z : 0 + x.number.0 ≡ x.number.0 = omega arith in
     let free : has_end (moves_from 0 G.entries (0 + x.number.0)) ≡ false = subst (λ (v : ℕ). has_end (moves_from 0 G.entries v) ≡ false) (sym z) found.1.going in
     let w = credit-get G.entries 0 h.credits G.players x.number.0 p h.each player free in
@@ -221,7 +228,7 @@ turn_spends code n U k {G = G} ok (ends x here p q S Z j faults due at where_is 
 come_spends : (code : Block) (U : Given) (G : Game) → Proper U → Comes code U G → Spent (3 * work code) G
 come_spends code U G proper opens =
     let e : steps (items code [] Empty) ≡ 3 * work code + 0 = steps_items code [] 0 Empty in
-    record { credits = 3 * work code ∷ []; each = (λ f. omega (arith, e), tt); most = λ i. (let none : length (journal_at (start_game code U).journals i) ≡ 0 = empty U.places i in omega (arith, none)) }
+    record { credits = 3 * work code ∷ []; each = (λ f. omega (arith, e), tt); most = λ i. (let none : length (journal_at (start_game code U).journals i) ≡ 0 = empty (in_all U) i in omega (arith, none)) }
   where
     empty : (q i : ℕ) → length (journal_at (replicate q []) i) ≡ 0
     empty zero i = refl

@@ -1,5 +1,5 @@
 -- What a step of a term makes of the scopes in which it stands.
-use Rattle.std.specs.Prelude.{◌≡◌, ℕ, suc, ℤ, pos, negsuc, ◌<◌, Bool, true, false, cond, ◌==◌, nat_le, nat_lt, List, [], ◌∷◌, ◌++◌, Option, Some, None, Result, Ok, Err, refl}
+use Rattle.std.specs.Prelude.{◌≡◌, ℕ, suc, ℤ, pos, negsuc, ◌+◌, ◌<◌, ◌≤◌, Bool, true, false, cond, ◌==◌, nat_le, nat_lt, List, [], ◌∷◌, ◌++◌, Option, Some, None, Result, Ok, Err, refl}
 use Rattle.std.proofs.Common.{ap, ◌∙◌, sym, subst, arith}
 use Rattle.std.proofs.lemmas.Bool.{ltb-true}
 use Rattle.rx_base.specs.declared.ids.GlobalRef.{GlobalRef}
@@ -8,7 +8,7 @@ use Rattle.rx_base.specs.declared.values.Fault.{Fault}
 use Rattle.rx_base.specs.declared.values.Fault.TheVariants.{Thrown, WrongPlace, Overflow, NoPlace}
 use Rattle.rx_rules.specs.Code as code
 use Rattle.rx_rules.specs.Code.{Block, Nothing, Then, Stmt}
-use Rattle.rx_rules.specs.Terms.{bound, Term, Empty, Raise, Run, Turns, Trying, Body, Held, Does, Local, Makes, Gets, Puts, Forgets, Opens, Calls, Spawns, Waits, Releases, Prints, Done, granted, child, Vars, does, items, items_from, at, eval, with_number, with_place, target_of, on_ref, ref_in, is_zero, stmt_does, catches, or_raise, raise, value_of, within, begins}
+use Rattle.rx_rules.specs.Terms.{bound, Term, Empty, Raise, Run, Turns, Trying, Body, Held, Does, Local, Makes, Gets, Puts, Forgets, Opens, Calls, Spawns, Waits, Releases, Prints, Counts, Done, granted, child, Vars, does, items, items_from, at, eval, with_number, with_place, target_of, on_ref, ref_in, is_zero, stmt_does, catches, or_raise, raise, value_of, within, begins}
 use Rattle.rx_rules.specs.Terms.{Answer, Gives, Fine, Fails, answered}
 use Rattle.rx_runs.specs.Framing.{frames, first, Flat, Shape}
 
@@ -40,6 +40,7 @@ Framed places t (Spawns p) = Calm t × Begun t × (p < places) × Flat (child t)
 Framed places t (Waits faults) = (fs : List Bool) × (frames t ≡ false ∷ fs) × Shape (granted [] t) × (frames (granted [] t) ≡ true ∷ fs)
 Framed places t Releases = (fs : List Bool) × (frames t ≡ true ∷ fs) × ((faults : List Fault) → Shape (granted faults t) × (frames (granted faults t) ≡ fs))
 Framed places t (Prints value) = Calm t × Begun t × Keeps t (granted [] t)
+Framed places t (Counts name) = Calm t × Begun t × Keeps t (granted [] t)
 Framed places t (Done faults) = frames t ≡ []
 
 -- Flat terms.
@@ -111,40 +112,45 @@ target_inside (Some (pos n)) places p e =
     ]) refl e
 target_inside (Some (negsuc n)) places p e = cc
 
-stmt_framed : (vars : Vars) (here places : ℕ) → here < places → (stmt : Stmt) (x : List ℕ) (rest : Term) → Flat rest → Framed places (Run stmt x rest) (stmt_does vars here places stmt x rest)
-stmt_framed vars here places low (code.SetTo name value) x rest h =
+wider : (p m n : ℕ) → p < m → m ≤ n → p < n
+wider p m n low le = omega arith
+
+stmt_framed : (vars : Vars) (here places : ℕ) → here < places → vars.places ≤ places → (stmt : Stmt) (x : List ℕ) (rest : Term) → Flat rest → Framed places (Run stmt x rest) (stmt_does vars here stmt x rest)
+stmt_framed vars here places low known (code.SetTo name value) x rest h =
     number_framed places (Run (code.SetTo name value) x rest) refl vars (eval vars here value) (λ z. Local rest (bound name (Number z) vars)) (λ z. (refl, flat_keeps (Run (code.SetTo name value) x rest) rest refl h))
-stmt_framed vars here places low (code.New name words) x rest h = stored (code.New name words) x rest h
-stmt_framed vars here places low (code.Get name target index) x rest h =
+stmt_framed vars here places low known (code.New name words) x rest h = stored (code.New name words) x rest h
+stmt_framed vars here places low known (code.Get name target index) x rest h =
     let t : Term = Run (code.Get name target index) x rest in
     number_framed places t refl vars (eval vars here index) (λ k. on_ref vars here target (λ r. Gets name r k)) (λ k. ref_framed places t refl vars here target (λ r. Gets name r k) (λ r. stored (code.Get name target index) x rest h))
-stmt_framed vars here places low (code.Put target index value) x rest h =
+stmt_framed vars here places low known (code.Put target index value) x rest h =
     let t : Term = Run (code.Put target index value) x rest in
     number_framed places t refl vars (eval vars here index)
     (λ k. with_number vars (eval vars here value) (λ z. on_ref vars here target (λ r. Puts r k z)))
     (λ k. number_framed places t refl vars (eval vars here value) (λ z. on_ref vars here target (λ r. Puts r k z)) (λ z. ref_framed places t refl vars here target (λ r. Puts r k z) (λ r. stored (code.Put target index value) x rest h)))
-stmt_framed vars here places low (code.Forget target) x rest h =
+stmt_framed vars here places low known (code.Forget target) x rest h =
     ref_framed places (Run (code.Forget target) x rest) refl vars here target Forgets (λ r. stored (code.Forget target) x rest h)
-stmt_framed vars here places low (code.Print value) x rest h =
+stmt_framed vars here places low known (code.Census name) x rest h =
+    (refl, (x, refl), flat_keeps (Run (code.Census name) x rest) rest refl h)
+stmt_framed vars here places low known (code.Print value) x rest h =
     number_framed places (Run (code.Print value) x rest) refl vars (eval vars here value) Prints (λ z. (refl, (x, refl), flat_keeps (Run (code.Print value) x rest) rest refl h))
-stmt_framed vars here places low (code.Throw value) x rest h =
+stmt_framed vars here places low known (code.Throw value) x rest h =
     number_framed places (Run (code.Throw value) x rest) refl vars (eval vars here value) (λ z. Local (raise (Thrown z)) vars) (λ z. (refl, (tt, refl)))
-stmt_framed vars here places low (code.Async body) x rest h =
+stmt_framed vars here places low known (code.Async body) x rest h =
     (refl, (x, refl), low, flat_items body x 0 Empty tt, flat_keeps (Run (code.Async body) x rest) rest refl h)
-stmt_framed vars here places low (code.AtAsync place body) x rest h =
-    place_framed places (Run (code.AtAsync place body) x rest) refl vars (target_of (eval vars here place) places) Spawns
-    (λ p e. (refl, (x, refl), target_inside (eval vars here place) places p e, flat_items body x 0 Empty tt, flat_keeps (Run (code.AtAsync place body) x rest) rest refl h))
-stmt_framed vars here places low (code.At place body) x rest h =
-    place_framed places (Run (code.At place body) x rest) refl vars (target_of (eval vars here place) places) Calls
-    (λ p e. (refl, (x, refl), target_inside (eval vars here place) places p e, flat_items body x 0 Empty tt, h, refl))
-stmt_framed vars here places low (code.Finish body) x rest h =
+stmt_framed vars here places low known (code.AtAsync place body) x rest h =
+    place_framed places (Run (code.AtAsync place body) x rest) refl vars (target_of (eval vars here place) vars.places) Spawns
+    (λ p e. (refl, (x, refl), wider p vars.places places (target_inside (eval vars here place) vars.places p e) known, flat_items body x 0 Empty tt, flat_keeps (Run (code.AtAsync place body) x rest) rest refl h))
+stmt_framed vars here places low known (code.At place body) x rest h =
+    place_framed places (Run (code.At place body) x rest) refl vars (target_of (eval vars here place) vars.places) Calls
+    (λ p e. (refl, (x, refl), wider p vars.places places (target_inside (eval vars here place) vars.places p e) known, flat_items body x 0 Empty tt, h, refl))
+stmt_framed vars here places low known (code.Finish body) x rest h =
     (refl, (x, refl), (flat_shape (items body x Empty) (flat_items body x 0 Empty tt), h), ap (λ (l : List Bool). l ++ false ∷ []) (flat_frames (items body x Empty) (flat_items body x 0 Empty tt)))
-stmt_framed vars here places low (code.If test one other) x rest h =
+stmt_framed vars here places low known (code.If test one other) x rest h =
     let t : Term = Run (code.If test one other) x rest in
     number_framed places t refl vars (eval vars here test) (λ z. Local (cond (is_zero z) (items other (at x 1) rest) (items one (at x 0) rest)) vars)
     (λ z. (refl, flat_keeps t (cond (is_zero z) (items other (at x 1) rest) (items one (at x 0) rest)) refl (two_flat (is_zero z) (items other (at x 1) rest) (items one (at x 0) rest) (flat_items other (at x 1) 0 rest h) (flat_items one (at x 0) 0 rest h))))
-stmt_framed vars here places low (code.Repeat times body) x rest h = (refl, (h, refl))
-stmt_framed vars here places low (code.Try body dead_only handler) x rest h =
+stmt_framed vars here places low known (code.Repeat times body) x rest h = (refl, (h, refl))
+stmt_framed vars here places low known (code.Try body dead_only handler) x rest h =
     (refl, ((flat_shape (items body (at x 0) Empty) (flat_items body (at x 0) 0 Empty tt), h), flat_frames (items body (at x 0) Empty) (flat_items body (at x 0) 0 Empty tt)))
 
 -- In the body of a try.
@@ -169,6 +175,7 @@ in_trying places inside dead_only handler x rest (Spawns p) flat n h = (h.0, h.1
 in_trying places inside dead_only handler x rest (Waits faults) flat n h = (h.0, h.1, (h.2, flat), h.3)
 in_trying places inside dead_only handler x rest Releases flat n h = (h.0, h.1, λ f. (((h.2 f).0, flat), (h.2 f).1))
 in_trying places inside dead_only handler x rest (Prints value) flat n h = (h.0, h.1, ((h.2.0, flat), h.2.1))
+in_trying places inside dead_only handler x rest (Counts name) flat n h = (h.0, h.1, ((h.2.0, flat), h.2.1))
 in_trying places inside dead_only handler x rest (Done faults) flat n h = absurd (n faults refl)
 
 -- In the body of a finish, where it goes on.
@@ -207,6 +214,7 @@ in_body places inside rest (Spawns p) flat g n h = let b = as_body inside rest (
 in_body places inside rest (Waits faults) flat g n h = let b = as_body inside rest (true ∷ h.0) g flat [] (h.2, h.3) in (h.0 ++ false ∷ [], more _ _ h.1, b.0, b.1)
 in_body places inside rest Releases flat g n h = (h.0 ++ false ∷ [], more _ _ h.1, λ f. as_body inside rest h.0 g flat f (h.2 f))
 in_body places inside rest (Prints value) flat g n h = let b = as_body inside rest (frames inside) g flat [] h.2 in (calm_body (frames inside) h.0, h.1, (b.0, b.1))
+in_body places inside rest (Counts name) flat g n h = let b = as_body inside rest (frames inside) g flat [] h.2 in (calm_body (frames inside) h.0, h.1, (b.0, b.1))
 in_body places inside rest (Done faults) flat g n h = absurd (n faults refl)
 
 -- Only an empty or raised term is done.
@@ -223,6 +231,7 @@ within_done f (Spawns p) fs n e = cc
 within_done f (Waits faults) fs n e = cc
 within_done f Releases fs n e = cc
 within_done f (Prints value) fs n e = cc
+within_done f (Counts name) fs n e = cc
 within_done f (Done faults) fs n e = n faults refl
 
 number_not : (vars : Vars) (o : Option ℤ) (f : ℤ → Does) (fs : List Fault) → ((z : ℤ) → f z ≡ Done fs → ⊥) → with_number vars o f ≡ Done fs → ⊥
@@ -237,24 +246,25 @@ ref_not : (vars : Vars) (b : Bool) (d : Does) (after : Term) (fs : List Fault) �
 ref_not vars true d after fs h e = h e
 ref_not vars false d after fs h e = cc
 
-stmt_not : (vars : Vars) (here places : ℕ) (stmt : Stmt) (x : List ℕ) (rest : Term) (fs : List Fault) → stmt_does vars here places stmt x rest ≡ Done fs → ⊥
-stmt_not vars here places (code.SetTo name value) x rest fs e = number_not vars (eval vars here value) (λ z. Local rest (bound name (Number z) vars)) fs (λ z k. cc) e
-stmt_not vars here places (code.New name words) x rest fs e = cc
-stmt_not vars here places (code.Get name target index) x rest fs e =
+stmt_not : (vars : Vars) (here : ℕ) (stmt : Stmt) (x : List ℕ) (rest : Term) (fs : List Fault) → stmt_does vars here stmt x rest ≡ Done fs → ⊥
+stmt_not vars here (code.SetTo name value) x rest fs e = number_not vars (eval vars here value) (λ z. Local rest (bound name (Number z) vars)) fs (λ z k. cc) e
+stmt_not vars here (code.New name words) x rest fs e = cc
+stmt_not vars here (code.Get name target index) x rest fs e =
     number_not vars (eval vars here index) (λ k. on_ref vars here target (λ r. Gets name r k)) fs (λ k. ref_not vars ((ref_in (value_of vars target)).home.0 == here) (Gets name (ref_in (value_of vars target)) k) (raise WrongPlace) fs (λ w. cc)) e
-stmt_not vars here places (code.Put target index value) x rest fs e =
+stmt_not vars here (code.Put target index value) x rest fs e =
     number_not vars (eval vars here index) (λ k. with_number vars (eval vars here value) (λ z. on_ref vars here target (λ r. Puts r k z))) fs
     (λ k. number_not vars (eval vars here value) (λ z. on_ref vars here target (λ r. Puts r k z)) fs (λ z. ref_not vars ((ref_in (value_of vars target)).home.0 == here) (Puts (ref_in (value_of vars target)) k z) (raise WrongPlace) fs (λ w. cc))) e
-stmt_not vars here places (code.Forget target) x rest fs e = ref_not vars ((ref_in (value_of vars target)).home.0 == here) (Forgets (ref_in (value_of vars target))) (raise WrongPlace) fs (λ w. cc) e
-stmt_not vars here places (code.Print value) x rest fs e = number_not vars (eval vars here value) Prints fs (λ z k. cc) e
-stmt_not vars here places (code.Throw value) x rest fs e = number_not vars (eval vars here value) (λ z. Local (raise (Thrown z)) vars) fs (λ z k. cc) e
-stmt_not vars here places (code.Async body) x rest fs e = cc
-stmt_not vars here places (code.AtAsync place body) x rest fs e = place_not vars (target_of (eval vars here place) places) Spawns fs (λ p k. cc) e
-stmt_not vars here places (code.At place body) x rest fs e = place_not vars (target_of (eval vars here place) places) Calls fs (λ p k. cc) e
-stmt_not vars here places (code.Finish body) x rest fs e = cc
-stmt_not vars here places (code.If test one other) x rest fs e = number_not vars (eval vars here test) (λ z. Local (cond (is_zero z) (items other (at x 1) rest) (items one (at x 0) rest)) vars) fs (λ z k. cc) e
-stmt_not vars here places (code.Repeat times body) x rest fs e = cc
-stmt_not vars here places (code.Try body dead_only handler) x rest fs e = cc
+stmt_not vars here (code.Forget target) x rest fs e = ref_not vars ((ref_in (value_of vars target)).home.0 == here) (Forgets (ref_in (value_of vars target))) (raise WrongPlace) fs (λ w. cc) e
+stmt_not vars here (code.Census name) x rest fs e = cc
+stmt_not vars here (code.Print value) x rest fs e = number_not vars (eval vars here value) Prints fs (λ z k. cc) e
+stmt_not vars here (code.Throw value) x rest fs e = number_not vars (eval vars here value) (λ z. Local (raise (Thrown z)) vars) fs (λ z k. cc) e
+stmt_not vars here (code.Async body) x rest fs e = cc
+stmt_not vars here (code.AtAsync place body) x rest fs e = place_not vars (target_of (eval vars here place) vars.places) Spawns fs (λ p k. cc) e
+stmt_not vars here (code.At place body) x rest fs e = place_not vars (target_of (eval vars here place) vars.places) Calls fs (λ p k. cc) e
+stmt_not vars here (code.Finish body) x rest fs e = cc
+stmt_not vars here (code.If test one other) x rest fs e = number_not vars (eval vars here test) (λ z. Local (cond (is_zero z) (items other (at x 1) rest) (items one (at x 0) rest)) vars) fs (λ z k. cc) e
+stmt_not vars here (code.Repeat times body) x rest fs e = cc
+stmt_not vars here (code.Try body dead_only handler) x rest fs e = cc
 
 -- neither empty nor raised
 abbrev IsBusy : Term → Type 0
@@ -266,26 +276,26 @@ IsBusy (Trying inside dead_only handler x rest) = Unit {0}
 IsBusy (Body inside rest) = Unit {0}
 IsBusy (Held rest) = Unit {0}
 
-busy_not : (vars : Vars) (here places : ℕ) (t : Term) (fs : List Fault) → IsBusy t → does vars here places t ≡ Done fs → ⊥
-busy_not vars here places Empty fs b e = b
-busy_not vars here places (Raise faults) fs b e = b
-busy_not vars here places (Run stmt x rest) fs b e = stmt_not vars here places stmt x rest fs e
-busy_not vars here places (Turns body x k times rest) fs b e = cc
-busy_not vars here places (Trying Empty dead_only handler x rest) fs b e = cc
-busy_not vars here places (Trying (Raise faults) dead_only handler x rest) fs b e = cc
-busy_not vars here places (Trying (Run s y m) dead_only handler x rest) fs b e = within_done (λ t. Trying t dead_only handler x rest) (does vars here places (Run s y m)) fs (λ gs. busy_not vars here places (Run s y m) gs tt) e
-busy_not vars here places (Trying (Turns c y k n m) dead_only handler x rest) fs b e = within_done (λ t. Trying t dead_only handler x rest) (does vars here places (Turns c y k n m)) fs (λ gs. busy_not vars here places (Turns c y k n m) gs tt) e
-busy_not vars here places (Trying (Trying u o c y m) dead_only handler x rest) fs b e = within_done (λ t. Trying t dead_only handler x rest) (does vars here places (Trying u o c y m)) fs (λ gs. busy_not vars here places (Trying u o c y m) gs tt) e
-busy_not vars here places (Trying (Body u m) dead_only handler x rest) fs b e = within_done (λ t. Trying t dead_only handler x rest) (does vars here places (Body u m)) fs (λ gs. busy_not vars here places (Body u m) gs tt) e
-busy_not vars here places (Trying (Held m) dead_only handler x rest) fs b e = cc
-busy_not vars here places (Body Empty rest) fs b e = cc
-busy_not vars here places (Body (Raise faults) rest) fs b e = cc
-busy_not vars here places (Body (Run s y m) rest) fs b e = within_done (λ t. Body t rest) (does vars here places (Run s y m)) fs (λ gs. busy_not vars here places (Run s y m) gs tt) e
-busy_not vars here places (Body (Turns c y k n m) rest) fs b e = within_done (λ t. Body t rest) (does vars here places (Turns c y k n m)) fs (λ gs. busy_not vars here places (Turns c y k n m) gs tt) e
-busy_not vars here places (Body (Trying u o c y m) rest) fs b e = within_done (λ t. Body t rest) (does vars here places (Trying u o c y m)) fs (λ gs. busy_not vars here places (Trying u o c y m) gs tt) e
-busy_not vars here places (Body (Body u m) rest) fs b e = within_done (λ t. Body t rest) (does vars here places (Body u m)) fs (λ gs. busy_not vars here places (Body u m) gs tt) e
-busy_not vars here places (Body (Held m) rest) fs b e = cc
-busy_not vars here places (Held rest) fs b e = cc
+busy_not : (vars : Vars) (here : ℕ) (t : Term) (fs : List Fault) → IsBusy t → does vars here t ≡ Done fs → ⊥
+busy_not vars here Empty fs b e = b
+busy_not vars here (Raise faults) fs b e = b
+busy_not vars here (Run stmt x rest) fs b e = stmt_not vars here stmt x rest fs e
+busy_not vars here (Turns body x k times rest) fs b e = cc
+busy_not vars here (Trying Empty dead_only handler x rest) fs b e = cc
+busy_not vars here (Trying (Raise faults) dead_only handler x rest) fs b e = cc
+busy_not vars here (Trying (Run s y m) dead_only handler x rest) fs b e = within_done (λ t. Trying t dead_only handler x rest) (does vars here (Run s y m)) fs (λ gs. busy_not vars here (Run s y m) gs tt) e
+busy_not vars here (Trying (Turns c y k n m) dead_only handler x rest) fs b e = within_done (λ t. Trying t dead_only handler x rest) (does vars here (Turns c y k n m)) fs (λ gs. busy_not vars here (Turns c y k n m) gs tt) e
+busy_not vars here (Trying (Trying u o c y m) dead_only handler x rest) fs b e = within_done (λ t. Trying t dead_only handler x rest) (does vars here (Trying u o c y m)) fs (λ gs. busy_not vars here (Trying u o c y m) gs tt) e
+busy_not vars here (Trying (Body u m) dead_only handler x rest) fs b e = within_done (λ t. Trying t dead_only handler x rest) (does vars here (Body u m)) fs (λ gs. busy_not vars here (Body u m) gs tt) e
+busy_not vars here (Trying (Held m) dead_only handler x rest) fs b e = cc
+busy_not vars here (Body Empty rest) fs b e = cc
+busy_not vars here (Body (Raise faults) rest) fs b e = cc
+busy_not vars here (Body (Run s y m) rest) fs b e = within_done (λ t. Body t rest) (does vars here (Run s y m)) fs (λ gs. busy_not vars here (Run s y m) gs tt) e
+busy_not vars here (Body (Turns c y k n m) rest) fs b e = within_done (λ t. Body t rest) (does vars here (Turns c y k n m)) fs (λ gs. busy_not vars here (Turns c y k n m) gs tt) e
+busy_not vars here (Body (Trying u o c y m) rest) fs b e = within_done (λ t. Body t rest) (does vars here (Trying u o c y m)) fs (λ gs. busy_not vars here (Trying u o c y m) gs tt) e
+busy_not vars here (Body (Body u m) rest) fs b e = within_done (λ t. Body t rest) (does vars here (Body u m)) fs (λ gs. busy_not vars here (Body u m) gs tt) e
+busy_not vars here (Body (Held m) rest) fs b e = cc
+busy_not vars here (Held rest) fs b e = cc
 
 -- Each step of a term.
 
@@ -293,26 +303,33 @@ held_framed : (faults : List Fault) (rest : Term) → Flat rest → Shape (or_ra
 held_framed [] rest h = (flat_shape rest h, flat_frames rest h)
 held_framed (f ∷ fs) rest h = (tt, refl)
 
-module _ (vars : Vars) (here places : ℕ) (low : here < places) where
-  pub framed : (t : Term) → Shape t → Framed places t (does vars here places t)
+module _ (vars : Vars) (here places : ℕ) (low : here < places) (known : vars.places ≤ places) where
+  pub framed : (t : Term) → Shape t → Framed places t (does vars here t)
   framed Empty h = refl
   framed (Raise faults) h = refl
-  framed (Run stmt x rest) h = stmt_framed vars here places low stmt x rest h
+  framed (Run stmt x rest) h = stmt_framed vars here places low known stmt x rest h
   framed (Turns body x k times rest) h =
       (refl, flat_keeps (Turns body x k times rest) (cond (nat_le times k) rest (items body (at x k) (Turns body x (suc k) times rest))) refl (two_flat (nat_le times k) rest (items body (at x k) (Turns body x (suc k) times rest)) h (flat_items body (at x k) 0 (Turns body x (suc k) times rest) h)))
   framed (Trying Empty dead_only handler x rest) h = (refl, flat_keeps (Trying Empty dead_only handler x rest) rest refl h.1)
   framed (Trying (Raise faults) dead_only handler x rest) h =
       (refl, flat_keeps (Trying (Raise faults) dead_only handler x rest) (cond (catches dead_only faults) (items handler (at x 1) rest) (Raise faults)) refl (two_flat (catches dead_only faults) (items handler (at x 1) rest) (Raise faults) (flat_items handler (at x 1) 0 rest h.1) tt))
-  framed (Trying (Run s y m) dead_only handler x rest) h = in_trying places (Run s y m) dead_only handler x rest (does vars here places (Run s y m)) h.1 (λ gs. busy_not vars here places (Run s y m) gs tt) (framed (Run s y m) h.0)
-  framed (Trying (Turns c y k n m) dead_only handler x rest) h = in_trying places (Turns c y k n m) dead_only handler x rest (does vars here places (Turns c y k n m)) h.1 (λ gs. busy_not vars here places (Turns c y k n m) gs tt) (framed (Turns c y k n m) h.0)
-  framed (Trying (Trying u o c y m) dead_only handler x rest) h = in_trying places (Trying u o c y m) dead_only handler x rest (does vars here places (Trying u o c y m)) h.1 (λ gs. busy_not vars here places (Trying u o c y m) gs tt) (framed (Trying u o c y m) h.0)
-  framed (Trying (Body u m) dead_only handler x rest) h = in_trying places (Body u m) dead_only handler x rest (does vars here places (Body u m)) h.1 (λ gs. busy_not vars here places (Body u m) gs tt) (framed (Body u m) h.0)
+  framed (Trying (Run s y m) dead_only handler x rest) h = in_trying places (Run s y m) dead_only handler x rest (does vars here (Run s y m)) h.1 (λ gs. busy_not vars here (Run s y m) gs tt) (framed (Run s y m) h.0)
+  framed (Trying (Turns c y k n m) dead_only handler x rest) h = in_trying places (Turns c y k n m) dead_only handler x rest (does vars here (Turns c y k n m)) h.1 (λ gs. busy_not vars here (Turns c y k n m) gs tt) (framed (Turns c y k n m) h.0)
+  framed (Trying (Trying u o c y m) dead_only handler x rest) h = in_trying places (Trying u o c y m) dead_only handler x rest (does vars here (Trying u o c y m)) h.1 (λ gs. busy_not vars here (Trying u o c y m) gs tt) (framed (Trying u o c y m) h.0)
+  framed (Trying (Body u m) dead_only handler x rest) h = in_trying places (Body u m) dead_only handler x rest (does vars here (Body u m)) h.1 (λ gs. busy_not vars here (Body u m) gs tt) (framed (Body u m) h.0)
   framed (Trying (Held m) dead_only handler x rest) h = in_trying places (Held m) dead_only handler x rest Releases h.1 (λ gs e. cc) (framed (Held m) h.0)
   framed (Body Empty rest) h = ([], refl, h.1, refl)
   framed (Body (Raise faults) rest) h = ([], refl, h.1, refl)
-  framed (Body (Run s y m) rest) h = in_body places (Run s y m) rest (does vars here places (Run s y m)) h.1 (λ f. refl) (λ gs. busy_not vars here places (Run s y m) gs tt) (framed (Run s y m) h.0)
-  framed (Body (Turns c y k n m) rest) h = in_body places (Turns c y k n m) rest (does vars here places (Turns c y k n m)) h.1 (λ f. refl) (λ gs. busy_not vars here places (Turns c y k n m) gs tt) (framed (Turns c y k n m) h.0)
-  framed (Body (Trying u o c y m) rest) h = in_body places (Trying u o c y m) rest (does vars here places (Trying u o c y m)) h.1 (λ f. refl) (λ gs. busy_not vars here places (Trying u o c y m) gs tt) (framed (Trying u o c y m) h.0)
-  framed (Body (Body u m) rest) h = in_body places (Body u m) rest (does vars here places (Body u m)) h.1 (λ f. refl) (λ gs. busy_not vars here places (Body u m) gs tt) (framed (Body u m) h.0)
+  framed (Body (Run s y m) rest) h = in_body places (Run s y m) rest (does vars here (Run s y m)) h.1 (λ f. refl) (λ gs. busy_not vars here (Run s y m) gs tt) (framed (Run s y m) h.0)
+  framed (Body (Turns c y k n m) rest) h = in_body places (Turns c y k n m) rest (does vars here (Turns c y k n m)) h.1 (λ f. refl) (λ gs. busy_not vars here (Turns c y k n m) gs tt) (framed (Turns c y k n m) h.0)
+  framed (Body (Trying u o c y m) rest) h = in_body places (Trying u o c y m) rest (does vars here (Trying u o c y m)) h.1 (λ f. refl) (λ gs. busy_not vars here (Trying u o c y m) gs tt) (framed (Trying u o c y m) h.0)
+  framed (Body (Body u m) rest) h = in_body places (Body u m) rest (does vars here (Body u m)) h.1 (λ f. refl) (λ gs. busy_not vars here (Body u m) gs tt) (framed (Body u m) h.0)
   framed (Body (Held m) rest) h = in_body places (Held m) rest Releases h.1 (λ f. refl) (λ gs e. cc) (framed (Held m) h.0)
   framed (Held rest) h = ([], refl, λ f. held_framed f rest h)
+
+-- so many places that a task there may name each that it knows
+abbrev pub enough : Vars → ℕ → ℕ
+enough vars here = suc (here + vars.places)
+
+pub all_framed : (vars : Vars) (here : ℕ) (t : Term) → Shape t → Framed (enough vars here) t (does vars here t)
+all_framed vars here t shape = framed vars here (enough vars here) (omega arith) (omega arith) t shape

@@ -6,7 +6,6 @@ use Rattle.std.proofs.Math.Nat.{mod-lt}
 use Rattle.std.proofs.lemmas.Bool.{cases_lt}
 use Rattle.rx_base.specs.declared.ids.PlaceId.{PlaceId}
 use Rattle.rx_base.specs.declared.ids.ScopeId.{ScopeId}
-use Rattle.rx_base.specs.declared.ids.Kill.{Kill}
 use Rattle.rx_base.specs.declared.place_set.PlaceSet.{PlaceSet}
 use Rattle.rx_base.proofs.Elements.{get-within}
 use Rattle.rx_rules.specs.declared.tasks.Where.{Where}
@@ -15,51 +14,64 @@ use Rattle.rx_rules.specs.declared.tasks.Task.{Task}
 use Rattle.rx_rules.specs.declared.tasks.Scope.{Scope}
 use Rattle.rx_rules.specs.declared.tasks.Kind.TheVariants.{Finish}
 use Rattle.rx_rules.specs.declared.entries.Act.{Act}
-use Rattle.rx_rules.specs.declared.entries.Act.TheVariants.{Open, At as Calls, Spawn, Arrive, Wait, Release, End, Print}
+use Rattle.rx_rules.specs.declared.entries.Act.TheVariants.{Open, At as Calls, Spawn, Arrive, Wait, Release, End, Print, Census}
 use Rattle.rx_rules.specs.declared.entries.Entry.{Entry}
-use Rattle.rx_rules.specs.declared.entries.Entry.TheVariants.{Step, Root, Death}
+use Rattle.rx_rules.specs.declared.entries.Entry.TheVariants.{Step, Root, Death, Join}
 use Rattle.rx_rules.specs.Code.{Block}
-use Rattle.rx_rules.specs.Terms.{Does, Local, Makes, Gets, Puts, Forgets, Opens, Calls as Asks, Spawns, Waits, Releases, Prints, Done, does}
+use Rattle.rx_rules.specs.Terms.{Does, Local, Makes, Gets, Puts, Forgets, Opens, Calls as Asks, Spawns, Waits, Releases, Prints, Counts, Done, does}
 use Rattle.rx_rules.specs.Tree.{Tree, opened_by, inner, governs, quiet, is_under, the_root}
-use Rattle.rx_rules.specs.Entries.{Names, AllowedAct, IsLive, was_lost_at, thrown_of}
+use Rattle.rx_rules.specs.Entries.{ActAsks, AllowedAct, IsLive, MayFree, was_lost_at, masked_under, thrown_of}
 use Rattle.rx_rules.specs.Plays.{Fits, journal_at}
 use Rattle.rx_rules.specs.Store.{State}
-use Rattle.rx_rules.specs.Run.{Given, NoRoot, EndsWithRoot, NoneDue, IsDue}
+use Rattle.rx_rules.specs.Run.{Given, in_all, Event, NoRoot, EndsWithRoot, NoneDue, IsDue}
 use Rattle.rx_rules.specs.Picked as picked
-use Rattle.rx_rules.specs.Picked.{Player, Game, Turn, Turns, IsPicked, none, more, used_after, enabled, tree_in, start_game}
+use Rattle.rx_rules.specs.Picked.{Player, Game, Turn, Turns, Comes, opens, turns, IsPicked, none, more, used_after, enabled, tree_in, start_game}
 use Rattle.rx_rules.proofs.Append.{no_root-push, root-push}
 use Rattle.rx_sound.proofs.Enabling.{none_left, inner_is}
 use Rattle.rx_sound.proofs.Rooting.{root_stands}
 use Rattle.rx_runs.specs.Framing.{frames, first, kinds_of, Match, TermFits, AllFit}
 use Rattle.rx_runs.specs.Games.{GameOk, PlayerSo, JournalSo}
+use Rattle.rx_runs.specs.Knowing.{KnownAreThere}
 use Rattle.rx_runs.specs.PickedRuns.{ActFits, SetsFit, NextTurn, HasPickedRun}
 use Rattle.rx_runs.proofs.Bounding.{owes, total, turn_pays}
 use Rattle.rx_runs.proofs.Fitting.{fits_keeps, starts_fit, place_inside}
 use Rattle.rx_runs.proofs.Framing.{Framed, framed}
 use Rattle.rx_runs.proofs.Keeping.{turn_keeps, picked_row}
 use Rattle.rx_runs.proofs.Journals.{longer}
+use Rattle.rx_runs.proofs.Knowing.{goes_know, comes_knowing}
 use Rattle.rx_runs.proofs.Opening.{starts_ok}
 use Rattle.rx_runs.proofs.Pairs.{pairs-length}
+use Rattle.rx_runs.proofs.Planned.{IsPlanned, planned_no_root, due_planned}
 use Rattle.rx_runs.proofs.Picks.{Pick, picked_task, reached_in}
 use Rattle.rx_runs.proofs.Sets.{set_members}
 use Rattle.rx_runs.proofs.Theorem.{turn_grows}
 use Rattle.rx_runs.proofs.Walks.{IsLast}
 use Rattle.rx_runs.proofs.Walking.{Walked, walk}
 
-due_or : (n : ℕ) (ks : List Kill) → ((d : PlaceId) × IsDue n d ks) ⊎ NoneDue n ks
+due_or : (n : ℕ) (xs : List Event) → ((e : Entry) × IsDue n e xs) ⊎ NoneDue n xs
 due_or n [] = inr tt
-due_or n (k ∷ ks) = ⊎_elim (λ (lt : n < k.moment). inr lt) (λ (ge : k.moment ≤ n). inl (k.place, (refl, ge))) (cases_lt n k.moment)
+due_or n (x ∷ xs) = ⊎_elim (λ (lt : n < x.moment). inr lt) (λ (ge : x.moment ≤ n). inl (x.entry, (refl, ge))) (cases_lt n x.moment)
 
 -- what a release names there is
-names : (T : Tree) (s : ScopeId) → (lost : PlaceSet) × Names T s lost (thrown_of T s) × (lost.0 < 2 ^ 16)
-names T s = let m = set_members (λ p. list_any (λ x. is_under T s x && was_lost_at p x) T.tasks) in (m.0, record { places = m.1; faults = refl }, m.2)
+names : (T : Tree) (s : ScopeId) → quiet T s ≡ true → (lost : PlaceSet) × MayFree T s lost (masked_under T s) (thrown_of T s) × (lost.0 < 2 ^ 16)
+names T s still =
+    let m = set_members (λ p. list_any (λ x. is_under T s x && was_lost_at p x) T.tasks) in
+    (m.0, record { is_quiet = still; places = m.1; count = refl; faults = refl }, m.2)
 
 -- one entry more
 fits_push : (es : List Entry) (e : Entry) → SetsFit es → SetsFit (e ∷ []) → SetsFit (es ++ e ∷ [])
 fits_push [] e h k = k
 fits_push (Step t act batch ∷ es) e h k = (h.0, fits_push es e h.1 k)
-fits_push (Root lost thrown ∷ es) e h k = (h.0, fits_push es e h.1 k)
+fits_push (Root lost masked thrown ∷ es) e h k = (h.0, fits_push es e h.1 k)
 fits_push (Death d ∷ es) e h k = fits_push es e h k
+fits_push (Join p ∷ es) e h k = fits_push es e h k
+
+-- what is planned names no set
+planned_fits : (e : Entry) → IsPlanned e → SetsFit (e ∷ [])
+planned_fits (Death d) h = tt
+planned_fits (Join p) h = tt
+planned_fits (Step t act batch) h = absurd h
+planned_fits (Root lost masked thrown) h = absurd h
 
 -- a turn, where the sets that it names have 16 bits
 abbrev HasTurn : Given → ℕ → Game → Type 0
@@ -85,23 +97,26 @@ last_own p b fs (g ∷ gs) m =
 
 -- A turn of a task at a place.
 
-module _ (U : Given) (k : ℕ) (G : Game) (free : NoneDue (length G.entries) G.kills) (x : Task) (here : PlaceId) (p : Player) (S : State) (pick : slice_get (enabled (tree_in U G)) (k % length (enabled (tree_in U G))) ≡ Some x) (at : x.place ≡ At here) (player : slice_get G.players x.number.0 ≡ Some p) (store : slice_get G.stores here.0 ≡ Some S) (one : Pick (tree_in U G) x) (same : (tree_in U G).places ≡ U.places) (w : Walked U.places U.heap (length G.entries) x.number here p S (journal_at G.journals here.0)) (fit : TermFits (kinds_of (tree_in U G) x.number) x.waits p.term) where
+module _ (U : Given) (k : ℕ) (G : Game) (free : NoneDue (length G.entries) G.plan) (x : Task) (here : PlaceId) (p : Player) (S : State) (pick : slice_get (enabled (tree_in U G)) (k % length (enabled (tree_in U G))) ≡ Some x) (at : x.place ≡ At here) (player : slice_get G.players x.number.0 ≡ Some p) (store : slice_get G.stores here.0 ≡ Some S) (one : Pick (tree_in U G) x) (w : Walked U.heap (length G.entries) x.number here p S (journal_at G.journals here.0)) (fit : TermFits (kinds_of (tree_in U G) x.number) x.waits p.term) where
   abbrev q : Player
   q = w.player
 
-  by_act : (act : Act) → Fits here q.term (does q.vars here.0 U.places q.term) act → AllowedAct (tree_in U G) x.number act → ActFits act → HasTurn U k G
-  by_act act fits may sets = (true, _, picked.moves x here p q S w.store w.journal act free pick at player store w.goes fits may, λ h. fits_push G.entries (Step x.number act q.batch) h (sets, tt))
+  by_act : (act : Act) → Fits here q.term (does q.vars here.0 q.term) act → AllowedAct (tree_in U G) x.number act → ActFits act → HasTurn U k G
+  by_act act fits may sets = (true, _, picked.moves x here p q S w.store w.journal act (free, pick) at player store w.goes fits may, λ h. fits_push G.entries (Step x.number act q.batch) h (sets, tt))
 
   waits_is : (b : Bool) → first (frames q.term) ≡ b → x.waits ≡ b
   waits_is b e = fit.waits_is ∙ ap first (sym w.same) ∙ e
 
-  live : first (frames q.term) ≡ false → IsLive (tree_in U G) x.number here x
-  live e = record { acts = record { stands = one.stands; unstruck = one.free }; is_at = at; moves = waits_is false e }
+  live : first (frames q.term) ≡ false → IsLive here x
+  live e = (at, waits_is false e)
+
+  allowed : (act : Act) → ActAsks (tree_in U G) x.number x act → AllowedAct (tree_in U G) x.number act
+  allowed act asks = record { task = x; stands = one.stands; unstruck = one.free; asks = asks }
 
   match_of : (fs : List Bool) → frames q.term ≡ fs → Match fs (kinds_of (tree_in U G) x.number)
   match_of fs e = subst (λ (v : List Bool). Match v (kinds_of (tree_in U G) x.number)) (sym w.same ∙ e) fit.frames_are
 
-  turn_by : (d : Does) → does q.vars here.0 U.places q.term ≡ d → Framed U.places q.term d → IsLast d → HasTurn U k G
+  turn_by : (d : Does) → does q.vars here.0 q.term ≡ d → Framed (tree_in U G).places q.term d → IsLast d → HasTurn U k G
   turn_by (Local after vars) e f l = absurd l
   turn_by (Makes name words) e f l = absurd l
   turn_by (Gets name target index) e f l = absurd l
@@ -110,70 +125,76 @@ module _ (U : Given) (k : ℕ) (G : Game) (free : NoneDue (length G.entries) G.k
   turn_by Opens e f l =
       let T : Tree = tree_in U G in
       by_act (Open (record { 0 = T.next_scope }) (inner T x) f.1.0) (subst (λ (d : Does). Fits here q.term d (Open (record { 0 = T.next_scope }) (inner T x) f.1.0)) (sym e) f.1.1)
-      (record { task = x; place = here; live = live f.0; next = refl; parent = refl }) tt
+      (allowed (Open (record { 0 = T.next_scope }) (inner T x) f.1.0) ((here, live f.0), refl, refl)) tt
   turn_by (Asks pl) e f l =
       let T : Tree = tree_in U G in
       let to : PlaceId = record { 0 = pl } in
-      let inside : pl < U.places = f.2 in
       by_act (Calls (record { 0 = T.next_scope }) (inner T x) (record { 0 = T.next_task }) here to f.1.0) (subst (λ (d : Does). Fits here q.term d (Calls (record { 0 = T.next_scope }) (inner T x) (record { 0 = T.next_task }) here to f.1.0)) (sym e) (refl, refl, f.1.1))
-      (record { task = x; live = live f.0; next = refl; parent = refl; next_task = refl; target = omega arith }) tt
+      (allowed (Calls (record { 0 = T.next_scope }) (inner T x) (record { 0 = T.next_task }) here to f.1.0) (live f.0, refl, refl, refl, f.2)) tt
   turn_by (Spawns pl) e f l =
       let T : Tree = tree_in U G in
       let to : PlaceId = record { 0 = pl } in
-      let inside : pl < U.places = f.2 in
       by_act (Spawn (record { 0 = T.next_task }) (governs T x) here to f.1.0) (subst (λ (d : Does). Fits here q.term d (Spawn (record { 0 = T.next_task }) (governs T x) here to f.1.0)) (sym e) (refl, refl, f.1.1))
-      (record { task = x; live = live f.0; next_task = refl; under = refl; target = omega arith }) tt
+      (allowed (Spawn (record { 0 = T.next_task }) (governs T x) here to f.1.0) (live f.0, refl, refl, f.2)) tt
   turn_by (Waits faults) e f l =
       let T : Tree = tree_in U G in
       let own = last_own (opened_by x.number) false f.0 T.scopes (match_of (false ∷ f.0) f.1) in
       by_act (Wait own.0.number faults) (subst (λ (d : Does). Fits here q.term d (Wait own.0.number faults)) (sym e) refl)
-      (record { task = x; place = here; scope = own.0; live = live (ap first f.1); own = own.1; is_it = refl; finish = own.2 refl }) tt
+      (allowed (Wait own.0.number faults) ((here, live (ap first f.1)), own.0, (own.1, refl), own.2 refl)) tt
   turn_by Releases e f l =
       let T : Tree = tree_in U G in
       let own = last_own (opened_by x.number) true f.0 T.scopes (match_of (true ∷ f.0) f.1) in
       let waits : x.waits ≡ true = waits_is true (ap first f.1) in
       let at_own : inner T x ≡ own.0.number = inner_is T x own.0 own.1 in
       let still : quiet T own.0.number ≡ true = ap (quiet T) (sym at_own) ∙ sym (ap (λ b. not b || quiet T (inner T x)) waits) ∙ one.able in
-      let n = names T own.0.number in
-      by_act (Release own.0.number n.0 (thrown_of T own.0.number)) (subst (λ (d : Does). Fits here q.term d (Release own.0.number n.0 (thrown_of T own.0.number))) (sym e) tt)
-      (record { task = x; scope = own.0; acts = record { stands = one.stands; unstruck = one.free }; waits = waits; own = own.1; is_it = refl; is_quiet = still }, n.1) n.2
+      let n = names T own.0.number still in
+      let act : Act = Release own.0.number n.0 (masked_under T own.0.number) (thrown_of T own.0.number) in
+      by_act act (subst (λ (d : Does). Fits here q.term d (Release own.0.number n.0 (masked_under T own.0.number) (thrown_of T own.0.number))) (sym e) tt)
+      (allowed act (waits, own.0, (own.1, refl), n.1)) n.2
   turn_by (Prints z) e f l =
       by_act (Print z f.1.0) (subst (λ (d : Does). Fits here q.term d (Print z f.1.0)) (sym e) (refl, f.1.1))
-      (record { task = x; place = here; live = live f.0 }) tt
+      (allowed (Print z f.1.0) (here, live f.0)) tt
+  turn_by (Counts name) e f l =
+      let count : ℕ = (tree_in U G).places in
+      by_act (Census count f.1.0) (subst (λ (d : Does). Fits here q.term d (Census count f.1.0)) (sym e) f.1.1)
+      (allowed (Census count f.1.0) ((here, live f.0), refl)) tt
   turn_by (Done faults) e f l = (
     true,
     _,
-    picked.ends x here p q S w.store w.journal faults free pick at player store w.goes e
-        (record { task = x; place = here; live = live (ap first f); none_open = no_own (opened_by x.number) (tree_in U G).scopes (match_of [] f) }),
+    picked.ends x here p q S w.store w.journal faults (free, pick) at player store w.goes e
+        (allowed (End faults) ((here, live (ap first f)), no_own (opened_by x.number) (tree_in U G).scopes (match_of [] f))),
     λ h. fits_push G.entries (Step x.number (End faults) q.batch) h (tt, tt),
   )
 
 -- A next turn.
 
-module _ (code : Block) (U : Given) (G : Game) (ok : GameOk code U G) (all : AllFit (tree_in U G) G.players) (k : ℕ) where
-  by_pick : NoneDue (length G.entries) G.kills → (x : Task) → slice_get (enabled (tree_in U G)) (k % length (enabled (tree_in U G))) ≡ Some x → (place : Where) → x.place ≡ place → HasTurn U k G
+module _ (code : Block) (U : Given) (G : Game) (ok : GameOk code U G) (all : AllFit (tree_in U G) G.players) (known : KnownAreThere U G) (k : ℕ) where
+  by_pick : NoneDue (length G.entries) G.plan → (x : Task) → slice_get (enabled (tree_in U G)) (k % length (enabled (tree_in U G))) ≡ Some x → (place : Where) → x.place ≡ place → HasTurn U k G
   by_pick free x pick (Travel from to) e =
       let one : Pick (tree_in U G) x = picked_task (tree_in U G) (k % length (enabled (tree_in U G))) x (reached_in code U G ok) pick in
-      (true, _, picked.arrives x to free pick (record { task = x; from = from; acts = record { stands = one.stands; unstruck = one.free }; travels = e }), λ h. fits_push G.entries (Step x.number (Arrive to) []) h (tt, tt))
+      (true, _, picked.arrives x to (free, pick) (record { task = x; stands = one.stands; unstruck = one.free; asks = (from, e) }), λ h. fits_push G.entries (Step x.number (Arrive to) []) h (tt, tt))
   by_pick free x pick (At here) e =
       let one : Pick (tree_in U G) x = picked_task (tree_in U G) (k % length (enabled (tree_in U G))) x (reached_in code U G ok) pick in
-      let old : x.number.0 < length ok.starts = (picked_row U.places (length ok.starts) G.entries (tree_in U G) (k % length (enabled (tree_in U G))) x ok.ties pick).0 in
-      let players : length ok.starts ≡ length G.players = pairs-length (PlayerSo ok.starts U.places G.entries G.journals) 0 ok.starts G.players ok.each in
-      let low : here.0 < U.places = place_inside code U G ok x here one.stands e in
+      let old : x.number.0 < length ok.starts = (picked_row (in_all U) (length ok.starts) G.entries (tree_in U G) (k % length (enabled (tree_in U G))) x ok.ties pick).0 in
+      let players : length ok.starts ≡ length G.players = pairs-length (PlayerSo ok.starts G.entries G.journals) 0 ok.starts G.players ok.each in
+      let low : here.0 < (tree_in U G).places = place_inside code U G ok x here one.stands e in
       let journals : length G.journals ≡ length G.stores = pairs-length (JournalSo U G.entries) 0 G.journals G.stores ok.journals in
-      let each_is : length G.journals ≡ U.places = ok.one_each in
+      let each_is : length G.journals ≡ in_all U = ok.one_each in
+      let within : (tree_in U G).places ≤ in_all U = ok.ties.within in
       let p = get-within G.players x.number.0 (omega arith) in
       let S = get-within G.stores here.0 (omega arith) in
       let fit = all x.number x p.0 one.stands one.free p.1 in
-      let w = walk U.places U.heap (length G.entries) x.number here low p.0 S.0 (journal_at G.journals here.0) fit.shape in
-      turn_by U k G free x here p.0 S.0 pick e p.1 S.1 one ok.ties.same w fit (does w.player.vars here.0 U.places w.player.term) refl (framed w.player.vars here.0 U.places low w.player.term w.shape) w.last
+      let w = walk U.heap (length G.entries) x.number here p.0 S.0 (journal_at G.journals here.0) fit.shape in
+      let old : p.0.vars.places ≤ (tree_in U G).places = known x.number.0 p.0 p.1 in
+      let same : w.player.vars.places ≡ p.0.vars.places = goes_know w.goes in
+      turn_by U k G free x here p.0 S.0 pick e p.1 S.1 one w fit (does w.player.vars here.0 w.player.term) refl (framed w.player.vars here.0 (tree_in U G).places low (omega arith) w.player.term w.shape) w.last
 
-  by_enabled : NoneDue (length G.entries) G.kills → (xs : List Task) → enabled (tree_in U G) ≡ xs → HasTurn U k G
+  by_enabled : NoneDue (length G.entries) G.plan → (xs : List Task) → enabled (tree_in U G) ≡ xs → HasTurn U k G
   by_enabled free [] e =
       let T : Tree = tree_in U G in
       let root = root_stands U.places G.entries ok.folds.some ok.folds.few ok.folds.allowed ok.no_root in
-      let n = names T the_root in
-      (false, _, picked.root n.0 (thrown_of T the_root) free e (record { root = root.0; stands = root.1; is_quiet = none_left T (reached_in code U G ok) e }, n.1), λ h. fits_push G.entries (Root n.0 (thrown_of T the_root)) h (n.2, tt))
+      let n = names T the_root (none_left T (reached_in code U G ok) e) in
+      (false, _, picked.root n.0 (masked_under T the_root) (thrown_of T the_root) free e (root.0, root.1, n.1), λ h. fits_push G.entries (Root n.0 (masked_under T the_root) (thrown_of T the_root)) h (n.2, tt))
   by_enabled free (y ∷ ys) e =
       let size : length (enabled (tree_in U G)) ≡ suc (length ys) = ap length e in
       let some : 0 < length (enabled (tree_in U G)) = omega arith in
@@ -181,7 +202,7 @@ module _ (code : Block) (U : Given) (G : Game) (ok : GameOk code U G) (all : All
       by_pick free x.0 x.1 x.0.place refl
 
   pub next_of : HasTurn U k G
-  next_of = ⊎_elim (λ (d : (e : PlaceId) × IsDue (length G.entries) e G.kills). (false, _, picked.dies d.0 d.1, λ h. fits_push G.entries (Death d.0) h tt)) (λ (free : NoneDue (length G.entries) G.kills). by_enabled free (enabled (tree_in U G)) refl) (due_or (length G.entries) G.kills)
+  next_of = ⊎_elim (λ (d : (e : Entry) × IsDue (length G.entries) e G.plan). (false, _, picked.due d.0 d.1, λ h. fits_push G.entries d.0 h (planned_fits d.0 (due_planned (length G.entries) (in_all U) (tree_in U G).places G.entries G.plan d.0 d.1 ok.plan)))) (λ (free : NoneDue (length G.entries) G.plan). by_enabled free (enabled (tree_in U G)) refl) (due_or (length G.entries) G.plan)
 
 -- Along turns.
 
@@ -191,18 +212,23 @@ kept_along code U picks n j G G'' ok (more {G' = G'} {used = u} free t ts) h =
     let was = ok free in
     kept_along code U picks _ (used_after u j) G' G'' (λ now. (turn_keeps code U (picks j) u G G' was.0 t now, fits_keeps code U (picks j) u G G' was.0 was.1 t now)) ts h
 
+come_along : (code : Block) (U : Given) (picks : ℕ → ℕ) (n j : ℕ) (G G' : Game) → Comes code U G → Turns U picks n j G G' → Comes code U G'
+come_along code U picks n j G G' came none = came
+come_along code U picks n j G G'' came (more {G' = G'} {used = u} free t ts) = come_along code U picks _ (used_after u j) G' G'' (turns came free t) ts
+
 pub next_turn : NextTurn
 next_turn code U picks n G proper ts h k =
     let was = kept_along code U picks n 0 (start_game code U) G (λ free. (starts_ok code U proper, starts_fit code U)) ts h in
-    let t = next_of code U G was.0 was.1 k in
+    let t = next_of code U G was.0 was.1 (comes_knowing code U G (come_along code U picks n 0 (start_game code U) G opens ts)) k in
     (t.0, t.1, t.2)
 
-turn_ends : (U : Given) (k : ℕ) (used : Bool) (G G' : Game) → Turn U k G used G' → NoRoot G.entries → (NoRoot G'.entries) ⊎ (EndsWithRoot G'.entries)
-turn_ends U k used G G' (picked.dies d due) h = inl (no_root-push G.entries (Death d) h tt)
-turn_ends U k used G G' (picked.arrives x p none_due pick may) h = inl (no_root-push G.entries (Step x.number (Arrive p) []) h tt)
-turn_ends U k used G G' (picked.moves x here p q S Z j act none_due pick at player store goes fits may) h = inl (no_root-push G.entries (Step x.number act q.batch) h tt)
-turn_ends U k used G G' (picked.ends x here p q S Z j f none_due pick at player store goes done may) h = inl (no_root-push G.entries (Step x.number (End f) q.batch) h tt)
-turn_ends U k used G G' (picked.root lost thrown none_due empty may) h = inr (root-push G.entries lost thrown h)
+turn_ends : (code : Block) (U : Given) (k : ℕ) (used : Bool) (G G' : Game) → GameOk code U G → Turn U k G used G' → NoRoot G.entries → (NoRoot G'.entries) ⊎ (EndsWithRoot G'.entries)
+turn_ends code U k used G G' ok (picked.due e now) h =
+    inl (no_root-push G.entries e h (planned_no_root e (due_planned (length G.entries) (in_all U) (tree_in U G).places G.entries G.plan e now ok.plan)))
+turn_ends code U k used G G' ok (picked.arrives x p takes may) h = inl (no_root-push G.entries (Step x.number (Arrive p) []) h tt)
+turn_ends code U k used G G' ok (picked.moves x here p q S Z j act takes at player store goes fits may) h = inl (no_root-push G.entries (Step x.number act q.batch) h tt)
+turn_ends code U k used G G' ok (picked.ends x here p q S Z j f takes at player store goes done may) h = inl (no_root-push G.entries (Step x.number (End f) q.batch) h tt)
+turn_ends code U k used G G' ok (picked.root lost masked thrown none_due empty may) h = inr (root-push G.entries lost masked thrown h)
 
 -- turns to the end of a run
 pub record Runs (U : Given) (picks : ℕ → ℕ) (j : ℕ) (G : Game) : Type 0 where
@@ -212,22 +238,22 @@ pub record Runs (U : Given) (picks : ℕ → ℕ) (j : ℕ) (G : Game) : Type 0 
   pub ended : EndsWithRoot last.entries
   pub sets : SetsFit G.entries → SetsFit last.entries
 
-run_on : (code : Block) (U : Given) (picks : ℕ → ℕ) (fuel j : ℕ) (G : Game) → owes G.entries 0 G.players + length G.kills < fuel → GameOk code U G → AllFit (tree_in U G) G.players → Runs U picks j G
-run_on code U picks zero j G less ok all = absurd (omega arith)
-run_on code U picks (suc fuel) j G less ok all =
-    let t = next_of code U G ok all (picks j) in
+run_on : (code : Block) (U : Given) (picks : ℕ → ℕ) (fuel j : ℕ) (G : Game) → owes G.entries 0 G.players + length G.plan < fuel → Comes code U G → GameOk code U G → AllFit (tree_in U G) G.players → Runs U picks j G
+run_on code U picks zero j G less came ok all = absurd (omega arith)
+run_on code U picks (suc fuel) j G less came ok all =
+    let t = next_of code U G ok all (comes_knowing code U G came) (picks j) in
     ⊎_elim
     (λ (free : NoRoot t.1.entries).
     let paid : total t.1 ≤ total G = turn_pays code U (picks j) t.0 G t.1 ok t.2 free in
     let grown = turn_grows U (picks j) t.0 G t.1 t.2 in
     let size : length t.1.entries ≡ suc (length G.entries) = ap length grown.1 ∙ longer G.entries grown.0 in
-    let r = run_on code U picks fuel (used_after t.0 j) t.1 (omega (arith, less, paid, size)) (turn_keeps code U (picks j) t.0 G t.1 ok t.2 free) (fits_keeps code U (picks j) t.0 G t.1 ok all t.2 free) in
+    let r = run_on code U picks fuel (used_after t.0 j) t.1 (omega (arith, less, paid, size)) (turns came ok.no_root t.2) (turn_keeps code U (picks j) t.0 G t.1 ok t.2 free) (fits_keeps code U (picks j) t.0 G t.1 ok all t.2 free) in
     record { turns = suc r.turns; last = r.last; made = more ok.no_root t.2 r.made; ended = r.ended; sets = λ h. r.sets (t.3 h) })
     (λ (end : EndsWithRoot t.1.entries). record { turns = 1; last = t.1; made = more ok.no_root t.2 none; ended = end; sets = t.3 })
-    (turn_ends U (picks j) t.0 G t.1 t.2 ok.no_root)
+    (turn_ends code U (picks j) t.0 G t.1 ok t.2 ok.no_root)
 
 pub has_run : HasPickedRun
 has_run code U picks proper =
     let G : Game = start_game code U in
-    let r = run_on code U picks (suc (owes G.entries 0 G.players + length G.kills)) 0 G (omega arith) (starts_ok code U proper) (starts_fit code U) in
+    let r = run_on code U picks (suc (owes G.entries 0 G.players + length G.plan)) 0 G (omega arith) opens (starts_ok code U proper) (starts_fit code U) in
     (r.last.entries, r.last.journals, record { turns = r.turns; game = r.last; made = r.made; ended = r.ended; entries = refl; journals = refl }, r.sets tt)

@@ -7,10 +7,10 @@ use Rattle.rx_rules.specs.declared.events.Cell.{Cell}
 use Rattle.rx_rules.specs.declared.events.PlaceEvent.{PlaceEvent}
 use Rattle.rx_rules.specs.Code.{Block, work}
 use Rattle.rx_rules.specs.Store.{State}
-use Rattle.rx_rules.specs.Terms.{Term, Empty, items, Answer, answered, Does, Local, Makes, Gets, Puts, Forgets, Opens, Calls as Asks, Spawns, Waits, Releases, Prints, Done, does, granted, child}
+use Rattle.rx_rules.specs.Terms.{Term, Empty, items, Answer, answered, Does, Local, Makes, Gets, Puts, Forgets, Opens, Calls as Asks, Spawns, Waits, Releases, Prints, Counts, Done, does, granted, child}
 use Rattle.rx_rules.specs.Plays.{Tells, brought, started_by}
 use Rattle.rx_rules.specs.Run.{Given}
-use Rattle.rx_rules.specs.Picked.{Player, Game, Goes, stays, local, stores, Turn, dies, arrives, moves, ends, root, Comes, opens, turns, child_of}
+use Rattle.rx_rules.specs.Picked.{Player, Game, Goes, stays, local, stores, Turn, due as planned, arrives, moves, ends, root, Comes, opens, turns, acted, child_of}
 use Rattle.rx_runs.specs.Steps.{steps, Sinks}
 use Rattle.rx_runs.specs.Left.{FewLeft, GoingSinks}
 use Rattle.rx_runs.proofs.Sinking.{sinks, steps_items}
@@ -31,19 +31,20 @@ told_sinks t (Spawns u) here cell a s h = absurd h
 told_sinks t (Waits u) here cell a s h = absurd h
 told_sinks t Releases here cell a s h = absurd h
 told_sinks t (Prints u) here cell a s h = absurd h
+told_sinks t (Counts name) here cell a s h = absurd h
 told_sinks t (Done u) here cell a s h = absurd h
 
-pub going : {places heap n : ℕ} {t : TaskId} {here : PlaceId} {p q : Player} {S Z : State} {j k : List PlaceEvent} → Goes places heap n t here p S j q Z k → steps q.term ≤ steps p.term
+pub going : {heap n : ℕ} {t : TaskId} {here : PlaceId} {p q : Player} {S Z : State} {j k : List PlaceEvent} → Goes heap n t here p S j q Z k → steps q.term ≤ steps p.term
 going stays = omega arith
-going {places = places} {here = here} {p = p} {q = q} (local {after = after} e g) =
-    let less : steps after + 1 ≤ steps p.term = subst (λ (d : Does). Sinks p.term d) e (sinks p.vars here.0 places p.term) in
+going {here = here} {p = p} {q = q} (local {after = after} e g) =
+    let less : steps after + 1 ≤ steps p.term = subst (λ (d : Does). Sinks p.term d) e (sinks p.vars here.0 p.term) in
     let rest : steps q.term ≤ steps after = going g in omega (arith, less, rest)
-going {places = places} {here = here} {p = p} {q = q} (stores cell x a told b may g) =
-    let less : steps (answered a p.term) + 1 ≤ steps p.term = told_sinks p.term (does p.vars here.0 places p.term) here cell a (sinks p.vars here.0 places p.term) told in
+going {here = here} {p = p} {q = q} (stores cell x a told b may g) =
+    let less : steps (answered a p.term) + 1 ≤ steps p.term = told_sinks p.term (does p.vars here.0 p.term) here cell a (sinks p.vars here.0 p.term) told in
     let rest : steps q.term ≤ steps (answered a p.term) = going g in omega (arith, less, rest)
 
 pub going_sinks : GoingSinks
-going_sinks places heap n t here p q S Z j k g = going g
+going_sinks heap n t here p q S Z j k g = going g
 
 -- All players.
 
@@ -71,17 +72,17 @@ few-child n q None h = tt
 few-child n q (Some c) h = (let le : steps (child q.term) + 1 ≤ n = h in omega (arith, le), tt)
 
 turn_few : (n : ℕ) (U : Given) (k : ℕ) {used : Bool} {G G' : Game} → Turn U k G used G' → Few n G.players → Few n G'.players
-turn_few n U k (dies d due) h = h
-turn_few n U k (arrives x p due at may) h = h
-turn_few n U k {G = G} (moves x here p q S Z j act due at where_is player store goes fits may) h =
+turn_few n U k (planned e now) h = h
+turn_few n U k (arrives x p takes may) h = h
+turn_few n U k {G = G} (moves x here p q S Z j act takes where_is player store goes fits may) h =
     let first : steps p.term ≤ n = few-get n G.players x.number.0 p h player in
     let rest : steps q.term ≤ steps p.term = going goes in
-    let step : steps (granted (brought act) q.term) + share (child q.term) (started_by act) + 1 ≤ steps q.term = asks_steps here q.term (does q.vars here.0 U.places q.term) act (sinks q.vars here.0 U.places q.term) fits in
-    few-more n (slice_set G.players x.number.0 (record { term = granted (brought act) q.term; vars = q.vars; batch = [] })) (child_of q act)
-    (few-set n G.players x.number.0 (record { term = granted (brought act) q.term; vars = q.vars; batch = [] }) h (omega (arith, first, rest, step)))
+    let step : steps (granted (brought act) q.term) + share (child q.term) (started_by act) + 1 ≤ steps q.term = asks_steps here q.term (does q.vars here.0 q.term) act (sinks q.vars here.0 q.term) fits in
+    few-more n (slice_set G.players x.number.0 (acted here q act)) (child_of q act)
+    (few-set n G.players x.number.0 (acted here q act) h (omega (arith, first, rest, step)))
     (few-child n q (started_by act) (omega (arith, first, rest, step)))
-turn_few n U k (ends x here p q S Z j faults due at where_is player store goes fits may) h = h
-turn_few n U k (root lost thrown due none may) h = h
+turn_few n U k (ends x here p q S Z j faults takes where_is player store goes fits may) h = h
+turn_few n U k (root lost masked thrown due none may) h = h
 
 come_few : (code : Block) (U : Given) {G : Game} → Comes code U G → Few (3 * work code) G.players
 come_few code U opens = let e : steps (items code [] Empty) ≡ 3 * work code + 0 = steps_items code [] 0 Empty in (omega (arith, e), tt)

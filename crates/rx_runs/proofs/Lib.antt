@@ -10,6 +10,7 @@ pub mod Paying
 pub mod Bounding
 pub mod Journals
 pub mod Pushes
+pub mod Planned
 pub mod Stores
 pub mod Theorem
 pub mod Costs
@@ -17,6 +18,7 @@ pub mod Rooted
 pub mod Opening
 pub mod Append
 pub mod Pigeons
+pub mod Plans
 pub mod Sets
 pub mod Telling
 pub mod Asking
@@ -39,3 +41,4 @@ pub mod Comings
 pub mod Left
 pub mod SomeWords
 pub mod Events
+pub mod Knowing

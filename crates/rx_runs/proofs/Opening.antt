@@ -1,6 +1,6 @@
 -- The game before the first turn.
 use Rattle.rx_rules.specs.Terms.{Vars, no_vars}
-use Rattle.std.specs.Prelude.{◌≡◌, ℕ, zero, suc, List, [], ◌∷◌, replicate, refl}
+use Rattle.std.specs.Prelude.{◌≡◌, ℕ, zero, suc, ◌≤◌, List, [], ◌∷◌, replicate, refl}
 use Rattle.std.specs.List.{filter_map}
 use Rattle.std.proofs.Common.{ap, sym, subst, arith, inl}
 use Rattle.std.proofs.lemmas.List.{length-replicate}
@@ -9,12 +9,12 @@ use Rattle.rx_rules.specs.Terms.{Term, Empty, items}
 use Rattle.rx_rules.specs.Plays.{journal_at, cell_of, birth_of}
 use Rattle.rx_rules.specs.Store.{opening_state}
 use Rattle.rx_rules.specs.Fold.{opening}
-use Rattle.rx_base.specs.declared.ids.Kill.{Kill}
-use Rattle.rx_rules.specs.Run.{Given, AreKills}
+use Rattle.rx_rules.specs.Run.{Given, in_all}
 use Rattle.rx_sound.proofs.Histories.{no_dead}
-use Rattle.rx_runs.specs.Ties.{Ties, MayCome}
+use Rattle.rx_runs.specs.Ties.{Ties}
 use Rattle.rx_runs.specs.Segments.{stays}
 use Rattle.rx_runs.specs.Games.{TaskSo, going, Pairs, JournalSo, StartsOk, fresh, rests}
+use Rattle.rx_runs.proofs.Plans.{plan_comes}
 
 no_journal : (n p : ℕ) → journal_at (replicate n []) p ≡ []
 no_journal zero p = refl
@@ -25,37 +25,34 @@ all_empty : (U : Given) (p n : ℕ) → Pairs (JournalSo U []) p (replicate n []
 all_empty U p zero = tt
 all_empty U p (suc n) = (record { law = tt; live = λ e. rests; homes = tt; rising = tt; top = tt; closed = refl }, all_empty U (suc p) n)
 
-first_ties : (q : ℕ) → Ties q 1 [] (opening q)
-first_ties q =
+first_ties : (q places : ℕ) → places ≤ q → Ties q 1 [] (opening places)
+first_ties q places le =
     record {
       rows = (omega arith, λ e. record { place = (refl, refl); going = refl; lives = refl }, tt);
       deaths = λ p h. no_dead 16 p.0;
       sixteen = refl;
-      same = refl;
+      within = le;
       unborn = λ t h. refl;
       unmoved = λ t h. refl;
     }
 
-pub may_come : (q : ℕ) (ks : List Kill) → AreKills q ks → MayCome q [] ks
-may_come q [] h = tt
-may_come q (k ∷ ks) h = (h.0, h.1, refl, h.2, may_come q ks h.4)
-
 pub starts_ok : StartsOk
 starts_ok code U proper =
-    let first : Term × Vars = (items code [] Empty, no_vars) in
+    let first : Term × Vars = (items code [] Empty, no_vars U.places) in
     let none : List (ℕ × Cell × List ℕ) = [] in
-    let cells : filter_map (cell_of 0) (journal_at (replicate U.places []) 0) ≡ [] = ap (filter_map (cell_of 0)) (no_journal U.places 0) in
+    let cells : filter_map (cell_of 0) (journal_at (replicate (in_all U) []) 0) ≡ [] = ap (filter_map (cell_of 0)) (no_journal (in_all U) 0) in
     record {
       starts = first ∷ [];
       main = refl;
       all = refl;
-      folds = record { some = proper.some; few = proper.few; allowed = tt; kills = tt };
+      folds = record { some = proper.some; few = (let some : in_all U ≤ 16 = proper.few in omega arith); allowed = tt; plan = tt };
+      few = proper.few;
       left = refl;
       no_root = tt;
-      each = (subst (λ (cs : List (ℕ × Cell × List ℕ)). TaskSo (first ∷ []) U.places 0 (birth_of [] 0) first cs [] (fresh first)) (sym cells) (going 0 0 [] (inl (refl, refl, refl)) stays (omega arith)), tt);
-      one_each = length-replicate U.places [];
-      journals = all_empty U 0 U.places;
-      kills = may_come U.places U.kills proper.kills;
-      ties = first_ties U.places;
-      silent = λ t p h. ap (filter_map (cell_of t)) (no_journal U.places p);
+      each = (subst (λ (cs : List (ℕ × Cell × List ℕ)). TaskSo (first ∷ []) 0 (birth_of [] 0) first cs [] (fresh first)) (sym cells) (going 0 0 [] (inl (refl, refl, refl)) stays (omega arith)), tt);
+      one_each = length-replicate (in_all U) [];
+      journals = all_empty U 0 (in_all U);
+      plan = plan_comes U proper;
+      ties = first_ties (in_all U) U.places (omega arith);
+      silent = λ t p h. ap (filter_map (cell_of t)) (no_journal (in_all U) p);
     }

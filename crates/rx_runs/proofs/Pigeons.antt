@@ -1,10 +1,10 @@
--- Kills of places that exist and are not 0, none twice, are fewer than the places.
+-- Kills of places that are there or join and are not 0, none twice, are fewer than these places.
 use Rattle.std.specs.Prelude.{◌≡◌, ◌≢◌, ℕ, zero, suc, ◌+◌, ◌<◌, ◌≤◌, true, false, cond, not, ◌==◌, List, [], ◌∷◌, filter, length, refl}
 use Rattle.std.proofs.Common.{ap, ◌∙◌, sym, arith}
 use Rattle.std.proofs.lemmas.Bool.{eqb-true, eq-eqb, ne_eqb, true≢false}
 use Rattle.rx_base.specs.declared.ids.PlaceId.{PlaceId}
 use Rattle.rx_base.specs.declared.ids.Kill.{Kill}
-use Rattle.rx_rules.specs.Run.{AreKills, Spares}
+use Rattle.rx_rules.specs.Run.{Given, in_all, AreKills, Spares}
 
 -- all places are below n, and of one place at most one
 abbrev Fit : ℕ → List Kill → Type 0
@@ -63,17 +63,17 @@ fit_few (suc n) ks h =
     omega arith
 
 -- a kill of place 0 beside them would fit too
-kills_are : (q : ℕ) (ks : List Kill) → AreKills q ks → Fit q ks
-kills_are q [] h = tt
-kills_are q (k ∷ ks) h = (h.0, h.2, kills_are q ks h.4)
+kills_are : (U : Given) (ks : List Kill) → AreKills U ks → Fit (in_all U) ks
+kills_are U [] h = tt
+kills_are U (k ∷ ks) h = (h.0, h.3, kills_are U ks h.5)
 
-zero_spared : (q : ℕ) (p : PlaceId) (ks : List Kill) → p.0 ≡ 0 → AreKills q ks → Spares p ks
-zero_spared q p [] e h = tt
-zero_spared q p (k ∷ ks) e h = ((λ s. h.1 (sym s ∙ e)), zero_spared q p ks e h.4)
+zero_spared : (U : Given) (p : PlaceId) (ks : List Kill) → p.0 ≡ 0 → AreKills U ks → Spares p ks
+zero_spared U p [] e h = tt
+zero_spared U p (k ∷ ks) e h = ((λ s. h.1 (sym s ∙ e)), zero_spared U p ks e h.5)
 
-pub kills_fit : (q : ℕ) (ks : List Kill) → 1 ≤ q → AreKills q ks → length ks + 1 ≤ q
-kills_fit q ks some h =
+pub kills_fit : (U : Given) (ks : List Kill) → 1 ≤ in_all U → AreKills U ks → length ks + 1 ≤ in_all U
+kills_fit U ks some h =
     let p : PlaceId = record { 0 = 0 } in
     let first : Kill = record { place = p; moment = 0 } in
-    let all : length (first ∷ ks) ≤ q = fit_few q (first ∷ ks) (some, zero_spared q p ks refl h, kills_are q ks h) in
+    let all : length (first ∷ ks) ≤ in_all U = fit_few (in_all U) (first ∷ ks) (some, zero_spared U p ks refl h, kills_are U ks h) in
     omega arith

@@ -4,26 +4,28 @@ use Rattle.std.proofs.Common.{ap, ◌∙◌, sym, arith, subst}
 use Rattle.std.specs.List.{cons_option}
 use Rattle.rx_base.specs.declared.ids.PlaceId.{PlaceId}
 use Rattle.rx_rules.specs.Plays.{Birth, moves_from, move_of, birth_in, birth_from}
-use Rattle.rx_base.specs.declared.ids.Kill.{Kill}
 use Rattle.rx_rules.specs.declared.entries.Entry.{Entry}
-use Rattle.rx_rules.specs.declared.entries.Entry.TheVariants.{Step, Root, Death}
-use Rattle.rx_rules.specs.Run.{death_number, KillsInOrder, rest_of}
-use Rattle.rx_runs.specs.Segments.{kills_left, InTime}
+use Rattle.rx_rules.specs.declared.entries.Entry.TheVariants.{Step, Root, Death, Join}
+use Rattle.rx_rules.specs.Run.{Event, death_number, PlanKept, rest_of}
+use Rattle.rx_runs.specs.Segments.{plan_left, InTime}
 
-alone : (n : ℕ) (ks : List Kill) (e : Entry) → InTime n ks e → KillsInOrder n ks (e ∷ [])
-alone n ks (Step t act batch) h = (h, tt)
-alone n ks (Root lost thrown) h = (h, tt)
-alone n ks (Death d) h = (h, tt)
+alone : (n : ℕ) (xs : List Event) (e : Entry) → InTime n xs e → PlanKept n xs (e ∷ [])
+alone n xs (Step t act batch) h = (h, tt)
+alone n xs (Root lost masked thrown) h = (h, tt)
+alone n xs (Death d) h = (h, tt)
+alone n xs (Join p) h = (h, tt)
 
--- the kills
-pub kills-push : (n : ℕ) (ks : List Kill) (es : List Entry) (e : Entry) → KillsInOrder n ks es → InTime (n + length es) (kills_left ks es) e → KillsInOrder n ks (es ++ e ∷ [])
-kills-push n ks [] e h a = alone n ks e (let z : n + 0 ≡ n = omega arith in subst (λ k. InTime k ks e) z a)
-kills-push n ks (Step t act batch ∷ es) e h a =
-    (h.0, kills-push (suc n) ks es e h.1 (let z : n + length (Step t act batch ∷ es) ≡ suc n + length es = omega arith in subst (λ k. InTime k (kills_left ks es) e) z a))
-kills-push n ks (Root lost thrown ∷ es) e h a =
-    (h.0, kills-push (suc n) ks es e h.1 (let z : n + length (Root lost thrown ∷ es) ≡ suc n + length es = omega arith in subst (λ k. InTime k (kills_left ks es) e) z a))
-kills-push n ks (Death d ∷ es) e h a =
-    (h.0, kills-push (suc n) (rest_of ks) es e h.1 (let z : n + length (Death d ∷ es) ≡ suc n + length es = omega arith in subst (λ k. InTime k (kills_left (rest_of ks) es) e) z a))
+-- what is planned
+pub plan-push : (n : ℕ) (xs : List Event) (es : List Entry) (e : Entry) → PlanKept n xs es → InTime (n + length es) (plan_left xs es) e → PlanKept n xs (es ++ e ∷ [])
+plan-push n xs [] e h a = alone n xs e (let z : n + 0 ≡ n = omega arith in subst (λ k. InTime k xs e) z a)
+plan-push n xs (Step t act batch ∷ es) e h a =
+    (h.0, plan-push (suc n) xs es e h.1 (let z : n + length (Step t act batch ∷ es) ≡ suc n + length es = omega arith in subst (λ k. InTime k (plan_left xs es) e) z a))
+plan-push n xs (Root lost masked thrown ∷ es) e h a =
+    (h.0, plan-push (suc n) xs es e h.1 (let z : n + length (Root lost masked thrown ∷ es) ≡ suc n + length es = omega arith in subst (λ k. InTime k (plan_left xs es) e) z a))
+plan-push n xs (Death d ∷ es) e h a =
+    (h.0, plan-push (suc n) (rest_of xs) es e h.1 (let z : n + length (Death d ∷ es) ≡ suc n + length es = omega arith in subst (λ k. InTime k (plan_left (rest_of xs) es) e) z a))
+plan-push n xs (Join p ∷ es) e h a =
+    (h.0, plan-push (suc n) (rest_of xs) es e h.1 (let z : n + length (Join p ∷ es) ≡ suc n + length es = omega arith in subst (λ k. InTime k (plan_left (rest_of xs) es) e) z a))
 
 cons_first : {X : Type 0} (o : Option X) (xs ys : List X) → cons_option o (xs ++ ys) ≡ cons_option o xs ++ ys
 cons_first None xs ys = refl
@@ -62,5 +64,6 @@ death_step n p d es e false h ih = rw h (ih ∙ shift n p (Death d) es e)
 pub death-push : (n : ℕ) (p : PlaceId) (es : List Entry) (e : Entry) → death_number n p (es ++ e ∷ []) ≡ first_of (death_number n p es) (death_number (n + length es) p (e ∷ []))
 death-push n p [] e = let z : n + 0 ≡ n = omega arith in ap (λ k. death_number k p (e ∷ [])) (sym z)
 death-push n p (Step t act batch ∷ es) e = death-push (suc n) p es e ∙ shift n p (Step t act batch) es e
-death-push n p (Root lost thrown ∷ es) e = death-push (suc n) p es e ∙ shift n p (Root lost thrown) es e
+death-push n p (Root lost masked thrown ∷ es) e = death-push (suc n) p es e ∙ shift n p (Root lost masked thrown) es e
 death-push n p (Death d ∷ es) e = death_step n p d es e (d.0 == p.0) refl (death-push (suc n) p es e)
+death-push n p (Join j ∷ es) e = death-push (suc n) p es e ∙ shift n p (Join j) es e

@@ -14,7 +14,7 @@ use Rattle.rx_rules.specs.declared.tasks.Scope.{Scope}
 use Rattle.rx_rules.specs.declared.tasks.Kind.{Kind}
 use Rattle.rx_rules.specs.declared.tasks.Kind.TheVariants.{Finish, Call}
 use Rattle.rx_rules.specs.declared.entries.Act.{Act}
-use Rattle.rx_rules.specs.declared.entries.Act.TheVariants.{Open, At as Calls, Spawn, Arrive, Wait, Release, End, Print}
+use Rattle.rx_rules.specs.declared.entries.Act.TheVariants.{Open, At as Calls, Spawn, Arrive, Wait, Release, End, Print, Census}
 use Rattle.rx_rules.specs.Tree.{Tree, is_task, task_of, is_scope, opened_by, on_chain, quiet}
 use Rattle.rx_rules.specs.Entries.{change_first, waiting, resumed, without, born, home_for, made_act, after_end, AllowedAct}
 use Rattle.rx_sound.specs.Sound.{Each, TasksFall, Sound}
@@ -128,29 +128,31 @@ other_end T t thrown x h e u y found =
 pub other_act : (T : Tree) (t : TaskId) (act : Act) → Sound T → AllowedAct T t act → (u : TaskId) (y : Task) → t.0 ≢ u.0 → u.0 < T.next_task → task_of (made_act T t act) u ≡ Some y → y.struck ≡ None → Same T (made_act T t act) u y
 other_act T t (Open s r path) h may u y other low found free = record { found = found; kinds = kinds_other (new_scope T t Finish s r) T.scopes u (ne_eqb t.0 u.0 other) }
 other_act T t (Calls s r c from to path) h may u y other low found free =
-    let new : c.0 ≡ T.next_task = may.next_task in
+    let new : c.0 ≡ T.next_task = may.asks.3 in
     record {
       found = sym (find_other t u waiting (λ x. refl) other (born T c s from to ∷ T.tasks) ∙ skip (born T c s from to) T.tasks u (λ e. omega arith)) ∙ found;
       kinds = kinds_other (new_scope T t Call s r) T.scopes u (ne_eqb t.0 u.0 other);
     }
 other_act T t (Spawn c s from to path) h may u y other low found free =
-    let new : c.0 ≡ T.next_task = may.next_task in
+    let new : c.0 ≡ T.next_task = may.asks.1 in
     record { found = sym (skip (born T c s from to) T.tasks u (λ e. omega arith)) ∙ found; kinds = refl }
 other_act T t (Arrive p) h may u y other low found free =
     record { found = sym (find_other t u (λ x. record x { place = At p }) (λ x. refl) other T.tasks) ∙ found; kinds = refl }
 other_act T t (Wait s thrown) h may u y other low found free =
     record { found = sym (find_other t u waiting (λ x. refl) other T.tasks) ∙ found; kinds = kinds_faulted (λ g. thrown) (λ g. g.ends) (is_scope s) T.scopes u }
-other_act T t (Release s lost thrown) h may u y other low found free =
-    let m = may.0 in
-    let still : quiet T m.scope.number ≡ true = subst (λ (v : ScopeId). quiet T v ≡ true) (sym m.is_it) m.is_quiet in
+other_act T t (Release s lost masked thrown) h may u y other low found free =
+    let g : Scope = may.asks.1 in
+    let is_it : g.number ≡ s = may.asks.2.1 in
+    let still : quiet T g.number ≡ true = subst (λ (v : ScopeId). quiet T v ≡ true) (sym is_it) may.asks.3.is_quiet in
     let part : find (is_task u) (without T s).tasks ≡ Some y = sym (find_other t u resumed (λ x. refl) other (without T s).tasks) ∙ found in
     let before : task_of T u ≡ Some y = find_part (λ x. not (leaves T s x)) T.next_task T.tasks u y h.tasks_fall part in
     record {
       found = before;
       kinds = ap (map (λ (k : Scope). k.kind))
           (kept (opened_by u) (λ g. not (on_chain T s g.number)) T.scopes
-          (subst (λ (v : ScopeId). Each (λ k. opened_by u k ≡ true → not (on_chain T v k.number) ≡ true) T.scopes) m.is_it
-          (own_stays T t u y m.scope h m.own still before free (λ e. other (sym e)))));
+          (subst (λ (v : ScopeId). Each (λ k. opened_by u k ≡ true → not (on_chain T v k.number) ≡ true) T.scopes) is_it
+          (own_stays T t u y g h may.asks.2.0 still before free (λ e. other (sym e)))));
     }
-other_act T t (End thrown) h may u y other low found free = other_end T t thrown may.task h may.live.acts.stands u y found
+other_act T t (End thrown) h may u y other low found free = other_end T t thrown may.task h may.stands u y found
 other_act T t (Print value path) h may u y other low found free = record { found = found; kinds = refl }
+other_act T t (Census value path) h may u y other low found free = record { found = found; kinds = refl }

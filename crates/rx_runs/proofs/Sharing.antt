@@ -6,9 +6,9 @@ use Rattle.std.proofs.lemmas.Bool.{eq-eqb, true≢false}
 use Rattle.std.proofs.lemmas.List.Sums.{sum_by-cons}
 use Rattle.rx_base.specs.declared.ids.TaskId.{TaskId}
 use Rattle.rx_rules.specs.declared.entries.Act.{Act}
-use Rattle.rx_rules.specs.declared.entries.Act.TheVariants.{Open, At as Calls, Spawn, Arrive, Wait, Release, End, Print}
+use Rattle.rx_rules.specs.declared.entries.Act.TheVariants.{Open, At as Calls, Spawn, Arrive, Wait, Release, End, Print, Census}
 use Rattle.rx_rules.specs.declared.entries.Entry.{Entry}
-use Rattle.rx_rules.specs.declared.entries.Entry.TheVariants.{Step, Root, Death}
+use Rattle.rx_rules.specs.declared.entries.Entry.TheVariants.{Step, Root, Death, Join}
 use Rattle.rx_rules.specs.Terms.{Term, Vars}
 use Rattle.rx_rules.specs.Tree.{Tree}
 use Rattle.rx_rules.specs.Entries.{made, Allowed, AllowedAct}
@@ -37,8 +37,9 @@ module _ (f : Act → ℕ) where
   -- of an entry
   abbrev pub of_entry : Entry → ℕ
   of_entry (Step t act batch) = f act
-  of_entry (Root lost thrown) = 0
+  of_entry (Root lost masked thrown) = 0
   of_entry (Death d) = 0
+  of_entry (Join p) = 0
 
   -- of all entries
   abbrev pub of_entries : List Entry → ℕ
@@ -55,8 +56,9 @@ module _ (f : Act → ℕ) where
         | true ↦ omega arith
         | false ↦ omega arith
       ]
-  part_cons n k (Root lost thrown) ms = omega arith
+  part_cons n k (Root lost masked thrown) ms = omega arith
   part_cons n k (Death d) ms = omega arith
+  part_cons n k (Join p) ms = omega arith
 
   abbrev parts : ℕ → ℕ → Starts → Entry → ℕ
   parts n k [] e = 0
@@ -72,8 +74,9 @@ module _ (f : Act → ℕ) where
 -- the task of an entry is below n
 abbrev pub OfBelow : ℕ → Entry → Type 0
 OfBelow n (Step t act batch) = t.0 < n
-OfBelow n (Root lost thrown) = Unit {0}
+OfBelow n (Root lost masked thrown) = Unit {0}
 OfBelow n (Death d) = Unit {0}
+OfBelow n (Join p) = Unit {0}
 
 abbrev pub AllOf : ℕ → List Entry → Type 0
 AllOf n [] = Unit {0}
@@ -96,8 +99,9 @@ module _ (f : Act → ℕ) where
 
   entry_hit : (n : ℕ) (ss : Starts) (e : Entry) → OfBelow (length ss) e → of_entry f e ≤ parts f n 0 ss e
   entry_hit n ss (Step t act batch) low = parts_hit n 0 ss t act batch (omega arith) (omega (arith, low))
-  entry_hit n ss (Root lost thrown) low = omega arith
+  entry_hit n ss (Root lost masked thrown) low = omega arith
   entry_hit n ss (Death d) low = omega arith
+  entry_hit n ss (Join p) low = omega arith
 
   -- where each entry's task is among the tasks, no entry is missed
   pub all_hit : (n : ℕ) (es : List Entry) (ss : Starts) → AllOf (length ss) es → of_entries f es ≤ of_tasks f n es 0 ss
@@ -133,15 +137,17 @@ born_in_order g n T (e ∷ es) h =
 
     one : (g : ℕ → ℕ) (T : Tree) (e : Entry) (k : ℕ) → Allowed T e → of_entry (λ act. brings g (started_by act)) e + range g (T.next_task + births_of e) k ≡ range g T.next_task (births_of e + k)
     one g T (Step t (Open s r x) batch) k may = none_more g T.next_task k
-    one g T (Step t (Calls s r c from to x) batch) k may = ap (λ v. g v + range g (T.next_task + 1) k) may.next_task ∙ one_more g T.next_task k
-    one g T (Step t (Spawn c s from to x) batch) k may = ap (λ v. g v + range g (T.next_task + 1) k) may.next_task ∙ one_more g T.next_task k
+    one g T (Step t (Calls s r c from to x) batch) k may = ap (λ v. g v + range g (T.next_task + 1) k) may.asks.3 ∙ one_more g T.next_task k
+    one g T (Step t (Spawn c s from to x) batch) k may = ap (λ v. g v + range g (T.next_task + 1) k) may.asks.1 ∙ one_more g T.next_task k
     one g T (Step t (Arrive p) batch) k may = none_more g T.next_task k
     one g T (Step t (Wait s thrown) batch) k may = none_more g T.next_task k
-    one g T (Step t (Release s lost thrown) batch) k may = none_more g T.next_task k
+    one g T (Step t (Release s lost masked thrown) batch) k may = none_more g T.next_task k
     one g T (Step t (End thrown) batch) k may = none_more g T.next_task k
     one g T (Step t (Print value x) batch) k may = none_more g T.next_task k
-    one g T (Root lost thrown) k may = none_more g T.next_task k
+    one g T (Step t (Census places x) batch) k may = none_more g T.next_task k
+    one g T (Root lost masked thrown) k may = none_more g T.next_task k
     one g T (Death d) k may = none_more g T.next_task k
+    one g T (Join p) k may = none_more g T.next_task k
 
 -- what a start brings, by the number of its task
 abbrev pub weight : (Term → ℕ) → Starts → ℕ → ℕ
@@ -164,19 +170,21 @@ given_range w starts m (s ∷ ss) same =
 
 -- each entry's task was born
 pub act_below : (T : Tree) (t : TaskId) (act : Act) → Reached T → AllowedAct T t act → t.0 < T.next_task
-act_below T t (Open s p x) r may = task_below T.next_task T.tasks t may.task (sound r).tasks_fall may.live.acts.stands
-act_below T t (Calls s p c from to x) r may = task_below T.next_task T.tasks t may.task (sound r).tasks_fall may.live.acts.stands
-act_below T t (Spawn c s from to x) r may = task_below T.next_task T.tasks t may.task (sound r).tasks_fall may.live.acts.stands
-act_below T t (Arrive p) r may = task_below T.next_task T.tasks t may.task (sound r).tasks_fall may.acts.stands
-act_below T t (Wait s thrown) r may = task_below T.next_task T.tasks t may.task (sound r).tasks_fall may.live.acts.stands
-act_below T t (Release s lost thrown) r may = task_below T.next_task T.tasks t may.0.task (sound r).tasks_fall may.0.acts.stands
-act_below T t (End thrown) r may = task_below T.next_task T.tasks t may.task (sound r).tasks_fall may.live.acts.stands
-act_below T t (Print value x) r may = task_below T.next_task T.tasks t may.task (sound r).tasks_fall may.live.acts.stands
+act_below T t (Open s p x) r may = task_below T.next_task T.tasks t may.task (sound r).tasks_fall may.stands
+act_below T t (Calls s p c from to x) r may = task_below T.next_task T.tasks t may.task (sound r).tasks_fall may.stands
+act_below T t (Spawn c s from to x) r may = task_below T.next_task T.tasks t may.task (sound r).tasks_fall may.stands
+act_below T t (Arrive p) r may = task_below T.next_task T.tasks t may.task (sound r).tasks_fall may.stands
+act_below T t (Wait s thrown) r may = task_below T.next_task T.tasks t may.task (sound r).tasks_fall may.stands
+act_below T t (Release s lost masked thrown) r may = task_below T.next_task T.tasks t may.task (sound r).tasks_fall may.stands
+act_below T t (End thrown) r may = task_below T.next_task T.tasks t may.task (sound r).tasks_fall may.stands
+act_below T t (Print value x) r may = task_below T.next_task T.tasks t may.task (sound r).tasks_fall may.stands
+act_below T t (Census places x) r may = task_below T.next_task T.tasks t may.task (sound r).tasks_fall may.stands
 
 entry_below : (T : Tree) (e : Entry) (m : ℕ) → Reached T → Allowed T e → T.next_task ≤ m → OfBelow m e
 entry_below T (Step t act batch) m r may le = let low : t.0 < T.next_task = act_below T t act r may in omega (arith, low, le)
-entry_below T (Root lost thrown) m r may le = tt
+entry_below T (Root lost masked thrown) m r may le = tt
 entry_below T (Death d) m r may le = tt
+entry_below T (Join p) m r may le = tt
 
 pub all_below : (n : ℕ) (T : Tree) (es : List Entry) (m : ℕ) → Reached T → All (IsOlder n) T.dead → AllAllowed n T es → T.next_task + births es ≤ m → AllOf m es
 all_below n T [] m r o h le = tt

@@ -11,7 +11,7 @@ use Rattle.rx_base.specs.declared.values.Fault.TheVariants.{WrongPlace, Thrown}
 use Rattle.rx_base.proofs.Numbers.{add-one}
 use Rattle.rx_rules.specs.Code as code
 use Rattle.rx_rules.specs.Code.{Block, Nothing, Then, Stmt, work, work_of}
-use Rattle.rx_rules.specs.Terms.{bound, Term, Empty, Raise, Run, Turns, Trying, Body, Held, Does, Local, Makes, Gets, Puts, Forgets, Opens, Calls, Spawns, Waits, Releases, Prints, Done, granted, child, Vars, does, items, items_from, at, eval, with_number, with_place, target_of, on_ref, ref_in, is_zero, stmt_does, trying_does, body_does, catches, or_raise, raise, value_of, within}
+use Rattle.rx_rules.specs.Terms.{bound, Term, Empty, Raise, Run, Turns, Trying, Body, Held, Does, Local, Makes, Gets, Puts, Forgets, Opens, Calls, Spawns, Waits, Releases, Prints, Counts, Done, granted, child, Vars, does, items, items_from, at, eval, with_number, with_place, target_of, on_ref, ref_in, is_zero, stmt_does, trying_does, body_does, catches, or_raise, raise, value_of, within}
 use Rattle.rx_rules.specs.Terms.{Answer, Gives, Fine, Fails, answered}
 use Rattle.rx_runs.specs.Steps.{steps, Sinks}
 
@@ -45,6 +45,7 @@ some_work (code.New name words) = omega arith
 some_work (code.Get name target index) = omega arith
 some_work (code.Put target index value) = omega arith
 some_work (code.Forget target) = omega arith
+some_work (code.Census name) = omega arith
 some_work (code.Print value) = omega arith
 some_work (code.Throw value) = omega arith
 some_work (code.Async body) = omega arith
@@ -90,42 +91,44 @@ repeated n w r = let e : n - 0 ≡ n = omega arith in let one : 1 + w ≡ suc w 
 tried : (b h r c : ℕ) → c ≡ 3 * b + 0 → (c + (1 + 3 * h) + r) + 1 ≤ 3 * (1 + b + h) + r
 tried b h r c e = omega arith
 
-stmt_sinks : (vars : Vars) (here places : ℕ) (stmt : Stmt) (x : List ℕ) (rest : Term) → Sinks (Run stmt x rest) (stmt_does vars here places stmt x rest)
-stmt_sinks vars here places (code.SetTo name value) x rest =
+stmt_sinks : (vars : Vars) (here : ℕ) (stmt : Stmt) (x : List ℕ) (rest : Term) → Sinks (Run stmt x rest) (stmt_does vars here stmt x rest)
+stmt_sinks vars here (code.SetTo name value) x rest =
     with_number_sinks (Run (code.SetTo name value) x rest) (stmt_one (code.SetTo name value) x rest) vars (eval vars here value) (λ z. Local rest (bound name (Number z) vars)) (λ z. omega arith)
-stmt_sinks vars here places (code.New name words) x rest = store (code.New name words) x rest
-stmt_sinks vars here places (code.Get name target index) x rest =
+stmt_sinks vars here (code.New name words) x rest = store (code.New name words) x rest
+stmt_sinks vars here (code.Get name target index) x rest =
     let t : Term = Run (code.Get name target index) x rest in
     with_number_sinks t (stmt_one (code.Get name target index) x rest) vars (eval vars here index) (λ k. on_ref vars here target (λ r. Gets name r k)) (λ k. on_ref_sinks t (stmt_one (code.Get name target index) x rest) vars here target (λ r. Gets name r k) (λ r. store (code.Get name target index) x rest))
-stmt_sinks vars here places (code.Put target index value) x rest =
+stmt_sinks vars here (code.Put target index value) x rest =
     let t : Term = Run (code.Put target index value) x rest in
     with_number_sinks t (stmt_one (code.Put target index value) x rest) vars (eval vars here index)
     (λ k. with_number vars (eval vars here value) (λ z. on_ref vars here target (λ r. Puts r k z)))
     (λ k. with_number_sinks t (stmt_one (code.Put target index value) x rest) vars (eval vars here value) (λ z. on_ref vars here target (λ r. Puts r k z)) (λ z. on_ref_sinks t (stmt_one (code.Put target index value) x rest) vars here target (λ r. Puts r k z) (λ r. store (code.Put target index value) x rest)))
-stmt_sinks vars here places (code.Forget target) x rest =
+stmt_sinks vars here (code.Forget target) x rest =
     on_ref_sinks (Run (code.Forget target) x rest) (stmt_one (code.Forget target) x rest) vars here target Forgets (λ r. store (code.Forget target) x rest)
-stmt_sinks vars here places (code.Print value) x rest =
+stmt_sinks vars here (code.Census name) x rest =
+    let e : steps (granted [] (Run (code.Census name) x rest)) ≡ steps rest = refl in omega arith
+stmt_sinks vars here (code.Print value) x rest =
     with_number_sinks (Run (code.Print value) x rest) (stmt_one (code.Print value) x rest) vars (eval vars here value) Prints (λ z. let e : steps (granted [] (Run (code.Print value) x rest)) ≡ steps rest = refl in omega arith)
-stmt_sinks vars here places (code.Throw value) x rest =
+stmt_sinks vars here (code.Throw value) x rest =
     with_number_sinks (Run (code.Throw value) x rest) (stmt_one (code.Throw value) x rest) vars (eval vars here value) (λ z. Local (raise (Thrown z)) vars) (λ z. omega arith)
-stmt_sinks vars here places (code.Async body) x rest =
+stmt_sinks vars here (code.Async body) x rest =
     let e : steps (items body x Empty) ≡ 3 * work body + 0 = steps_items body x 0 Empty in
     started (work body) (steps rest) (steps (items body x Empty)) e
-stmt_sinks vars here places (code.AtAsync place body) x rest =
+stmt_sinks vars here (code.AtAsync place body) x rest =
     let e : steps (items body x Empty) ≡ 3 * work body + 0 = steps_items body x 0 Empty in
-    with_place_sinks (Run (code.AtAsync place body) x rest) (stmt_one (code.AtAsync place body) x rest) vars (target_of (eval vars here place) places) Spawns (λ p. started (work body) (steps rest) (steps (items body x Empty)) e)
-stmt_sinks vars here places (code.At place body) x rest =
+    with_place_sinks (Run (code.AtAsync place body) x rest) (stmt_one (code.AtAsync place body) x rest) vars (target_of (eval vars here place) vars.places) Spawns (λ p. started (work body) (steps rest) (steps (items body x Empty)) e)
+stmt_sinks vars here (code.At place body) x rest =
     let e : steps (items body x Empty) ≡ 3 * work body + 0 = steps_items body x 0 Empty in
-    with_place_sinks (Run (code.At place body) x rest) (stmt_one (code.At place body) x rest) vars (target_of (eval vars here place) places) Calls (λ p. called (work body) (steps rest) (steps (items body x Empty)) e)
-stmt_sinks vars here places (code.Finish body) x rest =
+    with_place_sinks (Run (code.At place body) x rest) (stmt_one (code.At place body) x rest) vars (target_of (eval vars here place) vars.places) Calls (λ p. called (work body) (steps rest) (steps (items body x Empty)) e)
+stmt_sinks vars here (code.Finish body) x rest =
     opened (work body) (steps rest) (steps (items body x Empty)) (steps_items body x 0 Empty)
-stmt_sinks vars here places (code.If test first other) x rest =
+stmt_sinks vars here (code.If test first other) x rest =
     let a : steps (items first (at x 0) rest) ≡ 3 * work first + steps rest = steps_items first (at x 0) 0 rest in
     let b : steps (items other (at x 1) rest) ≡ 3 * work other + steps rest = steps_items other (at x 1) 0 rest in
     with_number_sinks (Run (code.If test first other) x rest) (stmt_one (code.If test first other) x rest) vars (eval vars here test) (λ z. Local (cond (is_zero z) (items other (at x 1) rest) (items first (at x 0) rest)) vars)
     (λ z. two_ways (is_zero z) (items other (at x 1) rest) (items first (at x 0) rest) (3 * (1 + max (work first) (work other)) + steps rest) (chosen_other (work first) (work other) (steps rest) _ b) (chosen_first (work first) (work other) (steps rest) _ a))
-stmt_sinks vars here places (code.Repeat times body) x rest = repeated times (work body) (steps rest)
-stmt_sinks vars here places (code.Try body dead_only handler) x rest =
+stmt_sinks vars here (code.Repeat times body) x rest = repeated times (work body) (steps rest)
+stmt_sinks vars here (code.Try body dead_only handler) x rest =
     tried (work body) (work handler) (steps rest) (steps (items body (at x 0) Empty)) (steps_items body (at x 0) 0 Empty)
 
 add_child : (a c b h r : ℕ) → a + c + 2 ≤ b → (a + h + r) + c + 2 ≤ b + h + r
@@ -154,6 +157,7 @@ in_trying inside dead_only handler x rest (Spawns p) h = add_child (steps (grant
 in_trying inside dead_only handler x rest (Waits faults) h = add-one (steps (granted [] inside)) (steps inside) (1 + 3 * work handler) (steps rest) h
 in_trying inside dead_only handler x rest Releases h = λ faults. add-one (steps (granted faults inside)) (steps inside) (1 + 3 * work handler) (steps rest) (h faults)
 in_trying inside dead_only handler x rest (Prints value) h = add-one (steps (granted [] inside)) (steps inside) (1 + 3 * work handler) (steps rest) h
+in_trying inside dead_only handler x rest (Counts name) h = add-one (steps (granted [] inside)) (steps inside) (1 + 3 * work handler) (steps rest) h
 in_trying inside dead_only handler x rest (Done faults) h = tt
 
 caught : (b : Bool) (handler : Block) (x : List ℕ) (rest : Term) (faults : List Fault) → steps (cond b (items handler (at x 1) rest) (Raise faults)) + 1 ≤ 0 + (1 + 3 * work handler) + steps rest
@@ -182,6 +186,7 @@ in_body inside rest (Spawns p) g h = subst (λ (t : Term). steps t + steps (chil
 in_body inside rest (Waits faults) g h = subst (λ (t : Term). steps t + 1 ≤ steps (Body inside rest)) (sym (g [])) (add-one (steps (granted [] inside)) (steps inside) 2 (steps rest) h)
 in_body inside rest Releases g h = λ faults. subst (λ (t : Term). steps t + 1 ≤ steps (Body inside rest)) (sym (g faults)) (add-one (steps (granted faults inside)) (steps inside) 2 (steps rest) (h faults))
 in_body inside rest (Prints value) g h = subst (λ (t : Term). steps t + 1 ≤ steps (Body inside rest)) (sym (g [])) (add-one (steps (granted [] inside)) (steps inside) 2 (steps rest) h)
+in_body inside rest (Counts name) g h = subst (λ (t : Term). steps t + 1 ≤ steps (Body inside rest)) (sym (g [])) (add-one (steps (granted [] inside)) (steps inside) 2 (steps rest) h)
 in_body inside rest (Done faults) g h = tt
 
 body_sinks : (inside rest : Term) (d : Does) → Sinks inside d → Sinks (Body inside rest) (body_does inside d rest)
@@ -208,11 +213,11 @@ held_sinks rest [] = omega arith
 held_sinks rest (f ∷ fs) = omega arith
 
 -- each step of a term
-pub sinks : (vars : Vars) (here places : ℕ) (t : Term) → Sinks t (does vars here places t)
-sinks vars here places Empty = tt
-sinks vars here places (Raise faults) = tt
-sinks vars here places (Run stmt x rest) = stmt_sinks vars here places stmt x rest
-sinks vars here places (Turns body x k times rest) = turn_sinks (nat_le times k) body x k times rest refl
-sinks vars here places (Trying inside dead_only handler x rest) = trying_sinks vars inside (does vars here places inside) dead_only handler x rest (sinks vars here places inside)
-sinks vars here places (Body inside rest) = body_sinks inside rest (does vars here places inside) (sinks vars here places inside)
-sinks vars here places (Held rest) = held_sinks rest
+pub sinks : (vars : Vars) (here : ℕ) (t : Term) → Sinks t (does vars here t)
+sinks vars here Empty = tt
+sinks vars here (Raise faults) = tt
+sinks vars here (Run stmt x rest) = stmt_sinks vars here stmt x rest
+sinks vars here (Turns body x k times rest) = turn_sinks (nat_le times k) body x k times rest refl
+sinks vars here (Trying inside dead_only handler x rest) = trying_sinks vars inside (does vars here inside) dead_only handler x rest (sinks vars here inside)
+sinks vars here (Body inside rest) = body_sinks inside rest (does vars here inside) (sinks vars here inside)
+sinks vars here (Held rest) = held_sinks rest

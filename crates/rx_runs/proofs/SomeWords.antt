@@ -7,12 +7,12 @@ use Rattle.rx_base.specs.declared.values.Fault.{Fault}
 use Rattle.rx_base.specs.declared.values.Fault.TheVariants.{Thrown, WrongPlace}
 use Rattle.rx_base.specs.declared.values.Value.TheVariants.{Num as Number}
 use Rattle.rx_rules.specs.declared.events.PlaceEvent.{PlaceEvent}
-use Rattle.rx_rules.specs.Code.{Block, Nothing, Then, Stmt, SetTo, New, Get, Put, Forget, Print, Throw, Async, AtAsync, At, Finish, If, Repeat, Try}
-use Rattle.rx_rules.specs.Terms.{Vars, Term, Empty, Run, Raise, Turns, Trying, Body, Held, items, items_from, at, Answer, Gives, Fine, Fails, answered, Does, Local, Makes, Gets, Puts, Forgets, Opens, Calls, Spawns, Waits, Releases, Prints, Done, raise, bound, value_of, ref_in, eval, target_of, is_zero, catches, with_number, with_place, stmt_does, within, trying_does, body_does, does, stmt_granted, or_raise, body_granted, granted, stmt_child, child, replaced, after_it}
+use Rattle.rx_rules.specs.Code.{Block, Nothing, Then, Stmt, SetTo, New, Get, Put, Forget, Census, Print, Throw, Async, AtAsync, At, Finish, If, Repeat, Try}
+use Rattle.rx_rules.specs.Terms.{Vars, Term, Empty, Run, Raise, Turns, Trying, Body, Held, items, items_from, at, Answer, Gives, Fine, Fails, answered, Does, Local, Makes, Gets, Puts, Forgets, Opens, Calls, Spawns, Waits, Releases, Prints, Counts, Done, raise, bound, value_of, ref_in, eval, target_of, is_zero, catches, with_number, with_place, stmt_does, within, trying_does, body_does, does, stmt_granted, or_raise, body_granted, granted, stmt_child, child, replaced, after_it}
 use Rattle.rx_rules.specs.Store.{State}
 use Rattle.rx_rules.specs.Plays.{brought, started_by}
 use Rattle.rx_rules.specs.Run.{Given}
-use Rattle.rx_rules.specs.Picked.{Player, Game, Goes, stays, local, stores, Turn, dies, arrives, moves, ends, root, Comes, opens, turns, child_of}
+use Rattle.rx_rules.specs.Picked.{Player, Game, Goes, stays, local, stores, Turn, due as planned, arrives, moves, ends, root, Comes, opens, turns, acted, child_of}
 use Rattle.rx_runs.specs.SomeWords.{StmtMakesSome, MakesSome, TermMakesSome, AsksSome, ComesSome, GoesSome}
 
 -- Terms.
@@ -34,6 +34,7 @@ Keeps (Spawns place) = Unit {0}
 Keeps (Waits faults) = Unit {0}
 Keeps Releases = Unit {0}
 Keeps (Prints value) = Unit {0}
+Keeps (Counts name) = Unit {0}
 Keeps (Done faults) = Unit {0}
 
 asks : (d : Does) → Keeps d → AsksSome d
@@ -48,6 +49,7 @@ asks (Spawns place) h = tt
 asks (Waits faults) h = tt
 asks Releases h = tt
 asks (Prints value) h = tt
+asks (Counts name) h = tt
 asks (Done faults) h = tt
 
 on-number : (vars : Vars) (o : Option ℤ) (f : ℤ → Does) → ((z : ℤ) → Keeps (f z)) → Keeps (with_number vars o f)
@@ -66,31 +68,32 @@ chosen : (b : Bool) (t u : Term) → TermMakesSome t → TermMakesSome u → Ter
 chosen true t u h k = h
 chosen false t u h k = k
 
-of_stmt : (vars : Vars) (here places : ℕ) (stmt : Stmt) (x : List ℕ) (rest : Term) → StmtMakesSome stmt → TermMakesSome rest → Keeps (stmt_does vars here places stmt x rest)
-of_stmt vars here places (SetTo name value) x rest s h = on-number vars (eval vars here value) (λ z. Local rest (bound name (Number z) vars)) (λ z. h)
-of_stmt vars here places (New name words) x rest s h = s
-of_stmt vars here places (Get name target index) x rest s h =
+of_stmt : (vars : Vars) (here : ℕ) (stmt : Stmt) (x : List ℕ) (rest : Term) → StmtMakesSome stmt → TermMakesSome rest → Keeps (stmt_does vars here stmt x rest)
+of_stmt vars here (SetTo name value) x rest s h = on-number vars (eval vars here value) (λ z. Local rest (bound name (Number z) vars)) (λ z. h)
+of_stmt vars here (New name words) x rest s h = s
+of_stmt vars here (Get name target index) x rest s h =
     let r = ref_in (value_of vars target) in
     on-number vars (eval vars here index) (λ k. cond (r.home.0 == here) (Gets name r k) (Local (raise WrongPlace) vars))
     (λ k. on-test (r.home.0 == here) (Gets name r k) (Local (raise WrongPlace) vars) tt tt)
-of_stmt vars here places (Put target index value) x rest s h =
+of_stmt vars here (Put target index value) x rest s h =
     let r = ref_in (value_of vars target) in
     on-number vars (eval vars here index) (λ k. with_number vars (eval vars here value) (λ z. cond (r.home.0 == here) (Puts r k z) (Local (raise WrongPlace) vars)))
     (λ k. on-number vars (eval vars here value) (λ z. cond (r.home.0 == here) (Puts r k z) (Local (raise WrongPlace) vars))
     (λ z. on-test (r.home.0 == here) (Puts r k z) (Local (raise WrongPlace) vars) tt tt))
-of_stmt vars here places (Forget target) x rest s h =
+of_stmt vars here (Forget target) x rest s h =
     let r = ref_in (value_of vars target) in on-test (r.home.0 == here) (Forgets r) (Local (raise WrongPlace) vars) tt tt
-of_stmt vars here places (Print value) x rest s h = on-number vars (eval vars here value) Prints (λ z. tt)
-of_stmt vars here places (Throw value) x rest s h = on-number vars (eval vars here value) (λ z. Local (raise (Thrown z)) vars) (λ z. tt)
-of_stmt vars here places (Async body) x rest s h = tt
-of_stmt vars here places (AtAsync place body) x rest s h = on-place vars (target_of (eval vars here place) places) Spawns (λ p. tt)
-of_stmt vars here places (At place body) x rest s h = on-place vars (target_of (eval vars here place) places) Calls (λ p. tt)
-of_stmt vars here places (Finish body) x rest s h = tt
-of_stmt vars here places (If test first other) x rest s h =
+of_stmt vars here (Census name) x rest s h = tt
+of_stmt vars here (Print value) x rest s h = on-number vars (eval vars here value) Prints (λ z. tt)
+of_stmt vars here (Throw value) x rest s h = on-number vars (eval vars here value) (λ z. Local (raise (Thrown z)) vars) (λ z. tt)
+of_stmt vars here (Async body) x rest s h = tt
+of_stmt vars here (AtAsync place body) x rest s h = on-place vars (target_of (eval vars here place) vars.places) Spawns (λ p. tt)
+of_stmt vars here (At place body) x rest s h = on-place vars (target_of (eval vars here place) vars.places) Calls (λ p. tt)
+of_stmt vars here (Finish body) x rest s h = tt
+of_stmt vars here (If test first other) x rest s h =
     on-number vars (eval vars here test) (λ z. Local (cond (is_zero z) (items other (at x 1) rest) (items first (at x 0) rest)) vars)
     (λ z. chosen (is_zero z) (items other (at x 1) rest) (items first (at x 0) rest) (some-items other (at x 1) 0 rest s.1 h) (some-items first (at x 0) 0 rest s.0 h))
-of_stmt vars here places (Repeat times body) x rest s h = (s, h)
-of_stmt vars here places (Try body dead_only handler) x rest s h = (some-items body (at x 0) 0 Empty s.0 tt, s.1, h)
+of_stmt vars here (Repeat times body) x rest s h = (s, h)
+of_stmt vars here (Try body dead_only handler) x rest s h = (some-items body (at x 0) 0 Empty s.0 tt, s.1, h)
 
 in-context : (f : Term → Term) (d : Does) → ((t : Term) → TermMakesSome t → TermMakesSome (f t)) → Keeps d → Keeps (within f d)
 in-context f (Local left vars) k h = k left h
@@ -104,6 +107,7 @@ in-context f (Spawns place) k h = tt
 in-context f (Waits faults) k h = tt
 in-context f Releases k h = tt
 in-context f (Prints value) k h = tt
+in-context f (Counts name) k h = tt
 in-context f (Done faults) k h = tt
 
 of_try : (vars : Vars) (inside : Term) (d : Does) (o : Bool) (b : Block) (x : List ℕ) (rest : Term) → MakesSome b → TermMakesSome rest → Keeps d → Keeps (trying_does vars inside d o b x rest)
@@ -124,14 +128,14 @@ of_body (Trying u p c y m) d rest r h = in-context (λ t. Body t rest) d (λ t k
 of_body (Body u m) d rest r h = in-context (λ t. Body t rest) d (λ t k. (k, r)) h
 of_body (Held m) d rest r h = in-context (λ t. Body t rest) d (λ t k. (k, r)) h
 
-keeps : (vars : Vars) (here places : ℕ) (t : Term) → TermMakesSome t → Keeps (does vars here places t)
-keeps vars here places Empty h = tt
-keeps vars here places (Run stmt x rest) h = of_stmt vars here places stmt x rest h.0 h.1
-keeps vars here places (Raise faults) h = tt
-keeps vars here places (Turns body x k times rest) h = chosen (nat_le times k) rest (items body (at x k) (Turns body x (suc k) times rest)) h.1 (some-items body (at x k) 0 (Turns body x (suc k) times rest) h.0 h)
-keeps vars here places (Trying inside o b x rest) h = of_try vars inside (does vars here places inside) o b x rest h.1 h.2 (keeps vars here places inside h.0)
-keeps vars here places (Body inside rest) h = of_body inside (does vars here places inside) rest h.1 (keeps vars here places inside h.0)
-keeps vars here places (Held rest) h = tt
+keeps : (vars : Vars) (here : ℕ) (t : Term) → TermMakesSome t → Keeps (does vars here t)
+keeps vars here Empty h = tt
+keeps vars here (Run stmt x rest) h = of_stmt vars here stmt x rest h.0 h.1
+keeps vars here (Raise faults) h = tt
+keeps vars here (Turns body x k times rest) h = chosen (nat_le times k) rest (items body (at x k) (Turns body x (suc k) times rest)) h.1 (some-items body (at x k) 0 (Turns body x (suc k) times rest) h.0 h)
+keeps vars here (Trying inside o b x rest) h = of_try vars inside (does vars here inside) o b x rest h.1 h.2 (keeps vars here inside h.0)
+keeps vars here (Body inside rest) h = of_body inside (does vars here inside) rest h.1 (keeps vars here inside h.0)
+keeps vars here (Held rest) h = tt
 
 -- Answers, grants and new tasks.
 
@@ -164,6 +168,7 @@ grants (New name words) x rest s h = h
 grants (Get name target index) x rest s h = h
 grants (Put target index value) x rest s h = h
 grants (Forget target) x rest s h = h
+grants (Census name) x rest s h = h
 grants (Print value) x rest s h = h
 grants (Throw value) x rest s h = h
 grants (Async body) x rest s h = h
@@ -202,6 +207,7 @@ starts (New name words) x s = tt
 starts (Get name target index) x s = tt
 starts (Put target index value) x s = tt
 starts (Forget target) x s = tt
+starts (Census name) x s = tt
 starts (Print value) x s = tt
 starts (Throw value) x s = tt
 starts (Async body) x s = some-items body x 0 Empty s tt
@@ -223,13 +229,13 @@ some-child (Held rest) h = tt
 
 -- Games.
 
-goes : {places heap n : ℕ} {t : TaskId} {here : PlaceId} {p q : Player} {S Z : State} {j k : List PlaceEvent} → Goes places heap n t here p S j q Z k → TermMakesSome p.term → TermMakesSome q.term
+goes : {heap n : ℕ} {t : TaskId} {here : PlaceId} {p q : Player} {S Z : State} {j k : List PlaceEvent} → Goes heap n t here p S j q Z k → TermMakesSome p.term → TermMakesSome q.term
 goes stays h = h
-goes {places = places} {here = here} {p = p} (local e g) h = goes g (subst (λ (d : Does). Keeps d) e (keeps p.vars here.0 places p.term h))
+goes {here = here} {p = p} (local e g) h = goes g (subst (λ (d : Does). Keeps d) e (keeps p.vars here.0 p.term h))
 goes {p = p} (stores cell x a told b may g) h = goes g (some-answered a p.term h)
 
 pub goes_some : GoesSome
-goes_some places heap n t here p q S Z j k g h = let s = goes g h in (s, λ vars. asks (does vars here.0 places q.term) (keeps vars here.0 places q.term s))
+goes_some heap n t here p q S Z j k g h = let s = goes g h in (s, λ vars. asks (does vars here.0 q.term) (keeps vars here.0 q.term s))
 
 abbrev Each : List Player → Type 0
 Each [] = Unit {0}
@@ -254,14 +260,14 @@ each-child q None h = tt
 each-child q (Some c) h = (some-child q.term h, tt)
 
 turn_some : (U : Given) (k : ℕ) {used : Bool} {G G' : Game} → Turn U k G used G' → Each G.players → Each G'.players
-turn_some U k (dies d due) h = h
-turn_some U k (arrives x p due at may) h = h
-turn_some U k {G = G} (moves x here p q S Z j act due at where_is player store go fits may) h =
+turn_some U k (planned e now) h = h
+turn_some U k (arrives x p takes may) h = h
+turn_some U k {G = G} (moves x here p q S Z j act takes where_is player store go fits may) h =
     let s : TermMakesSome q.term = goes go (each-get G.players x.number.0 p h player) in
-    each-more (slice_set G.players x.number.0 (record { term = granted (brought act) q.term; vars = q.vars; batch = [] })) (child_of q act)
-    (each-set G.players x.number.0 (record { term = granted (brought act) q.term; vars = q.vars; batch = [] }) h (some-granted (brought act) q.term s)) (each-child q (started_by act) s)
-turn_some U k (ends x here p q S Z j faults due at where_is player store go done may) h = h
-turn_some U k (root lost thrown due none may) h = h
+    each-more (slice_set G.players x.number.0 (acted here q act)) (child_of q act)
+    (each-set G.players x.number.0 (acted here q act) h (some-granted (brought act) q.term s)) (each-child q (started_by act) s)
+turn_some U k (ends x here p q S Z j faults takes where_is player store go done may) h = h
+turn_some U k (root lost masked thrown due none may) h = h
 
 come_some : (code : Block) (U : Given) {G : Game} → MakesSome code → Comes code U G → Each G.players
 come_some code U s opens = (some-items code [] 0 Empty s tt, tt)

@@ -4,10 +4,10 @@ use Rattle.std.proofs.Common.{ap, sym, subst, arith}
 use Rattle.rx_base.specs.declared.ids.PlaceId.{PlaceId}
 use Rattle.rx_base.specs.declared.ids.TaskId.{TaskId}
 use Rattle.rx_rules.specs.declared.entries.Act.{Act}
-use Rattle.rx_rules.specs.declared.entries.Act.TheVariants.{Open, At as Calls, Spawn, Arrive, Wait, Release, End, Print}
+use Rattle.rx_rules.specs.declared.entries.Act.TheVariants.{Open, At as Calls, Spawn, Arrive, Wait, Release, End, Print, Census}
 use Rattle.rx_rules.specs.declared.entries.Entry.{Entry}
 use Rattle.rx_rules.specs.Code.{work}
-use Rattle.rx_rules.specs.Terms.{Term, Empty, Vars, items, Answer, answered, Does, Local, Makes, Gets, Puts, Forgets, Opens, Calls as Asks, Spawns, Waits, Releases, Prints, Done, does, granted, child}
+use Rattle.rx_rules.specs.Terms.{Term, Empty, Vars, items, Answer, answered, Does, Local, Makes, Gets, Puts, Forgets, Opens, Calls as Asks, Spawns, Waits, Releases, Prints, Counts, Done, does, granted, child}
 use Rattle.rx_rules.specs.Entries.{made}
 use Rattle.rx_rules.specs.Fold.{births, opening}
 use Rattle.rx_rules.specs.Reached.{opens}
@@ -38,6 +38,7 @@ store_steps t (Spawns u) a s h = absurd h
 store_steps t (Waits u) a s h = absurd h
 store_steps t Releases a s h = absurd h
 store_steps t (Prints u) a s h = absurd h
+store_steps t (Counts name) a s h = absurd h
 store_steps t (Done u) a s h = absurd h
 
 -- an entry
@@ -52,49 +53,64 @@ asks_steps here t Opens (Calls u v w x y z) s h = absurd h
 asks_steps here t Opens (Spawn u v w x y) s h = absurd h
 asks_steps here t Opens (Arrive u) s h = absurd h
 asks_steps here t Opens (Wait u v) s h = absurd h
-asks_steps here t Opens (Release u v w) s h = absurd h
+asks_steps here t Opens (Release u v w x) s h = absurd h
 asks_steps here t Opens (End u) s h = absurd h
 asks_steps here t Opens (Print u v) s h = absurd h
+asks_steps here t Opens (Census u v) s h = absurd h
 asks_steps here t (Asks a) (Open u v w) s h = absurd h
 asks_steps here t (Asks a) (Calls u v w x y z) s h = let less : steps (granted [] t) + steps (child t) + 2 ≤ steps t = s in omega arith
 asks_steps here t (Asks a) (Spawn u v w x y) s h = absurd h
 asks_steps here t (Asks a) (Arrive u) s h = absurd h
 asks_steps here t (Asks a) (Wait u v) s h = absurd h
-asks_steps here t (Asks a) (Release u v w) s h = absurd h
+asks_steps here t (Asks a) (Release u v w x) s h = absurd h
 asks_steps here t (Asks a) (End u) s h = absurd h
 asks_steps here t (Asks a) (Print u v) s h = absurd h
+asks_steps here t (Asks a) (Census u v) s h = absurd h
 asks_steps here t (Spawns a) (Open u v w) s h = absurd h
 asks_steps here t (Spawns a) (Calls u v w x y z) s h = absurd h
 asks_steps here t (Spawns a) (Spawn u v w x y) s h = let less : steps (granted [] t) + steps (child t) + 2 ≤ steps t = s in omega arith
 asks_steps here t (Spawns a) (Arrive u) s h = absurd h
 asks_steps here t (Spawns a) (Wait u v) s h = absurd h
-asks_steps here t (Spawns a) (Release u v w) s h = absurd h
+asks_steps here t (Spawns a) (Release u v w x) s h = absurd h
 asks_steps here t (Spawns a) (End u) s h = absurd h
 asks_steps here t (Spawns a) (Print u v) s h = absurd h
+asks_steps here t (Spawns a) (Census u v) s h = absurd h
 asks_steps here t (Waits a) (Open u v w) s h = absurd h
 asks_steps here t (Waits a) (Calls u v w x y z) s h = absurd h
 asks_steps here t (Waits a) (Spawn u v w x y) s h = absurd h
 asks_steps here t (Waits a) (Arrive u) s h = absurd h
 asks_steps here t (Waits a) (Wait u v) s h = let less : steps (granted [] t) + 1 ≤ steps t = s in omega arith
-asks_steps here t (Waits a) (Release u v w) s h = absurd h
+asks_steps here t (Waits a) (Release u v w x) s h = absurd h
 asks_steps here t (Waits a) (End u) s h = absurd h
 asks_steps here t (Waits a) (Print u v) s h = absurd h
+asks_steps here t (Waits a) (Census u v) s h = absurd h
 asks_steps here t Releases (Open u v w) s h = absurd h
 asks_steps here t Releases (Calls u v w x y z) s h = absurd h
 asks_steps here t Releases (Spawn u v w x y) s h = absurd h
 asks_steps here t Releases (Arrive u) s h = absurd h
 asks_steps here t Releases (Wait u v) s h = absurd h
-asks_steps here t Releases (Release u v w) s h = let less : steps (granted (raised_by v w) t) + 1 ≤ steps t = s (raised_by v w) in omega arith
+asks_steps here t Releases (Release u v w x) s h = let less : steps (granted (raised_by v x) t) + 1 ≤ steps t = s (raised_by v x) in omega arith
 asks_steps here t Releases (End u) s h = absurd h
 asks_steps here t Releases (Print u v) s h = absurd h
+asks_steps here t Releases (Census u v) s h = absurd h
 asks_steps here t (Prints a) (Open u v w) s h = absurd h
 asks_steps here t (Prints a) (Calls u v w x y z) s h = absurd h
 asks_steps here t (Prints a) (Spawn u v w x y) s h = absurd h
 asks_steps here t (Prints a) (Arrive u) s h = absurd h
 asks_steps here t (Prints a) (Wait u v) s h = absurd h
-asks_steps here t (Prints a) (Release u v w) s h = absurd h
+asks_steps here t (Prints a) (Release u v w x) s h = absurd h
 asks_steps here t (Prints a) (End u) s h = absurd h
 asks_steps here t (Prints a) (Print u v) s h = let less : steps (granted [] t) + 1 ≤ steps t = s in omega arith
+asks_steps here t (Prints a) (Census u v) s h = absurd h
+asks_steps here t (Counts a) (Open u v w) s h = absurd h
+asks_steps here t (Counts a) (Calls u v w x y z) s h = absurd h
+asks_steps here t (Counts a) (Spawn u v w x y) s h = absurd h
+asks_steps here t (Counts a) (Arrive u) s h = absurd h
+asks_steps here t (Counts a) (Wait u v) s h = absurd h
+asks_steps here t (Counts a) (Release u v w x) s h = absurd h
+asks_steps here t (Counts a) (End u) s h = absurd h
+asks_steps here t (Counts a) (Print u v) s h = absurd h
+asks_steps here t (Counts a) (Census u v) s h = let less : steps (granted [] t) + 1 ≤ steps t = s in omega arith
 asks_steps here t (Done a) act s h = absurd h
 
 -- what a start brings: its steps and its end
@@ -108,49 +124,50 @@ brings_share starts t vars (Some c) h = ap (λ (o : Option (Term × Vars)). elim
 abbrev paid : Starts → Act → ℕ
 paid starts act = brings (weight worth starts) (started_by act)
 
-works_pay : {starts : Starts} {here : PlaceId} {places n : ℕ} {vars : Vars} {t : Term} {moves : Moves} → Works starts here places n vars t moves → n + of_moves (paid starts) moves ≤ steps t + 1
-works_pay {here = here} {places = places} {vars = vars} {t = t} (local {left = left} {after = after} e w) =
-    let less : steps after + 1 ≤ steps t = subst (λ (d : Does). Sinks t d) e (sinks vars here.0 places t) in
+works_pay : {starts : Starts} {here : PlaceId} {n : ℕ} {vars : Vars} {t : Term} {moves : Moves} → Works starts here n vars t moves → n + of_moves (paid starts) moves ≤ steps t + 1
+works_pay {here = here} {vars = vars} {t = t} (local {left = left} {after = after} e w) =
+    let less : steps after + 1 ≤ steps t = subst (λ (d : Does). Sinks t d) e (sinks vars here.0 t) in
     omega (arith, less, works_pay w)
-works_pay {here = here} {places = places} {vars = vars} {t = t} (answers a h w) =
-    let less : steps (answered a t) + 1 ≤ steps t = store_steps t (does vars here.0 places t) a (sinks vars here.0 places t) h in
+works_pay {here = here} {vars = vars} {t = t} (answers a h w) =
+    let less : steps (answered a t) + 1 ≤ steps t = store_steps t (does vars here.0 t) a (sinks vars here.0 t) h in
     omega (arith, less, works_pay w)
-works_pay {starts = starts} {here = here} {places = places} {vars = vars} {t = t} (asks {act = act} fits so w) =
-    let less : steps (granted (brought act) t) + share (child t) (started_by act) + 1 ≤ steps t = asks_steps here t (does vars here.0 places t) act (sinks vars here.0 places t) fits in
+works_pay {starts = starts} {here = here} {vars = vars} {t = t} (asks {act = act} fits so w) =
+    let less : steps (granted (brought act) t) + share (child t) (started_by act) + 1 ≤ steps t = asks_steps here t (does vars here.0 t) act (sinks vars here.0 t) fits in
     let same : brings (weight worth starts) (started_by act) ≡ share (child t) (started_by act) = brings_share starts t vars (started_by act) so in
     omega (arith, less, same, works_pay w)
 works_pay (ends e) = omega arith
 works_pay stops = omega arith
 
-begins_pay : (starts : Starts) (here : PlaceId) (places : ℕ) (b : Bool) (n : ℕ) (vars : Vars) (t : Term) (moves : Moves) → BeginsWork starts here places b n vars t moves → n + of_moves (paid starts) moves ≤ steps t + 1
-begins_pay starts here places false n vars t moves h = works_pay h
-begins_pay starts here places true n vars t [] h = let e : n ≡ 0 = h in omega arith
-begins_pay starts here places true n vars t ((k, Arrive p, batch) ∷ moves) h = omega (arith, works_pay h)
-begins_pay starts here places true n vars t ((k, Open s r x, batch) ∷ moves) h = absurd h
-begins_pay starts here places true n vars t ((k, Calls s r c from to x, batch) ∷ moves) h = absurd h
-begins_pay starts here places true n vars t ((k, Spawn c s from to x, batch) ∷ moves) h = absurd h
-begins_pay starts here places true n vars t ((k, Wait s thrown, batch) ∷ moves) h = absurd h
-begins_pay starts here places true n vars t ((k, Release s lost thrown, batch) ∷ moves) h = absurd h
-begins_pay starts here places true n vars t ((k, End thrown, batch) ∷ moves) h = absurd h
-begins_pay starts here places true n vars t ((k, Print value x, batch) ∷ moves) h = absurd h
+begins_pay : (starts : Starts) (here : PlaceId) (b : Bool) (n : ℕ) (vars : Vars) (t : Term) (moves : Moves) → BeginsWork starts here b n vars t moves → n + of_moves (paid starts) moves ≤ steps t + 1
+begins_pay starts here false n vars t moves h = works_pay h
+begins_pay starts here true n vars t [] h = let e : n ≡ 0 = h in omega arith
+begins_pay starts here true n vars t ((k, Arrive p, batch) ∷ moves) h = omega (arith, works_pay h)
+begins_pay starts here true n vars t ((k, Open s r x, batch) ∷ moves) h = absurd h
+begins_pay starts here true n vars t ((k, Calls s r c from to x, batch) ∷ moves) h = absurd h
+begins_pay starts here true n vars t ((k, Spawn c s from to x, batch) ∷ moves) h = absurd h
+begins_pay starts here true n vars t ((k, Wait s thrown, batch) ∷ moves) h = absurd h
+begins_pay starts here true n vars t ((k, Release s lost masked thrown, batch) ∷ moves) h = absurd h
+begins_pay starts here true n vars t ((k, End thrown, batch) ∷ moves) h = absurd h
+begins_pay starts here true n vars t ((k, Print value x, batch) ∷ moves) h = absurd h
+begins_pay starts here true n vars t ((k, Census places x, batch) ∷ moves) h = absurd h
 
 -- All tasks.
 
-each_pay : (starts : Starts) (places : ℕ) (es : List Entry) (k : ℕ) (ss : Starts) (ns : List ℕ) → EachWorks starts places es k ss ns → sum_of ns + of_tasks (paid starts) 0 es k ss ≤ given worth ss
-each_pay starts places es k [] [] h = omega arith
-each_pay starts places es k (s ∷ ss) (n ∷ ns) h =
-    let here : n + of_moves (paid starts) (moves_from 0 es k) ≤ steps s.0 + 1 = begins_pay starts (birth_of es k).to places (travels (birth_of es k)) n s.1 s.0 (moves_from 0 es k) h.0 in
-    let rest : sum_of ns + of_tasks (paid starts) 0 es (suc k) ss ≤ given worth ss = each_pay starts places es (suc k) ss ns h.1 in
+each_pay : (starts : Starts) (es : List Entry) (k : ℕ) (ss : Starts) (ns : List ℕ) → EachWorks starts es k ss ns → sum_of ns + of_tasks (paid starts) 0 es k ss ≤ given worth ss
+each_pay starts es k [] [] h = omega arith
+each_pay starts es k (s ∷ ss) (n ∷ ns) h =
+    let here : n + of_moves (paid starts) (moves_from 0 es k) ≤ steps s.0 + 1 = begins_pay starts (birth_of es k).to (travels (birth_of es k)) n s.1 s.0 (moves_from 0 es k) h.0 in
+    let rest : sum_of ns + of_tasks (paid starts) 0 es (suc k) ss ≤ given worth ss = each_pay starts es (suc k) ss ns h.1 in
     omega (arith, here, rest)
-each_pay starts places es k (s ∷ ss) [] h = absurd h
-each_pay starts places es k [] (n ∷ ns) h = absurd h
+each_pay starts es k (s ∷ ss) [] h = absurd h
+each_pay starts es k [] (n ∷ ns) h = absurd h
 
 pub steps_bounded : StepsBounded
 steps_bounded code U es n folds made =
     let starts : Starts = made.starts in
     let size : length starts ≡ 1 + births es = made.all in
     let long : length starts ≡ suc (births es) = omega (arith, size) in
-    let spent : sum_of made.counts + of_tasks (paid starts) 0 es 0 starts ≤ given worth starts = each_pay starts U.places es 0 starts made.counts made.each in
+    let spent : sum_of made.counts + of_tasks (paid starts) 0 es 0 starts ≤ given worth starts = each_pay starts es 0 starts made.counts made.each in
     let hit : of_entries (paid starts) es ≤ of_tasks (paid starts) 0 es 0 starts = all_hit (paid starts) 0 es starts (all_below 0 (opening U.places) es (length starts) (opens U.places folds.some folds.few) none_yet folds.allowed (omega (arith, size))) in
     let order : of_entries (paid starts) es ≡ range (weight worth starts) 1 (births es) = born_in_order (weight worth starts) 0 (opening U.places) es folds.allowed in
     let all : given worth starts ≡ range (weight worth starts) 0 (length starts) = given_range worth starts 0 starts (λ i. (let z : 0 + i ≡ i = omega arith in ap (slice_get starts) (sym z))) in

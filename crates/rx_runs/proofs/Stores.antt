@@ -21,13 +21,13 @@ use Rattle.rx_runs.specs.Games.{stand, Leads, rests, steps, NotAbove}
 use Rattle.rx_rules.specs.Run.{AtHome, NotFalling, close_in}
 
 -- what a turn adds to a journal, and what it means
-pub record Piece (starts : List (Term × Vars)) (places heap n : ℕ) (t : TaskId) (here : PlaceId) (low : ℕ) (p : Player) (S : State) (j : List PlaceEvent) (q : Player) (Z : State) (k : List PlaceEvent) : Type 0 where
+pub record Piece (starts : List (Term × Vars)) (heap n : ℕ) (t : TaskId) (here : PlaceId) (low : ℕ) (p : Player) (S : State) (j : List PlaceEvent) (q : Player) (Z : State) (k : List PlaceEvent) : Type 0 where
   pub new : List PlaceEvent
   pub now : ℕ
   pub added : k ≡ j ++ new
   pub leads : Leads heap S new Z
   pub low_now : now ≤ n
-  pub goes : StandGoes starts here places (stand low p) (filter_map (cell_of t.0) new) [] (stand now q)
+  pub goes : StandGoes starts here (stand low p) (filter_map (cell_of t.0) new) [] (stand now q)
   pub home : (es : List Entry) (r : ℕ) → t.0 < 1 + births es → (birth_of es t.0).to.0 ≡ r → AtHome es r new
   pub rising : NotFalling n new
   pub top : NotAbove n new
@@ -38,7 +38,7 @@ other : (t u : ℕ) (b : Bool) → (t == u) ≡ b → t ≢ u → b ≡ false
 other t u true e h = absurd (h (eqb-true t u e))
 other t u false e h = refl
 
-pub piece : {places heap n : ℕ} {t : TaskId} {here : PlaceId} {p q : Player} {S Z : State} {j k : List PlaceEvent} (starts : List (Term × Vars)) (low : ℕ) → low ≤ n → picked.Goes places heap n t here p S j q Z k → Piece starts places heap n t here low p S j q Z k
+pub piece : {heap n : ℕ} {t : TaskId} {here : PlaceId} {p q : Player} {S Z : State} {j k : List PlaceEvent} (starts : List (Term × Vars)) (low : ℕ) → low ≤ n → picked.Goes heap n t here p S j q Z k → Piece starts heap n t here low p S j q Z k
 piece starts low le picked.stays = record { new = []; now = low; added = sym (append-nil _); leads = rests; low_now = le; goes = stays; home = λ es r b h. tt; rising = tt; top = tt; unclosed = refl; mine = λ u h. refl }
 piece starts low le (picked.local e g) =
     let more = piece starts low le g in

@@ -8,7 +8,7 @@ use Rattle.rx_base.specs.declared.values.Value.TheVariants.{Num as Number, Ref}
 use Rattle.rx_base.specs.declared.values.Fault.TheVariants.{Stale, Index}
 use Rattle.rx_rules.specs.declared.events.Cell.{Cell}
 use Rattle.rx_rules.specs.declared.events.Cell.TheVariants.{Make, MakeFull, Get, Put, Forget, GetRefused, PutRefused, ForgetStale}
-use Rattle.rx_rules.specs.Terms.{Answer, Gives, Fails, Does, Local, Makes, Gets, Puts, Forgets, Opens, Calls, Spawns, Waits, Releases, Prints, Done}
+use Rattle.rx_rules.specs.Terms.{Answer, Gives, Fails, Does, Local, Makes, Gets, Puts, Forgets, Opens, Calls, Spawns, Waits, Releases, Prints, Counts, Done}
 use Rattle.rx_rules.specs.Plays.{Tells}
 use Rattle.rx_rules.specs.Store.{State, Live, block_of, fits, IsLeastFree, is_index, word_at, Reads, Refuses, MayCell}
 
@@ -177,4 +177,5 @@ tell_once w S here (Spawns place) c e a b h k m o = absurd h
 tell_once w S here (Waits faults) c e a b h k m o = absurd h
 tell_once w S here Releases c e a b h k m o = absurd h
 tell_once w S here (Prints value) c e a b h k m o = absurd h
+tell_once w S here (Counts name) c e a b h k m o = absurd h
 tell_once w S here (Done faults) c e a b h k m o = absurd h

@@ -2,11 +2,11 @@
 use Rattle.std.specs.Prelude.{◌≡◌, ℕ, Bool, List, [], ◌∷◌, ◌++◌, refl}
 use Rattle.std.proofs.Common.{subst, sym}
 use Rattle.rx_rules.specs.declared.entries.Entry.{Entry}
-use Rattle.rx_rules.specs.declared.entries.Entry.TheVariants.{Step, Root, Death}
+use Rattle.rx_rules.specs.declared.entries.Entry.TheVariants.{Step, Root, Death, Join}
 use Rattle.rx_rules.specs.declared.events.PlaceEvent.{PlaceEvent}
 use Rattle.rx_rules.specs.Code.{Block}
 use Rattle.rx_rules.specs.Run.{Given, NoRoot, EndsWithRoot, IsRun}
-use Rattle.rx_rules.specs.Picked.{Game, Turn, Turns, none, more, dies, arrives, moves, ends, root}
+use Rattle.rx_rules.specs.Picked.{Game, Turn, Turns, none, more, due as planned, arrives, moves, ends, root}
 use Rattle.rx_runs.specs.Games.{GameOk}
 use Rattle.rx_runs.specs.PickedRuns.{PickedIsRun}
 use Rattle.rx_runs.proofs.Rooted.{root_is_run}
@@ -15,17 +15,18 @@ use Rattle.rx_runs.proofs.Keeping.{turn_keeps}
 
 -- a turn appends one entry
 pub turn_grows : (U : Given) (k : ℕ) (used : Bool) (G G' : Game) → Turn U k G used G' → (e : Entry) × (G'.entries ≡ G.entries ++ e ∷ [])
-turn_grows U k used G G' (dies d due) = (_, refl)
-turn_grows U k used G G' (arrives x p none_due picked may) = (_, refl)
-turn_grows U k used G G' (moves x here p q S Z j act none_due picked at player store goes fits may) = (_, refl)
-turn_grows U k used G G' (ends x here p q S Z j faults none_due picked at player store goes done may) = (_, refl)
-turn_grows U k used G G' (root lost thrown none_due empty may) = (_, refl)
+turn_grows U k used G G' (planned e now) = (_, refl)
+turn_grows U k used G G' (arrives x p takes may) = (_, refl)
+turn_grows U k used G G' (moves x here p q S Z j act takes at player store goes fits may) = (_, refl)
+turn_grows U k used G G' (ends x here p q S Z j faults takes at player store goes done may) = (_, refl)
+turn_grows U k used G G' (root lost masked thrown none_due empty may) = (_, refl)
 
 pub not_both : (es : List Entry) → NoRoot es → EndsWithRoot es → ⊥
 not_both [] h e = e
 not_both (Step t act batch ∷ es) h e = not_both es h e
-not_both (Root lost thrown ∷ es) h e = h
+not_both (Root lost masked thrown ∷ es) h e = h
 not_both (Death d ∷ es) h e = not_both es h e
+not_both (Join p ∷ es) h e = not_both es h e
 
 pub run_of : (code : Block) (U : Given) (picks : ℕ → ℕ) (n j : ℕ) (G G' : Game) → GameOk code U G → Turns U picks n j G G' → EndsWithRoot G'.entries → IsRun code U G'.entries G'.journals
 run_of code U picks n j G G' ok none e = absurd (not_both G.entries ok.no_root e)

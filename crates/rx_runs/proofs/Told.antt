@@ -7,7 +7,7 @@ use Rattle.std.proofs.lemmas.List.{append-nil}
 use Rattle.rx_base.specs.declared.ids.PlaceId.{PlaceId}
 use Rattle.rx_base.specs.declared.ids.TaskId.{TaskId}
 use Rattle.rx_rules.specs.declared.entries.Act.{Act}
-use Rattle.rx_rules.specs.declared.entries.Act.TheVariants.{Open, At as Calls, Spawn, Arrive, Wait, Release, End, Print}
+use Rattle.rx_rules.specs.declared.entries.Act.TheVariants.{Open, At as Calls, Spawn, Arrive, Wait, Release, End, Print, Census}
 use Rattle.rx_rules.specs.declared.entries.Entry.{Entry}
 use Rattle.rx_rules.specs.declared.entries.Entry.TheVariants.{Step}
 use Rattle.rx_rules.specs.Plays.{Birth, birth_in, birth_from, birth_of, moves_from, started_by}
@@ -29,9 +29,10 @@ birth_other size n m t (Calls s r c from to x) batch h o = rw (ne_eqb c.0 m (λ 
 birth_other size n m t (Spawn c s from to x) batch h o = rw (ne_eqb c.0 m (λ e. o (sym h ∙ e)))
 birth_other size n m t (Arrive p) batch h o = refl
 birth_other size n m t (Wait s thrown) batch h o = refl
-birth_other size n m t (Release s lost thrown) batch h o = refl
+birth_other size n m t (Release s lost masked thrown) batch h o = refl
 birth_other size n m t (End thrown) batch h o = refl
 birth_other size n m t (Print value x) batch h o = refl
+birth_other size n m t (Census places x) batch h o = refl
 
 abbrev among_then : Option Birth → Option Birth → Option Birth
 among_then o rest = elim o [ Some b ↦ Some b | None ↦ rest ]

@@ -11,13 +11,13 @@ use Rattle.rx_base.specs.declared.values.Fault.{Fault}
 use Rattle.rx_rules.specs.declared.tasks.Where.{Where}
 use Rattle.rx_rules.specs.declared.tasks.Where.TheVariants.{At, Travel}
 use Rattle.rx_rules.specs.declared.entries.Act.{Act}
-use Rattle.rx_rules.specs.declared.entries.Act.TheVariants.{Open, At as Calls, Spawn, Arrive, Wait, Release, End, Print}
+use Rattle.rx_rules.specs.declared.entries.Act.TheVariants.{Open, At as Calls, Spawn, Arrive, Wait, Release, End, Print, Census}
 use Rattle.rx_rules.specs.declared.entries.Entry.{Entry}
-use Rattle.rx_rules.specs.declared.entries.Entry.TheVariants.{Step, Death}
+use Rattle.rx_rules.specs.declared.entries.Entry.TheVariants.{Step, Death, Join}
 use Rattle.rx_rules.specs.declared.tasks.Task.{Task}
 use Rattle.rx_rules.specs.declared.tasks.Blow.{Blow}
 use Rattle.rx_rules.specs.Tree.{Tree, is_task, death_of}
-use Rattle.rx_rules.specs.Entries.{change_first, hit, is_hit, strike, waiting, resumed, born, made_act, after_end, AllowedAct, MayEnd}
+use Rattle.rx_rules.specs.Entries.{change_first, hit, is_hit, strike, waiting, resumed, born, widened, made_act, after_end, AllowedAct}
 use Rattle.rx_rules.specs.Plays.{Birth, birth_in, birth_of, moves_from, started_by}
 use Rattle.rx_rules.specs.Run.{death_number}
 use Rattle.rx_rules.proofs.Append.{end-tasks}
@@ -100,19 +100,37 @@ ties-death q size es T d low lives i =
       rows = rows-death es (record { place = d; entry = length es }) size T.tasks i.rows;
       deaths = λ p small. deaths_now es d p T.dead i.sixteen low lives (i.deaths p small) (d.0 == p.0) refl;
       sixteen = length-set T.dead d.0 (Some (length es)) ∙ i.sixteen;
-      same = i.same;
+      within = i.within;
       unborn = λ t h. among-push 0 es (Death d) t (i.unborn t h) refl;
       unmoved = λ t h. no_move es d t ∙ i.unmoved t h;
     }
 
+-- a place that joins
+pub no_move_joins : (es : List Entry) (p : PlaceId) (m : ℕ) → moves_from 0 (es ++ Join p ∷ []) m ≡ moves_from 0 es m
+no_move_joins es p m = moves-push 0 es (Join p) m ∙ append-nil (moves_from 0 es m)
+
+pub ties-join : (q size : ℕ) (es : List Entry) (T : Tree) (p : PlaceId) → suc T.places ≤ q → Ties q size es T → Ties q size (es ++ Join p ∷ []) (widened T)
+ties-join q size es T p room i =
+    record {
+      rows =
+          rows-on size es (es ++ Join p ∷ []) T.tasks
+          (λ k w low r. row_as es (es ++ Join p ∷ []) k w (birth-push 0 es (Join p) k refl) (no_move_joins es p k) (death_same (birth_of es k).to es (Join p) refl) r)
+          i.rows;
+      deaths = λ d small. i.deaths d small ∙ sym (death_same d es (Join p) refl);
+      sixteen = i.sixteen;
+      within = room;
+      unborn = λ t h. among-push 0 es (Join p) t (i.unborn t h) refl;
+      unmoved = λ t h. no_move_joins es p t ∙ i.unmoved t h;
+    }
+
 -- an entry of a task, from its rows
-ties-step : (q size next : ℕ) (es : List Entry) (T : Tree) (t : TaskId) (act : Act) (batch : List (List ℕ)) (tasks : List Task) (dead : List (Option ℕ)) (places : ℕ) → size ≤ next → t.0 < size → Told size es (es ++ Step t act batch ∷ []) t act batch → ((i m : ℕ) → next ≤ m → birth_in i m (Step t act batch) ≡ None) → Ties q size es T → (V : Tree) → V.tasks ≡ tasks → V.dead ≡ T.dead → V.places ≡ T.places → RowsSo next (es ++ Step t act batch ∷ []) tasks → Ties q next (es ++ Step t act batch ∷ []) V
-ties-step q size next es T t act batch tasks dead places le low d none i V ts ds ps rows =
+ties-step : (q size next : ℕ) (es : List Entry) (T : Tree) (t : TaskId) (act : Act) (batch : List (List ℕ)) (tasks : List Task) (dead : List (Option ℕ)) → size ≤ next → t.0 < size → Told size es (es ++ Step t act batch ∷ []) t act batch → ((i m : ℕ) → next ≤ m → birth_in i m (Step t act batch) ≡ None) → Ties q size es T → (V : Tree) → V.tasks ≡ tasks → V.dead ≡ T.dead → V.places ≡ T.places → RowsSo next (es ++ Step t act batch ∷ []) tasks → Ties q next (es ++ Step t act batch ∷ []) V
+ties-step q size next es T t act batch tasks dead le low d none i V ts ds ps rows =
     record {
       rows = subst (λ (xs : List Task). RowsSo next (es ++ Step t act batch ∷ []) xs) (sym ts) rows;
       deaths = λ p small. ap (λ (o : List (Option ℕ)). slice_index_or o p.0 None) ds ∙ i.deaths p small ∙ sym (d.deaths p);
       sixteen = ap (λ (o : List (Option ℕ)). length o) ds ∙ i.sixteen;
-      same = ps ∙ i.same;
+      within = subst (λ (n : ℕ). n ≤ q) (sym ps) i.within;
       unborn = λ m h. among-push 0 es (Step t act batch) m (i.unborn m (omega arith)) (none (0 + length es) m h);
       unmoved = λ m h. d.moves m (λ e. omega arith) ∙ i.unmoved m (omega arith);
     }
@@ -143,7 +161,7 @@ unborn_struck T to h = either (death_of T to) h where
 rows-born : (q size : ℕ) (es : List Entry) (T : Tree) (t c : TaskId) (act : Act) (batch : List (List ℕ)) (under : ScopeId) (from to : PlaceId) → q ≤ 16 → to.0 < T.places → c.0 ≡ size → is_end (length es, act, batch) ≡ false → Acting size es t → Told size es (es ++ Step t act batch ∷ []) t act batch → ((i : ℕ) → birth_in i c.0 (Step t act batch) ≡ Some (record { from = from; to = to; low = suc i })) → Ties q size es T → RowsSo (suc size) (es ++ Step t act batch ∷ []) (born T c under from to ∷ T.tasks)
 rows-born q size es T t c act batch under from to few inside new e a d b i =
     let old : t.0 < size = a.old in
-    let same : T.places ≡ q = i.same in
+    let within : T.places ≤ q = i.within in
     let more : List Entry = es ++ Step t act batch ∷ [] in
     let z : 0 + length es ≡ length es = omega arith in (
       omega arith,
@@ -159,35 +177,39 @@ rows-born q size es T t c act batch under from to few inside new e a d b i =
 pub ties-act : (q size : ℕ) (es : List Entry) (T : Tree) (t : TaskId) (act : Act) (batch : List (List ℕ)) → q ≤ 16 → T.next_task ≡ size → AllowedAct T t act → is_end (length es, act, batch) ≡ false → Acting size es t → StartsAt size act → Ties q size es T → ((p : PlaceId) → act ≡ Arrive p → ⊥) → Ties q (elim (started_by act) [ Some c ↦ suc size | None ↦ size ]) (es ++ Step t act batch ∷ []) (made_act T t act)
 ties-act q size es T t (Open s r x) batch few next may e a h i na =
     let d = told size es t (Open s r x) batch h in
-    ties-step q size size es T t (Open s r x) batch T.tasks T.dead T.places (omega arith) a.old d (λ j m k. refl) i (made_act T t (Open s r x)) refl refl refl
+    ties-step q size size es T t (Open s r x) batch T.tasks T.dead (omega arith) a.old d (λ j m k. refl) i (made_act T t (Open s r x)) refl refl refl
     (rows-on size es (es ++ Step t (Open s r x) batch ∷ []) T.tasks (λ k w low v. row_any size es (es ++ Step t (Open s r x) batch ∷ []) t (Open s r x) batch d e a.old a.landed k w low v) i.rows)
 ties-act q size es T t (Calls s r c from to x) batch few next may e a h i na =
     let act : Act = Calls s r c from to x in
     let d = told size es t (Calls s r c from to x) batch h in
-    ties-step q size (suc size) es T t (Calls s r c from to x) batch (change_first (is_task t) waiting (born T c s from to ∷ T.tasks)) T.dead T.places (omega arith) a.old d (λ j m k. birth_other size j m t (Calls s r c from to x) batch h (λ v. omega arith)) i (made_act T t (Calls s r c from to x)) refl refl refl
+    ties-step q size (suc size) es T t (Calls s r c from to x) batch (change_first (is_task t) waiting (born T c s from to ∷ T.tasks)) T.dead (omega arith) a.old d (λ j m k. birth_other size j m t (Calls s r c from to x) batch h (λ v. omega arith)) i (made_act T t (Calls s r c from to x)) refl refl refl
     (rows-change t waiting (λ y. refl) (λ y. refl) (λ y. refl) (suc size) (es ++ Step t (Calls s r c from to x) batch ∷ []) (born T c s from to ∷ T.tasks)
-    (rows-born q size es T t c (Calls s r c from to x) batch s from to few may.target (may.next_task ∙ next) e a d (λ j. rw (eq-eqb c.0 c.0 refl) refl) i))
+    (rows-born q size es T t c (Calls s r c from to x) batch s from to few may.asks.4 (may.asks.3 ∙ next) e a d (λ j. rw (eq-eqb c.0 c.0 refl) refl) i))
 ties-act q size es T t (Spawn c s from to x) batch few next may e a h i na =
     let d = told size es t (Spawn c s from to x) batch h in
-    ties-step q size (suc size) es T t (Spawn c s from to x) batch (born T c s from to ∷ T.tasks) T.dead T.places (omega arith) a.old d (λ j m k. birth_other size j m t (Spawn c s from to x) batch h (λ v. omega arith)) i (made_act T t (Spawn c s from to x)) refl refl refl
-    (rows-born q size es T t c (Spawn c s from to x) batch s from to few may.target (may.next_task ∙ next) e a d (λ j. rw (eq-eqb c.0 c.0 refl) refl) i)
+    ties-step q size (suc size) es T t (Spawn c s from to x) batch (born T c s from to ∷ T.tasks) T.dead (omega arith) a.old d (λ j m k. birth_other size j m t (Spawn c s from to x) batch h (λ v. omega arith)) i (made_act T t (Spawn c s from to x)) refl refl refl
+    (rows-born q size es T t c (Spawn c s from to x) batch s from to few may.asks.3 (may.asks.1 ∙ next) e a d (λ j. rw (eq-eqb c.0 c.0 refl) refl) i)
 ties-act q size es T t (Arrive p) batch few next may e a h i na = absurd (na p refl)
 ties-act q size es T t (Wait s thrown) batch few next may e a h i na =
     let d = told size es t (Wait s thrown) batch h in
-    ties-step q size size es T t (Wait s thrown) batch (change_first (is_task t) waiting T.tasks) T.dead T.places (omega arith) a.old d (λ j m k. refl) i (made_act T t (Wait s thrown)) refl refl refl
+    ties-step q size size es T t (Wait s thrown) batch (change_first (is_task t) waiting T.tasks) T.dead (omega arith) a.old d (λ j m k. refl) i (made_act T t (Wait s thrown)) refl refl refl
     (rows-change t waiting (λ y. refl) (λ y. refl) (λ y. refl) size (es ++ Step t (Wait s thrown) batch ∷ []) T.tasks
     (rows-on size es (es ++ Step t (Wait s thrown) batch ∷ []) T.tasks (λ k w low v. row_any size es (es ++ Step t (Wait s thrown) batch ∷ []) t (Wait s thrown) batch d e a.old a.landed k w low v) i.rows))
-ties-act q size es T t (Release s lost thrown) batch few next may e a h i na =
-    let d = told size es t (Release s lost thrown) batch h in
-    ties-step q size size es T t (Release s lost thrown) batch (made_act T t (Release s lost thrown)).tasks T.dead T.places (omega arith) a.old d (λ j m k. refl) i (made_act T t (Release s lost thrown)) refl refl refl
-    (rows-change t resumed (λ y. refl) (λ y. refl) (λ y. refl) size (es ++ Step t (Release s lost thrown) batch ∷ []) _
-    (rows-filter _ size (es ++ Step t (Release s lost thrown) batch ∷ []) T.tasks
-    (rows-on size es (es ++ Step t (Release s lost thrown) batch ∷ []) T.tasks (λ k w low v. row_any size es (es ++ Step t (Release s lost thrown) batch ∷ []) t (Release s lost thrown) batch d e a.old a.landed k w low v) i.rows)))
+ties-act q size es T t (Release s lost masked thrown) batch few next may e a h i na =
+    let d = told size es t (Release s lost masked thrown) batch h in
+    ties-step q size size es T t (Release s lost masked thrown) batch (made_act T t (Release s lost masked thrown)).tasks T.dead (omega arith) a.old d (λ j m k. refl) i (made_act T t (Release s lost masked thrown)) refl refl refl
+    (rows-change t resumed (λ y. refl) (λ y. refl) (λ y. refl) size (es ++ Step t (Release s lost masked thrown) batch ∷ []) _
+    (rows-filter _ size (es ++ Step t (Release s lost masked thrown) batch ∷ []) T.tasks
+    (rows-on size es (es ++ Step t (Release s lost masked thrown) batch ∷ []) T.tasks (λ k w low v. row_any size es (es ++ Step t (Release s lost masked thrown) batch ∷ []) t (Release s lost masked thrown) batch d e a.old a.landed k w low v) i.rows)))
 ties-act q size es T t (End thrown) batch few next may e a h i na = cc
 ties-act q size es T t (Print value x) batch few next may e a h i na =
     let d = told size es t (Print value x) batch h in
-    ties-step q size size es T t (Print value x) batch T.tasks T.dead T.places (omega arith) a.old d (λ j m k. refl) i (made_act T t (Print value x)) refl refl refl
+    ties-step q size size es T t (Print value x) batch T.tasks T.dead (omega arith) a.old d (λ j m k. refl) i (made_act T t (Print value x)) refl refl refl
     (rows-on size es (es ++ Step t (Print value x) batch ∷ []) T.tasks (λ k w low v. row_any size es (es ++ Step t (Print value x) batch ∷ []) t (Print value x) batch d e a.old a.landed k w low v) i.rows)
+ties-act q size es T t (Census places x) batch few next may e a h i na =
+    let d = told size es t (Census places x) batch h in
+    ties-step q size size es T t (Census places x) batch T.tasks T.dead (omega arith) a.old d (λ j m k. refl) i (made_act T t (Census places x)) refl refl refl
+    (rows-on size es (es ++ Step t (Census places x) batch ∷ []) T.tasks (λ k w low v. row_any size es (es ++ Step t (Census places x) batch ∷ []) t (Census places x) batch d e a.old a.landed k w low v) i.rows)
 
 pub ties-arrive : (q size : ℕ) (es : List Entry) (T : Tree) (t : TaskId) (p from : PlaceId) (batch : List (List ℕ)) → t.0 < size → RowSo es t.0 (Travel from p) → Ties q size es T → Ties q size (es ++ Step t (Arrive p) batch ∷ []) (made_act T t (Arrive p))
 ties-arrive q size es T t p from batch low r i =
@@ -200,14 +222,14 @@ ties-arrive q size es T t p from batch low r i =
       going = ap has_end d.own ∙ list_any-append is_end (moves_from 0 es t.0) ((length es, Arrive p, batch) ∷ []) ∙ rw (r.going) refl;
       lives = ap (λ (v : Birth). death_number 0 v.to (es ++ Step t (Arrive p) batch ∷ [])) (d.births t.0 low) ∙ d.deaths (birth_of es t.0).to ∙ r.lives;
     } in
-    ties-step q size size es T t (Arrive p) batch (change_first (is_task t) (arrived p) T.tasks) T.dead T.places (omega arith) low d (λ j m k. refl) i (made_act T t (Arrive p)) refl refl refl
+    ties-step q size size es T t (Arrive p) batch (change_first (is_task t) (arrived p) T.tasks) T.dead (omega arith) low d (λ j m k. refl) i (made_act T t (Arrive p)) refl refl refl
     (rows-arrive t p size es (es ++ Step t (Arrive p) batch ∷ []) T.tasks (λ k w l o v. row_other size es (es ++ Step t (Arrive p) batch ∷ []) t (Arrive p) batch d k w l o v) new i.rows)
 
-pub ties-end : (q size : ℕ) (es : List Entry) (T : Tree) (t : TaskId) (thrown : List Fault) (batch : List (List ℕ)) → t.0 < size → MayEnd T t → Ties q size es T → Ties q size (es ++ Step t (End thrown) batch ∷ []) (made_act T t (End thrown))
+pub ties-end : (q size : ℕ) (es : List Entry) (T : Tree) (t : TaskId) (thrown : List Fault) (batch : List (List ℕ)) → t.0 < size → AllowedAct T t (End thrown) → Ties q size es T → Ties q size (es ++ Step t (End thrown) batch ∷ []) (made_act T t (End thrown))
 ties-end q size es T t thrown batch low may i =
     let d = told size es t (End thrown) batch tt in
-    ties-step q size size es T t (End thrown) batch (filter (λ y. not (is_task t y)) T.tasks) T.dead T.places (omega arith) low d (λ j m k. refl) i (made_act T t (End thrown))
-    (end-tasks T t thrown may.task may.live.acts.stands)
-    (rw (may.live.acts.stands, after_end) refl)
-    (rw (may.live.acts.stands, after_end) refl)
+    ties-step q size size es T t (End thrown) batch (filter (λ y. not (is_task t y)) T.tasks) T.dead (omega arith) low d (λ j m k. refl) i (made_act T t (End thrown))
+    (end-tasks T t thrown may.task may.stands)
+    (rw (may.stands, after_end) refl)
+    (rw (may.stands, after_end) refl)
     (rows-end t size es (es ++ Step t (End thrown) batch ∷ []) T.tasks (λ k w l o v. row_other size es (es ++ Step t (End thrown) batch ∷ []) t (End thrown) batch d k w l o v) i.rows)

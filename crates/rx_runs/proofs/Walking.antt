@@ -12,13 +12,13 @@ use Rattle.rx_rules.specs.declared.events.Cell.{Cell}
 use Rattle.rx_rules.specs.declared.events.Cell.TheVariants.{Make, MakeFull, Get, Put, Forget, GetRefused, PutRefused, ForgetStale}
 use Rattle.rx_rules.specs.declared.events.PlaceEvent.{PlaceEvent}
 use Rattle.rx_rules.specs.declared.events.PlaceEvent.TheVariants.{Done as Did}
-use Rattle.rx_rules.specs.Terms.{Answer, Gives, Fine, Fails, answered, vars_after, Does, Local, Makes, Gets, Puts, Forgets, Opens, Calls, Spawns, Waits, Releases, Prints, Done, does}
+use Rattle.rx_rules.specs.Terms.{Answer, Gives, Fine, Fails, answered, vars_after, Does, Local, Makes, Gets, Puts, Forgets, Opens, Calls, Spawns, Waits, Releases, Prints, Counts, Done, does}
 use Rattle.rx_rules.specs.Plays.{Tells, begun}
 use Rattle.rx_rules.specs.Store.{State, Live, block_of, fits, is_apart, IsLeastFree, is_index, word_at, MayCell, after_cell}
 use Rattle.rx_rules.specs.Picked.{Player, Goes, stays, local, stores}
 use Rattle.rx_runs.specs.Framing.{frames, Shape}
 use Rattle.rx_runs.specs.Steps.{steps, Sinks}
-use Rattle.rx_runs.proofs.Framing.{Framed, Stored, framed}
+use Rattle.rx_runs.proofs.Framing.{Framed, Stored, enough, all_framed}
 use Rattle.rx_runs.proofs.Sinking.{sinks}
 use Rattle.rx_runs.proofs.Walks.{IsLast}
 
@@ -91,32 +91,32 @@ forgets w S here target = either (block_of S target) refl where
 
 -- The walk.
 
-pub record Walked (places heap n : ℕ) (t : TaskId) (here : PlaceId) (p : Player) (S : State) (j : List PlaceEvent) : Type 0 where
+pub record Walked (heap n : ℕ) (t : TaskId) (here : PlaceId) (p : Player) (S : State) (j : List PlaceEvent) : Type 0 where
   pub player : Player
   pub store : State
   pub journal : List PlaceEvent
-  pub goes : Goes places heap n t here p S j player store journal
-  pub last : IsLast (does player.vars here.0 places player.term)
+  pub goes : Goes heap n t here p S j player store journal
+  pub last : IsLast (does player.vars here.0 player.term)
   pub shape : Shape player.term
   pub same : frames player.term ≡ frames p.term
 
-module _ (places heap n : ℕ) (t : TaskId) (here : PlaceId) (low : here.0 < places) where
+module _ (heap n : ℕ) (t : TaskId) (here : PlaceId) where
   abbrev Walks : ℕ → Type 0
-  Walks fuel = (p : Player) (S : State) (j : List PlaceEvent) → steps p.term < fuel → Shape p.term → Walked places heap n t here p S j
+  Walks fuel = (p : Player) (S : State) (j : List PlaceEvent) → steps p.term < fuel → Shape p.term → Walked heap n t here p S j
 
-  by_store : (fuel : ℕ) → Walks fuel → (p : Player) (S : State) (j : List PlaceEvent) (d : Does) → steps p.term < suc fuel → does p.vars here.0 places p.term ≡ d → Stored p.term → ((a : Answer) → steps (answered a p.term) + 1 ≤ steps p.term) → Answers heap S here d → Walked places heap n t here p S j
+  by_store : (fuel : ℕ) → Walks fuel → (p : Player) (S : State) (j : List PlaceEvent) (d : Does) → steps p.term < suc fuel → does p.vars here.0 p.term ≡ d → Stored p.term → ((a : Answer) → steps (answered a p.term) + 1 ≤ steps p.term) → Answers heap S here d → Walked heap n t here p S j
   by_store fuel on p S j d less e st sink a =
       let x : List ℕ = st.1.0 in
       let q : Player = record { term = answered a.answer p.term; vars = vars_after a.answer p.vars; batch = begun p.term p.batch } in
       let fewer : steps (answered a.answer p.term) + 1 ≤ steps p.term = sink a.answer in
       let keeps = st.2 a.answer in
-      let r : Walked places heap n t here q (after_cell S a.cell) (j ++ Did t n a.cell x ∷ []) = on q (after_cell S a.cell) (j ++ Did t n a.cell x ∷ []) (omega (arith, fewer, less)) keeps.0 in
+      let r : Walked heap n t here q (after_cell S a.cell) (j ++ Did t n a.cell x ∷ []) = on q (after_cell S a.cell) (j ++ Did t n a.cell x ∷ []) (omega (arith, fewer, less)) keeps.0 in
       record { player = r.player; store = r.store; journal = r.journal; goes = stores a.cell x a.answer (subst (λ (v : Does). Tells v here a.cell a.answer) (sym e) a.tells) st.1.1 a.may r.goes; last = r.last; shape = r.shape; same = r.same ∙ keeps.1 }
 
-  stopped : (p : Player) (S : State) (j : List PlaceEvent) (d : Does) → does p.vars here.0 places p.term ≡ d → IsLast d → Shape p.term → Walked places heap n t here p S j
+  stopped : (p : Player) (S : State) (j : List PlaceEvent) (d : Does) → does p.vars here.0 p.term ≡ d → IsLast d → Shape p.term → Walked heap n t here p S j
   stopped p S j d e l shape = record { player = p; store = S; journal = j; goes = stays; last = subst IsLast (sym e) l; shape = shape; same = refl }
 
-  by_step : (fuel : ℕ) → Walks fuel → (p : Player) (S : State) (j : List PlaceEvent) (d : Does) → steps p.term < suc fuel → Shape p.term → does p.vars here.0 places p.term ≡ d → Framed places p.term d → Sinks p.term d → Walked places heap n t here p S j
+  by_step : (fuel : ℕ) → Walks fuel → (p : Player) (S : State) (j : List PlaceEvent) (d : Does) → steps p.term < suc fuel → Shape p.term → does p.vars here.0 p.term ≡ d → Framed (enough p.vars here.0) p.term d → Sinks p.term d → Walked heap n t here p S j
   by_step fuel on p S j (Local after left) less shape e f s =
       let fewer : steps after + 1 ≤ steps p.term = s in
       let r = on (record { term = after; vars = left; batch = begun p.term p.batch }) S j (omega (arith, fewer, less)) f.1.0 in
@@ -131,11 +131,12 @@ module _ (places heap n : ℕ) (t : TaskId) (here : PlaceId) (low : here.0 < pla
   by_step fuel on p S j (Waits faults) less shape e f s = stopped p S j (Waits faults) e tt shape
   by_step fuel on p S j Releases less shape e f s = stopped p S j Releases e tt shape
   by_step fuel on p S j (Prints value) less shape e f s = stopped p S j (Prints value) e tt shape
+  by_step fuel on p S j (Counts name) less shape e f s = stopped p S j (Counts name) e tt shape
   by_step fuel on p S j (Done faults) less shape e f s = stopped p S j (Done faults) e tt shape
 
   walk_in : (fuel : ℕ) → Walks fuel
   walk_in zero p S j less shape = absurd (omega arith)
-  walk_in (suc fuel) p S j less shape = by_step fuel (walk_in fuel) p S j (does p.vars here.0 places p.term) less shape refl (framed p.vars here.0 places low p.term shape) (sinks p.vars here.0 places p.term)
+  walk_in (suc fuel) p S j less shape = by_step fuel (walk_in fuel) p S j (does p.vars here.0 p.term) less shape refl (all_framed p.vars here.0 p.term shape) (sinks p.vars here.0 p.term)
 
-  pub walk : (p : Player) (S : State) (j : List PlaceEvent) → Shape p.term → Walked places heap n t here p S j
+  pub walk : (p : Player) (S : State) (j : List PlaceEvent) → Shape p.term → Walked heap n t here p S j
   walk p S j shape = walk_in (suc (steps p.term)) p S j (omega arith) shape

@@ -10,7 +10,7 @@ use Rattle.rx_runs.specs.Framing.{AllFit}
 pub record CameTo (code : Block) (U : Given) (G : Game) : Type 0 where
   pub ok : GameOk code U G
   pub fits : AllFit (tree_in U G) G.players
-  pub entries : length G.entries ≤ 4 * work code + U.places
+  pub entries : length G.entries ≤ 4 * work code + U.places + 2 * length U.joins
   pub tasks : (tree_in U G).next_task ≤ 1 + length G.entries
   pub scopes : (tree_in U G).next_scope ≤ 1 + length G.entries
   pub players : length G.players ≡ (tree_in U G).next_task

@@ -3,7 +3,7 @@ use Rattle.std.specs.Prelude.{ℕ, ◌+◌, ◌-◌, ◌*◌, ◌≤◌, List, [
 use Rattle.rx_base.specs.declared.values.Fault.{Fault}
 use Rattle.rx_rules.specs.Code.{work, work_of}
 use Rattle.rx_rules.specs.Terms.{Term, Empty, Raise, Run, Turns, Trying, Body, Held, Does, Local, Makes, Gets, Puts, Forgets, Opens}
-use Rattle.rx_rules.specs.Terms.{Calls, Spawns, Waits, Releases, Prints, Done, granted, child, Vars, does}
+use Rattle.rx_rules.specs.Terms.{Calls, Spawns, Waits, Releases, Prints, Counts, Done, granted, child, Vars, does}
 use Rattle.rx_rules.specs.Terms.{Answer, answered}
 
 -- at most four for each unit of work
@@ -29,8 +29,9 @@ Spends t (Spawns p) = cost (granted [] t) + cost (child t) + 3 ≤ cost t
 Spends t (Waits faults) = cost (granted [] t) + 1 ≤ cost t
 Spends t Releases = (faults : List Fault) → cost (granted faults t) + 1 ≤ cost t
 Spends t (Prints value) = cost (granted [] t) + 1 ≤ cost t
+Spends t (Counts name) = cost (granted [] t) + 1 ≤ cost t
 Spends t (Done faults) = Unit {0}
 
 -- no step of a term costs more than it has
 abbrev pub TermSpends : Type 0
-TermSpends = (vars : Vars) (here places : ℕ) (t : Term) → Spends t (does vars here places t)
+TermSpends = (vars : Vars) (here : ℕ) (t : Term) → Spends t (does vars here t)

@@ -19,5 +19,5 @@ FewEvents = (code : Block) (U : Given) (G : Game) → Proper U → Comes code U 
 
 -- so do those of local steps and store calls
 abbrev pub GoingTells : Type 0
-GoingTells = (places heap n : ℕ) (t : TaskId) (here : PlaceId) (p q : Player) (S Z : State) (j k : List PlaceEvent)
-    → Goes places heap n t here p S j q Z k → length k + steps q.term ≤ length j + steps p.term
+GoingTells = (heap n : ℕ) (t : TaskId) (here : PlaceId) (p q : Player) (S Z : State) (j k : List PlaceEvent)
+    → Goes heap n t here p S j q Z k → length k + steps q.term ≤ length j + steps p.term

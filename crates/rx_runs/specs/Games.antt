@@ -14,10 +14,10 @@ use Rattle.rx_rules.specs.Terms.{Term, Empty, items}
 use Rattle.rx_rules.specs.Fold.{births}
 use Rattle.rx_rules.specs.Plays.{Birth, Begins, birth_of, travels, cell_of, journal_at, moves_from}
 use Rattle.rx_rules.specs.Store.{State, IsStoreRun, opening_state, MayCell, after_cell}
-use Rattle.rx_rules.specs.Run.{Given, Folds, AtHome, NotFalling, ClosesAt, stamp_of, death_number}
+use Rattle.rx_rules.specs.Run.{Given, in_all, plan_of, Folds, AtHome, NotFalling, ClosesAt, stamp_of, death_number}
 use Rattle.rx_rules.specs.Picked.{Player, Game, Turn, start_game}
 use Rattle.rx_rules.specs.Fold.{tree_of}
-use Rattle.rx_runs.specs.Segments.{Stand, StandGoes, kills_left}
+use Rattle.rx_runs.specs.Segments.{Stand, StandGoes, plan_left}
 use Rattle.rx_rules.specs.Run.{NoRoot}
 use Rattle.rx_runs.specs.Ties.{has_end, Ties, MayCome}
 use Rattle.rx_rules.specs.Run.{Proper}
@@ -36,14 +36,14 @@ Landed b moves low rest = (travels b ≡ false) × (moves ≡ rest) × (low ≡ 
     ⊎ ((n : ℕ) × (travels b ≡ true) × (moves ≡ (n, Arrive b.to, []) ∷ rest) × (low ≡ suc n))
 
 -- a task that travels still, one that goes on, and one that has ended
-pub data TaskSo (starts : List (Term × Vars)) (places size : ℕ) (b : Birth) (start : Term × Vars)
+pub data TaskSo (starts : List (Term × Vars)) (size : ℕ) (b : Birth) (start : Term × Vars)
     (cells : List (ℕ × Cell × List ℕ)) (moves : List (ℕ × Act × List (List ℕ))) (p : Player) : Type 0 where
-  away : travels b ≡ true → moves ≡ [] → cells ≡ [] → p ≡ fresh start → b.low ≤ size → TaskSo starts places size b start cells moves p
+  away : travels b ≡ true → moves ≡ [] → cells ≡ [] → p ≡ fresh start → b.low ≤ size → TaskSo starts size b start cells moves p
   going : (low now : ℕ) (rest : List (ℕ × Act × List (List ℕ))) → Landed b moves low rest
-      → StandGoes starts b.to places (stand low (fresh start)) cells rest (stand now p) → now ≤ size
-      → TaskSo starts places size b start cells moves p
-  over : has_end moves ≡ true → Begins starts b.to places (travels b) b.low start.1 start.0 cells moves
-      → TaskSo starts places size b start cells moves p
+      → StandGoes starts b.to (stand low (fresh start)) cells rest (stand now p) → now ≤ size
+      → TaskSo starts size b start cells moves p
+  over : has_end moves ≡ true → Begins starts b.to (travels b) b.low start.1 start.0 cells moves
+      → TaskSo starts size b start cells moves p
 
 -- the pairs of two lists of one length, from number n on
 abbrev pub Pairs : {A B : Type 0} → (ℕ → A → B → Type 0) → ℕ → List A → List B → Type 0
@@ -53,9 +53,9 @@ Pairs P n [] (b ∷ ys) = ⊥
 Pairs P n (a ∷ xs) [] = ⊥
 
 -- what a player is for the entries and events of its task
-abbrev pub PlayerSo : List (Term × Vars) → ℕ → List Entry → List (List PlaceEvent) → ℕ → Term × Vars → Player → Type 0
-PlayerSo starts places es js n s p =
-    TaskSo starts places (length es) (birth_of es n) s (filter_map (cell_of n) (journal_at js (birth_of es n).to.0)) (moves_from 0 es n) p
+abbrev pub PlayerSo : List (Term × Vars) → List Entry → List (List PlaceEvent) → ℕ → Term × Vars → Player → Type 0
+PlayerSo starts es js n s p =
+    TaskSo starts (length es) (birth_of es n) s (filter_map (cell_of n) (journal_at js (birth_of es n).to.0)) (moves_from 0 es n) p
 
 -- the journal leads the store from S to Z
 pub data Leads (w : ℕ) : State → List PlaceEvent → State → Type 0 where
@@ -80,16 +80,17 @@ pub record JournalSo (U : Given) (es : List Entry) (p : ℕ) (j : List PlaceEven
 -- what each turn keeps
 pub record GameOk (code : Block) (U : Given) (G : Game) : Type 0 where
   pub starts : List (Term × Vars)
-  pub main : slice_get starts 0 ≡ Some (items code [] Empty, no_vars)
+  pub main : slice_get starts 0 ≡ Some (items code [] Empty, no_vars U.places)
   pub all : length starts ≡ 1 + births G.entries
   pub folds : Folds U G.entries
-  pub left : G.kills ≡ kills_left U.kills G.entries
+  pub few : in_all U ≤ 16
+  pub left : G.plan ≡ plan_left (plan_of U) G.entries
   pub no_root : NoRoot G.entries
-  pub each : Pairs (PlayerSo starts U.places G.entries G.journals) 0 starts G.players
-  pub one_each : length G.journals ≡ U.places
+  pub each : Pairs (PlayerSo starts G.entries G.journals) 0 starts G.players
+  pub one_each : length G.journals ≡ in_all U
   pub journals : Pairs (JournalSo U G.entries) 0 G.journals G.stores
-  pub kills : MayCome U.places G.entries G.kills
-  pub ties : Ties U.places (length starts) G.entries (tree_of U.places G.entries)
+  pub plan : MayCome (in_all U) (tree_of U.places G.entries).places G.entries G.plan
+  pub ties : Ties (in_all U) (length starts) G.entries (tree_of U.places G.entries)
   -- a task that is not yet born has done nothing at a store
   pub silent : (t p : ℕ) → length starts ≤ t → filter_map (cell_of t) (journal_at G.journals p) ≡ []
 

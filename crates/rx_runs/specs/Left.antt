@@ -16,5 +16,5 @@ FewLeft = (code : Block) (U : Given) (G : Game) → Comes code U G → (n : ℕ)
 
 -- local steps and store calls leave no more steps than there were
 abbrev pub GoingSinks : Type 0
-GoingSinks = (places heap n : ℕ) (t : TaskId) (here : PlaceId) (p q : Player) (S Z : State) (j k : List PlaceEvent)
-    → Goes places heap n t here p S j q Z k → steps q.term ≤ steps p.term
+GoingSinks = (heap n : ℕ) (t : TaskId) (here : PlaceId) (p q : Player) (S Z : State) (j k : List PlaceEvent)
+    → Goes heap n t here p S j q Z k → steps q.term ≤ steps p.term

@@ -12,3 +12,4 @@ pub mod Coming
 pub mod Left
 pub mod SomeWords
 pub mod Events
+pub mod Knowing

@@ -2,9 +2,9 @@
 use Rattle.std.specs.Prelude.{◌≡◌, ℕ, ◌<◌, ◌^◌, ◌%◌, Bool, List, [], ◌∷◌, map}
 use Rattle.rx_base.specs.declared.place_set.PlaceSet.{PlaceSet}
 use Rattle.rx_rules.specs.declared.entries.Act.{Act}
-use Rattle.rx_rules.specs.declared.entries.Act.TheVariants.{Open, At as Calls, Spawn, Arrive, Wait, Release, End, Print}
+use Rattle.rx_rules.specs.declared.entries.Act.TheVariants.{Open, At as Calls, Spawn, Arrive, Wait, Release, End, Print, Census}
 use Rattle.rx_rules.specs.declared.entries.Entry.{Entry}
-use Rattle.rx_rules.specs.declared.entries.Entry.TheVariants.{Step, Root, Death}
+use Rattle.rx_rules.specs.declared.entries.Entry.TheVariants.{Step, Root, Death, Join}
 use Rattle.rx_rules.specs.declared.events.PlaceEvent.{PlaceEvent}
 use Rattle.rx_rules.specs.Code.{Block}
 use Rattle.rx_rules.specs.Run.{Given, Proper, NoRoot, IsRun}
@@ -22,30 +22,33 @@ ActFits (Calls s r c from to x) = Unit {0}
 ActFits (Spawn c s from to x) = Unit {0}
 ActFits (Arrive p) = Unit {0}
 ActFits (Wait s thrown) = Unit {0}
-ActFits (Release s lost thrown) = lost.0 < 2 ^ 16
+ActFits (Release s lost masked thrown) = lost.0 < 2 ^ 16
 ActFits (End thrown) = Unit {0}
 ActFits (Print value x) = Unit {0}
+ActFits (Census places x) = Unit {0}
 
 -- the same of each entry
 abbrev pub SetsFit : List Entry → Type 0
 SetsFit [] = Unit {0}
 SetsFit (Step t act batch ∷ es) = ActFits act × SetsFit es
-SetsFit (Root lost thrown ∷ es) = (lost.0 < 2 ^ 16) × SetsFit es
+SetsFit (Root lost masked thrown ∷ es) = (lost.0 < 2 ^ 16) × SetsFit es
 SetsFit (Death d ∷ es) = SetsFit es
+SetsFit (Join p ∷ es) = SetsFit es
 
 -- the set with the bits of the 16 places alone, which has the same members
 abbrev pub plain_set : PlaceSet → PlaceSet
 plain_set s = record { 0 = s.0 % 2 ^ 16 }
 
 abbrev pub plain_act : Act → Act
-plain_act (Release s lost thrown) = Release s (plain_set lost) thrown
+plain_act (Release s lost masked thrown) = Release s (plain_set lost) masked thrown
 plain_act act = act
 
 -- the entry whose set of places is such a set
 abbrev pub plain : Entry → Entry
 plain (Step t act batch) = Step t (plain_act act) batch
-plain (Root lost thrown) = Root (plain_set lost) thrown
+plain (Root lost masked thrown) = Root (plain_set lost) masked thrown
 plain (Death d) = Death d
+plain (Join p) = Join p
 
 -- One script, setup and list of picks give at most one history, but for bits of sets that stand for no place, and one list of
 -- journals.

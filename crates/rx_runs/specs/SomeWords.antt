@@ -3,10 +3,10 @@ use Rattle.std.specs.Prelude.{◌≡◌, ℕ, ◌<◌, List, Some, slice_get}
 use Rattle.rx_base.specs.declared.ids.PlaceId.{PlaceId}
 use Rattle.rx_base.specs.declared.ids.TaskId.{TaskId}
 use Rattle.rx_rules.specs.declared.events.PlaceEvent.{PlaceEvent}
-use Rattle.rx_rules.specs.Code.{Block, Nothing, Then, Stmt, SetTo, New, Get, Put, Forget, Print, Throw, Async, AtAsync, At, Finish, If}
-use Rattle.rx_rules.specs.Code.{Repeat, Try}
+use Rattle.rx_rules.specs.Code.{Block, Nothing, Then, Stmt, SetTo, New, Get, Put, Forget, Census, Print, Throw, Async, AtAsync, At, Finish}
+use Rattle.rx_rules.specs.Code.{If, Repeat, Try}
 use Rattle.rx_rules.specs.Terms.{Term, Empty, Run, Raise, Turns, Trying, Body, Held, Does, Local, Makes, Gets, Puts, Forgets, Opens}
-use Rattle.rx_rules.specs.Terms.{Calls, Spawns, Waits, Releases, Prints, Done, Vars, does}
+use Rattle.rx_rules.specs.Terms.{Calls, Spawns, Waits, Releases, Prints, Counts, Done, Vars, does}
 use Rattle.rx_rules.specs.Store.{State}
 use Rattle.rx_rules.specs.Run.{Given}
 use Rattle.rx_rules.specs.Picked.{Player, Game, Goes, Comes}
@@ -19,6 +19,7 @@ abbrev mutual
   StmtMakesSome (Get name target index) = Unit {0}
   StmtMakesSome (Put target index value) = Unit {0}
   StmtMakesSome (Forget target) = Unit {0}
+  StmtMakesSome (Census name) = Unit {0}
   StmtMakesSome (Print value) = Unit {0}
   StmtMakesSome (Throw value) = Unit {0}
   StmtMakesSome (Async body) = MakesSome body
@@ -56,6 +57,7 @@ AsksSome (Spawns place) = Unit {0}
 AsksSome (Waits faults) = Unit {0}
 AsksSome Releases = Unit {0}
 AsksSome (Prints value) = Unit {0}
+AsksSome (Counts name) = Unit {0}
 AsksSome (Done faults) = Unit {0}
 
 -- in each game that turns have made from the opening the terms are so, where the script is
@@ -65,6 +67,6 @@ ComesSome = (code : Block) (U : Given) (G : Game) → MakesSome code → Comes c
 
 -- local steps and store calls keep it, and a term that is so asks so
 abbrev pub GoesSome : Type 0
-GoesSome = (places heap n : ℕ) (t : TaskId) (here : PlaceId) (p q : Player) (S Z : State) (j k : List PlaceEvent)
-    → Goes places heap n t here p S j q Z k → TermMakesSome p.term → TermMakesSome q.term
-    × ((vars : Vars) → AsksSome (does vars here.0 places q.term))
+GoesSome = (heap n : ℕ) (t : TaskId) (here : PlaceId) (p q : Player) (S Z : State) (j k : List PlaceEvent)
+    → Goes heap n t here p S j q Z k → TermMakesSome p.term → TermMakesSome q.term
+    × ((vars : Vars) → AsksSome (does vars here.0 q.term))

@@ -3,7 +3,7 @@ use Rattle.std.specs.Prelude.{ℕ, ◌+◌, ◌-◌, ◌*◌, ◌≤◌, List, [
 use Rattle.rx_base.specs.declared.values.Fault.{Fault}
 use Rattle.rx_rules.specs.Code.{work, work_of}
 use Rattle.rx_rules.specs.Terms.{Term, Empty, Raise, Run, Turns, Trying, Body, Held, Answer, answered, Does, Local, Makes, Gets, Puts}
-use Rattle.rx_rules.specs.Terms.{Forgets, Opens, Calls, Spawns, Waits, Releases, Prints, Done, granted, child, Vars, does}
+use Rattle.rx_rules.specs.Terms.{Forgets, Opens, Calls, Spawns, Waits, Releases, Prints, Counts, Done, granted, child, Vars, does}
 
 -- at most three for each unit of work
 abbrev pub steps : Term → ℕ
@@ -28,8 +28,9 @@ Sinks t (Spawns p) = steps (granted [] t) + steps (child t) + 2 ≤ steps t
 Sinks t (Waits faults) = steps (granted [] t) + 1 ≤ steps t
 Sinks t Releases = (faults : List Fault) → steps (granted faults t) + 1 ≤ steps t
 Sinks t (Prints value) = steps (granted [] t) + 1 ≤ steps t
+Sinks t (Counts name) = steps (granted [] t) + 1 ≤ steps t
 Sinks t (Done faults) = Unit {0}
 
 -- each step of a term leaves less
 abbrev pub TermSinks : Type 0
-TermSinks = (vars : Vars) (here places : ℕ) (t : Term) → Sinks t (does vars here places t)
+TermSinks = (vars : Vars) (here : ℕ) (t : Term) → Sinks t (does vars here t)

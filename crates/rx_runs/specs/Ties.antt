@@ -5,13 +5,13 @@ use Rattle.rx_base.specs.declared.ids.PlaceId.{PlaceId}
 use Rattle.rx_rules.specs.declared.tasks.Where.{Where}
 use Rattle.rx_rules.specs.declared.tasks.Where.TheVariants.{At, Travel}
 use Rattle.rx_rules.specs.declared.entries.Act.{Act}
-use Rattle.rx_rules.specs.declared.entries.Act.TheVariants.{Open, At as Calls, Spawn, Arrive, Wait, Release, End, Print}
+use Rattle.rx_rules.specs.declared.entries.Act.TheVariants.{Open, At as Calls, Spawn, Arrive, Wait, Release, End, Print, Census}
 use Rattle.rx_rules.specs.declared.tasks.Task.{Task}
-use Rattle.rx_base.specs.declared.ids.Kill.{Kill}
 use Rattle.rx_rules.specs.declared.entries.Entry.{Entry}
+use Rattle.rx_rules.specs.declared.entries.Entry.TheVariants.{Step, Root, Death, Join}
 use Rattle.rx_rules.specs.Tree.{Tree, death_of}
 use Rattle.rx_rules.specs.Plays.{Birth, birth_in, birth_of, travels, moves_from}
-use Rattle.rx_rules.specs.Run.{Spares, death_number}
+use Rattle.rx_rules.specs.Run.{Event, death_number}
 
 -- the entries of a task, each with its number and batch
 abbrev pub Moves : Type 0
@@ -24,9 +24,10 @@ is_end (n, Calls s r c from to x, batch) = false
 is_end (n, Spawn c s from to x, batch) = false
 is_end (n, Arrive p, batch) = false
 is_end (n, Wait s thrown, batch) = false
-is_end (n, Release s lost thrown, batch) = false
+is_end (n, Release s lost masked thrown, batch) = false
 is_end (n, End thrown, batch) = true
 is_end (n, Print value x, batch) = false
+is_end (n, Census places x, batch) = false
 
 -- it has ended
 abbrev pub has_end : Moves → Bool
@@ -63,11 +64,30 @@ pub record Ties (q size : ℕ) (es : List Entry) (T : Tree) : Type 0 where
   pub rows : RowsSo size es T.tasks
   pub deaths : (p : PlaceId) → p.0 < 16 → death_of T p ≡ death_number 0 p es
   pub sixteen : length T.dead ≡ 16
-  pub same : T.places ≡ q
+  pub within : T.places ≤ q
   pub unborn : (t : ℕ) → size ≤ t → birth_among 0 es t ≡ None
   pub unmoved : (t : ℕ) → size ≤ t → moves_from 0 es t ≡ []
 
--- kills that may be done after the entries
-abbrev pub MayCome : ℕ → List Entry → List Kill → Type 0
-MayCome q es [] = Unit {0}
-MayCome q es (k ∷ ks) = (k.place.0 < q) × (k.place.0 ≢ 0) × (death_number 0 k.place es ≡ None) × Spares k.place ks × MayCome q es ks
+-- no event of the plan is the death of this place
+abbrev pub SparesIn : PlaceId → List Event → Type 0
+SparesIn p [] = Unit {0}
+SparesIn p (x ∷ xs) = (x.entry ≢ Death p) × SparesIn p xs
+
+-- the event may come after the entries, where so many places are there
+abbrev pub MayBe : ℕ → List Entry → List Event → Entry → Type 0
+MayBe here es xs (Death d) = (d.0 < here) × (d.0 ≢ 0) × (death_number 0 d es ≡ None) × SparesIn d xs
+MayBe here es xs (Join p) = p.0 ≡ here
+MayBe here es xs (Step t act batch) = ⊥
+MayBe here es xs (Root lost masked thrown) = ⊥
+
+-- how many places are there after the event
+abbrev pub places_after : Entry → ℕ → ℕ
+places_after (Join p) here = suc here
+places_after (Death d) here = here
+places_after (Step t act batch) here = here
+places_after (Root lost masked thrown) here = here
+
+-- what may come after the entries, where so many places are there: after it there are `all`
+abbrev pub MayCome : ℕ → ℕ → List Entry → List Event → Type 0
+MayCome all here es [] = here ≡ all
+MayCome all here es (x ∷ xs) = MayBe here es xs x.entry × MayCome all (places_after x.entry here) es xs

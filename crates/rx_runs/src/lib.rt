@@ -17,6 +17,7 @@ ghost use Rattle.rx_runs.specs.Coming.{GamesCome, GoesOn};
 ghost use Rattle.rx_runs.specs.Left.{FewLeft, GoingSinks};
 ghost use Rattle.rx_runs.specs.SomeWords.{ComesSome, GoesSome};
 ghost use Rattle.rx_runs.specs.Events.{FewEvents, GoingTells};
+ghost use Rattle.rx_runs.specs.Knowing.{LocalKnowing, GoesKnowing, ComesKnowing, TurnKnowing};
 
 /// A law: under a proper setup a picked run is a run.
 pub fn picked_run_is_run()
@@ -33,12 +34,12 @@ pub fn turns_keep_sound()
     ensures { TurnKeeps }
 {}
 
-/// A law: turns from the opening are at most `4 * work + 2 * places + 8`.
+/// A law: turns from the opening are at most `4 * work + 2 * places + 3 * joins + 8`.
 pub fn turns_are_bounded()
     ensures { TurnsBounded }
 {}
 
-/// A law: their history has at most `4 * work + places + 1` entries.
+/// A law: their history has at most `4 * work + places + 2 * joins + 1` entries.
 pub fn entries_are_bounded()
     ensures { EntriesBounded }
 {}
@@ -88,7 +89,7 @@ pub fn run_is_made()
     ensures { RunIsMade }
 {}
 
-/// A law: a list of allowed entries that terms make has at most `4 * work + places + 1`, whatever the store answers.
+/// A law: a list of allowed entries that terms make has at most `4 * work + places + 2 * joins + 1`, whatever the store answers.
 pub fn made_entries_are_bounded()
     ensures { MadeBounded }
 {}
@@ -143,4 +144,24 @@ pub fn few_events_are_told()
 /// A law: each event that local steps and store calls tell costs a step.
 pub fn going_tells()
     ensures { GoingTells }
+{}
+
+/// A law: a local step leaves how many places a task knows of.
+pub fn local_steps_tell_no_places()
+    ensures { LocalKnowing }
+{}
+
+/// A law: so do local steps and store calls of a turn.
+pub fn going_tells_no_places()
+    ensures { GoesKnowing }
+{}
+
+/// A law: in each game that turns have made no task knows of more places than there are.
+pub fn known_places_are_there()
+    ensures { ComesKnowing }
+{}
+
+/// A law: in a turn no task comes to know of fewer places, and no place leaves.
+pub fn known_places_stay()
+    ensures { TurnKnowing }
 {}

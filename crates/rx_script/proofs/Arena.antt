@@ -5,7 +5,7 @@ use Rattle.std.proofs.lemmas.List.{same_from_push, length-drop}
 use Rattle.std.proofs.lemmas.Option.{same_Some}
 use Rattle.std.proofs.Math.Seq.{take-append_seam, drop-append_seam}
 use Rattle.rx_base.proofs.Elements.{get-last, more-at}
-use Rattle.rx_rules.specs.Code.{Expr, Num, Name, Here, Bin, Stmt, SetTo, New, Get, Put, Forget, Print, Throw, Async, AtAsync, At, Finish, If, Repeat, Try, Block, Nothing, Then}
+use Rattle.rx_rules.specs.Code.{Expr, Num, Name, Here, Bin, Stmt, SetTo, New, Get, Put, Forget, Census, Print, Throw, Async, AtAsync, At, Finish, If, Repeat, Try, Block, Nothing, Then}
 use Rattle.rx_nodes.specs.Shape.{Shape, IsSmall, ExprStands, StmtIs, ListStands, BlockStands}
 use Rattle.rx_script.specs.Inside.Items.{Opener, ByAsync, ByAtAsync, ByAt, ByFinish, ByIf, ByRepeat, ByTry, Whole, Close}
 use Rattle.rx_script.specs.Inside.Machine.{added, Frame, Fore, Other, Handler, Waits, Free, ForElse, ForCatch, BlocksRead, free, ended, item_stepped}
@@ -19,7 +19,7 @@ use Rattle.rx_nodes.specs.declared.nodes.ExprId.{ExprId}
 use Rattle.rx_nodes.specs.declared.nodes.BlockId.{BlockId}
 use Rattle.rx_nodes.specs.declared.nodes.Expr.{Expr as Part}
 use Rattle.rx_nodes.specs.declared.nodes.Stmt.{Stmt as Node}
-use Rattle.rx_nodes.specs.declared.nodes.Stmt.TheVariants.{Set as SetNode, New as NewNode, Get as GetNode, Put as PutNode, Forget as ForgetNode, Print as PrintNode, Throw as ThrowNode, Async as AsyncNode, AtAsync as AtAsyncNode, At as AtNode, Finish as FinishNode, If as IfNode, Repeat as RepeatNode, Try as TryNode}
+use Rattle.rx_nodes.specs.declared.nodes.Stmt.TheVariants.{Set as SetNode, New as NewNode, Get as GetNode, Put as PutNode, Forget as ForgetNode, Census as CensusNode, Print as PrintNode, Throw as ThrowNode, Async as AsyncNode, AtAsync as AtAsyncNode, At as AtNode, Finish as FinishNode, If as IfNode, Repeat as RepeatNode, Try as TryNode}
 use Rattle.rx_script.specs.declared.reader.Owner.{Owner}
 use Rattle.rx_script.specs.declared.reader.Owner.TheVariants as owners
 use Rattle.rx_script.specs.declared.reader.Opened.{Opened}
@@ -53,6 +53,7 @@ mutual
   stmt-grows s t x (GetNode name target index) (Get n u e) h = (h.0, h.1, expr-grows s t x index e h.2)
   stmt-grows s t x (PutNode target index value) (Put u e f) h = (h.0, expr-grows s t x index e h.1, expr-grows s t x value f h.2)
   stmt-grows s t x (ForgetNode target) (Forget u) h = h
+  stmt-grows s t x (CensusNode name) (Census n) h = h
   stmt-grows s t x (PrintNode value) (Print e) h = expr-grows s t x value e h
   stmt-grows s t x (ThrowNode value) (Throw e) h = expr-grows s t x value e h
   stmt-grows s t x (AsyncNode body) (Async b) h = (h.0, x.blocks _ _ h.1, list-grows s t x h.0 b h.2)

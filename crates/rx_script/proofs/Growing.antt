@@ -3,14 +3,14 @@ use Rattle.std.proofs.Common.{◌≡◌, ℕ, ◌<◌, List, [], ◌∷◌, ◌+
 use Rattle.std.specs.Prelude.{Some, slice_get}
 use Rattle.std.proofs.lemmas.Option.{slice_get_within}
 use Rattle.rx_base.proofs.Elements.{more-at}
-use Rattle.rx_rules.specs.Code.{Expr, Num, Name, Here, Bin, Stmt, SetTo, New, Get, Put, Forget, Print, Throw, Async, AtAsync, At, Finish, If, Repeat, Try, Block, Nothing, Then}
+use Rattle.rx_rules.specs.Code.{Expr, Num, Name, Here, Bin, Stmt, SetTo, New, Get, Put, Forget, Census, Print, Throw, Async, AtAsync, At, Finish, If, Repeat, Try, Block, Nothing, Then}
 use Rattle.rx_nodes.specs.Shape.{Shape, ExprStands, StmtIs, ListStands}
 use Rattle.rx_script.specs.Inside.Pieces.{Grows}
 use Rattle.rx_nodes.specs.declared.nodes.StmtId.{StmtId}
 use Rattle.rx_nodes.specs.declared.nodes.ExprId.{ExprId}
 use Rattle.rx_nodes.specs.declared.nodes.Expr.{Expr as Part}
 use Rattle.rx_nodes.specs.declared.nodes.Stmt.{Stmt as Node}
-use Rattle.rx_nodes.specs.declared.nodes.Stmt.TheVariants.{Set as SetNode, New as NewNode, Get as GetNode, Put as PutNode, Forget as ForgetNode, Print as PrintNode, Throw as ThrowNode, Async as AsyncNode, AtAsync as AtAsyncNode, At as AtNode, Finish as FinishNode, If as IfNode, Repeat as RepeatNode, Try as TryNode}
+use Rattle.rx_nodes.specs.declared.nodes.Stmt.TheVariants.{Set as SetNode, New as NewNode, Get as GetNode, Put as PutNode, Forget as ForgetNode, Census as CensusNode, Print as PrintNode, Throw as ThrowNode, Async as AsyncNode, AtAsync as AtAsyncNode, At as AtNode, Finish as FinishNode, If as IfNode, Repeat as RepeatNode, Try as TryNode}
 
 -- a list that has what another has, or has it and more
 pub grows-none : (es : List Part) → Grows es es
@@ -54,6 +54,7 @@ mutual
   stmt-grows s t x (PutNode target index value) (Put u e f) h =
       (h.0, expr-grows s.exprs t.exprs x.exprs index e h.1, expr-grows s.exprs t.exprs x.exprs value f h.2)
   stmt-grows s t x (ForgetNode target) (Forget u) h = h
+  stmt-grows s t x (CensusNode name) (Census n) h = h
   stmt-grows s t x (PrintNode value) (Print e) h = expr-grows s.exprs t.exprs x.exprs value e h
   stmt-grows s t x (ThrowNode value) (Throw e) h = expr-grows s.exprs t.exprs x.exprs value e h
   stmt-grows s t x (AsyncNode body) (Async b) h = (h.0, x.blocks _ _ h.1, list-grows s t x h.0 b h.2)

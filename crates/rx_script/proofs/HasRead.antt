@@ -2,7 +2,7 @@
 use Rattle.std.proofs.Common.{◌≡◌, ◌+◌, ◌<◌, ◌≤◌, ◌^◌, List, [], ◌∷◌, ◌++◌, length, vec_len, refl, ap, sym, ◌∙◌, subst, arith, append-nil, length-append, Vec, Global, true, false}
 use Rattle.std.specs.Prelude.{Some, Result, Ok, Err, IfOk, option_and_then, slice_get}
 use Rattle.rx_base.proofs.Elements.{get-last}
-use Rattle.rx_rules.specs.Code.{Stmt, SetTo, New, Get, Put, Forget, Print, Throw, Async, AtAsync, At, Finish, If, Repeat, Try, Block}
+use Rattle.rx_rules.specs.Code.{Stmt, SetTo, New, Get, Put, Forget, Census, Print, Throw, Async, AtAsync, At, Finish, If, Repeat, Try, Block}
 use Rattle.rx_nodes.specs.Shape.{Shape, IsSmall, ListStands, BlockStands}
 use Rattle.rx_nodes.specs.Grammar.{spelling}
 use Rattle.rx_script.specs.Inside.Items.{Opener, ByAsync, ByAtAsync, ByAt, ByFinish, ByIf, ByRepeat, ByTry, Item, Whole, Open, Close, Else, Catch, item_words, opener_words, item_at, Mode, Outermost}
@@ -41,6 +41,7 @@ spelling-some (New n k) = omega arith
 spelling-some (Get n t e) = omega arith
 spelling-some (Put t i e) = omega arith
 spelling-some (Forget t) = omega arith
+spelling-some (Census n) = omega arith
 spelling-some (Print e) = omega arith
 spelling-some (Throw e) = omega arith
 spelling-some (Async b) = omega arith

@@ -4,7 +4,7 @@ use Rattle.std.specs.Prelude.{Option, Some, None, option_and_then}
 use Rattle.rx_token.specs.declared.token.Token.{Token}
 use Rattle.rx_token.specs.declared.token.Token.TheVariants.{Mark}
 use Rattle.rx_token.specs.declared.token.Sign.TheVariants.{CloseBrace as RBrace}
-use Rattle.rx_rules.specs.Code.{Stmt, Block, Nothing, Then, SetTo, New, Get, Put, Forget, Print, Throw, Async, AtAsync, At, Finish, If, Repeat, Try}
+use Rattle.rx_rules.specs.Code.{Stmt, Block, Nothing, Then, SetTo, New, Get, Put, Forget, Census, Print, Throw, Async, AtAsync, At, Finish, If, Repeat, Try}
 use Rattle.rx_nodes.specs.Grammar.{spelling, spellings}
 use Rattle.rx_script.specs.Inside.Items.{Opener, ByAsync, ByAtAsync, ByAt, ByFinish, ByIf, ByRepeat, ByTry, Item, Whole, Open, Close, Else, Catch, item_words, opener_words}
 use Rattle.rx_script.specs.Inside.Machine.{added, Frame, Fore, Other, Handler, BlocksRead, free, step, items_run}
@@ -21,6 +21,7 @@ abbrev mutual
   items_of (Get n t e) = Whole (Get n t e) ∷ []
   items_of (Put t i e) = Whole (Put t i e) ∷ []
   items_of (Forget t) = Whole (Forget t) ∷ []
+  items_of (Census n) = Whole (Census n) ∷ []
   items_of (Print e) = Whole (Print e) ∷ []
   items_of (Throw e) = Whole (Throw e) ∷ []
   items_of (Async b) = block_items ByAsync (all_items b)
@@ -60,6 +61,7 @@ mutual
   words-stmt (Get n t e) = append-nil (spelling (Get n t e))
   words-stmt (Put t i e) = append-nil (spelling (Put t i e))
   words-stmt (Forget t) = refl
+  words-stmt (Census n) = refl
   words-stmt (Print e) = append-nil (spelling (Print e))
   words-stmt (Throw e) = append-nil (spelling (Throw e))
   words-stmt (Async b) = words-block ByAsync (all_items b) (spellings b) (words-all b)
@@ -102,6 +104,7 @@ mutual
   run-stmt (Get n t e) outer ds rest = refl
   run-stmt (Put t i e) outer ds rest = refl
   run-stmt (Forget t) outer ds rest = refl
+  run-stmt (Census n) outer ds rest = refl
   run-stmt (Print e) outer ds rest = refl
   run-stmt (Throw e) outer ds rest = refl
   run-stmt (Async b) outer ds rest = run-body b ((ds, Fore ByAsync) ∷ outer) [] rest (run-all b ((ds, Fore ByAsync) ∷ outer) Nothing (Close ∷ ([] ++ rest)))

@@ -1,6 +1,6 @@
 -- What is scanned as the tokens of a tree is a script.
 use Rattle.std.proofs.Common.{ℕ, List, [], ◌∷◌, ◌++◌, length, Bool, true, false}
-use Rattle.rx_rules.specs.Code.{Expr, Num, Name, Here, Bin, Stmt, SetTo, New, Get, Put, Forget, Print, Throw, Async, AtAsync, At, Finish, If, Repeat, Try, Block, Nothing, Then}
+use Rattle.rx_rules.specs.Code.{Expr, Num, Name, Here, Bin, Stmt, SetTo, New, Get, Put, Forget, Census, Print, Throw, Async, AtAsync, At, Finish, If, Repeat, Try, Block, Nothing, Then}
 use Rattle.rx_token.specs.declared.token.Sign.TheVariants.{CloseBrace}
 use Rattle.rx_token.specs.declared.token.Token.{Token}
 use Rattle.rx_token.specs.declared.token.Token.TheVariants.{Mark}
@@ -33,6 +33,7 @@ mutual
   no-bad-stmt (Get n t e) = no-bad-more (spell e) _ (no-bad-expr e) tt
   no-bad-stmt (Put t i e) = no-bad-more (spell i) _ (no-bad-expr i) (no-bad-more (spell e) _ (no-bad-expr e) tt)
   no-bad-stmt (Forget t) = tt
+  no-bad-stmt (Census n) = tt
   no-bad-stmt (Print e) = no-bad-more (spell e) _ (no-bad-expr e) tt
   no-bad-stmt (Throw e) = no-bad-more (spell e) _ (no-bad-expr e) tt
   no-bad-stmt (Async b) = no-bad-block (spellings b) [] (no-bad b) tt

@@ -2,7 +2,7 @@
 use Rattle.std.proofs.Common.{◌≡◌, List, [], ◌∷◌, ◌++◌, refl, ap, sym, ◌∙◌, subst, append_assoc, append-nil}
 use Rattle.std.specs.Prelude.{Some}
 use Rattle.std.proofs.lemmas.Option.{same_Some}
-use Rattle.rx_rules.specs.Code.{Stmt, Block, Nothing, Then, SetTo, New, Get, Put, Forget, Print, Throw, Async, AtAsync, At, Finish, If, Repeat, Try}
+use Rattle.rx_rules.specs.Code.{Stmt, Block, Nothing, Then, SetTo, New, Get, Put, Forget, Census, Print, Throw, Async, AtAsync, At, Finish, If, Repeat, Try}
 use Rattle.rx_nodes.specs.Grammar.{Fits, AllFit}
 use Rattle.rx_script.specs.Inside.Items.{ByAsync, ByAtAsync, ByAt, ByFinish, ByIf, ByRepeat, ByTry, Item, Whole, Open, Close, Else, Catch, IsItem, IsSimple}
 use Rattle.rx_script.specs.Inside.Machine.{added, Frame, Fore, Other, Handler, Waits, Free, ForElse, ForCatch, BlocksRead, free, ended, closed, item_stepped, step, items_run}
@@ -41,6 +41,7 @@ items-simple (New n k) i = refl
 items-simple (Get n t e) i = refl
 items-simple (Put t p e) i = refl
 items-simple (Forget t) i = refl
+items-simple (Census n) i = refl
 items-simple (Print e) i = refl
 items-simple (Throw e) i = refl
 items-simple (Async b) i = absurd i
@@ -130,6 +131,7 @@ mutual
   stmt-items (Get n t e) f = (tt, tt)
   stmt-items (Put t i e) f = (tt, tt)
   stmt-items (Forget t) f = (tt, tt)
+  stmt-items (Census n) f = (tt, tt)
   stmt-items (Print e) f = (tt, tt)
   stmt-items (Throw e) f = (tt, tt)
   stmt-items (Async b) f = (tt, all-append (all_items b) (Close ∷ []) (fit-items b f) (tt, tt))
@@ -151,6 +153,7 @@ mutual
   items-stmt (Get n t e) i = tt
   items-stmt (Put t p e) i = tt
   items-stmt (Forget t) i = tt
+  items-stmt (Census n) i = tt
   items-stmt (Print e) i = tt
   items-stmt (Throw e) i = tt
   items-stmt (Async b) i = items-fit b (all-front (all_items b) (Close ∷ []) i.1)

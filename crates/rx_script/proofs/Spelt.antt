@@ -3,9 +3,9 @@ use Rattle.std.proofs.Common.{◌≡◌, List, [], ◌∷◌, ◌++◌, ℕ, pos
 use Rattle.std.specs.Prelude.{Option, Some, None, Result, Ok, Err}
 use Rattle.rx_token.specs.declared.token.Token.{Token}
 use Rattle.rx_token.specs.declared.token.Token.TheVariants.{Key, Called, Number, Oper, Mark}
-use Rattle.rx_token.specs.declared.token.Keyword.TheVariants.{Here as KHere, Set as KSet, New as KNew, Get as KGet, Put as KPut, Forget as KForget, Print as KPrint, Throw as KThrow, Async as KAsync, At as KAt, Finish as KFinish, If as KIf, Else as KElse, Repeat as KRepeat, Try as KTry, Catch as KCatch, Dead as KDead}
+use Rattle.rx_token.specs.declared.token.Keyword.TheVariants.{Here as KHere, Set as KSet, New as KNew, Get as KGet, Put as KPut, Forget as KForget, Census as KCensus, Print as KPrint, Throw as KThrow, Async as KAsync, At as KAt, Finish as KFinish, If as KIf, Else as KElse, Repeat as KRepeat, Try as KTry, Catch as KCatch, Dead as KDead}
 use Rattle.rx_token.specs.declared.token.Sign.TheVariants.{OpenParen as LParen, CloseParen as RParen, OpenBrace as LBrace, CloseBrace as RBrace, OpenSquare as LSquare, CloseSquare as RSquare, Equals, Semicolon}
-use Rattle.rx_rules.specs.Code.{Expr, Num, Name, Here, Bin, Stmt, SetTo, New, Get, Put, Forget, Print, Throw, Async, AtAsync, At, Finish, If, Repeat, Try}
+use Rattle.rx_rules.specs.Code.{Expr, Num, Name, Here, Bin, Stmt, SetTo, New, Get, Put, Forget, Census, Print, Throw, Async, AtAsync, At, Finish, If, Repeat, Try}
 use Rattle.rx_nodes.specs.Grammar.{may_hold, may_turn, spell}
 use Rattle.rx_rules.specs.Code.{Op, Add, Sub, Mul, Less, Equal}
 use Rattle.rx_token.specs.declared.token.Op.{Op as Operation}
@@ -175,6 +175,7 @@ statement-gives P s o (Key KNew) = gives-called P _ _ (λ n. gives-equals P _ _ 
 statement-gives P s o (Key KGet) = gives-called P _ _ (λ n. gives-equals P _ _ (gives-called P _ _ (λ t. gives-square P _ _ (gives-expr P _ _ (λ e. gives-end_square P _ _ (gives-ends P _ (Whole (Get n t e)) (s (Get n t e) tt) (simp append_assoc)))))))
 statement-gives P s o (Key KPut) = gives-called P _ _ (λ t. gives-square P _ _ (gives-expr P _ _ (λ i. gives-end_square P _ _ (gives-equals P _ _ (gives-expr P _ _ (λ e. gives-ends P _ (Whole (Put t i e)) (s (Put t i e) tt) (simp append_assoc)))))))
 statement-gives P s o (Key KForget) = gives-called P _ _ (λ t. gives-ends P _ (Whole (Forget t)) (s (Forget t) tt) refl)
+statement-gives P s o (Key KCensus) = gives-called P _ _ (λ n. gives-ends P _ (Whole (Census n)) (s (Census n) tt) refl)
 statement-gives P s o (Key KPrint) = gives-expr P _ _ (λ e. gives-ends P _ (Whole (Print e)) (s (Print e) tt) refl)
 statement-gives P s o (Key KThrow) = gives-expr P _ _ (λ e. gives-ends P _ (Whole (Throw e)) (s (Throw e) tt) refl)
 statement-gives P s o (Key KAsync) = gives-opens P _ (Open ByAsync) (o ByAsync tt) refl
@@ -232,6 +233,7 @@ again-simple (New n k) i rest = back-range may_hold (λ k. ends (Whole (New n k)
 again-simple (Get n t e) i rest = back (λ e. choose (end_square (ends (Whole (Get n t e))))) e _ rest _ refl
 again-simple (Put t p e) i rest = back (λ i. choose (end_square (choose (equals_then (then expr (λ e. ends (Whole (Put t i e)))))))) p _ rest _ (back (λ e. ends (Whole (Put t p e))) e _ rest _ refl)
 again-simple (Forget t) i rest = refl
+again-simple (Census n) i rest = refl
 again-simple (Print e) i rest = back (λ e. ends (Whole (Print e))) e _ rest _ refl
 again-simple (Throw e) i rest = back (λ e. ends (Whole (Throw e))) e _ rest _ refl
 again-simple (Async b) i rest = absurd i
@@ -257,6 +259,7 @@ again-inside-simple (New n k) i rest = again-simple (New n k) i rest
 again-inside-simple (Get n t e) i rest = again-simple (Get n t e) i rest
 again-inside-simple (Put t p e) i rest = again-simple (Put t p e) i rest
 again-inside-simple (Forget t) i rest = refl
+again-inside-simple (Census n) i rest = refl
 again-inside-simple (Print e) i rest = again-simple (Print e) i rest
 again-inside-simple (Throw e) i rest = again-simple (Throw e) i rest
 again-inside-simple (Async b) i rest = absurd i

@@ -6,7 +6,7 @@ use Rattle.std.specs.List.{flat_map}
 use Rattle.std.proofs.lemmas.List.{reverse-append, reverse-reverse, drop_all}
 use Rattle.std.proofs.lemmas.Option.{slice_get_within}
 use Rattle.rx_base.proofs.Elements.{drop-suc}
-use Rattle.rx_rules.specs.Code.{Expr as Tree, Num, Name, Here, Bin, Block, Nothing, Then, Stmt, SetTo, New, Get, Put, Forget, Print, Throw, Async, AtAsync, At, Finish, If, Repeat, Try}
+use Rattle.rx_rules.specs.Code.{Expr as Tree, Num, Name, Here, Bin, Block, Nothing, Then, Stmt, SetTo, New, Get, Put, Forget, Census, Print, Throw, Async, AtAsync, At, Finish, If, Repeat, Try}
 use Rattle.rx_nodes.specs.declared.nodes.StmtId.{StmtId}
 use Rattle.rx_nodes.specs.declared.nodes.ExprId.{ExprId}
 use Rattle.rx_nodes.specs.declared.nodes.BlockId.{BlockId}
@@ -77,6 +77,7 @@ stmt-parts s (nodes.New name words) (New n w) h = record { left = Called name.0 
 stmt-parts s (nodes.Get name target index) (Get n t e) h = record { left = Called name.0 ∷ Mark Equals ∷ Called target.0 ∷ Mark LSquare ∷ (spell e ++ Mark RSquare ∷ Mark Semicolon ∷ []); whole = ap (λ m. spelling (Get m t e)) h.0 ∙ ap (λ m. spelling (Get name.0 m e)) h.1; stands = one s _ _ _ (one s _ _ _ (one s _ _ _ (one s _ _ _ (value s index e _ _ h.2 (one s _ _ _ (semicolon s)))))) }
 stmt-parts s (nodes.Put target index new) (Put t e f) h = record { left = Called target.0 ∷ Mark LSquare ∷ (spell e ++ Mark RSquare ∷ Mark Equals ∷ (spell f ++ Mark Semicolon ∷ [])); whole = ap (λ m. spelling (Put m e f)) h.0; stands = one s _ _ _ (one s _ _ _ (value s index e _ _ h.1 (one s _ _ _ (one s _ _ _ (value s new f _ _ h.2 (semicolon s)))))) }
 stmt-parts s (nodes.Forget target) (Forget t) h = record { left = Called target.0 ∷ Mark Semicolon ∷ []; whole = ap (λ m. spelling (Forget m)) h; stands = one s _ _ _ (semicolon s) }
+stmt-parts s (nodes.Census name) (Census n) h = record { left = Called name.0 ∷ Mark Semicolon ∷ []; whole = ap (λ m. spelling (Census m)) h; stands = one s _ _ _ (semicolon s) }
 stmt-parts s (nodes.Print id) (Print e) h = record { left = spell e ++ Mark Semicolon ∷ []; whole = refl; stands = value s id e _ _ h (semicolon s) }
 stmt-parts s (nodes.Throw id) (Throw e) h = record { left = spell e ++ Mark Semicolon ∷ []; whole = refl; stands = value s id e _ _ h (semicolon s) }
 stmt-parts s (nodes.Async k) (Async b) h = record { left = Mark LBrace ∷ (spellings b ++ Mark RBrace ∷ []); whole = refl; stands = body s k h.0 b _ _ h.1 h.2 (brace s) }
@@ -102,6 +103,7 @@ few (nodes.New name words) = omega arith
 few (nodes.Get name target index) = omega arith
 few (nodes.Put target index new) = omega arith
 few (nodes.Forget target) = omega arith
+few (nodes.Census name) = omega arith
 few (nodes.Print id) = omega arith
 few (nodes.Throw id) = omega arith
 few (nodes.Async k) = omega arith

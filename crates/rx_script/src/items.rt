@@ -361,6 +361,16 @@ fn forget_item(tokens: &[Token]) -> Read<'_, Item>
     }
 }
 
+fn census_item(tokens: &[Token]) -> Read<'_, Item>
+    ensures answer { (es : List Part) → IsItemAnswer es result (λ s. s.now) (read.census_at tokens.now) }
+    ensures shorter { IfOk result (λ x. length x.1.now ≤ length tokens.now) }
+{
+    match called(tokens) {
+        Ok((name, rest)) => ends(Item::Whole(Stmt::Census { name }), rest),
+        Err(bad) => Err(bad),
+    }
+}
+
 fn print_item<'a>(exprs: &mut Vec<Expr>, tokens: &'a [Token]) -> Result<Read<'a, Item>, NoMemory>
     requires { vec_len exprs.old + length tokens.now < 2 ^ 32 }
     ensures grows { OnOk result (Grows exprs.old.items exprs.new.items) }
@@ -447,6 +457,7 @@ fn statement<'a>(exprs: &mut Vec<Expr>, tokens: &'a [Token]) -> Result<Read<'a, 
         Some((Token::Key(Keyword::Get), rest)) => get_item(exprs, rest),
         Some((Token::Key(Keyword::Put), rest)) => put_item(exprs, rest),
         Some((Token::Key(Keyword::Forget), rest)) => Ok(forget_item(rest)),
+        Some((Token::Key(Keyword::Census), rest)) => Ok(census_item(rest)),
         Some((Token::Key(Keyword::Print), rest)) => print_item(exprs, rest),
         Some((Token::Key(Keyword::Throw), rest)) => throw_item(exprs, rest),
         Some((Token::Key(Keyword::Async), rest)) => Ok(opens(Item::Open(Opener::Async), rest)),

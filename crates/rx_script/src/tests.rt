@@ -39,7 +39,7 @@ fn fault(alloc: Global, bytes: &[u8]) -> Option<u32> {
 #[test]
 fn scripts_are_read(rt: HostRuntime) {
     let every =
-        b"set x = (1 + here); new a = 65536; get y = a[0]; put a[(x - 1)] = (y * 2); forget a; print (x < y); \
+        b"set x = (1 + here); new a = 65536; get y = a[0]; put a[(x - 1)] = (y * 2); forget a; census n; print (x < y); \
         throw (x == y); async { } at 0 async { } at 1 { } finish { } if x { } else { } repeat 1000000 { } \
         try { } catch { } try { } catch dead { }";
     for (bytes, count) in [
@@ -48,7 +48,7 @@ fn scripts_are_read(rt: HostRuntime) {
         (b"print#a\n7;".as_slice(), 1),
         (b"print 9223372036854775807;".as_slice(), 1),
         (b"repeat 0 { set x = 1; set y = x; } print x;".as_slice(), 2),
-        (every.as_slice(), 15),
+        (every.as_slice(), 16),
     ] {
         assert_eq!(rt; statements(rt.alloc(), bytes), Some(count));
     }
@@ -66,7 +66,8 @@ fn faults_have_their_place(rt: HostRuntime) {
         (b"set abcdefghijklmnopq = 1;".as_slice(), 4),
         (b"print 7;,".as_slice(), 8),
         (b"print 7; $".as_slice(), 9),
-        (b"census;".as_slice(), 0),
+        (b"census;".as_slice(), 6),
+        (b"census n = 1;".as_slice(), 9),
         (b"x = 1;".as_slice(), 0),
         (b"set 7 = 1;".as_slice(), 4),
         (b"set if = 1;".as_slice(), 4),
@@ -117,8 +118,8 @@ fn a_script_is_written_with_one_blank_between_two_tokens(
         ),
         (b"# nothing\n", b"\n"),
         (
-            b"set x=(0-5);new r=2;put r[0]=x;get y=r[(x==here)];forget r;",
-            b"set x = ( 0 - 5 ) ; new r = 2 ; put r [ 0 ] = x ; get y = r [ ( x == here ) ] ; forget r ;\n",
+            b"set x=(0-5);new r=2;put r[0]=x;get y=r[(x==here)];forget r;census n;",
+            b"set x = ( 0 - 5 ) ; new r = 2 ; put r [ 0 ] = x ; get y = r [ ( x == here ) ] ; forget r ; census n ;\n",
         ),
         (
             b"if 1{throw 2;}else{try{async{}}catch dead{repeat 2{at 1 async{}at 0{}}}}try{}catch{}",

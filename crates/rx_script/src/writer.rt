@@ -116,6 +116,7 @@ fn word_of(stmt: Stmt) -> Keyword
         Stmt::Get { .. } => Keyword::Get,
         Stmt::Put { .. } => Keyword::Put,
         Stmt::Forget { .. } => Keyword::Forget,
+        Stmt::Census { .. } => Keyword::Census,
         Stmt::Print { .. } => Keyword::Print,
         Stmt::Throw { .. } => Keyword::Throw,
         Stmt::Async { .. } => Keyword::Async,
@@ -179,6 +180,7 @@ fn put_rest(parts: &mut Vec<Part>, stmt: Stmt) -> Result<(), NoMemory>
             put_parts(parts, &[named(target), OPEN_SQUARE, Part::Value(index)])
         }
         Stmt::Forget { target } => put_parts(parts, &[named(target), SEMICOLON]),
+        Stmt::Census { name } => put_parts(parts, &[named(name), SEMICOLON]),
         Stmt::Print { value } => put_parts(parts, &[Part::Value(value), SEMICOLON]),
         Stmt::Throw { value } => put_parts(parts, &[Part::Value(value), SEMICOLON]),
         Stmt::Async { body } => put_block(parts, body),

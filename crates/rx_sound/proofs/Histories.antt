@@ -7,14 +7,14 @@ use Rattle.std.proofs.lemmas.List.Elements.{All-set}
 use Rattle.rx_base.specs.declared.ids.PlaceId.{PlaceId}
 use Rattle.rx_base.specs.declared.ids.TaskId.{TaskId}
 use Rattle.rx_base.specs.declared.values.Fault.{Fault}
-use Rattle.rx_rules.specs.declared.entries.Act.TheVariants.{Open, At as Calls, Spawn, Arrive, Wait, Release, End, Print}
+use Rattle.rx_rules.specs.declared.entries.Act.TheVariants.{Open, At as Calls, Spawn, Arrive, Wait, Release, End, Print, Census}
 use Rattle.rx_rules.specs.declared.entries.Entry.{Entry}
-use Rattle.rx_rules.specs.declared.entries.Entry.TheVariants.{Step, Root, Death}
+use Rattle.rx_rules.specs.declared.entries.Entry.TheVariants.{Step, Root, Death, Join}
 use Rattle.rx_rules.specs.declared.entries.Act.{Act}
 use Rattle.rx_rules.specs.Tree.{Tree, is_task, task_of, death_of}
 use Rattle.rx_rules.specs.Entries.{Allowed, made, made_act, after_end, change_scope}
 use Rattle.rx_rules.specs.Fold.{AllAllowed, opening, fold_from}
-use Rattle.rx_rules.specs.Reached.{Reached, IsOlder, opens, acts, ends, dies}
+use Rattle.rx_rules.specs.Reached.{Reached, IsOlder, opens, acts, ends, dies, joins}
 use Rattle.rx_rules.specs.Run.{death_number}
 use Rattle.rx_sound.specs.Sound.{Sound}
 use Rattle.rx_sound.specs.Histories.{FoldReached, DeadAsTold}
@@ -45,13 +45,15 @@ dead-act T t (Calls s r callee from to path) = refl
 dead-act T t (Spawn child s from to path) = refl
 dead-act T t (Arrive p) = refl
 dead-act T t (Wait s thrown) = refl
-dead-act T t (Release s lost thrown) = refl
+dead-act T t (Release s lost masked thrown) = refl
 dead-act T t (End thrown) = dead-end T t thrown
 dead-act T t (Print value path) = refl
+dead-act T t (Census places path) = refl
 
 pub dead-now : (n : ℕ) (T : Tree) (e : Entry) → All (IsOlder n) T.dead → All (IsOlder (suc n)) (made n T e).dead
 dead-now n T (Step t act batch) h = subst (λ (xs : List (Option ℕ)). All (IsOlder (suc n)) xs) (sym (dead-act T t act)) (all_older n T.dead h)
-dead-now n T (Root lost thrown) h = all_older n T.dead h
+dead-now n T (Root lost masked thrown) h = all_older n T.dead h
+dead-now n T (Join joined) h = all_older n T.dead h
 dead-now n T (Death d) h = All-set (IsOlder (suc n)) T.dead d.0 (Some n) (omega arith) (all_older n T.dead h)
 
 -- the deaths of a tree are older than the next entry
@@ -63,7 +65,8 @@ older-from n T (x ∷ es) o =
 
 pub reached_now : (n : ℕ) (T : Tree) (e : Entry) → Reached T → All (IsOlder n) T.dead → Allowed T e → Reached (made n T e)
 reached_now n T (Step t act batch) r o h = acts t act r h
-reached_now n T (Root lost thrown) r o h = ends r h.0
+reached_now n T (Root lost masked thrown) r o h = ends lost masked thrown r h
+reached_now n T (Join p) r o h = joins p r h
 reached_now n T (Death d) r o h = dies (record { place = d; entry = n }) r h o
 
 reaches : (n : ℕ) (T : Tree) (es : List Entry) → Reached T → All (IsOlder n) T.dead → AllAllowed n T es → Reached (fold_from n T es)
@@ -107,13 +110,15 @@ told_from n T [] p r o h = sym (first_none (death_of T p))
 told_from n T (Step t act batch ∷ es) p r o h =
     told_from (suc n) (made n T (Step t act batch)) es p (reached_now n T (Step t act batch) r o h.0) (dead-now n T (Step t act batch) o) h.1
     ∙ told_act T t act p (death_number (suc n) p es)
-told_from n T (Root lost thrown ∷ es) p r o h =
-    told_from (suc n) (made n T (Root lost thrown)) es p (reached_now n T (Root lost thrown) r o h.0) (dead-now n T (Root lost thrown) o) h.1
+told_from n T (Root lost masked thrown ∷ es) p r o h =
+    told_from (suc n) (made n T (Root lost masked thrown)) es p (reached_now n T (Root lost masked thrown) r o h.0) (dead-now n T (Root lost masked thrown) o) h.1
+told_from n T (Join j ∷ es) p r o h =
+    told_from (suc n) (made n T (Join j)) es p (reached_now n T (Join j) r o h.0) (dead-now n T (Join j) o) h.1
 told_from n T (Death d ∷ es) p r o h =
     let s : Sound T = sound r in
-    let inside : d.0 < length T.dead = (let a : d.0 < T.places = h.0.is_place in let b : T.places ≤ 16 = s.few in let c : length T.dead ≡ 16 = s.cells in omega arith) in
+    let inside : d.0 < length T.dead = (let a : d.0 < T.places = h.0.0 in let b : T.places ≤ 16 = s.few in let c : length T.dead ≡ 16 = s.cells in omega arith) in
     told_from (suc n) (made n T (Death d)) es p (reached_now n T (Death d) r o h.0) (dead-now n T (Death d) o) h.1
-    ∙ told_death n T d p (death_number (suc n) p es) inside h.0.lives (d.0 == p.0) refl
+    ∙ told_death n T d p (death_number (suc n) p es) inside h.0.2 (d.0 == p.0) refl
 
 pub no_dead : (n p : ℕ) → slice_index_or {A = Option ℕ} (replicate n None) p None ≡ None
 no_dead zero p = refl

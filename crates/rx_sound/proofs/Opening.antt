@@ -7,13 +7,13 @@ use Rattle.std.proofs.lemmas.Bool.{eqb-true, eq-eqb, ne_eqb, true≢false, or_ri
 use Rattle.rx_base.specs.declared.ids.PlaceId.{PlaceId}
 use Rattle.rx_base.specs.declared.ids.TaskId.{TaskId}
 use Rattle.rx_base.specs.declared.ids.ScopeId.{ScopeId}
+use Rattle.rx_rules.proofs.Lookups.{number-of}
 use Rattle.rx_rules.specs.declared.tasks.Where.TheVariants.{At}
 use Rattle.rx_rules.specs.declared.tasks.Task.{Task}
 use Rattle.rx_rules.specs.declared.tasks.Scope.{Scope}
 use Rattle.rx_rules.specs.declared.tasks.Kind.{Kind}
 use Rattle.rx_rules.specs.Tree.{Tree, is_task, task_of, is_scope, wants, opened_by, own_scope, inner, is_finish, chain_in, governing_in, the_root}
-use Rattle.rx_rules.specs.Entries.{opened, home_for, place_number, IsLive}
-use Rattle.rx_rules.proofs.Lookups.{number-of}
+use Rattle.rx_rules.specs.Entries.{opened, home_for, place_number}
 use Rattle.rx_sound.specs.Chains.{meets, Falls, HasOpener, Opened}
 use Rattle.rx_sound.specs.Sound.{TaskFits, Sound}
 use Rattle.rx_sound.proofs.Changes.{each_more}
@@ -131,10 +131,10 @@ inner_fits T t x h e =
 
 -- Opening.
 
-pub sound_opened : (T : Tree) (t : TaskId) (x : Task) (p : PlaceId) (kind : Kind) (s : ScopeId) → Sound T → IsLive T t p x → s.0 ≡ T.next_scope → Sound (opened T t kind s (inner T x))
-sound_opened T t x p kind s h live e =
-    let f = fits_of T t x h live.acts.stands in
-    let c = inner_fits T t x h live.acts.stands in
+pub sound_opened : (T : Tree) (t : TaskId) (x : Task) (p : PlaceId) (kind : Kind) (s : ScopeId) → Sound T → task_of T t ≡ Some x → x.place ≡ At p → s.0 ≡ T.next_scope → Sound (opened T t kind s (inner T x))
+sound_opened T t x p kind s h stands at e =
+    let f = fits_of T t x h stands in
+    let c = inner_fits T t x h stands in
     let below : x.under.0 < T.next_scope = met_start the_root T.next_scope T.scopes x.under h.falls f.rooted in
     let g : Scope = record { number = s; kind = kind; opener = Some t; home = home_for T t; parent = Some (inner T x); body = []; ends = [] } in
     let new : s.0 == 0 ≡ false = ne_eqb s.0 0 (λ q. let one : 1 ≤ T.next_scope = h.numbered in absurd (omega arith)) in
@@ -143,8 +143,8 @@ sound_opened T t x p kind s h live e =
       opened = (
         record {
           task = x;
-          stands = live.acts.stands;
-          at_home = live.is_at ∙ ap At (let q : home_for T t ≡ place_number x.place = rw (live.acts.stands, home_for) in sym (q ∙ ap place_number live.is_at));
+          stands = stands;
+          at_home = at ∙ ap At (let q : home_for T t ≡ place_number x.place = rw (stands, home_for) in sym (q ∙ ap place_number at));
           older = omega arith;
           rooted = c.rooted;
           hangs = c.hangs;

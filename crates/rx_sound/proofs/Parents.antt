@@ -8,10 +8,10 @@ use Rattle.rx_base.specs.declared.ids.ScopeId.{ScopeId}
 use Rattle.rx_rules.specs.declared.tasks.Task.{Task}
 use Rattle.rx_rules.specs.declared.tasks.Scope.{Scope}
 use Rattle.rx_rules.specs.declared.entries.Act.{Act}
-use Rattle.rx_rules.specs.declared.entries.Act.TheVariants.{Open, At as Calls, Spawn, Arrive, Wait, Release, End, Print}
+use Rattle.rx_rules.specs.declared.entries.Act.TheVariants.{Open, At as Calls, Spawn, Arrive, Wait, Release, End, Print, Census}
 use Rattle.rx_rules.specs.Tree.{Tree, is_scope, the_root, task_of, on_chain}
 use Rattle.rx_rules.specs.Entries.{made_act, change_first}
-use Rattle.rx_rules.specs.Reached.{Reached, opens, acts, ends, dies}
+use Rattle.rx_rules.specs.Reached.{Reached, opens, acts, ends, dies, joins}
 use Rattle.rx_sound.specs.Chains.{meets, Falls, HasOpener, Opened}
 use Rattle.rx_sound.specs.Sound.{Each}
 use Rattle.rx_sound.proofs.Changes.{each_filter, each_change}
@@ -27,19 +27,21 @@ based_act T t (Calls s r callee from to path) h = ((λ e. cc), h)
 based_act T t (Spawn child s from to path) h = h
 based_act T t (Arrive p) h = h
 based_act T t (Wait s thrown) h = each_change (λ g. g.parent ≡ None → g.number.0 ≡ 0) (is_scope s) (λ g. record g { body = thrown }) T.scopes (λ x found v. v) h
-based_act T t (Release s lost thrown) h = each_filter (λ g. g.parent ≡ None → g.number.0 ≡ 0) (λ g. not (on_chain T s g.number)) T.scopes h
+based_act T t (Release s lost masked thrown) h = each_filter (λ g. g.parent ≡ None → g.number.0 ≡ 0) (λ g. not (on_chain T s g.number)) T.scopes h
 based_act T t (End thrown) h =
     elim (task_of T t) as (λ o. Based (elim o as (λ _. Tree) [ Some x ↦ record T { scopes = change_first (is_scope x.under) (λ g. record g { ends = g.ends ++ thrown }) T.scopes; tasks = filter (λ y. not (y.number.0 == t.0)) T.tasks } | None ↦ T ]).scopes) [
       | Some x ↦ each_change (λ g. g.parent ≡ None → g.number.0 ≡ 0) (is_scope x.under) (λ g. record g { ends = g.ends ++ thrown }) T.scopes (λ y found v. v) h
       | None ↦ h
     ]
 based_act T t (Print value path) h = h
+based_act T t (Census n path) h = h
 
 pub based : {T : Tree} → Reached T → Based T.scopes
 based (opens places lo hi) = ((λ e. refl), tt)
 based (acts {T = T} t act r a) = based_act T t act (based r)
-based (ends {T = T} r a) = each_filter (λ g. g.parent ≡ None → g.number.0 ≡ 0) (λ g. not (on_chain T the_root g.number)) T.scopes (based r)
+based (ends {T = T} lost masked thrown r a) = each_filter (λ g. g.parent ≡ None → g.number.0 ≡ 0) (λ g. not (on_chain T the_root g.number)) T.scopes (based r)
 based (dies b r a o) = based r
+based (joins p r a) = based r
 
 head_rooted : (ts : List Task) (g : Scope) (gs : List Scope) (o : Option TaskId) (u : ScopeId) → g.parent ≡ Some u → HasOpener ts g gs o → meets the_root gs (Some u) ≡ true
 head_rooted ts g gs None u e h = let k = h.1 in cc

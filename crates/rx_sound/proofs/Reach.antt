@@ -13,7 +13,9 @@ use Rattle.rx_rules.specs.declared.tasks.Blow.{Blow}
 use Rattle.rx_rules.specs.declared.tasks.Task.{Task}
 use Rattle.rx_rules.specs.declared.tasks.Scope.{Scope}
 use Rattle.rx_rules.specs.Tree.{Tree, is_task, task_of, is_scope, opened_by, own_scope, is_finish, the_root}
-use Rattle.rx_rules.specs.Entries.{change_first, change_task, change_scope, add_task, born, strike, hit, MayDie, MayArrive}
+use Rattle.rx_rules.specs.Entries.{change_first, change_task, change_scope, add_task, born, strike, hit, AllowedAct, Allowed}
+use Rattle.rx_rules.specs.declared.entries.Act.TheVariants.{Arrive}
+use Rattle.rx_rules.specs.declared.entries.Entry.TheVariants.{Death}
 use Rattle.rx_rules.specs.Fold.{opening}
 use Rattle.rx_rules.specs.Reached.{IsOlder}
 use Rattle.rx_rules.proofs.Lookups.{number-of}
@@ -133,15 +135,15 @@ sound_waits T t x b h e =
     let f = fits_of T t x h e in
     sound_task T t x (λ y. record y { waits = b }) h e (λ y. refl) refl (λ p k. k) (record { struck = f.struck; inside = f.inside; rooted = f.rooted })
 
-pub sound_arrive : (T : Tree) (t : TaskId) (p : PlaceId) → Sound T → MayArrive T t p → Sound (change_task (λ y. record y { place = At p }) t T)
+pub sound_arrive : (T : Tree) (t : TaskId) (p : PlaceId) → Sound T → AllowedAct T t (Arrive p) → Sound (change_task (λ y. record y { place = At p }) t T)
 sound_arrive T t p h may =
-    let f = fits_of T t may.task h may.acts.stands in
-    let free : earlier (death_blow T.dead may.from) (death_blow T.dead p) ≡ None = sym (ap (blow_at T.dead) may.travels) ∙ sym f.struck ∙ may.acts.unstruck in
-    sound_task T t may.task (λ y. record y { place = At p }) h may.acts.stands (λ y. refl) refl
-    (λ q k. let bad : Travel may.from p ≡ At q = sym may.travels ∙ k in cc)
+    let f = fits_of T t may.task h may.stands in
+    let free : earlier (death_blow T.dead may.asks.0) (death_blow T.dead p) ≡ None = sym (ap (blow_at T.dead) may.asks.1) ∙ sym f.struck ∙ may.unstruck in
+    sound_task T t may.task (λ y. record y { place = At p }) h may.stands (λ y. refl) refl
+    (λ q k. let bad : Travel may.asks.0 p ≡ At q = sym may.asks.1 ∙ k in cc)
     (record {
-      struck = may.acts.unstruck ∙ sym (none_second (death_blow T.dead may.from) (death_blow T.dead p) free);
-      inside = (subst (Inside T.places) may.travels f.inside).1;
+      struck = may.unstruck ∙ sym (none_second (death_blow T.dead may.asks.0) (death_blow T.dead p) free);
+      inside = (subst (Inside T.places) may.asks.1 f.inside).1;
       rooted = f.rooted;
     })
 
@@ -165,9 +167,9 @@ sound_faults T s b e h =
 
 -- Deaths.
 
-pub sound_dies : (T : Tree) (b : Blow) → Sound T → MayDie T b.place → All (IsOlder b.entry) T.dead → Sound (strike b T)
+pub sound_dies : (T : Tree) (b : Blow) → Sound T → Allowed T (Death b.place) → All (IsOlder b.entry) T.dead → Sound (strike b T)
 sound_dies T b h may old =
-    let inside : b.place.0 < length T.dead = (let p : b.place.0 < T.places = may.is_place in let q : T.places ≤ 16 = h.few in let r : length T.dead ≡ 16 = h.cells in omega arith) in
+    let inside : b.place.0 < length T.dead = (let p : b.place.0 < T.places = may.0 in let q : T.places ≤ 16 = h.few in let r : length T.dead ≡ 16 = h.cells in omega arith) in
     record {
       falls = h.falls;
       opened =
@@ -178,13 +180,13 @@ sound_dies T b h may old =
       tasks =
           each_map (TaskFits T.dead T.places T.scopes) (TaskFits (slice_set T.dead b.place.0 (Some b.entry)) T.places T.scopes) (hit b)
           (λ x f. record {
-            struck = struck_after T.dead b x inside may.lives old f.struck ∙ ap (blow_at (slice_set T.dead b.place.0 (Some b.entry))) (sym (hit_place b x));
+            struck = struck_after T.dead b x inside may.2 old f.struck ∙ ap (blow_at (slice_set T.dead b.place.0 (Some b.entry))) (sym (hit_place b x));
             inside = subst (Inside T.places) (sym (hit_place b x)) f.inside;
             rooted = subst (λ (v : ScopeId). meets the_root T.scopes (Some v) ≡ true) (sym (hit_under b x)) f.rooted;
           })
           T.tasks h.tasks;
-      gone = each_more (LeftFits T.dead) (LeftFits (slice_set T.dead b.place.0 (Some b.entry))) (λ x f. record { struck = still_struck T.dead b x inside may.lives old f.struck f.is_struck; is_struck = f.is_struck }) T.gone h.gone;
-      zero_lives = get_or-set_other T.dead b.place.0 0 (Some b.entry) None (λ e. may.not_zero (sym e)) ∙ h.zero_lives;
+      gone = each_more (LeftFits T.dead) (LeftFits (slice_set T.dead b.place.0 (Some b.entry))) (λ x f. record { struck = still_struck T.dead b x inside may.2 old f.struck f.is_struck; is_struck = f.is_struck }) T.gone h.gone;
+      zero_lives = get_or-set_other T.dead b.place.0 0 (Some b.entry) None (λ e. may.1 (sym e)) ∙ h.zero_lives;
       root_home = h.root_home;
       root_kind = h.root_kind;
       numbered = h.numbered;

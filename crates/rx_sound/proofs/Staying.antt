@@ -15,7 +15,7 @@ use Rattle.rx_rules.specs.declared.tasks.Scope.{Scope}
 use Rattle.rx_rules.specs.declared.tasks.Kind.{Kind}
 use Rattle.rx_rules.specs.declared.tasks.Kind.TheVariants.{Finish, Call}
 use Rattle.rx_rules.specs.declared.entries.Act.{Act}
-use Rattle.rx_rules.specs.declared.entries.Act.TheVariants.{Open, At as Calls, Spawn, Arrive, Wait, Release, End, Print}
+use Rattle.rx_rules.specs.declared.entries.Act.TheVariants.{Open, At as Calls, Spawn, Arrive, Wait, Release, End, Print, Census}
 use Rattle.rx_rules.specs.Tree.{Tree, is_task, task_of, is_scope, wants, opened_by, own_scope, on_chain, is_under, quiet, inner, is_finish, chain_in, governing_in, the_root}
 use Rattle.rx_rules.specs.Entries.{change_first, change_scope, waiting, resumed, without, born, opened, home_for, after_end, AllowedAct, made_act}
 use Rattle.rx_rules.specs.Picked.{is_enabled}
@@ -190,28 +190,28 @@ released T s r h still =
 
 quiet_stays : (T : Tree) (t n : TaskId) (act : Act) (y : Task) (g : Scope) → Sound T → AllowedAct T t act → task_of (made_act T t act) t ≡ Some y → own_scope T n ≡ Some g → n.0 ≢ t.0 → quiet (made_act T t act) g.number ≡ quiet T g.number
 quiet_stays T t n (Open s r path) y g h may stands own apart =
-    quiet_as T (opened T t Finish s r) g.number (newer T (record { number = s; kind = Finish; opener = Some t; home = home_for T t; parent = Some r; body = []; ends = [] }) g.number h may.next)
+    quiet_as T (opened T t Finish s r) g.number (newer T (record { number = s; kind = Finish; opener = Some t; home = home_for T t; parent = Some r; body = []; ends = [] }) g.number h may.asks.1)
 quiet_stays T t n (Calls s r callee from to path) y g h may stands own apart =
     let k : Scope = record { number = s; kind = Call; opener = Some t; home = home_for T t; parent = Some r; body = []; ends = [] } in
     let x : Task = born T callee s from to in
     let low : g.number.0 < T.next_scope = own_low T n g h own in
-    let next : s.0 ≡ T.next_scope = may.next in
+    let next : s.0 ≡ T.next_scope = may.asks.1 in
     let other : is_scope g.number k ≡ false = ne_eqb s.0 g.number.0 (λ e. absurd (omega (arith, e, low, next))) in
     let up : meets g.number (k ∷ T.scopes) (Some s) ≡ meets g.number T.scopes (Some r) = rw (eq-eqb s.0 s.0 refl, other) refl in
-    let old : busy (k ∷ T.scopes) T.tasks g.number ≡ busy T.scopes T.tasks g.number = newer T k g.number h may.next in
+    let old : busy (k ∷ T.scopes) T.tasks g.number ≡ busy T.scopes T.tasks g.number = newer T k g.number h may.asks.1 in
     quiet_as T (made_act T t (Calls s r callee from to path)) g.number
     (any_changed (λ z. meets g.number (k ∷ T.scopes) (Some z.under) && is_none z.struck) (is_task t) waiting (λ z. refl) (x ∷ T.tasks)
     ∙ (absorbed (meets g.number (k ∷ T.scopes) (Some s) && is_none x.struck) (busy (k ∷ T.scopes) T.tasks g.number)
-    (λ e. old ∙ works_below T t n may.task g h may.live.acts.stands may.live.acts.unstruck own apart (subst (λ (v : ScopeId). meets g.number T.scopes (Some v) ≡ true) may.parent (sym up ∙ (and_parts (meets g.number (k ∷ T.scopes) (Some s)) (is_none x.struck) e).0)))
+    (λ e. old ∙ works_below T t n may.task g h may.stands may.unstruck own apart (subst (λ (v : ScopeId). meets g.number T.scopes (Some v) ≡ true) may.asks.2 (sym up ∙ (and_parts (meets g.number (k ∷ T.scopes) (Some s)) (is_none x.struck) e).0)))
     ∙ old))
 quiet_stays T t n (Spawn child s from to path) y g h may stands own apart =
     let x : Task = born T child s from to in
-    let fits = inner_fits T t may.task h may.live.acts.stands in
+    let fits = inner_fits T t may.task h may.stands in
     quiet_as T (made_act T t (Spawn child s from to path)) g.number
     (absorbed (meets g.number T.scopes (Some s) && is_none x.struck) (busy T.scopes T.tasks g.number)
-    (λ e. works_below T t n may.task g h may.live.acts.stands may.live.acts.unstruck own apart
+    (λ e. works_below T t n may.task g h may.stands may.unstruck own apart
     (governs_meets g.number T.next_scope T.scopes (Some (inner T may.task)) h.falls h.root_kind fits.rooted
-    (subst (λ (v : ScopeId). meets g.number T.scopes (Some v) ≡ true) may.under (and_parts (meets g.number T.scopes (Some s)) (is_none x.struck) e).0))))
+    (subst (λ (v : ScopeId). meets g.number T.scopes (Some v) ≡ true) may.asks.2 (and_parts (meets g.number T.scopes (Some s)) (is_none x.struck) e).0))))
 quiet_stays T t n (Arrive p) y g h may stands own apart =
     quiet_as T (made_act T t (Arrive p)) g.number (any_changed (λ z. meets g.number T.scopes (Some z.under) && is_none z.struck) (is_task t) (λ z. record z { place = At p }) (λ z. refl) T.tasks)
 quiet_stays T t n (Wait s thrown) y g h may stands own apart =
@@ -221,12 +221,13 @@ quiet_stays T t n (Wait s thrown) y g h may stands own apart =
     ∙ any_same (λ z. meets g.number gs (Some z.under) && is_none z.struck) (λ z. meets g.number T.scopes (Some z.under) && is_none z.struck) T.tasks
     (each_all (λ z. (meets g.number gs (Some z.under) && is_none z.struck) ≡ (meets g.number T.scopes (Some z.under) && is_none z.struck))
     (λ (z : Task). ap (λ b. b && is_none z.struck) (meets_faulted (λ k. thrown) (λ k. k.ends) (is_scope s) g.number T.scopes (Some z.under))) T.tasks))
-quiet_stays T t n (Release s lost thrown) y g h may stands own apart =
-    quiet_as T (made_act T t (Release s lost thrown)) g.number
+quiet_stays T t n (Release s lost masked thrown) y g h may stands own apart =
+    quiet_as T (made_act T t (Release s lost masked thrown)) g.number
     (any_changed (λ z. meets g.number (without T s).scopes (Some z.under) && is_none z.struck) (is_task t) resumed (λ z. refl) (without T s).tasks
-    ∙ released T s g.number h may.0.is_quiet)
+    ∙ released T s g.number h may.asks.3.is_quiet)
 quiet_stays T t n (End thrown) y g h may stands own apart = absurd (left_off T t thrown y stands)
 quiet_stays T t n (Print value path) y g h may stands own apart = refl
+quiet_stays T t n (Census places path) y g h may stands own apart = refl
 
 -- Each act: the other task itself.
 
@@ -289,13 +290,13 @@ others_stay T t (Open s r path) y n reached may stands apart low =
     same_able T (made_act T t (Open s r path)) n reached refl (λ x g found free own.
     (inner_same T (made_act T t (Open s r path)) n x g found own (λ u. ap (number_at u) (not_mine T t n Finish s r apart)), quiet_stays T t n (Open s r path) y g (sound reached) may stands own apart))
 others_stay T t (Calls s r callee from to path) y n reached may stands apart low =
-    let next : callee.0 ≡ T.next_task = may.next_task in
+    let next : callee.0 ≡ T.next_task = may.asks.3 in
     let off : (callee.0 == n.0) ≡ false = ne_eqb callee.0 n.0 (λ e. absurd (omega (arith, e, low, next))) in
     let found : task_of (made_act T t (Calls s r callee from to path)) n ≡ task_of T n = find_unchanged t n waiting (λ z. refl) apart (born T callee s from to ∷ T.tasks) ∙ rw off refl in
     same_able T (made_act T t (Calls s r callee from to path)) n reached found (λ x g found free own.
     (inner_same T (made_act T t (Calls s r callee from to path)) n x g found own (λ u. ap (number_at u) (not_mine T t n Call s r apart)), quiet_stays T t n (Calls s r callee from to path) y g (sound reached) may stands own apart))
 others_stay T t (Spawn child s from to path) y n reached may stands apart low =
-    let next : child.0 ≡ T.next_task = may.next_task in
+    let next : child.0 ≡ T.next_task = may.asks.1 in
     let off : (child.0 == n.0) ≡ false = ne_eqb child.0 n.0 (λ e. absurd (omega (arith, e, low, next))) in
     let found : task_of (made_act T t (Spawn child s from to path)) n ≡ task_of T n = rw off refl in
     same_able T (made_act T t (Spawn child s from to path)) n reached found (λ x g found free own.
@@ -306,8 +307,8 @@ others_stay T t (Arrive p) y n reached may stands apart low =
 others_stay T t (Wait s thrown) y n reached may stands apart low =
     same_able T (made_act T t (Wait s thrown)) n reached (find_unchanged t n waiting (λ z. refl) apart T.tasks) (λ x g found free own.
     (inner_same T (made_act T t (Wait s thrown)) n x g found own (faulted_own (λ k. thrown) (λ k. k.ends) (is_scope s) (opened_by n) (λ k. refl) T.scopes), quiet_stays T t n (Wait s thrown) y g (sound reached) may stands own apart))
-others_stay T t (Release s lost thrown) y n reached may stands apart low =
-    let T' : Tree = made_act T t (Release s lost thrown) in
+others_stay T t (Release s lost masked thrown) y n reached may stands apart low =
+    let T' : Tree = made_act T t (Release s lost masked thrown) in
     let h : Sound T = sound reached in
     let found : task_of T' n ≡ task_of (without T s) n = find_unchanged t n resumed (λ z. refl) apart (without T s).tasks in
     (elim (task_of (without T s) n) as (λ o. task_of (without T s) n ≡ o → able T' n ≡ able T n) [
@@ -316,8 +317,9 @@ others_stay T t (Release s lost thrown) y n reached may stands apart low =
           let old : task_of T n ≡ Some z = find_unfiltered (λ x. not (leaves T s x)) n T.next_task T.tasks z h.tasks_fall e in
           same_able T T' n reached (found ∙ (e ∙ sym old)) (λ x g at free own.
           let same : x.number ≡ n = task-is x.number n (number-of T n x at) in
-          let spared = release_spares T t s lost thrown x reached may (subst (λ (v : TaskId). task_of T v ≡ Some x) (sym same) at) free (λ k. apart (sym (ap (λ (v : TaskId). v.0) same) ∙ k)) in
-          (inner_same T T' n x g at own (λ u. ap (number_at u) (subst (λ (v : TaskId). own_scope T' v ≡ own_scope T v) same spared)), quiet_stays T t n (Release s lost thrown) y g h may stands own apart))
+          let spared = release_spares T t s lost masked thrown x reached may (subst (λ (v : TaskId). task_of T v ≡ Some x) (sym same) at) free (λ k. apart (sym (ap (λ (v : TaskId). v.0) same) ∙ k)) in
+          (inner_same T T' n x g at own (λ u. ap (number_at u) (subst (λ (v : TaskId). own_scope T' v ≡ own_scope T v) same spared)), quiet_stays T t n (Release s lost masked thrown) y g h may stands own apart))
     ]) refl
 others_stay T t (End thrown) y n reached may stands apart low = absurd (left_off T t thrown y stands)
 others_stay T t (Print value path) y n reached may stands apart low = refl
+others_stay T t (Census places path) y n reached may stands apart low = refl

@@ -8,6 +8,7 @@ use Rattle.rx_base.specs.declared.ids.TaskId.{TaskId}
 use Rattle.rx_base.specs.declared.ids.ScopeId.{ScopeId}
 use Rattle.rx_base.specs.declared.values.Fault.{Fault}
 use Rattle.rx_base.proofs.Elements.{find-passes}
+use Rattle.rx_rules.proofs.Lookups.{number-of}
 use Rattle.rx_rules.specs.declared.tasks.Where.TheVariants.{At}
 use Rattle.rx_rules.specs.declared.tasks.Blow.{Blow}
 use Rattle.rx_rules.specs.declared.tasks.Task.{Task}
@@ -15,11 +16,10 @@ use Rattle.rx_rules.specs.declared.tasks.Scope.{Scope}
 use Rattle.rx_rules.specs.declared.tasks.Kind.{Kind}
 use Rattle.rx_rules.specs.declared.tasks.Kind.TheVariants.{Finish, Call}
 use Rattle.rx_rules.specs.declared.entries.Act.{Act}
-use Rattle.rx_rules.specs.declared.entries.Act.TheVariants.{Open, At as Calls, Spawn, Arrive, Wait, Release, End, Print}
+use Rattle.rx_rules.specs.declared.entries.Act.TheVariants.{Open, At as Calls, Spawn, Arrive, Wait, Release, End, Print, Census}
 use Rattle.rx_rules.specs.Tree.{Tree, is_task, task_of, is_scope, opened_by, own_scope, on_chain, is_under, quiet, the_root}
-use Rattle.rx_rules.specs.Entries.{change_first, waiting, resumed, hit, is_hit, strike, without, born, opened, home_for, after_end, AllowedAct, made_act, MayRelease, MayReleaseRoot}
-use Rattle.rx_rules.specs.Reached.{Reached, opens, acts, ends, dies}
-use Rattle.rx_rules.proofs.Lookups.{number-of}
+use Rattle.rx_rules.specs.Entries.{change_first, waiting, resumed, hit, is_hit, strike, without, born, opened, home_for, after_end, AllowedAct, made_act}
+use Rattle.rx_rules.specs.Reached.{Reached, opens, acts, ends, dies, joins}
 use Rattle.rx_sound.specs.Chains.{meets, HasOpener, Opened, Falls}
 use Rattle.rx_sound.specs.Sound.{Each, TasksFall, TaskFits, Sound}
 use Rattle.rx_sound.specs.Owning.{WaiterOwns, OpenersOlder}
@@ -183,20 +183,20 @@ young : (n : ℕ) (gs : List Scope) (T : Tree) (c : TaskId) (under : ScopeId) (f
 young n gs T c under from to b e = λ s o m a. (let low : o.0 < n = below_any n gs s o b a in omega arith)
 
 apt_acts : (T : Tree) (t : TaskId) (act : Act) → Sound T → AllowedAct T t act → Apt T → Apt (made_act T t act)
-apt_acts T t (Open s r path) h may a = apt_opened T t Finish s r h may.next a
+apt_acts T t (Open s r path) h may a = apt_opened T t Finish s r h may.asks.1 a
 apt_acts T t (Calls s r callee from to path) h may a =
     let g : Scope = record { number = s; kind = Call; opener = Some t; home = home_for T t; parent = Some r; body = []; ends = [] } in
-    let o : Apt (opened T t Call s r) = apt_opened T t Call s r h may.next a in
-    let low : t.0 < T.next_task = task_below T.next_task T.tasks t may.task h.tasks_fall may.live.acts.stands in
+    let o : Apt (opened T t Call s r) = apt_opened T t Call s r h may.asks.1 a in
+    let low : t.0 < T.next_task = task_below T.next_task T.tasks t may.task h.tasks_fall may.stands in
     let below : OpenersBelow T.next_task (g ∷ T.scopes) = ((λ v mine. let same : t.0 ≡ v.0 = eqb-true t.0 v.0 mine in omega arith), openers_below T.next_task T.tasks T.scopes h.tasks_fall h.opened) in
     let x : Task = born T callee s from to in
     record {
-      younger = each_change (Younger (g ∷ T.scopes)) (is_task t) waiting (x ∷ T.tasks) (λ y k old. old) (young T.next_task (g ∷ T.scopes) T callee s from to below may.next_task, o.younger);
+      younger = each_change (Younger (g ∷ T.scopes)) (is_task t) waiting (x ∷ T.tasks) (λ y k old. old) (young T.next_task (g ∷ T.scopes) T callee s from to below may.asks.3, o.younger);
       owns = own_waiting t (g ∷ T.scopes) (x ∷ T.tasks) (ap (λ b. b || list_any (opened_by t) T.scopes) (eq-eqb t.0 t.0 refl)) ((λ u v. absurd (true≢false (sym v))), o.owns);
     }
 apt_acts T t (Spawn child s from to path) h may a =
     record {
-      younger = (young T.next_task T.scopes T child s from to (openers_below T.next_task T.tasks T.scopes h.tasks_fall h.opened) may.next_task, a.younger);
+      younger = (young T.next_task T.scopes T child s from to (openers_below T.next_task T.tasks T.scopes h.tasks_fall h.opened) may.asks.1, a.younger);
       owns = ((λ u v. absurd (true≢false (sym v))), a.owns);
     }
 apt_acts T t (Arrive p) h may a =
@@ -208,27 +208,29 @@ apt_acts T t (Wait s thrown) h may a =
     let gs : List Scope = change_first (is_scope s) (faulted (λ g. thrown) (λ g. g.ends)) T.scopes in
     record {
       younger = each_change (Younger gs) (is_task t) waiting T.tasks (λ y k old. old) (younger_faulted (λ g. thrown) (λ g. g.ends) (is_scope s) T.scopes T.tasks a.younger);
-      owns = own_waiting t gs T.tasks (any_faulted (λ g. thrown) (λ g. g.ends) (is_scope s) (opened_by t) (λ g. refl) T.scopes ∙ any_found (opened_by t) T.scopes may.scope may.own) (own_faulted (λ g. thrown) (λ g. g.ends) (is_scope s) T.scopes T.tasks a.owns);
+      owns = own_waiting t gs T.tasks (any_faulted (λ g. thrown) (λ g. g.ends) (is_scope s) (opened_by t) (λ g. refl) T.scopes ∙ any_found (opened_by t) T.scopes may.asks.1 may.asks.2.0) (own_faulted (λ g. thrown) (λ g. g.ends) (is_scope s) T.scopes T.tasks a.owns);
     }
-apt_acts T t (Release s lost thrown) h may a =
-    let m : MayRelease T t s = may.0 in
-    let still : quiet T m.scope.number ≡ true = subst (λ (v : ScopeId). quiet T v ≡ true) (sym m.is_it) m.is_quiet in
+apt_acts T t (Release s lost masked thrown) h may a =
+    let g : Scope = may.asks.1 in
+    let is_it : g.number ≡ s = may.asks.2.1 in
+    let still : quiet T g.number ≡ true = subst (λ (v : ScopeId). quiet T v ≡ true) (sym is_it) may.asks.3.is_quiet in
     record {
-      younger = each_change (Younger (without T s).scopes) (is_task t) resumed (without T s).tasks (λ y k old. old) (younger_stays T s h m.is_quiet a.younger);
-      owns = subst (λ (v : ScopeId). Each (Owns (without T v).scopes) (change_first (is_task t) resumed (without T v).tasks)) m.is_it (own_stays_on T t m.scope h m.own still a.owns);
+      younger = each_change (Younger (without T s).scopes) (is_task t) resumed (without T s).tasks (λ y k old. old) (younger_stays T s h may.asks.3.is_quiet a.younger);
+      owns = subst (λ (v : ScopeId). Each (Owns (without T v).scopes) (change_first (is_task t) resumed (without T v).tasks)) is_it (own_stays_on T t g h may.asks.2.0 still a.owns);
     }
 apt_acts T t (End thrown) h may a = apt_ended T t thrown a (task_of T t) refl
 apt_acts T t (Print value path) h may a = a
+apt_acts T t (Census places path) h may a = a
 
 -- at the root's release no unstruck task is left
-apt_ends : (T : Tree) → Sound T → MayReleaseRoot T → Apt T → Apt (without T the_root)
-apt_ends T h may a =
+apt_ends : (T : Tree) → Sound T → quiet T the_root ≡ true → Apt T → Apt (without T the_root)
+apt_ends T h still a =
     record {
-      younger = younger_stays T the_root h may.is_quiet a.younger;
+      younger = younger_stays T the_root h still a.younger;
       owns =
           each_filter (Owns (without T the_root).scopes) (λ x. not (leaves T the_root x)) T.tasks
           (each_more (λ x. (find (is_task x.number) T.tasks ≡ Some x) × TaskFits T.dead T.places T.scopes x) (Owns (without T the_root).scopes)
-          (λ x b u v. absurd (true≢false (sym b.1.rooted ∙ free_of T the_root x.number x may.is_quiet b.0 u)))
+          (λ x b u v. absurd (true≢false (sym b.1.rooted ∙ free_of T the_root x.number x still b.0 u)))
           T.tasks (each_both (λ x. find (is_task x.number) T.tasks ≡ Some x) (TaskFits T.dead T.places T.scopes) T.tasks (each_stands T.next_task T.tasks h.tasks_fall) h.tasks));
     }
 
@@ -255,8 +257,9 @@ apt (opens places low high) = record { younger = ((λ s o m a. absurd (true≢fa
   at_root : (s : ScopeId) (o : TaskId) → (0 == s.0 && false || false) ≡ false
   at_root s o = elim (0 == s.0) as (λ b. (b && false || false) ≡ false) [ true ↦ refl | false ↦ refl ]
 apt (acts {T = T} t act r may) = apt_acts T t act (sound r) may (apt r)
-apt (ends {T = T} r may) = apt_ends T (sound r) may (apt r)
+apt (ends {T = T} lost masked thrown r may) = apt_ends T (sound r) may.2.is_quiet (apt r)
 apt (dies {T = T} b r may old) = apt_dies T b (apt r)
+apt (joins {T = T} p r may) = let a : Apt T = apt r in record { younger = a.younger; owns = a.owns }
 
 pub waiter_owns : WaiterOwns
 waiter_owns T t x r found free waits =

@@ -1,5 +1,5 @@
 -- A task's own scopes: where they stand, and what a release takes of them.
-use Rattle.std.specs.Prelude.{◌≡◌, ◌≢◌, ◌<◌, true, List, ◌∷◌, filter, Some, None}
+use Rattle.std.specs.Prelude.{◌≡◌, ◌≢◌, ℕ, ◌<◌, true, List, ◌∷◌, filter, Some, None}
 use Rattle.rx_base.specs.declared.values.Fault.{Fault}
 use Rattle.rx_base.specs.declared.place_set.PlaceSet.{PlaceSet}
 use Rattle.rx_base.specs.declared.ids.TaskId.{TaskId}
@@ -19,21 +19,22 @@ OwnBelow = (T : Tree) (x : Task) (g : Scope) → Reached T → task_of T x.numbe
 
 -- a release takes no own scope of another unstruck task
 abbrev pub ReleaseSpares : Type 0
-ReleaseSpares = (T : Tree) (t : TaskId) (s : ScopeId) (lost : PlaceSet) (thrown : List Fault) (x : Task) → Reached T
-    → AllowedAct T t (Release s lost thrown) → task_of T x.number ≡ Some x → x.struck ≡ None → x.number.0 ≢ t.0
-    → own_scope (made_act T t (Release s lost thrown)) x.number ≡ own_scope T x.number
+ReleaseSpares = (T : Tree) (t : TaskId) (s : ScopeId) (lost : PlaceSet) (masked : ℕ) (thrown : List Fault) (x : Task)
+    → Reached T → AllowedAct T t (Release s lost masked thrown) → task_of T x.number ≡ Some x → x.struck ≡ None → x.number.0 ≢ t.0
+    → own_scope (made_act T t (Release s lost masked thrown)) x.number ≡ own_scope T x.number
 
 -- so all its own scopes stay, in order
 abbrev pub ReleaseKeeps : Type 0
-ReleaseKeeps = (T : Tree) (t : TaskId) (s : ScopeId) (lost : PlaceSet) (thrown : List Fault) (x : Task) → Reached T
-    → AllowedAct T t (Release s lost thrown) → task_of T x.number ≡ Some x → x.struck ≡ None → x.number.0 ≢ t.0
-    → filter (opened_by x.number) (made_act T t (Release s lost thrown)).scopes ≡ filter (opened_by x.number) T.scopes
+ReleaseKeeps = (T : Tree) (t : TaskId) (s : ScopeId) (lost : PlaceSet) (masked : ℕ) (thrown : List Fault) (x : Task)
+    → Reached T → AllowedAct T t (Release s lost masked thrown) → task_of T x.number ≡ Some x → x.struck ≡ None → x.number.0 ≢ t.0
+    → filter (opened_by x.number) (made_act T t (Release s lost masked thrown)).scopes ≡ filter (opened_by x.number) T.scopes
 
 -- of the own scopes of the task that releases, newest first, it takes the first
 abbrev pub ReleasePops : Type 0
-ReleasePops = (T : Tree) (t : TaskId) (s : ScopeId) (lost : PlaceSet) (thrown : List Fault) → Reached T
-    → AllowedAct T t (Release s lost thrown) → (g : Scope) × (g.number ≡ s)
-    × (filter (opened_by t) T.scopes ≡ g ∷ filter (opened_by t) (made_act T t (Release s lost thrown)).scopes)
+ReleasePops = (T : Tree) (t : TaskId) (s : ScopeId) (lost : PlaceSet) (masked : ℕ) (thrown : List Fault)
+    → Reached T → AllowedAct T t (Release s lost masked thrown)
+    → (g : Scope) × (g.number ≡ s)
+    × (filter (opened_by t) T.scopes ≡ g ∷ filter (opened_by t) (made_act T t (Release s lost masked thrown)).scopes)
 
 -- an unstruck task that waits has a scope of its own
 abbrev pub WaiterOwns : Type 0

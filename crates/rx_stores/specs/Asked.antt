@@ -5,7 +5,8 @@ use Rattle.rx_base.specs.declared.values.Value.{Value}
 use Rattle.rx_base.specs.declared.values.Fault.{Fault}
 use Rattle.rx_rules.specs.declared.events.Cell.{Cell}
 use Rattle.rx_rules.specs.Store.{MayCell}
-use Rattle.rx_rules.specs.Terms.{Does, Local, Makes, Gets, Puts, Forgets, Opens, Calls, Spawns, Waits, Releases, Prints, Done, answer_of}
+use Rattle.rx_rules.specs.Terms.{Does, Local, Makes, Gets, Puts, Forgets, Opens, Calls, Spawns, Waits, Releases, Prints, Counts, Done}
+use Rattle.rx_rules.specs.Terms.{answer_of}
 use Rattle.rx_rules.specs.Plays.{Tells}
 use Rattle.rx_store.specs.Kept.{Kept, state_of}
 use Rattle.rx_store.specs.Answers.{event_told}
@@ -35,6 +36,7 @@ Receives (Spawns place) o = Unit {0}
 Receives (Waits faults) o = Unit {0}
 Receives Releases o = Unit {0}
 Receives (Prints value) o = Unit {0}
+Receives (Counts name) o = Unit {0}
 Receives (Done faults) o = Unit {0}
 
 -- a task that makes the call is told what the event tells

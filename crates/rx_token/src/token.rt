@@ -10,7 +10,7 @@ pub enum Op {
     Equal,
 }
 
-/// A word that names no variable. `census` is one already, though no statement begins with it.
+/// A word that names no variable.
 #[derive(Clone, Copy, Debug, PartialEq, Eq)]
 pub enum Keyword {
     Set,

@@ -1,5 +1,5 @@
--- The parts of a line that are there only where their list is not empty.
-use Rattle.std.specs.Prelude.{ℕ, List, [], ◌∷◌, ◌++◌, codes}
+-- The parts of a line that are there only where their list is not empty, or their number not 0.
+use Rattle.std.specs.Prelude.{ℕ, ◌==◌, List, [], ◌∷◌, ◌++◌, codes, if◌then◌else◌}
 use Rattle.std.specs.List.{flat_map}
 use Rattle.rx_base.specs.declared.place_set.PlaceSet.{PlaceSet}
 use Rattle.rx_base.specs.declared.values.Fault.{Fault}
@@ -19,9 +19,13 @@ lost_part lost = part_text (codes " lost") natural_field (members lost)
 abbrev pub thrown_part : List Fault → List ℕ
 thrown_part thrown = part_text (codes " thrown") fault_field thrown
 
--- what a release names: the places that lost tasks, and then the faults
-abbrev pub release_parts : PlaceSet → List Fault → List ℕ
-release_parts lost thrown = lost_part lost ++ thrown_part thrown
+-- how many faults are masked, where it is not 0
+unfoldable pub masked_part : ℕ → List ℕ
+masked_part masked = if masked == 0 then [] else codes " masked" ++ natural_field masked
+
+-- what a release names: the places that lost tasks, how many faults are masked, and then the faults
+abbrev pub release_parts : PlaceSet → ℕ → List Fault → List ℕ
+release_parts lost masked thrown = lost_part lost ++ masked_part masked ++ thrown_part thrown
 
 -- the paths of a batch in their order
 abbrev pub batch_part : List (List ℕ) → List ℕ

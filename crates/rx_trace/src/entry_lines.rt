@@ -4,8 +4,8 @@ ghost use Rattle.rx_trace.specs.EntryLines.{scope_in, way, act_word, act_fields,
 ghost use Rattle.rx_trace.specs.Fields.{scope_field, path_field, task_field};
 
 use crate::fields::{
-    put_line_number, put_number_field, put_path_field, put_place_field, put_scope_field,
-    put_task_field, put_text,
+    put_line_number, put_natural_field, put_number_field, put_path_field, put_place_field,
+    put_scope_field, put_task_field, put_text,
 };
 use crate::parts::{put_batch, put_release_parts, put_thrown};
 use crate::{Act, Entry, History};
@@ -42,12 +42,20 @@ fn put_entry_text(out: &mut Vec<u8>, entry: &Entry) -> Result<(), NoMemory>
             put_act_fields(out, act)?;
             put_batch(out, batch)
         }
-        Entry::Root { lost, thrown } => {
+        Entry::Root {
+            lost,
+            masked,
+            thrown,
+        } => {
             put_text(out, b" release host s0")?;
-            put_release_parts(out, *lost, thrown)
+            put_release_parts(out, *lost, *masked, thrown)
         }
         Entry::Death { place } => {
             put_text(out, b" death")?;
+            put_place_field(out, *place)
+        }
+        Entry::Join { place } => {
+            put_text(out, b" join")?;
             put_place_field(out, *place)
         }
     }
@@ -66,6 +74,7 @@ fn word_of(act: &Act) -> &'static [u8]
         Act::Release { .. } => b" release",
         Act::End { .. } => b" end",
         Act::Print { .. } => b" print",
+        Act::Census { .. } => b" census",
     }
 }
 
@@ -113,14 +122,19 @@ fn put_act_fields(out: &mut Vec<u8>, act: &Act) -> Result<(), NoMemory>
         Act::Release {
             scope,
             lost,
+            masked,
             thrown,
         } => {
             put_scope_field(out, *scope)?;
-            put_release_parts(out, *lost, thrown)
+            put_release_parts(out, *lost, *masked, thrown)
         }
         Act::End { thrown } => put_thrown(out, thrown),
         Act::Print { value, path } => {
             put_number_field(out, *value)?;
+            put_path_field(out, path)
+        }
+        Act::Census { places, path } => {
+            put_natural_field(out, u32::from(*places))?;
             put_path_field(out, path)
         }
     }

@@ -12,6 +12,7 @@ mod tests;
 mod text;
 
 pub use rx_history::{
-    Act, Ask, Cell, Entry, History, Journal, Journals, KillList, PlaceEvent, Setup, kills_ascend,
+    Act, Ask, Cell, Entry, History, JoinList, Journal, Journals, KillList, PlaceEvent, Setup,
+    joins_never_fall, kills_ascend,
 };
 pub use text::write_trace;

@@ -1,23 +1,27 @@
-// The parts of a line that are there only where their list is not empty.
+// The parts of a line that are there only where their list is not empty, or their number not 0.
 ghost use Rattle.std.specs.Prelude.{◌≡◌, ◌<◌, [], ◌∷◌, ◌++◌, filter, OnOk};
 ghost use Rattle.std.specs.List.{flat_map};
 ghost use Rattle.rx_base.specs.Sets.{has_bit, members};
 ghost use Rattle.rx_trace.specs.Fields.{natural_field, path_field, fault_field};
-ghost use Rattle.rx_trace.specs.Parts.{lost_part, thrown_part, release_parts, batch_part};
+ghost use Rattle.rx_trace.specs.Parts.{lost_part, masked_part, thrown_part, release_parts, batch_part};
 
-use crate::fields::{put_fault_field, put_path_field, put_place_field, put_text};
+use crate::fields::{
+    put_fault_field, put_natural_field, put_path_field, put_place_field, put_text,
+};
 use rx_base::{Batch, Faults, NoMemory, PlaceId, PlaceSet};
 
-// What a release names: the places that lost tasks, and then the faults.
+// What a release names: the places that lost tasks, how many faults are masked, and then the faults.
 #[tactic(auto, using(std::proofs::Common::append_assoc))]
 pub(crate) fn put_release_parts(
     out: &mut Vec<u8>,
     lost: PlaceSet,
+    masked: u32,
     thrown: &Faults,
 ) -> Result<(), NoMemory>
-    ensures { OnOk result (out.new.items ≡ out.old.items ++ release_parts lost thrown.now) }
+    ensures { OnOk result (out.new.items ≡ out.old.items ++ release_parts lost masked thrown.now) }
 {
     put_lost(out, lost)?;
+    put_masked(out, masked)?;
     put_thrown(out, thrown)
 }
 
@@ -31,6 +35,18 @@ fn put_lost(out: &mut Vec<u8>, lost: PlaceSet) -> Result<(), NoMemory>
     }
     put_text(out, b" lost")?;
     put_places(out, lost)
+}
+
+// How many faults are masked.
+#[tactic(auto, using(std::proofs::Common::append_assoc), unfolding(crate::specs::Parts::masked_part))]
+fn put_masked(out: &mut Vec<u8>, masked: u32) -> Result<(), NoMemory>
+    ensures { OnOk result (out.new.items ≡ out.old.items ++ masked_part masked) }
+{
+    if masked == 0 {
+        return Ok(());
+    }
+    put_text(out, b" masked")?;
+    put_natural_field(out, masked)
 }
 
 // The places of a set, in ascending order.

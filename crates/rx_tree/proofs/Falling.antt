@@ -204,10 +204,10 @@ scopes_fall_in n [] falls = λ i j d lt within. absurd (omega arith)
 scopes_fall_in n (g ∷ gs) falls = falls_more (λ g. g.number.0) g gs (scopes_fall_in g.number.0 gs falls.1) (λ k d within. scopes_low g.number.0 gs k d falls.1 within)
 
 -- the tree that is kept, where it is one of those for which the ledger stands
-pub kept_sound : (K : Tree) (M : Tree → Type 0) → ReachedSound → (T : Tree) × ((K ≡ T) × Reached T) × M T → Sound K
-kept_sound K M law w = law K (subst Reached (sym w.1.0) w.1.1)
+pub kept_sound : (K : Tree) (M : Tree → Type 0) → ReachedSound → (room : ℕ) × (T : Tree) × ((K ≡ T) × Reached T) × M T → Sound K
+kept_sound K M law w = law K (subst Reached (sym w.2.0) w.2.1)
 
-pub in_order : (K : Tree) (M : Tree → Type 0) → ReachedSound → (T : Tree) × ((K ≡ T) × Reached T) × M T → RowsInOrder K
+pub in_order : (K : Tree) (M : Tree → Type 0) → ReachedSound → (room : ℕ) × (T : Tree) × ((K ≡ T) × Reached T) × M T → RowsInOrder K
 in_order K M law w =
     let sound : Sound K = kept_sound K M law w in
     record {

@@ -1,5 +1,5 @@
 -- What a release leaves.
-use Rattle.std.specs.Prelude.{◌≡◌, ℕ, ◌<◌, Bool, true, false, not, ◌&&◌, ◌==◌, List, [], ◌∷◌, ◌++◌, filter, Some, None, is_some, option_map, Result, Ok, Err, OnOk, slice_index_or, slice_set, refl}
+use Rattle.std.specs.Prelude.{◌≡◌, ℕ, ◌<◌, min, Bool, true, false, not, ◌&&◌, ◌==◌, List, [], ◌∷◌, ◌++◌, filter, length, sum_by, Some, None, is_some, option_map, Result, Ok, Err, OnOk, slice_index_or, slice_set, refl}
 use Rattle.std.specs.List.{find, list_any}
 use Rattle.std.proofs.Common.{ap, ◌∙◌, lit<}
 use Rattle.std.proofs.lemmas.Bool.{eq-eqb}
@@ -11,8 +11,8 @@ use Rattle.rx_base.specs.declared.values.Fault.{Fault}
 use Rattle.rx_base.specs.Sets.{all_places, members, has_bit}
 use Rattle.rx_rules.specs.declared.tasks.Task.{Task}
 use Rattle.rx_rules.specs.declared.tasks.Scope.{Scope}
-use Rattle.rx_rules.specs.Tree.{Tree, is_scope, is_under, on_chain, chain_in}
-use Rattle.rx_rules.specs.Entries.{Names, without, thrown_of, was_lost_at, change_first}
+use Rattle.rx_rules.specs.Tree.{Tree, is_scope, is_under, on_chain, chain_in, quiet}
+use Rattle.rx_rules.specs.Entries.{MayFree, without, thrown_of, was_lost_at, change_first}
 use Rattle.rx_tree.specs.Inside.Positions.{IsFirst}
 use Rattle.rx_tree.specs.Inside.Removal.{holds_scope}
 use Rattle.rx_tree.proofs.Firsts.{at_first}
@@ -61,11 +61,13 @@ any_agree : {X : Type 0} (p q : X → Bool) → ((x : X) → p x ≡ q x) → (x
 any_agree p q h [] = refl
 any_agree p q h (x ∷ xs) = rw (h x, any_agree p q h xs)
 
--- what a release names, where the scopes under it were gathered
-pub names : (T : Tree) (s : ScopeId) (inside : List ScopeId) (lost : PlaceSet) (thrown : List Fault) → ((r : ScopeId) → holds_scope inside r ≡ list_any (is_scope s) (chain_in T.scopes (Some r))) → members lost ≡ filter (λ p. list_any (λ x. holds_scope inside x.under && was_lost_at p x) T.tasks) all_places → thrown ≡ thrown_of T s → Names T s lost thrown
-names T s inside lost thrown h l t =
+-- what a release names and counts, where the scopes under it were gathered
+pub names : (T : Tree) (s : ScopeId) (inside : List ScopeId) (lost : PlaceSet) (masked : ℕ) (thrown : List Fault) → ((r : ScopeId) → holds_scope inside r ≡ list_any (is_scope s) (chain_in T.scopes (Some r))) → quiet T s ≡ true → members lost ≡ filter (λ p. list_any (λ x. holds_scope inside x.under && was_lost_at p x) T.tasks) all_places → masked ≡ min 4294967295 (sum_by (λ g. length (g.body ++ g.ends)) (filter (λ g. holds_scope inside g.number && not (is_scope s g)) T.scopes)) → thrown ≡ thrown_of T s → MayFree T s lost masked thrown
+names T s inside lost masked thrown h q l m t =
     record {
+      is_quiet = q;
       places = l ∙ filter_agree (λ p. list_any (λ x. holds_scope inside x.under && was_lost_at p x) T.tasks) (λ p. list_any (λ x. is_under T s x && was_lost_at p x) T.tasks) (λ p. any_agree (λ x. holds_scope inside x.under && was_lost_at p x) (λ x. is_under T s x && was_lost_at p x) (λ x. ap (λ b. b && was_lost_at p x) (h x.under)) T.tasks) all_places;
+      count = m ∙ ap (λ (gs : List Scope). min 4294967295 (sum_by (λ g. length (g.body ++ g.ends)) gs)) (filter_agree (λ g. holds_scope inside g.number && not (is_scope s g)) (λ g. on_chain T s g.number && not (is_scope s g)) (λ g. ap (λ b. b && not (is_scope s g)) (h g.number)) T.scopes);
       faults = t;
     }
 

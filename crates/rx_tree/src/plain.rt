@@ -1,5 +1,5 @@
 // The plain ledger.
-ghost use Rattle.std.specs.Prelude.{◌≡◌, ◌≤◌, ◌&&◌, is_none, find, option_map, IfOk};
+ghost use Rattle.std.specs.Prelude.{◌≡◌, ◌≤◌, ◌&&◌, ℕ, is_none, find, option_map, IfOk};
 ghost use Rattle.rx_rules.specs.Tree.{Tree, is_under, quiet};
 ghost use Rattle.rx_rules.specs.Entries.{thrown_of};
 ghost use Rattle.rx_rules.specs.Fold.{opening};
@@ -14,14 +14,16 @@ use crate::changes::{
     remove_task, set_waits, strike_all,
 };
 use crate::lookups::{death_at, find_gone, find_governing, find_task, reaches, scope_row};
-use crate::removal::{keep_gone, lost_places, remove_lost, remove_scopes, scopes_under};
+use crate::removal::{
+    keep_gone, lost_places, masked_faults, remove_lost, remove_scopes, scopes_under,
+};
 use rx_base::{Faults, NoMemory, PlaceId, ScopeId, TaskId};
 use rx_finish::{Born, Caller, FinishLedger, LedgerFault, Outcome, landing_of, place_of, travel};
 use rx_rules::{Blow, Kind, Scope, Task, Where};
 use std::alloc::Global;
 
 /// The plain ledger: it keeps the tree itself, the newest rows first, in which it searches by number. It stands for the tree
-/// that it keeps.
+/// that it keeps, and takes no memory for a place, so that it has room for any number of places.
 #[derive(Drop)]
 pub struct TreeLedger {
     alloc: Global,
@@ -38,7 +40,7 @@ impl TreeLedger {
     /// Opens a ledger of 1 to 16 places. It stands for the tree before the first entry: task 0 at place 0 under the root.
     pub fn open(alloc: Global, places: u8) -> Result<TreeLedger, NoMemory>
         requires { (1 ≤ places) × (places ≤ 16) }
-        ensures { IfOk result (λ l. ⟦<TreeLedger as FinishLedger>⟧.stands l (opening places)) }
+        ensures { IfOk result (λ l. (room : ℕ) → ⟦<TreeLedger as FinishLedger>⟧.stands l room (opening places)) }
     {
         let mut tasks = Vec::new(alloc);
         let mut scopes = Vec::new(alloc);
@@ -130,13 +132,18 @@ impl TreeLedger {
             Err(_) => return Err(LedgerFault::NoMemory),
         };
         let lost = lost_places(&self.tasks, &inside);
+        let masked = masked_faults(&self.scopes, &inside, s);
         match keep_gone(&self.tasks, &inside, &mut self.gone) {
             Ok(_) => {}
             Err(_) => return Err(LedgerFault::NoMemory),
         }
         remove_lost(&mut self.tasks, &inside);
         remove_scopes(&mut self.scopes, &inside);
-        Ok(Outcome { lost, thrown })
+        Ok(Outcome {
+            lost,
+            masked,
+            thrown,
+        })
     }
 
     /// The death that struck the task, if one did.
@@ -155,7 +162,7 @@ impl TreeLedger {
 }
 
 impl FinishLedger for TreeLedger {
-    ghost stands = { λ l T. (kept l ≡ T) × Reached T };
+    ghost stands = { λ l room T. (kept l ≡ T) × Reached T };
 
     fn open_finish(&mut self, who: Caller) -> Result<ScopeId, LedgerFault> {
         rx_sound::reached_is_sound();
@@ -287,6 +294,14 @@ impl FinishLedger for TreeLedger {
         }
     }
 
+    fn census(&self, who: Caller) -> Result<u8, LedgerFault> {
+        rx_sound::reached_is_sound();
+        match self.blow(who.task) {
+            Some(blow) => Err(lost_by(blow)),
+            None => Ok(self.places),
+        }
+    }
+
     fn release_root(&mut self) -> Result<Outcome, LedgerFault> {
         rx_sound::reached_is_sound();
         self.leave(ScopeId(0))
@@ -301,5 +316,9 @@ impl FinishLedger for TreeLedger {
         let blow = Blow { place, entry: at };
         strike_all(&mut self.tasks, blow);
         self.dead[place.0 as usize] = Some(at);
+    }
+
+    fn join(&mut self, place: PlaceId) {
+        self.places = place.0 + 1;
     }
 }

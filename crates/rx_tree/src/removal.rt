@@ -1,5 +1,5 @@
 // What a release takes out of the rows of a tree.
-ghost use Rattle.std.specs.Prelude.{◌≡◌, ◌<◌, ◌++◌, ◌&&◌, ◌||◌, ℕ, not, is_some, Some, filter, IfOk, OnOk, OnErr};
+ghost use Rattle.std.specs.Prelude.{◌≡◌, ◌<◌, ◌+◌, ◌++◌, ◌&&◌, ◌||◌, ℕ, min, not, is_some, Some, filter, length, sum_by, IfOk, OnOk, OnErr};
 ghost use Rattle.std.specs.List.{list_any};
 ghost use Rattle.rx_base.specs.Sets.{members, all_places, has_bit};
 ghost use Rattle.rx_rules.specs.Tree.{is_scope, chain_in};
@@ -60,6 +60,35 @@ pub fn with_loss(lost: PlaceSet, x: Task, inside: &[ScopeId]) -> PlaceSet
             }
         }
         None => lost,
+    }
+}
+
+/// How many faults these scopes hold, all but the one that is released; the count stops at the greatest number of 32 bits.
+pub fn masked_faults(scopes: &[Scope], inside: &[ScopeId], released: ScopeId) -> u32
+    ensures { result ≡ min 4294967295
+        (sum_by (λ g. length (g.body ++ g.ends)) (filter (λ g. holds_scope inside.now g.number && not (is_scope released g)) scopes.now)) }
+{
+    let mut masked = 0;
+    for g in scopes {
+        if is_inside(inside, g.number) && g.number != released {
+            masked = with_faults(masked, g);
+        }
+    }
+    masked
+}
+
+pub fn with_faults(masked: u32, g: &Scope) -> u32
+    ensures { result ≡ min 4294967295 (masked + length (g.now.body ++ g.now.ends)) }
+{
+    with_more(with_more(masked, g.body.len()), g.ends.len())
+}
+
+pub fn with_more(masked: u32, more: usize) -> u32
+    ensures { result ≡ min 4294967295 (masked + more) }
+{
+    match u32::try_from(more) {
+        Ok(more) => masked.saturating_add(more),
+        Err(_) => u32::MAX,
     }
 }
 

@@ -1,20 +1,23 @@
 // Worked histories, call by call, through the bound of the trait. And that ledgers may be moved between threads.
-ghost use Rattle.std.specs.Prelude.{◌<◌, [], OnOk};
+ghost use Rattle.std.specs.Prelude.{◌<◌, ℕ, pos, [], ◌∷◌, OnOk};
+ghost use Rattle.rx_base.specs.declared.values.Fault.TheVariants.{Thrown};
 ghost use Rattle.rx_rules.specs.declared.entries.Act.TheVariants.{Open, Spawn, Wait, End};
 ghost use Rattle.rx_rules.specs.Tree.{Tree};
 ghost use Rattle.rx_rules.specs.Entries.{made_act};
 ghost use Rattle.rx_rules.specs.Fold.{opening};
 ghost use Rattle.rx_finish.specs.Callers.{MayAskEnd};
+ghost use Rattle.rx_tree.specs.Inside.Worked.{two_deep};
 
 use crate::{Born, Caller, FinishLedger, LedgerFault, Outcome, TreeLedger, Where};
-use rx_base::{Faults, PlaceId, PlaceSet, ScopeId, TaskId};
+use rx_base::{Fault, Faults, PlaceId, PlaceSet, ScopeId, TaskId};
 use std::alloc::Global;
 use std::test::Fail;
 
 /// Ends a task without faults.
 fn ends<L: FinishLedger>(ledger: &mut L, who: Caller, alloc: Global) -> Result<(), LedgerFault>
-    requires { (T : Tree) × L.stands ledger.old T × MayAskEnd T who }
-    ensures { (T : Tree) → L.stands ledger.old T → MayAskEnd T who → OnOk result (L.stands ledger.new (made_act T who.task (End []))) }
+    requires { (room : ℕ) × (T : Tree) × L.stands ledger.old room T × MayAskEnd T who }
+    ensures { (room : ℕ) (T : Tree) → L.stands ledger.old room T → MayAskEnd T who
+        → OnOk result (L.stands ledger.new room (made_act T who.task (End []))) }
 {
     if let Err(refused) = ledger.end(who, Faults::open(alloc)) {
         return Err(refused.0);
@@ -28,9 +31,9 @@ fn begins<L: FinishLedger>(
     alloc: Global,
     places: u8,
 ) -> Result<(ScopeId, Born), LedgerFault>
-    requires fresh { L.stands ledger.old (opening places) }
+    requires fresh { L.stands ledger.old 0 (opening places) }
     requires enough { 1 < places }
-    ensures { OnOk result (L.stands ledger.new (made_act (made_act (made_act (opening places) (record { 0 = 0 })
+    ensures { OnOk result (L.stands ledger.new 0 (made_act (made_act (made_act (opening places) (record { 0 = 0 })
         (Open (record { 0 = 1 }) (record { 0 = 0 }) [])) (record { 0 = 0 })
         (Spawn (record { 0 = 1 }) (record { 0 = 1 }) (record { 0 = 0 }) (record { 0 = 1 }) [])) (record { 0 = 0 })
         (Wait (record { 0 = 1 }) []))) }
@@ -60,7 +63,7 @@ fn first_path<L: FinishLedger>(
     ledger: &mut L,
     alloc: Global,
 ) -> Result<(bool, Outcome, Outcome), LedgerFault>
-    requires { L.stands ledger.old (opening 2) }
+    requires { L.stands ledger.old 0 (opening 2) }
 {
     let main = Caller {
         task: TaskId(0),
@@ -105,7 +108,7 @@ fn early<L: FinishLedger>(
     ledger: &mut L,
     alloc: Global,
 ) -> Result<Result<Outcome, LedgerFault>, LedgerFault>
-    requires { L.stands ledger.old (opening 2) }
+    requires { L.stands ledger.old 0 (opening 2) }
 {
     let inside = Caller {
         task: TaskId(0),
@@ -122,7 +125,7 @@ fn transit<L: FinishLedger>(
     ledger: &mut L,
     alloc: Global,
 ) -> Result<(bool, Result<(), LedgerFault>), LedgerFault>
-    requires { L.stands ledger.old (opening 2) }
+    requires { L.stands ledger.old 0 (opening 2) }
 {
     let inside = Caller {
         task: TaskId(0),
@@ -150,7 +153,7 @@ fn source<L: FinishLedger>(
     ledger: &mut L,
     alloc: Global,
 ) -> Result<Result<(), LedgerFault>, LedgerFault>
-    requires { L.stands ledger.old (opening 3) }
+    requires { L.stands ledger.old 0 (opening 3) }
 {
     let message = Caller {
         task: TaskId(1),
@@ -186,7 +189,7 @@ fn source<L: FinishLedger>(
 
 /// Task 0 calls place 1, and the callee arrives.
 fn call<L: FinishLedger>(ledger: &mut L) -> Result<Born, LedgerFault>
-    requires { L.stands ledger.old (opening 3) }
+    requires { L.stands ledger.old 0 (opening 3) }
 {
     let main = Caller {
         task: TaskId(0),
@@ -208,14 +211,148 @@ fn call<L: FinishLedger>(ledger: &mut L) -> Result<Born, LedgerFault>
     Ok(born)
 }
 
+/// Task 1 runs at place 1 inside the finish of task 0, and waits there for task 2, which is at place 2.
+fn nests<L: FinishLedger>(ledger: &mut L, alloc: Global) -> Result<(), LedgerFault>
+    requires { L.stands ledger.old 0 (opening 3) }
+    ensures { OnOk result (L.stands ledger.new 0 two_deep) }
+{
+    let there = Caller {
+        task: TaskId(1),
+        scope: ScopeId(1),
+        inner: ScopeId(1),
+        place: Where::At(PlaceId(1)),
+    };
+    let inside = Caller {
+        task: TaskId(1),
+        scope: ScopeId(1),
+        inner: ScopeId(2),
+        place: Where::At(PlaceId(1)),
+    };
+    let _begun = begins(ledger, alloc, 3)?;
+    ledger.arrive(Caller {
+        task: TaskId(1),
+        scope: ScopeId(1),
+        inner: ScopeId(1),
+        place: Where::Travel {
+            from: PlaceId(0),
+            to: PlaceId(1),
+        },
+    })?;
+    let _scope = ledger.open_finish(there)?;
+    let _born = ledger.spawn(inside, PlaceId(2))?;
+    if let Err(refused) = ledger.wait(inside, Faults::open(alloc)) {
+        return Err(refused.0);
+    }
+    ledger.arrive(Caller {
+        task: TaskId(2),
+        scope: ScopeId(2),
+        inner: ScopeId(2),
+        place: Where::Travel {
+            from: PlaceId(1),
+            to: PlaceId(2),
+        },
+    })
+}
+
+/// Ends a task with one fault.
+fn throws<L: FinishLedger>(ledger: &mut L, who: Caller, alloc: Global) -> Result<(), LedgerFault>
+    requires { (room : ℕ) × (T : Tree) × L.stands ledger.old room T × MayAskEnd T who }
+    ensures { (room : ℕ) (T : Tree) → L.stands ledger.old room T → MayAskEnd T who
+        → OnOk result (L.stands ledger.new room (made_act T who.task (End (Thrown (pos 5) ∷ [])))) }
+{
+    let mut thrown = Faults::open(alloc);
+    if thrown.push(Fault::Thrown(5)).is_err() {
+        return Err(LedgerFault::NoMemory);
+    }
+    if let Err(refused) = ledger.end(who, thrown) {
+        return Err(refused.0);
+    }
+    Ok(())
+}
+
+/// Place 1 dies, and then task 2 ends with a fault; task 0 releases its finish and ends, and the host releases the root.
+fn dropped<L: FinishLedger>(
+    ledger: &mut L,
+    alloc: Global,
+) -> Result<(Outcome, Outcome), LedgerFault>
+    requires { L.stands ledger.old 0 (opening 3) }
+{
+    let main = Caller {
+        task: TaskId(0),
+        scope: ScopeId(0),
+        inner: ScopeId(0),
+        place: Where::At(PlaceId(0)),
+    };
+    let inside = Caller {
+        task: TaskId(0),
+        scope: ScopeId(0),
+        inner: ScopeId(1),
+        place: Where::At(PlaceId(0)),
+    };
+    let last = Caller {
+        task: TaskId(2),
+        scope: ScopeId(2),
+        inner: ScopeId(2),
+        place: Where::At(PlaceId(2)),
+    };
+    nests(ledger, alloc)?;
+    ledger.death(PlaceId(1), 8);
+    throws(ledger, last, alloc)?;
+    let outcome = ledger.release(inside)?;
+    ends(ledger, main, alloc)?;
+    let root = ledger.release_root()?;
+    Ok((outcome, root))
+}
+
+/// The same where task 2 ends before place 1 dies, so that its scope holds the fault at the death.
+fn held<L: FinishLedger>(ledger: &mut L, alloc: Global) -> Result<Outcome, LedgerFault>
+    requires { L.stands ledger.old 0 (opening 3) }
+{
+    let inside = Caller {
+        task: TaskId(0),
+        scope: ScopeId(0),
+        inner: ScopeId(1),
+        place: Where::At(PlaceId(0)),
+    };
+    let last = Caller {
+        task: TaskId(2),
+        scope: ScopeId(2),
+        inner: ScopeId(2),
+        place: Where::At(PlaceId(2)),
+    };
+    nests(ledger, alloc)?;
+    throws(ledger, last, alloc)?;
+    ledger.death(PlaceId(1), 9);
+    ledger.release(inside)
+}
+
+/// A place joins, and task 0 asks for the number of places, before the new one dies and after that.
+fn joins<L: FinishLedger>(ledger: &mut L) -> Result<(u8, u8), LedgerFault>
+    requires { L.stands ledger.old 1 (opening 1) }
+{
+    let main = Caller {
+        task: TaskId(0),
+        scope: ScopeId(0),
+        inner: ScopeId(0),
+        place: Where::At(PlaceId(0)),
+    };
+    ledger.join(PlaceId(1));
+    ledger.print(main)?;
+    let places = ledger.census(main)?;
+    ledger.death(PlaceId(1), 3);
+    Ok((places, ledger.census(main)?))
+}
+
 #[test]
 fn ordinary_case(rt: HostRuntime) -> Result<(), Fail> {
     let mut ledger = TreeLedger::open(rt.alloc(), 2)?;
     let (ready, outcome, root) = first_path(&mut ledger, rt.alloc())?;
     assert!(rt; ready);
     assert_eq!(rt; outcome.lost, PlaceSet(0));
+    assert_eq!(rt; outcome.masked, 0);
     assert_eq!(rt; outcome.thrown.len(), 0);
     assert_eq!(rt; root.lost, PlaceSet(0));
+    assert_eq!(rt; root.masked, 0);
     assert_eq!(rt; root.thrown.len(), 0);
     Ok(())
 }
@@ -285,6 +422,36 @@ fn at_calls_a_place(rt: HostRuntime) -> Result<(), Fail> {
             lost: false
         }
     );
+    Ok(())
+}
+
+#[test]
+fn dropped_fault_is_counted(rt: HostRuntime) -> Result<(), Fail> {
+    let mut ledger = TreeLedger::open(rt.alloc(), 3)?;
+    let (outcome, root) = dropped(&mut ledger, rt.alloc())?;
+    assert_eq!(rt; outcome.lost, PlaceSet(2));
+    assert_eq!(rt; outcome.masked, 1);
+    assert_eq!(rt; outcome.thrown.len(), 0);
+    assert_eq!(rt; root.lost, PlaceSet(0));
+    assert_eq!(rt; root.masked, 0);
+    assert_eq!(rt; root.thrown.len(), 0);
+    Ok(())
+}
+
+#[test]
+fn held_fault_is_counted(rt: HostRuntime) -> Result<(), Fail> {
+    let mut ledger = TreeLedger::open(rt.alloc(), 3)?;
+    let outcome = held(&mut ledger, rt.alloc())?;
+    assert_eq!(rt; outcome.lost, PlaceSet(2));
+    assert_eq!(rt; outcome.masked, 1);
+    assert_eq!(rt; outcome.thrown.len(), 0);
+    Ok(())
+}
+
+#[test]
+fn joining_place_is_counted(rt: HostRuntime) -> Result<(), Fail> {
+    let mut ledger = TreeLedger::open(rt.alloc(), 1)?;
+    assert_eq!(rt; joins(&mut ledger)?, (2, 2));
     Ok(())
 }
 

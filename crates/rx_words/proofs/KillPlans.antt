@@ -1,6 +1,6 @@
 -- Kills of which none is bad: in order, they are a setup's kills, and a sort of them gives this order.
-use Rattle.std.proofs.Common.{◌≡◌, ◌≢◌, ◌⊎◌, inl, inr, ℕ, suc, ◌+◌, ◌<◌, Bool, true, false, cond, List, [], ◌∷◌, ◌++◌, length, None, Some, refl, ap, sym, ◌∙◌, subst, arith, map, nat_lt, nat_le, ◌==◌, ◌||◌, ◌&&◌}
-use Rattle.std.specs.Prelude.{if◌then◌else◌, Option, Contains, slice_index_or}
+use Rattle.std.proofs.Common.{◌≡◌, ◌≢◌, ◌⊎◌, inl, inr, ℕ, zero, suc, ◌+◌, ◌<◌, ◌≤◌, Bool, true, false, cond, List, [], ◌∷◌, ◌++◌, length, None, Some, refl, ap, sym, ◌∙◌, subst, arith, map, nat_lt, nat_le, ◌==◌, ◌||◌, ◌&&◌}
+use Rattle.std.specs.Prelude.{if◌then◌else◌, Option, Contains, slice_index_or, slice_get}
 use Rattle.std.specs.List.{AllByRecursion, IsDistinct}
 use Rattle.std.specs.List.Sorted.{IsPermutation, IsSortedBy, IsSortedByKey}
 use Rattle.std.specs.Ordering.{is_lt, nat_cmp, ordering_then}
@@ -11,17 +11,36 @@ use Rattle.std.proofs.lemmas.Map.Keys.{IsDistinct-IsPermutation, apart_from_dist
 use Rattle.std.proofs.lemmas.Bool.{or_parts}
 use Rattle.rx_base.specs.declared.ids.Kill.{Kill}
 use Rattle.rx_base.specs.declared.ids.PlaceId.{PlaceId}
-use Rattle.rx_rules.specs.Run.{AreKills, Spares, Ascends, ComesAfter}
+use Rattle.rx_rules.specs.Run.{Given, in_all, AreKills, Joined, Spares, Ascends, ComesAfter}
 use Rattle.rx_history.specs.KillOrder.{IsAscending, ComesLast, is_before}
 use Rattle.rx_history.proofs.InOrder.{which-after, before-Decides, not-itself, contains-first, contains-later, contains-cases, contains-none, contained-after, ascending-rest, in_order, one-order}
 use Rattle.rx_base.specs.Lists.{has}
-use Rattle.rx_words.specs.Words.{bad_kill, ordered}
+use Rattle.rx_words.specs.Words.{joins_later, is_bad, bad_kill, ordered}
 use Rattle.rx_words.specs.Commands.{kill_in}
 
--- kills of places that exist and are not 0, none twice
-abbrev pub Fine : ℕ → List Kill → Type 0
-Fine places [] = Unit {0}
-Fine places (k ∷ ks) = (k.place.0 < places) × (k.place.0 ≢ 0) × Spares k.place ks × Fine places ks
+-- where the place of a kill does not join after the kill's moment, each moment at which it joins is at most that one
+pub joins-in-time : (k : Kill) (p : ℕ) (joins : List ℕ) → joins_later k p joins ≡ false → (i e : ℕ) → slice_get joins i ≡ Some e → k.place.0 ≡ p + i → e ≤ k.moment
+joins-in-time k p [] never i e is at = cc
+joins-in-time k p (m ∷ ms) never zero e is at =
+    let t = or_parts (k.place.0 == p && nat_lt k.moment m) (joins_later k (suc p) ms) never in
+    let here : (k.place.0 == p) ≡ true = grind (arith, nat_tests) in
+    let late : nat_lt k.moment m ≡ false = sym (ap (λ b. b && nat_lt k.moment m) here) ∙ t.0 in
+    let same : m ≡ e = some-is m e is in
+    grind (arith, nat_tests)
+  where
+    some-is : (m e : ℕ) → Some m ≡ Some e → m ≡ e
+    some-is m e h = cc
+joins-in-time k p (m ∷ ms) never (suc i) e is at =
+    joins-in-time k (suc p) ms (or_parts (k.place.0 == p && nat_lt k.moment m) (joins_later k (suc p) ms) never).1 i e is (omega arith)
+
+-- a kill of a place that is there at its moment and is not 0
+abbrev pub IsPlanned : Given → Kill → Type 0
+IsPlanned U k = (k.place.0 < in_all U) × (k.place.0 ≢ 0) × Joined U k
+
+-- such kills, none of a place twice
+abbrev pub Fine : Given → List Kill → Type 0
+Fine U [] = Unit {0}
+Fine U (k ∷ ks) = IsPlanned U k × Spares k.place ks × Fine U ks
 
 -- no place of theirs was named before
 abbrev pub AreNew : List ℕ → List Kill → Type 0
@@ -46,18 +65,19 @@ none-bad : (b : Bool) (k : ℕ) (o : Option ℕ) → (if b then Some k else o) �
 none-bad true k o e = cc
 none-bad false k o e = (refl, e)
 
-fine-of : (places : ℕ) (seen : List ℕ) (ks : List (ℕ × Kill)) → bad_kill places seen ks ≡ None → Fine places (map kill_in ks) × AreNew seen (map kill_in ks)
-fine-of places seen [] e = (tt, tt)
-fine-of places seen (k ∷ ks) e =
+fine-of : (U : Given) (seen : List ℕ) (ks : List (ℕ × Kill)) → bad_kill U.places U.joins seen ks ≡ None → Fine U (map kill_in ks) × AreNew seen (map kill_in ks)
+fine-of U seen [] e = (tt, tt)
+fine-of U seen (k ∷ ks) e =
     let p = k.1.place.0 in
-    let t = none-bad (p == 0 || nat_le places p || has p seen) k.0 (bad_kill places (seen ++ p ∷ []) ks) e in
-    let a = or_parts (p == 0 || nat_le places p) (has p seen) t.0 in
-    let b = or_parts (p == 0) (nat_le places p) a.0 in
-    let more = fine-of places (seen ++ p ∷ []) ks t.1 in
+    let t = none-bad (is_bad U.places U.joins seen k.1) k.0 (bad_kill U.places U.joins (seen ++ p ∷ []) ks) e in
+    let l = or_parts (p == 0 || nat_le (in_all U) p || has p seen) (joins_later k.1 U.places U.joins) t.0 in
+    let a = or_parts (p == 0 || nat_le (in_all U) p) (has p seen) l.0 in
+    let b = or_parts (p == 0) (nat_le (in_all U) p) a.0 in
+    let more = fine-of U (seen ++ p ∷ []) ks t.1 in
     let front = new-front k.1.place seen (map kill_in ks) more.1 in
-    let zero : (p == 0) ≡ false = b.0 in
-    let there : nat_le places p ≡ false = b.1 in
-    ((grind (arith, nat_tests), (λ z. grind (arith, nat_tests)), front.1, more.0), (a.1, front.0))
+    let first : (p == 0) ≡ false = b.0 in
+    let there : nat_le (in_all U) p ≡ false = b.1 in
+    (((grind (arith, nat_tests), (λ z. grind (arith, nat_tests)), joins-in-time k.1 U.places U.joins l.1), front.1, more.0), (a.1, front.0))
 
 spares-contained : (p : PlaceId) (ks : List Kill) → Spares p ks → (k : Kill) → Contains ks k → p.0 ≢ k.place.0
 spares-contained p [] s k c = absurd (contains-none k c)
@@ -71,41 +91,41 @@ spares-all : (p : PlaceId) (ks : List Kill) → ((k : Kill) → Contains ks k �
 spares-all p [] h = tt
 spares-all p (x ∷ xs) h = (h x (contains-first x xs), spares-all p xs (λ k c. h k (contains-later x xs k c)))
 
-fine-contained : (places : ℕ) (ks : List Kill) → Fine places ks → (k : Kill) → Contains ks k → (k.place.0 < places) × (k.place.0 ≢ 0)
-fine-contained places [] f k c = absurd (contains-none k c)
-fine-contained places (x ∷ xs) f k c = by (contains-cases x xs k c) (fine-contained places xs f.3 k)
+fine-contained : (U : Given) (ks : List Kill) → Fine U ks → (k : Kill) → Contains ks k → IsPlanned U k
+fine-contained U [] f k c = absurd (contains-none k c)
+fine-contained U (x ∷ xs) f k c = by (contains-cases x xs k c) (fine-contained U xs f.2 k)
   where
-    by : (x ≡ k) ⊎ Contains xs k → (Contains xs k → (k.place.0 < places) × (k.place.0 ≢ 0)) → (k.place.0 < places) × (k.place.0 ≢ 0)
-    by (inl same) more = subst (λ (j : Kill). (j.place.0 < places) × (j.place.0 ≢ 0)) same (f.0, f.1)
+    by : (x ≡ k) ⊎ Contains xs k → (Contains xs k → IsPlanned U k) → IsPlanned U k
+    by (inl same) more = subst (IsPlanned U) same f.0
     by (inr rest) more = more rest
 
 -- one of a place
-one-each : (places : ℕ) (ks : List Kill) → Fine places ks → (a b : Kill) → Contains ks a → Contains ks b → a.place.0 ≡ b.place.0 → a ≡ b
-one-each places [] f a b c d e = absurd (contains-none a c)
-one-each places (x ∷ xs) f a b c d e = by (contains-cases x xs a c) (contains-cases x xs b d) (one-each places xs f.3 a b)
+one-each : (U : Given) (ks : List Kill) → Fine U ks → (a b : Kill) → Contains ks a → Contains ks b → a.place.0 ≡ b.place.0 → a ≡ b
+one-each U [] f a b c d e = absurd (contains-none a c)
+one-each U (x ∷ xs) f a b c d e = by (contains-cases x xs a c) (contains-cases x xs b d) (one-each U xs f.2 a b)
   where
     by : (x ≡ a) ⊎ Contains xs a → (x ≡ b) ⊎ Contains xs b → (Contains xs a → Contains xs b → a.place.0 ≡ b.place.0 → a ≡ b) → a ≡ b
     by (inl p) (inl q) more = sym p ∙ q
-    by (inl p) (inr q) more = absurd (spares-contained x.place xs f.2 b q (ap (λ (k : Kill). k.place.0) p ∙ e))
-    by (inr p) (inl q) more = absurd (spares-contained x.place xs f.2 a p (ap (λ (k : Kill). k.place.0) q ∙ sym e))
+    by (inl p) (inr q) more = absurd (spares-contained x.place xs f.1 b q (ap (λ (k : Kill). k.place.0) p ∙ e))
+    by (inr p) (inl q) more = absurd (spares-contained x.place xs f.1 a p (ap (λ (k : Kill). k.place.0) q ∙ sym e))
     by (inr p) (inr q) more = more p q e
 
-are-kills : (places : ℕ) (ks : List Kill) → IsAscending ks → ((k : Kill) → Contains ks k → (k.place.0 < places) × (k.place.0 ≢ 0)) → ((a b : Kill) → Contains ks a → Contains ks b → a.place.0 ≡ b.place.0 → a ≡ b) → AreKills places ks
-are-kills places [] up there one = tt
-are-kills places (k ∷ ks) up there one =
+are-kills : (U : Given) (ks : List Kill) → IsAscending ks → ((k : Kill) → Contains ks k → IsPlanned U k) → ((a b : Kill) → Contains ks a → Contains ks b → a.place.0 ≡ b.place.0 → a ≡ b) → AreKills U ks
+are-kills U [] up there one = tt
+are-kills U (k ∷ ks) up there one =
     let first = there k (contains-first k ks) in
-    let rest = are-kills places ks (ascending-rest k ks up) (λ j c. there j (contains-later k ks j c)) (λ a b c d e. one a b (contains-later k ks a c) (contains-later k ks b d) e) in
+    let rest = are-kills U ks (ascending-rest k ks up) (λ j c. there j (contains-later k ks j c)) (λ a b c d e. one a b (contains-later k ks a c) (contains-later k ks b d) e) in
     let other : (j : Kill) → Contains ks j → k.place.0 ≢ j.place.0 = λ j c e.
     not-itself k (subst (ComesAfter k) (sym (one k j (contains-first k ks) (contains-later k ks j c) e)) (contained-after k ks up j c)) in
-    (first.0, first.1, spares-all k.place ks other, up, rest)
+    (first.0, first.1, first.2, spares-all k.place ks other, up, rest)
 
 -- where no kill is bad, they are a setup's kills once they stand in order
-pub planned-kills : (places : ℕ) (ks : List (ℕ × Kill)) → bad_kill places [] ks ≡ None → AreKills places (ordered ks)
-planned-kills places ks e =
+pub planned-kills : (U : Given) (ks : List (ℕ × Kill)) → bad_kill U.places U.joins [] ks ≡ None → AreKills U (ordered ks)
+planned-kills U ks e =
     let named = map kill_in ks in
-    let f = (fine-of places [] ks e).0 in
+    let f = (fine-of U [] ks e).0 in
     let o = in_order named in
-    are-kills places o.kills o.ascending (λ k c. fine-contained places named f k (o.only k c)) (λ a b c d. one-each places named f a b (o.only a c) (o.only b d))
+    are-kills U o.kills o.ascending (λ k c. fine-contained U named f k (o.only k c)) (λ a b c d. one-each U named f a b (o.only a c) (o.only b d))
 
 abbrev same_place : Kill → Kill → Bool
 same_place a b = a.place.0 == b.place.0
@@ -123,10 +143,10 @@ apart : (k : Kill) (ks : List Kill) → Spares k.place ks → AllByRecursion (λ
 apart k [] s = tt
 apart k (x ∷ xs) s = ((let other : k.place.0 ≢ x.place.0 = s.0 in grind (arith, nat_tests)), apart k xs s.1)
 
-distinct : (places : ℕ) (ks : List Kill) → Fine places ks → IsDistinct same_place ks
+distinct : (U : Given) (ks : List Kill) → Fine U ks → IsDistinct same_place ks
 unfolding IsDistinct
-distinct places [] f = tt
-distinct places (k ∷ ks) f = (apart k ks f.2, distinct places ks f.3)
+distinct U [] f = tt
+distinct U (k ∷ ks) f = (apart k ks f.1, distinct U ks f.2)
 
 -- of two kills of different places, the one that is not before the other comes after it
 not-before : (a b : Kill) → is_before b a ≡ false → same_place a b ≡ false → ComesAfter a b
@@ -146,19 +166,20 @@ rising-list [] h = tt
 rising-list (k ∷ ks) h = rising k ks h
 
 -- where no kill is bad, a list of them that a sort has made ascends
-pub sorted-ascends : (places : ℕ) (ks : List (ℕ × Kill)) (list : List Kill) → bad_kill places [] ks ≡ None → IsPermutation (map kill_in ks) list → IsSortedBy is_before list → IsAscending list
-sorted-ascends places ks list e same up =
-    let d = IsDistinct-IsPermutation same_place flips (map kill_in ks) list same (distinct places (map kill_in ks) (fine-of places [] ks e).0) in
+pub sorted-ascends : (places : ℕ) (joins : List ℕ) (ks : List (ℕ × Kill)) (list : List Kill) → bad_kill places joins [] ks ≡ None → IsPermutation (map kill_in ks) list → IsSortedBy is_before list → IsAscending list
+sorted-ascends places joins ks list e same up =
+    let U : Given = record { places = places; heap = 0; kills = []; joins = joins } in
+    let d = IsDistinct-IsPermutation same_place flips (map kill_in ks) list same (distinct U (map kill_in ks) (fine-of U [] ks e).0) in
     rising-list list (λ i k lt.
     let one : i + 1 ≡ suc i = omega arith in
     let low : is_before (slice_index_or list (suc i) k) (slice_index_or list i k) ≡ false = ap (λ n. is_before (slice_index_or list n k) (slice_index_or list i k)) (sym one) ∙ up i k (omega arith) (omega arith) in
     not-before _ _ low (apart_from_distinct same_place list i (suc i) k d (omega arith) lt))
 
 -- and it is the list of them in order
-pub sorted-is : (places : ℕ) (ks : List (ℕ × Kill)) (list : List Kill) → bad_kill places [] ks ≡ None → IsPermutation (map kill_in ks) list → IsSortedBy is_before list → list ≡ ordered ks
-sorted-is places ks list e same up =
+pub sorted-is : (places : ℕ) (joins : List ℕ) (ks : List (ℕ × Kill)) (list : List Kill) → bad_kill places joins [] ks ≡ None → IsPermutation (map kill_in ks) list → IsSortedBy is_before list → list ≡ ordered ks
+sorted-is places joins ks list e same up =
     one-order (map kill_in ks)
-    (record { kills = list; ascending = sorted-ascends places ks list e same up; all = λ k c. Contains-permutation (map kill_in ks) list k same c; only = λ k c. Contains-permutation list (map kill_in ks) k (IsPermutation-sym (map kill_in ks) list same) c })
+    (record { kills = list; ascending = sorted-ascends places joins ks list e same up; all = λ k c. Contains-permutation (map kill_in ks) list k same c; only = λ k c. Contains-permutation list (map kill_in ks) k (IsPermutation-sym (map kill_in ks) list same) c })
     (in_order (map kill_in ks))
 
 -- the order of moments, and of places at one moment, is that of kills

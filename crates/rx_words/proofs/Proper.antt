@@ -1,15 +1,20 @@
 -- Words ask for proper setups.
-use Rattle.std.proofs.Common.{◌≡◌, ℕ, suc, ◌≤◌, ◌^◌, ◌-◌, List, [], ◌∷◌, Option, Some, None, refl, arith}
+use Rattle.std.proofs.Common.{◌≡◌, ◌∙◌, ℕ, suc, ◌+◌, ◌≤◌, ◌^◌, ◌-◌, List, [], ◌∷◌, Option, Some, None, refl, arith, map, length}
 use Rattle.std.specs.Prelude.{IfSome, Bool, true, false, bytes_eq, codes, if◌then◌else◌}
+use Rattle.std.proofs.lemmas.List.Sorted.{length_permutation}
+use Rattle.std.proofs.lemmas.List.{length-map}
 use Rattle.rx_rules.specs.Run.{Proper}
-use Rattle.rx_words.specs.Words.{number_of, kill_of, pick_list_of, Wants, nothing_yet, Taken, NotAnOption, BadValue, Takes, good, taken, choice, or_else, bad_kill, setup_of, source, Step, Gen, Check, Live, BadWord, unless_bad, generated, settled, cut_off, options, alone, asked}
+use Rattle.rx_words.specs.Words.{number_of, kill_of, pick_list_of, Wants, nothing_yet, Taken, NotAnOption, BadValue, Takes, good, taken, choice, or_else, joined, bad_join, bad_kill, first_of, first_bad, setup_of, source, Step, Gen, Check, Live, BadWord, unless_bad, generated, settled, cut_off, options, alone, asked}
 use Rattle.rx_words.specs.declared.said.Verb.{Verb}
 use Rattle.rx_words.specs.declared.said.Verb.TheVariants as verbs
 use Rattle.rx_words.specs.declared.kind.Kind.{Kind}
 use Rattle.rx_words.specs.declared.kind.Kind.TheVariants as kinds
 use Rattle.rx_words.specs.Proper.{HasProper, SetupsAreProper}
 use Rattle.rx_words.proofs.Numbers.{number-spelled}
+use Rattle.rx_words.specs.Commands.{moment_in}
+use Rattle.rx_words.specs.Inside.Rising.{rising}
 use Rattle.rx_words.proofs.KillPlans.{planned-kills}
+use Rattle.rx_words.proofs.Joins.{room-for}
 
 -- the places and the words of a heap that options have said are in their ranges
 pub record IsRanged (w : Wants) : Type 0 where
@@ -32,6 +37,7 @@ taken-ranged kinds.Size w k value r = good-ranged (number_of 1 10000 value) _ (�
 taken-ranged kinds.Places w k value r = good-ranged (number_of 1 16 value) _ (λ n e. record { places = let t = number-spelled 1 16 n value e in (t.1, t.2); heap = r.heap })
 taken-ranged kinds.Heap w k value r = good-ranged (number_of 1 4096 value) _ (λ n e. record { places = r.places; heap = let t = number-spelled 1 4096 n value e in (t.1, t.2) })
 taken-ranged kinds.Kill w k value r = good-ranged (kill_of value) _ (λ kill e. record { places = r.places; heap = r.heap })
+taken-ranged kinds.Join w k value r = good-ranged (number_of 0 1000000 value) _ (λ n e. record { places = r.places; heap = r.heap })
 taken-ranged kinds.Pick w k value r = good-ranged (pick_list_of value) _ (λ list e. record { places = r.places; heap = r.heap })
 taken-ranged kinds.Seed w k value r = good-ranged (number_of 0 (2 ^ 64 - 1) value) _ (λ n e. record { places = r.places; heap = r.heap })
 taken-ranged kinds.Workers w k value r = good-ranged (number_of 1 8 value) _ (λ n e. record { places = r.places; heap = r.heap })
@@ -41,30 +47,49 @@ within : (least most usual : ℕ) (o : Option ℕ) → (least ≤ usual) × (usu
 within least most usual (Some n) u h = h
 within least most usual None u h = u
 
-setup-proper : (w : Wants) → IsRanged w → bad_kill (or_else w.places 2) [] w.kills ≡ None → Proper (setup_of w)
+none-of : (a b : Option ℕ) → first_of a b ≡ None → (a ≡ None) × (b ≡ None)
+none-of (Some a) (Some b) e = cc
+none-of (Some a) None e = cc
+none-of None b e = (refl, e)
+
+-- joins stand in order as many as they were named
+joined-length : (js : List (ℕ × ℕ)) → length (joined js) ≡ length js
+joined-length js = length_permutation (map moment_in js) (joined js) (rising (map moment_in js)).same ∙ length-map js moment_in
+
+pub setup-proper : (w : Wants) → IsRanged w → first_bad w ≡ None → Proper (setup_of w)
 setup-proper w r e =
     let places = within 1 16 2 w.places (omega arith, omega arith) r.places in
     let heap = within 1 4096 256 w.heap (omega arith, omega arith) r.heap in
-    record { some = places.0; few = places.1; words = heap.0; small = heap.1; kills = planned-kills (or_else w.places 2) w.kills e }
+    let none = none-of (bad_join (or_else w.places 2) w.joins) (bad_kill (or_else w.places 2) (joined w.joins) [] w.kills) e in
+    let room = room-for (or_else w.places 2) w.joins places.1 none.0 in
+    let all = joined-length w.joins in
+    record {
+      some = places.0;
+      few = omega arith;
+      words = heap.0;
+      small = heap.1;
+      kills = planned-kills (setup_of w) w.kills none.1;
+      joins = (rising (map moment_in w.joins)).never_falls;
+    }
 
 settled-proper : (verb : Verb) (w : Wants) (k : ℕ) → IsRanged w → HasProper (settled verb w k)
-settled-proper verbs.Step w k r = by (bad_kill (or_else w.places 2) [] w.kills) refl
+settled-proper verbs.Step w k r = by (first_bad w) refl
   where
-    by : (o : Option ℕ) → bad_kill (or_else w.places 2) [] w.kills ≡ o → HasProper (unless_bad o (Step (setup_of w) (source w.picks w.seed)))
+    by : (o : Option ℕ) → first_bad w ≡ o → HasProper (unless_bad o (Step (setup_of w) (source w.picks w.seed)))
     by (Some n) e = tt
     by None e = setup-proper w r e
 settled-proper verbs.Gen w k r = sized w.size
   where
-    by : (n : ℕ) (o : Option ℕ) → bad_kill (or_else w.places 2) [] w.kills ≡ o → HasProper (unless_bad o (Gen n (setup_of w) w.seed))
+    by : (n : ℕ) (o : Option ℕ) → first_bad w ≡ o → HasProper (unless_bad o (Gen n (setup_of w) w.seed))
     by n (Some m) e = tt
     by n None e = setup-proper w r e
 
     sized : (o : Option ℕ) → HasProper (generated o w k)
-    sized (Some n) = by n (bad_kill (or_else w.places 2) [] w.kills) refl
+    sized (Some n) = by n (first_bad w) refl
     sized None = tt
-settled-proper verbs.Live w k r = by (bad_kill (or_else w.places 2) [] w.kills) refl
+settled-proper verbs.Live w k r = by (first_bad w) refl
   where
-    by : (o : Option ℕ) → bad_kill (or_else w.places 2) [] w.kills ≡ o → HasProper (unless_bad o (Live (setup_of w) (or_else w.workers 2)))
+    by : (o : Option ℕ) → first_bad w ≡ o → HasProper (unless_bad o (Live (setup_of w) (or_else w.workers 2)))
     by (Some n) e = tt
     by None e = setup-proper w r e
 
@@ -74,6 +99,7 @@ cut-proper kinds.Size k = tt
 cut-proper kinds.Places k = tt
 cut-proper kinds.Heap k = tt
 cut-proper kinds.Kill k = tt
+cut-proper kinds.Join k = tt
 cut-proper kinds.Pick k = tt
 cut-proper kinds.Seed k = tt
 cut-proper kinds.Workers k = tt

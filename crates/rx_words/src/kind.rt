@@ -13,6 +13,7 @@ pub(crate) enum Kind {
     Places,
     Heap,
     Kill,
+    Join,
     Pick,
     Seed,
     Workers,
@@ -30,6 +31,8 @@ fn option_named(name: &[u8]) -> Kind
         Kind::Heap
     } else if name == b"--kill".as_slice() {
         Kind::Kill
+    } else if name == b"--join".as_slice() {
+        Kind::Join
     } else if name == b"--pick".as_slice() {
         Kind::Pick
     } else if name == b"--seed".as_slice() {
@@ -51,6 +54,7 @@ fn stands(verb: Verb, said: &Said, kind: Kind) -> bool
         Kind::Places => said.places.is_none(),
         Kind::Heap => said.heap.is_none(),
         Kind::Kill => true,
+        Kind::Join => verb != Verb::Gen,
         Kind::Pick => verb == Verb::Step && said.picks.is_none() && said.seed.is_none(),
         Kind::Seed => verb != Verb::Live && said.picks.is_none() && said.seed.is_none(),
         Kind::Workers => verb == Verb::Live && said.workers.is_none(),

@@ -4,6 +4,7 @@
 #![tactic(auto)]
 
 mod command;
+mod joined;
 mod kind;
 pub mod laws;
 mod listing;

@@ -9,13 +9,14 @@ pub(crate) enum Verb {
     Live,
 }
 
-// What options have said so far. Each kill stands with the number of its word.
+// What options have said so far. Each kill and each join's moment stands with the number of its word.
 #[derive(Drop)]
 pub(crate) struct Said {
     pub(crate) size: Option<u32>,
     pub(crate) places: Option<u32>,
     pub(crate) heap: Option<u32>,
     pub(crate) kills: Vec<(usize, Kill)>,
+    pub(crate) joins: Vec<(usize, u32)>,
     pub(crate) picks: Option<Vec<u32>>,
     pub(crate) seed: Option<u64>,
     pub(crate) workers: Option<u32>,

@@ -1,3 +1,4 @@
 pub mod DeathRuns
 pub mod DeathRefusals
+pub mod PlaceRuns
 mod StatementRuns

@@ -22,9 +22,9 @@ use Rattle.rx_worked.specs.Statements.{StoresNoRun, no_events, turns_script, tur
 pub turns_runs : IsRun turns_script ordinary_setup turns no_events
 turns_runs =
     record {
-      folds = record { some = lit≤ tt; few = lit≤ tt; allowed = (record { task = _; place = p 0; live = record { acts = record { stands = refl; unstruck = refl }; is_at = refl; moves = refl } }, (record { task = _; place = p 0; live = record { acts = record { stands = refl; unstruck = refl }; is_at = refl; moves = refl } }, (record { task = _; place = p 0; live = record { acts = record { stands = refl; unstruck = refl }; is_at = refl; moves = refl }; none_open = refl }, ((record { root = _; stands = refl; is_quiet = refl }, record { places = refl; faults = refl }), tt)))); kills = (tt, (tt, (tt, (tt, tt)))) };
+      folds = record { some = lit≤ tt; few = lit≤ tt; allowed = (record { task = _; stands = refl; unstruck = refl; asks = (p 0, (refl, refl)) }, (record { task = _; stands = refl; unstruck = refl; asks = (p 0, (refl, refl)) }, (record { task = _; stands = refl; unstruck = refl; asks = ((p 0, (refl, refl)), refl) }, ((_, refl, record { is_quiet = refl; places = refl; count = refl; faults = refl }), tt)))); plan = (tt, (tt, (tt, (tt, tt)))) };
       ends = refl;
-      played = record { starts = (items turns_script [] Empty, no_vars) ∷ []; main = refl; all = refl; each = (local refl (local refl (local refl (local refl (asks (lit≤ tt) (refl, refl) tt (local refl (local refl (local refl (asks (lit≤ tt) (refl, refl) tt (local refl (local refl (ends (lit≤ tt) refl))))))))))), tt) };
+      played = record { starts = (items turns_script [] Empty, no_vars 2) ∷ []; main = refl; all = refl; each = (local refl (local refl (local refl (local refl (asks (lit≤ tt) (refl, refl) tt (local refl (local refl (local refl (asks (lit≤ tt) (refl, refl) tt (local refl (local refl (ends (lit≤ tt) refl))))))))))), tt) };
       one_each = refl;
       journals = (record { law = tt; homes = tt; rising = tt; closed = refl }, (record { law = tt; homes = tt; rising = tt; closed = refl }, tt));
     }
@@ -32,9 +32,9 @@ turns_runs =
 pub copied_runs : IsRun copied_script ordinary_setup copied no_events
 copied_runs =
     record {
-      folds = record { some = lit≤ tt; few = lit≤ tt; allowed = (record { task = _; place = p 0; live = record { acts = record { stands = refl; unstruck = refl }; is_at = refl; moves = refl }; next = refl; parent = refl }, (record { task = _; live = record { acts = record { stands = refl; unstruck = refl }; is_at = refl; moves = refl }; next_task = refl; under = refl; target = lit< tt }, (record { task = _; place = p 0; scope = _; live = record { acts = record { stands = refl; unstruck = refl }; is_at = refl; moves = refl }; own = refl; is_it = refl; finish = refl }, (record { task = _; place = p 0; live = record { acts = record { stands = refl; unstruck = refl }; is_at = refl; moves = refl } }, (record { task = _; place = p 0; live = record { acts = record { stands = refl; unstruck = refl }; is_at = refl; moves = refl }; none_open = refl }, ((record { task = _; scope = _; acts = record { stands = refl; unstruck = refl }; waits = refl; own = refl; is_it = refl; is_quiet = refl }, record { places = refl; faults = refl }), (record { task = _; place = p 0; live = record { acts = record { stands = refl; unstruck = refl }; is_at = refl; moves = refl }; none_open = refl }, ((record { root = _; stands = refl; is_quiet = refl }, record { places = refl; faults = refl }), tt)))))))); kills = (tt, (tt, (tt, (tt, (tt, (tt, (tt, (tt, tt)))))))) };
+      folds = record { some = lit≤ tt; few = lit≤ tt; allowed = (record { task = _; stands = refl; unstruck = refl; asks = ((p 0, (refl, refl)), refl, refl) }, (record { task = _; stands = refl; unstruck = refl; asks = ((refl, refl), refl, refl, lit< tt) }, (record { task = _; stands = refl; unstruck = refl; asks = ((p 0, (refl, refl)), _, (refl, refl), refl) }, (record { task = _; stands = refl; unstruck = refl; asks = (p 0, (refl, refl)) }, (record { task = _; stands = refl; unstruck = refl; asks = ((p 0, (refl, refl)), refl) }, (record { task = _; stands = refl; unstruck = refl; asks = (refl, _, (refl, refl), record { is_quiet = refl; places = refl; count = refl; faults = refl }) }, (record { task = _; stands = refl; unstruck = refl; asks = ((p 0, (refl, refl)), refl) }, ((_, refl, record { is_quiet = refl; places = refl; count = refl; faults = refl }), tt)))))))); plan = (tt, (tt, (tt, (tt, (tt, (tt, (tt, (tt, tt)))))))) };
       ends = refl;
-      played = record { starts = (items copied_script [] Empty, no_vars) ∷ (items (Then (Print (Name 0)) Nothing) (1 ∷ 0 ∷ []) Empty, bound 0 (Number (pos 3)) no_vars) ∷ []; main = refl; all = refl; each = (local refl (asks (lit≤ tt) refl tt (asks (lit≤ tt) (refl, refl, refl) refl (local refl (asks (lit≤ tt) refl tt (asks (lit≤ tt) tt tt (ends (lit≤ tt) refl)))))), (asks (lit≤ tt) (refl, refl) tt (ends (lit≤ tt) refl), tt)) };
+      played = record { starts = (items copied_script [] Empty, no_vars 2) ∷ (items (Then (Print (Name 0)) Nothing) (1 ∷ 0 ∷ []) Empty, bound 0 (Number (pos 3)) (no_vars 2)) ∷ []; main = refl; all = refl; each = (local refl (asks (lit≤ tt) refl tt (asks (lit≤ tt) (refl, refl, refl) refl (local refl (asks (lit≤ tt) refl tt (asks (lit≤ tt) tt tt (ends (lit≤ tt) refl)))))), (asks (lit≤ tt) (refl, refl) tt (ends (lit≤ tt) refl), tt)) };
       one_each = refl;
       journals = (record { law = tt; homes = tt; rising = tt; closed = refl }, (record { law = tt; homes = tt; rising = tt; closed = refl }, tt));
     }
@@ -42,9 +42,9 @@ copied_runs =
 pub not_caught_runs : IsRun dead_script ordinary_setup not_caught no_events
 not_caught_runs =
     record {
-      folds = record { some = lit≤ tt; few = lit≤ tt; allowed = (record { task = _; place = p 0; live = record { acts = record { stands = refl; unstruck = refl }; is_at = refl; moves = refl }; none_open = refl }, ((record { root = _; stands = refl; is_quiet = refl }, record { places = refl; faults = refl }), tt)); kills = (tt, (tt, tt)) };
+      folds = record { some = lit≤ tt; few = lit≤ tt; allowed = (record { task = _; stands = refl; unstruck = refl; asks = ((p 0, (refl, refl)), refl) }, ((_, refl, record { is_quiet = refl; places = refl; count = refl; faults = refl }), tt)); plan = (tt, (tt, tt)) };
       ends = refl;
-      played = record { starts = (items dead_script [] Empty, no_vars) ∷ []; main = refl; all = refl; each = (local refl (local refl (local refl (ends (lit≤ tt) refl))), tt) };
+      played = record { starts = (items dead_script [] Empty, no_vars 2) ∷ []; main = refl; all = refl; each = (local refl (local refl (local refl (ends (lit≤ tt) refl))), tt) };
       one_each = refl;
       journals = (record { law = tt; homes = tt; rising = tt; closed = refl }, (record { law = tt; homes = tt; rising = tt; closed = refl }, tt));
     }
@@ -52,9 +52,9 @@ not_caught_runs =
 pub caught_runs : IsRun any_script ordinary_setup caught no_events
 caught_runs =
     record {
-      folds = record { some = lit≤ tt; few = lit≤ tt; allowed = (record { task = _; place = p 0; live = record { acts = record { stands = refl; unstruck = refl }; is_at = refl; moves = refl } }, (record { task = _; place = p 0; live = record { acts = record { stands = refl; unstruck = refl }; is_at = refl; moves = refl }; none_open = refl }, ((record { root = _; stands = refl; is_quiet = refl }, record { places = refl; faults = refl }), tt))); kills = (tt, (tt, (tt, tt))) };
+      folds = record { some = lit≤ tt; few = lit≤ tt; allowed = (record { task = _; stands = refl; unstruck = refl; asks = (p 0, (refl, refl)) }, (record { task = _; stands = refl; unstruck = refl; asks = ((p 0, (refl, refl)), refl) }, ((_, refl, record { is_quiet = refl; places = refl; count = refl; faults = refl }), tt))); plan = (tt, (tt, (tt, tt))) };
       ends = refl;
-      played = record { starts = (items any_script [] Empty, no_vars) ∷ []; main = refl; all = refl; each = (local refl (local refl (local refl (asks (lit≤ tt) (refl, refl) tt (ends (lit≤ tt) refl)))), tt) };
+      played = record { starts = (items any_script [] Empty, no_vars 2) ∷ []; main = refl; all = refl; each = (local refl (local refl (local refl (asks (lit≤ tt) (refl, refl) tt (ends (lit≤ tt) refl)))), tt) };
       one_each = refl;
       journals = (record { law = tt; homes = tt; rising = tt; closed = refl }, (record { law = tt; homes = tt; rising = tt; closed = refl }, tt));
     }
@@ -62,9 +62,9 @@ caught_runs =
 pub in_order_runs : IsRun in_order_script ordinary_setup in_order no_events
 in_order_runs =
     record {
-      folds = record { some = lit≤ tt; few = lit≤ tt; allowed = (record { task = _; place = p 0; live = record { acts = record { stands = refl; unstruck = refl }; is_at = refl; moves = refl }; next = refl; parent = refl }, (record { task = _; live = record { acts = record { stands = refl; unstruck = refl }; is_at = refl; moves = refl }; next_task = refl; under = refl; target = lit< tt }, (record { task = _; live = record { acts = record { stands = refl; unstruck = refl }; is_at = refl; moves = refl }; next_task = refl; under = refl; target = lit< tt }, (record { task = _; place = p 0; scope = _; live = record { acts = record { stands = refl; unstruck = refl }; is_at = refl; moves = refl }; own = refl; is_it = refl; finish = refl }, (record { task = _; place = p 0; live = record { acts = record { stands = refl; unstruck = refl }; is_at = refl; moves = refl }; none_open = refl }, (record { task = _; place = p 0; live = record { acts = record { stands = refl; unstruck = refl }; is_at = refl; moves = refl }; none_open = refl }, ((record { task = _; scope = _; acts = record { stands = refl; unstruck = refl }; waits = refl; own = refl; is_it = refl; is_quiet = refl }, record { places = refl; faults = refl }), (record { task = _; place = p 0; live = record { acts = record { stands = refl; unstruck = refl }; is_at = refl; moves = refl } }, (record { task = _; place = p 0; live = record { acts = record { stands = refl; unstruck = refl }; is_at = refl; moves = refl }; none_open = refl }, ((record { root = _; stands = refl; is_quiet = refl }, record { places = refl; faults = refl }), tt)))))))))); kills = (tt, (tt, (tt, (tt, (tt, (tt, (tt, (tt, (tt, (tt, tt)))))))))) };
+      folds = record { some = lit≤ tt; few = lit≤ tt; allowed = (record { task = _; stands = refl; unstruck = refl; asks = ((p 0, (refl, refl)), refl, refl) }, (record { task = _; stands = refl; unstruck = refl; asks = ((refl, refl), refl, refl, lit< tt) }, (record { task = _; stands = refl; unstruck = refl; asks = ((refl, refl), refl, refl, lit< tt) }, (record { task = _; stands = refl; unstruck = refl; asks = ((p 0, (refl, refl)), _, (refl, refl), refl) }, (record { task = _; stands = refl; unstruck = refl; asks = ((p 0, (refl, refl)), refl) }, (record { task = _; stands = refl; unstruck = refl; asks = ((p 0, (refl, refl)), refl) }, (record { task = _; stands = refl; unstruck = refl; asks = (refl, _, (refl, refl), record { is_quiet = refl; places = refl; count = refl; faults = refl }) }, (record { task = _; stands = refl; unstruck = refl; asks = (p 0, (refl, refl)) }, (record { task = _; stands = refl; unstruck = refl; asks = ((p 0, (refl, refl)), refl) }, ((_, refl, record { is_quiet = refl; places = refl; count = refl; faults = refl }), tt)))))))))); plan = (tt, (tt, (tt, (tt, (tt, (tt, (tt, (tt, (tt, (tt, tt)))))))))) };
       ends = refl;
-      played = record { starts = (items in_order_script [] Empty, no_vars) ∷ (items (Then (Throw (Num (pos 1))) Nothing) (0 ∷ 0 ∷ 0 ∷ 0 ∷ []) Empty, no_vars) ∷ (items (Then (Throw (Num (pos 2))) Nothing) (0 ∷ 0 ∷ 0 ∷ 1 ∷ []) Empty, no_vars) ∷ []; main = refl; all = refl; each = (local refl (asks (lit≤ tt) refl tt (asks (lit≤ tt) (refl, refl, refl) refl (asks (lit≤ tt) (refl, refl, refl) refl (local refl (asks (lit≤ tt) refl tt (asks (lit≤ tt) tt tt (local refl (asks (lit≤ tt) (refl, refl) tt (ends (lit≤ tt) refl))))))))), (local refl (ends (lit≤ tt) refl), (local refl (ends (lit≤ tt) refl), tt))) };
+      played = record { starts = (items in_order_script [] Empty, no_vars 2) ∷ (items (Then (Throw (Num (pos 1))) Nothing) (0 ∷ 0 ∷ 0 ∷ 0 ∷ []) Empty, no_vars 2) ∷ (items (Then (Throw (Num (pos 2))) Nothing) (0 ∷ 0 ∷ 0 ∷ 1 ∷ []) Empty, no_vars 2) ∷ []; main = refl; all = refl; each = (local refl (asks (lit≤ tt) refl tt (asks (lit≤ tt) (refl, refl, refl) refl (asks (lit≤ tt) (refl, refl, refl) refl (local refl (asks (lit≤ tt) refl tt (asks (lit≤ tt) tt tt (local refl (asks (lit≤ tt) (refl, refl) tt (ends (lit≤ tt) refl))))))))), (local refl (ends (lit≤ tt) refl), (local refl (ends (lit≤ tt) refl), tt))) };
       one_each = refl;
       journals = (record { law = tt; homes = tt; rising = tt; closed = refl }, (record { law = tt; homes = tt; rising = tt; closed = refl }, tt));
     }
@@ -72,9 +72,9 @@ in_order_runs =
 pub too_large_runs : IsRun too_large_script ordinary_setup too_large no_events
 too_large_runs =
     record {
-      folds = record { some = lit≤ tt; few = lit≤ tt; allowed = (record { task = _; place = p 0; live = record { acts = record { stands = refl; unstruck = refl }; is_at = refl; moves = refl }; none_open = refl }, ((record { root = _; stands = refl; is_quiet = refl }, record { places = refl; faults = refl }), tt)); kills = (tt, (tt, tt)) };
+      folds = record { some = lit≤ tt; few = lit≤ tt; allowed = (record { task = _; stands = refl; unstruck = refl; asks = ((p 0, (refl, refl)), refl) }, ((_, refl, record { is_quiet = refl; places = refl; count = refl; faults = refl }), tt)); plan = (tt, (tt, tt)) };
       ends = refl;
-      played = record { starts = (items too_large_script [] Empty, no_vars) ∷ []; main = refl; all = refl; each = (local refl (ends (lit≤ tt) refl), tt) };
+      played = record { starts = (items too_large_script [] Empty, no_vars 2) ∷ []; main = refl; all = refl; each = (local refl (ends (lit≤ tt) refl), tt) };
       one_each = refl;
       journals = (record { law = tt; homes = tt; rising = tt; closed = refl }, (record { law = tt; homes = tt; rising = tt; closed = refl }, tt));
     }
@@ -82,9 +82,9 @@ too_large_runs =
 pub used_away_runs : IsRun used_away_script ordinary_setup used_away used_away_journals
 used_away_runs =
     record {
-      folds = record { some = lit≤ tt; few = lit≤ tt; allowed = (record { task = _; live = record { acts = record { stands = refl; unstruck = refl }; is_at = refl; moves = refl }; next = refl; parent = refl; next_task = refl; target = lit< tt }, (record { task = _; from = p 0; acts = record { stands = refl; unstruck = refl }; travels = refl }, (record { task = _; place = p 1; live = record { acts = record { stands = refl; unstruck = refl }; is_at = refl; moves = refl }; none_open = refl }, ((record { task = _; scope = _; acts = record { stands = refl; unstruck = refl }; waits = refl; own = refl; is_it = refl; is_quiet = refl }, record { places = refl; faults = refl }), (record { task = _; place = p 0; live = record { acts = record { stands = refl; unstruck = refl }; is_at = refl; moves = refl } }, (record { task = _; place = p 0; live = record { acts = record { stands = refl; unstruck = refl }; is_at = refl; moves = refl }; none_open = refl }, ((record { root = _; stands = refl; is_quiet = refl }, record { places = refl; faults = refl }), tt))))))); kills = (tt, (tt, (tt, (tt, (tt, (tt, (tt, tt))))))) };
+      folds = record { some = lit≤ tt; few = lit≤ tt; allowed = (record { task = _; stands = refl; unstruck = refl; asks = ((refl, refl), refl, refl, refl, lit< tt) }, (record { task = _; stands = refl; unstruck = refl; asks = (p 0, refl) }, (record { task = _; stands = refl; unstruck = refl; asks = ((p 1, (refl, refl)), refl) }, (record { task = _; stands = refl; unstruck = refl; asks = (refl, _, (refl, refl), record { is_quiet = refl; places = refl; count = refl; faults = refl }) }, (record { task = _; stands = refl; unstruck = refl; asks = (p 0, (refl, refl)) }, (record { task = _; stands = refl; unstruck = refl; asks = ((p 0, (refl, refl)), refl) }, ((_, refl, record { is_quiet = refl; places = refl; count = refl; faults = refl }), tt))))))); plan = (tt, (tt, (tt, (tt, (tt, (tt, (tt, tt))))))) };
       ends = refl;
-      played = record { starts = (items used_away_script [] Empty, no_vars) ∷ (items (Then (Get 1 0 (Num (pos 0))) Nothing) (1 ∷ 0 ∷ 0 ∷ []) Empty, bound 0 (Ref (record { home = p 0; start = 0; generation = 1 })) no_vars) ∷ []; main = refl; all = refl; each = (stores (Gives 0 (Ref (record { home = p 0; start = 0; generation = 1 }))) (lit≤ tt) (refl, refl) refl (local refl (asks (lit≤ tt) (refl, refl, refl) refl (asks (lit≤ tt) tt tt (local refl (asks (lit≤ tt) (refl, refl) tt (ends (lit≤ tt) refl)))))), ((refl, local refl (ends (lit≤ tt) refl)), tt)) };
+      played = record { starts = (items used_away_script [] Empty, no_vars 2) ∷ (items (Then (Get 1 0 (Num (pos 0))) Nothing) (1 ∷ 0 ∷ 0 ∷ []) Empty, bound 0 (Ref (record { home = p 0; start = 0; generation = 1 })) (no_vars 2)) ∷ []; main = refl; all = refl; each = (stores (Gives 0 (Ref (record { home = p 0; start = 0; generation = 1 }))) (lit≤ tt) (refl, refl) refl (local refl (asks (lit≤ tt) (refl, refl, refl) refl (asks (lit≤ tt) tt tt (local refl (asks (lit≤ tt) (refl, refl) tt (ends (lit≤ tt) refl)))))), ((refl, local refl (ends (lit≤ tt) refl)), tt)) };
       one_each = refl;
       journals = (record { law = ((at_front refl, refl), tt); homes = (lit< tt, refl, tt); rising = (lit≤ tt, tt); closed = refl }, (record { law = tt; homes = tt; rising = tt; closed = refl }, tt));
     }
@@ -92,9 +92,9 @@ used_away_runs =
 pub values_runs : IsRun values_script ordinary_setup values no_events
 values_runs =
     record {
-      folds = record { some = lit≤ tt; few = lit≤ tt; allowed = (record { task = _; live = record { acts = record { stands = refl; unstruck = refl }; is_at = refl; moves = refl }; next = refl; parent = refl; next_task = refl; target = lit< tt }, (record { task = _; from = p 0; acts = record { stands = refl; unstruck = refl }; travels = refl }, (record { task = _; place = p 1; live = record { acts = record { stands = refl; unstruck = refl }; is_at = refl; moves = refl } }, (record { task = _; place = p 1; live = record { acts = record { stands = refl; unstruck = refl }; is_at = refl; moves = refl } }, (record { task = _; place = p 1; live = record { acts = record { stands = refl; unstruck = refl }; is_at = refl; moves = refl } }, (record { task = _; place = p 1; live = record { acts = record { stands = refl; unstruck = refl }; is_at = refl; moves = refl } }, (record { task = _; place = p 1; live = record { acts = record { stands = refl; unstruck = refl }; is_at = refl; moves = refl } }, (record { task = _; place = p 1; live = record { acts = record { stands = refl; unstruck = refl }; is_at = refl; moves = refl } }, (record { task = _; place = p 1; live = record { acts = record { stands = refl; unstruck = refl }; is_at = refl; moves = refl } }, (record { task = _; place = p 1; live = record { acts = record { stands = refl; unstruck = refl }; is_at = refl; moves = refl } }, (record { task = _; place = p 1; live = record { acts = record { stands = refl; unstruck = refl }; is_at = refl; moves = refl }; none_open = refl }, ((record { task = _; scope = _; acts = record { stands = refl; unstruck = refl }; waits = refl; own = refl; is_it = refl; is_quiet = refl }, record { places = refl; faults = refl }), (record { task = _; place = p 0; live = record { acts = record { stands = refl; unstruck = refl }; is_at = refl; moves = refl }; none_open = refl }, ((record { root = _; stands = refl; is_quiet = refl }, record { places = refl; faults = refl }), tt)))))))))))))); kills = (tt, (tt, (tt, (tt, (tt, (tt, (tt, (tt, (tt, (tt, (tt, (tt, (tt, (tt, tt)))))))))))))) };
+      folds = record { some = lit≤ tt; few = lit≤ tt; allowed = (record { task = _; stands = refl; unstruck = refl; asks = ((refl, refl), refl, refl, refl, lit< tt) }, (record { task = _; stands = refl; unstruck = refl; asks = (p 0, refl) }, (record { task = _; stands = refl; unstruck = refl; asks = (p 1, (refl, refl)) }, (record { task = _; stands = refl; unstruck = refl; asks = (p 1, (refl, refl)) }, (record { task = _; stands = refl; unstruck = refl; asks = (p 1, (refl, refl)) }, (record { task = _; stands = refl; unstruck = refl; asks = (p 1, (refl, refl)) }, (record { task = _; stands = refl; unstruck = refl; asks = (p 1, (refl, refl)) }, (record { task = _; stands = refl; unstruck = refl; asks = (p 1, (refl, refl)) }, (record { task = _; stands = refl; unstruck = refl; asks = (p 1, (refl, refl)) }, (record { task = _; stands = refl; unstruck = refl; asks = (p 1, (refl, refl)) }, (record { task = _; stands = refl; unstruck = refl; asks = ((p 1, (refl, refl)), refl) }, (record { task = _; stands = refl; unstruck = refl; asks = (refl, _, (refl, refl), record { is_quiet = refl; places = refl; count = refl; faults = refl }) }, (record { task = _; stands = refl; unstruck = refl; asks = ((p 0, (refl, refl)), refl) }, ((_, refl, record { is_quiet = refl; places = refl; count = refl; faults = refl }), tt)))))))))))))); plan = (tt, (tt, (tt, (tt, (tt, (tt, (tt, (tt, (tt, (tt, (tt, (tt, (tt, (tt, tt)))))))))))))) };
       ends = refl;
-      played = record { starts = (items values_script [] Empty, no_vars) ∷ (items values_block (0 ∷ []) Empty, no_vars) ∷ []; main = refl; all = refl; each = (asks (lit≤ tt) (refl, refl, refl) refl (asks (lit≤ tt) tt tt (ends (lit≤ tt) refl)), ((refl, asks (lit≤ tt) (refl, refl) tt (asks (lit≤ tt) (refl, refl) tt (asks (lit≤ tt) (refl, refl) tt (asks (lit≤ tt) (refl, refl) tt (asks (lit≤ tt) (refl, refl) tt (asks (lit≤ tt) (refl, refl) tt (asks (lit≤ tt) (refl, refl) tt (asks (lit≤ tt) (refl, refl) tt (ends (lit≤ tt) refl))))))))), tt)) };
+      played = record { starts = (items values_script [] Empty, no_vars 2) ∷ (items values_block (0 ∷ []) Empty, no_vars 2) ∷ []; main = refl; all = refl; each = (asks (lit≤ tt) (refl, refl, refl) refl (asks (lit≤ tt) tt tt (ends (lit≤ tt) refl)), ((refl, asks (lit≤ tt) (refl, refl) tt (asks (lit≤ tt) (refl, refl) tt (asks (lit≤ tt) (refl, refl) tt (asks (lit≤ tt) (refl, refl) tt (asks (lit≤ tt) (refl, refl) tt (asks (lit≤ tt) (refl, refl) tt (asks (lit≤ tt) (refl, refl) tt (asks (lit≤ tt) (refl, refl) tt (ends (lit≤ tt) refl))))))))), tt)) };
       one_each = refl;
       journals = (record { law = tt; homes = tt; rising = tt; closed = refl }, (record { law = tt; homes = tt; rising = tt; closed = refl }, tt));
     }
@@ -102,9 +102,9 @@ values_runs =
 pub kept_runs : IsRun kept_script ordinary_setup kept kept_journals
 kept_runs =
     record {
-      folds = record { some = lit≤ tt; few = lit≤ tt; allowed = (record { task = _; place = p 0; live = record { acts = record { stands = refl; unstruck = refl }; is_at = refl; moves = refl } }, (record { task = _; place = p 0; live = record { acts = record { stands = refl; unstruck = refl }; is_at = refl; moves = refl } }, (record { task = _; place = p 0; live = record { acts = record { stands = refl; unstruck = refl }; is_at = refl; moves = refl }; none_open = refl }, ((record { root = _; stands = refl; is_quiet = refl }, record { places = refl; faults = refl }), tt)))); kills = (tt, (tt, (tt, (tt, tt)))) };
+      folds = record { some = lit≤ tt; few = lit≤ tt; allowed = (record { task = _; stands = refl; unstruck = refl; asks = (p 0, (refl, refl)) }, (record { task = _; stands = refl; unstruck = refl; asks = (p 0, (refl, refl)) }, (record { task = _; stands = refl; unstruck = refl; asks = ((p 0, (refl, refl)), refl) }, ((_, refl, record { is_quiet = refl; places = refl; count = refl; faults = refl }), tt)))); plan = (tt, (tt, (tt, (tt, tt)))) };
       ends = refl;
-      played = record { starts = (items kept_script [] Empty, no_vars) ∷ []; main = refl; all = refl; each = (stores (Gives 0 (Ref (record { home = p 0; start = 0; generation = 1 }))) (lit≤ tt) (refl, refl) refl (stores (Fine) (lit≤ tt) (refl, refl, refl, refl) refl (stores (Gives 1 (Number (pos 5))) (lit≤ tt) (refl, refl, refl) refl (asks (lit≤ tt) (refl, refl) tt (stores (Gives 2 (Number (pos 0))) (lit≤ tt) (refl, refl, refl) refl (asks (lit≤ tt) (refl, refl) tt (stores (Fails Index) (lit≤ tt) (refl, refl, refl) refl (ends (lit≤ tt) refl))))))), tt) };
+      played = record { starts = (items kept_script [] Empty, no_vars 2) ∷ []; main = refl; all = refl; each = (stores (Gives 0 (Ref (record { home = p 0; start = 0; generation = 1 }))) (lit≤ tt) (refl, refl) refl (stores (Fine) (lit≤ tt) (refl, refl, refl, refl) refl (stores (Gives 1 (Number (pos 5))) (lit≤ tt) (refl, refl, refl) refl (asks (lit≤ tt) (refl, refl) tt (stores (Gives 2 (Number (pos 0))) (lit≤ tt) (refl, refl, refl) refl (asks (lit≤ tt) (refl, refl) tt (stores (Fails Index) (lit≤ tt) (refl, refl, refl) refl (ends (lit≤ tt) refl))))))), tt) };
       one_each = refl;
       journals = (record { law = ((at_front refl, refl), ((_, record { block = refl; index = refl }), ((_, record { block = refl; index = refl }, refl), ((_, record { block = refl; index = refl }, refl), ((_, refl, refl), tt))))); homes = (lit< tt, refl, (lit< tt, refl, (lit< tt, refl, (lit< tt, refl, (lit< tt, refl, tt))))); rising = (lit≤ tt, (lit≤ tt, (lit≤ tt, (lit≤ tt, (lit≤ tt, tt))))); closed = refl }, (record { law = tt; homes = tt; rising = tt; closed = refl }, tt));
     }
@@ -112,9 +112,9 @@ kept_runs =
 pub nowhere_runs : IsRun nowhere_script ordinary_setup nowhere no_events
 nowhere_runs =
     record {
-      folds = record { some = lit≤ tt; few = lit≤ tt; allowed = (record { task = _; place = p 0; live = record { acts = record { stands = refl; unstruck = refl }; is_at = refl; moves = refl }; none_open = refl }, ((record { root = _; stands = refl; is_quiet = refl }, record { places = refl; faults = refl }), tt)); kills = (tt, (tt, tt)) };
+      folds = record { some = lit≤ tt; few = lit≤ tt; allowed = (record { task = _; stands = refl; unstruck = refl; asks = ((p 0, (refl, refl)), refl) }, ((_, refl, record { is_quiet = refl; places = refl; count = refl; faults = refl }), tt)); plan = (tt, (tt, tt)) };
       ends = refl;
-      played = record { starts = (items nowhere_script [] Empty, no_vars) ∷ []; main = refl; all = refl; each = (local refl (ends (lit≤ tt) refl), tt) };
+      played = record { starts = (items nowhere_script [] Empty, no_vars 2) ∷ []; main = refl; all = refl; each = (local refl (ends (lit≤ tt) refl), tt) };
       one_each = refl;
       journals = (record { law = tt; homes = tt; rising = tt; closed = refl }, (record { law = tt; homes = tt; rising = tt; closed = refl }, tt));
     }
@@ -122,21 +122,21 @@ nowhere_runs =
 pub mixed_runs : IsRun mixed_script kill_setup mixed loss_in_transit_journals
 mixed_runs =
     record {
-      folds = record { some = lit≤ tt; few = lit≤ tt; allowed = (record { task = _; place = p 0; live = record { acts = record { stands = refl; unstruck = refl }; is_at = refl; moves = refl }; next = refl; parent = refl }, (record { task = _; live = record { acts = record { stands = refl; unstruck = refl }; is_at = refl; moves = refl }; next_task = refl; under = refl; target = lit< tt }, (record { task = _; place = p 0; scope = _; live = record { acts = record { stands = refl; unstruck = refl }; is_at = refl; moves = refl }; own = refl; is_it = refl; finish = refl }, (record { is_place = lit< tt; not_zero = λ e. cc; lives = refl }, ((record { task = _; scope = _; acts = record { stands = refl; unstruck = refl }; waits = refl; own = refl; is_it = refl; is_quiet = refl }, record { places = refl; faults = refl }), (record { task = _; place = p 0; live = record { acts = record { stands = refl; unstruck = refl }; is_at = refl; moves = refl }; none_open = refl }, ((record { root = _; stands = refl; is_quiet = refl }, record { places = refl; faults = refl }), tt))))))); kills = (lit< tt, (lit< tt, (lit< tt, ((refl, lit≤ tt), (tt, (tt, (tt, tt))))))) };
+      folds = record { some = lit≤ tt; few = lit≤ tt; allowed = (record { task = _; stands = refl; unstruck = refl; asks = ((p 0, (refl, refl)), refl, refl) }, (record { task = _; stands = refl; unstruck = refl; asks = ((refl, refl), refl, refl, lit< tt) }, (record { task = _; stands = refl; unstruck = refl; asks = ((p 0, (refl, refl)), _, (refl, refl), refl) }, ((lit< tt, (λ e. cc), refl), (record { task = _; stands = refl; unstruck = refl; asks = (refl, _, (refl, refl), record { is_quiet = refl; places = refl; count = refl; faults = refl }) }, (record { task = _; stands = refl; unstruck = refl; asks = ((p 0, (refl, refl)), refl) }, ((_, refl, record { is_quiet = refl; places = refl; count = refl; faults = refl }), tt))))))); plan = (lit< tt, (lit< tt, (lit< tt, ((refl, lit≤ tt), (tt, (tt, (tt, tt))))))) };
       ends = refl;
-      played = record { starts = (items mixed_script [] Empty, no_vars) ∷ (items (Then (Print (Num (pos 7))) Nothing) (0 ∷ 0 ∷ 0 ∷ 0 ∷ []) Empty, no_vars) ∷ []; main = refl; all = refl; each = (local refl (asks (lit≤ tt) refl tt (asks (lit≤ tt) (refl, refl, refl) refl (local refl (asks (lit≤ tt) refl tt (asks (lit≤ tt) tt tt (local refl (ends (lit≤ tt) refl))))))), (refl, tt)) };
+      played = record { starts = (items mixed_script [] Empty, no_vars 2) ∷ (items (Then (Print (Num (pos 7))) Nothing) (0 ∷ 0 ∷ 0 ∷ 0 ∷ []) Empty, no_vars 2) ∷ []; main = refl; all = refl; each = (local refl (asks (lit≤ tt) refl tt (asks (lit≤ tt) (refl, refl, refl) refl (local refl (asks (lit≤ tt) refl tt (asks (lit≤ tt) tt tt (local refl (ends (lit≤ tt) refl))))))), (refl, tt)) };
       one_each = refl;
       journals = (record { law = tt; homes = tt; rising = tt; closed = refl }, (record { law = refl; homes = tt; rising = (lit≤ tt, tt); closed = refl }, tt));
     }
 
 pub full_excluded : StoresNoRun 8 full_beside_hole
-full_excluded code places kills es more js h = let e : true ≡ false = h.journals.0.law.1.1.1.0 4 in cc
+full_excluded code places kills joins es more js h = let e : true ≡ false = h.journals.0.law.1.1.1.0 4 in cc
 
 pub higher_excluded : StoresNoRun 8 not_at_least
-higher_excluded code places kills es more js h = let e : true ≡ false = h.journals.0.law.1.1.1.0.0.least 0 (lit< tt) in cc
+higher_excluded code places kills joins es more js h = let e : true ≡ false = h.journals.0.law.1.1.1.0.0.least 0 (lit< tt) in cc
 
 pub other_word_excluded : StoresNoRun 8 another_word
-other_word_excluded code places kills es more js h =
+other_word_excluded code places kills joins es more js h =
     let found = h.journals.0.law.1.1.0 in
     let block : Some (record { start = 0; generation = 1; words = pos 0 ∷ pos 5 ∷ [] }) ≡ Some found.0 = found.1.block in
     let word : pos 4 ≡ word_at found.0.words (pos 1) = found.2 in
@@ -144,30 +144,30 @@ other_word_excluded code places kills es more js h =
     let is_five : pos 4 ≡ pos 5 = subst (λ (b : Live). pos 4 ≡ word_at b.words (pos 1)) same word in cc
 
 pub swallowed_excluded : BeginsNoRun 2 swallows_fault
-swallowed_excluded code heap kills rest js h =
-    let e : ◌≡◌ {A = List Fault} [] (Thrown (pos 1) ∷ []) = h.folds.allowed.1.1.1.1.0.1.faults in cc
+swallowed_excluded code heap kills joins rest js h =
+    let e : ◌≡◌ {A = List Fault} [] (Thrown (pos 1) ∷ []) = h.folds.allowed.1.1.1.1.0.asks.3.faults in cc
 
 -- task 0 plays the whole script
-main_plays : (starts more : List (Term × Vars)) (s : Term × Vars) (places : ℕ) (es : List Entry) (js : List (List PlaceEvent)) → slice_get more 0 ≡ Some s → EachPlays starts places es js 0 more → Begins starts (birth_of es 0).to places (travels (birth_of es 0)) (birth_of es 0).low s.1 s.0 (events_of_task es js 0) (acts_of es 0)
-main_plays starts [] s places es js h each = absurd (let f : ⊥ = cc in f)
-main_plays starts (x ∷ more) s places es js h each =
-    let e : x ≡ s = cc in subst (λ (y : Term × Vars). Begins starts (birth_of es 0).to places (travels (birth_of es 0)) (birth_of es 0).low y.1 y.0 (events_of_task es js 0) (acts_of es 0)) e each.0
+pub main_plays : (starts more : List (Term × Vars)) (s : Term × Vars) (es : List Entry) (js : List (List PlaceEvent)) → slice_get more 0 ≡ Some s → EachPlays starts es js 0 more → Begins starts (birth_of es 0).to (travels (birth_of es 0)) (birth_of es 0).low s.1 s.0 (events_of_task es js 0) (acts_of es 0)
+main_plays starts [] s es js h each = absurd (let f : ⊥ = cc in f)
+main_plays starts (x ∷ more) s es js h each =
+    let e : x ≡ s = cc in subst (λ (y : Term × Vars). Begins starts (birth_of es 0).to (travels (birth_of es 0)) (birth_of es 0).low y.1 y.0 (events_of_task es js 0) (acts_of es 0)) e each.0
 
 -- a print of 7 makes no print of 8
-prints_no_other : {starts : List (Term × Vars)} {cells : List (ℕ × Cell × List ℕ)} {more : List (ℕ × Act × List (List ℕ))} → Plays starts (p 0) 2 0 no_vars (items value_script [] Empty) [] cells ((0, Prints (pos 8) (0 ∷ []), []) ∷ more) → ⊥
+prints_no_other : {starts : List (Term × Vars)} {cells : List (ℕ × Cell × List ℕ)} {more : List (ℕ × Act × List (List ℕ))} → Plays starts (p 0) 0 (no_vars 2) (items value_script [] Empty) [] cells ((0, Prints (pos 8) (0 ∷ []), []) ∷ more) → ⊥
 prints_no_other (local e r) = let f : ⊥ = cc in f
 prints_no_other (stores a le tells b r) = tells
 prints_no_other (asks le fits so r) = let e : pos 8 ≡ pos 7 = fits.0 in cc
 
 -- nor an end
-prints_no_end : {starts : List (Term × Vars)} {cells : List (ℕ × Cell × List ℕ)} → Plays starts (p 0) 2 0 no_vars (items value_script [] Empty) [] cells ((0, End [], []) ∷ []) → ⊥
+prints_no_end : {starts : List (Term × Vars)} {cells : List (ℕ × Cell × List ℕ)} → Plays starts (p 0) 0 (no_vars 2) (items value_script [] Empty) [] cells ((0, End [], []) ∷ []) → ⊥
 prints_no_end (local e r) = let f : ⊥ = cc in f
 prints_no_end (stores a le tells b r) = tells
 prints_no_end (asks le fits so r) = fits
 prints_no_end (ends le e) = let f : ⊥ = cc in f
 
 pub other_value_excluded : IsNoRun value_script ordinary_setup other_value
-other_value_excluded js h = prints_no_other (main_plays h.played.starts h.played.starts (items value_script [] Empty, no_vars) 2 other_value js h.played.main h.played.each)
+other_value_excluded js h = prints_no_other (main_plays h.played.starts h.played.starts (items value_script [] Empty, no_vars 2) other_value js h.played.main h.played.each)
 
 pub early_end_excluded : IsNoRun value_script ordinary_setup ends_early
-early_end_excluded js h = prints_no_end (main_plays h.played.starts h.played.starts (items value_script [] Empty, no_vars) 2 ends_early js h.played.main h.played.each)
+early_end_excluded js h = prints_no_end (main_plays h.played.starts h.played.starts (items value_script [] Empty, no_vars 2) ends_early js h.played.main h.played.each)

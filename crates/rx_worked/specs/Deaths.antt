@@ -1,6 +1,6 @@
 -- Worked histories of deaths.
 use Rattle.std.specs.Prelude.{◌≡◌, ℕ, pos, List, [], ◌∷◌}
-use Rattle.rx_base.specs.declared.values.Fault.TheVariants.{Dead}
+use Rattle.rx_base.specs.declared.values.Fault.TheVariants.{Dead, Thrown}
 use Rattle.rx_rules.specs.declared.entries.Act.TheVariants.{Open, At as Calls, Spawn, Arrive, Wait, Release, End, Print}
 use Rattle.rx_rules.specs.declared.entries.Entry.{Entry}
 use Rattle.rx_rules.specs.declared.entries.Entry.TheVariants.{Step, Root, Death}
@@ -22,19 +22,39 @@ make_script = Then (Prints (Num (pos 1))) (Then (New 0 4) Nothing)
 
 -- two places; place 1 dies at moment 1
 abbrev pub first_kill_setup : Given
-first_kill_setup = record { places = 2; heap = 256; kills = record { place = p 1; moment = 1 } ∷ [] }
+first_kill_setup = record { places = 2; heap = 256; kills = record { place = p 1; moment = 1 } ∷ []; joins = [] }
 
 -- two places; the death of place 1 is due where the ordinary case is over
 abbrev pub late_kill_setup : Given
-late_kill_setup = record { places = 2; heap = 256; kills = record { place = p 1; moment = 10 } ∷ [] }
+late_kill_setup = record { places = 2; heap = 256; kills = record { place = p 1; moment = 10 } ∷ []; joins = [] }
 
 -- three places; places 1 and 2 die at moment 4
 abbrev pub both_at_once_setup : Given
-both_at_once_setup = record { places = 3; heap = 256; kills = record { place = p 1; moment = 4 } ∷ record { place = p 2; moment = 4 } ∷ [] }
+both_at_once_setup = record {
+  places = 3;
+  heap = 256;
+  kills = record { place = p 1; moment = 4 } ∷ record {
+    place = p 2;
+    moment = 4;
+  } ∷ [];
+  joins = [];
+}
 
 -- three places; place 1 dies at moment 6 and place 2 at moment 7
 abbrev pub both_die_setup : Given
-both_die_setup = record { places = 3; heap = 256; kills = record { place = p 1; moment = 6 } ∷ record { place = p 2; moment = 7 } ∷ [] }
+both_die_setup = record {
+  places = 3;
+  heap = 256;
+  kills = record { place = p 1; moment = 6 } ∷ record {
+    place = p 2;
+    moment = 7;
+  } ∷ [];
+  joins = [];
+}
+
+-- three places; place 1 dies at moment 9
+abbrev pub held_fault_setup : Given
+held_fault_setup = record { places = 3; heap = 256; kills = record { place = p 1; moment = 9 } ∷ []; joins = [] }
 
 -- the scope outside a dead finish is released while the task at place 3 runs on
 abbrev pub leaves_orphan : List Entry
@@ -52,7 +72,7 @@ leaves_orphan =
     ∷ Step (t 2) (Wait (s 3) []) []
     ∷ Step (t 3) (Arrive (p 3)) []
     ∷ Death (p 2)
-    ∷ Step (t 1) (Release (s 2) (m 4) []) []
+    ∷ Step (t 1) (Release (s 2) (m 4) 0 []) []
     ∷ []
 
 -- the callee is lost, and the at is released while the task that it left behind runs on
@@ -65,7 +85,7 @@ at_leaves_orphan =
     ∷ Step (t 1) (Wait (s 2) []) []
     ∷ Step (t 2) (Arrive (p 2)) []
     ∷ Death (p 1)
-    ∷ Step (t 0) (Release (s 1) (m 2) []) []
+    ∷ Step (t 0) (Release (s 1) (m 2) 0 []) []
     ∷ []
 
 -- place 1 dies, and then a task is started for it
@@ -75,9 +95,9 @@ born_struck =
     ∷ Death (p 1)
     ∷ Step (t 0) (Spawn (t 1) (s 1) (p 0) (p 1) (0 ∷ 0 ∷ [])) []
     ∷ Step (t 0) (Wait (s 1) []) []
-    ∷ Step (t 0) (Release (s 1) (m 2) []) []
+    ∷ Step (t 0) (Release (s 1) (m 2) 0 []) []
     ∷ Step (t 0) (End (Dead (p 1) ∷ [])) []
-    ∷ Root (m 0) (Dead (p 1) ∷ [])
+    ∷ Root (m 0) 0 (Dead (p 1) ∷ [])
     ∷ []
 
 -- its journals
@@ -102,14 +122,14 @@ at_and_async =
     ∷ Step (t 1) (Arrive (p 1)) []
     ∷ Step (t 1) (Spawn (t 2) (s 1) (p 1) (p 1) (0 ∷ 0 ∷ 0 ∷ [])) []
     ∷ Step (t 1) (End []) []
-    ∷ Step (t 0) (Release (s 2) (m 0) []) []
+    ∷ Step (t 0) (Release (s 2) (m 0) 0 []) []
     ∷ Step (t 0) (Print (pos 6) (0 ∷ 1 ∷ [])) []
     ∷ Step (t 0) (Wait (s 1) []) []
     ∷ Step (t 2) (Print (pos 5) (0 ∷ 0 ∷ 0 ∷ 0 ∷ [])) []
     ∷ Step (t 2) (End []) []
-    ∷ Step (t 0) (Release (s 1) (m 0) []) []
+    ∷ Step (t 0) (Release (s 1) (m 0) 0 []) []
     ∷ Step (t 0) (End []) []
-    ∷ Root (m 0) []
+    ∷ Root (m 0) 0 []
     ∷ []
 
 -- its journals
@@ -124,6 +144,7 @@ KillOneEntryEarly =
       places = 2;
       heap = heap;
       kills = record { place = p 1; moment = 4 } ∷ [];
+      joins = [];
     }) loss_in_transit js → ⊥
 
 -- a block is made between two entries
@@ -131,7 +152,7 @@ abbrev pub makes_between : List Entry
 makes_between =
     Step (t 0) (Print (pos 1) (0 ∷ [])) []
     ∷ Step (t 0) (End []) ((1 ∷ []) ∷ [])
-    ∷ Root (m 0) []
+    ∷ Root (m 0) 0 []
     ∷ []
 
 -- its journals, where the event has this stamp
@@ -153,10 +174,10 @@ both_die =
     ∷ Step (t 1) (End []) []
     ∷ Death (p 1)
     ∷ Death (p 2)
-    ∷ Step (t 0) (Release (s 1) (m 2) []) []
+    ∷ Step (t 0) (Release (s 1) (m 2) 0 []) []
     ∷ Step (t 0) (Print (pos 9) (0 ∷ 1 ∷ 0 ∷ [])) []
     ∷ Step (t 0) (End []) []
-    ∷ Root (m 0) []
+    ∷ Root (m 0) 0 []
     ∷ []
 
 -- its journals
@@ -173,12 +194,36 @@ both_at_once =
     ∷ Step (t 1) (Arrive (p 1)) []
     ∷ Death (p 1)
     ∷ Death (p 2)
-    ∷ Step (t 0) (Release (s 1) (m 2) []) []
+    ∷ Step (t 0) (Release (s 1) (m 2) 0 []) []
     ∷ Step (t 0) (End (Dead (p 1) ∷ [])) []
-    ∷ Root (m 0) (Dead (p 1) ∷ [])
+    ∷ Root (m 0) 0 (Dead (p 1) ∷ [])
     ∷ []
 
 -- its journals
 abbrev pub both_at_once_journals : List (List PlaceEvent)
 both_at_once_journals =
     [] ∷ (Close 4 ∷ []) ∷ (Close 5 ∷ []) ∷ []
+
+-- a finish dies that holds a fault, and the release outside it counts the fault
+abbrev pub held_fault : List Entry
+held_fault =
+    Step (t 0) (Open (s 1) (s 0) (0 ∷ 0 ∷ 0 ∷ [])) ((0 ∷ []) ∷ [])
+    ∷ Step (t 0) (Spawn (t 1) (s 1) (p 0) (p 1) (0 ∷ 0 ∷ 0 ∷ 0 ∷ [])) []
+    ∷ Step (t 0) (Wait (s 1) []) []
+    ∷ Step (t 1) (Arrive (p 1)) []
+    ∷ Step (t 1) (Open (s 2) (s 1) (0 ∷ 0 ∷ 0 ∷ 0 ∷ 0 ∷ [])) []
+    ∷ Step (t 1) (Spawn (t 2) (s 2) (p 1) (p 2) (0 ∷ 0 ∷ 0 ∷ 0 ∷ 0 ∷ 0 ∷ [])) []
+    ∷ Step (t 1) (Wait (s 2) []) []
+    ∷ Step (t 2) (Arrive (p 2)) []
+    ∷ Step (t 2) (End (Thrown (pos 5) ∷ [])) ((0 ∷ 0 ∷ 0 ∷ 0 ∷ 0 ∷ 0 ∷ 0 ∷ []) ∷ [])
+    ∷ Death (p 1)
+    ∷ Step (t 0) (Release (s 1) (m 2) 1 []) []
+    ∷ Step (t 0) (Print (pos 9) (0 ∷ 1 ∷ 0 ∷ [])) []
+    ∷ Step (t 0) (End []) []
+    ∷ Root (m 0) 0 []
+    ∷ []
+
+-- its journals
+abbrev pub held_fault_journals : List (List PlaceEvent)
+held_fault_journals =
+    [] ∷ (Close 9 ∷ []) ∷ [] ∷ []

@@ -16,8 +16,9 @@ use Rattle.rx_rules.specs.Examples.{t, s, p, m}
 -- no whole run over heaps of so many words has a journal of place 0 that begins with these events
 abbrev pub StoresNoRun : ℕ → List PlaceEvent → Type 0
 StoresNoRun heap front =
-    (code : Block) (places : ℕ) (kills : List Kill) (es : List Entry) (more : List PlaceEvent) (js : List (List PlaceEvent))
-    → IsRun code (record { places = places; heap = heap; kills = kills }) es ((front ++ more) ∷ js) → ⊥
+    (code : Block) (places : ℕ) (kills : List Kill) (joins : List ℕ) (es : List Entry) (more : List PlaceEvent)
+    (js : List (List PlaceEvent))
+    → IsRun code (record { places = places; heap = heap; kills = kills; joins = joins }) es ((front ++ more) ∷ js) → ⊥
 
 -- the history is in no whole run of the script under this setup
 abbrev pub IsNoRun : Block → Given → List Entry → Type 0
@@ -98,7 +99,7 @@ turns =
     Step (t 0) (Print (pos 1) (1 ∷ 0 ∷ 0 ∷ 0 ∷ 0 ∷ [])) ((0 ∷ []) ∷ (1 ∷ []) ∷ (1 ∷ 0 ∷ 0 ∷ []) ∷ [])
     ∷ Step (t 0) (Print (pos 7) (1 ∷ 1 ∷ 0 ∷ 1 ∷ 0 ∷ [])) ((1 ∷ 0 ∷ 1 ∷ []) ∷ (1 ∷ 1 ∷ 0 ∷ []) ∷ [])
     ∷ Step (t 0) (End []) ((1 ∷ 1 ∷ 1 ∷ []) ∷ [])
-    ∷ Root (m 0) []
+    ∷ Root (m 0) 0 []
     ∷ []
 
 -- the task prints 3, though its starter has set its own variable to 4 before
@@ -109,16 +110,16 @@ copied =
     ∷ Step (t 0) (Wait (s 1) []) ((1 ∷ 1 ∷ []) ∷ [])
     ∷ Step (t 1) (Print (pos 3) (1 ∷ 0 ∷ 0 ∷ [])) []
     ∷ Step (t 1) (End []) []
-    ∷ Step (t 0) (Release (s 1) (m 0) []) []
+    ∷ Step (t 0) (Release (s 1) (m 0) 0 []) []
     ∷ Step (t 0) (End []) []
-    ∷ Root (m 0) []
+    ∷ Root (m 0) 0 []
     ∷ []
 
 -- the number passes, and nothing is printed
 abbrev pub not_caught : List Entry
 not_caught =
     Step (t 0) (End (Thrown (pos 1) ∷ [])) ((0 ∷ []) ∷ (0 ∷ 0 ∷ 0 ∷ []) ∷ [])
-    ∷ Root (m 0) (Thrown (pos 1) ∷ [])
+    ∷ Root (m 0) 0 (Thrown (pos 1) ∷ [])
     ∷ []
 
 -- the number is caught
@@ -126,7 +127,7 @@ abbrev pub caught : List Entry
 caught =
     Step (t 0) (Print (pos 2) (0 ∷ 1 ∷ 0 ∷ [])) ((0 ∷ []) ∷ (0 ∷ 0 ∷ 0 ∷ []) ∷ [])
     ∷ Step (t 0) (End []) []
-    ∷ Root (m 0) []
+    ∷ Root (m 0) 0 []
     ∷ []
 
 -- the fault of the body, that of the task that ended first, and then the other's
@@ -138,17 +139,17 @@ in_order =
     ∷ Step (t 0) (Wait (s 1) (Thrown (pos 3) ∷ [])) ((0 ∷ 0 ∷ 0 ∷ 2 ∷ []) ∷ [])
     ∷ Step (t 1) (End (Thrown (pos 1) ∷ [])) ((0 ∷ 0 ∷ 0 ∷ 0 ∷ 0 ∷ []) ∷ [])
     ∷ Step (t 2) (End (Thrown (pos 2) ∷ [])) ((0 ∷ 0 ∷ 0 ∷ 1 ∷ 0 ∷ []) ∷ [])
-    ∷ Step (t 0) (Release (s 1) (m 0) (Thrown (pos 3) ∷ Thrown (pos 1) ∷ Thrown (pos 2) ∷ [])) []
+    ∷ Step (t 0) (Release (s 1) (m 0) 0 (Thrown (pos 3) ∷ Thrown (pos 1) ∷ Thrown (pos 2) ∷ [])) []
     ∷ Step (t 0) (Print (pos 4) (0 ∷ 1 ∷ 0 ∷ [])) []
     ∷ Step (t 0) (End []) []
-    ∷ Root (m 0) []
+    ∷ Root (m 0) 0 []
     ∷ []
 
 -- the sum is raised, and nothing is printed
 abbrev pub too_large : List Entry
 too_large =
     Step (t 0) (End (Overflow ∷ [])) ((0 ∷ []) ∷ [])
-    ∷ Root (m 0) (Overflow ∷ [])
+    ∷ Root (m 0) 0 (Overflow ∷ [])
     ∷ []
 
 -- the callee at place 1 uses a reference to a block of place 0
@@ -157,10 +158,10 @@ used_away =
     Step (t 0) (Calls (s 1) (s 0) (t 1) (p 0) (p 1) (1 ∷ 0 ∷ 0 ∷ [])) ((0 ∷ []) ∷ (1 ∷ []) ∷ [])
     ∷ Step (t 1) (Arrive (p 1)) []
     ∷ Step (t 1) (End (WrongPlace ∷ [])) ((1 ∷ 0 ∷ 0 ∷ 0 ∷ []) ∷ [])
-    ∷ Step (t 0) (Release (s 1) (m 0) (WrongPlace ∷ [])) []
+    ∷ Step (t 0) (Release (s 1) (m 0) 0 (WrongPlace ∷ [])) []
     ∷ Step (t 0) (Print (pos 5) (1 ∷ 1 ∷ 0 ∷ [])) []
     ∷ Step (t 0) (End []) []
-    ∷ Root (m 0) []
+    ∷ Root (m 0) 0 []
     ∷ []
 
 -- its journals
@@ -182,9 +183,9 @@ values =
     ∷ Step (t 1) (Print (pos 0) (0 ∷ 6 ∷ [])) []
     ∷ Step (t 1) (Print (pos 0) (0 ∷ 7 ∷ [])) []
     ∷ Step (t 1) (End []) []
-    ∷ Step (t 0) (Release (s 1) (m 0) []) []
+    ∷ Step (t 0) (Release (s 1) (m 0) 0 []) []
     ∷ Step (t 0) (End []) []
-    ∷ Root (m 0) []
+    ∷ Root (m 0) 0 []
     ∷ []
 
 -- the word that was written, the word that was not, and an index that is not in the block
@@ -193,7 +194,7 @@ kept =
     Step (t 0) (Print (pos 5) (3 ∷ [])) ((0 ∷ []) ∷ (1 ∷ []) ∷ (2 ∷ []) ∷ [])
     ∷ Step (t 0) (Print (pos 0) (5 ∷ [])) ((4 ∷ []) ∷ [])
     ∷ Step (t 0) (End (Index ∷ [])) ((6 ∷ []) ∷ [])
-    ∷ Root (m 0) (Index ∷ [])
+    ∷ Root (m 0) 0 (Index ∷ [])
     ∷ []
 
 -- its journals
@@ -211,7 +212,7 @@ kept_journals =
 abbrev pub nowhere : List Entry
 nowhere =
     Step (t 0) (End (NoPlace ∷ [])) ((0 ∷ []) ∷ [])
-    ∷ Root (m 0) (NoPlace ∷ [])
+    ∷ Root (m 0) 0 (NoPlace ∷ [])
     ∷ []
 
 -- place 1 dies while the task travels to it, and its starter raises the dead place before the number, which no `catch dead` takes
@@ -221,9 +222,9 @@ mixed =
     ∷ Step (t 0) (Spawn (t 1) (s 1) (p 0) (p 1) (0 ∷ 0 ∷ 0 ∷ 0 ∷ [])) []
     ∷ Step (t 0) (Wait (s 1) (Thrown (pos 3) ∷ [])) ((0 ∷ 0 ∷ 0 ∷ 1 ∷ []) ∷ [])
     ∷ Death (p 1)
-    ∷ Step (t 0) (Release (s 1) (m 2) (Thrown (pos 3) ∷ [])) []
+    ∷ Step (t 0) (Release (s 1) (m 2) 0 (Thrown (pos 3) ∷ [])) []
     ∷ Step (t 0) (End (Dead (p 1) ∷ Thrown (pos 3) ∷ [])) []
-    ∷ Root (m 0) (Dead (p 1) ∷ Thrown (pos 3) ∷ [])
+    ∷ Root (m 0) 0 (Dead (p 1) ∷ Thrown (pos 3) ∷ [])
     ∷ []
 
 -- a release throws nothing, though a task has ended with a fault
@@ -233,7 +234,7 @@ swallows_fault =
     ∷ Step (t 0) (Spawn (t 1) (s 1) (p 0) (p 0) (0 ∷ 0 ∷ [])) []
     ∷ Step (t 0) (Wait (s 1) []) []
     ∷ Step (t 1) (End (Thrown (pos 1) ∷ [])) ((0 ∷ 0 ∷ 0 ∷ []) ∷ [])
-    ∷ Step (t 0) (Release (s 1) (m 0) []) []
+    ∷ Step (t 0) (Release (s 1) (m 0) 0 []) []
     ∷ []
 
 -- 8 is printed where 7 is to be
@@ -241,14 +242,14 @@ abbrev pub other_value : List Entry
 other_value =
     Step (t 0) (Print (pos 8) (0 ∷ [])) []
     ∷ Step (t 0) (End []) []
-    ∷ Root (m 0) []
+    ∷ Root (m 0) 0 []
     ∷ []
 
 -- the task ends, and has not printed
 abbrev pub ends_early : List Entry
 ends_early =
     Step (t 0) (End []) []
-    ∷ Root (m 0) []
+    ∷ Root (m 0) 0 []
     ∷ []
 
 -- words 4 to 7 are free again, and four words are refused

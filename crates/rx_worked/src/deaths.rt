@@ -1,11 +1,13 @@
 // Worked histories of deaths: who is waited for, who is lost, when a place may die, and where an event may be stamped.
 ghost use Rattle.rx_rules.specs.Examples.{ordinary_script, ordinary_setup, ordinary_case, ordinary_case_journals, source_script};
+ghost use Rattle.rx_rules.specs.Examples.{masked_script};
 ghost use Rattle.rx_rules.specs.Inversions.{BeginsNoRun};
 ghost use Rattle.rx_rules.specs.Run.{IsRun};
 ghost use Rattle.rx_worked.specs.Deaths.{leaves_orphan, at_leaves_orphan, first_kill_setup, born_struck, born_struck_journals};
 ghost use Rattle.rx_worked.specs.Deaths.{arrives_at_dead, async_inside_script, at_and_async, at_and_async_journals, KillOneEntryEarly};
 ghost use Rattle.rx_worked.specs.Deaths.{make_script, makes_between, stamped, StampIsBetween, both_die_setup, both_die};
 ghost use Rattle.rx_worked.specs.Deaths.{both_die_journals, late_kill_setup, both_at_once_setup, both_at_once, both_at_once_journals};
+ghost use Rattle.rx_worked.specs.Deaths.{held_fault_setup, held_fault, held_fault_journals};
 
 /// A law: no scope is released while a task under a scope below it runs on, whose own finish died.
 pub fn orphans_are_waited_for()
@@ -60,4 +62,9 @@ pub fn kill_past_the_end_is_a_run()
 /// A law: of two kills at one moment the second is done right after the first.
 pub fn two_kills_at_one_moment_are_a_run()
     ensures { IsRun ordinary_script both_at_once_setup both_at_once both_at_once_journals }
+{}
+
+/// A law: a fault that a finish held when its place died is counted by the release outside it.
+pub fn held_fault_is_masked()
+    ensures { IsRun masked_script held_fault_setup held_fault held_fault_journals }
 {}

@@ -4,4 +4,5 @@
 #![tactic(auto)]
 
 pub mod deaths;
+pub mod places;
 pub mod statements;

@@ -18,11 +18,11 @@ use Rattle.rx_finish.specs.Callers.{MayAsk, HasNumbers, MayAskMoving, MayAskRele
 use Rattle.rx_ticket.specs.declared.tickets.AnyTicket.{AnyTicket}
 use Rattle.rx_ticket.specs.declared.tickets.AnyTicket.TheVariants.{Moving, Running, Held, Host}
 use Rattle.rx_history.specs.declared.asks.Ask.{Ask}
-use Rattle.rx_history.specs.declared.asks.Ask.TheVariants.{Open, At as Calls, Spawn, Arrive, Wait, Release, End, Print, Root}
+use Rattle.rx_history.specs.declared.asks.Ask.TheVariants.{Open, At as Calls, Spawn, Arrive, Wait, Release, End, Print, Root, Census}
 use Rattle.rx_history.specs.Setups.{given}
 use Rattle.rx_ledger.specs.declared.asks.Request.{Request}
 use Rattle.rx_ledger.specs.declared.asks.Reply.{Reply}
-use Rattle.rx_ledger.specs.declared.asks.Reply.TheVariants.{Opened, Called, Spawned, Landed, Waits, Released, Ended, Printed}
+use Rattle.rx_ledger.specs.declared.asks.Reply.TheVariants.{Opened, Called, Spawned, Landed, Waits, Released, Ended, Printed, Census as Counted}
 use Rattle.rx_ledger.specs.declared.asks.Reply.TheVariants.{RootDone, NotYet, Lost, NoMemory}
 use Rattle.rx_ledger.specs.Answering.{asker, main_caller}
 use Rattle.rx_ledger.specs.Asking.{MayApply, MayAskFor}
@@ -42,7 +42,7 @@ asks_running : MayWaitNext → MayEndNext → (k : Kept) (who : Caller) (inside 
 asks_running wait end k who inside Open path hist three may own s = (may, s.1)
 asks_running wait end k who inside (Calls to) path hist three may own s = absurd s
 asks_running wait end k who inside (Spawn to) path hist three may own s =
-    (record { asks = may; target = subst (λ (n : ℕ). to.0 < n) (sym (tree-places k.setup.places k.entries ∙ three)) s.0 }, s.1)
+    (record { asks = may; target = (let some = s.0 in let all = tree-places k.setup.places k.entries in omega (arith, some, all, three)) }, s.1)
 asks_running wait end k who inside Arrive path hist three may own s = absurd s
 asks_running wait end k who true (Wait thrown) path hist three may own s =
     (wait (given k.setup) k.entries who own.0 [] (front_folds (given k.setup) k.entries k.behind hist.folds) own.1 may, s.1)
@@ -52,6 +52,7 @@ asks_running wait end k who false (End thrown) path hist three may own s =
     (end (given k.setup) k.entries who (front_folds (given k.setup) k.entries k.behind hist.folds) own may, s.1)
 asks_running wait end k who true (End thrown) path hist three may own s = absurd (let z : ⊥ = (let e : true ≡ false = s.0 in cc) in z)
 asks_running wait end k who inside (Print value) path hist three may own s = (may, s)
+asks_running wait end k who inside Census path hist three may own s = (may, s)
 asks_running wait end k who inside Root path hist three may own s = absurd s
 
 pub may_ask : MayWaitNext → MayEndNext → (k : Kept) (t : AnyTicket) (inside : Bool) (ask : Ask) (path : Option (List ℕ)) → IsHistory k → k.setup.places ≡ 3 → Serves (tree_seen k) t → OwnsSo k inside t → Suits t inside ask path → MayAskFor (tree_seen k) t path ask
@@ -127,6 +128,7 @@ served T (Running w) inside (Wait thrown) path s may = weaker T w _ _ (λ x p. p
 served T (Running w) inside Release path s may = absurd s
 served T (Running w) inside (End thrown) path s may = weaker T w _ _ (λ x p. p.moving) may.0
 served T (Running w) inside (Print value) path s may = may.0
+served T (Running w) inside Census path s may = may.0
 served T (Running w) inside Root path s may = absurd s
 served T (Held w) inside ask path s may = (subst (λ (a : Ask). MayAskFor T (Held w) path a) s.0 may).0
 served T Host inside ask path s may = tt
@@ -158,6 +160,7 @@ goes_on T k k' q (Waits ticket) inside s h g t e = waits_on T ticket t g e
 goes_on T k k' q (Released ticket outcome) inside s h g t e = runs_on T ticket t g e
 goes_on T k k' q Ended inside s h g t e = no_ticket t e
 goes_on T k k' q (Printed ticket) inside s h g t e = runs_on T ticket t g e
+goes_on T k k' q (Counted ticket places) inside s h g t e = runs_on T ticket t g e
 goes_on T k k' q RootDone inside s h g t e = no_ticket t e
 goes_on T k k' q (NotYet place z) inside s h g t e = served_by T q inside s z h.answers.0 g t e
 goes_on T k k' q (Lost place at) inside s h g t e = no_ticket t e
@@ -196,6 +199,7 @@ same_task k k' q (Waits ticket) h t v e b = his q h.answers.who ticket v (Held t
 same_task k k' q (Released ticket outcome) h t v e b = his q h.answers.who ticket v (Running ticket) t (asked_by q _ h.answers.asked) (task_is ticket _ h.answers.ticket_is) refl e b
 same_task k k' q Ended h t v e b = no_ticket t e
 same_task k k' q (Printed ticket) h t v e b = his q h.answers.who ticket v (Running ticket) t (asked_by q _ h.answers.asked) (task_is ticket _ h.answers.ticket_is) refl e b
+same_task k k' q (Counted ticket places) h t v e b = his q h.answers.who ticket v (Running ticket) t (asked_by q _ h.answers.asked) (task_is ticket _ h.answers.ticket_is) refl e b
 same_task k k' q RootDone h t v e b = no_ticket t e
 same_task k k' q (NotYet place z) h t v e b = his_back q z t v h.answers.0 e b
 same_task k k' q (Lost place at) h t v e b = no_ticket t e
@@ -222,6 +226,7 @@ owns_on k k' q (Waits ticket) inside own s h o = o
 owns_on k k' q (Released ticket outcome) inside own s h o = out_of_one inside own o
 owns_on k k' q Ended inside own s h o = o
 owns_on k k' q (Printed ticket) inside own s h o = o
+owns_on k k' q (Counted ticket places) inside own s h o = o
 owns_on k k' q RootDone inside own s h o = o
 owns_on k k' q (NotYet place z) inside own s h o = o
 owns_on k k' q (Lost place at) inside own s h o = o
@@ -257,6 +262,7 @@ begins T (Waits ticket) t h e = no_ticket t e
 begins T (Released ticket outcome) t h e = no_ticket t e
 begins T Ended t h e = no_ticket t e
 begins T (Printed ticket) t h e = no_ticket t e
+begins T (Counted ticket places) t h e = no_ticket t e
 begins T RootDone t h e = no_ticket t e
 begins T (NotYet place request) t h e = no_ticket t e
 begins T (Lost place at) t h e = no_ticket t e

@@ -9,9 +9,10 @@ use Rattle.rx_finish.specs.Callers.{MayAskMoving, MayAskArrive, MayAskRelease}
 use Rattle.rx_ticket.specs.declared.tickets.AnyTicket.{AnyTicket}
 use Rattle.rx_ticket.specs.declared.tickets.AnyTicket.TheVariants.{Moving, Running, Held, Host}
 use Rattle.rx_history.specs.declared.asks.Ask.{Ask}
-use Rattle.rx_history.specs.declared.asks.Ask.TheVariants.{Open, At as Calls, Spawn, Arrive, Wait, Release, End, Print, Root}
+use Rattle.rx_history.specs.declared.asks.Ask.TheVariants.{Open, At as Calls, Spawn, Arrive, Wait, Release, End, Print, Root, Census}
 use Rattle.rx_ledger.specs.declared.asks.Reply.{Reply}
-use Rattle.rx_ledger.specs.declared.asks.Reply.TheVariants.{Opened, Called, Spawned, Landed, Waits, Released, Ended, Printed}
+use Rattle.rx_ledger.specs.declared.asks.Reply.TheVariants.{Opened, Called, Spawned, Landed}
+use Rattle.rx_ledger.specs.declared.asks.Reply.TheVariants.{Waits, Released, Ended, Printed, Census as Counted}
 use Rattle.rx_ledger.specs.declared.asks.Reply.TheVariants.{RootDone, NotYet, Lost, NoMemory}
 use Rattle.rx_ledger.specs.Answering.{asker}
 use Rattle.rx_ledger.specs.Asking.{HasPath, NoPath}
@@ -67,6 +68,7 @@ SuitsRunning inside Release path = ⊥
 SuitsRunning inside (End thrown) path = (inside ≡ false) × NoPath path
 SuitsRunning inside (Print value) path = HasPath path
 SuitsRunning inside Root path = ⊥
+SuitsRunning inside Census path = HasPath path
 
 abbrev pub Suits : AnyTicket → Bool → Ask → Option (List ℕ) → Type 0
 Suits (Moving who) inside ask path = (ask ≡ Arrive) × (path ≡ None)
@@ -84,6 +86,7 @@ inside_after (Waits ticket) inside = inside
 inside_after (Released ticket outcome) inside = false
 inside_after Ended inside = inside
 inside_after (Printed ticket) inside = inside
+inside_after (Counted ticket places) inside = inside
 inside_after RootDone inside = inside
 inside_after (NotYet place request) inside = inside
 inside_after (Lost place at) inside = inside

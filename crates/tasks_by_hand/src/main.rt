@@ -9,7 +9,7 @@ ghost use Rattle.tasks_by_hand.specs.Jobs.{IsReady, Suits, jobs_after};
 
 use rx_base::{Batch, Faults, Kill, Path, PlaceId};
 use rx_counts::CountLedger;
-use rx_history::{Ask, Journal, Journals, KillList, Setup};
+use rx_history::{Ask, JoinList, Journal, Journals, KillList, Setup};
 use rx_ledger::{Keeper, Reply, Request, laws};
 use rx_ticket::AnyTicket;
 use rx_trace::write_trace;
@@ -114,8 +114,9 @@ fn run<R: Print>(rt: &R, alloc: Global) -> Option<()> {
         places: 3,
         heap: 1,
         kills,
+        joins: JoinList::open(alloc),
     };
-    let ledger = CountLedger::open(alloc, 3).ok()?;
+    let ledger = CountLedger::open_for(alloc, 3, 0).ok()?;
     let mut jobs = Vec::with_capacity(alloc, 2).ok()?;
     let Ok((mut keeper, ticket)) = Keeper::open(alloc, ledger, &setup) else {
         jobs.destroy_empty();

@@ -10,9 +10,10 @@ use Rattle.rx_nodes.specs.declared.nodes.ExprId.{ExprId}
 use Rattle.rx_nodes.specs.declared.nodes.Expr.{Expr as Part}
 use Rattle.rx_nodes.specs.declared.nodes.Stmt.{Stmt as Node}
 use Rattle.rx_nodes.specs.declared.nodes.Stmt.TheVariants.{Set as SetNode, New as NewNode, Get as GetNode, Put as PutNode}
-use Rattle.rx_nodes.specs.declared.nodes.Stmt.TheVariants.{Forget as ForgetNode, Print as PrintNode, Throw as ThrowNode}
-use Rattle.rx_nodes.specs.declared.nodes.Stmt.TheVariants.{Async as AsyncNode, AtAsync as AtAsyncNode, At as AtNode}
-use Rattle.rx_nodes.specs.declared.nodes.Stmt.TheVariants.{Finish as FinishNode, If as IfNode, Repeat as RepeatNode, Try as TryNode}
+use Rattle.rx_nodes.specs.declared.nodes.Stmt.TheVariants.{Forget as ForgetNode, Census as CensusNode, Print as PrintNode}
+use Rattle.rx_nodes.specs.declared.nodes.Stmt.TheVariants.{Throw as ThrowNode, Async as AsyncNode, AtAsync as AtAsyncNode}
+use Rattle.rx_nodes.specs.declared.nodes.Stmt.TheVariants.{At as AtNode, Finish as FinishNode, If as IfNode, Repeat as RepeatNode}
+use Rattle.rx_nodes.specs.declared.nodes.Stmt.TheVariants.{Try as TryNode}
 use Rattle.rx_base.specs.Lists.{has}
 use Rattle.rx_check.specs.Rules.{Kind, ANumber, AReference, pairs_in, names_of_all, exprs_of, targets_of, assigned, Sight}
 use Rattle.rx_check.specs.Rules.{same_kind, is_kind, fails_known, fails_depth}
@@ -127,6 +128,12 @@ parts_of (GetNode name target index) = record {
 }
 parts_of (PutNode target index value) = record { first = Some index; second = Some value; target = Some target; assigned = None }
 parts_of (ForgetNode target) = record { first = None; second = None; target = Some target; assigned = None }
+parts_of (CensusNode name) = record {
+  first = None;
+  second = None;
+  target = None;
+  assigned = Some (record { name = name; kind = MadeNumber });
+}
 parts_of (PrintNode value) = record { first = Some value; second = None; target = None; assigned = None }
 parts_of (ThrowNode value) = record { first = Some value; second = None; target = None; assigned = None }
 parts_of (AsyncNode body) = record { first = None; second = None; target = None; assigned = None }
@@ -143,6 +150,7 @@ bodies_of (NewNode name words) = NoBody
 bodies_of (GetNode name target index) = NoBody
 bodies_of (PutNode target index value) = NoBody
 bodies_of (ForgetNode target) = NoBody
+bodies_of (CensusNode name) = NoBody
 bodies_of (PrintNode value) = NoBody
 bodies_of (ThrowNode value) = NoBody
 bodies_of (AsyncNode body) = OneBody body
@@ -160,6 +168,7 @@ work_with (NewNode name words) m n = 1
 work_with (GetNode name target index) m n = 1
 work_with (PutNode target index value) m n = 1
 work_with (ForgetNode target) m n = 1
+work_with (CensusNode name) m n = 1
 work_with (PrintNode value) m n = 1
 work_with (ThrowNode value) m n = 1
 work_with (AsyncNode body) m n = 1 + m

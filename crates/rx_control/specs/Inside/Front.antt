@@ -1,8 +1,8 @@
 -- What stands at the front of a control: cited by its inner functions alone.
 use Rattle.std.specs.Prelude.{◌≡◌, ℕ, List, [], ◌∷◌, ◌++◌, drop, Option, Some, None, option_to_list, slice_get, Bool, true, false}
 use Rattle.rx_base.specs.declared.values.Fault.{Fault}
-use Rattle.rx_rules.specs.Code.{Block, Nothing, Then, Stmt, SetTo, New, Get, Put, Forget, Print, Throw, Async, AtAsync, At, Finish, If}
-use Rattle.rx_rules.specs.Code.{Repeat, Try}
+use Rattle.rx_rules.specs.Code.{Block, Nothing, Then, Stmt, SetTo, New, Get, Put, Forget, Census, Print, Throw, Async, AtAsync, At}
+use Rattle.rx_rules.specs.Code.{Finish, If, Repeat, Try}
 use Rattle.rx_rules.specs.Terms.{Term, Does, within}
 use Rattle.rx_nodes.specs.Shape.{Shape, ListStands}
 use Rattle.rx_nodes.specs.declared.nodes.StmtId.{StmtId}
@@ -26,6 +26,7 @@ levels_opened (New name words) x ls = ls
 levels_opened (Get name target index) x ls = ls
 levels_opened (Put target index value) x ls = ls
 levels_opened (Forget target) x ls = ls
+levels_opened (Census name) x ls = ls
 levels_opened (Print value) x ls = ls
 levels_opened (Throw value) x ls = ls
 levels_opened (Async body) x ls = ls

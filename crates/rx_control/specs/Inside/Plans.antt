@@ -3,7 +3,7 @@ use Rattle.std.specs.Prelude.{◌≡◌, ◌≢◌, ℕ, suc, ◌++◌, option_t
 use Rattle.rx_base.specs.declared.ids.PlaceId.{PlaceId}
 use Rattle.rx_base.specs.declared.values.Value.TheVariants.{Num as Number}
 use Rattle.rx_base.specs.declared.values.Fault.{Fault}
-use Rattle.rx_rules.specs.Code.{Block, Stmt}
+use Rattle.rx_rules.specs.Code.{Block, Stmt, Census}
 use Rattle.rx_rules.specs.Terms.{Vars, Term, Empty, Turns, Trying, Does, Local, raise, bound, items, at, stmt_does}
 use Rattle.rx_nodes.specs.declared.nodes.BlockId.{BlockId}
 use Rattle.rx_nodes.specs.declared.nodes.NameId.{NameId}
@@ -31,8 +31,8 @@ IsPlan s (Attempt body dead_only handler) vars x rest d =
 IsPlan s (Ask next) vars x rest d = (next_of d ≡ next) × (next ≢ LocalStep)
 
 -- a plan is what a statement does, whatever its path and what comes after it
-abbrev pub Plans : Shape → Plan → Vars → ℕ → ℕ → Stmt → Type 0
-Plans s plan vars here places t = (x : List ℕ) (rest : Term) → IsPlan s plan vars x rest (stmt_does vars here places t x rest)
+abbrev pub Plans : Shape → Plan → Vars → ℕ → Stmt → Type 0
+Plans s plan vars here t = (x : List ℕ) (rest : Term) → IsPlan s plan vars x rest (stmt_does vars here t x rest)
 
 -- the number of a place
 abbrev pub place_in : Result PlaceId Fault → Result ℕ Fault
@@ -55,6 +55,11 @@ FaultsFit (Choose block part) faults = Unit {0}
 FaultsFit (Loop body times) faults = Unit {0}
 FaultsFit (Attempt body dead_only handler) faults = Unit {0}
 FaultsFit (Ask next) faults = Unit {0}
+
+-- the name to which a census gives the number of places
+abbrev pub stmt_counts : Stmt → Option ℕ
+stmt_counts (Census name) = Some name
+stmt_counts _ = None
 
 -- the number of a name
 abbrev pub name_in : Option NameId → Option ℕ

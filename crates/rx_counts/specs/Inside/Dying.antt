@@ -1,6 +1,6 @@
 -- What a death does to the records.
-use Rattle.std.specs.Prelude.{◌≡◌, ℕ, zero, suc, ◌<◌, ◌≤◌, ◌^◌, not, ◌+◌, ◌/◌, ◌%◌, Bool, true, false, cond, ◌||◌, ◌&&◌, ◌==◌, ltb}
-use Rattle.std.specs.Prelude.{length, slice_index_or, List, Option, Some, None}
+use Rattle.std.specs.Prelude.{◌≡◌, ℕ, zero, suc, ◌<◌, ◌≤◌, ◌^◌, min, not, ◌+◌, ◌/◌, ◌%◌, Bool, true, false, cond, ◌||◌, ◌&&◌, ◌==◌, ltb}
+use Rattle.std.specs.Prelude.{length, slice_index_or, ◌++◌, List, Option, Some, None}
 use Rattle.std.specs.List.{list_any}
 use Rattle.std.specs.Global.{Box}
 use Rattle.rx_base.specs.Sets.{has_bit}
@@ -12,7 +12,7 @@ use Rattle.rx_rules.specs.Tree.{Tree, is_scope, the_root}
 use Rattle.rx_rules.specs.Entries.{is_hit}
 use Rattle.rx_counts.specs.declared.record.Sums.{Sums}
 use Rattle.rx_counts.specs.declared.record.Record.{Record}
-use Rattle.rx_counts.specs.Stands.{table_size, count_in, in_sums, AllFit, IsShaped}
+use Rattle.rx_counts.specs.Stands.{table_size, count_in, in_sums, masking, AllFit, AllMasked, IsShaped}
 use Rattle.rx_counts.specs.Keeping.{stands_home}
 use Rattle.rx_sound.specs.Sound.{Each}
 
@@ -36,6 +36,7 @@ pub record Strikes (d : PlaceId) (r q : Sums) : Type 0 where
   pub counts : (w : Where) → count_in q w ≡ cond (is_hit d w) 0 (count_in r w)
   pub total : q.total + hits r.places d.0 r.counts ≡ r.total
   pub orphans : q.orphans ≡ r.orphans
+  pub masked : q.masked ≡ r.masked
   pub lost : (p : ℕ) → p < 16 → has_bit q.lost.0 p ≡ (has_bit r.lost.0 p || (ltb 0 (hits r.places d.0 r.counts) && (d.0 == p)))
 
 -- the same of a record, of which nothing else changes
@@ -52,6 +53,10 @@ MayHit d r = CanHit d r.sums
 
 -- Sums that are given away.
 
+-- what a record gives away: its sums, where its own faults are masked too
+abbrev pub given_by : Record → Sums
+given_by r = masking (length (r.body ++ r.ends)) r.sums
+
 -- a has what it had and what h had, and one orphan more
 pub record Gains (r h q : Sums) : Type 0 where
   pub places : q.places ≡ r.places
@@ -59,6 +64,7 @@ pub record Gains (r h q : Sums) : Type 0 where
   pub counts : (w : Where) → count_in q w ≡ count_in r w + count_in h w
   pub total : q.total ≡ r.total + h.total
   pub orphans : q.orphans ≡ r.orphans + h.orphans + 1
+  pub masked : q.masked ≡ min 4294967295 (r.masked + h.masked)
   pub lost : (p : ℕ) → p < 16 → has_bit q.lost.0 p ≡ (has_bit r.lost.0 p || has_bit h.lost.0 p)
 
 -- a record as it was, but for its sums and its faults
@@ -74,6 +80,7 @@ pub record IsNothing (q : Sums) : Type 0 where
   pub counts : (w : Where) → count_in q w ≡ 0
   pub total : q.total ≡ 0
   pub orphans : q.orphans ≡ 0
+  pub masked : q.masked ≡ 0
   pub lost : (p : ℕ) → p < 16 → has_bit q.lost.0 p ≡ false
 
 -- the record has given its sums away
@@ -99,8 +106,8 @@ MayGain given r = CanGain given r.sums
 abbrev pub given_until : (Scope → Bool) → PlaceId → ℕ → Scope → Bool
 given_until keeps d i g = keeps g && not ((g.home.0 == d.0) && ltb g.number.0 i)
 
--- so far the records fit, where `dead` has the death of d
-pub record Passing (T : Tree) (keeps : Scope → Bool) (dead : List (Option ℕ)) (d : PlaceId) (i : ℕ)
+-- so far the records fit, with tables of so many columns, where `dead` has the death of d
+pub record Passing (size : ℕ) (T : Tree) (keeps : Scope → Bool) (dead : List (Option ℕ)) (d : PlaceId) (i : ℕ)
     (rs : List (Option (Box Record))) : Type 0 where
   pub shaped : IsShaped T rs
   pub after : (g : Scope) → stands_home dead g ≡ (keeps g && not (g.home.0 == d.0))
@@ -109,7 +116,8 @@ pub record Passing (T : Tree) (keeps : Scope → Bool) (dead : List (Option ℕ)
   pub based : Each (λ g. g.parent ≡ None → g.number.0 ≡ 0) T.scopes
   pub few_tasks : length T.tasks < 2 ^ 32
   pub few_scopes : length T.scopes < 2 ^ 32
-  pub fit : AllFit T.places (given_until keeps d i) T.scopes T.tasks rs
+  pub fit : AllFit size (given_until keeps d i) T.scopes T.tasks rs
+  pub masked : AllMasked (given_until keeps d i) T.scopes rs
 
 -- the parent of the record, where its home is d
 abbrev pub parent_there : PlaceId → Option Record → Option ScopeId

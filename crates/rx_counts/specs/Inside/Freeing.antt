@@ -7,7 +7,7 @@ use Rattle.rx_base.specs.declared.ids.TaskId.{TaskId}
 use Rattle.rx_base.specs.declared.ids.ScopeId.{ScopeId}
 use Rattle.rx_rules.specs.declared.tasks.Scope.{Scope}
 use Rattle.rx_rules.specs.Tree.{Tree, is_scope, scope_of, opened_by, quiet}
-use Rattle.rx_rules.specs.Entries.{Names, without}
+use Rattle.rx_rules.specs.Entries.{MayFree, without}
 use Rattle.rx_sound.specs.Chains.{meets}
 use Rattle.rx_finish.specs.declared.ledger.LedgerFault.{LedgerFault}
 use Rattle.rx_finish.specs.declared.ledger.LedgerFault.TheVariants.{NotYet, Lost, NoMemory}
@@ -17,7 +17,7 @@ use Rattle.rx_base.specs.declared.ids.PlaceId.{PlaceId}
 use Rattle.rx_counts.specs.declared.record.Record.{Record}
 use Rattle.rx_counts.specs.declared.ledger.CountLedger.{CountLedger}
 use Rattle.rx_counts.specs.Keeping.{stands_home, orphans_of}
-use Rattle.rx_counts.specs.Stands.{Fit, StandsFor, IsShaped, record_at}
+use Rattle.rx_counts.specs.Stands.{Fit, HasRoom, StandsFor, IsShaped, record_at}
 
 -- the scope stands, its home lives, and its opener, if it has one, has no later scope
 pub record IsLast (T : Tree) (s : ScopeId) : Type 0 where
@@ -29,17 +29,17 @@ pub record IsLast (T : Tree) (s : ScopeId) : Type 0 where
 
 -- what a release names, and how many scopes with a dead home go with it
 abbrev pub OutcomeReply : Tree → ScopeId → Result (Outcome × ℕ) LedgerFault → Type 0
-OutcomeReply T s (Ok (o, n)) = (quiet T s ≡ true) × Names T s o.lost o.thrown × (n ≡ orphans_of (stands_home T.dead) T.scopes s.0)
+OutcomeReply T s (Ok (o, n)) = MayFree T s o.lost o.masked o.thrown × (n ≡ orphans_of (stands_home T.dead) T.scopes s.0)
 OutcomeReply T s (Err NoMemory) = quiet T s ≡ true
 OutcomeReply T s (Err (Lost place at)) = ⊥
 OutcomeReply T s (Err (NotYet place)) = IsHindered T s place
 
 -- the answer, and the ledger afterwards
-abbrev pub FreeReply : Tree → ScopeId → Result Outcome LedgerFault → CountLedger → Type 0
-FreeReply T s (Ok o) l = (quiet T s ≡ true) × Names T s o.lost o.thrown × Fit l (without T s)
-FreeReply T s (Err NoMemory) l = (quiet T s ≡ true) × StandsFor l T
-FreeReply T s (Err (Lost place at)) l = ⊥
-FreeReply T s (Err (NotYet place)) l = IsHindered T s place × StandsFor l T
+abbrev pub FreeReply : ℕ → Tree → ScopeId → Result Outcome LedgerFault → CountLedger → Type 0
+FreeReply room T s (Ok o) l = MayFree T s o.lost o.masked o.thrown × Fit l (without T s) × HasRoom l room T
+FreeReply room T s (Err NoMemory) l = (quiet T s ≡ true) × StandsFor l room T
+FreeReply room T s (Err (Lost place at)) l = ⊥
+FreeReply room T s (Err (NotYet place)) l = IsHindered T s place × StandsFor l room T
 
 -- the record stands and that of its parent does not
 abbrev pub parent_gone : List (Option (Box Record)) → Option Record → Bool

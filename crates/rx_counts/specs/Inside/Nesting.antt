@@ -54,9 +54,13 @@ pub record CanNest (T : Tree) (n : ℕ) : Type 0 where
   pub may_start : MayAskTo (opens T n) (caller n (n + 1) (At (place n))) (place (n + 1))
   pub may_wait : MayAskWait (starts T n) (caller n (n + 1) (At (place n)))
 
--- the tree of four places after three of them
+-- the tree of so many places after two of them
+abbrev pub two_deep : ℕ → Tree
+two_deep places = landed (landed (opening places) 0) 1
+
+-- and that of four places after three
 abbrev pub three_deep : Tree
-three_deep = landed (landed (landed (opening 4) 0) 1) 2
+three_deep = landed (two_deep 4) 2
 
 -- scopes 1 to 3 stand
 pub record HasThree (T : Tree) : Type 0 where

@@ -14,6 +14,7 @@ pub record IsZero (n : ℕ) (q : Sums) : Type 0 where
   pub total : q.total ≡ 0
   pub orphans : q.orphans ≡ 0
   pub lost : q.lost.0 ≡ 0
+  pub masked : q.masked ≡ 0
 
 -- a record that counts nothing
 pub record IsFresh (n : ℕ) (sort : Kind) (place : PlaceId) (outer : Option ScopeId) (nearest : ScopeId) (r : Record) : Type 0 where

@@ -15,10 +15,10 @@ use Rattle.rx_machine.specs.Holds.{Acting}
 use Rattle.rx_machine.specs.Runs.{AfterTurn}
 
 -- from each game in which the task of the seat acts, and what it does next is so, a turn was made
-abbrev pub HasDone : {L : Type 0} → (L → Tree → Type 0) → Shape → Machine L → Machine L → ℕ → PlaceId → Seat → (Does → Type 0) → Type 0
+abbrev pub HasDone : {L : Type 0} → (L → ℕ → Tree → Type 0) → Shape → Machine L → Machine L → ℕ → PlaceId → Seat → (Does → Type 0) → Type 0
 HasDone stands shape m m' i here seat IsNext =
     (code : Block) (U : Given) (k : ℕ) (q : Player) (G : Game) → Acting stands shape code U m k i here q seat G
-    → IsNext (does q.vars here.0 U.places q.term) → AfterTurn stands shape code U m' k G
+    → IsNext (does q.vars here.0 q.term) → AfterTurn stands shape code U m' k G
 
 -- the act of the seat's task was appended with the statements that it had begun, and the seat has gone back into slot i
 pub record HasClosed {L : Type 0} (m m' : Machine L) (i : ℕ) (seat : Seat) (act : Act) : Type 0 where

@@ -2,7 +2,7 @@
 use Rattle.std.specs.Prelude.{◌≡◌, ℕ, ◌+◌, ◌≤◌, Option, Some, None}
 use Rattle.rx_base.specs.declared.ids.PlaceId.{PlaceId}
 use Rattle.rx_rules.specs.Code.{Block}
-use Rattle.rx_rules.specs.Terms.{Does, Local, Makes, Gets, Puts, Forgets, Opens, Calls, Spawns, Waits, Releases, Prints, Done, does}
+use Rattle.rx_rules.specs.Terms.{Does, Local, Makes, Gets, Puts, Forgets, Opens, Calls, Spawns, Waits, Releases, Prints, Counts, Done, does}
 use Rattle.rx_rules.specs.Tree.{Tree}
 use Rattle.rx_rules.specs.Run.{Given}
 use Rattle.rx_rules.specs.Picked.{Game, Player}
@@ -27,6 +27,7 @@ IsAsked (Spawns place) = Unit {0}
 IsAsked (Waits faults) = Unit {0}
 IsAsked Releases = Unit {0}
 IsAsked (Prints value) = Unit {0}
+IsAsked (Counts name) = Unit {0}
 IsAsked (Done faults) = Unit {0}
 
 -- what was told is the next step, which is a request or the end
@@ -39,14 +40,13 @@ pub record OnlyStores {L : Type 0} (m m' : Machine L) : Type 0 where
   pub ledger : m'.ledger ≡ m.ledger
   pub seats : m'.seats ≡ m.seats
   pub ready : m'.ready ≡ m.ready
-  pub kills : m'.kills ≡ m.kills
-  pub places : m'.places ≡ m.places
+  pub plan : m'.plan ≡ m.plan
   pub failed : m'.failed ≡ m.failed
 
 -- what one step leaves: the task has come further and has fewer steps left, or it has come to a request
-abbrev pub AfterStep : {L : Type 0} → (L → Tree → Type 0) → Shape → Block → Given → Machine L → ℕ → ℕ → PlaceId → Player → Seat
+abbrev pub AfterStep : {L : Type 0} → (L → ℕ → Tree → Type 0) → Shape → Block → Given → Machine L → ℕ → ℕ → PlaceId → Player → Seat
     → Game → Option Next → Type 0
 AfterStep stands shape code U m k i here q seat G None =
     (r : Player) × Acting stands shape code U m k i here r seat G × (steps r.term + 1 ≤ steps q.term)
 AfterStep stands shape code U m k i here q seat G (Some next) =
-    Acting stands shape code U m k i here q seat G × IsRequest next (does q.vars here.0 U.places q.term)
+    Acting stands shape code U m k i here q seat G × IsRequest next (does q.vars here.0 q.term)

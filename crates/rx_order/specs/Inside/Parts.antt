@@ -1,7 +1,7 @@
 -- Where paths go on inside a statement: cited by the inner functions of this crate alone.
 use Rattle.std.specs.Prelude.{◌≡◌, ◌≤◌, ℕ, zero, suc, Bool, true, false, List, [], ◌∷◌, drop, Option, Some, None}
-use Rattle.rx_rules.specs.Code.{Stmt, SetTo, New, Get, Put, Forget, Print, Throw, Async, AtAsync, At, Finish, If, Repeat, Try, Block}
-use Rattle.rx_rules.specs.Code.{Nothing, Then}
+use Rattle.rx_rules.specs.Code.{Stmt, SetTo, New, Get, Put, Forget, Census, Print, Throw, Async, AtAsync, At, Finish, If, Repeat, Try}
+use Rattle.rx_rules.specs.Code.{Block, Nothing, Then}
 use Rattle.rx_rules.specs.Order.{is_kept_in}
 use Rattle.rx_nodes.specs.Shape.{Shape, BlockStands}
 use Rattle.rx_order.specs.declared.parts.Part.{Part}
@@ -38,6 +38,7 @@ part_in (New name words) x = None
 part_in (Get name target index) x = None
 part_in (Put target index value) x = None
 part_in (Forget target) x = None
+part_in (Census name) x = None
 part_in (Print value) x = None
 part_in (Throw value) x = None
 part_in (Async body) x = Some (0, body, x)

@@ -1,13 +1,13 @@
 -- The words of entries.
 use Rattle.std.specs.Prelude.{ℕ, codes}
 use Rattle.rx_rules.specs.declared.entries.Act.{Act}
-use Rattle.rx_rules.specs.declared.entries.Act.TheVariants.{Open, At, Spawn, Arrive, Wait, Release, End, Print}
+use Rattle.rx_rules.specs.declared.entries.Act.TheVariants.{Open, At, Spawn, Arrive, Wait, Release, End, Print, Census}
 use Rattle.rx_rules.specs.declared.entries.Entry.{Entry}
-use Rattle.rx_rules.specs.declared.entries.Entry.TheVariants.{Step, Root, Death}
+use Rattle.rx_rules.specs.declared.entries.Entry.TheVariants.{Step, Root, Death, Join}
 use Rattle.rx_reading.specs.declared.acts.Kind.{Kind}
 use Rattle.rx_reading.specs.declared.acts.Kind.TheVariants as kinds
-use Rattle.rx_reading.specs.Inside.FieldWords.{number_at, place_at, task_at, scope_at, path_at}
-use Rattle.rx_reading.specs.Inside.PartWords.{lost_read, thrown_at, batch_at}
+use Rattle.rx_reading.specs.Inside.FieldWords.{number_at, place_at, task_at, scope_at, path_at, count_at}
+use Rattle.rx_reading.specs.Inside.PartWords.{lost_read, masked_read, thrown_at, batch_at}
 use Rattle.rx_reading.specs.Inside.Readers.{Reader, followed, done, keyed, either}
 
 abbrev pub open_at : Reader Act
@@ -31,14 +31,17 @@ abbrev pub wait_at : ℕ → Reader Act
 wait_at places = followed scope_at (λ scope. followed (thrown_at places) (λ thrown. done (Wait scope thrown)))
 
 abbrev pub release_at : ℕ → Reader Act
-release_at places = followed scope_at (λ scope. followed (lost_read places)
-    (λ lost. followed (thrown_at places) (λ thrown. done (Release scope lost thrown))))
+release_at places = followed scope_at (λ scope. followed (lost_read places) (λ lost. followed masked_read
+    (λ masked. followed (thrown_at places) (λ thrown. done (Release scope lost masked thrown)))))
 
 abbrev pub end_at : ℕ → Reader Act
 end_at places = followed (thrown_at places) (λ thrown. done (End thrown))
 
 abbrev pub print_at : Reader Act
 print_at = followed number_at (λ value. followed path_at (λ path. done (Print value path)))
+
+abbrev pub census_at : Reader Act
+census_at = followed (count_at 16) (λ count. followed path_at (λ path. done (Census count path)))
 
 -- an act of this kind
 abbrev pub act_at : ℕ → Kind → Reader Act
@@ -50,6 +53,7 @@ act_at places kinds.Wait = wait_at places
 act_at places kinds.Release = release_at places
 act_at places kinds.End = end_at places
 act_at places kinds.Print = print_at
+act_at places kinds.Census = census_at
 
 -- a task, what it did, and its batch
 abbrev pub step_at : Reader Act → Reader Entry
@@ -57,10 +61,14 @@ step_at act_at = followed task_at (λ task. followed act_at (λ act. followed ba
 
 -- the host's release of the root
 abbrev pub root_at : ℕ → Reader Entry
-root_at places = keyed (codes "s0") (followed (lost_read places) (λ lost. followed (thrown_at places) (λ thrown. done (Root lost thrown))))
+root_at places = keyed (codes "s0") (followed (lost_read places) (λ lost. followed masked_read
+    (λ masked. followed (thrown_at places) (λ thrown. done (Root lost masked thrown)))))
 
 abbrev pub death_at : ℕ → Reader Entry
 death_at places = followed (place_at places) (λ place. done (Death place))
+
+abbrev pub join_at : ℕ → Reader Entry
+join_at places = followed (place_at places) (λ place. done (Join place))
 
 -- a release by the host or by a task
 abbrev pub release_or_root_at : ℕ → Reader Entry
@@ -77,4 +85,6 @@ entry_at places =
     either (codes "release") (release_or_root_at places) (
     either (codes "end") (step_at (end_at places)) (
     either (codes "print") (step_at print_at) (
-    keyed (codes "death") (death_at places)))))))))
+    either (codes "census") (step_at census_at) (
+    either (codes "death") (death_at places) (
+    keyed (codes "join") (join_at places)))))))))))

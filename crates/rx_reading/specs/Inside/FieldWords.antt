@@ -11,7 +11,6 @@ use Rattle.rx_base.specs.declared.ids.Kill.{Kill}
 use Rattle.rx_base.specs.declared.values.Fault.{Fault}
 use Rattle.rx_base.specs.declared.values.Fault.TheVariants.{Dead, Thrown, Overflow, NoPlace, WrongPlace, Stale, Index, HeapFull}
 use Rattle.rx_text.specs.Numbers.{natural_text}
-use Rattle.rx_kills.specs.Words.{Spelling}
 use Rattle.rx_kills.proofs.Spelling.{spelling}
 use Rattle.rx_reading.specs.Words.{pieces, stripped}
 use Rattle.rx_reading.specs.Inside.Readers.{Reader, followed, done, word}
@@ -86,9 +85,21 @@ fault_spelt w = option_map (λ n. Thrown n) (next (stripped (codes "code:") w) n
 abbrev pub fault_of : ℕ → List ℕ → Option Fault
 fault_of places w = or_else (dead_of places w) (or_else (fault_spelt w) (plain_fault w))
 
--- the kill that a word spells, where its place is one of so many
-abbrev pub kill_of : ℕ → List ℕ → Option Kill
-kill_of places w = next (spelling w).kill (λ kill. if nat_lt kill.place.0 places then Some kill else None)
+-- the kill that a word spells
+abbrev pub kill_of : List ℕ → Option Kill
+kill_of w = (spelling w).kill
+
+-- a number that is not 0
+abbrev pub above_zero : ℕ → Option ℕ
+above_zero n = if n == 0 then None else Some n
+
+-- a number from 1 to a limit
+abbrev pub count_of : ℕ → List ℕ → Option ℕ
+count_of most w = next (number_below (most + 1) w) above_zero
+
+-- a number of masked faults
+abbrev pub masked_of : List ℕ → Option ℕ
+masked_of w = next (natural_of w) above_zero
 
 abbrev pub natural_at : Reader ℕ
 natural_at = word natural_of
@@ -104,6 +115,9 @@ task_at = word task_spelt
 
 abbrev pub scope_at : Reader ScopeId
 scope_at = word scope_spelt
+
+abbrev pub count_at : ℕ → Reader ℕ
+count_at most = word (count_of most)
 
 abbrev pub path_at : Reader (List ℕ)
 path_at = word path_of

@@ -1,11 +1,11 @@
--- The parts that are there only where their list is not empty.
+-- The parts that are there only where their list is not empty, or their number not 0.
 use Rattle.std.specs.Prelude.{ℕ, ◌+◌, ◌^◌, nat_lt, ◌==◌, Bool, true, false, List, [], ◌∷◌, Option, Some, None, if◌then◌else◌, codes}
 use Rattle.std.specs.Str.{bytes_eq}
 use Rattle.rx_base.specs.declared.ids.PlaceId.{PlaceId}
 use Rattle.rx_base.specs.declared.place_set.PlaceSet.{PlaceSet}
 use Rattle.rx_base.specs.declared.values.Fault.{Fault}
-use Rattle.rx_reading.specs.Inside.FieldWords.{place_of, path_of, fault_of}
-use Rattle.rx_reading.specs.Inside.Readers.{Reader, part}
+use Rattle.rx_reading.specs.Inside.FieldWords.{place_of, path_of, masked_of, fault_of}
+use Rattle.rx_reading.specs.Inside.Readers.{Reader, word, part}
 
 -- the set with this number
 abbrev pub set_of : ℕ → PlaceSet
@@ -30,6 +30,11 @@ some_place (Some x) = if x.0.0 == 0 then None else Some x
 abbrev pub lost_read : ℕ → Reader PlaceSet
 lost_read places [] = Some (set_of 0, [])
 lost_read places (w ∷ ws) = if bytes_eq w (codes "lost") then some_place (places_at places 0 ws) else Some (set_of 0, w ∷ ws)
+
+-- how many faults are masked
+abbrev pub masked_read : Reader ℕ
+masked_read [] = Some (0, [])
+masked_read (w ∷ ws) = if bytes_eq w (codes "masked") then word masked_of ws else Some (0, w ∷ ws)
 
 -- faults in their order
 abbrev pub thrown_at : ℕ → Reader (List Fault)

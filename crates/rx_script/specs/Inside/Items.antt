@@ -2,11 +2,11 @@
 use Rattle.std.specs.Prelude.{◌≡◌, List, [], ◌∷◌, ◌++◌, Option, Some, None, ℕ, pos, Bool, true, false}
 use Rattle.rx_token.specs.declared.token.Token.{Token}
 use Rattle.rx_token.specs.declared.token.Token.TheVariants.{Key, Called, Number, Mark}
-use Rattle.rx_rules.specs.Code.{Expr, Stmt, SetTo, New, Get, Put, Forget, Print, Throw, Async, AtAsync, At, Finish, If, Repeat, Try}
+use Rattle.rx_rules.specs.Code.{Expr, Stmt, SetTo, New, Get, Put, Forget, Census, Print, Throw, Async, AtAsync, At, Finish, If, Repeat, Try}
 use Rattle.rx_nodes.specs.Grammar.{catch_words, spelling, may_hold, may_turn, spell}
 use Rattle.rx_token.specs.declared.token.Keyword.TheVariants.{Set as KSet, New as KNew, Get as KGet, Put as KPut, Forget as KForget}
-use Rattle.rx_token.specs.declared.token.Keyword.TheVariants.{Print as KPrint, Throw as KThrow, Async as KAsync, At as KAt}
-use Rattle.rx_token.specs.declared.token.Keyword.TheVariants.{Finish as KFinish, If as KIf, Else as KElse, Repeat as KRepeat}
+use Rattle.rx_token.specs.declared.token.Keyword.TheVariants.{Census as KCensus, Print as KPrint, Throw as KThrow, Async as KAsync}
+use Rattle.rx_token.specs.declared.token.Keyword.TheVariants.{At as KAt, Finish as KFinish, If as KIf, Else as KElse, Repeat as KRepeat}
 use Rattle.rx_token.specs.declared.token.Keyword.TheVariants.{Try as KTry, Catch as KCatch, Dead as KDead}
 use Rattle.rx_token.specs.declared.token.Sign.TheVariants.{OpenBrace as LBrace, CloseBrace as RBrace, OpenSquare as LSquare}
 use Rattle.rx_token.specs.declared.token.Sign.TheVariants.{CloseSquare as RSquare, Equals, Semicolon}
@@ -54,6 +54,7 @@ IsSimple (New n k) = may_hold k ≡ true
 IsSimple (Get n t e) = Unit {0}
 IsSimple (Put t i e) = Unit {0}
 IsSimple (Forget t) = Unit {0}
+IsSimple (Census n) = Unit {0}
 IsSimple (Print e) = Unit {0}
 IsSimple (Throw e) = Unit {0}
 IsSimple (Async b) = ⊥
@@ -140,6 +141,9 @@ put_at =
 abbrev pub forget_at : Reader Item
 forget_at = then (choose called) (λ t. ends (Whole (Forget t)))
 
+abbrev pub census_at : Reader Item
+census_at = then (choose called) (λ n. ends (Whole (Census n)))
+
 abbrev pub print_at : Reader Item
 print_at = then expr (λ e. ends (Whole (Print e)))
 
@@ -167,6 +171,7 @@ statement (Key KNew) = Some new_at
 statement (Key KGet) = Some get_at
 statement (Key KPut) = Some put_at
 statement (Key KForget) = Some forget_at
+statement (Key KCensus) = Some census_at
 statement (Key KPrint) = Some print_at
 statement (Key KThrow) = Some throw_at
 statement (Key KAsync) = Some (opens (Open ByAsync))

@@ -5,13 +5,13 @@ use Rattle.rx_nodes.specs.declared.nodes.StmtId.{StmtId}
 use Rattle.rx_nodes.specs.declared.nodes.BlockId.{BlockId}
 use Rattle.rx_nodes.specs.declared.nodes.NameId.{NameId}
 use Rattle.rx_nodes.specs.declared.nodes.Stmt.{Stmt}
-use Rattle.rx_nodes.specs.declared.nodes.Stmt.TheVariants.{Set, New, Get, Put, Forget, Print, Throw, Async, AtAsync, At, Finish, If}
+use Rattle.rx_nodes.specs.declared.nodes.Stmt.TheVariants.{Set, New, Get, Put, Forget, Census, Print, Throw, Async, AtAsync, At, Finish, If}
 use Rattle.rx_nodes.specs.declared.nodes.Stmt.TheVariants.{Repeat, Try}
 use Rattle.rx_nodes.specs.declared.nodes.Expr.{Expr}
 use Rattle.rx_nodes.specs.declared.nodes.Expr.TheVariants.{Num, Name, Here, Bin}
 use Rattle.rx_token.specs.declared.token.Keyword.TheVariants.{Set as KSet, New as KNew, Get as KGet, Put as KPut, Forget as KForget}
-use Rattle.rx_token.specs.declared.token.Keyword.TheVariants.{Print as KPrint, Throw as KThrow, Async as KAsync, At as KAt}
-use Rattle.rx_token.specs.declared.token.Keyword.TheVariants.{Finish as KFinish, If as KIf, Else as KElse, Repeat as KRepeat}
+use Rattle.rx_token.specs.declared.token.Keyword.TheVariants.{Census as KCensus, Print as KPrint, Throw as KThrow, Async as KAsync}
+use Rattle.rx_token.specs.declared.token.Keyword.TheVariants.{At as KAt, Finish as KFinish, If as KIf, Else as KElse, Repeat as KRepeat}
 use Rattle.rx_token.specs.declared.token.Keyword.TheVariants.{Try as KTry, Catch as KCatch, Dead as KDead, Here as KHere}
 use Rattle.rx_token.specs.declared.token.Sign.TheVariants.{OpenBrace as LBrace, CloseBrace as RBrace, OpenParen as LParen}
 use Rattle.rx_token.specs.declared.token.Sign.TheVariants.{CloseParen as RParen, OpenSquare as LSquare, CloseSquare as RSquare}
@@ -48,6 +48,7 @@ front_of (New name words) = Key KNew
 front_of (Get name target index) = Key KGet
 front_of (Put target index value) = Key KPut
 front_of (Forget target) = Key KForget
+front_of (Census name) = Key KCensus
 front_of (Print value) = Key KPrint
 front_of (Throw value) = Key KThrow
 front_of (Async body) = Key KAsync
@@ -76,6 +77,7 @@ parts_after (Get name target index) =
 parts_after (Put target index value) =
     named target ∷ One (Mark LSquare) ∷ Value index ∷ One (Mark RSquare) ∷ One (Mark Equals) ∷ Value value ∷ One (Mark Semicolon) ∷ []
 parts_after (Forget target) = named target ∷ One (Mark Semicolon) ∷ []
+parts_after (Census name) = named name ∷ One (Mark Semicolon) ∷ []
 parts_after (Print value) = Value value ∷ One (Mark Semicolon) ∷ []
 parts_after (Throw value) = Value value ∷ One (Mark Semicolon) ∷ []
 parts_after (Async body) = block_parts body

@@ -7,5 +7,5 @@ use Rattle.rx_control.proofs.tests.local_step.Goals as goal
 pub returns : goal.returns
 returns c =
     let t = c.requires.0 in
-    let told = told_local (does c.args.task.now.vars c.args.here.0 2 t) c.requires.2 in
+    let told = told_local (does c.args.task.now.vars c.args.here.0 t) c.requires.2 in
     (told.0, (subst (λ (d : Does). Leaves c.args.p.now.script c.local.new.self d) told.2 (c.in_ok-local.ensures.ok t c.requires.1)).0)

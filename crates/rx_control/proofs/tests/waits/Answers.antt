@@ -5,5 +5,5 @@ use Rattle.rx_control.proofs.tests.waits.Goals as goal
 pub ledger_grants-requires : goal.ledger_grants-requires
 ledger_grants-requires g c =
     let t = c.requires.0 in
-    let told = told_wait (does c.args.task.now.vars c.args.here.0 2 t) c.requires.2 in
-    (_, c.take_faults.ensures.after c.args.p.now.script t c.args.here 2 told.0 c.requires.1 told.1)
+    let told = told_wait (does c.args.task.now.vars c.args.here.0 t) c.requires.2 in
+    (_, c.take_faults.ensures.after c.args.p.now.script t c.args.here told.0 c.requires.1 told.1)

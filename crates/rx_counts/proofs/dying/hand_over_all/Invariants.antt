@@ -1,5 +1,5 @@
 use Rattle.std.proofs.Common.{◌≡◌, length}
-use Rattle.std.specs.Prelude.{Bool}
+use Rattle.std.specs.Prelude.{Bool, ℕ}
 use Rattle.rx_rules.specs.declared.tasks.Scope.{Scope}
 use Rattle.rx_rules.specs.Tree.{Tree}
 use Rattle.rx_counts.specs.Inside.Dying.{Passing}
@@ -8,5 +8,5 @@ use Rattle.rx_counts.proofs.dying.hand_over_all.Given as goal
 abbrev pub invariant-loop-i : goal.invariant-loop-i
 invariant-loop-i l = record {
   len : length l.scopes.items ≡ length l.initial.scopes.items;
-  passes : (T : Tree) (keeps : Scope → Bool) → Passing T keeps l.dead l.d 0 l.initial.scopes.items → Passing T keeps l.dead l.d l.i l.scopes.items;
+  passes : (size : ℕ) (T : Tree) (keeps : Scope → Bool) → Passing size T keeps l.dead l.d 0 l.initial.scopes.items → Passing size T keeps l.dead l.d l.i l.scopes.items;
 }

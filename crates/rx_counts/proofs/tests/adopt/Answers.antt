@@ -9,15 +9,15 @@ use Rattle.rx_counts.proofs.Nested.{lost_home, home_dies, home_lost, last_ends, 
 use Rattle.rx_counts.proofs.tests.adopt.Goals as goal
 
 pub end-requires : goal.end-requires
-end-requires c = (lost_home, c.death.ensures three_deep c.in_ok-nest_three.ensures home_dies, last_ends)
+end-requires c = (0, lost_home, c.death.ensures 0 three_deep c.in_ok-nest_three.ensures home_dies, last_ends)
 
 pub release-requires : goal.release-requires
 release-requires c =
-    let s : StandsFor c.death.new.self lost_home = c.death.ensures three_deep c.in_ok-nest_three.ensures home_dies in
-    (all_ended, subst (λ (faults : List Fault). StandsFor c.end.new.self (made_act lost_home (task 3) (End faults))) c.open.ensures (c.in_default.ensures lost_home s last_ends).made, heir_waits)
+    let s : StandsFor c.death.new.self 0 lost_home = c.death.ensures 0 three_deep c.in_ok-nest_three.ensures home_dies in
+    (0, all_ended, subst (λ (faults : List Fault). StandsFor c.end.new.self 0 (made_act lost_home (task 3) (End faults))) c.open.ensures (c.in_default.ensures 0 lost_home s last_ends).made, heir_waits)
 
 pub death-requires : goal.death-requires
-death-requires c = (three_deep, c.in_ok-nest_three.ensures, home_dies)
+death-requires c = (0, three_deep, c.in_ok-nest_three.ensures, home_dies)
 
 pub told-told-requires : goal.told-told-requires
-told-told-requires c = (lost_home, c.death.ensures three_deep c.in_ok-nest_three.ensures home_dies, home_lost)
+told-told-requires c = (lost_home, c.death.ensures 0 three_deep c.in_ok-nest_three.ensures home_dies, home_lost)

@@ -5,8 +5,8 @@ use Rattle.rx_counts.proofs.tests.call.Goals as goal
 
 pub open_at-requires : goal.open_at-requires
 open_at-requires c =
-    (opening 4, c.requires, main_calls)
+    (0, opening 4, c.requires, main_calls)
 
 pub release_root-early-requires : goal.release_root-early-requires
 release_root-early-requires c =
-    (called, called_stands c.in_ok-born.born (StandsFor c.open_at.new.self) (c.in_ok-born.ensures (opening 4) c.requires main_calls), root_there)
+    (0, called, called_stands c.in_ok-born.born (StandsFor c.open_at.new.self 0) (c.in_ok-born.ensures 0 (opening 4) c.requires main_calls), root_there)

@@ -4,12 +4,12 @@ use Rattle.rx_counts.proofs.Nested.{lost_last, lost_both, last_dies, then_home_d
 use Rattle.rx_counts.proofs.tests.lose_two.Goals as goal
 
 pub death-requires : goal.death-requires
-death-requires c = (three_deep, c.in_ok-nest_three.ensures, last_dies)
+death-requires c = (0, three_deep, c.in_ok-nest_three.ensures, last_dies)
 
 pub death-requires-2 : goal.death-requires-2
-death-requires-2 c = (lost_last, c.death.ensures three_deep c.in_ok-nest_three.ensures last_dies, then_home_dies)
+death-requires-2 c = (0, lost_last, c.death.ensures 0 three_deep c.in_ok-nest_three.ensures last_dies, then_home_dies)
 
 pub told-requires : goal.told-requires
 told-requires c =
-    let s : StandsFor c.death.new.self lost_last = c.death.ensures three_deep c.in_ok-nest_three.ensures last_dies in
-    (lost_both, c.death-2.ensures lost_last s then_home_dies, both_lost)
+    let s : StandsFor c.death.new.self 0 lost_last = c.death.ensures 0 three_deep c.in_ok-nest_three.ensures last_dies in
+    (lost_both, c.death-2.ensures 0 lost_last s then_home_dies, both_lost)

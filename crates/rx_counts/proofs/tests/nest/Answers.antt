@@ -9,22 +9,22 @@ use Rattle.rx_counts.proofs.Nested.{opened_nest, started_nest}
 use Rattle.rx_counts.proofs.tests.nest.Goals as goal
 
 pub open_finish-requires : goal.open_finish-requires
-open_finish-requires c = let (T, s, n) = c.requires.stands in (T, s, n.may_open)
+open_finish-requires c = let (T, s, n) = c.requires.stands in (0, T, s, n.may_open)
 
 pub spawn-requires : goal.spawn-requires
 spawn-requires c =
     let (T, s, n) = c.requires.stands in
-    (opens T c.args.n, opened_nest T c.args.n n c.in_ok-_scope._scope (StandsFor c.open_finish.new.self) (c.in_ok-_scope.ensures T s n.may_open), n.may_start)
+    (0, opens T c.args.n, opened_nest T c.args.n n c.in_ok-_scope._scope (StandsFor c.open_finish.new.self 0) (c.in_ok-_scope.ensures 0 T s n.may_open), n.may_start)
 
 pub wait-requires : goal.wait-requires
 wait-requires c =
     let (T, s, n) = c.requires.stands in
-    let s1 : StandsFor c.open_finish.new.self (opens T c.args.n) = opened_nest T c.args.n n c.in_ok-_scope._scope (StandsFor c.open_finish.new.self) (c.in_ok-_scope.ensures T s n.may_open) in
-    let s2 : StandsFor c.spawn.new.self (starts T c.args.n) = started_nest T c.args.n n c.in_ok-_born._born (StandsFor c.spawn.new.self) (c.in_ok-_born.ensures.replies (opens T c.args.n) s1 n.may_start).0 in
-    (starts T c.args.n, s2, n.may_wait)
+    let s1 : StandsFor c.open_finish.new.self 0 (opens T c.args.n) = opened_nest T c.args.n n c.in_ok-_scope._scope (StandsFor c.open_finish.new.self 0) (c.in_ok-_scope.ensures 0 T s n.may_open) in
+    let s2 : StandsFor c.spawn.new.self 0 (starts T c.args.n) = started_nest T c.args.n n c.in_ok-_born._born (StandsFor c.spawn.new.self 0) (c.in_ok-_born.ensures.replies 0 (opens T c.args.n) s1 n.may_start).0 in
+    (0, starts T c.args.n, s2, n.may_wait)
 
 pub returns : goal.returns
 returns c = λ T s n.
-    let s1 : StandsFor c.open_finish.new.self (opens T c.args.n) = opened_nest T c.args.n n c.in_ok-_scope._scope (StandsFor c.open_finish.new.self) (c.in_ok-_scope.ensures T s n.may_open) in
-    let s2 : StandsFor c.spawn.new.self (starts T c.args.n) = started_nest T c.args.n n c.in_ok-_born._born (StandsFor c.spawn.new.self) (c.in_ok-_born.ensures.replies (opens T c.args.n) s1 n.may_start).0 in
-    subst (λ (faults : List Fault). StandsFor c.wait.new.self (made_act (starts T c.args.n) (task c.args.n) (Wait (scope (c.args.n + 1)) faults))) c.open.ensures (c.in_default.ensures (starts T c.args.n) s2 n.may_wait).made
+    let s1 : StandsFor c.open_finish.new.self 0 (opens T c.args.n) = opened_nest T c.args.n n c.in_ok-_scope._scope (StandsFor c.open_finish.new.self 0) (c.in_ok-_scope.ensures 0 T s n.may_open) in
+    let s2 : StandsFor c.spawn.new.self 0 (starts T c.args.n) = started_nest T c.args.n n c.in_ok-_born._born (StandsFor c.spawn.new.self 0) (c.in_ok-_born.ensures.replies 0 (opens T c.args.n) s1 n.may_start).0 in
+    subst (λ (faults : List Fault). StandsFor c.wait.new.self 0 (made_act (starts T c.args.n) (task c.args.n) (Wait (scope (c.args.n + 1)) faults))) c.open.ensures (c.in_default.ensures 0 (starts T c.args.n) s2 n.may_wait).made

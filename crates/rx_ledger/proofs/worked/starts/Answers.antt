@@ -1,4 +1,4 @@
-use Rattle.std.proofs.Common.{ap, ◌∙◌, ◌<◌, refl, subst, sym, Some, ℕ}
+use Rattle.std.proofs.Common.{ap, ◌∙◌, refl, Some, arith}
 use Rattle.rx_base.specs.declared.ids.TaskId.{TaskId}
 use Rattle.rx_rules.proofs.Append.{tree-places}
 use Rattle.rx_ticket.specs.declared.tickets.AnyTicket.TheVariants.{Running}
@@ -12,7 +12,7 @@ use Rattle.rx_ledger.proofs.worked.starts.Goals as goal
 pub ask-requires : goal.ask-requires
 ask-requires g c =
     let k = c.args.keeper.now in
-    (record { asks = c.requires.asks; target = subst (λ (n : ℕ). 1 < n) (sym (tree-places k.setup.places k.entries)) c.requires.places }, tt)
+    (record { asks = c.requires.asks; target = (let a = c.requires.places in let b = tree-places k.setup.places k.entries in omega (arith, a, b)) }, tt)
 
 pub returns-clause-owns : goal.returns-clause-owns
 returns-clause-owns g c =

@@ -4,7 +4,7 @@ use Rattle.rx_reading.proofs.plan_lines.read_kills.Given as goal
 
 -- the kills so far and those of what is left are all
 abbrev pub invariant-kills : goal.invariant-kills
-invariant-kills l = kills_of l.places l.kills l.words ≡ kills_of l.places [] l.initial.words
+invariant-kills l = kills_of l.kills l.words ≡ kills_of [] l.initial.words
 
 abbrev pub decreases-kills : goal.decreases-kills
 decreases-kills l = length l.words

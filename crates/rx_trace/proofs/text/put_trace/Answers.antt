@@ -17,7 +17,7 @@ returns c =
     let setup : c.h.inside.setup ≡ c.args.h.now.setup = ap (λ (h : Log). h.setup) c.h.view_is in
     let written : c.put_setup.new.out.items ≡ c.put_text.new.out.items ++ setup_lines (given c.args.h.now.setup) = c.in_ok-put_setup.ensures ∙ ap (λ (s : Setup). c.put_text.new.out.items ++ setup_lines (given s)) setup in
     on_ok_weaker c.put_text-3.result
-    (six-texts c.args.out.now.items (codes "rx10 trace 1\n") (setup_lines (given c.args.h.now.setup)) (codes "history\n")
+    (six-texts c.args.out.now.items (codes "rx10 trace 2\n") (setup_lines (given c.args.h.now.setup)) (codes "history\n")
     (entry_lines 0 c.args.h.now.entries) (journals_lines 0 (events_of c.args.j.now)) (codes "done\n")
     c.put_text.new.out.items c.put_setup.new.out.items c.put_text-2.new.out.items c.put_entries.new.out.items c.put_journals.new.out.items c.put_text-3.new.out.items
     c.in_ok-put_text.ensures written c.in_ok-put_text-2.ensures c.in_ok-put_entries.ensures c.in_ok-put_journals.ensures)

@@ -23,5 +23,5 @@ release-requires g c =
     let T1 : Tree = made_act T0 (tk 0) (Open (sc 1) (sc 0) []) in
     let T2 : Tree = made_act T1 (tk 0) (Spawn (tk 1) (sc 1) (pl 0) (pl 1) []) in
     let T3 : Tree = made_act T2 (tk 0) (Wait (sc 1) []) in
-    let s3 : g.L.FinishLedger.stands c.begins.new.ledger T3 = c.in_ok-_begun.ensures in
-    (T3, s3, asks T3 (who 0 0 1 (At (pl 0))) (WaitsInside T3 (who 0 0 1 (At (pl 0)))) _ refl refl refl refl (record { waits = refl; scope = _; own = refl }) (lit< tt) (lit< tt))
+    let s3 : g.L.FinishLedger.stands c.begins.new.ledger 0 T3 = c.in_ok-_begun.ensures in
+    (0, T3, s3, asks T3 (who 0 0 1 (At (pl 0))) (WaitsInside T3 (who 0 0 1 (At (pl 0)))) _ refl refl refl refl (record { waits = refl; scope = _; own = refl }) (lit< tt) (lit< tt))

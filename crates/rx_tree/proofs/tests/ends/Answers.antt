@@ -10,5 +10,5 @@ end-requires g c =
     c.requires
 
 pub returns : goal.returns
-returns g c = λ T s may.
-    subst (λ (faults : List Fault). g.L.FinishLedger.stands c.end.new.self (made_act T c.args.who.task (End faults))) c.open.ensures (c.in_default.ensures T s may).made
+returns g c = λ room T s may.
+    subst (λ (faults : List Fault). g.L.FinishLedger.stands c.end.new.self room (made_act T c.args.who.task (End faults))) c.open.ensures (c.in_default.ensures room T s may).made

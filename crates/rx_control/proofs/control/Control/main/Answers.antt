@@ -12,7 +12,7 @@ use Rattle.rx_control.proofs.control.Control.main.Goals as goal
 pub returns-clause-stands : goal.returns-clause-stands
 returns-clause-stands c =
     let P : Control → Type 0 = λ d. (b : Block) → BlockStands c.script-script.result.now c.top.result b → StandsFor c.script-script.result.now d (items b c.open.result Empty) × (d.vars ≡ c.none.result) in
-    let Q : Control → Type 0 = λ d. (b : Block) → Stands c.args.p.now.script b → StandsFor c.args.p.now.script d (items b [] Empty) × (d.vars ≡ no_vars) in
+    let Q : Control → Type 0 = λ d. (b : Block) → Stands c.args.p.now.script b → StandsFor c.args.p.now.script d (items b [] Empty) × (d.vars ≡ no_vars c.args.places) in
     ok-then c.start.result P Q c.start.ensures
     (λ d h b k.
     let K : Shape → Type 0 = λ s. Stands s b in

@@ -41,7 +41,7 @@ carry_out-requires-clause-due c =
     let a = at-statement c.args.script.now c.args.self.now q.0 e.0 c.in-Some-Seq.block c.in-Some-Seq.next c.in-Some-Seq.part r e.1 q.1 in
     let y = path_of c.args.self.now.base e.0 ++ option_to_list c.in-Some-Seq.part in
     let rest = seq (More a.more y (suc c.in-Some-Seq.next) ∷ a.others) in
-    let d = stmt_does c.args.self.now.vars c.args.here.0 c.args.places a.stmt (at y c.in-Some-Seq.next) rest in
+    let d = stmt_does c.args.self.now.vars c.args.here.0 a.stmt (at y c.in-Some-Seq.next) rest in
     let u : Due c.args.script.now c.args.self.now q.0 e.0 c.in-Some-Seq.block c.in-Some-Seq.next c.in-Some-Seq.part c.make_plan-plan.result = record { front = a; act = d; is = c.make_plan-plan.ensures a.stmt (c.at_hand-stmt.ensures a.stmt a.more a.awaits) (at y c.in-Some-Seq.next) rest } in
     (q.0, e.0, u)
 
@@ -53,23 +53,23 @@ returns-in_ok-faults-in-Some-Seq-clause-ok c t h =
     let a = at-statement c.args.script.now c.args.self.now t e.0 c.in-Some-Seq.block c.in-Some-Seq.next c.in-Some-Seq.part r e.1 h in
     let y = path_of c.args.self.now.base e.0 ++ option_to_list c.in-Some-Seq.part in
     let rest = seq (More a.more y (suc c.in-Some-Seq.next) ∷ a.others) in
-    let d = stmt_does c.args.self.now.vars c.args.here.0 c.args.places a.stmt (at y c.in-Some-Seq.next) rest in
+    let d = stmt_does c.args.self.now.vars c.args.here.0 a.stmt (at y c.in-Some-Seq.next) rest in
     let u : Due c.args.script.now c.args.self.now t e.0 c.in-Some-Seq.block c.in-Some-Seq.next c.in-Some-Seq.part c.make_plan-plan.result = record { front = a; act = d; is = c.make_plan-plan.ensures a.stmt (c.at_hand-stmt.ensures a.stmt a.more a.awaits) (at y c.in-Some-Seq.next) rest } in
-    leaves-by c.args.script.now c.carry_out.new.self (does c.args.self.now.vars c.args.here.0 c.args.places t) (lifted a.others d)
-    (stmt-does c.args.script.now c.args.self.now t e.0 c.in-Some-Seq.block c.in-Some-Seq.next c.in-Some-Seq.part a c.args.self.now.vars c.args.here.0 c.args.places) (c.carry_out.ensures.done t e.0 u)
+    leaves-by c.args.script.now c.carry_out.new.self (does c.args.self.now.vars c.args.here.0 t) (lifted a.others d)
+    (stmt-does c.args.script.now c.args.self.now t e.0 c.in-Some-Seq.block c.in-Some-Seq.next c.in-Some-Seq.part a c.args.self.now.vars c.args.here.0) (c.carry_out.ensures.done t e.0 u)
 
 pub returns-in-Some-Held-clause-ok : goal.returns-in-Some-Held-clause-ok
 returns-in-Some-Held-clause-ok c t h =
     let e = rw c.in-Some-Held.field-0-is at c.in-Some-Held.ensures in
     let a = at-top c.args.script.now c.args.self.now t e.0 Held e.1 h in
-    leaves-by c.args.script.now c.args.self.now (does c.args.self.now.vars c.args.here.0 c.args.places t) Releases
-    (waiting-does c.args.script.now c.args.self.now t e.0 (calm-held c.args.script.now c.args.self.now t e.0 a) a c.args.self.now.vars c.args.here.0 c.args.places) tt
+    leaves-by c.args.script.now c.args.self.now (does c.args.self.now.vars c.args.here.0 t) Releases
+    (waiting-does c.args.script.now c.args.self.now t e.0 (calm-held c.args.script.now c.args.self.now t e.0 a) a c.args.self.now.vars c.args.here.0) tt
 
 pub returns-in-Some-Body-clause-ok : goal.returns-in-Some-Body-clause-ok
 returns-in-Some-Body-clause-ok c t h =
     let e = rw c.in-Some-Body.field-0-is at c.in-Some-Body.ensures in
     let a = at-top c.args.script.now c.args.self.now t e.0 Body e.1 h in
-    inside-leaves c.args.script.now c.args.self.now c.args.self.now t e.0 a c.args.self.now.vars c.args.here.0 c.args.places
+    inside-leaves c.args.script.now c.args.self.now c.args.self.now t e.0 a c.args.self.now.vars c.args.here.0
 
 pub returns-in_ok-faults-in-Some-Seq-clause-other : goal.returns-in_ok-faults-in-Some-Seq-clause-other
 returns-in_ok-faults-in-Some-Seq-clause-other c t h n =
@@ -79,19 +79,19 @@ returns-in_ok-faults-in-Some-Seq-clause-other c t h n =
     let a = at-statement c.args.script.now c.args.self.now t e.0 c.in-Some-Seq.block c.in-Some-Seq.next c.in-Some-Seq.part r e.1 h in
     let y = path_of c.args.self.now.base e.0 ++ option_to_list c.in-Some-Seq.part in
     let rest = seq (More a.more y (suc c.in-Some-Seq.next) ∷ a.others) in
-    let d = stmt_does c.args.self.now.vars c.args.here.0 c.args.places a.stmt (at y c.in-Some-Seq.next) rest in
+    let d = stmt_does c.args.self.now.vars c.args.here.0 a.stmt (at y c.in-Some-Seq.next) rest in
     let k = asks c.args.script.now c.make_plan-plan.result c.args.self.now.vars (at y c.in-Some-Seq.next) rest d (c.make_plan-plan.ensures a.stmt (c.at_hand-stmt.ensures a.stmt a.more a.awaits) (at y c.in-Some-Seq.next) rest)
-    (λ i. n (ap next_of (stmt-does c.args.script.now c.args.self.now t e.0 c.in-Some-Seq.block c.in-Some-Seq.next c.in-Some-Seq.part a c.args.self.now.vars c.args.here.0 c.args.places) ∙ next-lifted a.others d ∙ i)) in
+    (λ i. n (ap next_of (stmt-does c.args.script.now c.args.self.now t e.0 c.in-Some-Seq.block c.in-Some-Seq.next c.in-Some-Seq.part a c.args.self.now.vars c.args.here.0) ∙ next-lifted a.others d ∙ i)) in
     c.carry_out.ensures.asks k.0 k.1
 
 pub returns-in-Some-Turns-clause-other : goal.returns-in-Some-Turns-clause-other
 returns-in-Some-Turns-clause-other c t h n =
     let e = rw c.in-Some-Turns.field-0-is at c.in-Some-Turns.ensures in
     let a = at-top c.args.script.now c.args.self.now t e.0 (Turns c.in-Some-Turns.body c.in-Some-Turns.turn c.in-Some-Turns.times) e.1 h in
-    absurd (n (turns-local c.args.script.now c.args.self.now t e.0 c.in-Some-Turns.body c.in-Some-Turns.turn c.in-Some-Turns.times a c.args.self.now.vars c.args.here.0 c.args.places))
+    absurd (n (turns-local c.args.script.now c.args.self.now t e.0 c.in-Some-Turns.body c.in-Some-Turns.turn c.in-Some-Turns.times a c.args.self.now.vars c.args.here.0))
 
 pub returns-in-Some-Try-clause-other : goal.returns-in-Some-Try-clause-other
 returns-in-Some-Try-clause-other c t h n =
     let e = rw c.in-Some-Try.field-0-is at c.in-Some-Try.ensures in
     let a = at-top c.args.script.now c.args.self.now t e.0 (Try c.in-Some-Try.dead_only c.in-Some-Try.handler) e.1 h in
-    absurd (n (try-local c.args.script.now c.args.self.now t e.0 c.in-Some-Try.dead_only c.in-Some-Try.handler a c.args.self.now.vars c.args.here.0 c.args.places))
+    absurd (n (try-local c.args.script.now c.args.self.now t e.0 c.in-Some-Try.dead_only c.in-Some-Try.handler a c.args.self.now.vars c.args.here.0))

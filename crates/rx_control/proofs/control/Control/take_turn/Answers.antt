@@ -18,14 +18,14 @@ settle-requires c =
     (c.args.self.now.base, a.others, subst P (sym (c.drop_top.ensures.items q.1 (Turns c.args.body c.args.turn c.args.times) q.3)) a.rest)
 
 pub returns-then-times-turn : goal.returns-then-times-turn
-returns-then-times-turn c here places t below h e =
+returns-then-times-turn c here t below h e =
     let a = at-top c.args.script.now c.args.self.now t below (Turns c.args.body c.args.turn c.args.times) e h in
     let r = calm-turns c.args.script.now c.args.self.now t below c.args.body c.args.turn c.args.times a in
     let P : List Frame → Type 0 = λ fs. FramesStand c.args.script.now c.args.self.now.base fs a.others in
     let st = c.settle.ensures c.args.self.now.base a.others (subst P (sym (c.drop_top.ensures.items below (Turns c.args.body c.args.turn c.args.times) e)) a.rest) in
     let d : Control = record { base = c.args.self.now.base; frames = c.settle.new.frames; raised = c.args.self.now.raised; vars = c.args.self.now.vars } in
     let q : c.args.times ≤ c.args.turn = search rules in
-    step-leaves c.args.script.now d _ _ c.args.self.now.vars a.others None (turns-does c.args.script.now c.args.self.now t below c.args.body c.args.turn c.args.times r a c.args.self.now.vars here.0 places) r st
+    step-leaves c.args.script.now d _ _ c.args.self.now.vars a.others None (turns-does c.args.script.now c.args.self.now t below c.args.body c.args.turn c.args.times r a c.args.self.now.vars here.0) r st
     (ap (λ u. wrap u a.others) (turn-over c.args.turn c.args.times (seq a.others) _ q)) refl
 
 pub settle-requires-else-times-turn : goal.settle-requires-else-times-turn
@@ -45,7 +45,7 @@ settle-requires-else-times-turn c =
     (c.args.self.now.base, More a.stands.0 (at x c.args.turn) 0 ∷ ls, z)
 
 pub returns-else-times-turn : goal.returns-else-times-turn
-returns-else-times-turn c here places t below h e =
+returns-else-times-turn c here t below h e =
     let a = at-top c.args.script.now c.args.self.now t below (Turns c.args.body c.args.turn c.args.times) e h in
     let l : c.args.turn < c.args.times = omega (arith, c.if-times-turn.false) in
     let n : c.args.turn + 1 ≡ suc c.args.turn = add-one c.args.turn in
@@ -59,6 +59,6 @@ returns-else-times-turn c here places t below h e =
     let z = entered c.args.script.now c.args.self.now.base c.push_reserved.new.self.items c.push_reserved-else-times-turn.new.self.items c.args.body a.stands.0 x c.args.turn ls c.push_reserved-else-times-turn.ensures.items y a.stands.2 w in
     let r = calm-turns c.args.script.now c.args.self.now t below c.args.body c.args.turn c.args.times a in
     let d : Control = record { base = c.args.self.now.base; frames = c.settle-else-times-turn.new.frames; raised = c.args.self.now.raised; vars = c.args.self.now.vars } in
-    step-leaves c.args.script.now d _ _ c.args.self.now.vars (More a.stands.0 (at x c.args.turn) 0 ∷ ls) None (turns-does c.args.script.now c.args.self.now t below c.args.body c.args.turn c.args.times r a c.args.self.now.vars here.0 places) r
+    step-leaves c.args.script.now d _ _ c.args.self.now.vars (More a.stands.0 (at x c.args.turn) 0 ∷ ls) None (turns-does c.args.script.now c.args.self.now t below c.args.body c.args.turn c.args.times r a c.args.self.now.vars here.0) r
     (c.settle-else-times-turn.ensures c.args.self.now.base (More a.stands.0 (at x c.args.turn) 0 ∷ ls) z)
     (ap (λ u. wrap u a.others) (turn-goes c.args.turn c.args.times (seq a.others) _ l ∙ ap (λ k. items a.stands.0 (at x c.args.turn) (TurnsTerm a.stands.0 x k c.args.times (seq a.others))) (sym n))) refl

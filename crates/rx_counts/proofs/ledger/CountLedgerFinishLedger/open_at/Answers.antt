@@ -1,4 +1,4 @@
-use Rattle.std.specs.Prelude.{◌≡◌, ℕ, Some, IfSome, Err, not}
+use Rattle.std.specs.Prelude.{◌≡◌, Some, IfSome, Err, not}
 use Rattle.std.proofs.Common.{◌∙◌, sym, subst, refl, ap}
 use Rattle.rx_base.specs.declared.ids.PlaceId.{PlaceId}
 use Rattle.rx_base.specs.declared.ids.ScopeId.{ScopeId}
@@ -11,31 +11,30 @@ use Rattle.rx_finish.specs.Callers.{IsMoving}
 use Rattle.rx_finish.specs.Calls.{CallReply}
 use Rattle.rx_finish.proofs.Allowed.{Free}
 use Rattle.rx_counts.specs.Stands.{StandsFor, record_at, more}
-use Rattle.rx_counts.specs.Inside.Opening.{IsZero}
-use Rattle.rx_counts.proofs.Asking.{was_lost, caller, unstruck, call_refused, same_records}
+use Rattle.rx_counts.proofs.Asking.{was_lost, caller, unstruck, call_refused, same_records, wide}
 use Rattle.rx_counts.proofs.Born.{finish_known}
 use Rattle.rx_counts.proofs.Spawning.{start}
 use Rattle.rx_counts.proofs.Calling.{called_stands, call_ok}
 use Rattle.rx_counts.proofs.ledger.CountLedgerFinishLedger.open_at.Goals as goal
 
 pub returns-in-Some : goal.returns-in-Some
-returns-in-Some c = λ T s may. subst (λ (v : LedgerFault). CallReply T c.args.who c.args.to (Err v) (StandsFor c.args.self.now)) (sym c.lost.ensures) (was_lost c.args.self.now T c.args.who IsMoving c.in-Some.blow s may.asks (sym c.blow_there.ensures ∙ c.in-Some.is), s)
+returns-in-Some c = λ room T s may. subst (λ (v : LedgerFault). CallReply T c.args.who c.args.to (Err v) (StandsFor c.args.self.now room)) (sym c.lost.ensures) (was_lost c.args.self.now T c.args.who IsMoving c.in-Some.blow s may.asks (sym c.blow_there.ensures ∙ c.in-Some.is), s)
 
 pub returns-in_default-fresh : goal.returns-in_default-fresh
-returns-in_default-fresh c = λ T s may. call_refused T c.args.who c.args.to NoMemory (StandsFor c.args.self.now) refl (unstruck c.args.self.now T c.args.who IsMoving s may.asks (sym c.blow_there.ensures ∙ c.in_default.is)) s
+returns-in_default-fresh c = λ room T s may. call_refused T c.args.who c.args.to NoMemory (StandsFor c.args.self.now room) refl (unstruck c.args.self.now T c.args.who IsMoving s may.asks (sym c.blow_there.ensures ∙ c.in_default.is)) s
 
 pub bear-requires : goal.bear-requires
 bear-requires c =
-    let T : Tree = c.requires.0 in
-    let f : Free T c.args.who IsMoving = caller c.args.self.now T c.args.who IsMoving c.requires.1 c.requires.2.asks (sym c.blow_there.ensures ∙ c.in_default.is) in
+    let T : Tree = c.requires.1 in
+    let f : Free T c.args.who IsMoving = caller c.args.self.now T c.args.who IsMoving c.requires.2 c.requires.3.asks (sym c.blow_there.ensures ∙ c.in_default.is) in
     rw (c.travel.ensures, c.place_of-from.ensures)
-    (call_ok T c.args.who c.args.to c.in-Ok.kept.sums (sound c.requires.1.reached) c.requires.2 f (subst (λ (n : ℕ). IsZero n c.in-Ok.kept.sums) c.requires.1.fit.places c.in-Ok.ensures.sums))
+    (call_ok T c.args.who c.args.to c.in-Ok.kept.sums (sound c.requires.2.reached) (wide c.args.self.now T c.requires.2) c.requires.3 f c.in-Ok.ensures.sums)
 
 pub returns-in-Err : goal.returns-in-Err
-returns-in-Err c = λ T s may. call_refused T c.args.who c.args.to c.in-Err.fault _ c.in-Err.ensures.refused.0 (unstruck c.args.self.now T c.args.who IsMoving s may.asks (sym c.blow_there.ensures ∙ c.in_default.is)) (same_records c.args.self.now _ T s refl refl refl refl c.in-Err.ensures.refused.1)
+returns-in-Err c = λ room T s may. call_refused T c.args.who c.args.to c.in-Err.fault _ c.in-Err.ensures.refused.0 (unstruck c.args.self.now T c.args.who IsMoving s may.asks (sym c.blow_there.ensures ∙ c.in_default.is)) (same_records c.args.self.now _ T s refl refl refl refl refl c.in-Err.ensures.refused.1)
 
 pub returns : goal.returns
-returns c = λ T s may.
+returns c = λ room T s may.
     let none = sym c.blow_there.ensures ∙ c.in_default.is in
     let f : Free T c.args.who IsMoving = caller c.args.self.now T c.args.who IsMoving s may.asks none in
     let fin = finish_known c.args.self.now T c.args.who IsMoving c.finish_of-finish.result s f (subst (λ rs. IfSome (record_at rs c.args.who.inner.0) (λ r. c.finish_of-finish.result ≡ r.finish)) c.deref.ensures.value c.finish_of-finish.ensures) in
@@ -44,4 +43,4 @@ returns c = λ T s may.
     called_stands c.args.self.now _ T c.args.who c.args.to _ _ _ c.in-Ok.kept.sums _ s may none f refl refl
     new.kind (new.home ∙ c.place_of-from.ensures) new.parent (fin ∙ ap (λ (v : ScopeId). Some v.0) (sym new.finish)) new.sums
     (ap not c.lives-is_lost.ensures) c.bear.ensures.lost (λ e. c.bear.ensures.joins e ∙ ap (λ (w : Where). more w c.in-Ok.kept.sums) place)
-    new.body new.ends refl refl refl refl c.in_default-push.ensures.pushed
+    new.body new.ends refl refl refl refl refl c.in_default-push.ensures.pushed

@@ -8,7 +8,7 @@ use Rattle.rx_counts.proofs.Asking.{was_lost, unstruck}
 use Rattle.rx_counts.proofs.ledger.CountLedgerFinishLedger.print.Goals as goal
 
 pub returns-in-Some : goal.returns-in-Some
-returns-in-Some c = λ T s may. subst (λ (v : LedgerFault). PrintReply T c.args.who (Err v)) (sym c.lost.ensures) (was_lost c.args.self.now T c.args.who IsMoving c.in-Some.blow s may (sym c.blow_there.ensures ∙ c.in-Some.is))
+returns-in-Some c = λ room T s may. subst (λ (v : LedgerFault). PrintReply T c.args.who (Err v)) (sym c.lost.ensures) (was_lost c.args.self.now T c.args.who IsMoving c.in-Some.blow s may (sym c.blow_there.ensures ∙ c.in-Some.is))
 
 pub returns-in-None : goal.returns-in-None
-returns-in-None c = λ T s may. print_allowed T c.args.who s.reached may (unstruck c.args.self.now T c.args.who IsMoving s may (sym c.blow_there.ensures ∙ c.in-None.is))
+returns-in-None c = λ room T s may. print_allowed T c.args.who s.reached may (unstruck c.args.self.now T c.args.who IsMoving s may (sym c.blow_there.ensures ∙ c.in-None.is))

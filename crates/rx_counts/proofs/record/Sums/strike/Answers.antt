@@ -15,5 +15,6 @@ returns c =
       counts = struck_cells c.args.d c.args.self.now.places c.args.self.now.counts c.clear_hit-hurt.new.counts c.requires.1.cells c.clear_hit-hurt.ensures.len c.clear_hit-hurt.ensures.cleared;
       total = omega arith;
       orphans = refl;
+      masked = refl;
       lost = λ p low. c.lost_if-self.ensures p low ∙ ap (λ (n : ℕ). has_bit c.args.self.now.lost.0 p || (ltb 0 n && (c.args.d.0 == p))) sum;
     }

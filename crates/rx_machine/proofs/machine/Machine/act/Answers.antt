@@ -1,7 +1,7 @@
 use Rattle.std.proofs.Common.{rules, ◌≡◌, w64, to_z, of_z}
 use Rattle.rx_rules.specs.Terms.{Prints}
 use Rattle.std.proofs.Common.{ap, sym, ◌∙◌}
-use Rattle.rx_machine.proofs.Requested.{told_open, told_call, told_spawn, told_wait, told_release, told_print, told_end, told_no_local, told_no_cell, on_ok, on_err}
+use Rattle.rx_machine.proofs.Requested.{told_open, told_call, told_spawn, told_wait, told_release, told_print, told_census, told_end, told_no_local, told_no_cell, on_ok, on_err}
 use Rattle.rx_machine.proofs.Halting.{acting-told}
 use Rattle.rx_machine.proofs.machine.Machine.act.Goals as goal
 
@@ -41,6 +41,12 @@ print-requires-clause-game g c =
     let r = c.in_ok-next.ensures.next w.0 w.1 w.2 w.3 w.4 w.5 in
     let t : to_z w64 (of_z w64 c.in-Book-Print.value) ≡ c.in-Book-Print.value = search rules in
     (c.args.here, (w.0, w.1, w.2, r.0, w.4, r.1, told_print _ _ c.in-Book-Print.field-0 c.in-Book-Print.value r.2 c.in-Book-Print.is (rw c.in-Book-Print.is at c.in-Book-Print.field-0-is) ∙ ap (λ z. Prints z) (sym t)))
+
+pub census-requires-clause-game : goal.census-requires-clause-game
+census-requires-clause-game g c =
+    let w = c.requires.game in
+    let r = c.in_ok-next.ensures.next w.0 w.1 w.2 w.3 w.4 w.5 in
+    (c.args.here, (w.0, w.1, w.2, r.0, w.4, r.1, told_census _ _ c.in-Book-Census.field-0 r.2 c.in-Book-Census.is (rw c.in-Book-Census.is at c.in-Book-Census.field-0-is)))
 
 pub end-requires-clause-game : goal.end-requires-clause-game
 end-requires-clause-game g c =
@@ -90,6 +96,11 @@ returns-in-Book-Print-clause-made g c = on_ok c.print.result (λ h code U k q G 
     let r = c.in_ok-next.ensures.next code U k q G a in
     let t : to_z w64 (of_z w64 c.in-Book-Print.value) ≡ c.in-Book-Print.value = search rules in
     h c.args.here code U k r.0 G r.1 (told_print _ _ c.in-Book-Print.field-0 c.in-Book-Print.value r.2 c.in-Book-Print.is (rw c.in-Book-Print.is at c.in-Book-Print.field-0-is) ∙ ap (λ z. Prints z) (sym t))) c.print.ensures.made
+
+pub returns-in-Book-Census-clause-made : goal.returns-in-Book-Census-clause-made
+returns-in-Book-Census-clause-made g c = on_ok c.census.result (λ h code U k q G a.
+    let r = c.in_ok-next.ensures.next code U k q G a in
+    h c.args.here code U k r.0 G r.1 (told_census _ _ c.in-Book-Census.field-0 r.2 c.in-Book-Census.is (rw c.in-Book-Census.is at c.in-Book-Census.field-0-is))) c.census.ensures.made
 
 pub returns-in-Done-clause-made : goal.returns-in-Done-clause-made
 returns-in-Done-clause-made g c = on_ok c.end.result (λ h code U k q G a.
@@ -141,8 +152,16 @@ returns-in-Book-Print-clause-refused g c = on_err c.print.result (λ told code U
     let r = c.in_ok-next.ensures.next code U k q G a in
     acting-told g.L.FinishLedger.stands c.args.p.now.script code U _ k c.args.i c.args.here r.0 _ G _ (ap (λ v. v.items) told.stores) r.1) c.print.ensures.refused
 
+pub returns-in-Book-Census-clause-refused : goal.returns-in-Book-Census-clause-refused
+returns-in-Book-Census-clause-refused g c = on_err c.census.result (λ told code U k q G a.
+    let r = c.in_ok-next.ensures.next code U k q G a in
+    acting-told g.L.FinishLedger.stands c.args.p.now.script code U _ k c.args.i c.args.here r.0 _ G _ (ap (λ v. v.items) told.stores) r.1) c.census.ensures.refused
+
 pub returns-in-Book-Print-clause-history : goal.returns-in-Book-Print-clause-history
 returns-in-Book-Print-clause-history g c = on_err c.print.result (λ told. told.history ∙ c.run_on.ensures.same.history) c.print.ensures.refused
+
+pub returns-in-Book-Census-clause-history : goal.returns-in-Book-Census-clause-history
+returns-in-Book-Census-clause-history g c = on_err c.census.result (λ told. told.history ∙ c.run_on.ensures.same.history) c.census.ensures.refused
 
 pub returns-in-Done-clause-refused : goal.returns-in-Done-clause-refused
 returns-in-Done-clause-refused g c = on_err c.end.result (λ told code U k q G a.

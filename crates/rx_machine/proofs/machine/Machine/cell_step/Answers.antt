@@ -41,7 +41,7 @@ returns-clause-next g c = λ code U k q G a e.
     let asked = c.in_ok-answer.ensures.answer s.0 s.1.found in
     let done = c.in_ok-cell_done.ensures.ok q.term is.begins.0 (subst (λ (v : Control). StandsFor c.args.p.now.script v q.term) (sym control) a.gone.seat_is.term) is.begins.1 in
     called g.L.FinishLedger.stands c.args.p.now.script code U c.args.self.now _ k c.args.i c.args.here q c.args.seat.now _ G c.args.op c.in_ok-answer.answer is.begins.0 s.0 asked.0 _ a is is.begins.1 e s.1
-    (record { history = refl; ledger = refl; seats = refl; ready = refl; kills = refl; places = refl; failed = refl })
+    (record { history = refl; ledger = refl; seats = refl; ready = refl; plan = refl; failed = refl })
     asked.1 (ap (λ s. s.row.number) b.1) (c.len.ensures ∙ ap (λ es. length es) a.but.shares.entries) b.0 asked.2 done.0
     (done.1 ∙ ap (λ (v : Control). vars_after (answer_of (receives q.term) c.in_ok-answer.answer) v.vars) control) (ap (λ s. s.batch) b.1) (ap (λ s. s.row) b.1) (ap (λ s. s.scopes) b.1)
 

@@ -1,4 +1,5 @@
 use Rattle.std.proofs.Common.{arith, ◌≡◌, ◌<◌, List, length, ap, ◌∙◌, sym, subst}
+use Rattle.rx_rules.specs.Run.{in_all}
 use Rattle.rx_rules.specs.Picked.{tree_in}
 use Rattle.rx_machine.specs.declared.enabled.Ready.{Ready}
 use Rattle.rx_machine.specs.declared.enabled.Origin.{Origin}
@@ -31,6 +32,6 @@ returns g c = λ shape code U G t k ready told.
     let a = c.die.ensures.made shape code U G t k in
     let can = can-turn stands shape code U c.die.new.self a.0 c.games_come.ensures c.fold_is_reached.ensures a.2.0 a.2.1 in
     let same : c.die.new.self.ready ≡ c.args.self.now.ready = c.die.ensures.ready in
-    died-on stands shape code U c.die.new.self c.note_all.new.self k G c.die.new.self.ready.tasks.members c.reached_is_sound.ensures t.can.reached a can
+    died-on stands shape code U c.die.new.self c.note_all.new.self k G c.die.new.self.ready.tasks.members (in_all U) (tree_in U G).places (c.games_come.ensures code U G t.can.holds.shares.on.proper t.can.holds.shares.comes t.can.unreleased).ok.plan c.reached_is_sound.ensures t.can.reached a can
     (subst (λ (r : Ready). IsReady (tree_in U G) r.tasks.members) (sym same) ready) c.note_all.ensures.same c.note_all.ensures.ascends (c.note_all.ensures.noted shape code U a.0 can) c.note_all.ensures.others
     (subst (λ (xs : List Origin). TellsOrigins (tree_in U G) xs) (ap (λ v. v.items) (sym (c.note_all.ensures.origins ∙ ap (λ (r : Ready). r.origins) same))) told)

@@ -1,10 +1,11 @@
 use Rattle.std.proofs.Common.{arith, ℕ, List, length, refl, true, false, ap, ◌∙◌, sym, subst}
+use Rattle.rx_rules.specs.declared.entries.Entry.TheVariants.{Death, Join}
 use Rattle.rx_rules.specs.Picked.{tree_in}
 use Rattle.rx_machine.specs.declared.machine.Machine.{Machine}
 use Rattle.rx_machine.specs.Picking.{IsReady}
 use Rattle.rx_machine.specs.Origins.{TellsOrigins}
 use Rattle.rx_machine.specs.declared.enabled.Origin.{Origin}
-use Rattle.rx_machine.proofs.BeforeTurn.{dying, calm, can-turn, counted}
+use Rattle.rx_machine.proofs.BeforeTurn.{falling, calm, can-turn, counted}
 use Rattle.rx_machine.proofs.Noting.{roomy-can}
 use Rattle.rx_machine.proofs.Halting.{refused-same}
 use Rattle.rx_machine.proofs.Requested.{on_errs, any_err}
@@ -26,7 +27,20 @@ make_death-requires-clause-game g c =
       w.0,
       w.1,
       w.2,
-      dying g.L.FinishLedger.stands c.args.p.now.script w.0 w.1 c.make_room.new.self c.in-Some.place w.2 c.len.result can c.len.ensures c.in-Some.ensures.due,
+      falling g.L.FinishLedger.stands c.args.p.now.script w.0 w.1 c.make_room.new.self (Death c.in-Some-Death.place) w.2 c.len.result can c.len.ensures (rw c.in-Some-Death.field-0-is at c.in-Some-Death.ensures.due),
+      subst (λ (ns : List ℕ). IsReady (tree_in w.1 w.2) ns) (sym c.in_ok-make_room.ensures.members) w.3.ready,
+      subst (λ (xs : List Origin). TellsOrigins (tree_in w.1 w.2) xs) (sym c.in_ok-make_room.ensures.origins) w.3.origins,
+    )
+
+pub make_join-requires-clause-game : goal.make_join-requires-clause-game
+make_join-requires-clause-game g c =
+    let w = c.requires.game in
+    let can = roomy-can g.L.FinishLedger.stands c.args.p.now.script w.0 w.1 c.args.self.now c.make_room.new.self w.2 c.games_come.ensures c.fold_is_reached.ensures c.in_ok-make_room.ensures.same c.in_ok-make_room.ensures.told w.3 in (
+      c.args.p.now.script,
+      w.0,
+      w.1,
+      w.2,
+      falling g.L.FinishLedger.stands c.args.p.now.script w.0 w.1 c.make_room.new.self (Join c.in-Some-Join.place) w.2 c.len.result can c.len.ensures (rw c.in-Some-Join.field-0-is at c.in-Some-Join.ensures.due),
       subst (λ (ns : List ℕ). IsReady (tree_in w.1 w.2) ns) (sym c.in_ok-make_room.ensures.members) w.3.ready,
       subst (λ (xs : List Origin). TellsOrigins (tree_in w.1 w.2) xs) (sym c.in_ok-make_room.ensures.origins) w.3.origins,
     )
@@ -39,14 +53,25 @@ take_pick-requires-clause-game g c =
     let told = subst (λ (xs : List Origin). TellsOrigins (tree_in w.1 w.2) xs) (sym c.in_ok-make_room.ensures.origins) w.3.origins in
     (w.0, w.1, w.2, calm g.L.FinishLedger.stands c.args.p.now.script w.0 w.1 c.make_room.new.self w.2 c.len.result can c.len.ensures c.in-None.ensures.none ready told)
 
-pub returns-in-Some-clause-moved : goal.returns-in-Some-clause-moved
-returns-in-Some-clause-moved g c = λ e. (
+pub returns-in-Some-Death-clause-moved : goal.returns-in-Some-Death-clause-moved
+returns-in-Some-Death-clause-moved g c = λ e. (
   false,
   λ code U G h.
       let can = roomy-can g.L.FinishLedger.stands c.args.p.now.script code U c.args.self.now c.make_room.new.self G c.games_come.ensures c.fold_is_reached.ensures c.in_ok-make_room.ensures.same c.in_ok-make_room.ensures.told h in
       let ready = subst (λ (ns : List ℕ). IsReady (tree_in U G) ns) (sym c.in_ok-make_room.ensures.members) h.ready in
       let told = subst (λ (xs : List Origin). TellsOrigins (tree_in U G) xs) (sym c.in_ok-make_room.ensures.origins) h.origins in
-      c.make_death.ensures c.args.p.now.script code U G (dying g.L.FinishLedger.stands c.args.p.now.script code U c.make_room.new.self c.in-Some.place G c.len.result can c.len.ensures c.in-Some.ensures.due) (g.P.Picks.number c.args.picks.now 0) ready told,
+      c.make_death.ensures c.args.p.now.script code U G (falling g.L.FinishLedger.stands c.args.p.now.script code U c.make_room.new.self (Death c.in-Some-Death.place) G c.len.result can c.len.ensures (rw c.in-Some-Death.field-0-is at c.in-Some-Death.ensures.due)) (g.P.Picks.number c.args.picks.now 0) ready told,
+  λ j. refl,
+)
+
+pub returns-in-Some-Join-clause-moved : goal.returns-in-Some-Join-clause-moved
+returns-in-Some-Join-clause-moved g c = λ e. (
+  false,
+  λ code U G h.
+      let can = roomy-can g.L.FinishLedger.stands c.args.p.now.script code U c.args.self.now c.make_room.new.self G c.games_come.ensures c.fold_is_reached.ensures c.in_ok-make_room.ensures.same c.in_ok-make_room.ensures.told h in
+      let ready = subst (λ (ns : List ℕ). IsReady (tree_in U G) ns) (sym c.in_ok-make_room.ensures.members) h.ready in
+      let told = subst (λ (xs : List Origin). TellsOrigins (tree_in U G) xs) (sym c.in_ok-make_room.ensures.origins) h.origins in
+      c.make_join.ensures c.args.p.now.script code U G (falling g.L.FinishLedger.stands c.args.p.now.script code U c.make_room.new.self (Join c.in-Some-Join.place) G c.len.result can c.len.ensures (rw c.in-Some-Join.field-0-is at c.in-Some-Join.ensures.due)) (g.P.Picks.number c.args.picks.now 0) ready told,
   λ j. refl,
 )
 

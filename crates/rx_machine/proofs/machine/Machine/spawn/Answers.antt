@@ -9,23 +9,25 @@ use Rattle.rx_finish.specs.declared.ledger.Caller.{Caller}
 use Rattle.rx_finish.specs.Callers.{MayAsk, MayAskTo, IsMoving}
 use Rattle.rx_finish.specs.Calls.{blow_of, SpawnReply}
 use Rattle.rx_control.specs.Stands.{StandsFor}
+use Rattle.rx_history.specs.Setups.{to_join}
 use Rattle.rx_machine.specs.declared.seat.Seat.{Seat}
 use Rattle.rx_machine.specs.Inside.Callers.{caller}
 use Rattle.rx_machine.proofs.Acted.{closed}
 use Rattle.rx_machine.proofs.Asking.{seat_asks, seat_unstruck, moving}
 use Rattle.rx_machine.proofs.Finding.{set_before}
+use Rattle.rx_machine.proofs.Knowing.{known-there}
 use Rattle.rx_machine.proofs.Spawned.{spawn-begins, spawn-free, spawn-target, spawn-did, spawn-refused, spawned}
 use Rattle.rx_machine.proofs.machine.Machine.spawn.Goals as goal
 
 pub path_of-requires : goal.path_of-requires
 path_of-requires g c =
     let game = c.requires.game in
-    let b = spawn-begins game.3 c.args.here.0 game.1.places c.args.to.0 game.6 in (game.3.term, b.0, game.5.gone.seat_is.term, b.1)
+    let b = spawn-begins game.3 c.args.here.0 c.args.to.0 game.6 in (game.3.term, b.0, game.5.gone.seat_is.term, b.1)
 
 pub child-requires : goal.child-requires
 child-requires g c =
     let game = c.requires.game in
-    let b = spawn-begins game.3 c.args.here.0 game.1.places c.args.to.0 game.6 in (game.3.term, b.0, game.5.gone.seat_is.term, b.1)
+    let b = spawn-begins game.3 c.args.here.0 c.args.to.0 game.6 in (game.3.term, b.0, game.5.gone.seat_is.term, b.1)
 
 pub spawn-requires : goal.spawn-requires
 spawn-requires g c =
@@ -34,7 +36,7 @@ spawn-requires g c =
     let a = game.5 in
     let s = a.gone.seat_is in
     let who : c.caller-who.result ≡ caller c.args.seat.row c.args.seat.scopes.items = c.caller-who.ensures in
-    (T, a.but.shares.ledger, record { asks = subst (λ (w : Caller). MayAsk T w IsMoving) (sym who) (seat_asks c.args.p.now.script T c.args.i game.3 c.args.seat IsMoving s a.numbers (moving c.args.p.now.script T c.args.i game.3 c.args.seat c.args.here s a.gone.is_at (spawn-free game.3 c.args.here.0 game.1.places c.args.to.0 game.6))); target = spawn-target game.1 game.4 game.3 c.args.here c.args.to.0 a.place game.6 })
+    (to_join game.1 T, T, a.but.shares.ledger, record { asks = subst (λ (w : Caller). MayAsk T w IsMoving) (sym who) (seat_asks c.args.p.now.script T c.args.i game.3 c.args.seat IsMoving s a.numbers (moving c.args.p.now.script T c.args.i game.3 c.args.seat c.args.here s a.gone.is_at (spawn-free game.3 c.args.here.0 c.args.to.0 game.6))); target = spawn-target T game.3 c.args.here c.args.to.0 a.place (known-there g.L.FinishLedger.stands c.args.p.now.script game.0 game.1 c.args.self.now game.2 c.args.i c.args.here game.3 c.args.seat game.4 c.known_places_are_there.ensures c.going_tells_no_places.ensures a) game.6 })
 
 pub no_memory-requires : goal.no_memory-requires
 no_memory-requires g c =
@@ -43,9 +45,9 @@ no_memory-requires g c =
     let a = game.5 in
     let s = a.gone.seat_is in
     let who : c.caller-who.result ≡ caller c.args.seat.row c.args.seat.scopes.items = c.caller-who.ensures in
-    let may : MayAskTo T c.caller-who.result c.args.to = record { asks = subst (λ (w : Caller). MayAsk T w IsMoving) (sym who) (seat_asks c.args.p.now.script T c.args.i game.3 c.args.seat IsMoving s a.numbers (moving c.args.p.now.script T c.args.i game.3 c.args.seat c.args.here s a.gone.is_at (spawn-free game.3 c.args.here.0 game.1.places c.args.to.0 game.6))); target = spawn-target game.1 game.4 game.3 c.args.here c.args.to.0 a.place game.6 } in
+    let may : MayAskTo T c.caller-who.result c.args.to = record { asks = subst (λ (w : Caller). MayAsk T w IsMoving) (sym who) (seat_asks c.args.p.now.script T c.args.i game.3 c.args.seat IsMoving s a.numbers (moving c.args.p.now.script T c.args.i game.3 c.args.seat c.args.here s a.gone.is_at (spawn-free game.3 c.args.here.0 c.args.to.0 game.6))); target = spawn-target T game.3 c.args.here c.args.to.0 a.place (known-there g.L.FinishLedger.stands c.args.p.now.script game.0 game.1 c.args.self.now game.2 c.args.i c.args.here game.3 c.args.seat game.4 c.known_places_are_there.ensures c.going_tells_no_places.ensures a) game.6 } in
     let free = subst (λ (w : Caller). blow_of T w.task ≡ None) (sym who) (seat_unstruck c.args.p.now.script T c.args.i game.3 c.args.seat s) in
-    spawn-refused T c.caller-who.result c.args.to c.in-Err.fault (g.L.FinishLedger.stands c.spawn.new.self) free (c.in-Err.ensures T a.but.shares.ledger may)
+    spawn-refused T c.caller-who.result c.args.to c.in-Err.fault (g.L.FinishLedger.stands c.spawn.new.self (to_join game.1 T)) free (c.in-Err.ensures _ T a.but.shares.ledger may)
 
 pub go_on-requires : goal.go_on-requires
 go_on-requires g c = let game = c.requires.game in (game.3.term, game.5.gone.seat_is.term)
@@ -60,12 +62,12 @@ pub returns-clause-made : goal.returns-clause-made
 returns-clause-made g c = λ code U k q G a asks.
     let T = tree_in U G in
     let s = a.gone.seat_is in
-    let b = spawn-begins q c.args.here.0 U.places c.args.to.0 asks in
+    let b = spawn-begins q c.args.here.0 c.args.to.0 asks in
     let who : c.caller-who.result ≡ caller c.args.seat.row c.args.seat.scopes.items = c.caller-who.ensures in
-    let may : MayAskTo T c.caller-who.result c.args.to = record { asks = subst (λ (w : Caller). MayAsk T w IsMoving) (sym who) (seat_asks c.args.p.now.script T c.args.i q c.args.seat IsMoving s a.numbers (moving c.args.p.now.script T c.args.i q c.args.seat c.args.here s a.gone.is_at (spawn-free q c.args.here.0 U.places c.args.to.0 asks))); target = spawn-target U G q c.args.here c.args.to.0 a.place asks } in
+    let may : MayAskTo T c.caller-who.result c.args.to = record { asks = subst (λ (w : Caller). MayAsk T w IsMoving) (sym who) (seat_asks c.args.p.now.script T c.args.i q c.args.seat IsMoving s a.numbers (moving c.args.p.now.script T c.args.i q c.args.seat c.args.here s a.gone.is_at (spawn-free q c.args.here.0 c.args.to.0 asks))); target = spawn-target T q c.args.here c.args.to.0 a.place (known-there g.L.FinishLedger.stands c.args.p.now.script code U c.args.self.now k c.args.i c.args.here q c.args.seat G c.known_places_are_there.ensures c.going_tells_no_places.ensures a) asks } in
     let path = c.in_ok-path.ensures q.term b.0 s.term b.1 in
     let at : begins q.term ≡ Some c.in_ok-path.path = b.1 ∙ ap (λ v. Some v) (sym path) in
-    let did = spawn-did T c.args.seat.row c.args.seat.scopes.items c.args.here c.args.to c.in-Ok.born (g.L.FinishLedger.stands c.spawn.new.self) a.gone.is_at (subst (λ (w : Caller). SpawnReply T w c.args.to (Ok c.in-Ok.born) (g.L.FinishLedger.stands c.spawn.new.self)) who (c.in-Ok.ensures T a.but.shares.ledger may)) in
+    let did = spawn-did T c.args.seat.row c.args.seat.scopes.items c.args.here c.args.to c.in-Ok.born (g.L.FinishLedger.stands c.spawn.new.self (to_join U T)) a.gone.is_at (subst (λ (w : Caller). SpawnReply T w c.args.to (Ok c.in-Ok.born) (g.L.FinishLedger.stands c.spawn.new.self (to_join U T))) who (c.in-Ok.ensures _ T a.but.shares.ledger may)) in
     let term = subst (λ (fs : List Fault). StandsFor c.args.p.now.script c.go_on.new.control (granted fs q.term)) c.open.ensures (c.in_ok-go_on.ensures.ok q.term s.term) in
     let born = c.in_ok-control.ensures.stands q.term s.term b.0 b.1 in
     let slot = c.new_seat-child.result in
@@ -74,7 +76,7 @@ returns-clause-made g c = λ code U k q G a asks.
     c.close_turn.ensures.seats ∙ (ap (λ v. slice_set v c.args.i (Some after)) (c.push_reserved.ensures.items ∙ ap (λ v. v ++ slot ∷ []) c.reserve.ensures.items)
     ∙ set_before c.args.self.now.seats.items slot c.args.i (Some after) a.inside) in
     let act = Spawn c.in-Ok.born.child c.in-Ok.born.scope c.args.here c.args.to c.in_ok-path.path in
-    let went = closed g.L.FinishLedger.stands c.args.self.now _ _ c.args.i _ act (made_act T c.args.seat.row.number act) refl c.close_turn.ensures did.1 in
+    let went = closed g.L.FinishLedger.stands c.args.self.now _ _ c.args.i _ act _ (made_act T c.args.seat.row.number act) refl c.close_turn.ensures did.1 in
     spawned g.L.FinishLedger.stands c.args.p.now.script code U c.args.self.now _ k c.args.i c.args.here c.args.to q c.args.seat after slot c.in_ok-control.control G c.in-Ok.born.child c.in-Ok.born.scope c.in_ok-path.path a (c.reached_is_sound.ensures T a.reached) asks at did.0 term c.in_ok-go_on.ensures.vars refl refl refl born.0 born.1
     (record { lost = c.new_seat-child.ensures.lost ∙ did.2; row = c.new_seat-child.ensures.row; rest = c.new_seat-child.ensures.seat })
     went back

@@ -1,9 +1,10 @@
-use Rattle.std.specs.Prelude.{◌&&◌, is_none, is_some, refl, ◌≡◌, List, ◌++◌, filter, not, Some}
+use Rattle.std.specs.Prelude.{◌&&◌, is_none, is_some, refl, ◌≡◌, List, ◌++◌, min, length, sum_by, filter, not, Some}
 use Rattle.std.specs.List.{list_any}
 use Rattle.std.proofs.Common.{sym, ◌∙◌, rules, ap}
 use Rattle.rx_base.specs.declared.ids.ScopeId.{ScopeId}
 use Rattle.rx_base.specs.Sets.{members, all_places}
 use Rattle.rx_rules.specs.declared.tasks.Task.{Task}
+use Rattle.rx_rules.specs.declared.tasks.Scope.{Scope}
 use Rattle.rx_rules.specs.Tree.{Tree, is_under, is_scope, chain_in}
 use Rattle.rx_rules.specs.Entries.{was_lost_at}
 use Rattle.rx_tree.specs.Kept.{kept}
@@ -36,7 +37,9 @@ returns c =
     let inside : List ScopeId = c.in-Ok-scopes_under.inside.items in
     let h : (r : ScopeId) → holds_scope inside r ≡ list_any (is_scope c.args.s) (chain_in c.args.self.now.scopes.items (Some r)) = λ r. search rules in
     let l : members c.lost_places-lost.result ≡ filter (λ p. list_any (λ x. holds_scope inside x.under && was_lost_at p x) c.args.self.now.tasks.items) all_places = c.lost_places-lost.ensures ∙ (ap (λ (ss : List ScopeId). filter (λ p. list_any (λ x. holds_scope ss x.under && was_lost_at p x) c.deref-2.result.now) all_places) c.deref-3.ensures.value ∙ ap (λ (xs : List Task). filter (λ p. list_any (λ x. holds_scope inside x.under && was_lost_at p x) xs) all_places) c.deref-2.ensures.value) in
-    let a : c.remove_lost.new.tasks.items ≡ filter (λ x. not (holds_scope inside x.under && is_some x.struck)) c.args.self.now.tasks.items = c.remove_lost.ensures ∙ ap (λ (ss : List ScopeId). filter (λ x. not (holds_scope ss x.under && is_some x.struck)) c.args.self.now.tasks.items) c.deref-6.ensures.value in
-    let b : c.keep_gone.new.gone.items ≡ c.args.self.now.gone.items ++ filter (λ x. holds_scope inside x.under && is_some x.struck) c.args.self.now.tasks.items = c.in-Ok-keep_gone.ensures.kept ∙ (ap (λ (ss : List ScopeId). c.args.self.now.gone.items ++ filter (λ x. holds_scope ss x.under && is_some x.struck) c.deref-4.result.now) c.deref-5.ensures.value ∙ ap (λ (xs : List Task). c.args.self.now.gone.items ++ filter (λ x. holds_scope inside x.under && is_some x.struck) xs) c.deref-4.ensures.value) in
-    let g : c.remove_scopes.new.scopes.items ≡ filter (λ g. not (holds_scope inside g.number)) c.args.self.now.scopes.items = c.remove_scopes.ensures ∙ ap (λ (ss : List ScopeId). filter (λ g. not (holds_scope ss g.number)) c.args.self.now.scopes.items) c.deref-7.ensures.value in
-    (find_none (λ x. is_under (kept c.args.self.now) c.args.s x && is_none x.struck) (λ x. landing x.place) c.args.self.now.tasks.items (sym c.hindrance.ensures ∙ c.in_default.is), names T c.args.s inside c.lost_places-lost.result c.in-Ok.thrown h l c.in-Ok.ensures, leaves T _ c.args.s inside h (three T _ _ _ _ _ _ a b g))
+    let m : c.masked_faults-masked.result ≡ min 4294967295 (sum_by (λ g. length (g.body ++ g.ends)) (filter (λ g. holds_scope inside g.number && not (is_scope c.args.s g)) c.args.self.now.scopes.items)) = c.masked_faults-masked.ensures ∙ (ap (λ (ss : List ScopeId). min 4294967295 (sum_by (λ g. length (g.body ++ g.ends)) (filter (λ g. holds_scope ss g.number && not (is_scope c.args.s g)) c.deref-4.result.now))) c.deref-5.ensures.value ∙ ap (λ (xs : List Scope). min 4294967295 (sum_by (λ g. length (g.body ++ g.ends)) (filter (λ g. holds_scope inside g.number && not (is_scope c.args.s g)) xs))) c.deref-4.ensures.value) in
+    let a : c.remove_lost.new.tasks.items ≡ filter (λ x. not (holds_scope inside x.under && is_some x.struck)) c.args.self.now.tasks.items = c.remove_lost.ensures ∙ ap (λ (ss : List ScopeId). filter (λ x. not (holds_scope ss x.under && is_some x.struck)) c.args.self.now.tasks.items) c.deref-8.ensures.value in
+    let b : c.keep_gone.new.gone.items ≡ c.args.self.now.gone.items ++ filter (λ x. holds_scope inside x.under && is_some x.struck) c.args.self.now.tasks.items = c.in-Ok-keep_gone.ensures.kept ∙ (ap (λ (ss : List ScopeId). c.args.self.now.gone.items ++ filter (λ x. holds_scope ss x.under && is_some x.struck) c.deref-6.result.now) c.deref-7.ensures.value ∙ ap (λ (xs : List Task). c.args.self.now.gone.items ++ filter (λ x. holds_scope inside x.under && is_some x.struck) xs) c.deref-6.ensures.value) in
+    let g : c.remove_scopes.new.scopes.items ≡ filter (λ g. not (holds_scope inside g.number)) c.args.self.now.scopes.items = c.remove_scopes.ensures ∙ ap (λ (ss : List ScopeId). filter (λ g. not (holds_scope ss g.number)) c.args.self.now.scopes.items) c.deref-9.ensures.value in
+    let q = find_none (λ x. is_under T c.args.s x && is_none x.struck) (λ x. landing x.place) c.args.self.now.tasks.items (sym c.hindrance.ensures ∙ c.in_default.is) in
+    (names T c.args.s inside c.lost_places-lost.result c.masked_faults-masked.result c.in-Ok.thrown h q l m c.in-Ok.ensures, leaves T _ c.args.s inside h (three T _ _ _ _ _ _ a b g))

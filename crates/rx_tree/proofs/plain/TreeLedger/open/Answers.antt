@@ -7,7 +7,7 @@ use Rattle.rx_tree.proofs.Leaves.{three}
 use Rattle.rx_tree.proofs.plain.TreeLedger.open.Goals as goal
 
 pub returns : goal.returns
-returns c =
+returns c = λ room.
     let T : Tree = opening c.args.places in
     let tasks : c.push.new.self.items ≡ T.tasks = search rules in
     let scopes : c.push-2.new.self.items ≡ T.scopes = search rules in

@@ -12,9 +12,9 @@ use Rattle.rx_tree.proofs.plain.TreeLedgerFinishLedger.death.Goals as goal
 
 pub bounds-self-place : goal.bounds-self-place
 bounds-self-place c =
-    let T : Tree = c.requires.0 in
-    let below : c.args.place.0 < T.places = c.requires.2.dies.is_place in
-    let few : T.places ≤ 16 = places_few c.requires.1.1 in
+    let T : Tree = c.requires.1 in
+    let below : c.args.place.0 < T.places = c.requires.3.dies.0 in
+    let few : T.places ≤ 16 = places_few c.requires.2.1 in
     omega arith
 
 pub returns : goal.returns

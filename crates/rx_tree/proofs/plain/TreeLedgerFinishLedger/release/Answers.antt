@@ -37,4 +37,4 @@ set_waits-requires c =
     let K : Tree = kept c.args.self.now in
     let L : Tree = kept c.leave.new.self in
     let left : LeaveReply K c.args.who.inner (Ok c.in_ok-outcome.outcome) L = c.in_ok-outcome.ensures in
-    subst TasksFallIn (sym c.deref_mut.ensures.value) (left_in_order K L c.args.who.inner (kept_sound K _ c.reached_is_sound.ensures c.requires) left.2)
+    subst TasksFallIn (sym c.deref_mut.ensures.value) (left_in_order K L c.args.who.inner (kept_sound K _ c.reached_is_sound.ensures c.requires) left.1)

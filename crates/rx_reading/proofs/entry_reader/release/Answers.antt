@@ -1,0 +1,12 @@
+use Rattle.std.proofs.Common.{◌≡◌, refl, subst}
+use Rattle.std.specs.Prelude.{codes, IfOk}
+use Rattle.rx_reading.specs.Words.{answer_left}
+use Rattle.rx_reading.specs.Inside.EntryWords.{release_at, step_at, root_at}
+use Rattle.rx_reading.proofs.Taking.{other-word}
+use Rattle.rx_reading.proofs.entry_reader.release.Goals as goal
+
+pub returns-else-keyword : goal.returns-else-keyword
+returns-else-keyword c =
+    subst (λ o. IfOk c.step.result (λ e. answer_left e c.step.new.words ≡ o))
+    (other-word (codes "host") (root_at c.args.places) (step_at (release_at c.args.places)) c.args.words.now c.keyword.new.words c.keyword.result c.keyword.ensures c.if-keyword.false refl)
+    c.step.ensures

@@ -1,0 +1,298 @@
+-- No task knows of more places than there are.
+use Rattle.std.specs.Prelude.{◌≡◌, ℕ, zero, suc, ℤ, ◌≤◌, ◌==◌, Bool, true, false, cond, List, [], ◌∷◌, ◌++◌, length, Option, Some, None, Result, Ok, Err, slice_get, slice_set, refl}
+use Rattle.std.proofs.Common.{ap, ◌∙◌, sym, subst, arith}
+use Rattle.rx_base.specs.declared.ids.PlaceId.{PlaceId}
+use Rattle.rx_base.specs.declared.ids.TaskId.{TaskId}
+use Rattle.rx_base.specs.declared.values.Fault.{Fault}
+use Rattle.rx_base.specs.declared.values.Fault.TheVariants.{Thrown, WrongPlace}
+use Rattle.rx_base.specs.declared.values.Value.TheVariants.{Num as Number}
+use Rattle.rx_rules.specs.declared.entries.Act.{Act}
+use Rattle.rx_rules.specs.declared.entries.Act.TheVariants.{Open, At as Asks, Spawn, Arrive, Wait, Release, End, Print as Shows, Census as Told}
+use Rattle.rx_rules.specs.declared.entries.Entry.{Entry}
+use Rattle.rx_rules.specs.declared.entries.Entry.TheVariants.{Step, Root, Death, Join}
+use Rattle.rx_rules.specs.declared.events.PlaceEvent.{PlaceEvent}
+use Rattle.rx_rules.specs.Code.{Block, Stmt, SetTo, New, Get, Put, Forget, Census, Print, Throw, Async, AtAsync, At, Finish, If, Repeat, Try}
+use Rattle.rx_rules.specs.Terms.{Vars, Term, Empty, Run, Raise, Turns, Trying, Body, Held, items, at, Answer, Gives, Fine, Fails, vars_after, Does, Local, Makes, Gets, Puts, Forgets, Opens, Calls, Spawns, Waits, Releases, Prints, Counts, Done, raise, bound, value_of, ref_in, eval, target_of, is_zero, with_number, with_place, stmt_does, within, trying_does, body_does, does, child}
+use Rattle.rx_rules.specs.Tree.{Tree}
+use Rattle.rx_rules.specs.Entries.{AllowedAct, made, made_act}
+use Rattle.rx_rules.specs.Fold.{tree_of}
+use Rattle.rx_rules.specs.Plays.{started_by, vars_told, journal_at}
+use Rattle.rx_rules.specs.Store.{State}
+use Rattle.rx_rules.specs.Run.{Given}
+use Rattle.rx_rules.specs.Picked.{Player, Game, Goes, stays, local, stores, Turn, due as planned, arrives, moves, ends, root, Comes, opens, turns, tree_in, acted, child_of}
+use Rattle.rx_rules.proofs.Append.{act-places, tree-push}
+use Rattle.rx_runs.specs.Knowing.{ComesKnowing, GoesKnowing, LocalKnowing, TurnKnowing}
+
+-- Local steps.
+
+-- a local step leaves what is known
+abbrev Keeps : Vars → Does → Type 0
+Keeps vars (Local left kept) = kept.places ≡ vars.places
+Keeps vars (Makes name words) = Unit {0}
+Keeps vars (Gets name target index) = Unit {0}
+Keeps vars (Puts target index value) = Unit {0}
+Keeps vars (Forgets target) = Unit {0}
+Keeps vars Opens = Unit {0}
+Keeps vars (Calls place) = Unit {0}
+Keeps vars (Spawns place) = Unit {0}
+Keeps vars (Waits faults) = Unit {0}
+Keeps vars Releases = Unit {0}
+Keeps vars (Prints value) = Unit {0}
+Keeps vars (Counts name) = Unit {0}
+Keeps vars (Done faults) = Unit {0}
+
+on-number : (vars : Vars) (o : Option ℤ) (f : ℤ → Does) → ((z : ℤ) → Keeps vars (f z)) → Keeps vars (with_number vars o f)
+on-number vars None f h = refl
+on-number vars (Some z) f h = h z
+
+on-place : (vars : Vars) (o : Result ℕ Fault) (f : ℕ → Does) → ((z : ℕ) → Keeps vars (f z)) → Keeps vars (with_place vars o f)
+on-place vars (Err fault) f h = refl
+on-place vars (Ok z) f h = h z
+
+on-test : (vars : Vars) (b : Bool) (d e : Does) → Keeps vars d → Keeps vars e → Keeps vars (cond b d e)
+on-test vars true d e h k = h
+on-test vars false d e h k = k
+
+of_stmt : (vars : Vars) (here : ℕ) (stmt : Stmt) (x : List ℕ) (rest : Term) → Keeps vars (stmt_does vars here stmt x rest)
+of_stmt vars here (SetTo name value) x rest = on-number vars (eval vars here value) (λ z. Local rest (bound name (Number z) vars)) (λ z. refl)
+of_stmt vars here (New name words) x rest = tt
+of_stmt vars here (Get name target index) x rest =
+    let r = ref_in (value_of vars target) in
+    on-number vars (eval vars here index) (λ k. cond (r.home.0 == here) (Gets name r k) (Local (raise WrongPlace) vars))
+    (λ k. on-test vars (r.home.0 == here) (Gets name r k) (Local (raise WrongPlace) vars) tt refl)
+of_stmt vars here (Put target index value) x rest =
+    let r = ref_in (value_of vars target) in
+    on-number vars (eval vars here index) (λ k. with_number vars (eval vars here value) (λ z. cond (r.home.0 == here) (Puts r k z) (Local (raise WrongPlace) vars)))
+    (λ k. on-number vars (eval vars here value) (λ z. cond (r.home.0 == here) (Puts r k z) (Local (raise WrongPlace) vars))
+    (λ z. on-test vars (r.home.0 == here) (Puts r k z) (Local (raise WrongPlace) vars) tt refl))
+of_stmt vars here (Forget target) x rest =
+    let r = ref_in (value_of vars target) in on-test vars (r.home.0 == here) (Forgets r) (Local (raise WrongPlace) vars) tt refl
+of_stmt vars here (Census name) x rest = tt
+of_stmt vars here (Print value) x rest = on-number vars (eval vars here value) Prints (λ z. tt)
+of_stmt vars here (Throw value) x rest = on-number vars (eval vars here value) (λ z. Local (raise (Thrown z)) vars) (λ z. refl)
+of_stmt vars here (Async body) x rest = tt
+of_stmt vars here (AtAsync place body) x rest = on-place vars (target_of (eval vars here place) vars.places) Spawns (λ p. tt)
+of_stmt vars here (At place body) x rest = on-place vars (target_of (eval vars here place) vars.places) Calls (λ p. tt)
+of_stmt vars here (Finish body) x rest = tt
+of_stmt vars here (If test first other) x rest =
+    on-number vars (eval vars here test) (λ z. Local (cond (is_zero z) (items other (at x 1) rest) (items first (at x 0) rest)) vars) (λ z. refl)
+of_stmt vars here (Repeat times body) x rest = refl
+of_stmt vars here (Try body dead_only handler) x rest = refl
+
+in-context : (vars : Vars) (f : Term → Term) (d : Does) → Keeps vars d → Keeps vars (within f d)
+in-context vars f (Local left kept) h = h
+in-context vars f (Makes name words) h = tt
+in-context vars f (Gets name target index) h = tt
+in-context vars f (Puts target index value) h = tt
+in-context vars f (Forgets target) h = tt
+in-context vars f Opens h = tt
+in-context vars f (Calls place) h = tt
+in-context vars f (Spawns place) h = tt
+in-context vars f (Waits faults) h = tt
+in-context vars f Releases h = tt
+in-context vars f (Prints value) h = tt
+in-context vars f (Counts name) h = tt
+in-context vars f (Done faults) h = tt
+
+of_try : (vars : Vars) (inside : Term) (d : Does) (o : Bool) (b : Block) (x : List ℕ) (rest : Term) → Keeps vars d → Keeps vars (trying_does vars inside d o b x rest)
+of_try vars Empty d o b x rest h = refl
+of_try vars (Raise fs) d o b x rest h = refl
+of_try vars (Run c y m) d o b x rest h = in-context vars (λ t. Trying t o b x rest) d h
+of_try vars (Turns c y k n m) d o b x rest h = in-context vars (λ t. Trying t o b x rest) d h
+of_try vars (Trying u p c y m) d o b x rest h = in-context vars (λ t. Trying t o b x rest) d h
+of_try vars (Body u m) d o b x rest h = in-context vars (λ t. Trying t o b x rest) d h
+of_try vars (Held m) d o b x rest h = in-context vars (λ t. Trying t o b x rest) d h
+
+of_body : (vars : Vars) (inside : Term) (d : Does) (rest : Term) → Keeps vars d → Keeps vars (body_does inside d rest)
+of_body vars Empty d rest h = tt
+of_body vars (Raise fs) d rest h = tt
+of_body vars (Run c y m) d rest h = in-context vars (λ t. Body t rest) d h
+of_body vars (Turns c y k n m) d rest h = in-context vars (λ t. Body t rest) d h
+of_body vars (Trying u p c y m) d rest h = in-context vars (λ t. Body t rest) d h
+of_body vars (Body u m) d rest h = in-context vars (λ t. Body t rest) d h
+of_body vars (Held m) d rest h = in-context vars (λ t. Body t rest) d h
+
+keeps : (vars : Vars) (here : ℕ) (t : Term) → Keeps vars (does vars here t)
+keeps vars here Empty = tt
+keeps vars here (Run stmt x rest) = of_stmt vars here stmt x rest
+keeps vars here (Raise faults) = tt
+keeps vars here (Turns body x k times rest) = refl
+keeps vars here (Trying inside o b x rest) = of_try vars inside (does vars here inside) o b x rest (keeps vars here inside)
+keeps vars here (Body inside rest) = of_body vars inside (does vars here inside) rest (keeps vars here inside)
+keeps vars here (Held rest) = tt
+
+pub local_knows : LocalKnowing
+local_knows vars left here t after e = subst (λ (d : Does). Keeps vars d) e (keeps vars here t)
+
+-- Answers, walks and acts.
+
+answer_knows : (a : Answer) (vars : Vars) → (vars_after a vars).places ≡ vars.places
+answer_knows (Gives name value) vars = refl
+answer_knows Fine vars = refl
+answer_knows (Fails fault) vars = refl
+
+pub goes_know : {heap n : ℕ} {t : TaskId} {here : PlaceId} {p q : Player} {S Z : State} {j k : List PlaceEvent} → Goes heap n t here p S j q Z k → q.vars.places ≡ p.vars.places
+goes_know stays = refl
+goes_know {here = here} {p = p} (local {after = after} {left = left} e g) = goes_know g ∙ local_knows p.vars left here.0 p.term after e
+goes_know {p = p} (stores cell x a told b may g) = goes_know g ∙ answer_knows a p.vars
+
+pub goes_knowing : GoesKnowing
+goes_knowing heap n t here p q S Z j k g = goes_know g
+
+-- what an act tells is no less than was known, and no more than there is
+record Tells (T : Tree) (old new : Vars) : Type 0 where
+  less : old.places ≤ new.places
+  there : new.places ≤ T.places
+
+same_told : (T : Tree) (vars : Vars) → vars.places ≤ T.places → Tells T vars vars
+same_told T vars le = record { less = omega arith; there = le }
+
+act_tells : (T : Tree) (t : TaskId) (vars : Vars) (d : Does) (act : Act) → vars.places ≤ T.places → AllowedAct T t act → Tells T vars (vars_told d act vars)
+act_tells T t vars (Local left kept) act le may = same_told T vars le
+act_tells T t vars (Makes name words) act le may = same_told T vars le
+act_tells T t vars (Gets name target index) act le may = same_told T vars le
+act_tells T t vars (Puts target index value) act le may = same_told T vars le
+act_tells T t vars (Forgets target) act le may = same_told T vars le
+act_tells T t vars Opens act le may = same_told T vars le
+act_tells T t vars (Calls place) act le may = same_told T vars le
+act_tells T t vars (Spawns place) act le may = same_told T vars le
+act_tells T t vars (Waits faults) act le may = same_told T vars le
+act_tells T t vars Releases act le may = same_told T vars le
+act_tells T t vars (Prints value) act le may = same_told T vars le
+act_tells T t vars (Counts name) (Open s r x) le may = same_told T vars le
+act_tells T t vars (Counts name) (Asks s r c from to x) le may = same_told T vars le
+act_tells T t vars (Counts name) (Spawn c s from to x) le may = same_told T vars le
+act_tells T t vars (Counts name) (Arrive p) le may = same_told T vars le
+act_tells T t vars (Counts name) (Wait s thrown) le may = same_told T vars le
+act_tells T t vars (Counts name) (Release s lost masked thrown) le may = same_told T vars le
+act_tells T t vars (Counts name) (End thrown) le may = same_told T vars le
+act_tells T t vars (Counts name) (Shows value x) le may = same_told T vars le
+act_tells T t vars (Counts name) (Told places x) le may = let is : places ≡ T.places = may.asks.1 in record { less = omega arith; there = omega arith }
+act_tells T t vars (Done faults) act le may = same_told T vars le
+
+-- Players.
+
+abbrev Each : ℕ → List Player → Type 0
+Each m [] = Unit {0}
+Each m (p ∷ ps) = (p.vars.places ≤ m) × Each m ps
+
+each-get : (m : ℕ) (ps : List Player) (i : ℕ) (p : Player) → Each m ps → slice_get ps i ≡ Some p → p.vars.places ≤ m
+each-get m [] i p h e = cc
+each-get m (q ∷ ps) zero p h e = let s : q ≡ p = cc in subst (λ (r : Player). r.vars.places ≤ m) s h.0
+each-get m (q ∷ ps) (suc i) p h e = each-get m ps i p h.1 e
+
+each-from : (m : ℕ) (ps : List Player) → ((i : ℕ) (p : Player) → slice_get ps i ≡ Some p → p.vars.places ≤ m) → Each m ps
+each-from m [] f = tt
+each-from m (p ∷ ps) f = (f zero p refl, each-from m ps (λ i q e. f (suc i) q e))
+
+each-up : (m n : ℕ) (ps : List Player) → m ≤ n → Each m ps → Each n ps
+each-up m n [] le h = tt
+each-up m n (p ∷ ps) le h = (let low : p.vars.places ≤ m = h.0 in omega arith, each-up m n ps le h.1)
+
+each-set : (m : ℕ) (ps : List Player) (i : ℕ) (p : Player) → Each m ps → p.vars.places ≤ m → Each m (slice_set ps i p)
+each-set m [] i p h s = tt
+each-set m (q ∷ ps) zero p h s = (s, h.1)
+each-set m (q ∷ ps) (suc i) p h s = (h.0, each-set m ps i p h.1 s)
+
+each-more : (m : ℕ) (ps qs : List Player) → Each m ps → Each m qs → Each m (ps ++ qs)
+each-more m [] qs h k = k
+each-more m (p ∷ ps) qs h k = (h.0, each-more m ps qs h.1 k)
+
+-- a task that is started knows what its starter knows
+each-child : (m : ℕ) (q : Player) (o : Option TaskId) → q.vars.places ≤ m → Each m (elim o as (λ _. List Player) [ Some c ↦ record { term = child q.term; vars = q.vars; batch = [] } ∷ [] | None ↦ [] ])
+each-child m q None h = tt
+each-child m q (Some c) h = (h, tt)
+
+-- each of the first players knows no more than the one at its number among the others
+abbrev Grows : List Player → List Player → Type 0
+Grows [] qs = Unit {0}
+Grows (p ∷ ps) [] = ⊥
+Grows (p ∷ ps) (q ∷ qs) = (p.vars.places ≤ q.vars.places) × Grows ps qs
+
+grows-same : (ps : List Player) → Grows ps ps
+grows-same [] = tt
+grows-same (p ∷ ps) = (omega arith, grows-same ps)
+
+grows-set : (ps : List Player) (i : ℕ) (p q : Player) → slice_get ps i ≡ Some p → p.vars.places ≤ q.vars.places → Grows ps (slice_set ps i q)
+grows-set [] i p q e le = tt
+grows-set (r ∷ ps) zero p q e le = (let s : r ≡ p = cc in subst (λ (v : Player). v.vars.places ≤ q.vars.places) (sym s) le, grows-same ps)
+grows-set (r ∷ ps) (suc i) p q e le = (omega arith, grows-set ps i p q e le)
+
+grows-more : (ps qs rs : List Player) → Grows ps qs → Grows ps (qs ++ rs)
+grows-more [] qs rs h = tt
+grows-more (p ∷ ps) [] rs h = absurd h
+grows-more (p ∷ ps) (q ∷ qs) rs h = (h.0, grows-more ps qs rs h.1)
+
+grows-get : (ps qs : List Player) (i : ℕ) (p q : Player) → Grows ps qs → slice_get ps i ≡ Some p → slice_get qs i ≡ Some q → p.vars.places ≤ q.vars.places
+grows-get [] qs i p q h e f = cc
+grows-get (a ∷ ps) [] i p q h e f = absurd h
+grows-get (a ∷ ps) (b ∷ qs) zero p q h e f =
+    let s : a ≡ p = cc in
+    let t : b ≡ q = cc in
+    subst (λ (v : Player). p.vars.places ≤ v.vars.places) t (subst (λ (v : Player). v.vars.places ≤ b.vars.places) s h.0)
+grows-get (a ∷ ps) (b ∷ qs) (suc i) p q h e f = grows-get ps qs i p q h.1 e f
+
+-- Turns.
+
+-- no entry takes a place away
+made_grows : (n : ℕ) (T : Tree) (e : Entry) → T.places ≤ (made n T e).places
+made_grows n T (Step t act batch) = let same : (made_act T t act).places ≡ T.places = act-places T t act in omega arith
+made_grows n T (Root lost masked thrown) = omega arith
+made_grows n T (Death d) = omega arith
+made_grows n T (Join p) = omega arith
+
+entry_grows : (U : Given) (G G' : Game) (e : Entry) → G'.entries ≡ G.entries ++ e ∷ [] → (tree_in U G).places ≤ (tree_in U G').places
+entry_grows U G G' e is =
+    subst (λ (T : Tree). (tree_in U G).places ≤ T.places) (sym (ap (λ (es : List Entry). tree_of U.places es) is ∙ tree-push U.places G.entries e))
+    (made_grows (length G.entries) (tree_in U G) e)
+
+turn_grows : (U : Given) (k : ℕ) (used : Bool) (G G' : Game) → Turn U k G used G' → (tree_in U G).places ≤ (tree_in U G').places
+turn_grows U k used G G' (planned e now) = entry_grows U G G' e refl
+turn_grows U k used G G' (arrives x p takes may) = entry_grows U G G' (Step x.number (Arrive p) []) refl
+turn_grows U k used G G' (moves x here p q S Z j act takes where_is player store go fits may) = entry_grows U G G' (Step x.number act q.batch) refl
+turn_grows U k used G G' (ends x here p q S Z j faults takes where_is player store go done may) = entry_grows U G G' (Step x.number (End faults) q.batch) refl
+turn_grows U k used G G' (root lost masked thrown free none may) = entry_grows U G G' (Root lost masked thrown) refl
+
+-- the player that acts
+record Acted (T : Tree) (p q last : Player) : Type 0 where
+  first : q.vars.places ≤ T.places
+  less : p.vars.places ≤ last.vars.places
+  there : last.vars.places ≤ T.places
+
+acts_so : (T : Tree) (heap n : ℕ) (t : TaskId) (here : PlaceId) (p q : Player) (S Z : State) (j k : List PlaceEvent) (act : Act) → p.vars.places ≤ T.places → Goes heap n t here p S j q Z k → AllowedAct T t act → Acted T p q (acted here q act)
+acts_so T heap n t here p q S Z j k act le go may =
+    let same : q.vars.places ≡ p.vars.places = goes_know go in
+    let tells : Tells T q.vars (vars_told (does q.vars here.0 q.term) act q.vars) = act_tells T t q.vars (does q.vars here.0 q.term) act (omega arith) may in
+    let more : q.vars.places ≤ (acted here q act).vars.places = tells.less in
+    record { first = omega arith; less = omega arith; there = tells.there }
+
+up : (U : Given) (k : ℕ) {used : Bool} {G G' : Game} (ps : List Player) → Turn U k G used G' → Each (tree_in U G).places ps → Each (tree_in U G').places ps
+up U k {used = used} {G = G} {G' = G'} ps turn h = each-up (tree_in U G).places (tree_in U G').places ps (turn_grows U k used G G' turn) h
+
+turn_knows : (U : Given) (k : ℕ) {used : Bool} {G G' : Game} → Turn U k G used G' → Each (tree_in U G).places G.players → Each (tree_in U G').places G'.players × Grows G.players G'.players
+turn_knows U k {G = G} (planned e now) h = (up U k G.players (planned {G = G} e now) h, grows-same G.players)
+turn_knows U k {G = G} (arrives x p takes may) h = (up U k G.players (arrives {G = G} x p takes may) h, grows-same G.players)
+turn_knows U k {G = G} (moves x here p q S Z j act takes where_is player store go fits may) h =
+    let m : ℕ = (tree_in U G).places in
+    let last : Player = acted here q act in
+    let one : Acted (tree_in U G) p q last = acts_so (tree_in U G) U.heap (length G.entries) x.number here p q S Z (journal_at G.journals here.0) j act (each-get m G.players x.number.0 p h player) go may in
+    let first : List Player = slice_set G.players x.number.0 last in (
+      up U k (first ++ child_of q act) (moves {G = G} x here p q S Z j act takes where_is player store go fits may)
+          (each-more m first (child_of q act) (each-set m G.players x.number.0 last h one.there) (each-child m q (started_by act) one.first)),
+      grows-more G.players first (child_of q act) (grows-set G.players x.number.0 p last player one.less),
+    )
+turn_knows U k {G = G} (ends x here p q S Z j faults takes where_is player store go done may) h =
+    (up U k G.players (ends {G = G} x here p q S Z j faults takes where_is player store go done may) h, grows-same G.players)
+turn_knows U k {G = G} (root lost masked thrown free none may) h = (up U k G.players (root {G = G} lost masked thrown free none may) h, grows-same G.players)
+
+come_know : (code : Block) (U : Given) {G : Game} → Comes code U G → Each (tree_in U G).places G.players
+come_know code U opens = (omega arith, tt)
+come_know code U (turns {k = k} c free t) = (turn_knows U k t (come_know code U c)).0
+
+pub comes_knowing : ComesKnowing
+comes_knowing code U G c n p e = each-get (tree_in U G).places G.players n p (come_know code U c) e
+
+pub turn_knowing : TurnKnowing
+turn_knowing U k used G G' h t =
+    let two = turn_knows U k t (each-from (tree_in U G).places G.players h) in
+    (turn_grows U k used G G' t, λ n p q e f. grows-get G.players G'.players n p q two.1 e f)

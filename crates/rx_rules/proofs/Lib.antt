@@ -6,3 +6,4 @@ pub mod Lookups
 pub mod Append
 pub mod Kills
 pub mod Setups
+pub mod Plans

@@ -10,16 +10,9 @@ use Rattle.rx_base.proofs.Elements.{get-within}
 use Rattle.rx_rules.specs.declared.entries.Entry.{Entry}
 use Rattle.rx_rules.specs.declared.entries.Entry.TheVariants.{Death, Join}
 use Rattle.rx_rules.specs.Run.{Given, Event, in_all, put_in, events, plan_of, AreJoins, AreKills, Spares, Proper}
+use Rattle.rx_rules.proofs.Plans.{join_at, NotBefore, starts-join, starts-death}
 use Rattle.rx_runs.specs.Ties.{MayCome, SparesIn}
 use Rattle.rx_runs.proofs.Pigeons.{kills_fit}
-
--- the join of place p at moment e
-abbrev join_at : ℕ → ℕ → Event
-join_at p e = record { moment = e; entry = Join (record { 0 = p }) }
-
--- the death that a kill makes
-abbrev death_at : Kill → Event
-death_at k = record { moment = k.moment; entry = Death k.place }
 
 -- How long it is.
 
@@ -46,55 +39,6 @@ plan_few U proper =
     let some : 1 ≤ U.places = proper.some in
     let few : length U.kills + 1 ≤ in_all U = kills_fit U U.kills (omega arith) proper.kills in
     omega (arith, plan_long U, few)
-
--- What it starts with.
-
--- the first event, if there is one, is not before the moment
-abbrev NotBefore : ℕ → List Event → Type 0
-NotBefore low [] = Unit {0}
-NotBefore low (x ∷ xs) = low ≤ x.moment
-
-put_first : (e : Event) (xs : List Event) → NotBefore e.moment xs → put_in e xs ≡ e ∷ xs
-put_first e [] h = refl
-put_first e (x ∷ xs) h =
-    let t : nat_le e.moment x.moment ≡ true = grind (arith, nat_tests) in
-    ap (λ b. cond b (e ∷ x ∷ xs) (x ∷ put_in e xs)) t
-
-put_later : (e x : Event) (xs : List Event) → x.moment < e.moment → put_in e (x ∷ xs) ≡ x ∷ put_in e xs
-put_later e x xs h =
-    let t : nat_le e.moment x.moment ≡ false = grind (arith, nat_tests) in
-    ap (λ b. cond b (e ∷ x ∷ xs) (x ∷ put_in e xs)) t
-
-put_not_before : (low : ℕ) (e : Event) (xs : List Event) → low ≤ e.moment → NotBefore low xs → NotBefore low (put_in e xs)
-put_not_before low e [] h k = h
-put_not_before low e (x ∷ xs) h k =
-    elim (nat_le e.moment x.moment) as (λ b. NotBefore low (cond b (e ∷ x ∷ xs) (x ∷ put_in e xs))) [
-      | true ↦ h
-      | false ↦ k
-    ]
-
-lower : (low e : ℕ) (es : List ℕ) → low ≤ e → AreJoins e es → AreJoins low es
-lower low e [] a h = tt
-lower low e (f ∷ fs) a h = let b : e ≤ f = h.0 in (omega arith, h.1)
-
-not_before : (low p : ℕ) (js : List ℕ) (ks : List Kill) → AreJoins low js → NotBefore low (events p [] ks) → NotBefore low (events p js ks)
-not_before low p [] ks h k = k
-not_before low p (e ∷ es) ks h k = put_not_before low (join_at p e) (events (suc p) es ks) h.0 (not_before low (suc p) es ks (lower low e es h.0 h.1) k)
-
--- the first join, where no kill is before it
-starts_join : (p e : ℕ) (es : List ℕ) (ks : List Kill) → AreJoins e es → NotBefore e (events p [] ks)
-    → events p (e ∷ es) ks ≡ join_at p e ∷ events (suc p) es ks
-starts_join p e es ks h k = put_first (join_at p e) (events (suc p) es ks) (not_before e (suc p) es ks h k)
-
--- and the first kill, where that is before each join
-starts_death : (low p : ℕ) (js : List ℕ) (k : Kill) (ks : List Kill) → AreJoins low js → k.moment < low
-    → events p js (k ∷ ks) ≡ death_at k ∷ events p js ks
-starts_death low p [] k ks h lt = refl
-starts_death low p (e ∷ es) k ks h lt =
-    let a : low ≤ e = h.0 in
-    let before : k.moment < e = omega arith in
-    ap (put_in (join_at p e)) (starts_death e (suc p) es k ks h.1 before)
-    ∙ put_later (join_at p e) (death_at k) (events (suc p) es ks) before
 
 -- What may come.
 
@@ -163,7 +107,7 @@ events_come low p (e ∷ es) ks h may = inner ks may (λ all now. events_come e 
     join : (all : List Kill) → NotBefore e (events p [] all) → MayCome (suc p + length es) (suc p) [] (events (suc p) es all) → MayCome (p + length (e ∷ es)) p [] (events p (e ∷ es) all)
     join all none rest =
         let z : suc p + length es ≡ p + length (e ∷ es) = omega arith in
-        subst (λ xs. MayCome (p + length (e ∷ es)) p [] xs) (sym (starts_join p e es all h.1 none))
+        subst (λ xs. MayCome (p + length (e ∷ es)) p [] xs) (sym (starts-join low p e es all h none))
         (refl, subst (λ n. MayCome n (suc p) [] (events (suc p) es all)) z rest)
 
     inner : (all : List Kill) → MayDie p (e ∷ es) all → ((all : List Kill) → MayDie (suc p) es all → MayCome (suc p + length es) (suc p) [] (events (suc p) es all))
@@ -172,7 +116,7 @@ events_come low p (e ∷ es) ks h may = inner ks may (λ all now. events_come e 
     inner (k ∷ all) now later =
         ⊎_elim
         (λ (lt : k.moment < e).
-        subst (λ xs. MayCome (p + length (e ∷ es)) p [] xs) (sym (starts_death e p (e ∷ es) k all (omega arith, h.1) lt))
+        subst (λ xs. MayCome (p + length (e ∷ es)) p [] xs) (sym (starts-death e p (e ∷ es) k all (omega arith, h.1) lt))
         ((is_there e p (e ∷ es) k (omega arith, h.1) lt now.0 now.2, now.1, refl, plan_spares k.place p (e ∷ es) all now.3), inner all now.4 later))
         (λ (ge : e ≤ k.moment). join (k ∷ all) ge (later (k ∷ all) (after_join p e es (k ∷ all) now)))
         (cases_lt k.moment e)

@@ -2,7 +2,7 @@
 ghost use Rattle.std.specs.Prelude.{◌≡◌, ◌≤◌};
 ghost use Rattle.rx_rules.specs.Code.{Block, work};
 ghost use Rattle.rx_nodes.specs.Shape.{Stands};
-ghost use Rattle.rx_nodes.specs.Grammar.{AllFit, spellings};
+ghost use Rattle.rx_nodes.specs.Grammar.{AllInRange, spellings};
 ghost use Rattle.rx_token.specs.Tokens.{AreNames};
 ghost use Rattle.rx_check.specs.Checked.{Meets};
 
@@ -44,7 +44,7 @@ impl Program {
 
 /// A law: a checked script stands for statements of the grammar that meet the rules, with its names, and has their work.
 pub fn checked(p: &Program)
-    ensures { (t : Block) × Stands p.now.script t × AllFit t × AreNames p.now.script.names (spellings t) × Meets t
+    ensures { (t : Block) × Stands p.now.script t × AllInRange t × AreNames p.now.script.names (spellings t) × Meets t
         × (p.now.work ≡ work t) × (work t ≤ 100000) }
 {
     whole(&p.script);

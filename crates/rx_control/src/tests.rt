@@ -254,13 +254,191 @@ fn run(
     ends(rt, &p, &mut task, HERE, faults)
 }
 
-fn block(generation: u32) -> GlobalRef {
-    GlobalRef {
-        home: HERE,
-        start: 0,
-        generation,
-    }
-}
+// What the first block of a store is called, and the second.
+const FIRST: GlobalRef = GlobalRef {
+    home: HERE,
+    start: 0,
+    generation: 1,
+};
+
+const SECOND: GlobalRef = GlobalRef {
+    home: HERE,
+    start: 0,
+    generation: 2,
+};
+
+const DEATHS: &[Fault] = &[Dead(THERE), Dead(PlaceId(3))];
+
+const OTHERS: &[Fault] = &[Dead(THERE), Thrown(2)];
+
+const FAULTS_COME_IN_ORDER_1: &[Step<'static>] = &[
+    (Local, &[0], Nothing),
+    (Book(Open), &[0, 0, 0], Nothing),
+];
+
+const FAULTS_COME_IN_ORDER_2: &[Step<'static>] = &[(
+    Book(Spawn { to: HERE }),
+    &[0, 0, 0, 0],
+    Nothing,
+)];
+
+const FAULTS_COME_IN_ORDER_3: &[Step<'static>] = &[(Local, &[0, 0, 0, 0, 0], Nothing)];
+
+const FAULTS_COME_IN_ORDER_4: &[Step<'static>] = &[(Local, &[0, 0, 0, 1, 0], Nothing)];
+
+const FAULTS_COME_IN_ORDER_5: &[Step<'static>] = &[
+    (Book(Spawn { to: HERE }), &[0, 0, 0, 1], Nothing),
+    (Local, &[0, 0, 0, 2], Nothing),
+    (Book(Wait), &[], List(&[Thrown(3)])),
+    (Book(Release), &[], List(&[Thrown(3), Thrown(1), Thrown(2)])),
+    (Local, &[], Nothing),
+    (Book(Print { value: 4 }), &[0, 1, 0], Nothing),
+];
+
+const REFERENCE_AT_A_WRONG_PLACE_1: &[Step<'static>] = &[
+    (
+        Cell(CellOp::Make { words: 1 }),
+        &[0],
+        Gives(Value::Ref(FIRST)),
+    ),
+    (Local, &[1], Nothing),
+];
+
+const REFERENCE_AT_A_WRONG_PLACE_2: &[Step<'static>] = &[(Local, &[1, 0, 0, 0], Nothing)];
+
+const LOCAL_FAULTS_1: &[Step<'static>] = &[(Local, &[0], Nothing)];
+
+const STORES_ANSWER_1: &[Step<'static>] = &[
+    (
+        Cell(CellOp::Make { words: 3 }),
+        &[0],
+        Gives(Value::Ref(FIRST)),
+    ),
+    (Cell(CellOp::Forget { target: FIRST }), &[1], Nothing),
+    (
+        Cell(CellOp::Make { words: 3 }),
+        &[2],
+        Gives(Value::Ref(SECOND)),
+    ),
+    (
+        Cell(CellOp::Get {
+            target: FIRST,
+            index: 0,
+        }),
+        &[3],
+        Refuses(Stale),
+    ),
+];
+
+const STORES_ANSWER_2: &[Step<'static>] = &[
+    (Local, &[0], Nothing),
+    (
+        Cell(CellOp::Make { words: 4 }),
+        &[0, 0, 0],
+        Refuses(HeapFull),
+    ),
+    (Local, &[], Nothing),
+    (
+        Cell(CellOp::Make { words: 4 }),
+        &[0, 1, 0],
+        Gives(Value::Ref(FIRST)),
+    ),
+    (
+        Cell(CellOp::Put {
+            target: FIRST,
+            index: 0,
+            value: 7,
+        }),
+        &[0, 1, 1],
+        Nothing,
+    ),
+    (
+        Cell(CellOp::Get {
+            target: FIRST,
+            index: 0,
+        }),
+        &[0, 1, 2],
+        Gives(Value::Num(7)),
+    ),
+    (Book(Print { value: 7 }), &[0, 1, 3], Nothing),
+];
+
+const DEATHS_ALONE_ARE_CAUGHT_1: &[Step<'static>] = &[
+    (Local, &[0], Nothing),
+    (Book(Open), &[0, 0, 0], Nothing),
+    (Book(Wait), &[], Nothing),
+    (Book(Release), &[], List(DEATHS)),
+    (Local, &[], Nothing),
+    (Book(Print { value: 1 }), &[0, 1, 0], Nothing),
+];
+
+const DEATHS_ALONE_ARE_CAUGHT_2: &[Step<'static>] = &[
+    (Local, &[0], Nothing),
+    (Book(Open), &[0, 0, 0], Nothing),
+    (Book(Wait), &[], Nothing),
+    (Book(Release), &[], List(OTHERS)),
+    (Local, &[], Nothing),
+];
+
+const HANDLERS_DO_NOT_CATCH_THEIR_OWN_1: &[Step<'static>] = &[
+    (Local, &[0], Nothing),
+    (Local, &[0, 0, 0], Nothing),
+    (Local, &[], Nothing),
+    (Local, &[0, 1, 0], Nothing),
+];
+
+const PATHS_IN_BLOCKS_1: &[Step<'static>] = &[
+    (Local, &[0], Nothing),
+    (Local, &[], Nothing),
+    (Local, &[1], Nothing),
+    (Book(Print { value: 2 }), &[1, 0, 0], Nothing),
+    (Local, &[2], Nothing),
+    (Book(Print { value: 3 }), &[2, 1, 0], Nothing),
+    (Local, &[3], Nothing),
+    (Local, &[], Nothing),
+    (Book(Print { value: 4 }), &[3, 0, 0], Nothing),
+    (Local, &[], Nothing),
+    (Book(Print { value: 4 }), &[3, 1, 0], Nothing),
+    (Local, &[], Nothing),
+];
+
+const PATHS_IN_BLOCKS_2: &[Step<'static>] = &[
+    (Local, &[0], Nothing),
+    (Book(Print { value: 1 }), &[0, 0, 0], Nothing),
+    (Local, &[], Nothing),
+];
+
+const NEW_TASKS_HAVE_COPIES_1: &[Step<'static>] = &[(Local, &[0], Nothing)];
+
+const NEW_TASKS_HAVE_COPIES_2: &[Step<'static>] = &[
+    (Book(Spawn { to: HERE }), &[1], Nothing),
+    (Local, &[2], Nothing),
+];
+
+const NEW_TASKS_HAVE_COPIES_3: &[Step<'static>] = &[
+    (Book(Print { value: 1 }), &[1, 0], Nothing),
+    (Local, &[1, 1], Nothing),
+];
+
+const NEW_TASKS_HAVE_COPIES_4: &[Step<'static>] = &[(Book(Print { value: 3 }), &[3], Nothing)];
+
+const A_CENSUS_TELLS_OF_PLACES_1: &[Step<'static>] = &[
+    (Book(Spawn { to: HERE }), &[0], Nothing),
+    (Book(Want::Census), &[1], Places(3)),
+];
+
+const A_CENSUS_TELLS_OF_PLACES_2: &[Step<'static>] = &[
+    (Book(Spawn { to: PlaceId(2) }), &[2], Nothing),
+    (Local, &[3], Nothing),
+];
+
+const A_CENSUS_TELLS_OF_PLACES_3: &[Step<'static>] = &[(Local, &[0, 0], Nothing)];
+
+const A_CENSUS_TELLS_OF_PLACES_4: &[Step<'static>] = &[
+    (Book(Spawn { to: PlaceId(2) }), &[2, 0], Nothing),
+    (Book(Want::Census), &[2, 1], Places(3)),
+    (Book(Print { value: 3 }), &[2, 2], Nothing),
+];
 
 #[test]
 fn faults_come_in_order(rt: HostRuntime) -> Result<(), Fail> {
@@ -270,52 +448,15 @@ fn faults_come_in_order(rt: HostRuntime) -> Result<(), Fail> {
     )
     .expect(&rt, "a program");
     let mut main = main_of(rt.alloc(), &p)?;
-    follow(
-        &rt,
-        &p,
-        &mut main,
-        HERE,
-        &[(Local, &[0], Nothing), (Book(Open), &[0, 0, 0], Nothing)],
-    )?;
+    follow(&rt, &p, &mut main, HERE, FAULTS_COME_IN_ORDER_1)?;
     let mut first = child_of(&rt, &p, &main)?;
-    follow(
-        &rt,
-        &p,
-        &mut main,
-        HERE,
-        &[(Book(Spawn { to: HERE }), &[0, 0, 0, 0], Nothing)],
-    )?;
+    follow(&rt, &p, &mut main, HERE, FAULTS_COME_IN_ORDER_2)?;
     let mut second = child_of(&rt, &p, &main)?;
-    follow(
-        &rt,
-        &p,
-        &mut first,
-        HERE,
-        &[(Local, &[0, 0, 0, 0, 0], Nothing)],
-    )?;
+    follow(&rt, &p, &mut first, HERE, FAULTS_COME_IN_ORDER_3)?;
     ends(&rt, &p, &mut first, HERE, &[Thrown(1)])?;
-    follow(
-        &rt,
-        &p,
-        &mut second,
-        HERE,
-        &[(Local, &[0, 0, 0, 1, 0], Nothing)],
-    )?;
+    follow(&rt, &p, &mut second, HERE, FAULTS_COME_IN_ORDER_4)?;
     ends(&rt, &p, &mut second, HERE, &[Thrown(2)])?;
-    follow(
-        &rt,
-        &p,
-        &mut main,
-        HERE,
-        &[
-            (Book(Spawn { to: HERE }), &[0, 0, 0, 1], Nothing),
-            (Local, &[0, 0, 0, 2], Nothing),
-            (Book(Wait), &[], List(&[Thrown(3)])),
-            (Book(Release), &[], List(&[Thrown(3), Thrown(1), Thrown(2)])),
-            (Local, &[], Nothing),
-            (Book(Print { value: 4 }), &[0, 1, 0], Nothing),
-        ],
-    )?;
+    follow(&rt, &p, &mut main, HERE, FAULTS_COME_IN_ORDER_5)?;
     ends(&rt, &p, &mut main, HERE, &[])?;
     Ok(())
 }
@@ -335,28 +476,9 @@ fn reference_at_a_wrong_place(rt: HostRuntime) -> Result<(), Fail> {
     ] {
         let p = program(rt.alloc(), bytes).expect(&rt, "a program");
         let mut main = main_of(rt.alloc(), &p)?;
-        follow(
-            &rt,
-            &p,
-            &mut main,
-            HERE,
-            &[
-                (
-                    Cell(CellOp::Make { words: 1 }),
-                    &[0],
-                    Gives(Value::Ref(block(1))),
-                ),
-                (Local, &[1], Nothing),
-            ],
-        )?;
+        follow(&rt, &p, &mut main, HERE, REFERENCE_AT_A_WRONG_PLACE_1)?;
         let mut callee = child_of(&rt, &p, &main)?;
-        follow(
-            &rt,
-            &p,
-            &mut callee,
-            THERE,
-            &[(Local, &[1, 0, 0, 0], Nothing)],
-        )?;
+        follow(&rt, &p, &mut callee, THERE, REFERENCE_AT_A_WRONG_PLACE_2)?;
         ends(&rt, &p, &mut callee, THERE, &[fault])?;
         follow(
             &rt,
@@ -386,7 +508,7 @@ fn local_faults(rt: HostRuntime) -> Result<(), Fail> {
         (b"at (0 - 1) { }", NoPlace),
         (b"throw (here - 7);", Thrown(-7)),
     ] {
-        run(&rt, bytes, &[(Local, &[0], Nothing)], &[fault])?;
+        run(&rt, bytes, LOCAL_FAULTS_1, &[fault])?;
     }
     Ok(())
 }
@@ -396,64 +518,13 @@ fn stores_answer(rt: HostRuntime) -> Result<(), Fail> {
     run(
         &rt,
         b"new r = 3; forget r; new q = 3; get x = r[0];",
-        &[
-            (
-                Cell(CellOp::Make { words: 3 }),
-                &[0],
-                Gives(Value::Ref(block(1))),
-            ),
-            (Cell(CellOp::Forget { target: block(1) }), &[1], Nothing),
-            (
-                Cell(CellOp::Make { words: 3 }),
-                &[2],
-                Gives(Value::Ref(block(2))),
-            ),
-            (
-                Cell(CellOp::Get {
-                    target: block(1),
-                    index: 0,
-                }),
-                &[3],
-                Refuses(Stale),
-            ),
-        ],
+        STORES_ANSWER_1,
         &[Stale],
     )?;
     run(
         &rt,
         b"try { new a = 4; } catch { new b = 4; put b[here] = 7; get x = b[0]; print x; }",
-        &[
-            (Local, &[0], Nothing),
-            (
-                Cell(CellOp::Make { words: 4 }),
-                &[0, 0, 0],
-                Refuses(HeapFull),
-            ),
-            (Local, &[], Nothing),
-            (
-                Cell(CellOp::Make { words: 4 }),
-                &[0, 1, 0],
-                Gives(Value::Ref(block(1))),
-            ),
-            (
-                Cell(CellOp::Put {
-                    target: block(1),
-                    index: 0,
-                    value: 7,
-                }),
-                &[0, 1, 1],
-                Nothing,
-            ),
-            (
-                Cell(CellOp::Get {
-                    target: block(1),
-                    index: 0,
-                }),
-                &[0, 1, 2],
-                Gives(Value::Num(7)),
-            ),
-            (Book(Print { value: 7 }), &[0, 1, 3], Nothing),
-        ],
+        STORES_ANSWER_2,
         &[],
     )?;
     Ok(())
@@ -462,33 +533,8 @@ fn stores_answer(rt: HostRuntime) -> Result<(), Fail> {
 #[test]
 fn deaths_alone_are_caught(rt: HostRuntime) -> Result<(), Fail> {
     let bytes = b"try { finish { } } catch dead { print 1; }";
-    let deaths = [Dead(THERE), Dead(PlaceId(3))];
-    run(
-        &rt,
-        bytes,
-        &[
-            (Local, &[0], Nothing),
-            (Book(Open), &[0, 0, 0], Nothing),
-            (Book(Wait), &[], Nothing),
-            (Book(Release), &[], List(&deaths)),
-            (Local, &[], Nothing),
-            (Book(Print { value: 1 }), &[0, 1, 0], Nothing),
-        ],
-        &[],
-    )?;
-    let others = [Dead(THERE), Thrown(2)];
-    run(
-        &rt,
-        bytes,
-        &[
-            (Local, &[0], Nothing),
-            (Book(Open), &[0, 0, 0], Nothing),
-            (Book(Wait), &[], Nothing),
-            (Book(Release), &[], List(&others)),
-            (Local, &[], Nothing),
-        ],
-        &others,
-    )?;
+    run(&rt, bytes, DEATHS_ALONE_ARE_CAUGHT_1, &[])?;
+    run(&rt, bytes, DEATHS_ALONE_ARE_CAUGHT_2, OTHERS)?;
     Ok(())
 }
 
@@ -497,12 +543,7 @@ fn handlers_do_not_catch_their_own(rt: HostRuntime) -> Result<(), Fail> {
     run(
         &rt,
         b"try { throw 1; } catch { throw 2; } print 3;",
-        &[
-            (Local, &[0], Nothing),
-            (Local, &[0, 0, 0], Nothing),
-            (Local, &[], Nothing),
-            (Local, &[0, 1, 0], Nothing),
-        ],
+        HANDLERS_DO_NOT_CATCH_THEIR_OWN_1,
         &[Thrown(2)],
     )?;
     Ok(())
@@ -513,32 +554,10 @@ fn paths_in_blocks(rt: HostRuntime) -> Result<(), Fail> {
     run(
         &rt,
         b"repeat 0 { print 1; } if 1 { print 2; } else { } if 0 { } else { print 3; } repeat 2 { print 4; }",
-        &[
-            (Local, &[0], Nothing),
-            (Local, &[], Nothing),
-            (Local, &[1], Nothing),
-            (Book(Print { value: 2 }), &[1, 0, 0], Nothing),
-            (Local, &[2], Nothing),
-            (Book(Print { value: 3 }), &[2, 1, 0], Nothing),
-            (Local, &[3], Nothing),
-            (Local, &[], Nothing),
-            (Book(Print { value: 4 }), &[3, 0, 0], Nothing),
-            (Local, &[], Nothing),
-            (Book(Print { value: 4 }), &[3, 1, 0], Nothing),
-            (Local, &[], Nothing),
-        ],
+        PATHS_IN_BLOCKS_1,
         &[],
     )?;
-    run(
-        &rt,
-        b"try { print 1; } catch { }",
-        &[
-            (Local, &[0], Nothing),
-            (Book(Print { value: 1 }), &[0, 0, 0], Nothing),
-            (Local, &[], Nothing),
-        ],
-        &[],
-    )?;
+    run(&rt, b"try { print 1; } catch { }", PATHS_IN_BLOCKS_2, &[])?;
     Ok(())
 }
 
@@ -550,36 +569,12 @@ fn new_tasks_have_copies(rt: HostRuntime) -> Result<(), Fail> {
     )
     .expect(&rt, "a program");
     let mut main = main_of(rt.alloc(), &p)?;
-    follow(&rt, &p, &mut main, HERE, &[(Local, &[0], Nothing)])?;
+    follow(&rt, &p, &mut main, HERE, NEW_TASKS_HAVE_COPIES_1)?;
     let mut task = child_of(&rt, &p, &main)?;
-    follow(
-        &rt,
-        &p,
-        &mut main,
-        HERE,
-        &[
-            (Book(Spawn { to: HERE }), &[1], Nothing),
-            (Local, &[2], Nothing),
-        ],
-    )?;
-    follow(
-        &rt,
-        &p,
-        &mut task,
-        HERE,
-        &[
-            (Book(Print { value: 1 }), &[1, 0], Nothing),
-            (Local, &[1, 1], Nothing),
-        ],
-    )?;
+    follow(&rt, &p, &mut main, HERE, NEW_TASKS_HAVE_COPIES_2)?;
+    follow(&rt, &p, &mut task, HERE, NEW_TASKS_HAVE_COPIES_3)?;
     ends(&rt, &p, &mut task, HERE, &[])?;
-    follow(
-        &rt,
-        &p,
-        &mut main,
-        HERE,
-        &[(Book(Print { value: 3 }), &[3], Nothing)],
-    )?;
+    follow(&rt, &p, &mut main, HERE, NEW_TASKS_HAVE_COPIES_4)?;
     ends(&rt, &p, &mut main, HERE, &[])?;
     Ok(())
 }
@@ -594,41 +589,13 @@ fn a_census_tells_of_places(rt: HostRuntime) -> Result<(), Fail> {
     .expect(&rt, "a program");
     let mut main = main_of(rt.alloc(), &p)?;
     let mut first = child_of(&rt, &p, &main)?;
-    follow(
-        &rt,
-        &p,
-        &mut main,
-        HERE,
-        &[
-            (Book(Spawn { to: HERE }), &[0], Nothing),
-            (Book(Want::Census), &[1], Places(3)),
-        ],
-    )?;
+    follow(&rt, &p, &mut main, HERE, A_CENSUS_TELLS_OF_PLACES_1)?;
     let mut second = child_of(&rt, &p, &main)?;
-    follow(
-        &rt,
-        &p,
-        &mut main,
-        HERE,
-        &[
-            (Book(Spawn { to: PlaceId(2) }), &[2], Nothing),
-            (Local, &[3], Nothing),
-        ],
-    )?;
+    follow(&rt, &p, &mut main, HERE, A_CENSUS_TELLS_OF_PLACES_2)?;
     ends(&rt, &p, &mut main, HERE, &[NoPlace])?;
-    follow(&rt, &p, &mut first, HERE, &[(Local, &[0, 0], Nothing)])?;
+    follow(&rt, &p, &mut first, HERE, A_CENSUS_TELLS_OF_PLACES_3)?;
     ends(&rt, &p, &mut first, HERE, &[NoPlace])?;
-    follow(
-        &rt,
-        &p,
-        &mut second,
-        PlaceId(2),
-        &[
-            (Book(Spawn { to: PlaceId(2) }), &[2, 0], Nothing),
-            (Book(Want::Census), &[2, 1], Places(3)),
-            (Book(Print { value: 3 }), &[2, 2], Nothing),
-        ],
-    )?;
+    follow(&rt, &p, &mut second, PlaceId(2), A_CENSUS_TELLS_OF_PLACES_4)?;
     ends(&rt, &p, &mut second, PlaceId(2), &[])?;
     Ok(())
 }

@@ -24,7 +24,7 @@ use Rattle.rx_counts.specs.declared.record.Record.{Record}
 use Rattle.rx_counts.specs.declared.ledger.CountLedger.{CountLedger}
 use Rattle.rx_counts.specs.Keeping.{stands_home, keeper, is_number, kept_at}
 use Rattle.rx_rules.specs.Counts.{has_number}
-use Rattle.rx_counts.specs.Stands.{slot, HasCell, MayJoin, MayLeave, RecordOf, Both, AllFit, StandsFor, record_at, count_in, more, less, in_sums, Changed}
+use Rattle.rx_counts.specs.Stands.{slot, HasCell, MayJoin, MayLeave, RecordOf, Both, RecordsFit, StandsFor, record_at, count_in, more, less, in_sums, Changed}
 use Rattle.rx_counts.proofs.Asking.{Kept, kept_at_keeper, place_in, wide, room_kept, as_wide, small, tasks_length, unstruck_of}
 use Rattle.rx_counts.proofs.Joining.{all_same, all_leave, all_join, counted, sums_same, count_out, count_back, others}
 use Rattle.rx_counts.proofs.Masking.{masked_changed}
@@ -34,7 +34,7 @@ use Rattle.rx_sound.specs.Chains.{Falls}
 
 -- Each condition of a change of a cell.
 
-pub take_ok : (size : ℕ) (T : Tree) (who : Caller) (P : Task → Type 0) (rs : List (Option (Box Record))) (k : ℕ) → Sound T → (f : Free T who P) → keeper (stands_home T.dead) T.scopes (Some who.scope) ≡ Some k → AllFit size (stands_home T.dead) T.scopes T.tasks rs → (k < length rs) × IfSome (record_at rs k) (λ r. MayLeave who.place r.sums)
+pub take_ok : (size : ℕ) (T : Tree) (who : Caller) (P : Task → Type 0) (rs : List (Option (Box Record))) (k : ℕ) → Sound T → (f : Free T who P) → keeper (stands_home T.dead) T.scopes (Some who.scope) ≡ Some k → RecordsFit size (stands_home T.dead) T.scopes T.tasks rs → (k < length rs) × IfSome (record_at rs k) (λ r. MayLeave who.place r.sums)
 take_ok size T who P rs k h f at fit =
     let x : Task = f.at.task in
     let keeps : Scope → Bool = stands_home T.dead in
@@ -46,14 +46,14 @@ take_ok size T who P rs k h f at fit =
     )
 
 -- the records after the task left are those of the other tasks
-pub left_in : (size : ℕ) (T : Tree) (who : Caller) (P : Task → Type 0) (keeps : Scope → Bool) (gs : List Scope) (rs qs : List (Option (Box Record))) (k : ℕ) → Sound T → (f : Free T who P) → keeper keeps gs (Some who.scope) ≡ Some k → Changed (in_sums (less who.place)) k rs qs → AllFit size keeps gs T.tasks rs → AllFit size keeps gs (others who.task T.tasks) qs
+pub left_in : (size : ℕ) (T : Tree) (who : Caller) (P : Task → Type 0) (keeps : Scope → Bool) (gs : List Scope) (rs qs : List (Option (Box Record))) (k : ℕ) → Sound T → (f : Free T who P) → keeper keeps gs (Some who.scope) ≡ Some k → Changed (in_sums (less who.place)) k rs qs → RecordsFit size keeps gs T.tasks rs → RecordsFit size keeps gs (others who.task T.tasks) qs
 left_in size T who P keeps gs rs qs k h f at c fit =
     let x : Task = f.at.task in
     all_leave _ keeps gs (others who.task T.tasks) x k rs qs (ap (λ (u : ScopeId). keeper keeps gs (Some u)) f.at.says.under ∙ at) f.unstruck
     (subst (λ (w : Where). Changed (in_sums (less w)) k rs qs) (sym f.at.says.place) c)
     (all_same _ keeps gs T.tasks (x ∷ others who.task T.tasks) rs (count_out who.task T.next_task T.tasks x h.tasks_fall f.at.stands) fit)
 
-pub left_over : (size : ℕ) (T : Tree) (who : Caller) (P : Task → Type 0) (rs qs : List (Option (Box Record))) (k : ℕ) → Sound T → (f : Free T who P) → keeper (stands_home T.dead) T.scopes (Some who.scope) ≡ Some k → Changed (in_sums (less who.place)) k rs qs → AllFit size (stands_home T.dead) T.scopes T.tasks rs → AllFit size (stands_home T.dead) T.scopes (others who.task T.tasks) qs
+pub left_over : (size : ℕ) (T : Tree) (who : Caller) (P : Task → Type 0) (rs qs : List (Option (Box Record))) (k : ℕ) → Sound T → (f : Free T who P) → keeper (stands_home T.dead) T.scopes (Some who.scope) ≡ Some k → Changed (in_sums (less who.place)) k rs qs → RecordsFit size (stands_home T.dead) T.scopes T.tasks rs → RecordsFit size (stands_home T.dead) T.scopes (others who.task T.tasks) qs
 left_over size T who P rs qs k h f at c fit = left_in _ T who P (stands_home T.dead) T.scopes rs qs k h f at c fit
 
 landing_inside : (n : ℕ) (w : Where) → Inside n w → Inside n (At (landing w))
@@ -61,7 +61,7 @@ landing_inside n (At p) h = h
 landing_inside n (Travel from to) h = h.1
 
 -- a record that keeps counts has a cell for each place of the run
-pub has_cell : (size : ℕ) (keeps : Scope → Bool) (n : ℕ) (gs : List Scope) (ts : List Task) (rs : List (Option (Box Record))) (k : ℕ) (want : Option ScopeId) (w : Where) → Falls n gs → keeper keeps gs want ≡ Some k → Inside size w → AllFit size keeps gs ts rs → IfSome (record_at rs k) (λ r. HasCell w r.sums)
+pub has_cell : (size : ℕ) (keeps : Scope → Bool) (n : ℕ) (gs : List Scope) (ts : List Task) (rs : List (Option (Box Record))) (k : ℕ) (want : Option ScopeId) (w : Where) → Falls n gs → keeper keeps gs want ≡ Some k → Inside size w → RecordsFit size keeps gs ts rs → IfSome (record_at rs k) (λ r. HasCell w r.sums)
 has_cell size keeps n gs ts rs k want w f at within fit = cell_in (record_at rs k) (find (has_number k) gs) refl (fit k)
   where
     cell_in : (a : Option Record) (b : Option Scope) → find (has_number k) gs ≡ b → Both (RecordOf size keeps gs ts) a b → IfSome a (λ r. HasCell w r.sums)
@@ -77,7 +77,7 @@ both_if (Some r) f p q = f r p q
 both_if None f p q = tt
 
 -- a cell of the record of any scope has room for one more
-pub small_counts : (size : ℕ) (T : Tree) (ts : List Task) (rs : List (Option (Box Record))) (k : ℕ) (w : Where) → length ts ≤ T.next_task → T.next_task < 2 ^ 31 → AllFit size (stands_home T.dead) T.scopes ts rs → IfSome (record_at rs k) (λ r. (count_in r.sums w + 1 < 2 ^ 32) × (r.sums.total + 1 < 2 ^ 32))
+pub small_counts : (size : ℕ) (T : Tree) (ts : List Task) (rs : List (Option (Box Record))) (k : ℕ) (w : Where) → length ts ≤ T.next_task → T.next_task < 2 ^ 31 → RecordsFit size (stands_home T.dead) T.scopes ts rs → IfSome (record_at rs k) (λ r. (count_in r.sums w + 1 < 2 ^ 32) × (r.sums.total + 1 < 2 ^ 32))
 small_counts size T ts rs k w few low fit = small_in (record_at rs k) (find (has_number k) T.scopes) (fit k)
   where
     small_in : (a : Option Record) (b : Option Scope) → Both (RecordOf size (stands_home T.dead) T.scopes ts) a b → IfSome a (λ r. (count_in r.sums w + 1 < 2 ^ 32) × (r.sums.total + 1 < 2 ^ 32))
@@ -86,11 +86,11 @@ small_counts size T ts rs k w few low fit = small_in (record_at rs k) (find (has
     small_in None b h = tt
 
 -- so one more task may join it
-pub may_join : (size : ℕ) (T : Tree) (ts : List Task) (rs : List (Option (Box Record))) (k : ℕ) (want : Option ScopeId) (w : Where) → Sound T → length ts ≤ T.next_task → T.next_task < 2 ^ 31 → keeper (stands_home T.dead) T.scopes want ≡ Some k → Inside size w → AllFit size (stands_home T.dead) T.scopes ts rs → IfSome (record_at rs k) (λ r. MayJoin w r.sums)
+pub may_join : (size : ℕ) (T : Tree) (ts : List Task) (rs : List (Option (Box Record))) (k : ℕ) (want : Option ScopeId) (w : Where) → Sound T → length ts ≤ T.next_task → T.next_task < 2 ^ 31 → keeper (stands_home T.dead) T.scopes want ≡ Some k → Inside size w → RecordsFit size (stands_home T.dead) T.scopes ts rs → IfSome (record_at rs k) (λ r. MayJoin w r.sums)
 may_join size T ts rs k want w h few low at within fit =
     both_if (record_at rs k) (λ r c q. record { cell = c; count = q.0; total = q.1 }) (has_cell _ (stands_home T.dead) T.next_scope T.scopes ts rs k want w h.falls at within fit) (small_counts _ T ts rs k w few low fit)
 
-pub add_ok : {size : ℕ} (T : Tree) (who : Caller) (rs qs : List (Option (Box Record))) (k : ℕ) → Sound T → T.places ≤ size → T.next_task < 2 ^ 31 → (f : Free T who Travels) → keeper (stands_home T.dead) T.scopes (Some who.scope) ≡ Some k → Changed (in_sums (less who.place)) k rs qs → AllFit size (stands_home T.dead) T.scopes T.tasks rs → (k < length qs) × IfSome (record_at qs k) (λ r. MayJoin (At (landing who.place)) r.sums)
+pub add_ok : {size : ℕ} (T : Tree) (who : Caller) (rs qs : List (Option (Box Record))) (k : ℕ) → Sound T → T.places ≤ size → T.next_task < 2 ^ 31 → (f : Free T who Travels) → keeper (stands_home T.dead) T.scopes (Some who.scope) ≡ Some k → Changed (in_sums (less who.place)) k rs qs → RecordsFit size (stands_home T.dead) T.scopes T.tasks rs → (k < length qs) × IfSome (record_at qs k) (λ r. MayJoin (At (landing who.place)) r.sums)
 add_ok {size = size} T who rs qs k h le low f at c fit =
     let q : Kept size T rs k = kept_at_keeper T rs (Some who.scope) k fit at in
     let to_in : Inside size (At (landing who.place)) = landing_inside size who.place (place_in T who Travels h le f) in

@@ -32,7 +32,7 @@ use Rattle.rx_counts.specs.declared.record.Record.{Record}
 use Rattle.rx_counts.specs.declared.ledger.CountLedger.{CountLedger}
 use Rattle.rx_counts.specs.Keeping.{stands_home, keeper, kept_at, same_where, masked_of}
 use Rattle.rx_rules.specs.Counts.{has_number}
-use Rattle.rx_counts.specs.Stands.{ShapeOf, SumsOf, RecordOf, Both, AllFit, Fit, HasRoom, StandsFor, IsShaped, record_at, count_in}
+use Rattle.rx_counts.specs.Stands.{ShapeOf, SumsOf, RecordOf, Both, RecordsFit, Fit, HasRoom, StandsFor, IsShaped, record_at, count_in}
 use Rattle.rx_counts.proofs.Lasting.{root_keeps}
 use Rattle.rx_counts.proofs.Walks.{keeper_exists, keeper_stands}
 use Rattle.rx_counts.proofs.Shapes.{both_found}
@@ -56,7 +56,7 @@ unstruck_of T who P f = rw (f.at.stands, blow_of) f.unstruck
 
 -- The records.
 
-pub fit_shaped : (size : ℕ) (T : Tree) (keeps : Scope → Bool) (rs : List (Option (Box Record))) → Sound T → AllFit size keeps T.scopes T.tasks rs → IsShaped T rs
+pub fit_shaped : (size : ℕ) (T : Tree) (keeps : Scope → Bool) (rs : List (Option (Box Record))) → Sound T → RecordsFit size keeps T.scopes T.tasks rs → IsShaped T rs
 fit_shaped size T keeps rs h fit =
     record {
       falls = h.falls;
@@ -87,16 +87,16 @@ pub record Kept (size : ℕ) (T : Tree) (rs : List (Option (Box Record))) (k : �
   pub fits : RecordOf size (stands_home T.dead) T.scopes T.tasks kept scope
   pub low : k < length rs
 
-pub kept_found : {size : ℕ} (T : Tree) (rs : List (Option (Box Record))) (k : ℕ) (g : Scope) → AllFit size (stands_home T.dead) T.scopes T.tasks rs → find (has_number k) T.scopes ≡ Some g → Kept size T rs k
+pub kept_found : {size : ℕ} (T : Tree) (rs : List (Option (Box Record))) (k : ℕ) (g : Scope) → RecordsFit size (stands_home T.dead) T.scopes T.tasks rs → find (has_number k) T.scopes ≡ Some g → Kept size T rs k
 kept_found {size = size} T rs k g h e =
     let r = both_found (RecordOf size (stands_home T.dead) T.scopes T.tasks) (record_at rs k) (find (has_number k) T.scopes) g (h k) e in
     record { kept = r.0; found = r.1; scope = g; stands = e; number = number_is k T.scopes g e; fits = r.2; low = below_length rs k r.0 r.1 }
 
-pub kept_some : {size : ℕ} (T : Tree) (rs : List (Option (Box Record))) (k : ℕ) → AllFit size (stands_home T.dead) T.scopes T.tasks rs → (o : Option Scope) → find (has_number k) T.scopes ≡ o → is_some o ≡ true → Kept size T rs k
+pub kept_some : {size : ℕ} (T : Tree) (rs : List (Option (Box Record))) (k : ℕ) → RecordsFit size (stands_home T.dead) T.scopes T.tasks rs → (o : Option Scope) → find (has_number k) T.scopes ≡ o → is_some o ≡ true → Kept size T rs k
 kept_some T rs k h (Some g) e q = kept_found T rs k g h e
 kept_some T rs k h None e q = absurd (true≢false (sym q))
 
-pub kept_at_keeper : {size : ℕ} (T : Tree) (rs : List (Option (Box Record))) (want : Option ScopeId) (k : ℕ) → AllFit size (stands_home T.dead) T.scopes T.tasks rs → keeper (stands_home T.dead) T.scopes want ≡ Some k → Kept size T rs k
+pub kept_at_keeper : {size : ℕ} (T : Tree) (rs : List (Option (Box Record))) (want : Option ScopeId) (k : ℕ) → RecordsFit size (stands_home T.dead) T.scopes T.tasks rs → keeper (stands_home T.dead) T.scopes want ≡ Some k → Kept size T rs k
 kept_at_keeper T rs want k h e = kept_some T rs k h (find (has_number k) T.scopes) refl (keeper_stands (stands_home T.dead) k T.scopes want e)
 
 -- a keeper is always found
@@ -140,8 +140,8 @@ pub room_kept : {room : ℕ} (l m : CountLedger) (T U : Tree) → m.width ≡ l.
 room_kept l m T U width places h = record { width = (let a = h.width in omega arith); few = (let a = h.few in omega arith) }
 
 -- records for tables that are as large
-pub as_wide : (n m : ℕ) (keeps : Scope → Bool) (gs : List Scope) (ts : List Task) (rs : List (Option (Box Record))) → m ≡ n → AllFit n keeps gs ts rs → AllFit m keeps gs ts rs
-as_wide n m keeps gs ts rs e h = subst (λ (i : ℕ). AllFit i keeps gs ts rs) (sym e) h
+pub as_wide : (n m : ℕ) (keeps : Scope → Bool) (gs : List Scope) (ts : List Task) (rs : List (Option (Box Record))) → m ≡ n → RecordsFit n keeps gs ts rs → RecordsFit m keeps gs ts rs
+as_wide n m keeps gs ts rs e h = subst (λ (i : ℕ). RecordsFit i keeps gs ts rs) (sym e) h
 
 -- the scope that it hangs under leads to the root
 pub scope_rooted : (T : Tree) (who : Caller) (P : Task → Type 0) → Sound T → (f : Free T who P) → meets the_root T.scopes (Some who.scope) ≡ true

@@ -24,7 +24,7 @@ use Rattle.rx_counts.specs.declared.record.Record.{Record}
 use Rattle.rx_counts.specs.declared.ledger.CountLedger.{CountLedger}
 use Rattle.rx_counts.specs.Keeping.{stands_home}
 use Rattle.rx_rules.specs.Counts.{has_number}
-use Rattle.rx_counts.specs.Stands.{AllFit, StandsFor, Pairs, record_at}
+use Rattle.rx_counts.specs.Stands.{RecordsFit, StandsFor, Pairs, record_at}
 use Rattle.rx_counts.specs.Inside.Dying.{StrikesRecord, MayHit, Passing, given_until}
 use Rattle.rx_counts.proofs.Striking.{all_strike, may_hit}
 use Rattle.rx_counts.proofs.Handing.{all_keeps}
@@ -73,7 +73,7 @@ begins l T d n qs st may few_t few_s struck =
     let k : Sound U = sound after in
     let cells : length T.dead ≡ 16 = h.cells in
     let inside : d.0 < length T.dead = (let a = may.dies.0 in let c = h.few in omega arith) in
-    let fit : AllFit l.width (stands_home T.dead) T.scopes (map (hit b) T.tasks) qs = all_strike _ b (stands_home T.dead) T.scopes T.tasks l.scopes.items qs struck st.fit.scopes in
+    let fit : RecordsFit l.width (stands_home T.dead) T.scopes (map (hit b) T.tasks) qs = all_strike _ b (stands_home T.dead) T.scopes T.tasks l.scopes.items qs struck st.fit.scopes in
     record {
       shaped = fit_shaped _ U (stands_home T.dead) qs k fit;
       after = λ g. ap (λ ds. stands_home (slice_set ds d.0 (Some n)) g) st.fit.dead ∙ home_after T.dead d n g inside;

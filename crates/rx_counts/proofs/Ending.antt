@@ -25,7 +25,7 @@ use Rattle.rx_counts.specs.declared.record.Record.{Record}
 use Rattle.rx_counts.specs.declared.ledger.CountLedger.{CountLedger}
 use Rattle.rx_counts.specs.Keeping.{stands_home, keeper}
 use Rattle.rx_rules.specs.Counts.{has_number}
-use Rattle.rx_counts.specs.Stands.{MayLeave, in_sums, less, masking, AllFit, Fit, StandsFor, record_at, Changed, ends_if}
+use Rattle.rx_counts.specs.Stands.{MayLeave, in_sums, less, masking, RecordsFit, Fit, StandsFor, record_at, Changed, ends_if}
 use Rattle.rx_counts.proofs.Asking.{unstruck_of, same_fit, scope_kept, room_kept, as_wide}
 use Rattle.rx_counts.proofs.Joining.{all_masking, others}
 use Rattle.rx_counts.proofs.Masking.{masked_changed, masked_ended}
@@ -67,11 +67,11 @@ ended l m T who thrown k qs ps st may f at places width dead next_task next_scop
     let keeps : Scope → Bool = stands_home T.dead in
     let a = end_allowed T who thrown st.reached may (unstruck_of T who (IsBare T who) f) in
     let is = ended_is T who (IsBare T who) thrown st.reached may (unstruck_of T who (IsBare T who) f) in
-    let noted : AllFit l.width keeps (change_first (is_scope who.scope) (faulted (λ g. g.body) (λ g. g.ends ++ thrown)) T.scopes) T.tasks qs =
+    let noted : RecordsFit l.width keeps (change_first (is_scope who.scope) (faulted (λ g. g.body) (λ g. g.ends ++ thrown)) T.scopes) T.tasks qs =
     all_faulted (λ g. g.body) (λ g. g.ends ++ thrown) who.scope keeps (λ g. refl) _ T.scopes T.tasks (ends_if (k.0 == who.scope.0) thrown) l.scopes.items qs (λ r. (refl, refl, refl, refl, refl))
     (λ r g found live was. (was.0, ap (λ b. cond b (r.ends ++ thrown) r.ends) (own_keeper T who.scope g k.0 h found live at) ∙ ap (λ xs. xs ++ thrown) was.1)) c st.fit.scopes
     in
-    let first : AllFit l.width keeps (change_first (is_scope who.scope) (faulted (λ g. g.body) (λ g. g.ends ++ thrown)) T.scopes) T.tasks ps =
+    let first : RecordsFit l.width keeps (change_first (is_scope who.scope) (faulted (λ g. g.body) (λ g. g.ends ++ thrown)) T.scopes) T.tasks ps =
     all_masking _ keeps (change_first (is_scope who.scope) (faulted (λ g. g.body) (λ g. g.ends ++ thrown)) T.scopes) T.tasks (cond (k.0 == who.scope.0) 0 (length thrown)) k.0 qs ps x noted in
     let own = scope_kept l T who (IsBare T who) st f in
     let at2 = keeper_faulted (λ g. g.body) (λ g. g.ends ++ thrown) (is_scope who.scope) keeps (λ g. refl) T.scopes (Some who.scope) ∙ at in

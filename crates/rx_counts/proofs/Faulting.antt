@@ -17,7 +17,7 @@ use Rattle.rx_counts.specs.declared.record.Sums.{Sums}
 use Rattle.rx_counts.specs.declared.record.Record.{Record}
 use Rattle.rx_counts.specs.Keeping.{keeper, finishes, is_number, kept_at, same_where, is_orphan, held}
 use Rattle.rx_rules.specs.Counts.{has_number}
-use Rattle.rx_counts.specs.Stands.{ShapeOf, SumsOf, RecordOf, Both, AllFit, record_at, Changed}
+use Rattle.rx_counts.specs.Stands.{ShapeOf, SumsOf, RecordOf, Both, RecordsFit, record_at, Changed}
 use Rattle.rx_counts.proofs.Counting.{count_same, sum_same, sum_change}
 use Rattle.rx_counts.proofs.Walks.{keeper_faulted}
 
@@ -80,7 +80,7 @@ module _ (b e : Scope → List Fault) (s : ScopeId) (keeps : Scope → Bool) (sa
   both_same P Q None (Some g) k h = absurd h
   both_same P Q None None k h = tt
 
-  pub all_faulted : (size : ℕ) (gs : List Scope) (ts : List Task) (f : Record → Record) (rs qs : List (Option (Box Record))) → ((r : Record) → ((f r).kind ≡ r.kind) × ((f r).home ≡ r.home) × ((f r).parent ≡ r.parent) × ((f r).finish ≡ r.finish) × ((f r).sums ≡ r.sums)) → ((r : Record) (g : Scope) → find (has_number s.0) gs ≡ Some g → keeps g ≡ true → (r.body ≡ g.body) × (r.ends ≡ g.ends) → ((f r).body ≡ b g) × ((f r).ends ≡ e g)) → Changed f s.0 rs qs → AllFit size keeps gs ts rs → AllFit size keeps (change_first (is_scope s) (faulted b e) gs) ts qs
+  pub all_faulted : (size : ℕ) (gs : List Scope) (ts : List Task) (f : Record → Record) (rs qs : List (Option (Box Record))) → ((r : Record) → ((f r).kind ≡ r.kind) × ((f r).home ≡ r.home) × ((f r).parent ≡ r.parent) × ((f r).finish ≡ r.finish) × ((f r).sums ≡ r.sums)) → ((r : Record) (g : Scope) → find (has_number s.0) gs ≡ Some g → keeps g ≡ true → (r.body ≡ g.body) × (r.ends ≡ g.ends) → ((f r).body ≡ b g) × ((f r).ends ≡ e g)) → Changed f s.0 rs qs → RecordsFit size keeps gs ts rs → RecordsFit size keeps (change_first (is_scope s) (faulted b e) gs) ts qs
   all_faulted size gs ts f rs qs only faults c h n =
       ⊎_elim
       (λ (k : n ≡ s.0).

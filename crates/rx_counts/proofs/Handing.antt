@@ -21,7 +21,7 @@ use Rattle.rx_counts.specs.declared.record.Sums.{Sums}
 use Rattle.rx_counts.specs.declared.record.Record.{Record}
 use Rattle.rx_counts.specs.Keeping.{keeper, is_number, kept_at, same_where, is_orphan, held, orphans_of}
 use Rattle.rx_rules.specs.Counts.{has_number}
-use Rattle.rx_counts.specs.Stands.{table_size, ShapeOf, SumsOf, RecordOf, Both, AllFit, Pairs, ChangedBy, record_at, in_sums}
+use Rattle.rx_counts.specs.Stands.{table_size, ShapeOf, SumsOf, RecordOf, Both, RecordsFit, Pairs, ChangedBy, record_at, in_sums}
 use Rattle.rx_counts.specs.Inside.Dying.{Gains, IsNothing, Emptied, Gained, given_by}
 use Rattle.rx_counts.proofs.Counting.{one, count_same, any_counted, sum_same, sum_none}
 use Rattle.rx_counts.proofs.HandOver.{but, heir, keeper_but, never_but, moved, count_heir, count_other, count_left, keeper_same}
@@ -187,7 +187,7 @@ pair_some R None p r h e = cc
 both_at : (P : Record → Scope → Type 0) (o : Option Record) (b : Option Scope) (r : Record) (g : Scope) → o ≡ Some r → b ≡ Some g → P r g → Both P o b
 both_at P o b r g e k h = subst (λ v. Both P v b) (sym e) (subst (λ v. Both P (Some r) v) (sym k) h)
 
-pub all_hand : (size : ℕ) (keeps : Scope → Bool) (h : ScopeId) (a n : ℕ) (gs : List Scope) (ts : List Task) (rs ps qs : List (Option (Box Record))) (given : Sums) (g ga : Scope) → Falls n gs → find (has_number h.0) gs ≡ Some g → find (has_number a) gs ≡ Some ga → keeps g ≡ true → heir keeps gs h ≡ Some a → IfSome (record_at rs h.0) (λ r. given ≡ given_by r) → ChangedBy Emptied h.0 rs ps → ChangedBy (Gained given) a ps qs → AllFit size keeps gs ts rs → AllFit size (but h keeps) gs ts qs
+pub all_hand : (size : ℕ) (keeps : Scope → Bool) (h : ScopeId) (a n : ℕ) (gs : List Scope) (ts : List Task) (rs ps qs : List (Option (Box Record))) (given : Sums) (g ga : Scope) → Falls n gs → find (has_number h.0) gs ≡ Some g → find (has_number a) gs ≡ Some ga → keeps g ≡ true → heir keeps gs h ≡ Some a → IfSome (record_at rs h.0) (λ r. given ≡ given_by r) → ChangedBy Emptied h.0 rs ps → ChangedBy (Gained given) a ps qs → RecordsFit size keeps gs ts rs → RecordsFit size (but h keeps) gs ts qs
 all_hand size keeps h a n gs ts rs ps qs given g ga f found found_a kept is_heir took emptied gained all m =
     let apart : a ≡ h.0 → ⊥ = λ e. true≢false (sym (ap (is_number h.0) is_heir ∙ eq-eqb a h.0 e) ∙ never_but keeps h gs (Some h)) in
     let num_h : g.number.0 ≡ h.0 = number_is h.0 gs g found in
@@ -241,7 +241,7 @@ all_hand size keeps h a n gs ts rs ps qs given g ga f found found_a kept is_heir
 
 -- Records by which scopes keep counts.
 
-pub all_keeps : (size : ℕ) (p q : Scope → Bool) (gs : List Scope) (ts : List Task) (rs : List (Option (Box Record))) → Each (λ k. p k ≡ q k) gs → ((n : ℕ) (k : Scope) → find (has_number n) gs ≡ Some k → p k ≡ q k) → AllFit size p gs ts rs → AllFit size q gs ts rs
+pub all_keeps : (size : ℕ) (p q : Scope → Bool) (gs : List Scope) (ts : List Task) (rs : List (Option (Box Record))) → Each (λ k. p k ≡ q k) gs → ((n : ℕ) (k : Scope) → find (has_number n) gs ≡ Some k → p k ≡ q k) → RecordsFit size p gs ts rs → RecordsFit size q gs ts rs
 all_keeps size p q gs ts rs same found h n =
     both_more (RecordOf size p gs ts) (RecordOf size q gs ts) (record_at rs n) (find (has_number n) gs)
     (λ r g at a. record {

@@ -22,7 +22,7 @@ use Rattle.rx_counts.specs.Keeping.{keeper, is_number, kept_at, same_where}
 use Rattle.rx_base.specs.Sets.{has_bit}
 use Rattle.rx_base.proofs.Elements.{find-passes}
 use Rattle.rx_rules.specs.Counts.{has_number}
-use Rattle.rx_counts.specs.Stands.{table_size, is_inside, slot, HasCell, MayLeave, ShapeOf, SumsOf, RecordOf, Both, AllFit, record_at, count_in, more, less, masking, in_sums, with_lost, Changed, ChangedBy, Pairs, Loses}
+use Rattle.rx_counts.specs.Stands.{table_size, is_inside, slot, HasCell, MayLeave, ShapeOf, SumsOf, RecordOf, Both, RecordsFit, record_at, count_in, more, less, masking, in_sums, with_lost, Changed, ChangedBy, Pairs, Loses}
 use Rattle.rx_counts.proofs.Counting.{one, count_cons, count_change, count_filter, any_counted, sum_change}
 use Rattle.rx_counts.proofs.Telling.{same_self}
 use Rattle.rx_counts.proofs.Slots.{has_place, same_slot, slot_same, slot_below, cell_of}
@@ -257,7 +257,7 @@ pub number_is : (n : ℕ) (gs : List Scope) (g : Scope) → find (has_number n) 
 number_is n gs g e = eqb-true g.number.0 n (find-passes (has_number n) gs g e)
 
 -- the record of k changes by f, and the others stay
-pub all_change : {size : ℕ} (keeps : Scope → Bool) (gs : List Scope) (ts us : List Task) (f : Record → Record) (k : ℕ) (rs qs : List (Option (Box Record))) → ((r : Record) (g : Scope) → record_at rs k ≡ Some r → g.number.0 ≡ k → RecordOf size keeps gs ts r g → RecordOf size keeps gs us (f r) g) → ((r : Record) (g : Scope) → (g.number.0 ≡ k → ⊥) → RecordOf size keeps gs ts r g → RecordOf size keeps gs us r g) → Changed f k rs qs → AllFit size keeps gs ts rs → AllFit size keeps gs us qs
+pub all_change : {size : ℕ} (keeps : Scope → Bool) (gs : List Scope) (ts us : List Task) (f : Record → Record) (k : ℕ) (rs qs : List (Option (Box Record))) → ((r : Record) (g : Scope) → record_at rs k ≡ Some r → g.number.0 ≡ k → RecordOf size keeps gs ts r g → RecordOf size keeps gs us (f r) g) → ((r : Record) (g : Scope) → (g.number.0 ≡ k → ⊥) → RecordOf size keeps gs ts r g → RecordOf size keeps gs us r g) → Changed f k rs qs → RecordsFit size keeps gs ts rs → RecordsFit size keeps gs us qs
 all_change {size = size} keeps gs ts us f k rs qs here other c h n =
     ⊎_elim
     (λ (e : n ≡ k).
@@ -277,7 +277,7 @@ both_pairs P Q R None None (Some g) k s h = absurd h
 both_pairs P Q R None None None k s h = tt
 
 -- the record of k changes as R says, and the others stay
-pub all_by : {size : ℕ} (keeps fresh : Scope → Bool) (gs : List Scope) (ts us : List Task) (R : Record → Record → Type 0) (k : ℕ) (rs qs : List (Option (Box Record))) → ((r q : Record) (g : Scope) → find (has_number k) gs ≡ Some g → R r q → RecordOf size keeps gs ts r g → RecordOf size fresh gs us q g) → ((r : Record) (n : ℕ) (g : Scope) → find (has_number n) gs ≡ Some g → (n ≡ k → ⊥) → RecordOf size keeps gs ts r g → RecordOf size fresh gs us r g) → ChangedBy R k rs qs → AllFit size keeps gs ts rs → AllFit size fresh gs us qs
+pub all_by : {size : ℕ} (keeps fresh : Scope → Bool) (gs : List Scope) (ts us : List Task) (R : Record → Record → Type 0) (k : ℕ) (rs qs : List (Option (Box Record))) → ((r q : Record) (g : Scope) → find (has_number k) gs ≡ Some g → R r q → RecordOf size keeps gs ts r g → RecordOf size fresh gs us q g) → ((r : Record) (n : ℕ) (g : Scope) → find (has_number n) gs ≡ Some g → (n ≡ k → ⊥) → RecordOf size keeps gs ts r g → RecordOf size fresh gs us r g) → ChangedBy R k rs qs → RecordsFit size keeps gs ts rs → RecordsFit size fresh gs us qs
 all_by {size = size} keeps fresh gs ts us R k rs qs here other c h n =
     ⊎_elim
     (λ (e : n ≡ k).
@@ -288,11 +288,11 @@ all_by {size = size} keeps fresh gs ts us R k rs qs here other c h n =
     (both_more (RecordOf size keeps gs ts) (RecordOf size fresh gs us) (record_at rs n) (find (has_number n) gs) (λ r g found. other r n g found e) (h n)))
     (cases_eq n k)
 
-pub all_waits : (size : ℕ) (keeps : Scope → Bool) (gs : List Scope) (ts : List Task) (t : TaskId) (b : Bool) (rs : List (Option (Box Record))) → AllFit size keeps gs ts rs → AllFit size keeps gs (change_first (is_task t) (λ x. record x { waits = b }) ts) rs
+pub all_waits : (size : ℕ) (keeps : Scope → Bool) (gs : List Scope) (ts : List Task) (t : TaskId) (b : Bool) (rs : List (Option (Box Record))) → RecordsFit size keeps gs ts rs → RecordsFit size keeps gs (change_first (is_task t) (λ x. record x { waits = b }) ts) rs
 all_waits size keeps gs ts t b rs h n =
     both_more (RecordOf size keeps gs ts) (RecordOf size keeps gs (change_first (is_task t) (λ x. record x { waits = b }) ts)) (record_at rs n) (find (has_number n) gs) (λ r g found a. record { shape = a.shape; sums = sums_waits keeps gs ts t b r.sums g.number.0 a.sums; faults = a.faults; places = a.places }) (h n)
 
-pub all_lost : (size : ℕ) (keeps : Scope → Bool) (gs : List Scope) (ts : List Task) (y : Task) (b : Blow) (k : ℕ) (rs qs : List (Option (Box Record))) → keeper keeps gs (Some y.under) ≡ Some k → y.struck ≡ Some b → ChangedBy (Loses b.place) k rs qs → AllFit size keeps gs ts rs → AllFit size keeps gs (y ∷ ts) qs
+pub all_lost : (size : ℕ) (keeps : Scope → Bool) (gs : List Scope) (ts : List Task) (y : Task) (b : Blow) (k : ℕ) (rs qs : List (Option (Box Record))) → keeper keeps gs (Some y.under) ≡ Some k → y.struck ≡ Some b → ChangedBy (Loses b.place) k rs qs → RecordsFit size keeps gs ts rs → RecordsFit size keeps gs (y ∷ ts) qs
 all_lost size keeps gs ts y b k rs qs at struck c h =
     all_by keeps keeps gs ts (y ∷ ts) (Loses b.place) k rs qs
     (λ r q g found l a.
@@ -308,31 +308,31 @@ all_lost size keeps gs ts y b k rs qs at struck c h =
     c h
 
 -- the sums of one record change
-pub all_sums : (size : ℕ) (keeps : Scope → Bool) (gs : List Scope) (ts us : List Task) (f : Sums → Sums) (k : ℕ) (rs qs : List (Option (Box Record))) → ((q : Sums) → (f q).places ≡ q.places) → ((r : Record) → record_at rs k ≡ Some r → SumsOf keeps gs ts r.sums k → SumsOf keeps gs us (f r.sums) k) → ((q : Sums) (n : ℕ) → (n ≡ k → ⊥) → SumsOf keeps gs ts q n → SumsOf keeps gs us q n) → Changed (in_sums f) k rs qs → AllFit size keeps gs ts rs → AllFit size keeps gs us qs
+pub all_sums : (size : ℕ) (keeps : Scope → Bool) (gs : List Scope) (ts us : List Task) (f : Sums → Sums) (k : ℕ) (rs qs : List (Option (Box Record))) → ((q : Sums) → (f q).places ≡ q.places) → ((r : Record) → record_at rs k ≡ Some r → SumsOf keeps gs ts r.sums k → SumsOf keeps gs us (f r.sums) k) → ((q : Sums) (n : ℕ) → (n ≡ k → ⊥) → SumsOf keeps gs ts q n → SumsOf keeps gs us q n) → Changed (in_sums f) k rs qs → RecordsFit size keeps gs ts rs → RecordsFit size keeps gs us qs
 all_sums size keeps gs ts us f k rs qs same here other c h =
     all_change keeps gs ts us (in_sums f) k rs qs
     (λ r g kept e a. record { shape = record { kind = a.shape.kind; home = a.shape.home; parent = a.shape.parent; finish = a.shape.finish }; sums = subst (SumsOf keeps gs us (f r.sums)) (sym e) (here r kept (subst (SumsOf keeps gs ts r.sums) e a.sums)); faults = a.faults; places = λ v. same r.sums ∙ a.places v })
     (λ r g e a. record { shape = a.shape; sums = other r.sums g.number.0 e a.sums; faults = a.faults; places = a.places })
     c h
 
-pub all_masking : (size : ℕ) (keeps : Scope → Bool) (gs : List Scope) (ts : List Task) (many k : ℕ) (rs qs : List (Option (Box Record))) → Changed (in_sums (masking many)) k rs qs → AllFit size keeps gs ts rs → AllFit size keeps gs ts qs
+pub all_masking : (size : ℕ) (keeps : Scope → Bool) (gs : List Scope) (ts : List Task) (many k : ℕ) (rs qs : List (Option (Box Record))) → Changed (in_sums (masking many)) k rs qs → RecordsFit size keeps gs ts rs → RecordsFit size keeps gs ts qs
 all_masking size keeps gs ts many k rs qs c h = all_sums size keeps gs ts ts (masking many) k rs qs (λ q. refl) (λ r kept a. sums_masking keeps gs ts r.sums k many a) (λ q n e a. a) c h
 
-pub all_join : (size : ℕ) (keeps : Scope → Bool) (gs : List Scope) (ts : List Task) (y : Task) (k : ℕ) (rs qs : List (Option (Box Record))) → keeper keeps gs (Some y.under) ≡ Some k → y.struck ≡ None → IfSome (record_at rs k) (λ r. HasCell y.place r.sums) → Changed (in_sums (more y.place)) k rs qs → AllFit size keeps gs ts rs → AllFit size keeps gs (y ∷ ts) qs
+pub all_join : (size : ℕ) (keeps : Scope → Bool) (gs : List Scope) (ts : List Task) (y : Task) (k : ℕ) (rs qs : List (Option (Box Record))) → keeper keeps gs (Some y.under) ≡ Some k → y.struck ≡ None → IfSome (record_at rs k) (λ r. HasCell y.place r.sums) → Changed (in_sums (more y.place)) k rs qs → RecordsFit size keeps gs ts rs → RecordsFit size keeps gs (y ∷ ts) qs
 all_join size keeps gs ts y k rs qs at free cell c h =
     all_sums _ keeps gs ts (y ∷ ts) (more y.place) k rs qs (λ q. refl)
     (λ r kept a. join_here keeps gs ts y r.sums k (ap (is_number k) at ∙ eq-eqb k k refl) free (subst (λ o. IfSome o (λ r. HasCell y.place r.sums)) kept cell) a)
     (λ q n e a. join_other keeps gs ts y q n (ap (is_number n) at ∙ ne_eqb k n (λ v. e (sym v))) a)
     c h
 
-pub all_leave : (size : ℕ) (keeps : Scope → Bool) (gs : List Scope) (ts : List Task) (y : Task) (k : ℕ) (rs qs : List (Option (Box Record))) → keeper keeps gs (Some y.under) ≡ Some k → y.struck ≡ None → Changed (in_sums (less y.place)) k rs qs → AllFit size keeps gs (y ∷ ts) rs → AllFit size keeps gs ts qs
+pub all_leave : (size : ℕ) (keeps : Scope → Bool) (gs : List Scope) (ts : List Task) (y : Task) (k : ℕ) (rs qs : List (Option (Box Record))) → keeper keeps gs (Some y.under) ≡ Some k → y.struck ≡ None → Changed (in_sums (less y.place)) k rs qs → RecordsFit size keeps gs (y ∷ ts) rs → RecordsFit size keeps gs ts qs
 all_leave size keeps gs ts y k rs qs at free c h =
     all_sums _ keeps gs (y ∷ ts) ts (less y.place) k rs qs (λ q. refl)
     (λ r kept a. leave_here keeps gs ts y r.sums k (ap (is_number k) at ∙ eq-eqb k k refl) free a)
     (λ q n e a. leave_other keeps gs ts y q n (ap (is_number n) at ∙ ne_eqb k n (λ v. e (sym v))) a)
     c h
 
-pub all_same : (size : ℕ) (keeps : Scope → Bool) (gs : List Scope) (ts us : List Task) (rs : List (Option (Box Record))) → ((p : Task → Bool) → count_by p ts ≡ count_by p us) → AllFit size keeps gs ts rs → AllFit size keeps gs us rs
+pub all_same : (size : ℕ) (keeps : Scope → Bool) (gs : List Scope) (ts us : List Task) (rs : List (Option (Box Record))) → ((p : Task → Bool) → count_by p ts ≡ count_by p us) → RecordsFit size keeps gs ts rs → RecordsFit size keeps gs us rs
 all_same size keeps gs ts us rs same h n =
     both_more (RecordOf size keeps gs ts) (RecordOf size keeps gs us) (record_at rs n) (find (has_number n) gs) (λ r g found a. record { shape = a.shape; sums = sums_same keeps gs ts us r.sums g.number.0 same a.sums; faults = a.faults; places = a.places }) (h n)
 

@@ -23,7 +23,7 @@ use Rattle.rx_counts.specs.declared.record.Sums.{Sums}
 use Rattle.rx_counts.specs.declared.record.Record.{Record}
 use Rattle.rx_counts.specs.Keeping.{keeper, finishes, is_number, kept_at, same_where, is_orphan, held}
 use Rattle.rx_rules.specs.Counts.{has_number}
-use Rattle.rx_counts.specs.Stands.{table_size, slot, count_in, ShapeOf, SumsOf, RecordOf, Both, AllFit, record_at, Pushed}
+use Rattle.rx_counts.specs.Stands.{table_size, slot, count_in, ShapeOf, SumsOf, RecordOf, Both, RecordsFit, record_at, Pushed}
 use Rattle.rx_counts.proofs.Counting.{count_same, count_none, sum_same, sum_none}
 use Rattle.rx_counts.proofs.HandOver.{keeper_older}
 use Rattle.rx_counts.proofs.Walks.{keeper_skips}
@@ -102,7 +102,7 @@ shape_further : (g : Scope) (gs : List Scope) (r : Record) (k : Scope) → k.num
 shape_further g gs r k low a = record { kind = a.kind; home = a.home; parent = a.parent; finish = keeper_skips finishes g gs k.number low ∙ a.finish }
 
 -- the records with the new one at their end; the tasks may become more
-pub all_opened : {size : ℕ} (keeps : Scope → Bool) (g : Scope) (gs : List Scope) (ts us : List Task) (rs qs : List (Option (Box Record))) (r : Record) → length rs ≡ g.number.0 → Falls g.number.0 gs → ((q : Sums) (n : ℕ) → n < g.number.0 → SumsOf keeps gs ts q n → SumsOf keeps (g ∷ gs) us q n) → Pushed r rs qs → RecordOf size keeps (g ∷ gs) us r g → AllFit size keeps gs ts rs → AllFit size keeps (g ∷ gs) us qs
+pub all_opened : {size : ℕ} (keeps : Scope → Bool) (g : Scope) (gs : List Scope) (ts us : List Task) (rs qs : List (Option (Box Record))) (r : Record) → length rs ≡ g.number.0 → Falls g.number.0 gs → ((q : Sums) (n : ℕ) → n < g.number.0 → SumsOf keeps gs ts q n → SumsOf keeps (g ∷ gs) us q n) → Pushed r rs qs → RecordOf size keeps (g ∷ gs) us r g → RecordsFit size keeps gs ts rs → RecordsFit size keeps (g ∷ gs) us qs
 all_opened {size = size} keeps g gs ts us rs qs r len f old p new h n =
     ⊎_elim
     (λ (e : n ≡ g.number.0).

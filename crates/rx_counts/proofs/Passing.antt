@@ -20,7 +20,7 @@ use Rattle.rx_counts.specs.declared.record.Sums.{Sums}
 use Rattle.rx_counts.specs.declared.record.Record.{Record}
 use Rattle.rx_counts.specs.Keeping.{stands_home, keeper, is_number, kept_at, same_where, count_of, is_orphan, faults_in}
 use Rattle.rx_rules.specs.Counts.{has_number}
-use Rattle.rx_counts.specs.Stands.{table_size, slot, ShapeOf, SumsOf, RecordOf, Both, AllFit, AllMasked, ChangedBy, IsShaped, record_at}
+use Rattle.rx_counts.specs.Stands.{table_size, slot, ShapeOf, SumsOf, RecordOf, Both, RecordsFit, AllMasked, ChangedBy, IsShaped, record_at}
 use Rattle.rx_counts.specs.Inside.Dying.{Emptied, Gained, MayGain, given_by, given_until, Passing, parent_there}
 use Rattle.rx_counts.proofs.HandOver.{but, heir, never_but, count_heir, keeper_keeps}
 use Rattle.rx_counts.proofs.Handing.{all_hand, all_keeps, orphans_heir}
@@ -74,7 +74,7 @@ but_next keeps d i h k e home =
     ap (λ b. given_until keeps d i k && not b) (ne_eqb k.number.0 h.0 (λ v. q (v ∙ e))) ∙ and-true (given_until keeps d i k) ∙ ap (λ b. keeps k && not ((k.home.0 == d.0) && b)) (ltb_same k.number.0 i q))
     (cases_eq k.number.0 i)
 
-shaped_by : (size : ℕ) (T : Tree) (keeps : Scope → Bool) (rs qs : List (Option (Box Record))) → IsShaped T rs → AllFit size keeps T.scopes T.tasks qs → IsShaped T qs
+shaped_by : (size : ℕ) (T : Tree) (keeps : Scope → Bool) (rs qs : List (Option (Box Record))) → IsShaped T rs → RecordsFit size keeps T.scopes T.tasks qs → IsShaped T qs
 shaped_by size T keeps rs qs h fit =
     record {
       falls = h.falls;
@@ -83,7 +83,7 @@ shaped_by size T keeps rs qs h fit =
     }
 
 -- the next turn, where the records fit it
-next_turn : {size : ℕ} (T : Tree) (keeps : Scope → Bool) (dead : List (Option ℕ)) (d : PlaceId) (i : ℕ) (rs qs : List (Option (Box Record))) → Passing size T keeps dead d i rs → AllFit size (given_until keeps d (i + 1)) T.scopes T.tasks qs → AllMasked (given_until keeps d (i + 1)) T.scopes qs → Passing size T keeps dead d (i + 1) qs
+next_turn : {size : ℕ} (T : Tree) (keeps : Scope → Bool) (dead : List (Option ℕ)) (d : PlaceId) (i : ℕ) (rs qs : List (Option (Box Record))) → Passing size T keeps dead d i rs → RecordsFit size (given_until keeps d (i + 1)) T.scopes T.tasks qs → AllMasked (given_until keeps d (i + 1)) T.scopes qs → Passing size T keeps dead d (i + 1) qs
 next_turn T keeps dead d i rs qs p fit masked =
     record {
       shaped = shaped_by _ T (given_until keeps d (i + 1)) rs qs p.shaped fit;

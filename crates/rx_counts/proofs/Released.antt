@@ -16,7 +16,7 @@ use Rattle.rx_sound.proofs.Releasing.{on_meets, passes_marks, drops, leaves, sta
 use Rattle.rx_counts.specs.declared.record.Record.{Record}
 use Rattle.rx_counts.specs.Keeping.{stands_home, keeper, finishes, is_number, kept_at, same_where, is_orphan, held}
 use Rattle.rx_rules.specs.Counts.{has_number}
-use Rattle.rx_counts.specs.Stands.{RecordOf, Both, AllFit, record_at}
+use Rattle.rx_counts.specs.Stands.{RecordOf, Both, RecordsFit, record_at}
 use Rattle.rx_counts.specs.Inside.Freeing.{IsLast}
 use Rattle.rx_counts.proofs.Counting.{count_same, count_filter, any_counted, sum_same, sum_filter}
 use Rattle.rx_counts.proofs.Walks.{keeper_filter}
@@ -122,7 +122,7 @@ pub met_own : (T : Tree) (s : ScopeId) → IsLast T s → meets s T.scopes (Some
 met_own T s i = own_met s T.scopes i.scope i.stands
 
 -- the records of the scopes that stay, and no other, are those of the tree without s
-pub all_released : (size : ℕ) (T : Tree) (s : ScopeId) (rs qs : List (Option (Box Record))) → Sound T → IsLast T s → quiet T s ≡ true → ((u : ScopeId) → record_at qs u.0 ≡ cond (meets s T.scopes (Some u)) None (record_at rs u.0)) → AllFit size (stands_home T.dead) T.scopes T.tasks rs → AllFit size (stands_home T.dead) (without T s).scopes (without T s).tasks qs
+pub all_released : (size : ℕ) (T : Tree) (s : ScopeId) (rs qs : List (Option (Box Record))) → Sound T → IsLast T s → quiet T s ≡ true → ((u : ScopeId) → record_at qs u.0 ≡ cond (meets s T.scopes (Some u)) None (record_at rs u.0)) → RecordsFit size (stands_home T.dead) T.scopes T.tasks rs → RecordsFit size (stands_home T.dead) (without T s).scopes (without T s).tasks qs
 all_released size T s rs qs h i still gone fit n =
     let keeps : Scope → Bool = stands_home T.dead in
     let q : Scope → Bool = λ g. not (on_chain T s g.number) in

@@ -27,7 +27,7 @@ use Rattle.rx_finish.proofs.Allowed.{Free, spawn_allowed}
 use Rattle.rx_counts.specs.declared.record.Record.{Record}
 use Rattle.rx_counts.specs.declared.ledger.CountLedger.{CountLedger}
 use Rattle.rx_counts.specs.Keeping.{stands_home, keeper, finishes}
-use Rattle.rx_counts.specs.Stands.{HasCell, MayJoin, AllFit, AllMasked, Fit, StandsFor, record_at, more, in_sums, Loses, Changed, ChangedBy}
+use Rattle.rx_counts.specs.Stands.{HasCell, MayJoin, RecordsFit, AllMasked, Fit, StandsFor, record_at, more, in_sums, Loses, Changed, ChangedBy}
 use Rattle.rx_counts.proofs.Asking.{Kept, kept_at_keeper, place_in, wide, room_kept, as_wide, tasks_length, unstruck_of}
 use Rattle.rx_counts.proofs.Joining.{all_join, all_lost}
 use Rattle.rx_counts.proofs.Masking.{masked_by, masked_changed}
@@ -55,7 +55,7 @@ from_low n (Travel from to) h = h.0
 pub started_in : {size : ℕ} (T : Tree) (who : Caller) (to : PlaceId) → Sound T → T.places ≤ size → MayAskTo T who to → (f : Free T who IsMoving) → Inside size (start (place_number who.place) to)
 started_in {size = size} T who to h le may f = start_in size (place_number who.place) to (from_low size who.place (place_in T who IsMoving h le f)) (let a = may.target in omega arith)
 
-pub bear_ok : {size : ℕ} (T : Tree) (who : Caller) (to : PlaceId) (rs : List (Option (Box Record))) (k : ℕ) (want : Option ScopeId) → Sound T → T.places ≤ size → MayAskTo T who to → (f : Free T who IsMoving) → keeper (stands_home T.dead) T.scopes want ≡ Some k → AllFit size (stands_home T.dead) T.scopes T.tasks rs → (k < length rs) × (to.0 < 16) × IfSome (record_at rs k) (λ r. MayJoin (start (place_number who.place) to) r.sums)
+pub bear_ok : {size : ℕ} (T : Tree) (who : Caller) (to : PlaceId) (rs : List (Option (Box Record))) (k : ℕ) (want : Option ScopeId) → Sound T → T.places ≤ size → MayAskTo T who to → (f : Free T who IsMoving) → keeper (stands_home T.dead) T.scopes want ≡ Some k → RecordsFit size (stands_home T.dead) T.scopes T.tasks rs → (k < length rs) × (to.0 < 16) × IfSome (record_at rs k) (λ r. MayJoin (start (place_number who.place) to) r.sums)
 bear_ok {size = size} T who to rs k want h le may f at fit =
     let q : Kept size T rs k = kept_at_keeper T rs want k fit at in (
       q.low,
@@ -78,7 +78,7 @@ struck_none T child s from to e =
     ]) e
 
 -- the records with one more
-pub all_born : (size : ℕ) (T : Tree) (gs : List Scope) (keeps : Scope → Bool) (ts : List Task) (child : TaskId) (s : ScopeId) (from to : PlaceId) (k : ℕ) (rs qs : List (Option (Box Record))) (b : Bool) → b ≡ is_some (death_of T to) → keeper keeps gs (Some s) ≡ Some k → IfSome (record_at rs k) (λ r. HasCell (start from to) r.sums) → (b ≡ true → ChangedBy (Loses to) k rs qs) → (b ≡ false → Changed (in_sums (more (start from to))) k rs qs) → AllFit size keeps gs ts rs → AllFit size keeps gs (born T child s from to ∷ ts) qs
+pub all_born : (size : ℕ) (T : Tree) (gs : List Scope) (keeps : Scope → Bool) (ts : List Task) (child : TaskId) (s : ScopeId) (from to : PlaceId) (k : ℕ) (rs qs : List (Option (Box Record))) (b : Bool) → b ≡ is_some (death_of T to) → keeper keeps gs (Some s) ≡ Some k → IfSome (record_at rs k) (λ r. HasCell (start from to) r.sums) → (b ≡ true → ChangedBy (Loses to) k rs qs) → (b ≡ false → Changed (in_sums (more (start from to))) k rs qs) → RecordsFit size keeps gs ts rs → RecordsFit size keeps gs (born T child s from to ∷ ts) qs
 all_born size T gs keeps ts child s from to k rs qs true e at cell lost joins h =
     let b = struck_by T child s from to (sym e) in
     all_lost _ keeps gs ts (born T child s from to) b.0 k rs qs at b.1 (subst (λ (p : PlaceId). ChangedBy (Loses p) k rs qs) (sym b.2) (lost refl)) h

@@ -22,7 +22,7 @@ use Rattle.rx_counts.specs.declared.record.Sums.{Sums}
 use Rattle.rx_counts.specs.declared.record.Record.{Record}
 use Rattle.rx_counts.specs.Keeping.{keeper, is_number, kept_at, same_where, count_of, total_of}
 use Rattle.rx_rules.specs.Counts.{has_number}
-use Rattle.rx_counts.specs.Stands.{table_size, is_inside, slot, ShapeOf, SumsOf, RecordOf, Both, AllFit, Pairs, record_at, in_sums}
+use Rattle.rx_counts.specs.Stands.{table_size, is_inside, slot, ShapeOf, SumsOf, RecordOf, Both, RecordsFit, Pairs, record_at, in_sums}
 use Rattle.rx_counts.specs.Inside.Dying.{hits_cell, hit_sum, hits, Strikes, StrikesRecord, MayHit}
 use Rattle.rx_counts.proofs.Counting.{one, each_part, count_same, count_none, count_split, count_map, any_map, any_counted}
 use Rattle.rx_counts.proofs.Telling.{same_self}
@@ -255,7 +255,7 @@ sums_strike b keeps gs ts r q m s h =
           ∙ sym (any_map (λ x. was_lost_at p x && kept_at keeps gs m x) (hit b) ts);
     }
 
-pub all_strike : (size : ℕ) (b : Blow) (keeps : Scope → Bool) (gs : List Scope) (ts : List Task) (rs qs : List (Option (Box Record))) → ((n : ℕ) → Pairs (StrikesRecord b.place) (record_at rs n) (record_at qs n)) → AllFit size keeps gs ts rs → AllFit size keeps gs (map (hit b) ts) qs
+pub all_strike : (size : ℕ) (b : Blow) (keeps : Scope → Bool) (gs : List Scope) (ts : List Task) (rs qs : List (Option (Box Record))) → ((n : ℕ) → Pairs (StrikesRecord b.place) (record_at rs n) (record_at qs n)) → RecordsFit size keeps gs ts rs → RecordsFit size keeps gs (map (hit b) ts) qs
 all_strike size b keeps gs ts rs qs s h n =
     both_pairs (RecordOf size keeps gs ts) (RecordOf size keeps gs (map (hit b) ts)) (StrikesRecord b.place) (record_at rs n) (record_at qs n) (find (has_number n) gs)
     (λ r q g found k a.
@@ -269,7 +269,7 @@ all_strike size b keeps gs ts rs qs s h n =
     (s n) (h n)
 
 -- no cell that is hit is above the total
-pub may_hit : (size : ℕ) (d : PlaceId) (keeps : Scope → Bool) (gs : List Scope) (ts : List Task) (rs : List (Option (Box Record))) → AllFit size keeps gs ts rs → (n : ℕ) → IfSome (record_at rs n) (MayHit d)
+pub may_hit : (size : ℕ) (d : PlaceId) (keeps : Scope → Bool) (gs : List Scope) (ts : List Task) (rs : List (Option (Box Record))) → RecordsFit size keeps gs ts rs → (n : ℕ) → IfSome (record_at rs n) (MayHit d)
 may_hit size d keeps gs ts rs h n = may_in (record_at rs n) (find (has_number n) gs) (h n)
   where
     may_in : (o : Option Record) (g : Option Scope) → Both (RecordOf size keeps gs ts) o g → IfSome o (MayHit d)

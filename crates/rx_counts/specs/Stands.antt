@@ -82,8 +82,8 @@ abbrev pub record_at : List (Option (Box Record)) → ℕ → Option Record
 record_at rs n = option_map box_value (slice_index_or rs n None)
 
 -- the record of each number is that of its scope, or both are missing
-abbrev pub AllFit : ℕ → (Scope → Bool) → List Scope → List Task → List (Option (Box Record)) → Type 0
-AllFit size keeps gs ts rs = (n : ℕ) → Both (RecordOf size keeps gs ts) (record_at rs n) (find (has_number n) gs)
+abbrev pub RecordsFit : ℕ → (Scope → Bool) → List Scope → List Task → List (Option (Box Record)) → Type 0
+RecordsFit size keeps gs ts rs = (n : ℕ) → Both (RecordOf size keeps gs ts) (record_at rs n) (find (has_number n) gs)
 
 -- the same of the shapes alone
 abbrev pub AllShaped : List Scope → List (Option (Box Record)) → Type 0
@@ -100,7 +100,7 @@ pub record Fit (l : CountLedger) (T : Tree) : Type 0 where
   pub next_task : l.next_task ≡ T.next_task
   pub next_scope : l.next_scope ≡ T.next_scope
   pub numbers : length l.scopes.items ≡ T.next_scope
-  pub scopes : AllFit l.width (stands_home T.dead) T.scopes T.tasks l.scopes.items
+  pub scopes : RecordsFit l.width (stands_home T.dead) T.scopes T.tasks l.scopes.items
   pub masked : AllMasked (stands_home T.dead) T.scopes l.scopes.items
 
 -- its tables have columns for so many places more

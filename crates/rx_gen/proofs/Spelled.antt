@@ -3,16 +3,16 @@ use Rattle.std.specs.Prelude.{◌≡◌, ℕ, ◌+◌, ◌≤◌, zero, suc, Lis
 use Rattle.std.proofs.Common.{arith}
 use Rattle.std.proofs.Math.Nat.{mod-le}
 use Rattle.rx_token.specs.Lexical.{most}
-use Rattle.rx_nodes.specs.Grammar.{spellings, Fits, AllFit, IsScriptOf}
+use Rattle.rx_nodes.specs.Grammar.{spellings, InRange, AllInRange, IsScriptOf}
 use Rattle.rx_token.specs.Tokens.{NamesInOrder, AreNames}
 use Rattle.rx_token.specs.Texts.{AreSpelled}
 use Rattle.rx_script.specs.Writing.{script_text, WrittenReadsBack}
 use Rattle.rx_gen.specs.Lines.{line, lines_from, lines}
 
-line-fits : (q i : ℕ) → Fits (line q i)
+line-fits : (q i : ℕ) → InRange (line q i)
 line-fits q i = (((((tt, tt), tt), tt), tt), tt)
 
-all-fit : (q i n : ℕ) → AllFit (lines_from q i n)
+all-fit : (q i n : ℕ) → AllInRange (lines_from q i n)
 all-fit q i zero = tt
 all-fit q i (suc n) = (line-fits q i, all-fit q (i + 1) n)
 

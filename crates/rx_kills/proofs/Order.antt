@@ -11,7 +11,7 @@ use Rattle.rx_rules.specs.Run.{Event, ComesAfter, Ascends, put_in, events}
 use Rattle.rx_history.specs.KillOrder.{IsAscending}
 use Rattle.rx_history.proofs.InOrder.{ascending-rest}
 use Rattle.rx_kills.specs.Least.{EntryAfter, EventAfter, EventsAfter, EventsAscend, DueIsLeast, NoneIsReached}
-use Rattle.rx_kills.proofs.Left.{join_at, death_at}
+use Rattle.rx_rules.proofs.Plans.{join_at, death_at}
 
 -- What is due is the least.
 

@@ -3,7 +3,7 @@ use Rattle.std.specs.Prelude.{◌≡◌, ◌⊎◌, ℕ, zero, suc, Bool, true, 
 use Rattle.std.proofs.Common.{ap, sym, subst, ◌∙◌, arith, inl, inr}
 use Rattle.std.proofs.lemmas.Bool.{true≢false, eqb-true, ltb-true, cond_both}
 use Rattle.rx_rules.specs.Code.{Stmt, SetTo, New, Get, Put, Forget, Census, Print, Throw, Async, AtAsync, At, Finish, If, Repeat, Try, Block, Nothing, Then}
-use Rattle.rx_rules.specs.Order.{is_kept, is_kept_in, is_before, is_before_in, comes_before}
+use Rattle.rx_rules.specs.Order.{is_kept, is_kept_in, before_inside, is_before_in, comes_before}
 use Rattle.rx_laws.proofs.Paths.{Below}
 use Rattle.rx_laws.proofs.Straight.{stmt_at, stmt_in, code_at, is_straight, is_straight_in, is_ahead, is_ahead_in, comes_ahead, is_waiter}
 
@@ -91,7 +91,7 @@ mutual
   kept-cases_in (Then first rest) zero x h = kept-cases first x h
   kept-cases_in (Then first rest) (suc i) x h = kept-cases_in rest i x h
 
-turn_cases : (times : ℕ) (body : Block) (k i : ℕ) (x : List ℕ) (m j : ℕ) (y : List ℕ) (e l : Bool) → (k == m) ≡ e → nat_lt k m ≡ l → (is_before_in body i x j y ≡ true → Cases (λ p. is_ahead_in body i p j y) (stmt_in body i) x) → is_before (Repeat times body) (k ∷ i ∷ x) (m ∷ j ∷ y) ≡ true → Cases (λ p. is_ahead (Repeat times body) p (m ∷ j ∷ y)) (stmt_at (Repeat times body)) (k ∷ i ∷ x)
+turn_cases : (times : ℕ) (body : Block) (k i : ℕ) (x : List ℕ) (m j : ℕ) (y : List ℕ) (e l : Bool) → (k == m) ≡ e → nat_lt k m ≡ l → (is_before_in body i x j y ≡ true → Cases (λ p. is_ahead_in body i p j y) (stmt_in body i) x) → before_inside (Repeat times body) (k ∷ i ∷ x) (m ∷ j ∷ y) ≡ true → Cases (λ p. is_ahead (Repeat times body) p (m ∷ j ∷ y)) (stmt_at (Repeat times body)) (k ∷ i ∷ x)
 turn_cases times body k i x m j y true l he hl f h =
     two (λ p. is_ahead (Repeat times body) p (m ∷ j ∷ y)) (λ p. is_ahead_in body i p j y) (stmt_at (Repeat times body)) (stmt_in body i) k i (λ p. rw he) (λ p. refl) x (f (rw he at h))
 turn_cases times body k i x m j y false true he hl f h =
@@ -99,7 +99,7 @@ turn_cases times body k i x m j y false true he hl f h =
 turn_cases times body k i x m j y false false he hl f h = let bad : false ≡ true = rw (he, hl) at h in absurd (true≢false (sym bad))
 
 mutual
-  before-cases : (s : Stmt) (x y : List ℕ) → is_before s x y ≡ true → Cases (λ p. is_ahead s p y) (stmt_at s) x
+  before-cases : (s : Stmt) (x y : List ℕ) → before_inside s x y ≡ true → Cases (λ p. is_ahead s p y) (stmt_at s) x
   before-cases (Async body) (i ∷ x) (j ∷ y) h = one (λ p. is_ahead (Async body) p (j ∷ y)) (λ p. is_ahead_in body i p j y) (stmt_at (Async body)) (stmt_in body i) i (λ p. refl) (λ p. refl) x (before-cases_in body i x j y h)
   before-cases (AtAsync place body) (i ∷ x) (j ∷ y) h = one (λ p. is_ahead (AtAsync place body) p (j ∷ y)) (λ p. is_ahead_in body i p j y) (stmt_at (AtAsync place body)) (stmt_in body i) i (λ p. refl) (λ p. refl) x (before-cases_in body i x j y h)
   before-cases (At place body) (i ∷ x) (j ∷ y) h = one (λ p. is_ahead (At place body) p (j ∷ y)) (λ p. is_ahead_in body i p j y) (stmt_at (At place body)) (stmt_in body i) i (λ p. refl) (λ p. refl) x (before-cases_in body i x j y h)

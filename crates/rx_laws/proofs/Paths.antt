@@ -4,7 +4,7 @@ use Rattle.std.proofs.Common.{ap, sym, subst, ◌∙◌, arith, inl, inr}
 use Rattle.std.proofs.lemmas.Bool.{eqb-true, ltb-true, true≢false, false_from_ne_true}
 use Rattle.rx_rules.specs.Code.{Stmt, SetTo, New, Get, Put, Forget, Census, Print, Throw, Async, AtAsync, At, Finish, If, Repeat, Try, Block, Nothing, Then}
 use Rattle.rx_rules.specs.Terms.{at}
-use Rattle.rx_rules.specs.Order.{is_kept_in, is_before, is_before_in, comes_before}
+use Rattle.rx_rules.specs.Order.{is_kept_in, before_inside, is_before_in, comes_before}
 
 -- y begins with x
 abbrev pub Starts : List ℕ → List ℕ → Type 0
@@ -105,7 +105,7 @@ below_turn k m i j x y inside kept false false he hl f h = absurd (true≢false 
 
 -- the order of statement instances is part of `Below`
 mutual
-  before-below : (s : Stmt) (x y : List ℕ) → is_before s x y ≡ true → Below x y
+  before-below : (s : Stmt) (x y : List ℕ) → before_inside s x y ≡ true → Below x y
   before-below (SetTo name value) x y h = absurd (true≢false (sym h))
   before-below (New name words) x y h = absurd (true≢false (sym h))
   before-below (Get name target index) x y h = absurd (true≢false (sym h))

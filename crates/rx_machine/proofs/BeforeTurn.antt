@@ -10,7 +10,7 @@ use Rattle.rx_rules.specs.Run.{Given, Proper, Event, NoRoot, NoneDue, IsDue}
 use Rattle.rx_rules.specs.Picked.{Game, enabled, tree_in}
 use Rattle.rx_sound.specs.Sound.{ReachedSound}
 use Rattle.rx_sound.specs.Histories.{FoldReached, RootStands}
-use Rattle.rx_sound.specs.Enabling.{NoneLeft}
+use Rattle.rx_sound.specs.Enabling.{IdleIsQuiet}
 use Rattle.rx_runs.specs.Coming.{CameTo, GamesCome}
 use Rattle.rx_runs.proofs.Endings.{root_empties}
 use Rattle.rx_history.specs.Logs.{Log}
@@ -22,7 +22,7 @@ use Rattle.rx_machine.specs.Slots.{seat_at}
 use Rattle.rx_machine.specs.Holds.{Seated, Holds, CanTurn, Releasing}
 use Rattle.rx_machine.specs.Runs.{Calm, Falling, Taken}
 use Rattle.rx_machine.specs.Picking.{IsReady}
-use Rattle.rx_machine.specs.Origins.{TellsOrigins}
+use Rattle.rx_origins.specs.Origins.{TellsOrigins}
 use Rattle.rx_machine.proofs.Readying.{ready_slots}
 use Rattle.rx_machine.proofs.EnabledTasks.{able_from, enabled_rows, able_length, able_at}
 
@@ -85,7 +85,7 @@ calm stands shape code U m G n can at none ready told =
     }
 
 -- where the numbers are none, no task is enabled, and the root may be released
-pub releasing : {L : Type 0} (stands : L → ℕ → Tree → Type 0) (shape : Shape) (code : Block) (U : Given) (m : Machine L) (G : Game) → GamesCome → ReachedSound → NoneLeft → RootStands → Calm stands shape code U m G → m.ready.tasks.members ≡ able_from (tree_in U G) 0 m.seats.items → length m.ready.tasks.members ≡ 0 → Releasing stands shape code U m G
+pub releasing : {L : Type 0} (stands : L → ℕ → Tree → Type 0) (shape : Shape) (code : Block) (U : Given) (m : Machine L) (G : Game) → GamesCome → ReachedSound → IdleIsQuiet → RootStands → Calm stands shape code U m G → m.ready.tasks.members ≡ able_from (tree_in U G) 0 m.seats.items → length m.ready.tasks.members ≡ 0 → Releasing stands shape code U m G
 releasing stands shape code U m G come sound quiets roots quietly able none =
     let can = quietly.can in
     let on = can.holds.shares.on in

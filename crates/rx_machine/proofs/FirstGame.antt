@@ -17,8 +17,8 @@ use Rattle.rx_machine.specs.Held.{is_held, HeldInFront}
 use Rattle.rx_machine.specs.Slots.{SlotIs, seat_at, live_in, root_row}
 use Rattle.rx_sound.specs.Enabling.{able_in}
 use Rattle.rx_machine.specs.Picking.{IsReady}
-use Rattle.rx_machine.specs.Origins.{TellsOrigins}
-use Rattle.rx_machine.specs.declared.enabled.Origin.{Origin}
+use Rattle.rx_origins.specs.Origins.{TellsOrigins}
+use Rattle.rx_origins.specs.declared.origin.Origin.{Origin}
 use Rattle.rx_stores.specs.Kepts.{StoresAre}
 use Rattle.rx_machine.specs.Holds.{RunsOn, Seated}
 use Rattle.rx_machine.proofs.Holding.{unheld-front, unheld-items}

@@ -18,7 +18,7 @@ use Rattle.rx_nodes.specs.Shape.{Shape}
 use Rattle.rx_machine.specs.declared.machine.Machine.{Machine}
 use Rattle.rx_machine.specs.Slots.{SlotIs, seat_at}
 use Rattle.rx_machine.specs.Picking.{IsReady}
-use Rattle.rx_machine.specs.Origins.{TellsOrigins}
+use Rattle.rx_origins.specs.Origins.{TellsOrigins}
 use Rattle.rx_stores.specs.Kepts.{StoresAre}
 use Rattle.rx_machine.specs.Runs.{Falling, WentOn}
 use Rattle.rx_machine.proofs.Own.{slot-on}

@@ -29,11 +29,11 @@ use Rattle.rx_runs.specs.Ties.{MayCome}
 use Rattle.rx_runs.proofs.Planned.{due_planned}
 use Rattle.rx_machine.specs.declared.machine.Machine.{Machine}
 use Rattle.rx_machine.specs.declared.enabled.Ready.{Ready}
-use Rattle.rx_machine.specs.declared.enabled.Origin.{Origin}
+use Rattle.rx_origins.specs.declared.origin.Origin.{Origin}
 use Rattle.rx_machine.specs.declared.seat.Seat.{Seat}
 use Rattle.rx_machine.specs.Slots.{live_task, SlotIs, seat_at}
 use Rattle.rx_machine.specs.Picking.{slot_able, is_listed, IsReady}
-use Rattle.rx_machine.specs.Origins.{TellsOrigins, origin_in, origin_by}
+use Rattle.rx_origins.specs.Origins.{TellsOrigins, origin_in, origin_by}
 use Rattle.rx_machine.specs.Holds.{Seated, Holds, CanTurn}
 use Rattle.rx_machine.specs.Runs.{HasMoved, HasFallen, AfterTurn, WentOn, Taken}
 use Rattle.rx_machine.proofs.Finding.{same_or_not}

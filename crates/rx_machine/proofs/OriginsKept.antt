@@ -23,10 +23,10 @@ use Rattle.rx_sound.specs.Enabling.{unstruck_in, is_left, nearest_opener, GoesUp
 use Rattle.rx_sound.proofs.Changes.{each_more, each_found, each_change, each_filter}
 use Rattle.rx_sound.proofs.Reach.{task_below}
 use Rattle.rx_nodes.specs.Shape.{Shape}
-use Rattle.rx_machine.specs.declared.enabled.Origin.{Origin}
+use Rattle.rx_origins.specs.declared.origin.Origin.{Origin}
 use Rattle.rx_machine.specs.declared.seat.Seat.{Seat}
 use Rattle.rx_machine.specs.Slots.{live_task, live_in, SlotIs, seat_at, seat_in}
-use Rattle.rx_machine.specs.Origins.{OriginIsTold, TellsOrigins, origin_in}
+use Rattle.rx_origins.specs.Origins.{OriginIsTold, TellsOrigins, origin_in}
 use Rattle.rx_machine.proofs.Finding.{get_before}
 use Rattle.rx_machine.proofs.Live.{live_stands, stands_live, change-same, add-other, release-live}
 

@@ -4,7 +4,7 @@ use Rattle.std.specs.Prelude.{nat_lt, ◌&&◌}
 use Rattle.std.proofs.lemmas.Bool.Decides.{nat_tests}
 use Rattle.rx_rules.specs.Code.{Stmt, SetTo, New, Get, Put, Forget, Print, Census, Throw, Async, AtAsync, At, Finish, If, Repeat, Try, Block, Nothing, Then, work}
 use Rattle.rx_rules.specs.Run.{Given, Proper}
-use Rattle.rx_nodes.specs.Grammar.{Fits, AllFit, may_hold}
+use Rattle.rx_nodes.specs.Grammar.{InRange, AllInRange, may_hold}
 use Rattle.rx_runs.specs.SomeWords.{MakesSome, StmtMakesSome}
 use Rattle.rx_machine.specs.Holds.{RunsOn}
 
@@ -17,7 +17,7 @@ some-words k e = by-test (nat_lt 0 k) refl e
 
 -- in a script of the grammar each `new` asks for a word
 mutual
-  pub stmt-makes : (t : Stmt) → Fits t → StmtMakesSome t
+  pub stmt-makes : (t : Stmt) → InRange t → StmtMakesSome t
   stmt-makes (SetTo n e) f = tt
   stmt-makes (New n k) f = some-words k f
   stmt-makes (Get n t e) f = tt
@@ -34,10 +34,10 @@ mutual
   stmt-makes (Repeat n b) f = makes-some b f.1
   stmt-makes (Try a d b) f = (makes-some a f.0, makes-some b f.1)
 
-  pub makes-some : (b : Block) → AllFit b → MakesSome b
+  pub makes-some : (b : Block) → AllInRange b → MakesSome b
   makes-some Nothing f = tt
   makes-some (Then t ts) f = (stmt-makes t f.0, makes-some ts f.1)
 
 -- under a proper setup a machine runs on with it
-pub runs-on : (code : Block) (U : Given) → Proper U → AllFit code → work code ≤ 100000 → RunsOn code U
+pub runs-on : (code : Block) (U : Given) → Proper U → AllInRange code → work code ≤ 100000 → RunsOn code U
 runs-on code U proper fits few = record { proper = proper; few = few; makes = makes-some code fits }

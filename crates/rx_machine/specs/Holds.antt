@@ -20,7 +20,7 @@ use Rattle.rx_machine.specs.declared.machine.Machine.{Machine}
 use Rattle.rx_machine.specs.declared.seat.Seat.{Seat}
 use Rattle.rx_machine.specs.Slots.{SlotIs, IsSeat, seat_at}
 use Rattle.rx_machine.specs.Picking.{IsReady}
-use Rattle.rx_machine.specs.Origins.{TellsOrigins}
+use Rattle.rx_origins.specs.Origins.{TellsOrigins}
 
 -- a script and a setup for which a machine runs on: a checked script and a proper setup
 pub record RunsOn (code : Block) (U : Given) : Type 0 where

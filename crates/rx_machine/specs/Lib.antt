@@ -2,7 +2,6 @@ pub mod Held
 pub mod Spine
 pub mod Slots
 pub mod Picking
-pub mod Origins
 pub mod Holds
 pub mod Refusals
 pub mod Runs

@@ -17,7 +17,7 @@ use Rattle.rx_machine.specs.declared.machine.Machine.{Machine}
 use Rattle.rx_machine.specs.declared.seat.Seat.{Seat}
 use Rattle.rx_machine.specs.Slots.{seat_at}
 use Rattle.rx_machine.specs.Picking.{IsReady}
-use Rattle.rx_machine.specs.Origins.{TellsOrigins}
+use Rattle.rx_origins.specs.Origins.{TellsOrigins}
 use Rattle.rx_machine.specs.Holds.{Seated, Holds, Finished, CanTurn, LeadsTo}
 use Rattle.rx_machine.specs.Refusals.{HasFailed}
 

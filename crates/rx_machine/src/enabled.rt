@@ -12,20 +12,13 @@ ghost use Rattle.rx_machine.specs.Holds.{Holds, CanTurn, Finished};
 ghost use Rattle.rx_machine.specs.Inside.Games.{SomeTurning, EachTurning, SomeMoved, EachMoved};
 ghost use Rattle.rx_machine.specs.Refusals.{HasFailed};
 ghost use Rattle.rx_machine.specs.Picking.{slot_able, is_listed, IsReady};
-ghost use Rattle.rx_machine.specs.Origins.{TellsOrigins, origin_in as told_in, origin_by as told_by};
+ghost use Rattle.rx_origins.specs.Origins.{TellsOrigins};
 
 use crate::machine::Machine;
 use rx_base::{ScopeId, TaskId};
 use rx_finish::FinishLedger;
+use rx_origins::{Origin, origin_by};
 use rx_rank::Ranks;
-use rx_rules::{Act, Entry};
-
-/// Who opened a scope, and the scope inside which it was opened.
-#[derive(Clone, Copy, Debug, PartialEq, Eq)]
-pub struct Origin {
-    pub opener: TaskId,
-    pub parent: ScopeId,
-}
 
 /// The numbers of the enabled tasks, and the origins of scopes, by which the end of a task finds whom it may free.
 #[derive(Drop)]
@@ -200,54 +193,6 @@ impl<L: FinishLedger> Machine<L> {
             ≡ marked (slot_able (tree_in U G) (seat_at self.old.seats.items i)) i self.old.ready.tasks.members) }
     {
         let able = self.is_able(i);
-        set_mark(&mut self.ready.tasks, i as u32, able);
-    }
-}
-
-/// The origin of the scope that an entry opens.
-fn origin_by(entry: &Entry) -> Option<Origin>
-    ensures { result ≡ told_by entry.now }
-{
-    match entry {
-        Entry::Step { task, act, .. } => origin_in(*task, act),
-        Entry::Root { .. } => None,
-        Entry::Death { .. } => None,
-        Entry::Join { .. } => None,
-    }
-}
-
-/// The origin of the scope that an act of a task opens.
-fn origin_in(opener: TaskId, act: &Act) -> Option<Origin>
-    ensures { result ≡ told_in opener act.now }
-{
-    match act {
-        Act::Open { parent, .. } => Some(Origin {
-            opener,
-            parent: *parent,
-        }),
-        Act::At { parent, .. } => Some(Origin {
-            opener,
-            parent: *parent,
-        }),
-        Act::Spawn { .. } => None,
-        Act::Arrive { .. } => None,
-        Act::Wait { .. } => None,
-        Act::Release { .. } => None,
-        Act::End { .. } => None,
-        Act::Print { .. } => None,
-        Act::Census { .. } => None,
-    }
-}
-
-/// Puts a number into a set, or takes it out.
-fn set_mark(tasks: &mut Ranks, n: u32, stands: bool)
-    requires { n < tasks.old.room }
-    ensures room { tasks.new.room ≡ tasks.old.room }
-    ensures members { tasks.new.members ≡ marked stands n tasks.old.members }
-{
-    if stands {
-        tasks.insert(n);
-    } else {
-        tasks.remove(n);
+        self.ready.tasks.set(i as u32, able);
     }
 }

@@ -6,7 +6,7 @@ ghost use Rattle.rx_rules.specs.Run.{Given};
 ghost use Rattle.rx_rules.specs.Picked.{Game, tree_in};
 ghost use Rattle.rx_nodes.specs.Shape.{Shape};
 ghost use Rattle.rx_machine.specs.Picking.{IsReady};
-ghost use Rattle.rx_machine.specs.Origins.{TellsOrigins};
+ghost use Rattle.rx_origins.specs.Origins.{TellsOrigins};
 ghost use Rattle.rx_machine.specs.Runs.{Falling, WentOn};
 ghost use Rattle.rx_machine.specs.Inside.Games.{EachFalling};
 

@@ -7,7 +7,7 @@ ghost use Rattle.rx_rules.specs.Run.{Given};
 ghost use Rattle.rx_rules.specs.Picked.{Game, Turn as MadeTurn, tree_in};
 ghost use Rattle.rx_nodes.specs.Shape.{Shape};
 ghost use Rattle.rx_machine.specs.Picking.{IsReady};
-ghost use Rattle.rx_machine.specs.Origins.{TellsOrigins};
+ghost use Rattle.rx_origins.specs.Origins.{TellsOrigins};
 ghost use Rattle.rx_machine.specs.Holds.{Finished, LeadsTo};
 ghost use Rattle.rx_machine.specs.Refusals.{HasBegun};
 ghost use Rattle.rx_machine.specs.Runs.{Falling, WentOn, CanRun, HasGoneOn, HasEnded, WasRefused};

@@ -71,31 +71,31 @@ may_turn n = nat_lt n 1000001
 
 -- the numbers after `new` and `repeat` are in their ranges
 abbrev mutual
-  pub Fits : Stmt → Type 0
-  Fits (SetTo n e) = Unit {0}
-  Fits (New n k) = may_hold k ≡ true
-  Fits (Get n t e) = Unit {0}
-  Fits (Put t i e) = Unit {0}
-  Fits (Forget t) = Unit {0}
-  Fits (Census n) = Unit {0}
-  Fits (Print e) = Unit {0}
-  Fits (Throw e) = Unit {0}
-  Fits (Async b) = AllFit b
-  Fits (AtAsync e b) = AllFit b
-  Fits (At e b) = AllFit b
-  Fits (Finish b) = AllFit b
-  Fits (If e a b) = AllFit a × AllFit b
-  Fits (Repeat n b) = (may_turn n ≡ true) × AllFit b
-  Fits (Try a d b) = AllFit a × AllFit b
+  pub InRange : Stmt → Type 0
+  InRange (SetTo n e) = Unit {0}
+  InRange (New n k) = may_hold k ≡ true
+  InRange (Get n t e) = Unit {0}
+  InRange (Put t i e) = Unit {0}
+  InRange (Forget t) = Unit {0}
+  InRange (Census n) = Unit {0}
+  InRange (Print e) = Unit {0}
+  InRange (Throw e) = Unit {0}
+  InRange (Async b) = AllInRange b
+  InRange (AtAsync e b) = AllInRange b
+  InRange (At e b) = AllInRange b
+  InRange (Finish b) = AllInRange b
+  InRange (If e a b) = AllInRange a × AllInRange b
+  InRange (Repeat n b) = (may_turn n ≡ true) × AllInRange b
+  InRange (Try a d b) = AllInRange a × AllInRange b
 
-  pub AllFit : Block → Type 0
-  AllFit Nothing = Unit {0}
-  AllFit (Then t ts) = Fits t × AllFit ts
+  pub AllInRange : Block → Type 0
+  AllInRange Nothing = Unit {0}
+  AllInRange (Then t ts) = InRange t × AllInRange ts
 
 -- the bytes are a script with these names
 pub record IsScriptOf (names : List (List ℕ)) (bytes : List ℕ) (b : Block) : Type 0 where
   pub lexes : Lexes names bytes (spellings b)
-  pub fits : AllFit b
+  pub fits : AllInRange b
 
 -- the bytes are a script
 abbrev pub IsScript : List ℕ → Block → Type 0

@@ -1,7 +1,7 @@
 -- What a script by number keeps.
 use Rattle.rx_rules.specs.Code.{Block}
 use Rattle.rx_nodes.specs.Shape.{Shape, IsSmall, Stands}
-use Rattle.rx_nodes.specs.Grammar.{AllFit, spellings}
+use Rattle.rx_nodes.specs.Grammar.{AllInRange, spellings}
 use Rattle.rx_token.specs.Tokens.{AreNames}
 use Rattle.rx_token.specs.Texts.{AreSpelled}
 
@@ -10,6 +10,6 @@ pub record IsWhole (s : Shape) : Type 0 where
   pub small : IsSmall s.blocks
   pub tree : Block
   pub stands : Stands s tree
-  pub fits : AllFit tree
+  pub fits : AllInRange tree
   pub names : AreNames s.names (spellings tree)
   pub spelled : AreSpelled (spellings tree)

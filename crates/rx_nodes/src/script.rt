@@ -4,7 +4,7 @@ ghost use Rattle.rx_rules.specs.Code.{Block};
 ghost use Rattle.rx_nodes.specs.Shape.{Stands};
 ghost use Rattle.rx_nodes.specs.Arenas.{shape_from};
 ghost use Rattle.rx_nodes.specs.Whole.{IsWhole};
-ghost use Rattle.rx_nodes.specs.Grammar.{AllFit, spellings};
+ghost use Rattle.rx_nodes.specs.Grammar.{AllInRange, spellings};
 ghost use Rattle.rx_token.specs.Tokens.{AreNames};
 ghost use Rattle.rx_token.specs.Texts.{AreSpelled};
 
@@ -113,7 +113,7 @@ impl Script {
 
 /// A law: each script stands for statements of the grammar, with its names.
 pub fn whole(script: &Script)
-    ensures { (t : Block) × Stands script.now t × AllFit t × AreNames script.now.names (spellings t) × AreSpelled (spellings t) }
+    ensures { (t : Block) × Stands script.now t × AllInRange t × AreNames script.now.names (spellings t) × AreSpelled (spellings t) }
 {
     let _ = &script.top;
 }

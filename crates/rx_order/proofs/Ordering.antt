@@ -4,7 +4,7 @@ use Rattle.std.specs.Prelude.{Option, Some, None, slice_get, ◌==◌, nat_lt}
 use Rattle.std.proofs.lemmas.Bool.Decides.{nat_tests}
 use Rattle.rx_base.proofs.Elements.{drop-next}
 use Rattle.rx_rules.specs.Code.{Stmt, Block, SetTo, New, Get, Put, Forget, Census, Print, Throw, Async, AtAsync, At, Finish, If, Repeat, Try}
-use Rattle.rx_rules.specs.Order.{is_before, is_before_in, comes_before}
+use Rattle.rx_rules.specs.Order.{before_inside, is_before_in, comes_before}
 use Rattle.rx_nodes.specs.Shape.{Shape, BlockStands}
 use Rattle.rx_order.specs.declared.parts.Part.{Part}
 use Rattle.rx_order.specs.Inside.Parts.{is_kept_along, part_in, is_ordered, IsPart}
@@ -29,7 +29,7 @@ by_parts ordered None q = false
 by_parts ordered (Some p) None = false
 by_parts ordered (Some p) (Some q) = by_numbers p.0 q.0 ordered (comes_before p.1 p.2 q.2) (is_kept_along p.1 p.2)
 
-pub before-is : (t : Stmt) (x y : List ℕ) → is_before t x y ≡ by_parts (is_ordered t) (part_in t x) (part_in t y)
+pub before-is : (t : Stmt) (x y : List ℕ) → before_inside t x y ≡ by_parts (is_ordered t) (part_in t x) (part_in t y)
 before-is (SetTo n e) x y = refl
 before-is (New n k) x y = refl
 before-is (Get n u i) x y = refl
@@ -89,14 +89,14 @@ before-is (Try a d b) (suc zero ∷ i ∷ x) (suc zero ∷ j ∷ y) = refl
 before-is (Try a d b) (suc zero ∷ i ∷ x) (suc (suc m) ∷ y) = refl
 
 -- one path goes nowhere inside the statement
-pub before-out : (s : Shape) (path : List ℕ) (n : ℕ) (t : Stmt) (x y : List ℕ) → IsPart s path n None (part_in t x) → false ≡ is_before t x y
+pub before-out : (s : Shape) (path : List ℕ) (n : ℕ) (t : Stmt) (x y : List ℕ) → IsPart s path n None (part_in t x) → false ≡ before_inside t x y
 before-out s path n t x y h = sym (before-is t x y ∙ none (part_in t x) h)
   where
     none : (p : Option (ℕ × Block × List ℕ)) → IsPart s path n None p → by_parts (is_ordered t) p (part_in t y) ≡ false
     none None h = refl
     none (Some p) h = absurd h
 
-pub before-other-out : (s : Shape) (path : List ℕ) (n : ℕ) (t : Stmt) (x y : List ℕ) → IsPart s path n None (part_in t y) → false ≡ is_before t x y
+pub before-other-out : (s : Shape) (path : List ℕ) (n : ℕ) (t : Stmt) (x y : List ℕ) → IsPart s path n None (part_in t y) → false ≡ before_inside t x y
 before-other-out s path n t x y h = sym (before-is t x y ∙ none (part_in t x) (part_in t y) h)
   where
     none : (p q : Option (ℕ × Block × List ℕ)) → IsPart s path n None q → by_parts (is_ordered t) p q ≡ false
@@ -111,7 +111,7 @@ pub record Both (s : Shape) (x y : List ℕ) (n : ℕ) (r q : Part) (ordered val
   pub same : value ≡ by_numbers r.number q.number ordered (comes_before block (drop r.at x) (drop r.at y)) (is_kept_along block (drop r.at x))
   pub at : r.at ≡ n
 
-pub before-both : (s : Shape) (x y : List ℕ) (n : ℕ) (r q : Part) (t : Stmt) (u v : List ℕ) → IsPart s x n (Some r) (part_in t u) → IsPart s y n (Some q) (part_in t v) → Both s x y n r q (is_ordered t) (is_before t u v)
+pub before-both : (s : Shape) (x y : List ℕ) (n : ℕ) (r q : Part) (t : Stmt) (u v : List ℕ) → IsPart s x n (Some r) (part_in t u) → IsPart s y n (Some q) (part_in t v) → Both s x y n r q (is_ordered t) (before_inside t u v)
 before-both s x y n r q t u v h k =
     let P : Bool → Type 0 = λ b. Both s x y n r q (is_ordered t) b in
     subst P (sym (before-is t u v)) (by-options (part_in t u) (part_in t v) h k)

@@ -3,7 +3,7 @@ use Rattle.std.proofs.Common.{◌≡◌, ℕ, zero, suc, ◌<◌, ◌≤◌, fal
 use Rattle.std.specs.Prelude.{Option, Some, None, IfSome, slice_get}
 use Rattle.std.proofs.lemmas.Option.{slice_get_within, same_Some}
 use Rattle.rx_rules.specs.Code.{Stmt, Block, Nothing, Then}
-use Rattle.rx_rules.specs.Order.{is_kept, is_kept_in, is_before, is_before_in}
+use Rattle.rx_rules.specs.Order.{is_kept, is_kept_in, before_inside, is_before_in}
 use Rattle.rx_nodes.specs.Shape.{Shape, StmtIs, ListStands, BlockStands}
 use Rattle.rx_nodes.specs.declared.nodes.StmtId.{StmtId}
 use Rattle.rx_nodes.specs.declared.nodes.BlockId.{BlockId}
@@ -71,9 +71,9 @@ before-none Nothing i x y e = refl
 before-none (Then t ts) zero x y e = cc
 before-none (Then t ts) (suc i) x y e = before-none ts i x y e
 
-pub before-some : (b : Block) (i : ℕ) (x y : List ℕ) (t : Stmt) → item_of b i ≡ Some t → is_before_in b i x i y ≡ is_before t x y
+pub before-some : (b : Block) (i : ℕ) (x y : List ℕ) (t : Stmt) → item_of b i ≡ Some t → is_before_in b i x i y ≡ before_inside t x y
 before-some Nothing i x y t e = cc
-before-some (Then u us) zero x y t e = ap (λ v. is_before v x y) (same_Some u t e)
+before-some (Then u us) zero x y t e = ap (λ v. before_inside v x y) (same_Some u t e)
 before-some (Then u us) (suc i) x y t e = before-some us i x y t e
 
 pub before-less : (b : Block) (i : ℕ) (x : List ℕ) (j : ℕ) (y : List ℕ) → i < j → is_before_in b i x j y ≡ is_kept_in b i x

@@ -1,7 +1,7 @@
 // The order of two paths.
 ghost use Rattle.std.specs.Prelude.{◌≡◌, ◌<◌, ◌+◌, drop, length};
 ghost use Rattle.rx_rules.specs.Code.{Stmt as Tree, Block};
-ghost use Rattle.rx_rules.specs.Order.{comes_before, is_before};
+ghost use Rattle.rx_rules.specs.Order.{comes_before, before_inside};
 ghost use Rattle.rx_nodes.specs.Shape.{Shape, Stands, StmtIs, BlockStands};
 ghost use Rattle.rx_order.specs.Inside.Parts.{WalkGoes, is_ordered};
 
@@ -59,7 +59,7 @@ fn step(script: &Script, block: BlockId, x: &Path, y: &Path, at: usize) -> Walk
 // From inside a statement on, along which both go.
 fn inside(script: &Script, stmt: Stmt, x: &Path, y: &Path, at: usize) -> Walk
     requires { (t : Tree) × StmtIs script.now stmt t }
-    ensures { (t : Tree) → StmtIs script.now stmt t → WalkGoes script.now at result (is_before t (drop at x.now) (drop at y.now))
+    ensures { (t : Tree) → StmtIs script.now stmt t → WalkGoes script.now at result (before_inside t (drop at x.now) (drop at y.now))
         (λ c k. comes_before c (drop k x.now) (drop k y.now)) }
 {
     match part_of(stmt, x, at) {

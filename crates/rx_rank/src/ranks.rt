@@ -1,7 +1,7 @@
 // The set of numbers.
 ghost use Rattle.std.specs.Prelude.{◌≡◌, ℕ, ◌+◌, ◌*◌, ◌/◌, ◌^◌, ◌<◌, ◌≤◌, ◌↔◌, [], Some, IsTrue, IfOk, OnOk, OnErr, Contains, length};
 ghost use Rattle.std.specs.Prelude.{slice_get};
-ghost use Rattle.rx_rank.specs.Numbers.{inserted, removed, Ascends};
+ghost use Rattle.rx_rank.specs.Numbers.{inserted, removed, marked, Ascends};
 ghost use Rattle.rx_rank.specs.Counts.{numbers, IsCounted, IsKept};
 
 use crate::counts::{doubled, holds, leaves, mark, nth};
@@ -72,6 +72,19 @@ impl Ranks {
         ensures room { self.new.room ≡ self.old.room }
     {
         mark(&mut self.nodes, self.height, 0, x, true);
+    }
+
+    /// Puts a number below the room into the set, or takes it out.
+    pub fn set(&mut self, x: u32, stands: bool)
+        requires { x < self.old.room }
+        ensures members { self.new.members ≡ marked stands x self.old.members }
+        ensures room { self.new.room ≡ self.old.room }
+    {
+        if stands {
+            self.insert(x);
+        } else {
+            self.remove(x);
+        }
     }
 
     /// Takes a number out of the set. It changes nothing where the number is not there.

@@ -16,7 +16,7 @@ use Rattle.rx_rules.proofs.Numbers.{scope-after_end, next-tree}
 use Rattle.rx_runs.specs.Costs.{cost}
 use Rattle.rx_runs.specs.Games.{GameOk, PlayerSo}
 use Rattle.rx_runs.specs.Coming.{GamesCome, GoesOn}
-use Rattle.rx_runs.specs.Framing.{AllFit}
+use Rattle.rx_runs.specs.Framing.{TermsFit}
 use Rattle.rx_runs.proofs.Fitting.{fits_keeps, starts_fit}
 use Rattle.rx_runs.proofs.Going.{next_of}
 use Rattle.rx_runs.proofs.Pairs.{pairs-length}
@@ -77,7 +77,7 @@ stood (Root lost masked thrown ∷ es) e h = absurd h
 stood (Death d ∷ es) e h = stood es e h
 stood (Join p ∷ es) e h = stood es e h
 
-came : (code : Block) (U : Given) (G : Game) → Proper U → Comes code U G → NoRoot G.entries → GameOk code U G × AllFit (tree_in U G) G.players × (total G ≤ total (start_game code U))
+came : (code : Block) (U : Given) (G : Game) → Proper U → Comes code U G → NoRoot G.entries → GameOk code U G × TermsFit (tree_in U G) G.players × (total G ≤ total (start_game code U))
 came code U G proper opens h = (starts_ok code U proper, starts_fit code U, omega arith)
 came code U G' proper (turns {G = G} c free t) h =
     let before = came code U G proper c free in

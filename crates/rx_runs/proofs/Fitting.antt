@@ -40,7 +40,7 @@ use Rattle.rx_sound.proofs.Reach.{task_below, fits_of}
 use Rattle.rx_sound.proofs.Reached.{sound, stays_at_release}
 use Rattle.rx_sound.proofs.Owning.{release_pops}
 use Rattle.rx_sound.proofs.Waiting.{OpenersBelow, openers_below, hit_free, hit_waits}
-use Rattle.rx_runs.specs.Framing.{frames, first, Flat, Shape, kinds_of, Match, TermFits, AllFit}
+use Rattle.rx_runs.specs.Framing.{frames, first, Flat, Shape, kinds_of, Match, TermFits, TermsFit}
 use Rattle.rx_runs.specs.Games.{GameOk, PlayerSo}
 use Rattle.rx_runs.proofs.Asking.{one_task}
 use Rattle.rx_runs.proofs.Framing.{Framed, Stored, enough, all_framed, flat_items, flat_shape, flat_frames}
@@ -287,14 +287,14 @@ set_other (x ∷ xs) (suc k) (suc i) a o = set_other xs k i a (λ e. o (ap suc e
 abbrev kids : Player → Option TaskId → List Player
 kids p o = elim o as (λ _. List Player) [ Some c ↦ record { term = child p.term; vars = p.vars; batch = [] } ∷ [] | None ↦ [] ]
 
-module _ (T : Tree) (r : Reached T) (players : List Player) (size : length players ≡ T.next_task) (all : AllFit T players) where
+module _ (T : Tree) (r : Reached T) (players : List Player) (size : length players ≡ T.next_task) (all : TermsFit T players) where
   -- another task that lived before
   other_fits : (t : TaskId) (act : Act) → AllowedAct T t act → (u : TaskId) (y : Task) (p : Player) → t.0 ≢ u.0 → u.0 < T.next_task → task_of (made_act T t act) u ≡ Some y → y.struck ≡ None → slice_get players u.0 ≡ Some p → TermFits (kinds_of (made_act T t act) u) y.waits p.term
   other_fits t act may u y p o low found free at =
       let s = other_act T t act (sound r) may u y o low found free in
       subst (λ (ks : List Kind). TermFits ks y.waits p.term) (sym s.kinds) (all u y p s.found free at)
 
-  fits_move : (t : TaskId) (x : Task) (here : PlaceId) (places : ℕ) (q : Player) (d : Does) (act : Act) → task_of T t ≡ Some x → TermFits (kinds_of T t) x.waits q.term → Framed places q.term d → Fits here q.term d act → AllowedAct T t act → AllFit (made_act T t act) (slice_set players t.0 (acted here q act) ++ child_of q act)
+  fits_move : (t : TaskId) (x : Task) (here : PlaceId) (places : ℕ) (q : Player) (d : Does) (act : Act) → task_of T t ≡ Some x → TermFits (kinds_of T t) x.waits q.term → Framed places q.term d → Fits here q.term d act → AllowedAct T t act → TermsFit (made_act T t act) (slice_set players t.0 (acted here q act) ++ child_of q act)
   fits_move t x here places q d act found fit f fits may u y p there free at =
       let last : Player = acted here q act in
       let low : t.0 < T.next_task = task_below T.next_task T.tasks t x (sound r).tasks_fall found in
@@ -327,7 +327,7 @@ module _ (T : Tree) (r : Reached T) (players : List Player) (size : length playe
           (subst (λ (v : Player). TermFits (kinds_of (made_act T t act) c) y.waits v.term) k.0
           (child_fits T t c y here places q.term d act r low f fits may e (subst (λ (v : TaskId). task_of (made_act T t act) v ≡ Some y) (sym same) there)))
 
-  fits_arrival : (t : TaskId) (p : PlaceId) → AllowedAct T t (Arrive p) → AllFit (made_act T t (Arrive p)) players
+  fits_arrival : (t : TaskId) (p : PlaceId) → AllowedAct T t (Arrive p) → TermsFit (made_act T t (Arrive p)) players
   fits_arrival t p may u y o there free at =
       (elim (t.0 == u.0) as (λ b. t.0 == u.0 ≡ b → TermFits (kinds_of T u) y.waits o.term) [
         | true ↦ λ e.
@@ -344,7 +344,7 @@ module _ (T : Tree) (r : Reached T) (players : List Player) (size : length playe
       within_next : (u : TaskId) (o : Player) → slice_get players u.0 ≡ Some o → u.0 < T.next_task
       within_next u o at = let low : u.0 < length players = slice_get_within players u.0 o at in omega arith
 
-  fits_end : (t : TaskId) (faults : List Fault) → AllowedAct T t (End faults) → AllFit (made_act T t (End faults)) players
+  fits_end : (t : TaskId) (faults : List Fault) → AllowedAct T t (End faults) → TermsFit (made_act T t (End faults)) players
   fits_end t faults may u y o there free at =
       (elim (t.0 == u.0) as (λ b. t.0 == u.0 ≡ b → TermFits (kinds_of (made_act T t (End faults)) u) y.waits o.term) [
         | true ↦ λ e.
@@ -359,14 +359,14 @@ module _ (T : Tree) (r : Reached T) (players : List Player) (size : length playe
       after_tasks : (x : Task) → task_of T t ≡ Some x → (after_end T t faults).tasks ≡ filter (λ z. not (is_task t z)) T.tasks
       after_tasks x e = rw (e, after_end) refl
 
-  fits_death : (b : Blow) → AllFit (strike b T) players
+  fits_death : (b : Blow) → TermsFit (strike b T) players
   fits_death b u y o there free at =
       let old = find_unmap (is_task u) (hit b) (λ x. ap (λ (v : TaskId). v.0 == u.0) (hit_number b x)) T.tasks y there in
       let free2 : old.0.struck ≡ None = hit_free b old.0 (ap (λ (v : Task). v.struck) (sym old.2) ∙ free) in
       subst (λ (w : Bool). TermFits (kinds_of T u) w o.term) (sym (ap (λ (v : Task). v.waits) old.2 ∙ hit_waits b old.0)) (all u old.0 o old.1 free2 at)
 
   -- what is planned
-  fits_due : (n : ℕ) (e : Entry) → IsPlanned e → AllFit (made n T e) players
+  fits_due : (n : ℕ) (e : Entry) → IsPlanned e → TermsFit (made n T e) players
   fits_due n (Death d) h = fits_death (record { place = d; entry = n })
   fits_due n (Join p) h = all
   fits_due n (Step t act batch) h = absurd h
@@ -401,7 +401,7 @@ goes_frames {here = here} {p = p} (stores cell x a tells at may g) shape =
     let more = goes_frames g keeps.0 in
     (more.0, more.1 ∙ keeps.1)
 
-pub starts_fit : (code : Block) (U : Given) → AllFit (tree_in U (start_game code U)) (start_game code U).players
+pub starts_fit : (code : Block) (U : Given) → TermsFit (tree_in U (start_game code U)) (start_game code U).players
 starts_fit code U u x p found free at =
     let first_is : (v : ℕ) → slice_get ((start_game code U).players) v ≡ Some p → record { term = items code [] Empty; vars = no_vars U.places; batch = [] } ≡ p = at_zero in
     subst (λ (v : Player). TermFits (kinds_of (tree_in U (start_game code U)) u) x.waits v.term) (first_is u.0 at)
@@ -428,12 +428,12 @@ place_inside code U G ok x here stands at =
     let fits = fits_of (tree_in U G) x.number x (sound (reached_in code U G ok)) stands in
     subst (Inside (tree_in U G).places) at fits.inside
 
-pub fits_keeps : (code : Block) (U : Given) (n : ℕ) (used : Bool) (G G' : Game) → GameOk code U G → AllFit (tree_in U G) G.players → Turn U n G used G' → NoRoot G'.entries → AllFit (tree_in U G') G'.players
+pub fits_keeps : (code : Block) (U : Given) (n : ℕ) (used : Bool) (G G' : Game) → GameOk code U G → TermsFit (tree_in U G) G.players → Turn U n G used G' → NoRoot G'.entries → TermsFit (tree_in U G') G'.players
 fits_keeps code U n used G G' ok all (picked.due e now) free =
-    subst (λ (V : Tree). AllFit V G.players) (sym (tree-push U.places G.entries e))
+    subst (λ (V : Tree). TermsFit V G.players) (sym (tree-push U.places G.entries e))
     (fits_due (tree_in U G) (reached_in code U G ok) G.players (next_is code U G ok) all (length G.entries) e (due_planned (length G.entries) (in_all U) (tree_in U G).places G.entries G.plan e now ok.plan))
 fits_keeps code U n used G G' ok all (picked.arrives x p takes may) free =
-    subst (λ (V : Tree). AllFit V G.players) (sym (tree-push U.places G.entries (Step x.number (Arrive p) [])))
+    subst (λ (V : Tree). TermsFit V G.players) (sym (tree-push U.places G.entries (Step x.number (Arrive p) [])))
     (fits_arrival (tree_in U G) (reached_in code U G ok) G.players (next_is code U G ok) all x.number p may)
 fits_keeps code U n used G G' ok all (picked.moves x here p q S Z j act takes at player store goes fits may) free =
     let T : Tree = tree_in U G in
@@ -441,9 +441,9 @@ fits_keeps code U n used G G' ok all (picked.moves x here p q S Z j act takes at
     let fit = all x.number x p one.stands one.free player in
     let walked = goes_frames goes fit.shape in
     let fit2 : TermFits (kinds_of T x.number) x.waits q.term = fit_as {kinds = kinds_of T x.number} refl walked.1 walked.0 fit.frames_are fit.waits_is in
-    subst (λ (V : Tree). AllFit V (slice_set G.players x.number.0 (acted here q act) ++ child_of q act)) (sym (tree-push U.places G.entries (Step x.number act q.batch)))
+    subst (λ (V : Tree). TermsFit V (slice_set G.players x.number.0 (acted here q act) ++ child_of q act)) (sym (tree-push U.places G.entries (Step x.number act q.batch)))
     (fits_move T (reached_in code U G ok) G.players (next_is code U G ok) all x.number x here (enough q.vars here.0) q (does q.vars here.0 q.term) act one.stands fit2 (all_framed q.vars here.0 q.term walked.0) fits may)
 fits_keeps code U n used G G' ok all (picked.ends x here p q S Z j faults takes at player store goes done may) free =
-    subst (λ (V : Tree). AllFit V G.players) (sym (tree-push U.places G.entries (Step x.number (End faults) q.batch)))
+    subst (λ (V : Tree). TermsFit V G.players) (sym (tree-push U.places G.entries (Step x.number (End faults) q.batch)))
     (fits_end (tree_in U G) (reached_in code U G ok) G.players (next_is code U G ok) all x.number faults may)
 fits_keeps code U n used G G' ok all (picked.root lost masked thrown none_due empty may) free = absurd (root_not G.entries lost masked thrown free)

@@ -29,7 +29,7 @@ use Rattle.rx_rules.specs.Picked.{Player, Game, Turn, Turns, Comes, opens, turns
 use Rattle.rx_rules.proofs.Append.{no_root-push, root-push}
 use Rattle.rx_sound.proofs.Enabling.{none_left, inner_is}
 use Rattle.rx_sound.proofs.Rooting.{root_stands}
-use Rattle.rx_runs.specs.Framing.{frames, first, kinds_of, Match, TermFits, AllFit}
+use Rattle.rx_runs.specs.Framing.{frames, first, kinds_of, Match, TermFits, TermsFit}
 use Rattle.rx_runs.specs.Games.{GameOk, PlayerSo, JournalSo}
 use Rattle.rx_runs.specs.Knowing.{KnownAreThere}
 use Rattle.rx_runs.specs.PickedRuns.{ActFits, SetsFit, NextTurn, HasPickedRun}
@@ -168,7 +168,7 @@ module _ (U : Given) (k : ℕ) (G : Game) (free : NoneDue (length G.entries) G.p
 
 -- A next turn.
 
-module _ (code : Block) (U : Given) (G : Game) (ok : GameOk code U G) (all : AllFit (tree_in U G) G.players) (known : KnownAreThere U G) (k : ℕ) where
+module _ (code : Block) (U : Given) (G : Game) (ok : GameOk code U G) (all : TermsFit (tree_in U G) G.players) (known : KnownAreThere U G) (k : ℕ) where
   by_pick : NoneDue (length G.entries) G.plan → (x : Task) → slice_get (enabled (tree_in U G)) (k % length (enabled (tree_in U G))) ≡ Some x → (place : Where) → x.place ≡ place → HasTurn U k G
   by_pick free x pick (Travel from to) e =
       let one : Pick (tree_in U G) x = picked_task (tree_in U G) (k % length (enabled (tree_in U G))) x (reached_in code U G ok) pick in
@@ -206,7 +206,7 @@ module _ (code : Block) (U : Given) (G : Game) (ok : GameOk code U G) (all : All
 
 -- Along turns.
 
-kept_along : (code : Block) (U : Given) (picks : ℕ → ℕ) (n j : ℕ) (G G' : Game) → (NoRoot G.entries → GameOk code U G × AllFit (tree_in U G) G.players) → Turns U picks n j G G' → NoRoot G'.entries → GameOk code U G' × AllFit (tree_in U G') G'.players
+kept_along : (code : Block) (U : Given) (picks : ℕ → ℕ) (n j : ℕ) (G G' : Game) → (NoRoot G.entries → GameOk code U G × TermsFit (tree_in U G) G.players) → Turns U picks n j G G' → NoRoot G'.entries → GameOk code U G' × TermsFit (tree_in U G') G'.players
 kept_along code U picks n j G G' ok none h = ok h
 kept_along code U picks n j G G'' ok (more {G' = G'} {used = u} free t ts) h =
     let was = ok free in
@@ -238,7 +238,7 @@ pub record Runs (U : Given) (picks : ℕ → ℕ) (j : ℕ) (G : Game) : Type 0 
   pub ended : EndsWithRoot last.entries
   pub sets : SetsFit G.entries → SetsFit last.entries
 
-run_on : (code : Block) (U : Given) (picks : ℕ → ℕ) (fuel j : ℕ) (G : Game) → owes G.entries 0 G.players + length G.plan < fuel → Comes code U G → GameOk code U G → AllFit (tree_in U G) G.players → Runs U picks j G
+run_on : (code : Block) (U : Given) (picks : ℕ → ℕ) (fuel j : ℕ) (G : Game) → owes G.entries 0 G.players + length G.plan < fuel → Comes code U G → GameOk code U G → TermsFit (tree_in U G) G.players → Runs U picks j G
 run_on code U picks zero j G less came ok all = absurd (omega arith)
 run_on code U picks (suc fuel) j G less came ok all =
     let t = next_of code U G ok all (comes_knowing code U G came) (picks j) in

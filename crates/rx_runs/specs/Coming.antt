@@ -4,12 +4,12 @@ use Rattle.rx_rules.specs.Code.{Block, work}
 use Rattle.rx_rules.specs.Run.{Given, Proper, NoRoot}
 use Rattle.rx_rules.specs.Picked.{Game, Turn, Comes, tree_in}
 use Rattle.rx_runs.specs.Games.{GameOk}
-use Rattle.rx_runs.specs.Framing.{AllFit}
+use Rattle.rx_runs.specs.Framing.{TermsFit}
 
 -- what turns keep, that its terms fit to the tree, and that its entries, tasks and scopes are few
 pub record CameTo (code : Block) (U : Given) (G : Game) : Type 0 where
   pub ok : GameOk code U G
-  pub fits : AllFit (tree_in U G) G.players
+  pub fits : TermsFit (tree_in U G) G.players
   pub entries : length G.entries ≤ 4 * work code + U.places + 2 * length U.joins
   pub tasks : (tree_in U G).next_task ≤ 1 + length G.entries
   pub scopes : (tree_in U G).next_scope ≤ 1 + length G.entries

@@ -64,15 +64,15 @@ pub record TermFits (kinds : List Kind) (waits : Bool) (t : Term) : Type 0 where
   pub waits_is : waits ≡ first (frames t)
 
 -- the same of each unstruck task
-abbrev pub AllFit : Tree → List Player → Type 0
-AllFit T players = (u : TaskId) (x : Task) (p : Player) → task_of T u ≡ Some x → x.struck ≡ None → slice_get players u.0 ≡ Some p
+abbrev pub TermsFit : Tree → List Player → Type 0
+TermsFit T players = (u : TaskId) (x : Task) (p : Player) → task_of T u ≡ Some x → x.struck ≡ None → slice_get players u.0 ≡ Some p
     → TermFits (kinds_of T u) x.waits p.term
 
 -- before the first turn the terms fit
 abbrev pub StartsFit : Type 0
-StartsFit = (code : Block) (U : Given) → AllFit (tree_in U (start_game code U)) (start_game code U).players
+StartsFit = (code : Block) (U : Given) → TermsFit (tree_in U (start_game code U)) (start_game code U).players
 
 -- each turn that does not release the root keeps it so
 abbrev pub TurnKeepsFit : Type 0
-TurnKeepsFit = (code : Block) (U : Given) (k : ℕ) (used : Bool) (G G' : Game) → GameOk code U G → AllFit (tree_in U G) G.players
-    → Turn U k G used G' → NoRoot G'.entries → AllFit (tree_in U G') G'.players
+TurnKeepsFit = (code : Block) (U : Given) (k : ℕ) (used : Bool) (G G' : Game) → GameOk code U G → TermsFit (tree_in U G) G.players
+    → Turn U k G used G' → NoRoot G'.entries → TermsFit (tree_in U G') G'.players

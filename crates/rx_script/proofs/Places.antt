@@ -4,7 +4,7 @@ use Rattle.std.specs.Prelude.{Some, Result, Ok, Err, option_and_then}
 use Rattle.std.proofs.lemmas.Option.{same_Some}
 use Rattle.rx_token.specs.declared.token.Token.{Token}
 use Rattle.rx_rules.specs.Code.{Block, Nothing, Async, AtAsync, At, Finish, If, Repeat, Try}
-use Rattle.rx_nodes.specs.Grammar.{spellings, AllFit}
+use Rattle.rx_nodes.specs.Grammar.{spellings, AllInRange}
 use Rattle.rx_script.specs.Inside.Items.{ByAsync, ByAtAsync, ByAt, ByFinish, ByIf, ByRepeat, ByTry, Item, Whole, Open, Close, Else, Catch, IsItem, item_words, Outermost, MayStand, item_at}
 use Rattle.rx_script.specs.Places.{BeginsScript, IsPlace}
 use Rattle.rx_script.specs.Inside.Machine.{added, Frame, Fore, Other, Handler, Waits, Free, ForElse, ForCatch, BlocksRead, free, item_stepped, step, items_run, mode_in, mode}
@@ -136,7 +136,7 @@ pub record HasRun (xs : List Item) (s : BlocksRead) : Type 0 where
   pub runs : items_run start xs ≡ Some s
 
 -- a script that begins with the tokens of items goes on with items
-pub goes-on : (xs : List Item) (s : BlocksRead) (rest : List Token) (ts : Block) → HasRun xs s → AllFit ts → words xs ++ rest ≡ spellings ts → Rest s (free [] ts) xs (all_items ts) rest
+pub goes-on : (xs : List Item) (s : BlocksRead) (rest : List Token) (ts : Block) → HasRun xs s → AllInRange ts → words xs ++ rest ≡ spellings ts → Rest s (free [] ts) xs (all_items ts) rest
 goes-on xs s rest ts h f e = prefix start s (free [] ts) xs (all_items ts) rest h.items (fit-items ts f) h.runs (run-whole ts) (e ∙ sym (words-all ts))
 
 -- tokens at which the reader of items fails go on no script
@@ -231,11 +231,11 @@ pub one-place : (tokens a b : List Token) → IsPlace tokens a → IsPlace token
 one-place tokens a b p q = either-later tokens a b p q (parts p.front a q.front b (sym p.whole ∙ q.whole))
 
 -- a script has none
-no-place-in : (ts : Block) (bad : List Token) → AllFit ts → IsPlace (spellings ts) bad → (c : List Token) → bad ≡ c → ⊥
+no-place-in : (ts : Block) (bad : List Token) → AllInRange ts → IsPlace (spellings ts) bad → (c : List Token) → bad ≡ c → ⊥
 no-place-in ts bad f p [] e = p.at_end e ts f refl
 no-place-in ts bad f p (b ∷ rest) e = p.stops b rest rest e ts f (ap (λ us. p.front ++ us) (sym e) ∙ sym p.whole)
 
-pub no-place : (ts : Block) (bad : List Token) → AllFit ts → IsPlace (spellings ts) bad → ⊥
+pub no-place : (ts : Block) (bad : List Token) → AllInRange ts → IsPlace (spellings ts) bad → ⊥
 no-place ts bad f p = no-place-in ts bad f p bad refl
 
 -- tokens spell one tree
@@ -245,13 +245,13 @@ one-tree-by ts us (x ∷ xs) w r i =
     let m = some-and (step (free [] ts) x) (λ v. items_run v xs) (free [] us) r in
     absurd (ok-err (x, words xs) [] (item_at Outermost []) (ap (item_at Outermost) w ∙ again-step (free [] ts) m.0 x (words xs) i.0 m.1) refl)
 
-pub one-tree : (ts us : Block) → AllFit ts → AllFit us → spellings ts ≡ spellings us → ts ≡ us
+pub one-tree : (ts us : Block) → AllInRange ts → AllInRange us → spellings ts ≡ spellings us → ts ≡ us
 one-tree ts us f g e =
     let r = goes-on (all_items ts) (free [] ts) [] us (record { items = fit-items ts f; runs = run-whole ts }) g (append-nil (words (all_items ts)) ∙ words-all ts ∙ e) in
     one-tree-by ts us r.left r.tokens r.runs r.items
 
 -- a state that has read all is a script's
-pub script-read : (xs : List Item) (ts : Block) → HasRun xs (free [] ts) → AllFit ts × (words xs ≡ spellings ts)
+pub script-read : (xs : List Item) (ts : Block) → HasRun xs (free [] ts) → AllInRange ts × (words xs ≡ spellings ts)
 script-read xs ts h =
     let e = sound xs ts h.items h.runs in
     (items-fit ts (subst AllItems e h.items), ap words e ∙ words-all ts)

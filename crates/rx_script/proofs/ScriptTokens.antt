@@ -6,7 +6,7 @@ use Rattle.rx_token.specs.declared.token.Token.{Token}
 use Rattle.rx_token.specs.declared.token.Token.TheVariants.{Mark}
 use Rattle.rx_token.specs.Tokens.{AreNames}
 use Rattle.rx_token.specs.Scans.{Scans}
-use Rattle.rx_nodes.specs.Grammar.{spell, catch_words, spelling, spellings, AllFit, IsScriptOf}
+use Rattle.rx_nodes.specs.Grammar.{spell, catch_words, spelling, spellings, AllInRange, IsScriptOf}
 use Rattle.rx_token.proofs.Scanning.{NoBad, no-bad-more, scans-begins}
 
 -- no bad token is among the tokens of a tree
@@ -49,7 +49,7 @@ mutual
   no-bad (Then t ts) = no-bad-more (spelling t) (spellings ts) (no-bad-stmt t) (no-bad ts)
 
 -- scanned tokens that spell a tree are a script
-pub scanned-script : (names : List (List ℕ)) (bytes : List ℕ) (t : Block) (starts : List ℕ) → Scans names (length bytes) bytes (spellings t) starts → AreNames names (spellings t) → AllFit t → IsScriptOf names bytes t
+pub scanned-script : (names : List (List ℕ)) (bytes : List ℕ) (t : Block) (starts : List ℕ) → Scans names (length bytes) bytes (spellings t) starts → AreNames names (spellings t) → AllInRange t → IsScriptOf names bytes t
 scanned-script names bytes t starts s a f = record {
   lexes = record { begins = scans-begins names (length bytes) bytes (spellings t) starts (no-bad t) s; are_names = a };
   fits = f;

@@ -3,7 +3,7 @@ use Rattle.std.proofs.Common.{◌≡◌, List, [], ◌∷◌, ◌++◌, refl, ap
 use Rattle.std.specs.Prelude.{Some}
 use Rattle.std.proofs.lemmas.Option.{same_Some}
 use Rattle.rx_rules.specs.Code.{Stmt, Block, Nothing, Then, SetTo, New, Get, Put, Forget, Census, Print, Throw, Async, AtAsync, At, Finish, If, Repeat, Try}
-use Rattle.rx_nodes.specs.Grammar.{Fits, AllFit}
+use Rattle.rx_nodes.specs.Grammar.{InRange, AllInRange}
 use Rattle.rx_script.specs.Inside.Items.{ByAsync, ByAtAsync, ByAt, ByFinish, ByIf, ByRepeat, ByTry, Item, Whole, Open, Close, Else, Catch, IsItem, IsSimple}
 use Rattle.rx_script.specs.Inside.Machine.{added, Frame, Fore, Other, Handler, Waits, Free, ForElse, ForCatch, BlocksRead, free, ended, closed, item_stepped, step, items_run}
 use Rattle.rx_script.proofs.Runs.{items_of, all_items, some-and, start}
@@ -125,7 +125,7 @@ all-rest (x ∷ xs) ys i = all-rest xs ys i.1
 
 -- the numbers are in their ranges where the items are such
 mutual
-  stmt-items : (t : Stmt) → Fits t → AllItems (items_of t)
+  stmt-items : (t : Stmt) → InRange t → AllItems (items_of t)
   stmt-items (SetTo n e) f = (tt, tt)
   stmt-items (New n k) f = (f, tt)
   stmt-items (Get n t e) f = (tt, tt)
@@ -142,12 +142,12 @@ mutual
   stmt-items (Repeat n b) f = (f.0, all-append (all_items b) (Close ∷ []) (fit-items b f.1) (tt, tt))
   stmt-items (Try a d b) f = (tt, all-append (all_items a) (Close ∷ Catch d ∷ (all_items b ++ Close ∷ [])) (fit-items a f.0) (tt, (tt, all-append (all_items b) (Close ∷ []) (fit-items b f.1) (tt, tt))))
 
-  pub fit-items : (ts : Block) → AllFit ts → AllItems (all_items ts)
+  pub fit-items : (ts : Block) → AllInRange ts → AllItems (all_items ts)
   fit-items Nothing f = tt
   fit-items (Then t ts) f = all-append (items_of t) (all_items ts) (stmt-items t f.0) (fit-items ts f.1)
 
 mutual
-  items-stmt : (t : Stmt) → AllItems (items_of t) → Fits t
+  items-stmt : (t : Stmt) → AllItems (items_of t) → InRange t
   items-stmt (SetTo n e) i = tt
   items-stmt (New n k) i = i.0
   items-stmt (Get n t e) i = tt
@@ -170,6 +170,6 @@ mutual
     items-fit b (all-front (all_items b) (Close ∷ []) (all-rest (all_items a) (Close ∷ Catch d ∷ (all_items b ++ Close ∷ [])) i.1).1.1),
   )
 
-  pub items-fit : (ts : Block) → AllItems (all_items ts) → AllFit ts
+  pub items-fit : (ts : Block) → AllItems (all_items ts) → AllInRange ts
   items-fit Nothing i = tt
   items-fit (Then t ts) i = (items-stmt t (all-front (items_of t) (all_items ts) i), items-fit ts (all-rest (items_of t) (all_items ts) i))

@@ -1,7 +1,7 @@
 -- How a script is written.
 use Rattle.std.specs.Prelude.{ℕ, List, [], ◌∷◌, ◌++◌}
 use Rattle.rx_rules.specs.Code.{Block}
-use Rattle.rx_nodes.specs.Grammar.{spellings, AllFit, IsScriptOf}
+use Rattle.rx_nodes.specs.Grammar.{spellings, AllInRange, IsScriptOf}
 use Rattle.rx_token.specs.Tokens.{AreNames}
 use Rattle.rx_token.specs.Texts.{with_blanks, AreSpelled}
 
@@ -12,7 +12,7 @@ script_text names b = with_blanks names (spellings b) ++ 10 ∷ []
 -- what was written is a script with the same names and the same tree
 abbrev pub WrittenReadsBack : Type 0
 WrittenReadsBack =
-    (names : List (List ℕ)) (b : Block) → AreNames names (spellings b) → AllFit b → AreSpelled (spellings b)
+    (names : List (List ℕ)) (b : Block) → AreNames names (spellings b) → AllInRange b → AreSpelled (spellings b)
     → IsScriptOf names (script_text names b) b
 
 -- the tokens of a script's bytes are such tokens

@@ -5,7 +5,7 @@ ghost use Rattle.rx_script.specs.declared.items.Item.TheVariants.{Close, Else, C
 ghost use Rattle.rx_script.specs.declared.items.Mode.TheVariants.{Outermost};
 ghost use Rattle.rx_script.specs.declared.reader.Owner.TheVariants.{Front};
 ghost use Rattle.rx_rules.specs.Code.{Block};
-ghost use Rattle.rx_nodes.specs.Grammar.{IsScriptOf, AllFit, spellings};
+ghost use Rattle.rx_nodes.specs.Grammar.{IsScriptOf, AllInRange, spellings};
 ghost use Rattle.rx_token.specs.Tokens.{AreNames};
 ghost use Rattle.rx_script.specs.Faults.{IsFaultAt};
 ghost use Rattle.rx_token.specs.Texts.{AreSpelled};
@@ -295,7 +295,7 @@ fn finish(reader: Reader, names: Vec<Vec<u8>>) -> Result<Script, NoMemory>
     requires blocks { vec_len reader.blocks < 2 ^ 31 }
     requires pending { vec_len reader.pending < 2 ^ 31 }
     requires small { IsSmall (blocks_of reader) }
-    requires stands { (t : Block) × ListStands (shape_of reader) reader.pending.items t × AllFit t
+    requires stands { (t : Block) × ListStands (shape_of reader) reader.pending.items t × AllInRange t
         × AreNames (names_of names) (spellings t) × AreSpelled (spellings t) }
     ensures ok { IfOk result (λ s. (t : Block) → ListStands (shape_of reader) reader.pending.items t → Stands s t) }
     ensures names { IfOk result (λ s. s.names ≡ names_of names) }

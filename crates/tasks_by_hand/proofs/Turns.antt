@@ -34,7 +34,7 @@ use Rattle.rx_ledger.specs.Owned.{Owned, own_told, MayWaitNext, MayEndNext}
 use Rattle.rx_ledger.proofs.Called.{front_folds}
 use Rattle.rx_ledger.proofs.Rows.{main_begins}
 use Rattle.tasks_by_hand.specs.declared.Job.{Job}
-use Rattle.tasks_by_hand.specs.Jobs.{Serves, Owns, OwnsSo, Fits, Apart, AllFit, IsReady, SuitsRunning, Suits, inside_after, jobs_of, jobs_after}
+use Rattle.tasks_by_hand.specs.Jobs.{Serves, Owns, OwnsSo, IsGoodJob, Apart, AllGoodJobs, IsReady, SuitsRunning, Suits, inside_after, jobs_of, jobs_after}
 
 -- What a job asks for may be asked.
 
@@ -96,7 +96,7 @@ least_ticket Host = refl
 -- Other jobs stay good.
 
 module _ (keep : CallsKeepOthers) (spare : CallsSpareScopes) (k k' : Kept) (q : Request) (r : Reply) (hist : IsHistory k') (few : HasNumbers (tree_seen k')) (h : Applied k q r k') where
-  pub others : (j u : Job) → q.ticket ≡ j.task → Fits k u → Apart j u → Fits k' u
+  pub others : (j u : Job) → q.ticket ≡ j.task → IsGoodJob k u → Apart j u → IsGoodJob k' u
   others j u is fits apart =
       let p = least u.task in
       let other : Differ p q = λ v w a b e. apart w v (ap asker (sym is) ∙ b) (ap asker (sym (least_ticket u.task)) ∙ a) (sym e) in
@@ -232,7 +232,7 @@ owns_on k k' q (NotYet place z) inside own s h o = o
 owns_on k k' q (Lost place at) inside own s h o = o
 owns_on k k' q (NoMemory z) inside own s h o = o
 
-after_fits : CallsGoOn → CallsOwn → (k k' : Kept) (q : Request) (r : Reply) (j : Job) (left : ℕ) → q.ticket ≡ j.task → Suits q.ticket j.inside q.ask q.path → IsHistory k' → HasNumbers (tree_seen k') → Fits k j → MayApply (tree_seen k) q → Applied k q r k' → (t : AnyTicket) → asking_in r ≡ Some t → Fits k' (record { task = t; inside = inside_after r j.inside; left = left })
+after_fits : CallsGoOn → CallsOwn → (k k' : Kept) (q : Request) (r : Reply) (j : Job) (left : ℕ) → q.ticket ≡ j.task → Suits q.ticket j.inside q.ask q.path → IsHistory k' → HasNumbers (tree_seen k') → IsGoodJob k j → MayApply (tree_seen k) q → Applied k q r k' → (t : AnyTicket) → asking_in r ≡ Some t → IsGoodJob k' (record { task = t; inside = inside_after r j.inside; left = left })
 after_fits go own k k' q r j left is suits hist few fits may h t e =
     record {
       serves = goes_on (tree_seen k') k k' q r j.inside suits h (go k k' q r hist may h few).0 t e;
@@ -268,13 +268,13 @@ begins T (NotYet place request) t h e = no_ticket t e
 begins T (Lost place at) t h e = no_ticket t e
 begins T (NoMemory request) t h e = no_ticket t e
 
-fresh_apart : (k k' : Kept) (t : AnyTicket) → ((c : Caller) → asker t ≡ Some c → IsNew k k' c) → (u : Job) → Fits k u → Apart u (record { task = t; inside = false; left = 0 })
+fresh_apart : (k k' : Kept) (t : AnyTicket) → ((c : Caller) → asker t ≡ Some c → IsNew k k' c) → (u : Job) → IsGoodJob k u → Apart u (record { task = t; inside = false; left = 0 })
 fresh_apart k k' t new u fits v w a b e =
     (new w b).other (least u.task) v (least_asks (tree_seen k) u.task fits.serves) (ap asker (least_ticket u.task) ∙ a) e
 
 -- The queue.
 
-keep_all : (k k' : Kept) (j : Job) → ((u : Job) → Fits k u → Apart j u → Fits k' u) → (js : List Job) → Each (Apart j) js → AllFit k js → AllFit k' js
+keep_all : (k k' : Kept) (j : Job) → ((u : Job) → IsGoodJob k u → Apart j u → IsGoodJob k' u) → (js : List Job) → Each (Apart j) js → AllGoodJobs k js → AllGoodJobs k' js
 keep_all k k' j f [] a h = tt
 keep_all k k' j f (u ∷ us) a h = (f u h.0 a.0, h.1, keep_all k k' j f us a.1 h.2)
 
@@ -282,7 +282,7 @@ each_map : (P Q : Job → Type 0) → ((u : Job) → P u → Q u) → (js : List
 each_map P Q f [] h = tt
 each_map P Q f (u ∷ us) h = (f u h.0, each_map P Q f us h.1)
 
-each_fit : (k : Kept) (P : Job → Type 0) → ((u : Job) → Fits k u → P u) → (js : List Job) → AllFit k js → Each P js
+each_fit : (k : Kept) (P : Job → Type 0) → ((u : Job) → IsGoodJob k u → P u) → (js : List Job) → AllGoodJobs k js → Each P js
 each_fit k P f [] h = tt
 each_fit k P f (u ∷ us) h = (f u h.0, each_fit k P f us h.2)
 
@@ -290,7 +290,7 @@ each_snoc : (P : Job → Type 0) (js : List Job) (a : Job) → Each P js → P a
 each_snoc P [] a h p = (p, tt)
 each_snoc P (u ∷ us) a h p = (h.0, each_snoc P us a h.1 p)
 
-fit_snoc : (k : Kept) (js : List Job) (a : Job) → AllFit k js → Each (λ u. Apart u a) js → Fits k a → AllFit k (js ++ a ∷ [])
+fit_snoc : (k : Kept) (js : List Job) (a : Job) → AllGoodJobs k js → Each (λ u. Apart u a) js → IsGoodJob k a → AllGoodJobs k (js ++ a ∷ [])
 fit_snoc k [] a h apart fits = (fits, tt, tt)
 fit_snoc k (u ∷ us) a h apart fits = (h.0, each_snoc (Apart u) us a h.1 apart.0, fit_snoc k us a h.2 apart.1 fits)
 
@@ -310,13 +310,13 @@ module _ (go : CallsGoOn) (keep : CallsKeepOthers) (own : CallsOwn) (spare : Cal
       let m = same_task k k' q r h t w e b in
       apart m.who v (ap asker (sym is) ∙ m.asks) a (sym (same ∙ ap (λ (n : TaskId). n.0) m.task))
 
-  went : AllFit k' (js ++ jobs_of (asking_in r) (inside_after r j.inside) left)
+  went : AllGoodJobs k' (js ++ jobs_of (asking_in r) (inside_after r j.inside) left)
   went = of (asking_in r) refl where
-    kept : AllFit k' js
+    kept : AllGoodJobs k' js
     kept = keep_all k k' j (λ u f a. others keep spare k k' q r hist few h j u is f a) js ready.fit.1 ready.fit.2
 
-    of : (o : Option AnyTicket) → asking_in r ≡ o → AllFit k' (js ++ jobs_of o (inside_after r j.inside) left)
-    of None e = subst (λ (us : List Job). AllFit k' us) (sym (append-nil js)) kept
+    of : (o : Option AnyTicket) → asking_in r ≡ o → AllGoodJobs k' (js ++ jobs_of o (inside_after r j.inside) left)
+    of None e = subst (λ (us : List Job). AllGoodJobs k' us) (sym (append-nil js)) kept
     of (Some t) e =
         fit_snoc k' js (after_is t) kept (each_map (Apart j) (λ u. Apart u (after_is t)) (after_apart t e) js ready.fit.1)
         (after_fits go own k k' q r j left is suits hist few ready.fit.0 may h t e)
@@ -335,8 +335,8 @@ module _ (go : CallsGoOn) (keep : CallsKeepOthers) (own : CallsOwn) (spare : Cal
     rest : List Job
     rest = js ++ jobs_of (asking_in r) (inside_after r j.inside) left
 
-    of : (o : Option AnyTicket) → started_in r ≡ o → AllFit k' (rest ++ jobs_of o false 0)
-    of None e = subst (λ (us : List Job). AllFit k' us) (sym (append-nil rest)) went
+    of : (o : Option AnyTicket) → started_in r ≡ o → AllGoodJobs k' (rest ++ jobs_of o false 0)
+    of None e = subst (λ (us : List Job). AllGoodJobs k' us) (sym (append-nil rest)) went
     of (Some t) e =
         let new : (c : Caller) → asker t ≡ Some c → IsNew k k' c = λ c b. started k k' q r t c hist h e b in
         let c : Job = record { task = t; inside = false; left = 0 } in
@@ -367,7 +367,7 @@ if_few {A} b x P o e f = subst (λ (z : Option A). IfSome z (λ _. P)) (sym e) (
 no_caller : {C : Type 0} (v : Caller) → None ≡ Some v → C
 no_caller v e = absurd (let z : ⊥ = cc in z)
 
-main_fits : (k : Kept) (w : Caller) (left : ℕ) → k.entries ≡ [] → w ≡ main_caller → Fits k (record { task = Running w; inside = false; left = left })
+main_fits : (k : Kept) (w : Caller) (left : ℕ) → k.entries ≡ [] → w ≡ main_caller → IsGoodJob k (record { task = Running w; inside = false; left = left })
 main_fits k w left none is =
     record { serves = main_begins k.setup.places k.entries w none is; owns = λ v b. ap (λ (es : List Entry). own_told es v.task) none }
 
@@ -378,6 +378,6 @@ pub opening_ready : (k : Kept) (w : Caller) (left more : ℕ) (js : List Job) �
 opening_ready k w left more js three none is e =
     record {
       places = three;
-      fit = subst (λ (us : List Job). AllFit k us) (sym e)
+      fit = subst (λ (us : List Job). AllGoodJobs k us) (sym e)
           (main_fits k w left none is, ((λ v u x y f. no_caller u y), tt), (record { serves = tt; owns = λ v b. no_caller v b }, tt, tt));
     }

@@ -39,7 +39,7 @@ abbrev pub OwnsSo : Kept → Bool → AnyTicket → Type 0
 OwnsSo k inside t = (who : Caller) → asker t ≡ Some who → Owns inside (own_told k.entries who.task)
 
 -- the job's ticket is good
-pub record Fits (k : Kept) (j : Job) : Type 0 where
+pub record IsGoodJob (k : Kept) (j : Job) : Type 0 where
   pub serves : Serves (tree_seen k) j.task
   pub owns : OwnsSo k j.inside j.task
 
@@ -48,14 +48,14 @@ abbrev pub Apart : Job → Job → Type 0
 Apart i j = (v w : Caller) → asker i.task ≡ Some v → asker j.task ≡ Some w → v.task.0 ≢ w.task.0
 
 -- each job's ticket is good, and no two are of one task
-abbrev pub AllFit : Kept → List Job → Type 0
-AllFit k [] = Unit {0}
-AllFit k (j ∷ js) = Fits k j × Each (Apart j) js × AllFit k js
+abbrev pub AllGoodJobs : Kept → List Job → Type 0
+AllGoodJobs k [] = Unit {0}
+AllGoodJobs k (j ∷ js) = IsGoodJob k j × Each (Apart j) js × AllGoodJobs k js
 
 -- there are three places, and the jobs fit
 pub record IsReady (k : Kept) (js : List Job) : Type 0 where
   pub places : k.setup.places ≡ 3
-  pub fit : AllFit k js
+  pub fit : AllGoodJobs k js
 
 -- what a job asks for suits its ticket
 abbrev pub SuitsRunning : Bool → Ask → Option (List ℕ) → Type 0

@@ -12,7 +12,7 @@ use Rattle.rx_rules.specs.Tree.{Tree, is_scope, the_root}
 use Rattle.rx_rules.specs.Entries.{is_hit}
 use Rattle.rx_counts.specs.declared.record.Sums.{Sums}
 use Rattle.rx_counts.specs.declared.record.Record.{Record}
-use Rattle.rx_counts.specs.Stands.{table_size, count_in, in_sums, masking, AllFit, AllMasked, IsShaped}
+use Rattle.rx_counts.specs.Stands.{table_size, count_in, in_sums, masking, RecordsFit, AllMasked, IsShaped}
 use Rattle.rx_counts.specs.Keeping.{stands_home}
 use Rattle.rx_sound.specs.Sound.{Each}
 
@@ -116,7 +116,7 @@ pub record Passing (size : ℕ) (T : Tree) (keeps : Scope → Bool) (dead : List
   pub based : Each (λ g. g.parent ≡ None → g.number.0 ≡ 0) T.scopes
   pub few_tasks : length T.tasks < 2 ^ 32
   pub few_scopes : length T.scopes < 2 ^ 32
-  pub fit : AllFit size (given_until keeps d i) T.scopes T.tasks rs
+  pub fit : RecordsFit size (given_until keeps d i) T.scopes T.tasks rs
   pub masked : AllMasked (given_until keeps d i) T.scopes rs
 
 -- the parent of the record, where its home is d

@@ -2,7 +2,7 @@
 use Rattle.std.specs.Prelude.{◌≡◌, ℕ, ◌+◌, ◌≤◌, ◌<◌, ◌^◌, List, [], ◌∷◌, ◌++◌, take, drop, Some, map, length, Result, Ok, Err}
 use Rattle.rx_rules.specs.Code.{Block}
 use Rattle.rx_nodes.specs.Shape.{Shape, IsSmall, ExprStands, ListStands, BlockStands}
-use Rattle.rx_nodes.specs.Grammar.{AllFit, spellings}
+use Rattle.rx_nodes.specs.Grammar.{AllInRange, spellings}
 use Rattle.rx_script.specs.Inside.Items.{Item}
 use Rattle.rx_script.specs.Inside.Machine.{Frame, Fore, Other, Handler, Waits, Free, ForElse, ForCatch, BlocksRead, step}
 use Rattle.rx_script.specs.Inside.Pieces.{OpenerStands, ItemStands}
@@ -129,7 +129,7 @@ pub record GrowsByOne (old new : Reader) : Type 0 where
 -- what was read is a script
 pub record IsRead (tokens : List Token) (r : Reader) : Type 0 where
   pub script : Block
-  pub fits : AllFit script
+  pub fits : AllInRange script
   pub spelled : tokens ≡ spellings script
   pub stands : ListStands (shape_of r) r.pending.items script
   pub blocks : length (blocks_of r) < 2 ^ 31

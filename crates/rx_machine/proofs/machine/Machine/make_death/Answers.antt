@@ -2,8 +2,8 @@ use Rattle.std.proofs.Common.{arith, ◌≡◌, ◌<◌, List, length, ap, ◌�
 use Rattle.rx_rules.specs.Run.{in_all}
 use Rattle.rx_rules.specs.Picked.{tree_in}
 use Rattle.rx_machine.specs.declared.enabled.Ready.{Ready}
-use Rattle.rx_machine.specs.declared.enabled.Origin.{Origin}
-use Rattle.rx_machine.specs.Origins.{TellsOrigins}
+use Rattle.rx_origins.specs.declared.origin.Origin.{Origin}
+use Rattle.rx_origins.specs.Origins.{TellsOrigins}
 use Rattle.rx_machine.specs.Picking.{IsReady}
 use Rattle.rx_machine.proofs.BeforeTurn.{can-turn}
 use Rattle.rx_machine.proofs.Noting.{died-on}

@@ -3,8 +3,8 @@ use Rattle.rx_rules.specs.declared.entries.Entry.TheVariants.{Death, Join}
 use Rattle.rx_rules.specs.Picked.{tree_in}
 use Rattle.rx_machine.specs.declared.machine.Machine.{Machine}
 use Rattle.rx_machine.specs.Picking.{IsReady}
-use Rattle.rx_machine.specs.Origins.{TellsOrigins}
-use Rattle.rx_machine.specs.declared.enabled.Origin.{Origin}
+use Rattle.rx_origins.specs.Origins.{TellsOrigins}
+use Rattle.rx_origins.specs.declared.origin.Origin.{Origin}
 use Rattle.rx_machine.proofs.BeforeTurn.{falling, calm, can-turn, counted}
 use Rattle.rx_machine.proofs.Noting.{roomy-can}
 use Rattle.rx_machine.proofs.Halting.{refused-same}

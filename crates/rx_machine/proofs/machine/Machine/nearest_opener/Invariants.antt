@@ -5,7 +5,7 @@ use Rattle.rx_rules.specs.Run.{Given}
 use Rattle.rx_rules.specs.Picked.{Game, tree_in}
 use Rattle.rx_nodes.specs.Shape.{Shape}
 use Rattle.rx_machine.specs.Holds.{CanTurn}
-use Rattle.rx_machine.specs.Origins.{TellsOrigins}
+use Rattle.rx_origins.specs.Origins.{TellsOrigins}
 use Rattle.rx_machine.proofs.OriginsKept.{IsOnWay}
 use Rattle.rx_machine.proofs.machine.Machine.nearest_opener.Given as goal
 

@@ -2,11 +2,11 @@ use Rattle.std.proofs.Common.{List, ap, ◌∙◌, sym, subst}
 use Rattle.rx_rules.specs.Picked.{tree_in}
 use Rattle.rx_rank.specs.Numbers.{marked}
 use Rattle.rx_machine.specs.declared.machine.Machine.{Machine}
-use Rattle.rx_machine.specs.declared.enabled.Origin.{Origin}
+use Rattle.rx_origins.specs.declared.origin.Origin.{Origin}
 use Rattle.rx_machine.specs.Slots.{seat_at}
 use Rattle.rx_machine.specs.Holds.{CanTurn}
 use Rattle.rx_machine.specs.Picking.{slot_able}
-use Rattle.rx_machine.specs.Origins.{TellsOrigins}
+use Rattle.rx_origins.specs.Origins.{TellsOrigins}
 use Rattle.rx_machine.proofs.Noting.{can-same, end-way, noted-alone, noted-end}
 use Rattle.rx_machine.proofs.machine.Machine.note_end.Goals as goal
 

@@ -1,7 +1,7 @@
 use Rattle.std.proofs.Common.{◌-◌, ℕ, List, Some, None, ap, ◌∙◌, sym, subst}
 use Rattle.rx_rules.specs.Picked.{tree_in}
-use Rattle.rx_machine.specs.declared.enabled.Origin.{Origin}
-use Rattle.rx_machine.specs.Origins.{TellsOrigins}
+use Rattle.rx_origins.specs.declared.origin.Origin.{Origin}
+use Rattle.rx_origins.specs.Origins.{TellsOrigins}
 use Rattle.rx_machine.proofs.Noting.{last-origin, turn-told}
 use Rattle.rx_machine.proofs.machine.Machine.note_scope.Goals as goal
 

@@ -1,9 +1,9 @@
 use Rattle.std.proofs.Common.{List, ap, sym, subst}
 use Rattle.rx_rules.specs.Picked.{tree_in}
 use Rattle.rx_machine.specs.declared.machine.Machine.{Machine}
-use Rattle.rx_machine.specs.declared.enabled.Origin.{Origin}
+use Rattle.rx_origins.specs.declared.origin.Origin.{Origin}
 use Rattle.rx_machine.specs.Runs.{HasMoved}
-use Rattle.rx_machine.specs.Origins.{TellsOrigins}
+use Rattle.rx_origins.specs.Origins.{TellsOrigins}
 use Rattle.rx_machine.proofs.Noting.{moved-same}
 use Rattle.rx_machine.proofs.machine.Machine.note_turn.Goals as goal
 

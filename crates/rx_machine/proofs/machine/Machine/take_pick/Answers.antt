@@ -3,7 +3,7 @@ use Rattle.rx_rules.specs.Picked.{tree_in}
 use Rattle.rx_machine.specs.declared.enabled.Ready.{Ready}
 use Rattle.rx_machine.specs.declared.seat.Seat.{Seat}
 use Rattle.rx_machine.specs.Slots.{seat_at}
-use Rattle.rx_machine.specs.Origins.{TellsOrigins}
+use Rattle.rx_origins.specs.Origins.{TellsOrigins}
 use Rattle.rx_machine.proofs.Readying.{ready_slots}
 use Rattle.rx_machine.proofs.BeforeTurn.{releasing, taken}
 use Rattle.rx_machine.proofs.Noting.{has-moved, room-left, inside-still, went-on}

@@ -9,7 +9,7 @@ use Rattle.rx_rules.specs.declared.entries.Entry.{Entry}
 use Rattle.rx_rules.specs.declared.entries.Entry.TheVariants.{Step, Root, Death, Join}
 use Rattle.rx_rules.specs.Tree.{Tree}
 use Rattle.rx_sound.specs.Sound.{Each}
-use Rattle.rx_machine.specs.declared.enabled.Origin.{Origin}
+use Rattle.rx_origins.specs.declared.origin.Origin.{Origin}
 
 -- the table tells of a scope who opened it, and inside which scope
 abbrev pub OriginIsTold : List Origin → Scope → Type 0

@@ -1,7 +1,9 @@
+pub use Rattle.atomic_table.specs.Seated
 pub mod Numbers
 pub mod History
 pub mod Replay
 pub mod Kept
 pub mod Calls
 pub mod Passes
+pub mod Named
 pub mod Ties

@@ -1,16 +1,17 @@
 -- What lies under the lock of a book.
 use Rattle.std.specs.Prelude.{◌≡◌, true, false, List, []}
 use Rattle.std.specs.declared.snapshot.Snapshot.{Snapshot}
-use Rattle.atomic_table.specs.declared.shared.Seat.{Seat}
 use Rattle.rx_book.specs.declared.views.Stamped.{Stamped}
-use Rattle.rx_book.specs.declared.views.View.{View}
 use Rattle.rx_book.specs.declared.books.Locked.{Locked}
 use Rattle.rx_book.specs.History.{items_of}
 use Rattle.rx_book.specs.Replay.{Replays}
 
-module _ {O I P R : Type 0} (entries : O → List I) (step : List I → P → R → List I → Type 0) (legal : List (Stamped I) → Type 0) where
-  -- the marked seat is one of the word that the key names, and it has seen the object's whole history, which is legal and replays
-  abbrev pub Tied : Snapshot (Seat (Unit {0}) (View I)) → Locked O I → Type 0
-  Tied k l = (l.mark.table_id ≡ k.value.table_id) × (l.mark.me.1 ≡ []) × (l.mark.me.0.marked ≡ true)
-      × (l.mark.me.0.numbered ≡ false) × (entries l.object ≡ items_of l.mark.me.0.seen) × legal l.mark.me.0.seen
-      × Replays step l.mark.me.0.seen
+module _ {O I P R F : Type 0} (fixed : O → F) (entries : O → List I) (step : F → List I → P → R → List I → Type 0)
+    (legal : F → List (Stamped I) → Type 0) where
+  -- the marked seat is one of the word that the key names, and it has seen the object's whole history, which is legal and replays;
+  -- what is fixed of the object is as it was in the key
+  abbrev pub Tied : Snapshot (Locked O I) → Locked O I → Type 0
+  Tied k l = (l.mark.table_id ≡ k.value.mark.table_id) × (l.mark.me.1 ≡ []) × (l.mark.me.0.marked ≡ true)
+      × (l.mark.me.0.numbered ≡ false) × (entries l.object ≡ items_of l.mark.me.0.seen)
+      × legal (fixed k.value.object) l.mark.me.0.seen × Replays (step (fixed k.value.object)) l.mark.me.0.seen
+      × (fixed l.object ≡ fixed k.value.object)

@@ -28,27 +28,29 @@ pub struct Ties<O> {
     object: PhantomData<O>,
 }
 
-impl<O: Object> Fact<Locked<O, O::Item>, Snapshot<Spot<O::Item>>> for Ties<O> {
+impl<O: Object> Fact<Locked<O, O::Item>, Snapshot<Locked<O, O::Item>>> for Ties<O> {
     ghost use Rattle.rx_book.specs.Ties.{Tied};
 
-    ghost holds = { Tied O.entries O.step O.legal };
+    ghost holds = { Tied O.fixed O.entries O.step O.legal };
 }
 
-/// A book. Contracts see it as its word, by which a pass or a note is of this book. It may be shared between threads.
+/// A book. Contracts see its word, by which a pass or a note is of this book, and what is fixed of its object. It may be shared
+/// between threads.
 pub struct Book<O: Object> {
     word: Word<O::Item>,
-    lock: Lock<Locked<O, O::Item>, Snapshot<Spot<O::Item>>, Ties<O>>,
+    // The key is what first lay under the lock.
+    lock: Lock<Locked<O, O::Item>, Snapshot<Locked<O, O::Item>>, Ties<O>>,
 }
 
 impl<O: Object> Model for Book<O> {
     ghost use Rattle.std.specs.Prelude.{◌≡◌};
-    ghost use Rattle.atomic_table.specs.Seated.{TableId};
+    ghost use Rattle.rx_book.specs.Named.{BookName};
 
-    ghost Value = { TableId };
+    ghost Value = { BookName O.Fixed };
 
-    ghost view = { λ b. b.word.table.shared.table_id };
+    ghost view = { λ b. record { word = b.word.table.shared.table_id; fixed = O.fixed b.lock.key.value.object } };
 
-    ghost invariant = { λ b. b.lock.key.value.table_id ≡ b.word.table.shared.table_id };
+    ghost invariant = { λ b. b.lock.key.value.mark.table_id ≡ b.word.table.shared.table_id };
 }
 
 /// The word of a book with its first seat, and no object yet. Objects that are made later may name the word. Contracts see it
@@ -134,8 +136,9 @@ impl<O: Object> Book<O> {
         object: O,
     ) -> Result<(Book<O>, Pass<O::Item>), (O, NoMemory)>
         requires empty { O.entries object ≡ [] }
-        requires lawful { O.legal [] }
-        ensures own { IfOk result (λ t. word_of t.1 ≡ t.0) }
+        requires lawful { O.legal (O.fixed object) [] }
+        ensures fixed { IfOk result (λ t. t.0.fixed ≡ O.fixed object) }
+        ensures own { IfOk result (λ t. word_of t.1 ≡ t.0.word) }
         ensures fresh { IfOk result (λ t. IsFresh (view_of t.1)) }
         ensures err { IfErr result (λ e. e.0 ≡ object) }
     {
@@ -152,16 +155,18 @@ impl<O: Object> Book<O> {
         object: O,
     ) -> Result<(Book<O>, Pass<O::Item>), (O, NoMemory)>
         requires empty { O.entries object ≡ [] }
-        requires lawful { O.legal [] }
-        ensures same { IfOk result (λ t. t.0 ≡ bare) }
-        ensures own { IfOk result (λ t. word_of t.1 ≡ t.0) }
+        requires lawful { O.legal (O.fixed object) [] }
+        ensures same { IfOk result (λ t. t.0.word ≡ bare) }
+        ensures fixed { IfOk result (λ t. t.0.fixed ≡ O.fixed object) }
+        ensures own { IfOk result (λ t. word_of t.1 ≡ t.0.word) }
         ensures fresh { IfOk result (λ t. IsFresh (view_of t.1)) }
         ensures err { IfErr result (λ e. e.0 ≡ object) }
     {
         let BareBook { word, mut seat } = bare;
         let mark = word.mark_off(&mut seat);
-        let key = Snapshot::of(&mark);
-        match Lock::new(alloc, Locked { object, mark }, &key) {
+        let locked = Locked { object, mark };
+        let key = Snapshot::of(&locked);
+        match Lock::new(alloc, locked, &key) {
             Ok(lock) => Ok((Book { word, lock }, Pass { seat })),
             Err((locked, refused)) => {
                 let Locked { object, mark: _ } = locked;
@@ -172,12 +177,13 @@ impl<O: Object> Book<O> {
 
     // A call on the bare seat of a pass.
     fn run<R: Wait>(&self, rt: &R, seat: &mut Spot<O::Item>, op: O::Op) -> O::Reply
-        requires own { seat.old.table_id ≡ self.now }
+        requires own { seat.old.table_id ≡ self.now.word }
         requires plain { (seat.old.me.0.marked ≡ false) × (seat.old.me.0.numbered ≡ true) × (seat.old.me.1 ≡ []) }
-        requires fits { (h : List (Stamped O.Item)) → O.legal h → Begins O.Item.place seat.old.me.0 h → O.fits h seat.old.me.0.number op }
+        requires fits { (h : List (Stamped O.Item)) → O.legal self.now.fixed h → Begins O.Item.place seat.old.me.0 h
+            → O.fits self.now.fixed h seat.old.me.0.number op }
         ensures own { seat.new.table_id ≡ seat.old.table_id }
         ensures plain { (seat.new.me.0.marked ≡ false) × (seat.new.me.0.numbered ≡ true) × (seat.new.me.1 ≡ []) }
-        ensures called { Called O.Item.place O.step O.legal seat.old.me.0 op result seat.new.me.0 }
+        ensures called { Called O.Item.place (O.step self.now.fixed) (O.legal self.now.fixed) seat.old.me.0 op result seat.new.me.0 }
     {
         let (locked, turn) = self.lock.lock(rt);
         let Locked { mut object, mark } = locked;
@@ -185,6 +191,7 @@ impl<O: Object> Book<O> {
         self.word.tell(seat);
         let before = Snapshot::of(&object);
         let old = (object.len(), object.deaths());
+        O::stays();
         let reply = object.apply(rt, op);
         record_new(&self.word, seat, &before, &object, old);
         let mark = self.word.mark_off(seat);
@@ -196,11 +203,12 @@ impl<O: Object> Book<O> {
     /// operation has to fit, for this caller, every legal history that begins with what the pass has seen and has just the
     /// caller's own entries. The book itself takes no memory.
     pub fn call<R: Wait>(&self, rt: &R, pass: &mut Pass<O::Item>, op: O::Op) -> O::Reply
-        requires own { word_of pass.old ≡ self.now }
-        requires fits { (h : List (Stamped O.Item)) → O.legal h → Begins O.Item.place (view_of pass.old) h
-            → O.fits h (view_of pass.old).number op }
+        requires own { word_of pass.old ≡ self.now.word }
+        requires fits { (h : List (Stamped O.Item)) → O.legal self.now.fixed h → Begins O.Item.place (view_of pass.old) h
+            → O.fits self.now.fixed h (view_of pass.old).number op }
         ensures own { word_of pass.new ≡ word_of pass.old }
-        ensures called { Called O.Item.place O.step O.legal (view_of pass.old) op result (view_of pass.new) }
+        ensures called { Called O.Item.place (O.step self.now.fixed) (O.legal self.now.fixed) (view_of pass.old) op result
+            (view_of pass.new) }
     {
         self.run(rt, &mut pass.seat, op)
     }
@@ -208,7 +216,7 @@ impl<O: Object> Book<O> {
     /// A pass of a new caller, who has seen as much. Its number is that of this pass followed by the count of passes that were
     /// split from this one before. No memory.
     pub fn split(&self, pass: &mut Pass<O::Item>) -> Result<Pass<O::Item>, NoMemory>
-        requires { word_of pass.old ≡ self.now }
+        requires { word_of pass.old ≡ self.now.word }
         ensures same { (word_of pass.new ≡ word_of pass.old) × (view_of pass.new ≡ parent_left (view_of pass.old)) }
         ensures always { IsOk result }
         ensures own { IfOk result (λ p. word_of p ≡ word_of pass.old) }
@@ -220,7 +228,7 @@ impl<O: Object> Book<O> {
 
     /// A note of what the pass has seen. No memory.
     pub fn note(&self, pass: &mut Pass<O::Item>) -> Result<Note<O::Item>, NoMemory>
-        requires { word_of pass.old ≡ self.now }
+        requires { word_of pass.old ≡ self.now.word }
         ensures same { (word_of pass.new ≡ word_of pass.old) × (view_of pass.new ≡ view_of pass.old) }
         ensures always { IsOk result }
         ensures own { IfOk result (λ n. note_word n ≡ word_of pass.old) }
@@ -232,7 +240,7 @@ impl<O: Object> Book<O> {
 
     // A join of the bare seats of a pass and a note.
     fn meet_seat(&self, seat: &mut Spot<O::Item>, other: Spot<O::Item>)
-        requires own { (seat.old.table_id ≡ self.now) × (other.table_id ≡ seat.old.table_id) }
+        requires own { (seat.old.table_id ≡ self.now.word) × (other.table_id ≡ seat.old.table_id) }
         requires plain { (seat.old.me.0.marked ≡ false) × (seat.old.me.0.numbered ≡ true) × (seat.old.me.1 ≡ []) }
         requires other { (other.me.0.marked ≡ false) × (other.me.1 ≡ []) }
         ensures own { seat.new.table_id ≡ seat.old.table_id }
@@ -246,8 +254,8 @@ impl<O: Object> Book<O> {
 
     /// The pass sees the longer of what it and the note had seen. No memory.
     pub fn meet(&self, pass: &mut Pass<O::Item>, note: Note<O::Item>)
-        requires own { word_of pass.old ≡ self.now }
-        requires note { note_word note ≡ self.now }
+        requires own { word_of pass.old ≡ self.now.word }
+        requires note { note_word note ≡ self.now.word }
         ensures own { word_of pass.new ≡ word_of pass.old }
         ensures met { Met O.Item.place (view_of pass.old) (note_view note) (view_of pass.new) }
     {
@@ -257,7 +265,7 @@ impl<O: Object> Book<O> {
 
     /// The number of entries of a beginning of the history, which the pass has seen afterwards. One load: no lock, no memory.
     pub fn seen_len(&self, pass: &mut Pass<O::Item>) -> u32
-        requires { word_of pass.old ≡ self.now }
+        requires { word_of pass.old ≡ self.now.word }
         ensures own { word_of pass.new ≡ word_of pass.old }
         ensures answer { result ≡ (view_of pass.new).reach }
         ensures later { Looked (view_of pass.old) (view_of pass.new) }
@@ -268,7 +276,7 @@ impl<O: Object> Book<O> {
     /// The places whose deaths stand in a beginning of the history, which the pass has seen afterwards. One load: no lock, no
     /// memory.
     pub fn peek_deaths(&self, pass: &mut Pass<O::Item>) -> PlaceSet
-        requires { word_of pass.old ≡ self.now }
+        requires { word_of pass.old ≡ self.now.word }
         ensures own { word_of pass.new ≡ word_of pass.old }
         ensures answer { result.0 ≡ (view_of pass.new).dead }
         ensures later { Looked (view_of pass.old) (view_of pass.new) }
@@ -282,9 +290,10 @@ impl<O: Object> Book<O> {
         rt: &R,
         pass: Pass<O::Item>,
     ) -> Result<O, (Book<O>, Pass<O::Item>, NoMemory)>
-        requires { word_of pass ≡ self }
+        requires { word_of pass ≡ self.word }
         ensures always { IsOk result }
-        ensures closed { IfOk result (Closed O.Item.place O.entries O.step O.legal (view_of pass)) }
+        ensures fixed { IfOk result (λ o. O.fixed o ≡ self.fixed) }
+        ensures closed { IfOk result (Closed O.Item.place O.entries (O.step self.fixed) (O.legal self.fixed) (view_of pass)) }
     {
         let Pass { seat } = pass;
         Ok(self.finish(rt, seat))
@@ -292,9 +301,10 @@ impl<O: Object> Book<O> {
 
     // The object, by the bare seat of a pass.
     fn finish<R: Wait>(self, rt: &R, seat: Spot<O::Item>) -> O
-        requires own { seat.table_id ≡ self }
+        requires own { seat.table_id ≡ self.word }
         requires plain { (seat.me.0.numbered ≡ true) × (seat.me.1 ≡ []) }
-        ensures { Closed O.Item.place O.entries O.step O.legal seat.me.0 result }
+        ensures fixed { O.fixed result ≡ self.fixed }
+        ensures closed { Closed O.Item.place O.entries (O.step self.fixed) (O.legal self.fixed) seat.me.0 result }
     {
         let (locked, turn) = self.lock.lock(rt);
         let Locked { object, mark } = locked;
@@ -308,7 +318,8 @@ impl<O: Object> Book<O> {
 
     /// Waits for the lock, and gives the object without a pass. No memory.
     pub fn abandon<R: Wait>(self, rt: &R) -> O
-        ensures { Ended O.entries O.step O.legal result }
+        ensures fixed { O.fixed result ≡ self.fixed }
+        ensures ended { Ended O.entries (O.step self.fixed) (O.legal self.fixed) result }
     {
         let (locked, turn) = self.lock.lock(rt);
         let Locked { object, mark: _ } = locked;

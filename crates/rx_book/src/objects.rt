@@ -29,24 +29,32 @@ pub trait Object {
     /// An entry of the history, as contracts see it. No value of it is made when a program runs.
     type Item: Dies;
 
+    /// What stays the same of an object for as long as its book lasts, as contracts see it.
+    type Fixed;
+
+    // What no call changes.
+    ghost fixed: { Self → Self.Fixed };
+
     // The object's entries.
     ghost entries: { Self → List Self.Item };
 
-    // Of the entries before a call, its operation, its reply and the entries that it appends.
-    ghost step: { List Self.Item → Self.Op → Self.Reply → List Self.Item → Type 0 };
+    // Of what is fixed, the entries before a call, its operation, its reply and the entries that it appends.
+    ghost step: { Self.Fixed → List Self.Item → Self.Op → Self.Reply → List Self.Item → Type 0 };
 
-    // Of a history.
-    ghost legal: { List (Stamped Self.Item) → Type 0 };
+    // Of what is fixed and a history.
+    ghost legal: { Self.Fixed → List (Stamped Self.Item) → Type 0 };
 
-    // Of a legal history, the number of a caller and an operation.
-    ghost fits: { List (Stamped Self.Item) → List ℕ → Self.Op → Type 0 };
+    // Of what is fixed, a legal history, the number of a caller and an operation.
+    ghost fits: { Self.Fixed → List (Stamped Self.Item) → List ℕ → Self.Op → Type 0 };
 
     /// Does an operation, which for some caller fits a legal history of the object's entries. It appends and answers by the step,
-    /// and changes no earlier entry.
+    /// changes no earlier entry, and keeps what is fixed.
     fn apply<R: Wait>(&mut self, rt: &R, op: Self::Op) -> Self::Reply
-        requires { (log : List (Stamped Self.Item)) × (caller : List ℕ) × legal log × (entries self.old ≡ items_of log)
-            × fits log caller op }
-        ensures { (added : List Self.Item) × (entries self.new ≡ entries self.old ++ added) × step (entries self.old) op result added };
+        requires { (log : List (Stamped Self.Item)) × (caller : List ℕ) × legal (fixed self.old) log
+            × (entries self.old ≡ items_of log) × fits (fixed self.old) log caller op }
+        ensures fixed { fixed self.new ≡ fixed self.old }
+        ensures did { (added : List Self.Item) × (entries self.new ≡ entries self.old ++ added)
+            × step (fixed self.old) (entries self.old) op result added };
 
     /// The number of entries.
     fn len(&self) -> u32
@@ -56,9 +64,12 @@ pub trait Object {
     fn deaths(&self) -> PlaceSet
         ensures { (p : ℕ) → p < 16 → has_bit result.0 p ≡ has_death Self.Item.place p (entries self.now) };
 
-    // Where an operation fits a legal history for a caller, the history stays legal with what the step appends.
-    ghost stays: { (log : List (Stamped Self.Item)) (caller : List ℕ) (op : Self.Op) (reply : Self.Reply) (added : List Self.Item)
-        → legal log → fits log caller op → step (items_of log) op reply added → legal (log ++ stamp_all caller added) };
+    /// A law of contracts: where an operation fits a legal history for a caller, the history stays legal with what the step
+    /// appends.
+    fn stays()
+        ensures { (f : Self.Fixed) (log : List (Stamped Self.Item)) (caller : List ℕ) (op : Self.Op) (reply : Self.Reply)
+            (added : List Self.Item) → legal f log → fits f log caller op → step f (items_of log) op reply added
+            → legal f (log ++ stamp_all caller added) };
 }
 
 /// A law of contracts: bit p of the set of the deaths of some items tells whether the death of the place p stands among them.

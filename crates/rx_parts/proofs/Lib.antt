@@ -1,0 +1,14 @@
+pub mod Lists
+pub mod Once
+pub mod Merging
+pub mod Changes
+pub mod Tasks
+pub mod Along
+pub mod Determined
+pub mod Whole
+pub mod Growing
+pub mod Telling
+pub mod Prefixes
+pub mod Notes
+pub mod Closing
+pub mod Reading

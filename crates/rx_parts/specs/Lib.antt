@@ -1,0 +1,10 @@
+pub mod Ledger
+pub mod Places
+pub mod Parts
+pub mod Closing
+pub mod Reading
+pub mod Growing
+pub mod Calling
+pub mod Telling
+pub mod Notes
+pub mod Merges

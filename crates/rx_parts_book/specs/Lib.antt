@@ -1,0 +1,4 @@
+pub mod Deaths
+pub mod Histories
+pub mod Laws
+pub mod Inside

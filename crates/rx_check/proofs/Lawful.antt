@@ -75,11 +75,11 @@ abbrev pub AllPass : List Sight → List Sight → Type 0
 AllPass script [] = Unit {0}
 AllPass script (s ∷ ss) = (rule_of script s ≡ None) × AllPass script ss
 
-pass-left : (script ss us : List Sight) → AllPass script (ss ++ us) → AllPass script ss
+pub pass-left : (script ss us : List Sight) → AllPass script (ss ++ us) → AllPass script ss
 pass-left script [] us h = tt
 pass-left script (s ∷ ss) us h = (h.0, pass-left script ss us h.1)
 
-pass-right : (script ss us : List Sight) → AllPass script (ss ++ us) → AllPass script us
+pub pass-right : (script ss us : List Sight) → AllPass script (ss ++ us) → AllPass script us
 pass-right script [] us h = h
 pass-right script (s ∷ ss) us h = pass-right script ss us h.1
 

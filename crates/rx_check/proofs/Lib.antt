@@ -8,7 +8,7 @@ mod Blocks
 mod Capping
 pub mod Exprs
 mod Going
-mod Judging
+pub mod Judging
 pub mod OneTree
 mod Statements
 mod Waiting

@@ -1,0 +1,17 @@
+pub mod Events
+pub mod Replays
+pub mod Single
+pub mod Births
+pub mod Once
+pub mod Journals
+pub mod Stamps
+pub mod Shown
+pub mod Decided
+pub mod Walking
+pub mod Telling
+pub mod Passing
+pub mod Parting
+pub mod Deciding
+pub mod Marking
+pub mod WorkedPairs
+pub mod Seating

@@ -1,0 +1,12 @@
+pub mod Makes
+pub mod Replays
+pub mod Verdicts
+pub mod Goods
+pub mod Walks
+pub mod Passes
+pub mod Events
+pub mod Parts
+pub mod Decides
+pub mod Marks
+pub mod Rows
+pub mod Seats

@@ -1,0 +1,12 @@
+pub mod Answered
+pub mod Homes
+pub mod Counts
+pub mod Following
+pub mod Same
+pub mod Replaying
+pub mod Marking
+pub mod Sounding
+pub mod Journals
+pub mod OneJournal
+pub mod Judged
+pub mod Worked

@@ -1,0 +1,4 @@
+pub mod Home
+pub mod Next
+pub mod Same
+pub mod Replayed

@@ -11,7 +11,7 @@ ghost use Rattle.rx_control.specs.Stands.{StandsFor};
 ghost use Rattle.rx_machine.specs.Slots.{root_row};
 ghost use Rattle.rx_machine.specs.Holds.{Holds};
 
-use crate::enabled::{Origin, Ready};
+use crate::enabled::Ready;
 use crate::seat::Seat;
 use rx_base::{Batch, NoMemory, PlaceId, ScopeId, TaskId};
 use rx_check::{Program, checked};
@@ -19,6 +19,7 @@ use rx_control::Control;
 use rx_finish::FinishLedger;
 use rx_history::{History, Setup};
 use rx_kills::Kills;
+use rx_origins::Origin;
 use rx_rank::Ranks;
 use rx_rules::{Task, Where};
 use rx_stores::Stores;

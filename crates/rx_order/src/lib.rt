@@ -13,9 +13,11 @@
 #![tactic(auto)]
 
 mod kept;
+mod marks;
 mod order;
 mod parts;
 #[cfg(test)]
 mod tests;
 
+pub use marks::{Mark, mark_numbers};
 pub use order::before;

@@ -1,9 +1,12 @@
 -- Where paths go on inside a statement: cited by the inner functions of this crate alone.
-use Rattle.std.specs.Prelude.{◌≡◌, ◌≤◌, ℕ, zero, suc, Bool, true, false, List, [], ◌∷◌, drop, Option, Some, None}
+use Rattle.std.specs.Prelude.{◌≡◌, ◌≤◌, ◌==◌, ℕ, zero, suc, Bool, true, false, cond, List, [], ◌∷◌, drop, Option, Some, None}
 use Rattle.rx_rules.specs.Code.{Stmt, SetTo, New, Get, Put, Forget, Census, Print, Throw, Async, AtAsync, At, Finish, If, Repeat, Try}
 use Rattle.rx_rules.specs.Code.{Block, Nothing, Then}
 use Rattle.rx_rules.specs.Order.{is_kept_in}
 use Rattle.rx_nodes.specs.Shape.{Shape, BlockStands}
+use Rattle.rx_order.specs.Marks.{marks_in}
+use Rattle.rx_order.specs.declared.marks.Mark.{Mark}
+use Rattle.rx_order.specs.declared.marks.Mark.TheVariants.{Follows, Branches}
 use Rattle.rx_order.specs.declared.parts.Part.{Part}
 use Rattle.rx_order.specs.declared.parts.Walk.{Walk}
 use Rattle.rx_order.specs.declared.parts.Walk.TheVariants.{Over, On}
@@ -60,6 +63,18 @@ numbers_of t = 0
 abbrev pub is_ordered : Stmt → Bool
 is_ordered (If test first other) = false
 is_ordered t = true
+
+-- what the number of a part stands for, where one tells it
+abbrev pub part_mark : Stmt → ℕ → Option Mark
+part_mark (If test first other) n = Some Branches
+part_mark (Repeat times body) n = Some Follows
+part_mark (Try body dead_only handler) n = cond (n == 0) (Some Follows) (Some Branches)
+part_mark t n = None
+
+-- the marks along x, read from its position in the block on
+abbrev pub marks_along : Block → List ℕ → List Mark
+marks_along body [] = []
+marks_along body (i ∷ x) = marks_in body i x
 
 -- the answer stands for that part
 abbrev pub IsPart : Shape → List ℕ → ℕ → Option Part → Option (ℕ × Block × List ℕ) → Type 0

@@ -1,0 +1,13 @@
+pub mod FromBelow
+pub mod Picks
+pub mod Forks
+pub mod Sharing
+pub mod Lists
+pub mod Rows
+pub mod Ties
+pub mod Depths
+pub mod States
+pub mod Passing
+pub mod Picked
+pub mod FromBelowTerms
+pub mod Told

@@ -1,0 +1,216 @@
+-- How far paths go together, where they come one after the other.
+use Rattle.std.specs.Prelude.{◌≡◌, ◌⊎◌, ℕ, zero, suc, ◌+◌, ◌<◌, ◌≤◌, min, true, cond, ◌==◌, nat_lt, List, [], ◌∷◌, length, drop, Some, slice_get, refl}
+use Rattle.std.proofs.Common.{ap, sym, subst, ◌∙◌, arith, inl, inr, ⊎_elim}
+use Rattle.std.proofs.lemmas.Bool.{eq-eqb, ne_eqb, ltb-true, lt-ltb, le-ltb, cases_eq, cond_both, true≢false, false_from_ne_true, cases_order}
+use Rattle.std.proofs.lemmas.Bool.Decides.{nat_tests}
+use Rattle.std.proofs.lemmas.List.{drop_all}
+use Rattle.std.proofs.lemmas.Option.{same_Some}
+use Rattle.rx_base.proofs.Elements.{drop-next}
+use Rattle.rx_rules.specs.Code.{Block, Stmt, Async, AtAsync, At, Finish, If, Repeat, Try, Nothing, Then}
+use Rattle.rx_rules.specs.Order.{comes_before}
+use Rattle.rx_span.proofs.FromBelow.{Starts, comes_before-below, starts-not_below}
+use Rattle.rx_order.specs.Marks.{marks, marks_in, marks_of}
+use Rattle.rx_span.specs.Paths.{Names, NamesIn, IsPath, Comes}
+use Rattle.rx_span.specs.Inside.Sorting.{comes, shared}
+use Rattle.rx_span.specs.Inside.Kept.{leads}
+use Rattle.rx_span.proofs.Forks.{Fork, fork-before_in}
+
+-- Paths in order.
+
+pub comes-trans : (x y z : List ℕ) → Comes x y → Comes y z → Comes x z
+comes-trans [] [] z h k = absurd h
+comes-trans [] (j ∷ y) [] h k = absurd k
+comes-trans [] (j ∷ y) (l ∷ z) h k = tt
+comes-trans (i ∷ x) [] z h k = absurd h
+comes-trans (i ∷ x) (j ∷ y) [] h k = absurd k
+comes-trans (i ∷ x) (j ∷ y) (l ∷ z) (inl h) (inl k) = inl (omega arith)
+comes-trans (i ∷ x) (j ∷ y) (l ∷ z) (inl h) (inr k) = inl (let e = k.0 in omega arith)
+comes-trans (i ∷ x) (j ∷ y) (l ∷ z) (inr h) (inl k) = inl (let e = h.0 in omega arith)
+comes-trans (i ∷ x) (j ∷ y) (l ∷ z) (inr h) (inr k) = inr (h.0 ∙ k.0, comes-trans x y z h.1 k.1)
+
+pub comes-other : (x : List ℕ) → Comes x x → ⊥
+comes-other [] h = h
+comes-other (i ∷ x) (inl h) = omega arith
+comes-other (i ∷ x) (inr h) = comes-other x h.1
+
+-- the test
+pub comes-true : (x y : List ℕ) → comes x y ≡ true → Comes x y
+comes-true [] [] h = absurd (true≢false (sym h))
+comes-true [] (j ∷ y) h = tt
+comes-true (i ∷ x) [] h = absurd (true≢false (sym h))
+comes-true (i ∷ x) (j ∷ y) h = by_order (comes-true x y) (cases_order i j) h
+  where
+    by_order : (comes x y ≡ true → Comes x y) → (i ≡ j) ⊎ ((i < j) ⊎ (j < i)) → cond (i == j) (comes x y) (nat_lt i j) ≡ true → (i < j) ⊎ ((i ≡ j) × Comes x y)
+    by_order f (inl e) k = inr (e, f (rw (eq-eqb i j e) at k))
+    by_order f (inr (inl l)) k = inl l
+    by_order f (inr (inr l)) k = inl (ltb-true i j (rw (ne_eqb i j (λ e. omega arith)) at k))
+
+pub true-comes : (x y : List ℕ) → Comes x y → comes x y ≡ true
+true-comes [] [] h = absurd h
+true-comes [] (j ∷ y) h = refl
+true-comes (i ∷ x) [] h = absurd h
+true-comes (i ∷ x) (j ∷ y) (inl h) = rw (ne_eqb i j (λ e. omega arith), lt-ltb i j h) refl
+true-comes (i ∷ x) (j ∷ y) (inr h) = rw (eq-eqb i j h.0) (true-comes x y h.1)
+
+-- one of them comes first
+pub comes-either : (x y : List ℕ) → (x ≡ y) ⊎ (Comes x y ⊎ Comes y x)
+comes-either [] [] = inl refl
+comes-either [] (j ∷ y) = inr (inl tt)
+comes-either (i ∷ x) [] = inr (inr tt)
+comes-either (i ∷ x) (j ∷ y) = by_order (cases_order i j) (comes-either x y)
+  where
+    by_order : (i ≡ j) ⊎ ((i < j) ⊎ (j < i)) → (x ≡ y) ⊎ (Comes x y ⊎ Comes y x) → (i ∷ x ≡ j ∷ y) ⊎ (Comes (i ∷ x) (j ∷ y) ⊎ Comes (j ∷ y) (i ∷ x))
+    by_order (inl e) (inl f) = inl (cc (e, f))
+    by_order (inl e) (inr (inl f)) = inr (inl (inr (e, f)))
+    by_order (inl e) (inr (inr f)) = inr (inr (inr (sym e, f)))
+    by_order (inr (inl l)) k = inr (inl (inl l))
+    by_order (inr (inr l)) k = inr (inr (inl l))
+
+-- How far they go together.
+
+pub shared-more : (i j : ℕ) (x y : List ℕ) → i ≡ j → shared (i ∷ x) (j ∷ y) ≡ suc (shared x y)
+shared-more i j x y e = rw (eq-eqb i j e) refl
+
+pub shared-none : (i j : ℕ) (x y : List ℕ) → (i ≡ j → ⊥) → shared (i ∷ x) (j ∷ y) ≡ 0
+shared-none i j x y e = rw (ne_eqb i j e) refl
+
+pub shared-self : (x : List ℕ) → shared x x ≡ length x
+shared-self [] = refl
+shared-self (i ∷ x) = shared-more i i x x refl ∙ ap suc (shared-self x)
+
+pub shared-left : (x y : List ℕ) → shared x y ≤ length x
+shared-left [] y = omega arith
+shared-left (i ∷ x) [] = omega arith
+shared-left (i ∷ x) (j ∷ y) = cond_both (i == j) (suc (shared x y)) 0 (λ n. n ≤ suc (length x)) (λ e. (let h = shared-left x y in omega arith)) (λ e. omega arith)
+
+pub shared-right : (x y : List ℕ) → shared x y ≤ length y
+shared-right [] y = omega arith
+shared-right (i ∷ x) [] = omega arith
+shared-right (i ∷ x) (j ∷ y) = cond_both (i == j) (suc (shared x y)) 0 (λ n. n ≤ suc (length y)) (λ e. (let h = shared-right x y in omega arith)) (λ e. omega arith)
+
+-- of three paths in order
+pub shared-min : (x y z : List ℕ) → Comes x y → Comes y z → shared x z ≡ min (shared x y) (shared y z)
+shared-min [] y z h k = omega arith
+shared-min (i ∷ x) [] z h k = absurd h
+shared-min (i ∷ x) (j ∷ y) [] h k = absurd k
+shared-min (i ∷ x) (j ∷ y) (l ∷ z) (inl h) (inl k) = rw (shared-none i l x z (λ e. omega arith), shared-none i j x y (λ e. omega arith)) (omega arith)
+shared-min (i ∷ x) (j ∷ y) (l ∷ z) (inl h) (inr k) = let e = k.0 in rw (shared-none i l x z (λ e. omega arith), shared-none i j x y (λ e. omega arith)) (omega arith)
+shared-min (i ∷ x) (j ∷ y) (l ∷ z) (inr h) (inl k) = let e = h.0 in rw (shared-none i l x z (λ e. omega arith), shared-none j l y z (λ e. omega arith)) (omega arith)
+shared-min (i ∷ x) (j ∷ y) (l ∷ z) (inr h) (inr k) =
+    let r = shared-min x y z h.1 k.1 in rw (shared-more i l x z (h.0 ∙ k.0), shared-more i j x y h.0, shared-more j l y z k.0) (omega arith)
+
+pub shared-min_self : (x y : List ℕ) → shared x y ≡ min (shared x y) (shared y y)
+shared-min_self x y = let e = shared-self y in let h = shared-right x y in omega arith
+
+-- they part there, or the first begins the second
+pub fork-or-start : (x y : List ℕ) → Comes x y → Fork x y (shared x y) ⊎ (Starts x y × (shared x y ≡ length x))
+fork-or-start [] [] h = absurd h
+fork-or-start [] (j ∷ y) h = inr (tt, refl)
+fork-or-start (i ∷ x) [] h = absurd h
+fork-or-start (i ∷ x) (j ∷ y) (inl h) = inl (subst (Fork (i ∷ x) (j ∷ y)) (sym (shared-none i j x y (λ e. omega arith))) h)
+fork-or-start (i ∷ x) (j ∷ y) (inr h) =
+    ⊎_elim (λ (f : Fork x y (shared x y)). inl (subst (Fork (i ∷ x) (j ∷ y)) (sym (shared-more i j x y h.0)) (h.0, f)))
+    (λ (s : Starts x y × (shared x y ≡ length x)). inr ((h.0, s.0), shared-more i j x y h.0 ∙ ap suc s.1)) (fork-or-start x y h.1)
+
+-- a path has as many marks as numbers
+mutual
+  marks-all : (s : Stmt) (x : List ℕ) → Names s x → length (marks s x) ≡ length x
+  marks-all (Async body) [] n = refl
+  marks-all (Async body) (i ∷ x) n = marks-all_in body i x n
+  marks-all (AtAsync place body) [] n = refl
+  marks-all (AtAsync place body) (i ∷ x) n = marks-all_in body i x n
+  marks-all (At place body) [] n = refl
+  marks-all (At place body) (i ∷ x) n = marks-all_in body i x n
+  marks-all (Finish body) [] n = refl
+  marks-all (Finish body) (i ∷ x) n = marks-all_in body i x n
+  marks-all (If test first other) [] n = refl
+  marks-all (If test first other) (zero ∷ []) n = absurd n
+  marks-all (If test first other) (zero ∷ i ∷ x) n = ap suc (marks-all_in first i x n)
+  marks-all (If test first other) (suc zero ∷ []) n = absurd n
+  marks-all (If test first other) (suc zero ∷ i ∷ x) n = ap suc (marks-all_in other i x n)
+  marks-all (If test first other) (suc (suc k) ∷ x) n = absurd n
+  marks-all (Repeat times body) [] n = refl
+  marks-all (Repeat times body) (k ∷ []) n = absurd n
+  marks-all (Repeat times body) (k ∷ i ∷ x) n = ap suc (marks-all_in body i x n)
+  marks-all (Try body dead_only handler) [] n = refl
+  marks-all (Try body dead_only handler) (zero ∷ []) n = absurd n
+  marks-all (Try body dead_only handler) (zero ∷ i ∷ x) n = ap suc (marks-all_in body i x n)
+  marks-all (Try body dead_only handler) (suc zero ∷ []) n = absurd n
+  marks-all (Try body dead_only handler) (suc zero ∷ i ∷ x) n = ap suc (marks-all_in handler i x n)
+  marks-all (Try body dead_only handler) (suc (suc k) ∷ x) n = absurd n
+  marks-all s [] n = refl
+  marks-all s (i ∷ x) n = absurd n
+
+  marks-all_in : (b : Block) (i : ℕ) (x : List ℕ) → NamesIn b i x → length (marks_in b i x) ≡ suc (length x)
+  marks-all_in Nothing i x n = absurd n
+  marks-all_in (Then first rest) zero x n = ap suc (marks-all first x n)
+  marks-all_in (Then first rest) (suc i) x n = marks-all_in rest i x n
+
+pub marks_of-all : (code : Block) (x : List ℕ) → IsPath code x → length (marks_of code x) ≡ length x
+marks_of-all code [] n = absurd n
+marks_of-all code (i ∷ x) n = marks-all_in code i x n
+
+-- of two paths of a script in order, the first is before the second exactly if it leads from where they part
+pub before-leads : (code : Block) (x y : List ℕ) → IsPath code x → IsPath code y → Comes x y → comes_before code x y ≡ leads (drop (shared x y) (marks_of code x))
+before-leads code [] y n m h = absurd n
+before-leads code (i ∷ x) [] n m h = absurd h
+before-leads code (i ∷ x) (j ∷ y) n m h =
+    ⊎_elim (λ (f : Fork (i ∷ x) (j ∷ y) (shared (i ∷ x) (j ∷ y))). fork-before_in code i x j y (shared (i ∷ x) (j ∷ y)) n m f)
+    (λ (s : Starts (i ∷ x) (j ∷ y) × (shared (i ∷ x) (j ∷ y) ≡ suc (length x))). (
+    let none : drop (shared (i ∷ x) (j ∷ y)) (marks_in code i x) ≡ [] = drop_all (shared (i ∷ x) (j ∷ y)) (marks_in code i x) (let l = marks-all_in code i x n in let e = s.1 in omega arith) in
+    false_from_ne_true (comes_before code (i ∷ x) (j ∷ y)) (λ e. starts-not_below (i ∷ x) (j ∷ y) s.0 (comes_before-below code (i ∷ x) (j ∷ y) e)) ∙ sym (ap leads none)))
+    (fork-or-start (i ∷ x) (j ∷ y) h)
+
+-- The order of two paths, from how far they go together.
+
+same-test : (m n : ℕ) → nat_lt m n ≡ nat_lt (suc m) (suc n)
+same-test m n = grind (arith, nat_tests)
+
+pub order-at : (x y : List ℕ) (i j : ℕ) → slice_get x (shared x y) ≡ Some i → slice_get y (shared x y) ≡ Some j → comes x y ≡ nat_lt i j
+order-at [] y i j e f = cc
+order-at (k ∷ x) [] i j e f = cc
+order-at (k ∷ x) (l ∷ y) i j e f = by_order (order-at x y i j) (cases_eq k l) e f
+  where
+    by_order : (slice_get x (shared x y) ≡ Some i → slice_get y (shared x y) ≡ Some j → comes x y ≡ nat_lt i j) → (k ≡ l) ⊎ (k ≡ l → ⊥) → slice_get (k ∷ x) (shared (k ∷ x) (l ∷ y)) ≡ Some i → slice_get (l ∷ y) (shared (k ∷ x) (l ∷ y)) ≡ Some j → comes (k ∷ x) (l ∷ y) ≡ nat_lt i j
+    by_order g (inl h) e f =
+        rw (eq-eqb k l h) (g (rw (eq-eqb k l h) at e) (rw (eq-eqb k l h) at f))
+    by_order g (inr n) e f =
+        let p : Some k ≡ Some i = rw (ne_eqb k l n) at e in
+        let q : Some l ≡ Some j = rw (ne_eqb k l n) at f in
+        rw (ne_eqb k l n) (ap (λ m. nat_lt m l) (same_Some k i p) ∙ ap (λ m. nat_lt i m) (same_Some l j q))
+
+pub order-end : (x y : List ℕ) → (length x ≤ shared x y) ⊎ (length y ≤ shared x y) → comes x y ≡ nat_lt (length x) (length y)
+order-end [] [] h = refl
+order-end [] (l ∷ y) h = sym (lt-ltb 0 (suc (length y)) (omega arith))
+order-end (k ∷ x) [] h = sym (le-ltb (suc (length x)) 0 (omega arith))
+order-end (k ∷ x) (l ∷ y) h = by_order (order-end x y) (cases_eq k l) h
+  where
+    by_order : ((length x ≤ shared x y) ⊎ (length y ≤ shared x y) → comes x y ≡ nat_lt (length x) (length y)) → (k ≡ l) ⊎ (k ≡ l → ⊥) → (suc (length x) ≤ shared (k ∷ x) (l ∷ y)) ⊎ (suc (length y) ≤ shared (k ∷ x) (l ∷ y)) → comes (k ∷ x) (l ∷ y) ≡ nat_lt (suc (length x)) (suc (length y))
+    by_order g (inl e) (inl m) = rw (eq-eqb k l e) (g (inl (let f = shared-more k l x y e in omega arith)) ∙ same-test (length x) (length y))
+    by_order g (inl e) (inr m) = rw (eq-eqb k l e) (g (inr (let f = shared-more k l x y e in omega arith)) ∙ same-test (length x) (length y))
+    by_order g (inr n) (inl m) = absurd (let f = shared-none k l x y n in omega arith)
+    by_order g (inr n) (inr m) = absurd (let f = shared-none k l x y n in omega arith)
+
+-- The loop that counts the numbers from the front.
+
+pub shared-stop : (x y : List ℕ) (at i j : ℕ) → slice_get x at ≡ Some i → slice_get y at ≡ Some j → (i ≡ j → ⊥) → shared x y ≡ at + shared (drop at x) (drop at y) → at ≡ shared x y
+shared-stop x y at i j e f n h =
+    let g : shared (drop at x) (drop at y) ≡ 0 = rw (drop-next x at i e, drop-next y at j f) (shared-none i j (drop (at + 1) x) (drop (at + 1) y) n) in
+    omega arith
+
+pub shared-step : (x y : List ℕ) (at i j : ℕ) → slice_get x at ≡ Some i → slice_get y at ≡ Some j → i ≡ j → shared x y ≡ at + shared (drop at x) (drop at y) → shared x y ≡ at + 1 + shared (drop (at + 1) x) (drop (at + 1) y)
+shared-step x y at i j e f n h =
+    let g : shared (drop at x) (drop at y) ≡ suc (shared (drop (at + 1) x) (drop (at + 1) y)) = rw (drop-next x at i e, drop-next y at j f) (shared-more i j (drop (at + 1) x) (drop (at + 1) y) n) in
+    omega arith
+
+shared-nil : (x : List ℕ) → shared x [] ≡ 0
+shared-nil [] = refl
+shared-nil (i ∷ x) = refl
+
+pub shared-over_left : (x y : List ℕ) (at : ℕ) → length x ≤ at → shared x y ≡ at + shared (drop at x) (drop at y) → at ≡ shared x y
+shared-over_left x y at l h =
+    let g : shared (drop at x) (drop at y) ≡ 0 = ap (λ z. shared z (drop at y)) (drop_all at x l) in omega arith
+
+pub shared-over_right : (x y : List ℕ) (at : ℕ) → length y ≤ at → shared x y ≡ at + shared (drop at x) (drop at y) → at ≡ shared x y
+shared-over_right x y at l h =
+    let g : shared (drop at x) (drop at y) ≡ 0 = ap (shared (drop at x)) (drop_all at y l) ∙ shared-nil (drop at x) in omega arith

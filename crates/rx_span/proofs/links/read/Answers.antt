@@ -1,0 +1,68 @@
+use Rattle.std.proofs.Common.{◌≡◌, ◌∙◌, ℕ, ◌<◌, ◌≤◌, List, [], ◌∷◌, ◌++◌, length, map, get_or, ap, sym, subst, arith, rules, append_assoc, append-nil}
+use Rattle.std.specs.Prelude.{Some, slice_get, option_map}
+use Rattle.std.proofs.lemmas.Option.{slice_get_within, get_or_from_slice_get, slice_get-map, slice_get-get_or, same_Some}
+use Rattle.std.proofs.lemmas.List.{length-map}
+use Rattle.rx_base.proofs.Elements.{empty-from}
+use Rattle.rx_span.specs.Inside.Kept.{IsKept}
+use Rattle.rx_span.proofs.Ties.{first-found}
+use Rattle.rx_span.proofs.links.read.Goals as goal
+
+within-map : {X : Type 0} (f : X → List ℕ) (xs : List X) (i : ℕ) (x : List ℕ) → slice_get (map f xs) i ≡ Some x → i < length xs
+within-map f xs i x e = let l = slice_get_within (map f xs) i x e in let m = length-map xs f in omega arith
+
+at-map : {X : Type 0} (f : X → List ℕ) (xs : List X) (i : ℕ) (x : List ℕ) (y : X) → slice_get (map f xs) i ≡ Some x → y ≡ get_or xs i y → f y ≡ x
+at-map f xs i x y e g =
+    ap f g ∙ same_Some (f (get_or xs i y)) x (ap (option_map f) (sym (slice_get-get_or xs i y (within-map f xs i x e))) ∙ sym (slice_get-map f xs i) ∙ e)
+
+pub loop-rest-init : goal.loop-rest-init
+loop-rest-init c = λ cs d h k. (d, k, ap (λ l. l ++ d) (sym c.open-chain.ensures))
+
+pub bounds-paths-rest : goal.bounds-paths-rest
+bounds-paths-rest c =
+    let r = c.requires in
+    let v = c.loop-rest.invariant r.0 r.1 r.2 r.3 in
+    let f = first-found r.0 (map (λ p. p.now) c.args.paths.now) c.args.links.now r.2 c.loop-rest.rest v.0 c.loop-rest-test.true v.1 in
+    within-map (λ p. p.now) c.args.paths.now c.loop-rest.rest.head f.path f.path_at
+
+pub bounds-links-rest : goal.bounds-links-rest
+bounds-links-rest c =
+    let r = c.requires in
+    let v = c.loop-rest.invariant r.0 r.1 r.2 r.3 in
+    let f = first-found r.0 (map (λ p. p.now) c.args.paths.now) c.args.links.now r.2 c.loop-rest.rest v.0 c.loop-rest-test.true v.1 in
+    slice_get_within c.args.links.now c.loop-rest.rest.head f.link f.link_at
+
+pub offset_bounds-paths-rest : goal.offset_bounds-paths-rest
+offset_bounds-paths-rest c = let h : c.loop-rest.rest.head < length c.args.paths.now = bounds-paths-rest c in search rules
+
+pub offset_bounds-links-rest : goal.offset_bounds-links-rest
+offset_bounds-links-rest c = let h : c.loop-rest.rest.head < length c.args.links.now = bounds-links-rest c in search rules
+
+pub loop-rest-smaller : goal.loop-rest-smaller
+loop-rest-smaller c =
+    let r = c.requires in
+    let v = c.loop-rest.invariant r.0 r.1 r.2 r.3 in
+    let f = first-found r.0 (map (λ p. p.now) c.args.paths.now) c.args.links.now r.2 c.loop-rest.rest v.0 c.loop-rest-test.true v.1 in
+    let e : get_or c.args.links.now c.loop-rest.rest.head (record { length = 0; head = 0 }) ≡ f.link = get_or_from_slice_get c.args.links.now c.loop-rest.rest.head f.link (record { length = 0; head = 0 }) f.link_at in
+    let n : (get_or c.args.links.now c.loop-rest.rest.head (record { length = 0; head = 0 })).length ≡ length f.rest = ap (λ k. k.length) e ∙ f.kept.len in
+    let m : c.loop-rest.rest.length ≡ length v.0 = v.1.len in
+    let w : length v.0 ≡ length (f.path ∷ f.rest) = ap length f.whole in
+    omega arith
+
+pub loop-rest-preserved : goal.loop-rest-preserved
+loop-rest-preserved c cs d h k =
+    let v = c.loop-rest.invariant cs d h k in
+    let f = first-found cs (map (λ p. p.now) c.args.paths.now) c.args.links.now h c.loop-rest.rest v.0 c.loop-rest-test.true v.1 in
+    let e : get_or c.args.links.now c.loop-rest.rest.head (record { length = 0; head = 0 }) ≡ f.link = get_or_from_slice_get c.args.links.now c.loop-rest.rest.head f.link (record { length = 0; head = 0 }) f.link_at in (
+      f.rest,
+      subst (λ l. IsKept cs l f.rest) (sym e) f.kept,
+      v.2 ∙ ap (λ l. c.loop-rest.chain ++ l) f.whole ∙ sym (append_assoc c.loop-rest.chain (f.path ∷ []) f.rest)
+          ∙ ap (λ y. (c.loop-rest.chain ++ y ∷ []) ++ f.rest) (sym (c.in_ok-copy.ensures ∙ at-map (λ p. p.now) c.args.paths.now c.loop-rest.rest.head f.path c.index-paths-rest.result f.path_at c.index-paths-rest.is)) ∙ ap (λ l. l ++ f.rest) (sym c.in_ok-push.ensures.ok),
+    )
+
+pub returns : goal.returns
+returns c cs d h k =
+    let v = c.loop-rest.invariant cs d h k in
+    let e : c.loop-rest.rest.length ≡ length v.0 = v.1.len in
+    let z : c.loop-rest.rest.length ≤ 0 = c.loop-rest-test.false in
+    let none : v.0 ≡ [] = empty-from v.0 (omega arith) in
+    sym (v.2 ∙ ap (λ l. c.loop-rest.chain ++ l) none ∙ append-nil c.loop-rest.chain)

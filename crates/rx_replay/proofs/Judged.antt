@@ -13,10 +13,11 @@ use Rattle.rx_verdict.specs.Verdicts.{CauseOf, IsGood, Precedes}
 use Rattle.rx_verdict.specs.declared.verdict.Verdict.TheVariants.{Run, Entry as AtEntry, End, Event, Open}
 use Rattle.rx_verdict.specs.Goods.{IsNextGood}
 use Rattle.rx_verdict.proofs.Stamps.{good_goes_on}
+use Rattle.rx_replay.proofs.SomeCauses.{causes_ask_some}
 use Rattle.rx_replay.specs.declared.flaws.EventAt.{EventAt}
 use Rattle.rx_replay.specs.Marks.{row_at}
 use Rattle.rx_replay.specs.Flaws.{CauseAt, IsSound, IsFirstFlaw}
-use Rattle.rx_replay.specs.Judged.{MarksTell, IsFirstBad, FlawIsBad, EventsDecide}
+use Rattle.rx_replay.specs.Judged.{MarksTell, MadeMarksTell, IsFirstBad, FlawIsBad, EventsDecide}
 
 module _ (code : Block) (U : Given) (es : List Entry) (js : List (List PlaceEvent)) (ms : List (List Bool)) (tell : MarksTell code U es js ms) where
   death : ℕ → Option ℕ
@@ -73,3 +74,9 @@ events_decide code U es js ms Run parts ends long tell h =
     (parts, ends, flaw-is code U es js ms tell None h.0, λ q l. h.1 q (omega (arith, l, long)))
 events_decide code U es js ms (AtEntry n) parts ends long tell h = absurd h
 events_decide code U es js ms End parts ends long tell h = absurd h
+
+pub made_marks_tell : MadeMarksTell
+made_marks_tell code U es js ms begin whole made = record {
+  made = made;
+  some = λ p e task stamp cell path at mark. causes_ask_some Between code U es js p e task stamp cell path begin whole at ((made p e task stamp cell path at).1 mark);
+}

@@ -10,3 +10,5 @@ pub mod Journals
 pub mod OneJournal
 pub mod Judged
 pub mod Worked
+pub mod FromBelow
+pub mod SomeCauses

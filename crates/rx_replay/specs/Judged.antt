@@ -8,7 +8,9 @@ use Rattle.rx_rules.specs.declared.events.PlaceEvent.TheVariants.{Done}
 use Rattle.rx_rules.specs.Code.{Block}
 use Rattle.rx_rules.specs.Plays.{journal_at}
 use Rattle.rx_rules.specs.Run.{Given, in_all, EndsWithRoot}
+use Rattle.rx_runs.specs.SomeWords.{MakesSome}
 use Rattle.rx_verdict.specs.Makes.{Between}
+use Rattle.rx_verdict.specs.Marks.{WholePass}
 use Rattle.rx_verdict.specs.declared.verdict.Verdict.{Verdict}
 use Rattle.rx_verdict.specs.declared.verdict.Verdict.TheVariants.{Run, Entry as AtEntry, End, Event, Open}
 use Rattle.rx_verdict.specs.Verdicts.{HasCause, IsGood, GoodBefore, AllGood, AllParts, IsVerdict}
@@ -18,15 +20,25 @@ use Rattle.rx_replay.specs.Marks.{marked}
 use Rattle.rx_replay.specs.Flaws.{IsFirstFlaw}
 use Rattle.rx_replay.specs.Closes.{IsFirstUnclosed}
 
--- An event of a task is marked exactly where it has its cause, with its stamp between the entries of the task; and no marked event
--- asks for a block of no words.
+-- an event of a task is marked exactly where it has its cause, with its stamp between the entries of the task
+abbrev pub MarksMade : Block → Given → List Entry → List (List PlaceEvent) → List (List Bool) → Type 0
+MarksMade code U es js ms =
+    (p e : ℕ) (task : TaskId) (stamp : ℕ) (cell : Cell) (path : List ℕ)
+    → slice_get (journal_at js p) e ≡ Some (Done task stamp cell path)
+    → HasCause Between code U es js p e ↔ (marked ms p e ≡ true)
+
+-- moreover no marked event asks for a block of no words
 pub record MarksTell (code : Block) (U : Given) (es : List Entry) (js : List (List PlaceEvent)) (ms : List (List Bool))
     : Type 0 where
-  pub made : (p e : ℕ) (task : TaskId) (stamp : ℕ) (cell : Cell) (path : List ℕ)
-      → slice_get (journal_at js p) e ≡ Some (Done task stamp cell path)
-      → HasCause Between code U es js p e ↔ (marked ms p e ≡ true)
+  pub made : MarksMade code U es js ms
   pub some : (p e : ℕ) (task : TaskId) (stamp : ℕ) (cell : Cell) (path : List ℕ)
       → slice_get (journal_at js p) e ≡ Some (Done task stamp cell path) → marked ms p e ≡ true → AsksSome cell
+
+-- the second follows where all entries are allowed and made, and each `new` of the script asks for a word or more
+abbrev pub MadeMarksTell : Type 0
+MadeMarksTell =
+    (code : Block) (U : Given) (es : List Entry) (js : List (List PlaceEvent)) (ms : List (List Bool))
+    → MakesSome code → WholePass code U es js → MarksMade code U es js ms → MarksTell code U es js ms
 
 -- none where all events are good, or else the first that is not
 abbrev pub IsFirstBad : Block → Given → List Entry → List (List PlaceEvent) → Option EventAt → Type 0

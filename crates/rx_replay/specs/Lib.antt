@@ -4,5 +4,6 @@ pub mod Marks
 pub mod Flaws
 pub mod Closes
 pub mod Judged
+pub mod SomeWords
 pub mod Worked
 pub mod Inside

@@ -2,7 +2,8 @@
 ghost use Rattle.rx_replay.specs.Asks.{OneAnswer};
 ghost use Rattle.rx_replay.specs.Lawful.{OneLawfulCount};
 ghost use Rattle.rx_replay.specs.Marks.{NoMarks, OneMark};
-ghost use Rattle.rx_replay.specs.Judged.{FlawIsBad, EventsDecide};
+ghost use Rattle.rx_replay.specs.Judged.{FlawIsBad, EventsDecide, MadeMarksTell};
+ghost use Rattle.rx_replay.specs.SomeWords.{CausesAskSome};
 ghost use Rattle.rx_replay.specs.Worked.{WorkedCounts};
 
 /// To one call, in one state of a store, the law of stores allows one answer.
@@ -30,9 +31,20 @@ pub fn first_flaw_is_first_bad()
     ensures { FlawIsBad }
 {}
 
+/// Where the marks tell which events are made, no marked event asks for a block of no words, if each `new` of the script asks for
+/// a word or more.
+pub fn made_marks_tell()
+    ensures { MadeMarksTell }
+{}
+
 /// Where all entries are a part of a run and the marks tell which events are made, the verdict of the events is the verdict.
 pub fn events_decide()
     ensures { EventsDecide }
+{}
+
+/// Where each `new` of the script asks for a word or more, no event that has its cause asks for a block of no words.
+pub fn causes_ask_some()
+    ensures { CausesAskSome }
 {}
 
 /// How many events of the worked journals are lawful.

@@ -1,0 +1,7 @@
+pub mod Same
+pub mod Agreeing
+pub mod Staying
+pub mod Asked
+pub mod Noted
+pub mod Admitted
+pub mod Audited

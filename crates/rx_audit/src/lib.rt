@@ -9,5 +9,7 @@ mod audit;
 mod granting;
 mod noting;
 mod row;
+#[cfg(test)]
+mod tests;
 
 pub use audit::Audit;

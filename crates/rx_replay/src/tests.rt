@@ -1,8 +1,10 @@
-// Journals by hand: how far they are lawful, which event is the first without a cause, and which place was not closed.
-use crate::{EventAt, Marks, first_flaw, first_unclosed, lawful_events};
+// Journals by hand: how far they are lawful, which event is the first without a cause, which place was not closed, and the verdict.
+use crate::{EventAt, Marks, first_flaw, first_unclosed, judge_events, lawful_events};
 use rx_base::{GlobalRef, NoMemory, Path, PlaceId, TaskId};
 use rx_history::{History, JoinList, Journal, Journals, KillList, Setup};
-use rx_rules::{Cell, PlaceEvent};
+use rx_rules::{Cell, Entry, PlaceEvent};
+use rx_verdict::Verdict;
+use std::alloc::Global;
 use std::test::Fail;
 
 const HERE: PlaceId = PlaceId(0);
@@ -116,5 +118,46 @@ fn an_unmarked_event_has_no_cause(rt: HostRuntime) -> Result<(), Fail> {
         })
     );
     assert_eq!(rt; first_unclosed(&history, &journals), None);
+    Ok(())
+}
+
+// A place's close, if it has one.
+fn closed(alloc: Global, close: Option<u32>) -> Result<Journal, NoMemory> {
+    let mut journal = Journal::open(alloc);
+    if let Some(stamp) = close {
+        journal.reserve(1)?;
+        journal.add(PlaceEvent::Close { stamp });
+    }
+    Ok(journal)
+}
+
+// The verdict of the events where place 1 dies in the first entry and its journal has this close.
+fn judged(alloc: Global, close: Option<u32>) -> Result<Verdict, NoMemory> {
+    let setup = Setup {
+        places: 2,
+        heap: 8,
+        kills: KillList::open(alloc),
+        joins: JoinList::open(alloc),
+    };
+    let mut history = History::open(alloc, setup);
+    history.reserve(1)?;
+    history.add(Entry::Death { place: PlaceId(1) });
+    let mut journals = Journals::open(alloc);
+    journals.push(Journal::open(alloc))?;
+    journals.push(closed(alloc, close)?)?;
+    let marks = Marks::open(alloc, &journals)?;
+    judge_events(alloc, &history, &journals, &marks)
+}
+
+#[test]
+fn a_death_needs_its_close(rt: HostRuntime) -> Result<(), Fail> {
+    let late = Verdict::Event {
+        place: PlaceId(1),
+        number: 0,
+    };
+    let open = Verdict::Open { place: PlaceId(1) };
+    for (close, want) in [(Some(0), Verdict::Run), (Some(1), late), (None, open)] {
+        assert_eq!(rt; judged(rt.alloc(), close)?, want);
+    }
     Ok(())
 }

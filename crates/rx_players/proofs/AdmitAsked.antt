@@ -1,0 +1,321 @@
+-- The players after a request.
+use Rattle.std.specs.Prelude.{◌≡◌, ◌⊎◌, ℕ, suc, ◌+◌, ◌<◌, ◌≤◌, ◌==◌, not, cond, Bool, true, false, List, [], ◌∷◌, ◌++◌, length, take, drop, Option, Some, None, option_to_list, slice_set, refl}
+use Rattle.std.specs.List.{filter_map}
+use Rattle.std.proofs.Common.{ap, sym, subst, ◌∙◌, arith, inl, inr, ⊎_elim}
+use Rattle.std.proofs.lemmas.Bool.{eq-eqb}
+use Rattle.std.proofs.lemmas.List.{append-nil, length-set}
+use Rattle.std.proofs.lemmas.Option.{slice_get_within}
+use Rattle.rx_base.specs.declared.ids.PlaceId.{PlaceId}
+use Rattle.rx_base.specs.declared.ids.TaskId.{TaskId}
+use Rattle.rx_base.proofs.Elements.{length-push}
+use Rattle.rx_rules.specs.declared.entries.Act.{Act}
+use Rattle.rx_rules.specs.declared.entries.Act.TheVariants.{At as Called, Spawn, Census}
+use Rattle.rx_rules.specs.declared.entries.Entry.{Entry}
+use Rattle.rx_rules.specs.declared.entries.Entry.TheVariants.{Step}
+use Rattle.rx_rules.specs.declared.events.PlaceEvent.{PlaceEvent}
+use Rattle.rx_rules.specs.Code.{Block}
+use Rattle.rx_rules.specs.Entries.{AllowedAct}
+use Rattle.rx_rules.specs.Fold.{births, tree_of}
+use Rattle.rx_rules.specs.Picked.{Player, acted}
+use Rattle.rx_rules.specs.Plays.{Birth, Cells, Fits, birth_in, birth_of, cell_of, journal_at, moves_from, started_by, travels, vars_told}
+use Rattle.rx_rules.specs.Run.{Given}
+use Rattle.rx_rules.specs.Terms.{Term, Vars, Does, Counts, child}
+use Rattle.rx_rules.specs.Tree.{Tree}
+use Rattle.rx_rules.proofs.Append.{joins_in, tree-places}
+use Rattle.rx_sound.specs.Histories.{FoldReached}
+use Rattle.rx_sound.specs.Sound.{ReachedSound}
+use Rattle.rx_runs.specs.Games.{fresh}
+use Rattle.rx_runs.proofs.Told.{IsNext}
+use Rattle.rx_nodes.specs.Shape.{Shape}
+use Rattle.rx_control.specs.declared.step.Want.{Want}
+use Rattle.rx_control.specs.declared.step.Next.TheVariants.{Book}
+use Rattle.rx_control.specs.Next.{next_of}
+use Rattle.rx_verdict.specs.Events.{after}
+use Rattle.rx_verdict.specs.Makes.{cells_of}
+use Rattle.rx_verdict.specs.Marks.{home_of, low_of}
+use Rattle.rx_verdict.specs.Seats as pass
+use Rattle.rx_verdict.specs.Seats.{SeatAsks, newborn_seat, newborn_seats}
+use Rattle.rx_verdict.specs.Verdicts.{Part}
+use Rattle.rx_verdict.specs.Walks.{next_does, AsksLedger}
+use Rattle.rx_players.specs.declared.seat.Seat.{Seat}
+use Rattle.rx_players.specs.declared.seat.Stop.TheVariants.{Asks}
+use Rattle.rx_players.specs.declared.players.Slot.{Slot}
+use Rattle.rx_players.specs.declared.players.Slot.TheVariants.{Away, Here}
+use Rattle.rx_players.specs.declared.players.Players.{Players}
+use Rattle.rx_players.specs.declared.table.EventTable.{EventTable}
+use Rattle.rx_players.specs.Events.{IsFirst}
+use Rattle.rx_players.specs.Marked.{MarksAre}
+use Rattle.rx_players.specs.Players.{Awaits, IsSeat, SlotIs, PlayersAre}
+use Rattle.rx_players.specs.Stood.{Stood}
+use Rattle.rx_players.specs.Table.{TableIs}
+use Rattle.rx_players.specs.Inside.Admitted.{Stopped}
+use Rattle.rx_players.specs.Inside.Requests.{CountsMore, GoneOn, IsAsked, IsChild, IsNewborn, slot_for, wanted}
+use Rattle.rx_players.proofs.AdmitEntries.{newborn_birth, newborn_moves, starts_at}
+use Rattle.rx_players.proofs.AdmitPlayers.{changed_size, count_is, home_stays, low_now, many, more_places, next_is, one_changed}
+use Rattle.rx_players.proofs.AdmitRequests.{fits_cut}
+use Rattle.rx_players.proofs.AdmitSlots.{Each, each_push}
+use Rattle.rx_players.proofs.MarksEnd.{asks_ledger}
+use Rattle.rx_players.proofs.MarksOn.{marks_born_away, marks_born_here, marks_stay}
+use Rattle.rx_players.proofs.MarksWalk.{births-few}
+
+-- What a census tells.
+
+told_known : (T : Tree) (t : TaskId) (d : Does) (act : Act) (vars : Vars) → vars.places ≤ T.places → AllowedAct T t act → (vars_told d act vars).places ≤ T.places
+told_known T t (Counts name) (Census n x) vars le may = let is : n ≡ T.places = may.asks.1 in omega (arith, is)
+told_known T t d act vars le may = le
+
+counts_more : (T : Tree) (t : TaskId) (act : Act) (known : ℕ) → AllowedAct T t act → 1 ≤ T.places → T.places ≤ 16 → known ≤ T.places → CountsMore known act
+counts_more T t act known may some few le n x e =
+    let is : n ≡ T.places = (subst (λ (v : Act). AllowedAct T t v) e may).asks.1 in
+    (omega (arith, is, some), omega (arith, is, few), omega (arith, is, le))
+
+-- Whom an act starts.
+
+pub record Starts (shape : Shape) (table : EventTable) (number : ℕ) (z : Player) (act : Act) (o : Option Slot) : Type 0 where
+  pub task : TaskId
+  pub from : PlaceId
+  pub to : PlaceId
+  pub seat : Seat
+  pub starts : started_by act ≡ Some task
+  pub birth : (n : ℕ) (t : TaskId) (batch : List (List ℕ)) → birth_in n task.0 (Step t act batch) ≡ Some (record { from = from; to = to; low = suc n })
+  pub slot : o ≡ Some (slot_for from to seat)
+  pub is : IsChild shape table number z task to seat
+
+whom : (shape : Shape) (table : EventTable) (number : ℕ) (z : Player) (act : Act) (o : Option Slot) → IsNewborn shape table number z act o → Starts shape table number z act o ⊎ ((started_by act ≡ None) × (o ≡ None))
+whom shape table number z (Called s r c from to x) o h =
+    inl (record { task = c; from = from; to = to; seat = h.0; starts = refl; birth = λ n t batch. rw (eq-eqb c.0 c.0 refl); slot = h.1; is = h.2 })
+whom shape table number z (Spawn c s from to x) o h =
+    inl (record { task = c; from = from; to = to; seat = h.0; starts = refl; birth = λ n t batch. rw (eq-eqb c.0 c.0 refl); slot = h.1; is = h.2 })
+whom shape table number z act o h = inr (refl, h)
+
+module _ (shape : Shape) (code : Block) (U : Given) (es : List Entry) (js : List (List PlaceEvent)) (i : ℕ) (ps : Players) (task : TaskId) (act : Act) (batch : List (List ℕ)) (want : Want) (h : Stopped shape code U es js i ps task act batch (Asks want)) where
+  abbrev a : Awaits shape code U es js i ps (Step task act batch)
+  a = h.awaits
+
+  abbrev z : Player
+  z = h.stops.player
+
+  abbrev seat : Seat
+  seat = h.stops.seat
+
+  abbrev left : Cells
+  left = h.stops.left
+
+  abbrev before : List Entry
+  before = take i es
+
+  abbrev later : List Entry
+  later = take (suc i) es
+
+  abbrev y : Player
+  y = acted seat.home z act
+
+  pub seated : IsSeat shape U.places before js task.0 seat z left
+  seated = a.players.each task.0 (Here seat) (pass.Stands z left) h.stops.slot h.stops.stands
+
+  inside : task.0 < length ps.slots.items
+  inside = slice_get_within ps.slots.items task.0 (Here seat) h.stops.slot
+
+  asks_there : AsksLedger (next_does (home_of before task.0) z)
+  asks_there = subst (λ (p : PlaceId). AsksLedger (next_does p z)) seated.home (asks_ledger (next_does seat.home z) want h.stops.stops)
+
+  -- only there is the entry made
+  pub asks_only : SeatAsks → Part code U es js (suc i) → (batch ≡ seat.batch) × Fits seat.home z.term (next_does seat.home z) act
+  asks_only law k =
+      let r = (law code U es js i a.players.seats task act batch z left a.players.seated a.follows h.stops.stands asks_there).1 k in
+      (r.0 ∙ sym seated.stood.batch, subst (λ (p : PlaceId). Fits p z.term (next_does p z) act) (sym seated.home) r.1)
+
+  -- of the seat as it was taken out of its slot
+  pub at_hand : (got : Seat) → got ≡ seat → wanted want got.home act ≡ true → Stood shape js got z left × IsAsked got.home (next_does got.home z) act
+  at_hand got e w = (
+    subst (λ (v : Seat). Stood shape js v z left) (sym e) seated.stood,
+    (want, subst (λ (v : Seat). next_of (next_does v.home z) ≡ Book want) (sym e) h.stops.stops, w),
+  )
+
+  -- its request is of the kind that is wanted
+  pub is_of_kind : SeatAsks → (got : Seat) → got ≡ seat → Part code U es js (suc i) → wanted want got.home act ≡ true
+  is_of_kind law got e k =
+      subst (λ (v : Seat). wanted want v.home act ≡ true) (sym e)
+      ((fits_cut seat.home z.term (next_does seat.home z) act want h.stops.stops).0 (asks_only law k).1).0
+
+  -- a census may be told
+  pub tells_more : FoldReached → ReachedSound → CountsMore seat.control.vars.places act
+  tells_more reached sound =
+      let T : Tree = tree_of U.places before in
+      let p = a.players.seated in
+      let some = p.some in
+      let all : T.places ≡ U.places + joins_in before = tree-places U.places before in
+      let known : seat.control.vars.places ≤ T.places = subst (λ (v : Vars). v.places ≤ T.places) (sym seated.stood.vars) seated.known in
+      counts_more T task act seat.control.vars.places a.follows.allowed (omega (arith, some, all)) (sound T (reached U.places before p.some p.few p.allowed)).few known
+
+  -- Its slot after the entry.
+
+  own : (new : Seat) → GoneOn shape js seat new i y left → SlotIs shape U.places later js task.0 (Here new) (pass.Stands y left)
+  own new g =
+      let known = told_known (tree_of U.places before) task (next_does seat.home z) act z.vars seated.known a.follows.allowed in
+      let wider = more_places shape code U es js i ps task act batch a in
+      record {
+        number = ap (λ (t : TaskId). t.0) g.task ∙ seated.number;
+        home = g.home ∙ (seated.home ∙ sym (home_stays shape code U es js i ps task act batch a inside));
+        low = g.low ∙ sym (low_now shape code U es js i ps task act batch a);
+        known = omega (arith, known, wider);
+        stood = g.stood;
+      }
+
+  own_marks : (new : Seat) → GoneOn shape js seat new i y left → MarksAre code U es js (slice_set ps.slots.items task.0 (Here new)) ps.marks
+  own_marks new g = marks_stay code U es js ps.marks ps.slots.items task.0 seat new h.stops.slot g.home g.position a.players.marks
+
+  own_each : (new : Seat) → GoneOn shape js seat new i y left → Each (SlotIs shape U.places later js) (slice_set ps.slots.items task.0 (Here new)) (slice_set a.players.seats task.0 (pass.Stands y left))
+  own_each new g = one_changed shape code U es js i ps task act batch a (Here new) (pass.Stands y left) inside (own new g)
+
+  own_size : (new : Seat) → length (slice_set ps.slots.items task.0 (Here new)) ≡ length (slice_set a.players.seats task.0 (pass.Stands y left))
+  own_size new = changed_size shape code U es js i ps task act batch a (Here new) (pass.Stands y left)
+
+  -- The seats of the pass after it.
+
+  pass_seats : SeatAsks → batch ≡ seat.batch → Fits seat.home z.term (next_does seat.home z) act → pass.Seated code U later js (slice_set a.players.seats task.0 (pass.Stands y left) ++ newborn_seats later js z act)
+  pass_seats law same fits =
+      let home = seated.home in
+      let it = (law code U es js i a.players.seats task act batch z left a.players.seated a.follows h.stops.stands asks_there).0
+      (same ∙ seated.stood.batch, subst (λ (p : PlaceId). Fits p z.term (next_does p z) act) home fits) in
+      subst (λ (p : PlaceId). pass.Seated code U later js (slice_set a.players.seats task.0 (pass.Stands (acted p z act) left) ++ newborn_seats later js z act)) (sym home) it
+
+  -- The slot of the task that the act starts.
+
+  module _ (o : Option Slot) (s : Starts shape ps.table i z act o) where
+    abbrev c : ℕ
+    c = s.task.0
+
+    abbrev r : Term × Vars
+    r = (child z.term, z.vars)
+
+    abbrev b : Birth
+    b = record { from = s.from; to = s.to; low = suc (0 + length before) }
+
+    is_next : c ≡ 1 + births before
+    is_next = subst (λ (v : Option TaskId). IsNext (1 + births before) v) s.starts (starts_at code U before js a.players.seats a.players.seated task act batch a.follows.allowed)
+
+    one_seat : newborn_seats later js z act ≡ newborn_seat later js c r ∷ []
+    one_seat = ap (λ (v : Option TaskId). elim v as (λ _. List pass.Seat) [ Some d ↦ newborn_seat later js d.0 r ∷ [] | None ↦ [] ]) s.starts
+
+    birth_is : birth_of later c ≡ b
+    birth_is =
+        ap (λ (l : List Entry). birth_of l c) (next_is shape code U es js i ps task act batch a)
+        ∙ newborn_birth code U before js a.players.seats a.players.seated task act batch a.follows.allowed s.task b is_next (s.birth (0 + length before) task batch)
+
+    moves_none : moves_from 0 later c ≡ []
+    moves_none =
+        let low = inside in
+        let all = many shape code U es js i ps task act batch a in
+        let size = a.players.size in
+        ap (λ (l : List Entry). moves_from 0 l c) (next_is shape code U es js i ps task act batch a)
+        ∙ newborn_moves code U before js a.players.seats a.players.seated task act batch a.follows.allowed s.task (omega (arith, low, all, size)) is_next
+
+    low_is : low_of later c ≡ suc i
+    low_is =
+        let z0 : 0 + length before ≡ i = (let k = count_is shape code U es js i ps task act batch a in omega (arith, k)) in
+        (λ j. after (birth_is j).low (moves_none j)) ∙ ap suc z0
+
+    -- its number is one for the table
+    few_tasks : c < suc (length es)
+    few_tasks =
+        let at = is_next in
+        let few = births-few before in
+        let k = count_is shape code U es js i ps task act batch a in
+        let l = slice_get_within es i (Step task act batch) a.follows.here in
+        omega (arith, at, few, k, l)
+
+    first : IsFirst c (journal_at js s.to.0) 0 s.seat.position
+    first = s.is.first js (suc (length es)) a.players.table few_tasks
+
+    child_stood : Stood shape js s.seat (fresh r) (cells_of later js c)
+    child_stood =
+        let less = s.is.fewer in
+        let few = seated.stood.few in
+        let home : s.to ≡ home_of later c = ap (λ (v : Birth). v.to) (sym birth_is) in
+        record {
+          term = s.is.term;
+          vars = s.is.vars;
+          batch = s.is.batch;
+          events = (λ j. filter_map (cell_of (s.is.task j).0) (drop s.seat.position (journal_at js (s.is.home j).0))) ∙ (first.same ∙ ap (λ (p : PlaceId). filter_map (cell_of c) (journal_at js p.0)) home);
+          first = subst (λ (v : TaskId × PlaceId). IsFirst v.0.0 (journal_at js v.1.0) s.seat.position s.seat.position) {x = (s.task, s.to)} {y = (s.seat.task, s.seat.home)} (λ j. (sym s.is.task j, sym s.is.home j))
+              (record { here = first.here; same = refl });
+          few = omega (arith, less, few);
+        }
+
+    child_is : IsSeat shape U.places later js c s.seat (fresh r) (cells_of later js c)
+    child_is =
+        let known = seated.known in
+        let wider = more_places shape code U es js i ps task act batch a in
+        record {
+          number = ap (λ (t : TaskId). t.0) s.is.task;
+          home = s.is.home ∙ ap (λ (v : Birth). v.to) (sym birth_is);
+          low = s.is.low ∙ sym low_is;
+          known = omega (arith, known, wider);
+          stood = child_stood;
+        }
+
+    child_slot : SlotIs shape U.places later js c (slot_for s.from s.to s.seat) (newborn_seat later js c r)
+    child_slot = by_place (s.from.0 == s.to.0) (travels (birth_of later c)) (ap travels birth_is) where
+      by_place : (at w : Bool) → w ≡ not at → SlotIs shape U.places later js c (cond at (Here s.seat) (Away s.seat)) (cond w (pass.Away r) (pass.Stands (fresh r) (cells_of later js c)))
+      by_place true w e = subst (λ (v : Bool). SlotIs shape U.places later js c (Here s.seat) (cond v (pass.Away r) (pass.Stands (fresh r) (cells_of later js c)))) (sym e) child_is
+      by_place false w e = subst (λ (v : Bool). SlotIs shape U.places later js c (Away s.seat) (cond v (pass.Away r) (pass.Stands (fresh r) (cells_of later js c)))) (sym e) child_is
+
+    -- it comes after the others
+    is_last : (new : Seat) → length (slice_set ps.slots.items task.0 (Here new)) ≡ c
+    is_last new =
+        let all = many shape code U es js i ps task act batch a in
+        let size = a.players.size in
+        let at = is_next in
+        let k = length-set ps.slots.items task.0 (Here new) in
+        omega (arith, all, size, at, k)
+
+    child_marks : (new : Seat) → GoneOn shape js seat new i y left → MarksAre code U es js (slice_set ps.slots.items task.0 (Here new) ++ slot_for s.from s.to s.seat ∷ []) ps.marks
+    child_marks new g = by_place (s.from.0 == s.to.0) where
+      by_place : (at : Bool) → MarksAre code U es js (slice_set ps.slots.items task.0 (Here new) ++ cond at (Here s.seat) (Away s.seat) ∷ []) ps.marks
+      by_place true =
+          marks_born_here code U es js ps.marks (slice_set ps.slots.items task.0 (Here new)) s.seat
+          (subst (λ (v : ℕ × PlaceId). IsFirst v.0 (journal_at js v.1.0) 0 s.seat.position) {x = (c, s.to)} {y = (length (slice_set ps.slots.items task.0 (Here new)), s.seat.home)} (λ j. (sym (is_last new) j, sym s.is.home j)) first)
+          (own_marks new g)
+      by_place false = marks_born_away code U es js ps.marks (slice_set ps.slots.items task.0 (Here new)) s.seat (own_marks new g)
+
+    child_each : (new : Seat) → GoneOn shape js seat new i y left → Each (SlotIs shape U.places later js) (slice_set ps.slots.items task.0 (Here new) ++ slot_for s.from s.to s.seat ∷ []) (slice_set a.players.seats task.0 (pass.Stands y left) ++ newborn_seat later js c r ∷ [])
+    child_each new g =
+        each_push (SlotIs shape U.places later js) (slice_set ps.slots.items task.0 (Here new)) (slice_set a.players.seats task.0 (pass.Stands y left)) (slot_for s.from s.to s.seat) (newborn_seat later js c r) (own_size new)
+        (subst (λ (n : ℕ). SlotIs shape U.places later js n (slot_for s.from s.to s.seat) (newborn_seat later js c r)) (sym (is_last new)) child_slot)
+        (own_each new g)
+
+  -- The players after the request.
+
+  pub asked : (new : Players) (on : Seat) (o : Option Slot) → SeatAsks → batch ≡ seat.batch → Fits seat.home z.term (next_does seat.home z) act → GoneOn shape js seat on i y left → IsNewborn shape ps.table i z act o → new.slots.items ≡ slice_set ps.slots.items task.0 (Here on) ++ option_to_list o → new.table ≡ ps.table → new.marks ≡ ps.marks → PlayersAre shape code U es js (suc i) new
+  asked new on o law same fits g born slots table marks = ⊎_elim one none (whom shape ps.table i z act o born) where
+    -- with these slots and seats
+    over : (all : List Slot) (seats : List pass.Seat) → pass.Seated code U later js seats → length all ≡ length seats → Each (SlotIs shape U.places later js) all seats → MarksAre code U es js all ps.marks → new.slots.items ≡ all → PlayersAre shape code U es js (suc i) new
+    over all seats sits size each h is =
+        record {
+          seats = seats;
+          seated = sits;
+          size = ap length is ∙ size;
+          each = subst (λ (l : List Slot). Each (SlotIs shape U.places later js) l seats) (sym is) each;
+          table = subst (λ (v : EventTable). TableIs js (suc (length es)) v) (sym table) a.players.table;
+          marks = subst (λ (v : List Slot × List (List Bool)). MarksAre code U es js v.0 v.1) {x = (all, ps.marks)} {y = (new.slots.items, new.marks)} (λ j. (sym is j, sym marks j)) h;
+        }
+
+    one : Starts shape ps.table i z act o → PlayersAre shape code U es js (suc i) new
+    one s =
+        let slot : Slot = slot_for s.from s.to s.seat in
+        let x : pass.Seat = newborn_seat later js s.task.0 (child z.term, z.vars) in
+        over (slice_set ps.slots.items task.0 (Here on) ++ slot ∷ []) (slice_set a.players.seats task.0 (pass.Stands y left) ++ x ∷ [])
+        (subst (λ (l : List pass.Seat). pass.Seated code U later js (slice_set a.players.seats task.0 (pass.Stands y left) ++ l)) (one_seat o s) (pass_seats law same fits))
+        (length-push (slice_set ps.slots.items task.0 (Here on)) slot ∙ (ap suc (own_size on) ∙ sym (length-push (slice_set a.players.seats task.0 (pass.Stands y left)) x)))
+        (child_each o s on g) (child_marks o s on g)
+        (slots ∙ ap (λ (v : Option Slot). slice_set ps.slots.items task.0 (Here on) ++ option_to_list v) s.slot)
+
+    none : (started_by act ≡ None) × (o ≡ None) → PlayersAre shape code U es js (suc i) new
+    none n =
+        let no_seat : newborn_seats later js z act ≡ [] = ap (λ (v : Option TaskId). elim v as (λ _. List pass.Seat) [ Some d ↦ newborn_seat later js d.0 (child z.term, z.vars) ∷ [] | None ↦ [] ]) n.0 in
+        let seats : List pass.Seat = slice_set a.players.seats task.0 (pass.Stands y left) in
+        over (slice_set ps.slots.items task.0 (Here on)) seats
+        (subst (λ (l : List pass.Seat). pass.Seated code U later js l) (ap (λ (l : List pass.Seat). seats ++ l) no_seat ∙ append-nil seats) (pass_seats law same fits))
+        (own_size on) (own_each on g) (own_marks on g)
+        (slots ∙ (ap (λ (v : Option Slot). slice_set ps.slots.items task.0 (Here on) ++ option_to_list v) n.1 ∙ append-nil (slice_set ps.slots.items task.0 (Here on))))

@@ -1,0 +1,248 @@
+-- The players after an entry that needs no request, and after a no.
+use Rattle.std.specs.Prelude.{◌≡◌, ◌≢◌, ◌⊎◌, ◌↔◌, IsTrue, true, false, ℕ, suc, ◌+◌, ◌<◌, ◌≤◌, Bool, List, [], ◌∷◌, ◌++◌, length, take, drop, Some, slice_get, slice_set, refl}
+use Rattle.std.specs.List.{filter_map}
+use Rattle.std.proofs.Common.{ap, sym, subst, ◌∙◌, arith, inl}
+use Rattle.std.proofs.lemmas.Bool.{true≢false}
+use Rattle.std.proofs.lemmas.List.{length-set, length-take-le}
+use Rattle.std.proofs.lemmas.Option.{slice_get_within}
+use Rattle.rx_base.specs.declared.ids.PlaceId.{PlaceId}
+use Rattle.rx_base.specs.declared.ids.TaskId.{TaskId}
+use Rattle.rx_base.specs.declared.values.Fault.{Fault}
+use Rattle.rx_base.proofs.Elements.{get-within}
+use Rattle.rx_rules.specs.declared.entries.Act.{Act}
+use Rattle.rx_rules.specs.declared.entries.Act.TheVariants.{Arrive, End}
+use Rattle.rx_rules.specs.declared.entries.Entry.{Entry}
+use Rattle.rx_rules.specs.declared.entries.Entry.TheVariants.{Step}
+use Rattle.rx_rules.specs.declared.events.PlaceEvent.{PlaceEvent}
+use Rattle.rx_rules.specs.Code.{Block}
+use Rattle.rx_rules.specs.Fold.{births, tree_of}
+use Rattle.rx_rules.specs.Picked.{Player}
+use Rattle.rx_rules.specs.Plays.{cell_of, journal_at}
+use Rattle.rx_rules.specs.Run.{Given}
+use Rattle.rx_rules.specs.Terms.{Term, Vars, Done, does}
+use Rattle.rx_sound.specs.Histories.{FoldReached}
+use Rattle.rx_runs.specs.Games.{fresh}
+use Rattle.rx_nodes.specs.Shape.{Shape}
+use Rattle.rx_control.specs.Next.{carried}
+use Rattle.rx_control.specs.Stands.{StandsFor}
+use Rattle.rx_verdict.specs.Makes.{cells_of}
+use Rattle.rx_verdict.specs.Marks.{home_of, low_of}
+use Rattle.rx_verdict.specs.Parts.{IsQuiet}
+use Rattle.rx_verdict.specs.Seats as pass
+use Rattle.rx_verdict.specs.Seats.{Seated, MayFollow, SeatsTell, SeatsStay, SeatArrives, SeatEnds}
+use Rattle.rx_verdict.specs.Verdicts.{Part}
+use Rattle.rx_verdict.specs.Walks.{next_does}
+use Rattle.rx_verdict.proofs.Parting.{take_next}
+use Rattle.rx_players.specs.declared.seat.Seat.{Seat}
+use Rattle.rx_players.specs.declared.seat.Stop.TheVariants.{Ends}
+use Rattle.rx_players.specs.declared.players.Slot.{Slot}
+use Rattle.rx_players.specs.declared.players.Slot.TheVariants.{Away, Here, Over}
+use Rattle.rx_players.specs.declared.players.Players.{Players}
+use Rattle.rx_players.specs.declared.table.EventTable.{EventTable}
+use Rattle.rx_players.specs.Events.{IsFirst, IsOf}
+use Rattle.rx_players.specs.Marked.{MarksAre}
+use Rattle.rx_players.specs.Players.{Awaits, IsMade, IsSeat, SlotIs, PlayersAre}
+use Rattle.rx_players.specs.Table.{TableIs}
+use Rattle.rx_players.specs.Inside.Admitted.{AfterEntry, Stopped}
+use Rattle.rx_players.proofs.AdmitEntries.{Keeps, actor_born, others_keep, own_home, own_low, places_stay, quiet_keeps}
+use Rattle.rx_players.proofs.MarksEnd.{is_done}
+use Rattle.rx_players.proofs.AdmitSlots.{Each, each_set, slot_keeps}
+use Rattle.rx_players.proofs.MarksOn.{marks_arrive, marks_end}
+use Rattle.rx_players.proofs.MarksWalk.{seats-many}
+
+-- the entries with this one more
+pub one_more : (U : Given) (es : List Entry) (i : ℕ) (e : Entry) → MayFollow U es i e → take (suc i) es ≡ take i es ++ e ∷ []
+one_more U es i e f = take_next es i e f.here
+
+pub so_many : (U : Given) (es : List Entry) (i : ℕ) (e : Entry) → MayFollow U es i e → length (take i es) ≡ i
+so_many U es i e f = let l : i < length es = slice_get_within es i e f.here in length-take-le i es (omega arith)
+
+-- after an entry of no task
+pub quiet_after : (shape : Shape) (code : Block) (U : Given) (es : List Entry) (js : List (List PlaceEvent)) (i : ℕ) (ps : Players) (e : Entry) → SeatsStay → IsQuiet e → Awaits shape code U es js i ps e → PlayersAre shape code U es js (suc i) ps
+quiet_after shape code U es js i ps e stay q a =
+    let p = a.players in
+    let next = one_more U es i e a.follows in
+    let keeps : (u : ℕ) → Keeps U.places (take i es) (take (suc i) es) u =
+    λ u. subst (λ (l : List Entry). Keeps U.places (take i es) l u) (sym next) (quiet_keeps U.places (take i es) e q u) in
+    record {
+      seats = p.seats;
+      seated = stay code U es js i p.seats e p.seated a.follows q;
+      size = p.size;
+      each = λ u s y at on. slot_keeps shape U.places (take i es) (take (suc i) es) js u (keeps u) s y (p.each u s y at on);
+      table = p.table;
+      marks = p.marks;
+    }
+
+-- An entry of a task.
+
+module _ (shape : Shape) (code : Block) (U : Given) (es : List Entry) (js : List (List PlaceEvent)) (i : ℕ) (ps : Players) (task : TaskId) (act : Act) (batch : List (List ℕ)) (a : Awaits shape code U es js i ps (Step task act batch)) where
+  abbrev before : List Entry
+  before = take i es
+
+  abbrev later : List Entry
+  later = take (suc i) es
+
+  pub next_is : later ≡ before ++ Step task act batch ∷ []
+  next_is = one_more U es i (Step task act batch) a.follows
+
+  pub count_is : length before ≡ i
+  count_is = so_many U es i (Step task act batch) a.follows
+
+  pub many : length a.players.seats ≡ 1 + births before
+  many = seats-many code U before js a.players.seats a.players.seated
+
+  pub task_born : FoldReached → task.0 < 1 + births before
+  task_born reached = actor_born code U before js a.players.seats a.players.seated task act batch a.follows.allowed reached
+
+  -- it has a slot
+  pub task_inside : FoldReached → task.0 < length ps.slots.items
+  task_inside reached =
+      let low = task_born reached in
+      let all = many in
+      let size = a.players.size in
+      omega (arith, low, all, size)
+
+  pub keep_others : (u : ℕ) → u < length ps.slots.items → task.0 ≢ u → Keeps U.places before later u
+  keep_others u low ne =
+      let all = many in
+      let size = a.players.size in
+      subst (λ (l : List Entry). Keeps U.places before l u) (sym next_is)
+      (others_keep code U before js a.players.seats a.players.seated task act batch a.follows.allowed u (omega (arith, low, all, size)) ne)
+
+  pub home_stays : task.0 < length ps.slots.items → home_of later task.0 ≡ home_of before task.0
+  home_stays low =
+      let all = many in
+      let size = a.players.size in
+      ap (λ (l : List Entry). home_of l task.0) next_is
+      ∙ own_home code U before js a.players.seats a.players.seated task act batch a.follows.allowed (omega (arith, low, all, size))
+
+  pub low_now : low_of later task.0 ≡ suc i
+  low_now =
+      ap (λ (l : List Entry). low_of l task.0) next_is
+      ∙ own_low code U before js a.players.seats a.players.seated task act batch a.follows.allowed ∙ ap suc count_is
+
+  pub more_places : (tree_of U.places before).places ≤ (tree_of U.places later).places
+  more_places = subst (λ (l : List Entry). (tree_of U.places before).places ≤ (tree_of U.places l).places) (sym next_is) (places_stay U.places before (Step task act batch))
+
+  -- one slot changes, with its seat of the pass
+  pub one_changed : (slot : Slot) (x : pass.Seat) → task.0 < length ps.slots.items → SlotIs shape U.places later js task.0 slot x → Each (SlotIs shape U.places later js) (slice_set ps.slots.items task.0 slot) (slice_set a.players.seats task.0 x)
+  one_changed slot x low own =
+      let size = a.players.size in
+      each_set (SlotIs shape U.places before js) (SlotIs shape U.places later js) ps.slots.items a.players.seats task.0 slot x low (omega (arith, low, size))
+      (λ u s y ne inside h. slot_keeps shape U.places before later js u (keep_others u inside ne) s y h) own a.players.each
+
+  pub changed_size : (slot : Slot) (x : pass.Seat) → length (slice_set ps.slots.items task.0 slot) ≡ length (slice_set a.players.seats task.0 x)
+  changed_size slot x = length-set ps.slots.items task.0 slot ∙ a.players.size ∙ sym (length-set a.players.seats task.0 x)
+
+  -- the players with that slot
+  pub players_changed : (new : Players) (slot : Slot) (x : pass.Seat) → task.0 < length ps.slots.items → Seated code U later js (slice_set a.players.seats task.0 x) → SlotIs shape U.places later js task.0 slot x → new.slots.items ≡ slice_set ps.slots.items task.0 slot → new.table ≡ ps.table → new.marks ≡ ps.marks → MarksAre code U es js (slice_set ps.slots.items task.0 slot) ps.marks → PlayersAre shape code U es js (suc i) new
+  players_changed new slot x low seated own slots table marks h =
+      record {
+        seats = slice_set a.players.seats task.0 x;
+        seated = seated;
+        size = ap length slots ∙ changed_size slot x;
+        each = subst (λ (l : List Slot). Each (SlotIs shape U.places later js) l (slice_set a.players.seats task.0 x)) (sym slots) (one_changed slot x low own);
+        table = subst (λ (v : EventTable). TableIs js (suc (length es)) v) (sym table) a.players.table;
+        marks = subst (λ (v : List Slot × List (List Bool)). MarksAre code U es js v.0 v.1) {x = (slice_set ps.slots.items task.0 slot, ps.marks)} {y = (new.slots.items, new.marks)} (λ j. (sym slots j, sym marks j)) h;
+      }
+
+  -- Who travels.
+
+  pub record Travels (seat : Seat) : Type 0 where
+    pub start : Term × Vars
+    pub away : slice_get a.players.seats task.0 ≡ Some (pass.Away start)
+    pub is : IsSeat shape U.places before js task.0 seat (fresh start) (cells_of before js task.0)
+
+  pub travels_so : (seat : Seat) → slice_get ps.slots.items task.0 ≡ Some (Away seat) → Travels seat
+  travels_so seat at =
+      let l = slice_get_within ps.slots.items task.0 (Away seat) at in
+      let size = a.players.size in
+      let x = get-within a.players.seats task.0 (omega (arith, l, size)) in
+      by_seat x.0 x.1 (a.players.each task.0 (Away seat) x.0 at x.1)
+    where
+      by_seat : (x : pass.Seat) → slice_get a.players.seats task.0 ≡ Some x → SlotIs shape U.places before js task.0 (Away seat) x → Travels seat
+      by_seat (pass.Away r) on is = record { start = r; away = on; is = is }
+      by_seat (pass.Stands z left) on is = absurd is
+      by_seat pass.Over on is = absurd is
+
+  pub lands_only : (seat : Seat) → SeatArrives → slice_get ps.slots.items task.0 ≡ Some (Away seat) → Part code U es js (suc i) → (p : PlaceId) × (act ≡ Arrive p) × (batch ≡ [])
+  lands_only seat law at h =
+      let x = travels_so seat at in
+      (law code U es js i a.players.seats task act batch x.start a.players.seated a.follows x.away).1 h
+
+  pub landed : (new : Players) (seat landing : Seat) (p : PlaceId) (low : ℕ) → SeatArrives → slice_get ps.slots.items task.0 ≡ Some (Away seat) → act ≡ Arrive p → batch ≡ [] → landing ≡ record seat { low = low } → low ≡ suc i → new.slots.items ≡ slice_set ps.slots.items task.0 (Here landing) → new.table ≡ ps.table → new.marks ≡ ps.marks → PlayersAre shape code U es js (suc i) new
+  landed new seat landing p low law at arrives none is number slots table marks =
+      let x = travels_so seat at in
+      let s = x.is in
+      let inside = slice_get_within ps.slots.items task.0 (Away seat) at in
+      let known = s.known in
+      let wider = more_places in
+      let all = pass.Stands (fresh x.start) (cells_of before js task.0) in
+      let own : IsSeat shape U.places later js task.0 (record seat { low = low }) (fresh x.start) (cells_of before js task.0) =
+      record {
+        number = s.number;
+        home = s.home ∙ sym (home_stays inside);
+        low = number ∙ sym low_now;
+        known = omega (arith, known, wider);
+        stood = record { term = s.stood.term; vars = s.stood.vars; batch = s.stood.batch; events = s.stood.events; first = s.stood.first; few = s.stood.few };
+      } in
+      let j : List PlaceEvent = journal_at js seat.home.0 in
+      let first : IsFirst task.0 j 0 seat.position =
+      record {
+        here = subst (λ (n : ℕ). (seat.position ≡ length j) ⊎ IsOf n j seat.position) s.number s.stood.first.here;
+        same = ap (λ (n : ℕ). filter_map (cell_of n) (drop seat.position j)) (sym s.number) ∙ (s.stood.events ∙ ap (λ (q : PlaceId). filter_map (cell_of task.0) (journal_at js q.0)) (sym s.home));
+      } in
+      players_changed new (Here landing) all inside
+      ((law code U es js i a.players.seats task act batch x.start a.players.seated a.follows x.away).0 p arrives none)
+      (subst (λ (v : Seat). SlotIs shape U.places later js task.0 (Here v) all) (sym is) own) slots table marks
+      (marks_arrive code U es js ps.marks ps.slots.items task.0 seat landing at (subst (λ (v : Seat). IsFirst task.0 (journal_at js v.home.0) 0 v.position) (sym is) first) a.players.marks)
+
+-- A task that has come to its end.
+
+module _ (shape : Shape) (code : Block) (U : Given) (es : List Entry) (js : List (List PlaceEvent)) (i : ℕ) (ps : Players) (task : TaskId) (act : Act) (batch : List (List ℕ)) (h : Stopped shape code U es js i ps task act batch Ends) where
+  abbrev a : Awaits shape code U es js i ps (Step task act batch)
+  a = h.awaits
+
+  abbrev z : Player
+  z = h.stops.player
+
+  pub stopped : IsSeat shape U.places (take i es) js task.0 h.stops.seat z h.stops.left
+  stopped = a.players.each task.0 (Here h.stops.seat) (pass.Stands z h.stops.left) h.stops.slot h.stops.stands
+
+  -- its faults
+  pub ends_with : (faults : List Fault) × (next_does h.stops.seat.home z ≡ Done faults)
+  ends_with = is_done (next_does h.stops.seat.home z) h.stops.stops
+
+  ends_there : next_does (home_of (take i es) task.0) z ≡ Done ends_with.0
+  ends_there = ap (λ (p : PlaceId). next_does p z) (sym stopped.home) ∙ ends_with.1
+
+  pub ends_only : SeatEnds → Part code U es js (suc i) → (batch ≡ h.stops.seat.batch) × (act ≡ End ends_with.0)
+  ends_only law k =
+      let r = (law code U es js i a.players.seats task act batch z h.stops.left ends_with.0 a.players.seated a.follows h.stops.stands ends_there).1 k in
+      (r.0 ∙ sym stopped.stood.batch, r.1)
+
+  pub ended : (new : Players) → SeatsTell → SeatEnds → batch ≡ h.stops.seat.batch → act ≡ End ends_with.0 → new.slots.items ≡ slice_set ps.slots.items task.0 Over → new.table ≡ ps.table → new.marks ≡ ps.marks → PlayersAre shape code U es js (suc i) new
+  ended new tell law same is slots table marks =
+      players_changed shape code U es js i ps task act batch a new Over pass.Over (slice_get_within ps.slots.items task.0 (Here h.stops.seat) h.stops.slot)
+      ((law code U es js i a.players.seats task act batch z h.stops.left ends_with.0 a.players.seated a.follows h.stops.stands ends_there).0 (same ∙ stopped.stood.batch, is))
+      tt slots table marks
+      (marks_end shape code U es js i task.0 h.stops.seat z h.stops.left stopped ((tell code U es js).2 i a.players.seats task.0 z h.stops.left a.players.seated h.stops.stands)
+      (inl (ends_with.0, ends_there)) ps.slots.items ps.marks h.stops.slot a.players.marks)
+
+  -- the control carries them
+  pub carries : (seat : Seat) → seat ≡ h.stops.seat → StandsFor shape seat.control z.term × (carried (does seat.control.vars h.stops.seat.home.0 z.term) ≡ Some ends_with.0)
+  carries seat e = (
+    subst (λ (v : Seat). StandsFor shape v.control z.term) (sym e) stopped.stood.term,
+    ap (λ (v : Seat). carried (does v.control.vars h.stops.seat.home.0 z.term)) e
+        ∙ (ap (λ (v : Vars). carried (does v h.stops.seat.home.0 z.term)) stopped.stood.vars ∙ ap carried ends_with.1),
+  )
+
+-- where a call tells whether a fact holds on which the entry hangs
+pub by_told : (shape : Shape) (code : Block) (U : Given) (es : List Entry) (js : List (List PlaceEvent)) (i : ℕ) (new : Players) (b : Bool) (P : Type 0) → IsTrue b ↔ P → (P → PlayersAre shape code U es js (suc i) new) → ((P → ⊥) → Part code U es js (suc i) → ⊥) → AfterEntry shape code U es js i new b
+by_told shape code U es js i new true P tells made wrong = made (tells.0 refl)
+by_told shape code U es js i new false P tells made wrong = wrong (λ p. true≢false (sym (tells.1 p)))
+
+-- an answer for each history
+pub is_made : (shape : Shape) (js : List (List PlaceEvent)) (i : ℕ) (old new : Players) (e : Entry) (b : Bool) → ((code : Block) (U : Given) (es : List Entry) → Awaits shape code U es js i old e → AfterEntry shape code U es js i new b) → IsMade shape js i old new e b
+is_made shape js i old new e true h = h
+is_made shape js i old new e false h = h

@@ -1,0 +1,82 @@
+-- Slots and the seats of the pass, where one changes or one is added.
+use Rattle.std.specs.Prelude.{◌≡◌, ◌≢◌, ℕ, zero, suc, ◌<◌, ◌≤◌, List, [], ◌∷◌, ◌++◌, length, Some, slice_get, slice_set, refl}
+use Rattle.std.specs.List.{filter_map}
+use Rattle.std.proofs.Common.{ap, sym, subst, ◌∙◌, arith, ⊎_elim}
+use Rattle.std.proofs.lemmas.Bool.{cases_eq, cases_lt}
+use Rattle.std.proofs.lemmas.Option.{slice_get_within}
+use Rattle.rx_base.specs.declared.ids.PlaceId.{PlaceId}
+use Rattle.rx_base.proofs.Elements.{get-last, get-set, length-push}
+use Rattle.rx_rules.specs.declared.entries.Entry.{Entry}
+use Rattle.rx_rules.specs.declared.events.PlaceEvent.{PlaceEvent}
+use Rattle.rx_rules.specs.Picked.{Player}
+use Rattle.rx_rules.specs.Plays.{Cells, cell_of, journal_at}
+use Rattle.rx_runs.specs.Games.{fresh}
+use Rattle.rx_nodes.specs.Shape.{Shape}
+use Rattle.rx_verdict.specs.Makes.{cells_of}
+use Rattle.rx_verdict.specs.Seats as pass
+use Rattle.rx_players.specs.declared.seat.Seat.{Seat}
+use Rattle.rx_players.specs.declared.players.Slot.{Slot}
+use Rattle.rx_players.specs.declared.players.Slot.TheVariants.{Away, Here, Over}
+use Rattle.rx_players.specs.Players.{IsSeat, SlotIs}
+use Rattle.rx_players.proofs.AdmitEntries.{Keeps}
+use Rattle.rx_players.proofs.MarksOn.{get_other, get_below}
+
+-- each slot with its seat of the pass
+abbrev pub Each : (ℕ → Slot → pass.Seat → Type 0) → List Slot → List pass.Seat → Type 0
+Each P slots seats = (u : ℕ) (s : Slot) (y : pass.Seat) → slice_get slots u ≡ Some s → slice_get seats u ≡ Some y → P u s y
+
+pub each_set : (P Q : ℕ → Slot → pass.Seat → Type 0) (slots : List Slot) (seats : List pass.Seat) (t : ℕ) (slot : Slot) (x : pass.Seat) → t < length slots → t < length seats → ((u : ℕ) (s : Slot) (y : pass.Seat) → t ≢ u → u < length slots → P u s y → Q u s y) → Q t slot x → Each P slots seats → Each Q (slice_set slots t slot) (slice_set seats t x)
+each_set P Q slots seats t slot x low inside others own each u s y a b = ⊎_elim here away (cases_eq u t) where
+  here : u ≡ t → Q u s y
+  here e =
+      let at : slice_get (slice_set slots t slot) t ≡ Some s = ap (λ (n : ℕ). slice_get (slice_set slots t slot) n) (sym e) ∙ a in
+      let on : slice_get (slice_set seats t x) t ≡ Some y = ap (λ (n : ℕ). slice_get (slice_set seats t x) n) (sym e) ∙ b in
+      let first : slot ≡ s = (let g = get-set slots t slot low in cc (g, at)) in
+      let second : x ≡ y = (let g = get-set seats t x inside in cc (g, on)) in
+      subst (λ (v : ℕ × Slot × pass.Seat). Q v.0 v.1 v.2) {x = (t, slot, x)} {y = (u, s, y)} (λ i. (sym e i, first i, second i)) own
+
+  away : (u ≡ t → ⊥) → Q u s y
+  away ne =
+      let at : slice_get slots u ≡ Some s = sym (get_other slots t u slot ne) ∙ a in
+      let on : slice_get seats u ≡ Some y = sym (get_other seats t u x ne) ∙ b in
+      others u s y (λ e. ne (sym e)) (slice_get_within slots u s at) (each u s y at on)
+
+pub each_push : (Q : ℕ → Slot → pass.Seat → Type 0) (slots : List Slot) (seats : List pass.Seat) (slot : Slot) (x : pass.Seat) → length slots ≡ length seats → Q (length slots) slot x → Each Q slots seats → Each Q (slots ++ slot ∷ []) (seats ++ x ∷ [])
+each_push Q slots seats slot x size own each u s y a b = ⊎_elim old new (cases_lt u (length slots)) where
+  old : u < length slots → Q u s y
+  old low = each u s y (sym (get_below slots (slot ∷ []) u low) ∙ a) (sym (get_below seats (x ∷ []) u (omega (arith, low, size))) ∙ b)
+
+  new : length slots ≤ u → Q u s y
+  new past =
+      let l = slice_get_within (slots ++ slot ∷ []) u s a in
+      let k = length-push slots slot in
+      let e : u ≡ length slots = omega (arith, past, l, k) in
+      let first : slot ≡ s = (let g = get-last slots slot u e in cc (g, a)) in
+      let second : x ≡ y = (let g = get-last seats x u (e ∙ size) in cc (g, b)) in
+      subst (λ (v : ℕ × Slot × pass.Seat). Q v.0 v.1 v.2) {x = (length slots, slot, x)} {y = (u, s, y)} (λ i. (sym e i, first i, second i)) own
+
+pub set_twice : {X : Type 0} (xs : List X) (k : ℕ) (x y : X) → slice_set (slice_set xs k x) k y ≡ slice_set xs k y
+set_twice [] k x y = refl
+set_twice (z ∷ xs) zero x y = refl
+set_twice (z ∷ xs) (suc k) x y = ap (λ (l : List _). z ∷ l) (set_twice xs k x y)
+
+-- A seat after entries that are not its task's.
+
+pub seat_keeps : (shape : Shape) (places : ℕ) (es later : List Entry) (js : List (List PlaceEvent)) (u : ℕ) (seat : Seat) (z : Player) (left : Cells) → Keeps places es later u → IsSeat shape places es js u seat z left → IsSeat shape places later js u seat z left
+seat_keeps shape places es later js u seat z left k s =
+    let known = s.known in
+    let more = k.wider in
+    record { number = s.number; home = s.home ∙ sym k.home; low = s.low ∙ sym k.low; known = omega (arith, known, more); stood = s.stood }
+
+pub slot_keeps : (shape : Shape) (places : ℕ) (es later : List Entry) (js : List (List PlaceEvent)) (u : ℕ) → Keeps places es later u → (slot : Slot) (x : pass.Seat) → SlotIs shape places es js u slot x → SlotIs shape places later js u slot x
+slot_keeps shape places es later js u k (Away seat) (pass.Away r) h =
+    subst (λ (left : Cells). IsSeat shape places later js u seat (fresh r) left) (ap (λ (p : PlaceId). filter_map (cell_of u) (journal_at js p.0)) (sym k.home))
+    (seat_keeps shape places es later js u seat (fresh r) (cells_of es js u) k h)
+slot_keeps shape places es later js u k (Here seat) (pass.Stands z left) h = seat_keeps shape places es later js u seat z left k h
+slot_keeps shape places es later js u k Over pass.Over h = tt
+slot_keeps shape places es later js u k (Away seat) (pass.Stands z left) h = absurd h
+slot_keeps shape places es later js u k (Away seat) pass.Over h = absurd h
+slot_keeps shape places es later js u k (Here seat) (pass.Away r) h = absurd h
+slot_keeps shape places es later js u k (Here seat) pass.Over h = absurd h
+slot_keeps shape places es later js u k Over (pass.Away r) h = absurd h
+slot_keeps shape places es later js u k Over (pass.Stands z left) h = absurd h

@@ -1,0 +1,88 @@
+-- The players before the first entry.
+use Rattle.std.specs.Prelude.{◌≡◌, ℕ, zero, suc, ◌*◌, ◌≤◌, Bool, List, [], ◌∷◌, ◌++◌, length, drop, Some, slice_get}
+use Rattle.std.specs.List.{filter_map}
+use Rattle.std.proofs.Common.{ap, sym, subst, ◌∙◌, arith}
+use Rattle.rx_base.specs.declared.ids.PlaceId.{PlaceId}
+use Rattle.rx_base.specs.declared.ids.TaskId.{TaskId}
+use Rattle.rx_rules.specs.declared.entries.Entry.{Entry}
+use Rattle.rx_rules.specs.declared.events.PlaceEvent.{PlaceEvent}
+use Rattle.rx_rules.specs.Code.{Block, work}
+use Rattle.rx_rules.specs.Terms.{Empty, items, no_vars}
+use Rattle.rx_rules.specs.Plays.{cell_of, journal_at}
+use Rattle.rx_rules.specs.Run.{Given}
+use Rattle.rx_runs.specs.Games.{fresh}
+use Rattle.rx_runs.specs.Steps.{steps}
+use Rattle.rx_nodes.specs.Shape.{Shape}
+use Rattle.rx_control.specs.Stands.{StandsFor}
+use Rattle.rx_verdict.specs.Decides.{main_start}
+use Rattle.rx_verdict.specs.Makes.{cells_of}
+use Rattle.rx_verdict.specs.Seats as pass
+use Rattle.rx_verdict.specs.Seats.{SeatsTell, opening_seats}
+use Rattle.rx_replay.specs.Marks.{NoMarks, no_marks}
+use Rattle.rx_players.specs.declared.seat.Seat.{Seat}
+use Rattle.rx_players.specs.declared.players.Slot.{Slot}
+use Rattle.rx_players.specs.declared.players.Slot.TheVariants.{Here}
+use Rattle.rx_players.specs.declared.players.Players.{Players}
+use Rattle.rx_players.specs.Events.{IsFirst}
+use Rattle.rx_players.specs.Table.{TableIs}
+use Rattle.rx_players.specs.Marked.{MarksAre}
+use Rattle.rx_players.specs.Players.{IsSeat, SlotIs, PlayersAre}
+use Rattle.rx_players.proofs.Rows.{first_again}
+use Rattle.rx_players.proofs.MarksOn.{marks_born_here}
+
+pub one_slot : (some all : List Slot) (slot : Slot) → all ≡ some ++ slot ∷ [] → some ≡ [] → all ≡ slot ∷ []
+one_slot some all slot e h = e ∙ ap (λ (l : List Slot). l ++ slot ∷ []) h
+
+at_first : (shape : Shape) (code : Block) (U : Given) (js : List (List PlaceEvent)) (seat : Seat) → IsSeat shape U.places [] js 0 seat (fresh (main_start code U.places)) (cells_of [] js 0) → (t : ℕ) (slot : Slot) (x : pass.Seat) → slice_get (Here seat ∷ []) t ≡ Some slot → slice_get (opening_seats code U js) t ≡ Some x → SlotIs shape U.places [] js t slot x
+at_first shape code U js seat here zero slot x at is =
+    let a : Here seat ≡ slot = cc in
+    let b : pass.Stands (fresh (main_start code U.places)) (cells_of [] js 0) ≡ x = cc in
+    subst (λ (s : Slot). SlotIs shape U.places [] js 0 s x) a (subst (λ (y : pass.Seat). SlotIs shape U.places [] js 0 (Here seat) y) b here)
+at_first shape code U js seat here (suc zero) slot x at is = absurd (let f : ⊥ = cc in f)
+at_first shape code U js seat here (suc (suc t)) slot x at is = absurd (let f : ⊥ = cc in f)
+
+-- before the first entry no event is marked, and all are left
+no_events_used : (code : Block) (U : Given) (es : List Entry) (js : List (List PlaceEvent)) → NoMarks → MarksAre code U es js [] (no_marks js)
+no_events_used code U es js none =
+    record {
+      shape = (none js).0;
+      left = λ p e task stamp cell path at left. (none js).1 p e;
+      used = λ p e task stamp cell path at used whole. absurd (used tt);
+    }
+
+pub opened : (shape : Shape) (code : Block) (U : Given) (es : List Entry) (js : List (List PlaceEvent)) (seat : Seat) (ps : Players) → SeatsTell → NoMarks → 1 ≤ U.places → U.places ≤ 16 → work code ≤ 100000 → steps (items code [] Empty) ≡ 3 * work code → StandsFor shape seat.control (items code [] Empty) → seat.control.vars ≡ no_vars U.places → seat.batch ≡ [] → seat.task ≡ record { 0 = 0 } → seat.home ≡ record { 0 = 0 } → IsFirst 0 (journal_at js 0) 0 seat.position → seat.low ≡ 0 → ps.slots.items ≡ Here seat ∷ [] → TableIs js (suc (length es)) ps.table → ps.marks ≡ no_marks js → PlayersAre shape code U es js 0 ps
+opened shape code U es js seat ps tell none some few small size stands vars batch task home position low slots table marks =
+    let known : U.places ≤ U.places = omega arith in
+    let fits : steps (items code [] Empty) ≤ 300000 = omega (arith, small, size) in
+    let first : IsFirst seat.task.0 (journal_at js seat.home.0) 0 seat.position =
+    subst (λ (t : TaskId). IsFirst t.0 (journal_at js seat.home.0) 0 seat.position) (sym task)
+    (subst (λ (p : PlaceId). IsFirst 0 (journal_at js p.0) 0 seat.position) (sym home) position) in
+    let events : filter_map (cell_of seat.task.0) (drop seat.position (journal_at js seat.home.0)) ≡ cells_of [] js 0 =
+    first.same
+    ∙ (ap (λ (t : TaskId). filter_map (cell_of t.0) (journal_at js seat.home.0)) task
+    ∙ ap (λ (p : PlaceId). filter_map (cell_of 0) (journal_at js p.0)) home) in
+    let here : IsSeat shape U.places [] js 0 seat (fresh (main_start code U.places)) (cells_of [] js 0) =
+    record {
+      number = ap (λ (t : TaskId). t.0) task;
+      home = home;
+      low = low;
+      known = known;
+      stood = record {
+        term = stands;
+        vars = vars;
+        batch = batch;
+        events = events;
+        first = first_again seat.task.0 (journal_at js seat.home.0) 0 seat.position first;
+        few = fits;
+      };
+    } in
+    let born : IsFirst 0 (journal_at js seat.home.0) 0 seat.position = subst (λ (p : PlaceId). IsFirst 0 (journal_at js p.0) 0 seat.position) (sym home) position in
+    let used : MarksAre code U es js (Here seat ∷ []) (no_marks js) = marks_born_here code U es js (no_marks js) [] seat born (no_events_used code U es js none) in
+    record {
+      seats = opening_seats code U js;
+      seated = (tell code U [] js).0 some few;
+      size = ap length slots;
+      each = λ t slot x at is. at_first shape code U js seat here t slot x (ap (λ (l : List Slot). slice_get l t) (sym slots) ∙ at) is;
+      table = table;
+      marks = subst (λ (l : List Slot). MarksAre code U es js l ps.marks) (sym slots) (subst (λ (ms : List (List Bool)). MarksAre code U es js (Here seat ∷ []) ms) (sym marks) used);
+    }

@@ -1,0 +1,54 @@
+-- The faults of the places of a set, one place after another.
+use Rattle.std.specs.Prelude.{◌≡◌, ℕ, zero, suc, ◌+◌, ◌<◌, true, false, List, [], ◌∷◌, ◌++◌, map, filter, drop, Some, slice_get, refl}
+use Rattle.std.proofs.Common.{ap, ◌∙◌, sym, subst, arith}
+use Rattle.std.proofs.lemmas.List.{at_drop_more, append_assoc, append-nil}
+use Rattle.std.proofs.lemmas.Option.{slice_get_within, get_or_from_slice_get}
+use Rattle.rx_base.specs.declared.place_set.PlaceSet.{PlaceSet}
+use Rattle.rx_base.specs.declared.values.Fault.{Fault}
+use Rattle.rx_base.specs.declared.values.Fault.TheVariants.{Dead}
+use Rattle.rx_base.specs.Sets.{all_places, has_bit, members}
+use Rattle.rx_base.proofs.Members.{place-at}
+
+-- so many numbers in ascending order
+abbrev pub numbers_from : ℕ → ℕ → List ℕ
+numbers_from s zero = []
+numbers_from s (suc k) = s ∷ numbers_from (suc s) k
+
+number_at : (s k p : ℕ) → p < k → slice_get (numbers_from s k) p ≡ Some (s + p)
+number_at s zero p h = absurd (omega arith)
+number_at s (suc k) zero h = let e : s ≡ s + 0 = omega arith in ap (λ (v : ℕ). Some v) e
+number_at s (suc k) (suc p) h =
+    let inside : p < k = omega arith in
+    let e : suc s + p ≡ s + suc p = omega arith in
+    number_at (suc s) k p inside ∙ ap (λ (v : ℕ). Some v) e
+
+next_place : (p : ℕ) → p < 16 → drop p all_places ≡ p ∷ drop (p + 1) all_places
+next_place p h =
+    let g : slice_get all_places p ≡ Some p = place-at p h in
+    at_drop_more {Y = List ℕ} (λ l. l) all_places p p (slice_get_within all_places p p g) ∙ ap (λ y. y ∷ drop (p + 1) all_places) (get_or_from_slice_get all_places p p p g)
+
+-- the faults of the members from a place on
+abbrev pub raised_from : PlaceSet → ℕ → List Fault
+raised_from lost p = map (λ n. Dead (record { 0 = n })) (filter (has_bit lost.0) (drop p all_places))
+
+-- all of them
+abbrev pub raised_all : PlaceSet → List Fault
+raised_all lost = map (λ n. Dead (record { 0 = n })) (members lost)
+
+pub raises-one : (lost : PlaceSet) (fs : List Fault) (p : ℕ) → p < 16 → has_bit lost.0 p ≡ true → fs ++ raised_from lost p ≡ raised_all lost → (fs ++ Dead (record { 0 = p }) ∷ []) ++ raised_from lost (p + 1) ≡ raised_all lost
+raises-one lost fs p h e so =
+    let here : raised_from lost p ≡ Dead (record { 0 = p }) ∷ raised_from lost (p + 1) =
+    ap (λ ps. map (λ n. Dead (record { 0 = n })) (filter (has_bit lost.0) ps)) (next_place p h) ∙ rw e refl in
+    append_assoc fs (Dead (record { 0 = p }) ∷ []) (raised_from lost (p + 1)) ∙ (ap (λ gs. fs ++ gs) (sym here) ∙ so)
+
+pub raises-none : (lost : PlaceSet) (fs : List Fault) (p : ℕ) → p < 16 → has_bit lost.0 p ≡ false → fs ++ raised_from lost p ≡ raised_all lost → fs ++ raised_from lost (p + 1) ≡ raised_all lost
+raises-none lost fs p h e so =
+    let here : raised_from lost p ≡ raised_from lost (p + 1) =
+    ap (λ ps. map (λ n. Dead (record { 0 = n })) (filter (has_bit lost.0) ps)) (next_place p h) ∙ rw e refl in
+    ap (λ gs. fs ++ gs) (sym here) ∙ so
+
+-- after the last place none are left
+pub raises-all : (lost : PlaceSet) (fs : List Fault) (p : ℕ) → p ≡ 16 → fs ++ raised_from lost p ≡ raised_all lost → fs ≡ raised_all lost
+raises-all lost fs p e so =
+    let nothing : fs ++ raised_from lost 16 ≡ raised_all lost = subst (λ (n : ℕ). fs ++ raised_from lost n ≡ raised_all lost) e so in
+    sym (append-nil fs) ∙ nothing

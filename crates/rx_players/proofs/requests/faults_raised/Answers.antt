@@ -1,0 +1,28 @@
+use Rattle.std.specs.Result.{IfOk}
+use Rattle.std.proofs.Common.{◌≡◌, ◌<◌, ◌≤◌, ◌+◌, List, ◌++◌, arith, ap, sym, ◌∙◌, subst}
+use Rattle.rx_base.specs.declared.values.Fault.{Fault}
+use Rattle.rx_players.proofs.Raising.{raised_from, raised_all, raises-one, raises-none, raises-all}
+use Rattle.rx_players.proofs.requests.faults_raised.Goals.{then-contains+in_ok-push, else-contains}
+use Rattle.rx_players.proofs.requests.faults_raised.Goals as goal
+
+pub loop-place-init : goal.loop-place-init
+loop-place-init c = ap (λ fs. fs ++ raised_all c.args.lost) c.open-faults.ensures
+
+pub loop-place-preserved : goal.loop-place-preserved
+loop-place-preserved c =
+    let inside : c.loop-place.place < 16 = c.loop-place-test.true in
+    elim c.if-contains.branch [
+      | then-contains+in_ok-push w ↦
+          ap (λ fs. fs ++ raised_from c.args.lost (c.loop-place.place + 1)) (w.faults-is ∙ w.in_ok-push.ensures.ok)
+          ∙ raises-one c.args.lost c.loop-place.faults c.loop-place.place inside (sym c.contains.ensures.bit ∙ w.if-contains.true) c.loop-place.invariant
+      | else-contains w ↦
+          ap (λ fs. fs ++ raised_from c.args.lost (c.loop-place.place + 1)) w.faults-is
+          ∙ raises-none c.args.lost c.loop-place.faults c.loop-place.place inside (sym c.contains.ensures.bit ∙ w.if-contains.false) c.loop-place.invariant
+    ]
+
+pub returns : goal.returns
+returns c =
+    let upto : c.loop-place.place ≤ 16 = c.loop-place.auto.place-end in
+    let from : 16 ≤ c.loop-place.place = c.loop-place-test.false in
+    let over : c.loop-place.place ≡ 16 = omega arith in
+    subst (λ (fs : List Fault). IfOk c.joined.result (λ both. both ≡ fs ++ c.args.thrown.now)) (raises-all c.args.lost c.loop-place.faults c.loop-place.place over c.loop-place.invariant) c.joined.ensures

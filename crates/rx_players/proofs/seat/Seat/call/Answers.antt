@@ -1,0 +1,82 @@
+use Rattle.std.proofs.Common.{rules, ℕ, suc, ◌<◌, ◌≤◌, List, [], ◌∷◌, ◌++◌, length, slice_get, refl, ap, sym, ◌∙◌}
+use Rattle.std.proofs.lemmas.Bool.{true≢false}
+use Rattle.rx_rules.specs.declared.events.PlaceEvent.{PlaceEvent}
+use Rattle.rx_rules.specs.Plays.{journal_at}
+use Rattle.rx_history.specs.Events.{events_of}
+use Rattle.rx_players.proofs.Following.{none_past}
+use Rattle.rx_players.proofs.Rows.{first_again, no_task_there}
+use Rattle.rx_players.proofs.Walking.{no_walk, is_store_call, none_halts, other_halts, path_halts, left_out, left_is, journal_here, is_here, event_left, walked_store}
+use Rattle.rx_players.proofs.seat.Seat.call.Goals as goal
+
+pub returns-then-len-place : goal.returns-then-len-place
+returns-then-len-place c = λ tasks is lt z left s e.
+    let out : length c.args.journals.now.journals ≤ c.args.self.now.home.0 = search rules in (
+      no_walk c.args.p.now.script (events_of c.args.journals.now) c.args.self.now z left s,
+      none_halts c.args.self.now.home z left (left_out c.args.p.now.script c.args.journals.now c.args.self.now z left s out),
+    )
+
+pub returns-then-len-at : goal.returns-then-len-at
+returns-then-len-at c = λ tasks is lt z left s e.
+    let seat = c.args.self.now in
+    let over : length c.item-journal.result.now.events ≤ seat.position = search rules in
+    let none = none_past seat.task.0 c.item-journal.result.now.events seat.position over in (
+      no_walk c.args.p.now.script (events_of c.args.journals.now) seat z left s,
+      none_halts seat.home z left (left_is c.args.p.now.script c.args.journals.now seat z left [] c.item-journal.result.now s c.item-journal.ensures none),
+    )
+
+pub unreachable-requires : goal.unreachable-requires
+unreachable-requires c =
+    let r = c.requires in
+    let seat = c.args.self.now in
+    let journal = c.item-journal.result.now in
+    let js = events_of c.args.journals.now in
+    let within : seat.position < length journal.events = search rules in
+    let mine = is_here c.args.p.now.script c.args.journals.now seat r.3 r.4 journal r.5 c.item-journal.ensures within in
+    let same = journal_here c.args.journals.now.journals seat.home.0 journal c.item-journal.ensures in
+    no_task_there (journal_at js seat.home.0) seat.position seat.task.0 c.in-Close.stamp c.item.result.now
+    (ap (λ (l : List PlaceEvent). slice_get l seat.position) same ∙ c.item.ensures) c.in-Close.is mine
+
+pub path_of-requires : goal.path_of-requires
+path_of-requires c =
+    let r = c.requires in
+    let is = is_store_call c.args.self.now.home r.3 c.args.op c.terms_sink.ensures r.6 in
+    (r.3.term, is.begins.0, r.5.term, is.begins.1)
+
+pub returns-then-not-answers : goal.returns-then-not-answers
+returns-then-not-answers c = λ tasks is lt z left s e.
+    let seat = c.args.self.now in
+    let shape = c.args.p.now.script in
+    let event = event_left shape c.args.journals.now seat z left c.item-journal.result.now c.item.result.now c.in-Done.task c.in-Done.stamp c.in-Done.cell c.in-Done.path s c.item-journal.ensures c.item.ensures c.in-Done.is in (
+      no_walk shape (events_of c.args.journals.now) seat z left s,
+      other_halts seat.home z left _ c.args.op c.in-Done.stamp c.in-Done.cell c.in-Done.path e event (sym c.answers.ensures ∙ c.if-not-answers.true),
+    )
+
+pub returns-then-not-same_path : goal.returns-then-not-same_path
+returns-then-not-same_path c = λ tasks is lt z left s e.
+    let seat = c.args.self.now in
+    let shape = c.args.p.now.script in
+    let event = event_left shape c.args.journals.now seat z left c.item-journal.result.now c.item.result.now c.in-Done.task c.in-Done.stamp c.in-Done.cell c.in-Done.path s c.item-journal.ensures c.item.ensures c.in-Done.is in
+    let call = is_store_call seat.home z c.args.op c.terms_sink.ensures e in
+    let begun = c.in_ok-begun-in-Done.ensures z.term call.begins.0 s.term call.begins.1 in (
+      no_walk shape (events_of c.args.journals.now) seat z left s,
+      path_halts seat.home z left _ c.in-Done.stamp c.in-Done.cell call.begins.0 c.in-Done.path call.begins.1 event
+          (λ q. true≢false (sym (c.same_path.ensures.1 (begun ∙ q)) ∙ c.if-not-same_path.true)),
+    )
+
+pub returns : goal.returns
+returns c = λ tasks is lt z left s e.
+    let seat = c.args.self.now in
+    let shape = c.args.p.now.script in
+    let js = events_of c.args.journals.now in
+    let journal = c.item-journal.result.now in
+    let event = event_left shape c.args.journals.now seat z left journal c.item.result.now c.in-Done.task c.in-Done.stamp c.in-Done.cell c.in-Done.path s c.item-journal.ensures c.item.ensures c.in-Done.is in
+    let call = is_store_call seat.home z c.args.op c.terms_sink.ensures e in
+    let begun = c.in_ok-begun-in-Done.ensures z.term call.begins.0 s.term call.begins.1 in
+    let done = c.in_ok-cell_done-in-Done.ensures.ok z.term call.begins.0 s.term call.begins.1 in
+    let within : seat.position < length journal.events = search rules in
+    let mine = is_here shape c.args.journals.now seat z left journal s c.item-journal.ensures within in
+    let next = c.after-self.ensures js tasks seat.task.0 mine.0 mine.1 mine.2 is lt mine.3 in
+    walked_store shape js seat _ z left _ c.args.op call.begins.0 c.in-Done.path c.in-Done.stamp c.in-Done.cell c.told.result c.terms_sink.ensures s e call.begins.1 event
+    (sym begun ∙ c.same_path.ensures.0 c.if-not-same_path.false) c.told.ensures done.0 done.1
+    (c.in_ok-push-in-Done.ensures.ok ∙ ap (λ (w : List ℕ). seat.batch ++ w ∷ []) begun) refl refl refl next.same
+    (first_again seat.task.0 (journal_at js seat.home.0) (suc seat.position) c.after-self.result next)

@@ -1,0 +1,5 @@
+-- What contracts of private functions say; a reader of the public contracts needs none of it.
+pub mod Rows
+pub mod Steps
+pub mod Requests
+pub mod Admitted

@@ -1,0 +1,76 @@
+-- What players keep of the tasks of a history, and what an entry makes of it.
+use Rattle.std.specs.Prelude.{◌≡◌, ℕ, suc, ◌≤◌, Bool, true, false, List, length, take, Some, slice_get}
+use Rattle.rx_rules.specs.declared.entries.Entry.{Entry}
+use Rattle.rx_rules.specs.declared.events.PlaceEvent.{PlaceEvent}
+use Rattle.rx_rules.specs.Code.{Block}
+use Rattle.rx_rules.specs.Fold.{tree_of}
+use Rattle.rx_rules.specs.Picked.{Player}
+use Rattle.rx_rules.specs.Plays.{Cells}
+use Rattle.rx_rules.specs.Run.{Given}
+use Rattle.rx_runs.specs.Games.{fresh}
+use Rattle.rx_nodes.specs.Shape.{Shape, Stands as IsScript}
+use Rattle.rx_verdict.specs.Makes.{cells_of}
+use Rattle.rx_verdict.specs.Marks.{home_of, low_of}
+use Rattle.rx_verdict.specs.Seats as pass
+use Rattle.rx_verdict.specs.Seats.{Seated, MayFollow}
+use Rattle.rx_verdict.specs.Verdicts.{Part}
+use Rattle.rx_players.specs.declared.seat.Seat.{Seat}
+use Rattle.rx_players.specs.declared.players.Slot.{Slot}
+use Rattle.rx_players.specs.declared.players.Slot.TheVariants.{Away, Here, Over}
+use Rattle.rx_players.specs.declared.players.Players.{Players}
+use Rattle.rx_players.specs.declared.seat.Stop.{Stop}
+use Rattle.rx_players.specs.Marked.{MarksAre}
+use Rattle.rx_players.specs.Stood.{Stood, Stops}
+use Rattle.rx_players.specs.Table.{TableIs}
+
+-- the seat is that of task t after these entries, which stands for the player with these events left
+pub record IsSeat (shape : Shape) (places : ℕ) (es : List Entry) (js : List (List PlaceEvent)) (t : ℕ) (seat : Seat) (z : Player)
+    (left : Cells) : Type 0 where
+  pub number : seat.task.0 ≡ t
+  pub home : seat.home ≡ home_of es t
+  pub low : seat.low ≡ low_of es t
+  -- it knows of no more places than there are
+  pub known : z.vars.places ≤ (tree_of places es).places
+  pub stood : Stood shape js seat z left
+
+-- the slot of task t holds what the pass keeps of it: it travels, or has come to a player, or has ended
+abbrev pub SlotIs : Shape → ℕ → List Entry → List (List PlaceEvent) → ℕ → Slot → pass.Seat → Type 0
+SlotIs shape places es js t (Away seat) (pass.Away r) = IsSeat shape places es js t seat (fresh r) (cells_of es js t)
+SlotIs shape places es js t (Here seat) (pass.Stands z left) = IsSeat shape places es js t seat z left
+SlotIs shape places es js t Over pass.Over = Unit {0}
+SlotIs shape places es js t slot seat = ⊥
+
+-- after i entries the players stand for the tasks, and their marks for the events used so far
+pub record PlayersAre (shape : Shape) (code : Block) (U : Given) (es : List Entry) (js : List (List PlaceEvent)) (i : ℕ) (ps : Players)
+    : Type 0 where
+  pub seats : List pass.Seat
+  pub seated : Seated code U (take i es) js seats
+  pub size : length ps.slots.items ≡ length seats
+  pub each : (t : ℕ) (slot : Slot) (seat : pass.Seat) → slice_get ps.slots.items t ≡ Some slot → slice_get seats t ≡ Some seat
+      → SlotIs shape U.places (take i es) js t slot seat
+  pub table : TableIs js (suc (length es)) ps.table
+  pub marks : MarksAre code U es js ps.slots.items ps.marks
+
+-- task t has come to the player z, where it stops, with these events left
+pub record StopsAt (shape : Shape) (U : Given) (es : List Entry) (js : List (List PlaceEvent)) (i t : ℕ) (ps : Players) (stop : Stop)
+    (seats : List pass.Seat) : Type 0 where
+  pub seat : Seat
+  pub slot : slice_get ps.slots.items t ≡ Some (Here seat)
+  pub player : Player
+  pub left : Cells
+  pub stands : slice_get seats t ≡ Some (pass.Stands player left)
+  pub stops : Stops stop seat player left
+
+-- before entry i: the players stand for the tasks, and the entry may follow
+pub record Awaits (shape : Shape) (code : Block) (U : Given) (es : List Entry) (js : List (List PlaceEvent)) (i : ℕ) (ps : Players)
+    (e : Entry) : Type 0 where
+  pub script : IsScript shape code
+  pub players : PlayersAre shape code U es js i ps
+  pub follows : MayFollow U es i e
+
+-- a yes: the players stand for the tasks after the entry. A no: with the entry they are no part of a run.
+abbrev pub IsMade : Shape → List (List PlaceEvent) → ℕ → Players → Players → Entry → Bool → Type 0
+IsMade shape js i old new e true =
+    (code : Block) (U : Given) (es : List Entry) → Awaits shape code U es js i old e → PlayersAre shape code U es js (suc i) new
+IsMade shape js i old new e false =
+    (code : Block) (U : Given) (es : List Entry) → Awaits shape code U es js i old e → Part code U es js (suc i) → ⊥

@@ -1,0 +1,28 @@
+//! What the tasks of a history have still to run. A player is a task that has come somewhere in its run: it walks by local steps and
+//! by store calls that the next event of its place answers, up to a request to the ledger, its end, or a store call that no event
+//! answers. It stands on rx_control for the steps and on rx_verdict for what a walk is. The layer above compares where a player
+//! has come to with the next entry of its task.
+#![tactic(auto)]
+
+mod admitting;
+mod answering;
+mod compare;
+pub mod laws;
+mod marking;
+mod players;
+mod requests;
+mod seat;
+mod table;
+mod walk;
+
+pub use answering::{answers, event_tells_call};
+pub use players::{Players, Slot};
+pub use seat::{Seat, Stop};
+pub use table::EventTable;
+
+#[cfg(test)]
+mod admitting_tests;
+#[cfg(test)]
+mod marking_tests;
+#[cfg(test)]
+mod tests;

@@ -1,0 +1,75 @@
+// What the tasks of a history have still to run.
+ghost use Rattle.std.specs.Prelude.{◌≡◌, ◌≤◌, ◌^◌, List, length, IfOk};
+ghost use Rattle.rx_rules.specs.declared.entries.Entry.{Entry};
+ghost use Rattle.rx_rules.specs.Code.{Block};
+ghost use Rattle.rx_rules.specs.Run.{Given};
+ghost use Rattle.rx_nodes.specs.Shape.{Stands};
+ghost use Rattle.rx_history.specs.Events.{events_of};
+ghost use Rattle.rx_players.specs.Players.{PlayersAre};
+
+use crate::seat::Seat;
+use crate::table::EventTable;
+use rx_base::{Batch, NoMemory, PlaceId, TaskId};
+use rx_check::{Program, checked};
+use rx_control::Control;
+use rx_history::Journals;
+use rx_replay::Marks;
+use std::alloc::Global;
+
+/// What is kept of one task.
+#[derive(Drop)]
+pub enum Slot {
+    /// It travels to its place, and has its start still to run.
+    Away(Seat),
+    /// It is at its place.
+    Here(Seat),
+    /// It has ended.
+    Over,
+}
+
+/// A slot for each task born, by its number.
+#[derive(Drop)]
+pub struct Players {
+    pub(crate) slots: Vec<Slot>,
+    pub(crate) table: EventTable,
+    pub(crate) marks: Marks,
+}
+
+impl Players {
+    /// Before the first of so many entries: the main activity stands at place 0, and there are so many places, from 1 to 16.
+    pub fn open(
+        alloc: Global,
+        p: &Program,
+        journals: &Journals,
+        places: u8,
+        entries: usize,
+    ) -> Result<Players, NoMemory>
+        requires some { 1 ≤ places }
+        requires few { places ≤ 16 }
+        requires numbered { entries ≤ 2 ^ 32 }
+        ensures { IfOk result (λ ps. (code : Block) (U : Given) (es : List Entry) → Stands p.now.script code → U.places ≡ places
+            → length es ≡ entries → PlayersAre p.now.script code U es (events_of journals.now) 0 ps) }
+    {
+        checked(p);
+        rx_verdict::seats_tell();
+        rx_replay::laws::marks_begin_empty();
+        let table = EventTable::open(alloc, journals, entries + 1)?;
+        let marks = Marks::open(alloc, journals)?;
+        let control = Control::main(alloc, p, places)?;
+        let seat = Seat {
+            task: TaskId(0),
+            home: PlaceId(0),
+            control,
+            batch: Batch::open(alloc),
+            position: table.first(PlaceId(0), TaskId(0)),
+            low: 0,
+        };
+        let mut slots = Vec::new(alloc);
+        slots.push(Slot::Here(seat))?;
+        Ok(Players {
+            slots,
+            table,
+            marks,
+        })
+    }
+}

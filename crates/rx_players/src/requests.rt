@@ -1,0 +1,217 @@
+// How a task goes on after a request to the ledger, where an act is what it asked.
+ghost use Rattle.std.specs.Prelude.{◌≡◌, ◌+◌, ◌<◌, ◌≤◌, ◌^◌, ◌↔◌, List, Some, true, IsTrue, IfOk, OnOk};
+ghost use Rattle.rx_base.specs.declared.ids.PlaceId.{PlaceId};
+ghost use Rattle.rx_base.specs.declared.values.Fault.{Fault};
+ghost use Rattle.rx_rules.specs.declared.entries.Act.{Act};
+ghost use Rattle.rx_rules.specs.declared.events.PlaceEvent.{PlaceEvent};
+ghost use Rattle.rx_rules.specs.Picked.{Player};
+ghost use Rattle.rx_rules.specs.Plays.{Cells, raised_by};
+ghost use Rattle.rx_rules.specs.Terms.{Term, Waits, does, begins};
+ghost use Rattle.rx_control.specs.declared.step.Next.{Next};
+ghost use Rattle.rx_control.specs.declared.step.Want.{Want};
+ghost use Rattle.rx_control.specs.Next.{next_of};
+ghost use Rattle.rx_control.specs.Stands.{StandsFor};
+ghost use Rattle.rx_verdict.specs.Walks.{next_does};
+ghost use Rattle.rx_players.specs.Stood.{Stood};
+ghost use Rattle.rx_players.specs.Inside.Requests.{wanted, IsAsked, CountsMore, IsGranted, AfterPath, AfterWait, AfterAct, AfterRequest};
+
+use crate::compare::{same_faults, same_path};
+use crate::seat::Seat;
+use rx_base::{Batch, Fault, Faults, NoMemory, Path, PlaceId, PlaceSet};
+use rx_check::Program;
+use rx_control::{Control, Want};
+use rx_rules::Act;
+use std::alloc::Global;
+
+/// Whether the act is of the kind that is wanted, from here and for its place, or with its value.
+pub(crate) fn is_wanted(want: &Want, here: PlaceId, act: &Act) -> bool
+    ensures { result ≡ wanted want.now here act.now }
+{
+    match want {
+        Want::Open => match act {
+            Act::Open { .. } => true,
+            _ => false,
+        },
+        Want::At { to: place } => match act {
+            Act::At { from, to, .. } => *to == *place && *from == here,
+            _ => false,
+        },
+        Want::Spawn { to: place } => match act {
+            Act::Spawn { from, to, .. } => *to == *place && *from == here,
+            _ => false,
+        },
+        Want::Wait => match act {
+            Act::Wait { .. } => true,
+            _ => false,
+        },
+        Want::Release => match act {
+            Act::Release { .. } => true,
+            _ => false,
+        },
+        Want::Print { value } => match act {
+            Act::Print { value: z, .. } => *z == *value,
+            _ => false,
+        },
+        Want::Census => match act {
+            Act::Census { .. } => true,
+            _ => false,
+        },
+    }
+}
+
+impl Seat {
+    /// Goes on after its request, where the act, with the number of its entry, is that.
+    pub(crate) fn go_on(
+        &mut self,
+        alloc: Global,
+        p: &Program,
+        number: u32,
+        act: &Act,
+    ) -> Result<bool, NoMemory>
+        requires less { number + 1 < 2 ^ 32 }
+        requires asks { (js : List (List PlaceEvent)) × (z : Player) × (left : Cells) × Stood p.now.script js self.old z left
+            × IsAsked self.old.home (next_does self.old.home z) act.now }
+        requires counts { CountsMore self.old.control.vars.places act.now }
+        ensures { IfOk result (λ b. (js : List (List PlaceEvent)) (z : Player) (left : Cells) → Stood p.now.script js self.old z left
+            → IsAsked self.old.home (next_does self.old.home z) act.now
+            → AfterRequest p.now.script js self.old self.new number z left act.now b) }
+    {
+        if !answer(&mut self.control, alloc, p, act)? {
+            return Ok(false);
+        }
+        self.batch = Batch::open(alloc);
+        self.low = number + 1;
+        Ok(true)
+    }
+}
+
+/// Lets a control go on after its request, where the rest of the act is right.
+fn answer(control: &mut Control, alloc: Global, p: &Program, act: &Act) -> Result<bool, NoMemory>
+    requires asks { (t : Term) × (here : PlaceId) × StandsFor p.now.script control.old t
+        × IsAsked here (does control.old.vars here.0 t) act.now }
+    requires counts { CountsMore control.old.vars.places act.now }
+    ensures { IfOk result (λ b. (t : Term) (here : PlaceId) → StandsFor p.now.script control.old t
+        → IsAsked here (does control.old.vars here.0 t) act.now
+        → AfterAct p.now.script control.old control.new here t act.now b) }
+{
+    match act {
+        Act::Open { path, .. } => pass(control, alloc, p, path),
+        Act::At { path, .. } => pass(control, alloc, p, path),
+        Act::Spawn { path, .. } => pass(control, alloc, p, path),
+        Act::Print { path, .. } => pass(control, alloc, p, path),
+        Act::Census { places, path } => count(control, alloc, p, *places, path),
+        Act::Wait { thrown, .. } => wait(control, alloc, p, thrown),
+        Act::Release { lost, thrown, .. } => {
+            release(control, alloc, p, *lost, thrown)?;
+            Ok(true)
+        }
+        Act::Arrive { .. } => Ok(false),
+        Act::End { .. } => Ok(false),
+    }
+}
+
+/// Whether the next step begins the statement with this path.
+fn begins_at(control: &Control, alloc: Global, p: &Program, path: &Path) -> Result<bool, NoMemory>
+    ensures { IfOk result (λ b. (t : Term) → StandsFor p.now.script control.now t → IsTrue b ↔ (begins t ≡ Some path.now)) }
+{
+    match control.path(alloc, p)? {
+        Some(begun) => Ok(same_path(&begun, path)),
+        None => Ok(false),
+    }
+}
+
+/// Lets a control go on that asked with this path.
+fn pass(control: &mut Control, alloc: Global, p: &Program, path: &Path) -> Result<bool, NoMemory>
+    requires { (t : Term) × StandsFor p.now.script control.old t }
+    ensures { IfOk result (λ b. (t : Term) → StandsFor p.now.script control.old t
+        → AfterPath p.now.script control.old control.new t path.now b) }
+{
+    if !begins_at(control, alloc, p, path)? {
+        return Ok(false);
+    }
+    resume(control, p, Faults::open(alloc))?;
+    Ok(true)
+}
+
+/// Tells a control that asked with this path the number of places.
+fn count(
+    control: &mut Control,
+    alloc: Global,
+    p: &Program,
+    places: u8,
+    path: &Path,
+) -> Result<bool, NoMemory>
+    requires asks { (t : Term) × (here : PlaceId) × StandsFor p.now.script control.old t
+        × (next_of (does control.old.vars here.0 t) ≡ Next.Book Want.Census) }
+    requires counts { (1 ≤ places) × (places ≤ 16) × (control.old.vars.places ≤ places) }
+    ensures { IfOk result (λ b. (t : Term) (here : PlaceId) → StandsFor p.now.script control.old t
+        → next_of (does control.old.vars here.0 t) ≡ Next.Book Want.Census
+        → AfterAct p.now.script control.old control.new here t (Act.Census places path.now) b) }
+{
+    if !begins_at(control, alloc, p, path)? {
+        return Ok(false);
+    }
+    control.census_done(p, places)?;
+    Ok(true)
+}
+
+/// Lets a control go on that waits with these faults of the body.
+fn wait(
+    control: &mut Control,
+    alloc: Global,
+    p: &Program,
+    thrown: &Faults,
+) -> Result<bool, NoMemory>
+    requires { (t : Term) × (here : PlaceId) × (faults : List Fault) × StandsFor p.now.script control.old t
+        × (does control.old.vars here.0 t ≡ Waits faults) }
+    ensures { IfOk result (λ b. (t : Term) (here : PlaceId) (faults : List Fault) → StandsFor p.now.script control.old t
+        → does control.old.vars here.0 t ≡ Waits faults → AfterWait p.now.script control.old control.new t faults thrown.now b) }
+{
+    let faults = control.take_faults(alloc);
+    if !same_faults(&faults, thrown) {
+        return Ok(false);
+    }
+    resume(control, p, Faults::open(alloc))?;
+    Ok(true)
+}
+
+/// Lets a control go on after the release of its scope.
+fn release(
+    control: &mut Control,
+    alloc: Global,
+    p: &Program,
+    lost: PlaceSet,
+    thrown: &Faults,
+) -> Result<(), NoMemory>
+    requires { (t : Term) × StandsFor p.now.script control.old t }
+    ensures { OnOk result ((t : Term) → StandsFor p.now.script control.old t
+        → IsGranted p.now.script control.new t (raised_by lost thrown.now) × (control.new.vars ≡ control.old.vars)) }
+{
+    let faults = faults_raised(alloc, lost, thrown)?;
+    resume(control, p, faults)
+}
+
+/// Lets a control go on whose request was granted, which raises these faults.
+fn resume(control: &mut Control, p: &Program, faults: Faults) -> Result<(), NoMemory>
+    requires { (t : Term) × StandsFor p.now.script control.old t }
+    ensures { OnOk result ((t : Term) → StandsFor p.now.script control.old t
+        → IsGranted p.now.script control.new t faults × (control.new.vars ≡ control.old.vars)) }
+{
+    match control.resume(p, faults) {
+        Ok(()) => Ok(()),
+        Err(_) => Err(NoMemory),
+    }
+}
+
+/// What a release raises: one fault for each place that lost tasks, in ascending order, and then those thrown.
+fn faults_raised(alloc: Global, lost: PlaceSet, thrown: &Faults) -> Result<Faults, NoMemory>
+    ensures { IfOk result (λ faults. faults ≡ raised_by lost thrown.now) }
+{
+    let mut faults = Faults::open(alloc);
+    for place in 0..16u8 {
+        if lost.contains(PlaceId(place)) {
+            faults.push(Fault::Dead(PlaceId(place)))?;
+        }
+    }
+    faults.joined(alloc, thrown)
+}

@@ -1,0 +1,171 @@
+// A walk: the local steps and store calls of a task up to where it stops.
+ghost use Rattle.std.specs.Prelude.{◌≡◌, ◌<◌, ℕ, List, Some, None, true, false, IfOk, OnOk, Option};
+ghost use Rattle.rx_rules.specs.Terms.{Term, does, begins};
+ghost use Rattle.rx_rules.specs.Picked.{Player};
+ghost use Rattle.rx_rules.specs.Plays.{Cells, begun};
+ghost use Rattle.rx_runs.specs.Steps.{steps};
+ghost use Rattle.rx_history.specs.Events.{events_of};
+ghost use Rattle.rx_control.specs.declared.step.Next.TheVariants.{Cell};
+ghost use Rattle.rx_control.specs.Stands.{StandsFor, Leaves};
+ghost use Rattle.rx_control.specs.Next.{next_of};
+ghost use Rattle.rx_verdict.specs.Walks.{next_does};
+ghost use Rattle.rx_players.specs.Table.{TableIs};
+ghost use Rattle.rx_players.specs.Stood.{Stood, Stops, Walked};
+ghost use Rattle.rx_players.specs.Inside.Steps.{AfterStep, AfterCall};
+
+use crate::answering::{answers, told};
+use crate::compare::same_path;
+use crate::seat::{Seat, Stop};
+use crate::table::EventTable;
+use rx_base::{NoMemory, Path};
+use rx_check::Program;
+use rx_control::{CellOp, Control, Next};
+use rx_history::Journals;
+use rx_rules::PlaceEvent;
+use std::alloc::Global;
+
+// More steps than a term can make of a script whose work is at most 100,000.
+const LIMIT: u32 = 300_001;
+
+/// The path of the statement that the next step begins.
+fn path_of(alloc: Global, p: &Program, control: &Control) -> Result<Path, NoMemory>
+    requires { (t : Term) × (x : List ℕ) × StandsFor p.now.script control.now t × (begins t ≡ Some x) }
+    ensures { IfOk result (λ path. (t : Term) (x : List ℕ) → StandsFor p.now.script control.now t → begins t ≡ Some x → path ≡ x) }
+{
+    match control.path(alloc, p)? {
+        Some(path) => Ok(path),
+        None => unreachable!(),
+    }
+}
+
+impl Seat {
+    /// Walks on up to a request to the ledger, the end, or a store call that the task's next event does not answer. After want of
+    /// memory the seat is of no more use.
+    pub fn advance(
+        &mut self,
+        alloc: Global,
+        p: &Program,
+        journals: &Journals,
+        table: &EventTable,
+    ) -> Result<Stop, NoMemory>
+        requires { (tasks : ℕ) × TableIs (events_of journals.now) tasks table.now × (self.old.task.0 < tasks) × (z : Player)
+            × (left : Cells) × Stood p.now.script (events_of journals.now) self.old z left }
+        ensures { IfOk result (λ stop. (tasks : ℕ) → TableIs (events_of journals.now) tasks table.now → self.old.task.0 < tasks
+            → (z : Player) (left : Cells) → Stood p.now.script (events_of journals.now) self.old z left
+            → (y : Player) × (rest : Cells) × Walked p.now.script (events_of journals.now) self.old self.new z left y rest
+            × Stops stop self.new y rest) }
+    {
+        for _made in 0..LIMIT {
+            match self.step(alloc, p, journals, table)? {
+                Some(stop) => return Ok(stop),
+                None => {}
+            }
+        }
+        unreachable!()
+    }
+
+    // Makes the next step, or tells where the walk stops.
+    fn step(
+        &mut self,
+        alloc: Global,
+        p: &Program,
+        journals: &Journals,
+        table: &EventTable,
+    ) -> Result<Option<Stop>, NoMemory>
+        requires { (tasks : ℕ) × TableIs (events_of journals.now) tasks table.now × (self.old.task.0 < tasks) × (z : Player)
+            × (left : Cells) × Stood p.now.script (events_of journals.now) self.old z left }
+        ensures { IfOk result (λ stop. (tasks : ℕ) → TableIs (events_of journals.now) tasks table.now → self.old.task.0 < tasks
+            → (z : Player) (left : Cells) → Stood p.now.script (events_of journals.now) self.old z left
+            → AfterStep p.now.script (events_of journals.now) self.old self.new z left stop) }
+    {
+        rx_runs::terms_sink();
+        rx_runs::local_steps_tell_no_places();
+        match self.control.next(p, self.home) {
+            Next::Local => {
+                self.local(alloc, p)?;
+                Ok(None)
+            }
+            Next::Cell(op) => {
+                if self.call(alloc, p, journals, table, op)? {
+                    Ok(None)
+                } else {
+                    Ok(Some(Stop::Halts))
+                }
+            }
+            Next::Book(want) => Ok(Some(Stop::Asks(want))),
+            Next::Done => Ok(Some(Stop::Ends)),
+        }
+    }
+
+    // Makes the local step that is next.
+    fn local(&mut self, alloc: Global, p: &Program) -> Result<(), NoMemory>
+        requires { (t : Term) × StandsFor p.now.script self.old.control t }
+        ensures { OnOk result ((t : Term) → StandsFor p.now.script self.old.control t
+            → Leaves p.now.script self.new.control (does self.old.control.vars self.old.home.0 t)
+            × (self.new ≡ record self.old { control = self.new.control; batch = begun t self.old.batch })) }
+    {
+        self.begin(alloc, p)?;
+        self.control.local(alloc, p, self.home)?;
+        Ok(())
+    }
+
+    // Notes the statement that the next step begins, where it begins one.
+    fn begin(&mut self, alloc: Global, p: &Program) -> Result<(), NoMemory>
+        ensures { OnOk result ((t : Term) → StandsFor p.now.script self.old.control t
+            → self.new ≡ record self.old { batch = begun t self.old.batch }) }
+    {
+        match self.control.path(alloc, p)? {
+            Some(path) => {
+                self.batch.push(path)?;
+                Ok(())
+            }
+            None => Ok(()),
+        }
+    }
+
+    // Takes the task's next event as the answer to its store call, where it answers it.
+    fn call(
+        &mut self,
+        alloc: Global,
+        p: &Program,
+        journals: &Journals,
+        table: &EventTable,
+        op: CellOp,
+    ) -> Result<bool, NoMemory>
+        requires { (tasks : ℕ) × TableIs (events_of journals.now) tasks table.now × (self.old.task.0 < tasks) × (z : Player)
+            × (left : Cells) × Stood p.now.script (events_of journals.now) self.old z left
+            × (next_of (next_does self.old.home z) ≡ Cell op) }
+        ensures { IfOk result (λ b. (tasks : ℕ) → TableIs (events_of journals.now) tasks table.now → self.old.task.0 < tasks
+            → (z : Player) (left : Cells) → Stood p.now.script (events_of journals.now) self.old z left
+            → next_of (next_does self.old.home z) ≡ Cell op
+            → AfterCall p.now.script (events_of journals.now) self.old self.new z left b) }
+    {
+        rx_runs::terms_sink();
+        let place = self.home.0 as usize;
+        let at = self.position;
+        if journals.len() <= place {
+            return Ok(false);
+        }
+        let journal = journals.item(place);
+        if journal.len() <= at {
+            return Ok(false);
+        }
+        match journal.item(at) {
+            PlaceEvent::Done { cell, path, .. } => {
+                if !answers(&op, cell) {
+                    return Ok(false);
+                }
+                let begun = path_of(alloc, p, &self.control)?;
+                if !same_path(&begun, path) {
+                    return Ok(false);
+                }
+                self.batch.push(begun)?;
+                self.control
+                    .cell_done(alloc, p, told(self.home, op, *cell))?;
+                self.position = table.after(self.home, at);
+                Ok(true)
+            }
+            PlaceEvent::Close { .. } => unreachable!(),
+        }
+    }
+}

@@ -1,10 +1,10 @@
 -- Words ask for proper setups.
-use Rattle.std.proofs.Common.{◌≡◌, ◌∙◌, ℕ, suc, ◌+◌, ◌≤◌, ◌^◌, ◌-◌, List, [], ◌∷◌, Option, Some, None, refl, arith, map, length}
+use Rattle.std.proofs.Common.{◌≡◌, ◌∙◌, ℕ, suc, ◌≤◌, ◌^◌, ◌-◌, List, [], ◌∷◌, Option, Some, None, refl, arith, map, length}
 use Rattle.std.specs.Prelude.{IfSome, Bool, true, false, bytes_eq, codes, if◌then◌else◌}
 use Rattle.std.proofs.lemmas.List.Sorted.{length_permutation}
 use Rattle.std.proofs.lemmas.List.{length-map}
 use Rattle.rx_rules.specs.Run.{Proper}
-use Rattle.rx_words.specs.Words.{number_of, kill_of, pick_list_of, Wants, nothing_yet, Taken, NotAnOption, BadValue, Takes, good, taken, choice, or_else, joined, bad_join, bad_kill, first_of, first_bad, setup_of, source, Step, Gen, Check, Live, BadWord, unless_bad, generated, settled, cut_off, options, alone, asked}
+use Rattle.rx_words.specs.Words.{number_of, kill_of, pick_list_of, Wants, nothing_yet, Taken, NotAnOption, BadValue, Takes, good, taken, choice, or_else, joined, bad_join, bad_kill, first_of, first_bad, setup_of, source, Asked, Step, Gen, Check, Verify, Span, Live, BadWord, unless_bad, generated, settled, cut_off, options, alone, asked}
 use Rattle.rx_words.specs.declared.said.Verb.{Verb}
 use Rattle.rx_words.specs.declared.said.Verb.TheVariants as verbs
 use Rattle.rx_words.specs.declared.kind.Kind.{Kind}
@@ -117,18 +117,20 @@ options-proper verb w k (name ∷ value ∷ words) r = by (taken (choice verb w 
 pub none-ranged : IsRanged nothing_yet
 none-ranged = record { places = tt; heap = tt }
 
-alone-proper : (words : List (List ℕ)) → HasProper (alone Check words)
-alone-proper [] = tt
-alone-proper (word ∷ words) = tt
+alone-proper : (a : Asked) (words : List (List ℕ)) → HasProper a → HasProper (alone a words)
+alone-proper a [] h = h
+alone-proper a (word ∷ words) h = tt
 
 asked-proper : (word : List ℕ) (words : List (List ℕ)) → HasProper (asked (word ∷ words))
-asked-proper word words = by (bytes_eq word (codes "step")) (bytes_eq word (codes "gen")) (bytes_eq word (codes "check"))
+asked-proper word words = by (bytes_eq word (codes "step")) (bytes_eq word (codes "gen")) (bytes_eq word (codes "check")) (bytes_eq word (codes "verify")) (bytes_eq word (codes "span"))
   where
-    by : (a b c : Bool) → HasProper (if a then options verbs.Step nothing_yet 1 words else (if b then options verbs.Gen nothing_yet 1 words else (if c then alone Check words else BadWord 0)))
-    by true b c = options-proper verbs.Step nothing_yet 1 words none-ranged
-    by false true c = options-proper verbs.Gen nothing_yet 1 words none-ranged
-    by false false true = alone-proper words
-    by false false false = tt
+    by : (a b c d e : Bool) → HasProper (if a then options verbs.Step nothing_yet 1 words else (if b then options verbs.Gen nothing_yet 1 words else (if c then alone Check words else (if d then alone Verify words else (if e then alone Span words else BadWord 0)))))
+    by true b c d e = options-proper verbs.Step nothing_yet 1 words none-ranged
+    by false true c d e = options-proper verbs.Gen nothing_yet 1 words none-ranged
+    by false false true d e = alone-proper Check words tt
+    by false false false true e = alone-proper Verify words tt
+    by false false false false true = alone-proper Span words tt
+    by false false false false false = tt
 
 pub setups-are-proper : SetupsAreProper
 setups-are-proper [] = tt

@@ -1,6 +1,6 @@
 // The words of a command, read.
 ghost use Rattle.std.specs.Prelude.{◌≡◌, ℕ, None, IfOk, IfSome, IsErrOf};
-ghost use Rattle.rx_words.specs.Words.{asked, asked_any, BadWord, told_number};
+ghost use Rattle.rx_words.specs.Words.{Asked, asked, asked_any, alone as lone, BadWord, told_number};
 ghost use Rattle.rx_words.specs.Commands.{IsAsked, IsProper, IsLiveCommand};
 ghost use Rattle.rx_words.specs.declared.command.WordFault.TheVariants.{Bad};
 
@@ -23,11 +23,26 @@ pub fn read_words(alloc: Global, words: &[RxWord]) -> Result<Command, WordFault>
     if first.bytes() == b"gen".as_slice() {
         return read_gen(alloc, more);
     }
-    if first.bytes() != b"check".as_slice() {
-        return Err(WordFault::Bad { word: 0 });
+    if first.bytes() == b"check".as_slice() {
+        return alone(Command::Check, more);
     }
+    if first.bytes() == b"verify".as_slice() {
+        return alone(Command::Verify, more);
+    }
+    if first.bytes() == b"span".as_slice() {
+        return alone(Command::Span, more);
+    }
+    Err(WordFault::Bad { word: 0 })
+}
+
+// A command without options, before these words.
+fn alone(command: Command, more: &[RxWord]) -> Result<Command, WordFault>
+    requires { IsProper command }
+    ensures ok { (a : Asked) → IsAsked command a → IfOk result (λ c. IsAsked c (lone a more.now) × IsProper c) }
+    ensures bad { (a : Asked) (word : ℕ) → IsErrOf result (Bad word) → (lone a more.now ≡ BadWord 1) × (word ≡ 1) }
+{
     if more.is_empty() {
-        Ok(Command::Check)
+        Ok(command)
     } else {
         Err(WordFault::Bad { word: 1 })
     }

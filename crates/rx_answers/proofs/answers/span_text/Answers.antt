@@ -1,0 +1,16 @@
+use Rattle.std.proofs.Common.{sym, subst}
+use Rattle.std.specs.Prelude.{IfOk}
+use Rattle.rx_rules.specs.Code.{Block}
+use Rattle.rx_rules.specs.Order.{told}
+use Rattle.rx_nodes.specs.Shape.{Stands}
+use Rattle.rx_verdict.specs.declared.verdict.Verdict.{Verdict}
+use Rattle.rx_answers.specs.declared.answers.Question.TheVariants.{Span}
+use Rattle.rx_answers.specs.Answers.{IsTextOf}
+use Rattle.rx_answers.proofs.answers.span_text.Goals as goal
+
+pub chain_text-requires-clause-run : goal.chain_text-requires-clause-run
+chain_text-requires-clause-run c = c.requires.run c.in-Run.is
+
+pub returns-in-Run : goal.returns-in-Run
+returns-in-Run c =
+    subst (λ (v : Verdict). IfOk c.chain_text.result (λ text. (code : Block) → Stands c.args.case.now.program.script code → IsTextOf Span v code (told c.args.case.now.history.entries) text.items)) (sym c.in-Run.is) c.chain_text.ensures

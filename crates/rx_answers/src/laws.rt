@@ -1,0 +1,47 @@
+//! Laws of answers. They do nothing when they run.
+ghost use Rattle.rx_answers.specs.Faults.{ProgramsHaveNoFault, CasesHaveNoFault};
+ghost use Rattle.rx_answers.specs.Laws.{AnswerIsOne, TextTellsAnswer, WorkedLines};
+
+use rx_pair::parts_are_one;
+use rx_reading::laws::{texts_have_no_bad_line, texts_tell_the_pair};
+use rx_script::{no_fault_in_script, one_script};
+use rx_span::laws::one_span;
+use rx_verdict::verdict_is_one;
+
+/// The same bytes have one answer to a question.
+pub fn answer_is_one()
+    ensures { AnswerIsOne }
+{
+    parts_are_one();
+    one_script();
+    texts_tell_the_pair();
+    verdict_is_one();
+    one_span();
+}
+
+/// The text of an answer tells whether it is a yes.
+pub fn text_tells_answer()
+    ensures { TextTellsAnswer }
+{}
+
+/// Lines of answers, whole.
+pub fn worked_lines()
+    ensures { WorkedLines }
+{}
+
+/// Bytes that are a script which meets the rules are refused for want of memory alone.
+pub fn programs_have_no_fault()
+    ensures { ProgramsHaveNoFault }
+{
+    no_fault_in_script();
+    one_script();
+}
+
+/// Bytes that give something to judge are refused for want of memory alone.
+pub fn cases_have_no_fault()
+    ensures { CasesHaveNoFault }
+{
+    parts_are_one();
+    programs_have_no_fault();
+    texts_have_no_bad_line();
+}

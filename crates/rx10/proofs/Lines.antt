@@ -1,6 +1,6 @@
 -- The lines of a trace: where one ends, and what the line of the root's release tells.
-use Rattle.std.proofs.Common.{◌≡◌, ℕ, ℤ, pos, negsuc, zero, suc, ◌+◌, ◌<◌, ◌≤◌, Bool, true, false, ◌&&◌, ◌==◌, List, [], ◌∷◌, ◌++◌, refl, ap, sym, ◌∙◌, subst, arith, append_assoc}
-use Rattle.std.specs.Prelude.{not, codes, cond, length}
+use Rattle.std.proofs.Common.{◌≡◌, ℕ, ℤ, pos, negsuc, suc, ◌+◌, Bool, true, false, ◌&&◌, ◌==◌, List, [], ◌∷◌, ◌++◌, refl, ap, sym, ◌∙◌, arith}
+use Rattle.std.specs.Prelude.{not, codes, cond}
 use Rattle.std.specs.List.{list_all, flat_map}
 use Rattle.std.specs.Str.{all_ascii_digits}
 use Rattle.std.specs.Char.{is_ascii_digit}
@@ -8,7 +8,6 @@ use Rattle.std.proofs.lemmas.List.Folds.{list_all-append}
 use Rattle.std.proofs.lemmas.Bool.Decides.{nat_tests}
 use Rattle.std.proofs.lemmas.Bool.{and_parts, eqb-true, true≢false}
 use Rattle.rx_base.specs.declared.ids.PlaceId.{PlaceId}
-use Rattle.rx_base.specs.declared.ids.TaskId.{TaskId}
 use Rattle.rx_base.specs.declared.ids.ScopeId.{ScopeId}
 use Rattle.rx_base.specs.declared.place_set.PlaceSet.{PlaceSet}
 use Rattle.rx_base.specs.declared.values.Fault.{Fault}
@@ -23,7 +22,7 @@ use Rattle.rx_text.specs.Paths.{path_text, dotted}
 use Rattle.rx_text.proofs.Digits.{digits-all}
 use Rattle.rx_trace.specs.Fields.{natural_field, number_field, path_field, place_field, task_field, scope_field, fault_field}
 use Rattle.rx_trace.specs.Parts.{part_text, lost_part, masked_part, thrown_part, release_parts, batch_part}
-use Rattle.rx_trace.specs.EntryLines.{scope_in, way, act_word, act_fields, entry_text, entry_line}
+use Rattle.rx_trace.specs.EntryLines.{scope_in, way, act_word, act_fields, entry_text}
 
 -- a byte that does not stand in a text
 abbrev pub without : ℕ → List ℕ → Bool

@@ -1,6 +1,6 @@
 -- The text of a trace tells the status, and words with known bytes have one outcome.
 use Rattle.std.proofs.lemmas.Bool.{eq-eqb, true≢false}
-use Rattle.std.proofs.Common.{get_or, ◌≡◌, ℕ, zero, suc, ◌+◌, ◌<◌, ◌≤◌, Bool, true, false, ◌&&◌, ◌==◌, List, [], ◌∷◌, ◌++◌, Option, Some, None, refl, ap, sym, ◌∙◌, subst, arith, append_assoc, append-nil, map}
+use Rattle.std.proofs.Common.{get_or, ◌≡◌, ℕ, ◌+◌, ◌<◌, Bool, true, false, ◌&&◌, ◌==◌, List, [], ◌∷◌, ◌++◌, Option, Some, None, refl, ap, sym, ◌∙◌, subst, arith, append_assoc, append-nil, map}
 use Rattle.std.specs.Prelude.{not, codes, length, cond, fold}
 use Rattle.std.specs.List.{count_by}
 use Rattle.std.proofs.lemmas.List.{length-map, append_cancel_left}
@@ -23,18 +23,21 @@ use Rattle.rx_runs.proofs.Plain.{members_plain}
 use Rattle.rx_text.specs.Numbers.{natural_text}
 use Rattle.rx_trace.specs.Fields.{natural_field, fault_field, task_field, scope_field}
 use Rattle.rx_trace.specs.Parts.{lost_part, masked_part, thrown_part, release_parts, part_text, batch_part}
-use Rattle.rx_trace.specs.EntryLines.{act_word, entry_text, entry_line, entry_lines}
-use Rattle.rx_trace.specs.EventLines.{journals_lines, journal_lines}
+use Rattle.rx_trace.specs.EntryLines.{entry_text, entry_line, entry_lines}
+use Rattle.rx_trace.specs.EventLines.{journals_lines}
 use Rattle.rx_trace.specs.Text.{trace_text, setup_lines}
 use Rattle.rx_gen.specs.Numbers.{has_some, starts_by, starts, prints_by, prints, dies, loses_by, loses, numbers, counts_text}
 use Rattle.rx_gen.specs.Lines.{lines}
 use Rattle.rx_script.specs.Faults.{OneScript}
 use Rattle.rx_nodes.specs.Grammar.{IsScriptOf}
-use Rattle.rx_words.specs.Words.{Asked, Step, Gen, Check, Live, BadWord, Source, source, asked_any}
+use Rattle.rx_words.specs.Words.{Asked, Step, Gen, Check, Verify, Span, Live, BadWord, Source, source, asked_any}
 use Rattle.rx_words.specs.Proper.{HasProper, SetupsAreProper}
 use Rattle.rx10.specs.declared.status.Status.{Status}
-use Rattle.rx10.specs.declared.status.Status.TheVariants.{Done, Faulted}
-use Rattle.rx10.specs.Top.{is_clean, status_by, status_of, picks_of, work_line, HasRun, IsTrace, IsCount, IsOutcome, WasScript}
+use Rattle.rx10.specs.Top.{is_clean, status_by, status_of, picks_of, work_line, HasRun, IsTrace, IsCount, IsAnswered, IsOutcome, WasScript}
+use Rattle.rx_answers.specs.declared.answers.Question.{Question}
+use Rattle.rx_answers.specs.declared.answers.Question.TheVariants as questions
+use Rattle.rx_answers.specs.Answers.{IsAnswer}
+use Rattle.rx_answers.specs.Laws.{AnswerIsOne, TextTellsAnswer}
 use Rattle.rx10.specs.Outcomes.{IsKnown, TextTellsStatus, OneOutcome}
 use Rattle.rx10.proofs.Known.{all-read}
 use Rattle.rx10.proofs.Lines.{without, without-both, masked-without, line-plain, one-line}
@@ -243,7 +246,7 @@ numbers-plain es = rw (length-map es plain, count-plain starts starts-plain es, 
 
 -- One run, one outcome.
 
-module _ (single : OnePickedRun) (proper : SetupsAreProper) where
+module _ (single : OnePickedRun) (proper : SetupsAreProper) (answer_tells : TextTellsAnswer) where
   runs-agree : (code : Block) (U : Given) (s : Source) (es fs : List Entry) (js ks : List (List PlaceEvent)) (a b : Status) → Proper U → HasRun code U s es js a → HasRun code U s fs ks b → (map plain es ≡ map plain fs) × (js ≡ ks) × (a ≡ b)
   runs-agree code U s es fs js ks a b ok p q =
       let one = single code U (picks_of s) es fs js ks ok p.picked q.picked in
@@ -266,6 +269,10 @@ module _ (single : OnePickedRun) (proper : SetupsAreProper) where
       p.tells ∙ texts-tell U es fs js ks p.run.ends q.run.ends (sym e ∙ f) ∙ sym q.tells
   status-told (Gen size U seed) old new older newer text s t ok h k = (counts-agree size U (source None seed) text text s t ok h.1 k.1).1
   status-told Check old new older newer text s t ok (code, was, e, done) (other, were, f, over) = done ∙ sym over
+  status-told Verify old new older newer text s t ok (bytes, a, was, p, e) (others, b, were, q, f) =
+      e ∙ ap status_by (answer_tells questions.Verify bytes others text a b p q) ∙ sym f
+  status-told Span old new older newer text s t ok (bytes, a, was, p, e) (others, b, were, q, f) =
+      e ∙ ap status_by (answer_tells questions.Span bytes others text a b p q) ∙ sym f
   status-told (Live U n) old new older newer text s t ok (code, was, (es, js, p, told, e)) (other, were, (fs, ks, q, tells, f)) =
       told ∙ texts-tell U es fs js ks p.run.ends q.run.ends (sym e ∙ f) ∙ sym tells
   status-told (BadWord k) old new older newer text s t ok h i = absurd h
@@ -273,7 +280,13 @@ module _ (single : OnePickedRun) (proper : SetupsAreProper) where
   pub text-tells-status : TextTellsStatus
   text-tells-status words old new older newer text s t h k = status-told (asked_any words) old new older newer text s t (proper words) h k
 
-  module _ (script : OneScript) where
+  module _ (script : OneScript) (single_answer : AnswerIsOne) where
+    same-answer : (question : Question) (old new newer : Option (List ℕ)) (bytes text written : List ℕ) (s t : Status) → old ≡ Some bytes → IsAnswered question old new text s → IsAnswered question old newer written t → (text ≡ written) × (s ≡ t)
+    same-answer question old new newer bytes text written s t is (mine, a, was, p, e) (theirs, b, were, q, f) =
+        let one : mine ≡ theirs = all-read old new mine bytes is was.took was.end ∙ sym (all-read old newer theirs bytes is were.took were.end) in
+        let same = single_answer question theirs text written a b (subst (λ (x : List ℕ). IsAnswer question x text a) one p) q in
+        (same.0, e ∙ ap status_by same.1 ∙ sym f)
+
     same-code : (old new newer : Option (List ℕ)) (bytes : List ℕ) (code other : Block) → old ≡ Some bytes → WasScript old new code → WasScript old newer other → code ≡ other
     same-code old new newer bytes code other is w v =
         let a : w.bytes ≡ bytes = all-read old new w.bytes bytes is w.read.took w.read.end in
@@ -287,6 +300,8 @@ module _ (single : OnePickedRun) (proper : SetupsAreProper) where
     outcome-once (Gen size U seed) old new newer text written s t ok known h k = counts-agree size U (source None seed) text written s t ok h.1 k.1
     outcome-once Check old new newer text written s t ok (bytes, is) (code, was, e, done) (other, were, f, over) =
         (e ∙ ap work_line (same-code old new newer bytes code other is was were) ∙ sym f, done ∙ sym over)
+    outcome-once Verify old new newer text written s t ok (bytes, is) h k = same-answer questions.Verify old new newer bytes text written s t is h k
+    outcome-once Span old new newer text written s t ok (bytes, is) h k = same-answer questions.Span old new newer bytes text written s t is h k
     outcome-once (Live U n) old new newer text written s t ok known h i = absurd known
     outcome-once (BadWord k) old new newer text written s t ok known h i = absurd h
 

@@ -1,3 +1,4 @@
 pub mod Live
 pub mod Top
 pub mod Outcomes
+pub mod Inside

@@ -1,6 +1,6 @@
 -- What determines an outcome.
 use Rattle.std.specs.Prelude.{◌≡◌, ℕ, List, Option, Some}
-use Rattle.rx_words.specs.Words.{Asked, Step, Gen, Check, Live, BadWord, asked_any}
+use Rattle.rx_words.specs.Words.{Asked, Gen, Live, asked_any}
 use Rattle.rx10.specs.declared.status.Status.{Status}
 use Rattle.rx10.specs.Top.{IsOutcome}
 

@@ -1,5 +1,6 @@
 -- What the statuses of the program mean.
-use Rattle.std.specs.Prelude.{◌≡◌, ◌⊎◌, ℕ, ◌≤◌, ◌==◌, ◌&&◌, Bool, cond, List, [], ◌∷◌, ◌++◌, length, slice_index_or, Option, Some, None}
+use Rattle.std.specs.Prelude.{◌≡◌, ◌⊎◌, ℕ, ◌≤◌, ◌==◌, ◌&&◌, Bool, true, false, cond, if◌then◌else◌, List, [], ◌∷◌, ◌++◌, length}
+use Rattle.std.specs.Prelude.{slice_index_or, Option, Some, None}
 use Rattle.std.specs.Prelude.{codes}
 use Rattle.std.specs.Io.KnownBytes.{Consumes, IsAtEnd}
 use Rattle.rx_base.specs.declared.place_set.PlaceSet.{PlaceSet}
@@ -17,13 +18,19 @@ use Rattle.rx_rules.specs.Order.{OrderKept}
 use Rattle.rx_nodes.specs.Grammar.{IsScript}
 use Rattle.rx_check.specs.Checked.{Meets}
 use Rattle.rx_trace.specs.Text.{trace_text}
-use Rattle.rx_words.specs.Words.{Asked, Step, Gen, Check, Live, BadWord, Source, Zeros, Listed, Seeded, source}
+use Rattle.rx_words.specs.Words.{Asked, Step, Gen, Check, Verify, Span, Live, BadWord, Source, Zeros, Listed, Seeded, source}
 use Rattle.rx_picks.specs.Seeds.{seed_word}
 use Rattle.rx10.specs.Live.{IsLawful}
+use Rattle.rx_pair.specs.Pair.{IsPair}
+use Rattle.rx_answers.specs.declared.answers.Question.{Question}
+use Rattle.rx_answers.specs.declared.answers.Question.TheVariants as questions
+use Rattle.rx_answers.specs.Cases.{IsCase}
+use Rattle.rx_answers.specs.Answers.{IsAnswer}
 use Rattle.rx_gen.specs.Lines.{lines}
 use Rattle.rx_gen.specs.Numbers.{numbers, counts_text}
 use Rattle.rx10.specs.declared.status.Status.{Status}
 use Rattle.rx10.specs.declared.status.Status.TheVariants.{Done, Faulted, Usage, Syntax, Bad, TooLong, ReadFault, WriteFault, NoMemory}
+use Rattle.rx10.specs.declared.status.Status.TheVariants.{Pair, BadTrace}
 
 -- the picks of a source: each 0, a list and then 0, or the words of a seed
 abbrev pub picks_of : Source → ℕ → ℕ
@@ -82,24 +89,53 @@ work_line code = codes "work " ++ natural_text (work code) ++ codes "\n"
 abbrev pub IsOver : Status → Type 0
 IsOver status = (status ≡ Done) ⊎ (status ≡ Faulted)
 
--- The source was read to its end, and these are its bytes.
-pub record WasRead (old new : Option (List ℕ)) (bytes : List ℕ) : Type 0 where
+-- the source is a pair of a script and a trace, and not a script alone
+abbrev pub takes_pair : Asked → Bool
+takes_pair Verify = true
+takes_pair Span = true
+takes_pair _ = false
+
+-- how many bytes a source may give
+abbrev pub most_bytes : Bool → ℕ
+most_bytes pair = if pair then 16777216 else 65536
+
+-- The source was read to its end, and these are its bytes, no more than so many.
+pub record WasRead (most : ℕ) (old new : Option (List ℕ)) (bytes : List ℕ) : Type 0 where
   pub took : Consumes old new bytes
   pub end : IsAtEnd new
-  pub short : length bytes ≤ 65536
+  pub short : length bytes ≤ most
+
+-- The source was read to its end, and its bytes are the pair of this script and this trace.
+pub record WasPair (old new : Option (List ℕ)) (script trace : List ℕ) : Type 0 where
+  pub bytes : List ℕ
+  pub read : WasRead 16777216 old new bytes
+  pub pair : IsPair bytes script trace
+
+-- the source was read to its end, and gave this script: all its bytes, or where it is a pair the script of that
+abbrev pub GaveScript : Bool → Option (List ℕ) → Option (List ℕ) → List ℕ → Type 0
+GaveScript true old new script = (trace : List ℕ) × WasPair old new script trace
+GaveScript false old new script = WasRead 65536 old new script
 
 -- The source was read to its end, and its bytes are this script, which meets the rules.
 pub record WasScript (old new : Option (List ℕ)) (code : Block) : Type 0 where
   pub bytes : List ℕ
-  pub read : WasRead old new bytes
+  pub read : WasRead 65536 old new bytes
   pub script : IsScript bytes code
   pub meets : Meets code
+
+-- the source was read to its end, and the text is that of the answer to its bytes; the status is Done where the trace is one of a whole
+-- run of its script, and else Faulted
+abbrev pub IsAnswered : Question → Option (List ℕ) → Option (List ℕ) → List ℕ → Status → Type 0
+IsAnswered question old new text status =
+    (bytes : List ℕ) × (is_yes : Bool) × WasRead 16777216 old new bytes × IsAnswer question bytes text is_yes × (status ≡ status_by is_yes)
 
 -- What was asked for was done: these are the bytes of the source before and after, the text, and the status. `gen` reads nothing.
 abbrev pub IsOutcome : Asked → Option (List ℕ) → Option (List ℕ) → List ℕ → Status → Type 0
 IsOutcome (Step U source) old new text status = (code : Block) × WasScript old new code × IsTrace code U source text status
 IsOutcome (Gen size U seed) old new text status = (new ≡ old) × IsCount size U (source None seed) text status
 IsOutcome Check old new text status = (code : Block) × WasScript old new code × (text ≡ work_line code) × (status ≡ Done)
+IsOutcome Verify old new text status = IsAnswered questions.Verify old new text status
+IsOutcome Span old new text status = IsAnswered questions.Span old new text status
 IsOutcome (Live U workers) old new text status = (code : Block) × WasScript old new code × IsLiveTrace code U text status
 IsOutcome (BadWord k) old new text status = ⊥
 
@@ -110,11 +146,23 @@ pub record IsGood (bytes : List ℕ) : Type 0 where
   pub script : IsScript bytes code
   pub meets : Meets code
 
--- what is asked for can be done with a source that has these bytes: `gen` needs none, and the others a script that meets the rules
+-- These bytes are a pair of a script that meets the rules and the text of some history and journals.
+pub record IsGoodPair (bytes : List ℕ) : Type 0 where
+  pub short : length bytes ≤ 16777216
+  pub code : Block
+  pub setup : Given
+  pub entries : List Entry
+  pub journals : List (List PlaceEvent)
+  pub given : IsCase bytes code setup entries journals
+
+-- what is asked for can be done with a source that has these bytes: `gen` needs none, `verify` and `span` need such a pair,
+-- and the others a script that meets the rules
 abbrev pub CanDo : Asked → Option (List ℕ) → Type 0
 CanDo (Step U source) left = (bytes : List ℕ) × (left ≡ Some bytes) × IsGood bytes
 CanDo (Gen size U seed) left = Unit {0}
 CanDo Check left = (bytes : List ℕ) × (left ≡ Some bytes) × IsGood bytes
+CanDo Verify left = (bytes : List ℕ) × (left ≡ Some bytes) × IsGoodPair bytes
+CanDo Span left = (bytes : List ℕ) × (left ≡ Some bytes) × IsGoodPair bytes
 CanDo (Live U workers) left = (bytes : List ℕ) × (left ≡ Some bytes) × IsGood bytes
 CanDo (BadWord k) left = ⊥
 
@@ -122,6 +170,8 @@ CanDo (BadWord k) left = ⊥
 abbrev pub IsUnmade : Status → Type 0
 IsUnmade (Syntax at) = Unit {0}
 IsUnmade (Bad rule node) = Unit {0}
+IsUnmade Pair = Unit {0}
+IsUnmade (BadTrace number) = Unit {0}
 IsUnmade TooLong = Unit {0}
 IsUnmade ReadFault = Unit {0}
 IsUnmade NoMemory = Unit {0}
@@ -138,6 +188,8 @@ exit_of TooLong = 5
 exit_of ReadFault = 6
 exit_of WriteFault = 7
 exit_of NoMemory = 8
+exit_of Pair = 9
+exit_of (BadTrace number) = 10
 
 -- the line that the program says on standard error, without its end
 abbrev pub line_of : Status → List ℕ
@@ -150,3 +202,5 @@ line_of TooLong = codes "too long"
 line_of ReadFault = codes "read fault"
 line_of WriteFault = codes "write fault"
 line_of NoMemory = codes "no memory"
+line_of Pair = codes "bad pair"
+line_of (BadTrace number) = codes "bad line " ++ natural_text number

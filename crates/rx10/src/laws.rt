@@ -2,6 +2,7 @@
 // when they run.
 ghost use Rattle.rx10.specs.Outcomes.{TextTellsStatus, OneOutcome};
 
+use rx_answers::laws::{answer_is_one, text_tells_answer};
 use rx_runs::picked_run_is_one;
 use rx_script::one_script;
 use rx_words::laws::setups_are_proper;
@@ -12,6 +13,7 @@ pub fn text_tells_status()
 {
     picked_run_is_one();
     setups_are_proper();
+    text_tells_answer();
 }
 
 /// The same words and the same bytes of the source have one outcome, one text and one status, where no threads are started.
@@ -21,4 +23,6 @@ pub fn one_outcome()
     one_script();
     picked_run_is_one();
     setups_are_proper();
+    answer_is_one();
+    text_tells_answer();
 }

@@ -1,5 +1,6 @@
 // What no clause says of runs with several workers: that they come to an end, that two workers make turns at one time, and what
 // faulty words and scripts give.
+use crate::pair_tests::is_run;
 use crate::tests::{CENSUS, SCRIPT, STEP, printed};
 use crate::texts::{ORDINARY, REALISTIC};
 use crate::{Status, rx10, rx10_step};
@@ -84,6 +85,7 @@ fn one_place_of_eight_is_lost_to_four_workers(rt: HostRuntime) -> Result<(), NoM
     let values = printed(rt.alloc(), &text)?;
     assert!(rt; values.as_slice() == b"999 6 46 86 166 206 246 286 ".as_slice());
     assert!(rt; is_trace(rt.alloc(), &text));
+    assert!(rt; is_run(rt.alloc(), REALISTIC, &text)?);
     Ok(())
 }
 

@@ -1,5 +1,5 @@
 // Reads a source to its end, and writes a whole text.
-ghost use Rattle.std.specs.Prelude.{◌≡◌, ◌<◌, ◌≤◌, ℕ, List, length, take, IfOk, OnOk, OnErr, IsErrOf};
+ghost use Rattle.std.specs.Prelude.{◌≡◌, ◌+◌, ◌<◌, ◌≤◌, ◌^◌, ℕ, List, length, take, IfOk, OnOk, OnErr, IsErrOf};
 ghost use Rattle.std.specs.Io.KnownBytes.{Consumes, Appends, IsAtEnd};
 ghost use Rattle.rx_base.specs.Outside.{Rose};
 ghost use Rattle.rx10.specs.declared.outside.ReadStop.TheVariants.{NoMemory, TooLong, Fault};
@@ -23,23 +23,25 @@ impl From<AllocError> for ReadStop {
     }
 }
 
-// How many bytes a script may have.
-const LIMIT: usize = 65_536;
-
-// All bytes of a source. It takes at most one byte more than a script may have.
-pub(crate) fn read_all<S: Source>(alloc: Global, input: &mut S) -> Result<Vec<u8>, ReadStop>
+// All bytes of a source that gives no more than so many. It takes at most one byte more.
+pub(crate) fn read_all<S: Source>(
+    alloc: Global,
+    input: &mut S,
+    most: usize,
+) -> Result<Vec<u8>, ReadStop>
+    requires { most < 2 ^ 31 }
     ensures whole { IfOk result (λ v. Consumes (S.left input.old) (S.left input.new) v.items × IsAtEnd (S.left input.new)
-        × (length v.items ≤ 65536)) }
+        × (length v.items ≤ most)) }
     ensures too_long { IsErrOf result TooLong → (bytes : List ℕ) × Consumes (S.left input.old) (S.left input.new) bytes
-        × (length bytes ≡ 65537) }
+        × (length bytes ≡ most + 1) }
     ensures fault { IsErrOf result Fault → Rose (S.faults input.old) (S.faults input.new) }
-    ensures taken { (bytes : List ℕ) × Consumes (S.left input.old) (S.left input.new) bytes × (length bytes ≤ 65537) }
+    ensures taken { (bytes : List ℕ) × Consumes (S.left input.old) (S.left input.new) bytes × (length bytes ≤ most + 1) }
     ensures later { S.faults input.old ≤ S.faults input.new }
 {
     let mut bytes = Vec::new(alloc);
     let mut buf = [0u8; 4096];
-    'reads: while bytes.len() <= LIMIT {
-        let want = (LIMIT + 1 - bytes.len()).min(4096);
+    'reads: while bytes.len() <= most {
+        let want = (most + 1 - bytes.len()).min(4096);
         match input.read(&mut buf[..want]) {
             Ok(count) => {
                 if count == 0 {

@@ -1,7 +1,7 @@
 // From a program to what is written.
 ghost use Rattle.std.specs.Prelude.{◌≡◌, ◌≤◌, ◌<◌, ◌^◌, ℕ, length, IfOk};
 ghost use Rattle.rx_rules.specs.Code.{Block};
-ghost use Rattle.rx_rules.specs.Run.{Given, Proper, EndsWithRoot};
+ghost use Rattle.rx_rules.specs.Run.{Proper, EndsWithRoot};
 ghost use Rattle.rx_rules.specs.Picked.{IsPicked};
 ghost use Rattle.rx_nodes.specs.Shape.{Stands};
 ghost use Rattle.rx_history.specs.Events.{events_of};

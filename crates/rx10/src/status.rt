@@ -8,17 +8,19 @@ use std::fmt;
 #[derive(Clone, Copy, Debug, PartialEq, Eq)]
 pub enum Status {
     /// `step`: the run ended, nothing was lost and nothing was thrown at the root, and the whole trace was written. `check`: the
-    /// work was written.
+    /// work was written. `verify`: the trace is one of a whole run. `span`: the same, and its longest chain was written.
     Done,
-    /// The run ended, something was lost or thrown at the root, and the whole trace was written.
+    /// The run ended, something was lost or thrown at the root, and the whole trace was written. `verify` and `span`: the trace is
+    /// not one of a whole run, and the verdict was written.
     Faulted,
     /// The words are no command. `word` is the number of the first bad one, from 0; where they are too few, how many there are.
     Usage { word: u32 },
-    /// The source's bytes are no script. `at` is the start of the first token that can't go on.
+    /// The source's bytes are no script, or those of the script of a pair are none. `at` is the start of the first token that can't
+    /// go on, in the script.
     Syntax { at: u32 },
     /// The script fails a rule: `node` is the statement, and `rule` the rule.
     Bad { rule: u8, node: u32 },
-    /// The source gave more than 65,536 bytes.
+    /// The source gave more than 65,536 bytes; of `verify` and `span`, more than 16,777,216.
     TooLong,
     /// The source failed.
     ReadFault,
@@ -26,6 +28,10 @@ pub enum Status {
     WriteFault,
     /// There is no memory left.
     NoMemory,
+    /// `verify` and `span`: the source's bytes are no pair of a script and a trace.
+    Pair,
+    /// `verify` and `span`: the trace is no trace text. `number` is the first line of it that none has there, counted from 1.
+    BadTrace { number: u32 },
 }
 
 impl Status {
@@ -43,6 +49,8 @@ impl Status {
             Status::ReadFault => 6,
             Status::WriteFault => 7,
             Status::NoMemory => 8,
+            Status::Pair => 9,
+            Status::BadTrace { .. } => 10,
         }
     }
 
@@ -73,6 +81,8 @@ impl fmt::Display for Status {
             Status::ReadFault => f.write_str("read fault"),
             Status::WriteFault => f.write_str("write fault"),
             Status::NoMemory => f.write_str("no memory"),
+            Status::Pair => f.write_str("bad pair"),
+            Status::BadTrace { number } => write!(f, "bad line {number}"),
         }
     }
 }

@@ -1,4 +1,5 @@
 // What no clause says: that scripts run to their end, with their whole text, and what faults and bad words give.
+use crate::pair_tests::is_run;
 use crate::texts::{
     ADOPTION, AT_AND_ASYNC, AT_WAITS, BORN_STRUCK, BRIEF, EMPTY, ENDED_FIRST, FAULTS_IN_ORDER,
     FULL_HEAP, HELD_THEN_MASKED, JOINED, JOINED_AND_DEAD, LOST_IN_TRANSIT, MASKED, NEVER_JOINED,
@@ -12,16 +13,16 @@ use std::alloc::Global;
 
 // What a command answers and writes, where the calls of these numbers fail and the sink has so much room.
 #[derive(Clone, Copy)]
-struct Outside<'a> {
-    words: &'a [&'a [u8]],
-    script: &'a [u8],
-    read_fails: &'a [u32],
-    room: usize,
-    write_fails: &'a [u32],
+pub(crate) struct Outside<'a> {
+    pub(crate) words: &'a [&'a [u8]],
+    pub(crate) script: &'a [u8],
+    pub(crate) read_fails: &'a [u32],
+    pub(crate) room: usize,
+    pub(crate) write_fails: &'a [u32],
 }
 
 // These words and a script, where nothing fails.
-fn plain<'a>(words: &'a [&'a [u8]], script: &'a [u8]) -> Outside<'a> {
+pub(crate) fn plain<'a>(words: &'a [&'a [u8]], script: &'a [u8]) -> Outside<'a> {
     Outside {
         words,
         script,
@@ -44,7 +45,7 @@ fn outcome(alloc: Global, outside: &Outside<'_>) -> Result<(Status, Vec<u8>), No
 }
 
 // Whether it answers and writes this.
-fn gives(
+pub(crate) fn gives(
     alloc: Global,
     outside: &Outside<'_>,
     status: Status,
@@ -150,6 +151,7 @@ fn runs_with_deaths(rt: HostRuntime) -> Result<(), NoMemory> {
         ),
     ] {
         assert!(rt; gives(rt.alloc(), &plain(words, script), status, text)?);
+        assert!(rt; is_run(rt.alloc(), script, text)?);
     }
     Ok(())
 }
@@ -170,6 +172,7 @@ fn runs_with_masked_faults(rt: HostRuntime) -> Result<(), NoMemory> {
     ] {
         let words = [b"step".as_slice(), b"--places", b"3", b"--kill", kill];
         assert!(rt; gives(rt.alloc(), &plain(&words, FAULT_BELOW), Status::Done, text)?);
+        assert!(rt; is_run(rt.alloc(), FAULT_BELOW, text)?);
     }
     Ok(())
 }
@@ -232,6 +235,7 @@ fn runs_with_joins(rt: HostRuntime) -> Result<(), NoMemory> {
         ),
     ] {
         assert!(rt; gives(rt.alloc(), &plain(words, script), status, text)?);
+        assert!(rt; is_run(rt.alloc(), script, text)?);
     }
     Ok(())
 }
@@ -297,6 +301,7 @@ fn runs_of_all_statements(rt: HostRuntime) -> Result<(), NoMemory> {
         ),
     ] {
         assert!(rt; gives(rt.alloc(), &plain(words, script), status, text)?);
+        assert!(rt; is_run(rt.alloc(), script, text)?);
     }
     Ok(())
 }
@@ -306,6 +311,7 @@ fn the_second_of_two_enabled_tasks_moves(rt: HostRuntime) -> Result<(), NoMemory
     let words = [b"step".as_slice(), b"--pick", b"0,0,0,0,1"];
     let script = b"finish { async { print 1; } async { print 2; } }";
     assert!(rt; gives(rt.alloc(), &plain(&words, script), Status::Done, PICKED)?);
+    assert!(rt; is_run(rt.alloc(), script, PICKED)?);
     Ok(())
 }
 
@@ -345,6 +351,7 @@ fn one_place_of_eight_is_lost_under_a_seed(rt: HostRuntime) -> Result<(), NoMemo
     assert!(rt; status == Status::Done);
     let values = printed(rt.alloc(), &text)?;
     assert!(rt; values.as_slice() == b"999 6 46 86 166 206 246 286 ".as_slice());
+    assert!(rt; is_run(rt.alloc(), REALISTIC, &text)?);
     Ok(())
 }
 
@@ -536,6 +543,8 @@ fn faulty_words(rt: HostRuntime) -> Result<(), NoMemory> {
             3,
         ),
         ([b"check".as_slice(), b"--join", b"1"].as_slice(), 1),
+        ([b"verify".as_slice(), b"--places", b"2"].as_slice(), 1),
+        ([b"span".as_slice(), b"more"].as_slice(), 1),
     ] {
         assert!(rt;
             gives(

@@ -1,4 +1,4 @@
-use Rattle.std.proofs.Common.{rules, ◌≡◌, ℕ, ◌<◌, ◌^◌, false, nat_eq}
+use Rattle.std.proofs.Common.{rules, ◌<◌, ◌^◌, false}
 use Rattle.rx10.proofs.Ends.{not-clean}
 use Rattle.rx10.proofs.run.is_clean.Goals as goal
 

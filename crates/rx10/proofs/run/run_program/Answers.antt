@@ -1,4 +1,4 @@
-use Rattle.std.proofs.Common.{◌≡◌, sym, ap, subst, arith, length}
+use Rattle.std.proofs.Common.{sym, ap, subst, arith, length}
 use Rattle.rx_rules.specs.Picked.{start_game}
 use Rattle.rx_rules.specs.Run.{Given, EndsWithRoot}
 use Rattle.rx_history.specs.Setups.{given}

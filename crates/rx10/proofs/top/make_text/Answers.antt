@@ -3,7 +3,7 @@ use Rattle.rx_words.specs.Commands.{IsAsked}
 use Rattle.rx_words.specs.declared.command.Command.{Command}
 use Rattle.rx10.specs.Top.{status_by}
 use Rattle.rx10.proofs.Told.{handed-on}
-use Rattle.rx10.proofs.Asking.{step-can, check-can, step-done}
+use Rattle.rx10.proofs.Asking.{step-can, check-can, verify-can, span-can, step-done}
 use Rattle.rx10.proofs.top.make_text.Goals as goal
 
 pub returns-in-Ok-clause-ok : goal.returns-in-Ok-clause-ok
@@ -18,3 +18,11 @@ returns-in-Err-clause-complete g c asked is can calm =
 pub returns-in-Err-read_program-clause-complete : goal.returns-in-Err-read_program-clause-complete
 returns-in-Err-read_program-clause-complete g c asked is can calm =
     let w = check-can asked _ (subst (λ (x : Command). IsAsked x asked) c.in-Check.is is) can in c.in-Err-read_program.ensures.complete w.0 w.1 w.2 calm
+
+pub returns-in-Verify-clause-complete : goal.returns-in-Verify-clause-complete
+returns-in-Verify-clause-complete g c asked is can calm =
+    let w = verify-can asked _ (subst (λ (x : Command). IsAsked x asked) c.in-Verify.is is) can in c.answer_text.ensures.complete w.0 w.1 w.2 calm
+
+pub returns-in-Span-clause-complete : goal.returns-in-Span-clause-complete
+returns-in-Span-clause-complete g c asked is can calm =
+    let w = span-can asked _ (subst (λ (x : Command). IsAsked x asked) c.in-Span.is is) can in c.answer_text-in-Span.ensures.complete w.0 w.1 w.2 calm

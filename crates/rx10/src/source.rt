@@ -1,0 +1,80 @@
+// What the source gives.
+ghost use Rattle.std.specs.Prelude.{◌≡◌, ◌⊎◌, ◌+◌, ◌<◌, ◌≤◌, ◌^◌, ℕ, false, List, length, Some, IfOk, IfErr, IsErrOf};
+ghost use Rattle.std.specs.Io.KnownBytes.{Consumes};
+ghost use Rattle.rx_base.specs.Outside.{Rose};
+ghost use Rattle.rx_rules.specs.Code.{Block};
+ghost use Rattle.rx_nodes.specs.Shape.{Stands};
+ghost use Rattle.rx_nodes.specs.Grammar.{IsScript};
+ghost use Rattle.rx_script.specs.Faults.{IsFaultAt};
+ghost use Rattle.rx_check.specs.Rules.{verdict};
+ghost use Rattle.rx10.specs.declared.status.Status.TheVariants.{Syntax, Bad, Pair, BadTrace, TooLong, ReadFault, NoMemory as NoRoom};
+ghost use Rattle.rx10.specs.Top.{most_bytes, WasRead, WasScript, GaveScript, IsGood, IsUnmade};
+
+use crate::outside::{ReadStop, read_all};
+use crate::status::Status;
+use rx_answers::laws::programs_have_no_fault;
+use rx_answers::{ProgramFault, program_of};
+use rx_base::Source;
+use rx_check::Program;
+use std::alloc::Global;
+
+// The bytes that the source gives, if they are no more than so many, or the status of what it gives.
+pub(crate) fn read_bytes<S: Source>(
+    alloc: Global,
+    input: &mut S,
+    most: usize,
+) -> Result<Vec<u8>, Status>
+    requires { most < 2 ^ 31 }
+    ensures ok { IfOk result (λ bytes. WasRead most (S.left input.old) (S.left input.new) bytes.items) }
+    ensures kind { IfErr result (λ status. (status ≡ TooLong) ⊎ (status ≡ ReadFault) ⊎ (status ≡ NoRoom)) }
+    ensures too_long { IsErrOf result TooLong → (bytes : List ℕ)
+        × Consumes (S.left input.old) (S.left input.new) bytes × (length bytes ≡ most + 1) }
+    ensures read_fault { IsErrOf result ReadFault → Rose (S.faults input.old) (S.faults input.new) }
+    ensures taken { (bytes : List ℕ) × Consumes (S.left input.old) (S.left input.new) bytes × (length bytes ≤ most + 1) }
+    ensures complete { (bytes : List ℕ) → S.left input.old ≡ Some bytes → length bytes ≤ most
+        → (Rose (S.faults input.old) (S.faults input.new) → ⊥) → IfErr result (λ status. status ≡ NoRoom) }
+    ensures later { S.faults input.old ≤ S.faults input.new }
+{
+    match read_all(alloc, input, most) {
+        Ok(bytes) => Ok(bytes),
+        Err(ReadStop::NoMemory) => Err(Status::NoMemory),
+        Err(ReadStop::TooLong) => Err(Status::TooLong),
+        Err(ReadStop::Fault) => Err(Status::ReadFault),
+    }
+}
+
+// The program that the source gives, or the status of what it gives.
+pub(crate) fn read_program<S: Source>(alloc: Global, input: &mut S) -> Result<Program, Status>
+    ensures ok { IfOk result (λ p. (code : Block) × Stands p.script code × WasScript (S.left input.old) (S.left input.new) code) }
+    ensures kind { IfErr result IsUnmade }
+    ensures no_pair { IsErrOf result Pair → ⊥ }
+    ensures no_bad_trace { (number : ℕ) → IsErrOf result (BadTrace number) → ⊥ }
+    ensures syntax { (at : ℕ) → IsErrOf result (Syntax at) → (script : List ℕ)
+        × GaveScript false (S.left input.old) (S.left input.new) script
+        × IsFaultAt script at
+        × ((code : Block) → IsScript script code → ⊥) }
+    ensures bad { (rule node : ℕ) → IsErrOf result (Bad rule node) → (script : List ℕ) × (code : Block)
+        × GaveScript false (S.left input.old) (S.left input.new) script
+        × IsScript script code
+        × (verdict code ≡ Some (rule, node)) }
+    ensures too_long { IsErrOf result TooLong → (bytes : List ℕ)
+        × Consumes (S.left input.old) (S.left input.new) bytes × (length bytes ≡ most_bytes false + 1) }
+    ensures read_fault { IsErrOf result ReadFault → Rose (S.faults input.old) (S.faults input.new) }
+    ensures taken { (bytes : List ℕ) × Consumes (S.left input.old) (S.left input.new) bytes
+        × (length bytes ≤ most_bytes false + 1) }
+    ensures complete { (bytes : List ℕ) → S.left input.old ≡ Some bytes → IsGood bytes
+        → (Rose (S.faults input.old) (S.faults input.new) → ⊥) → IfErr result (λ status. status ≡ NoRoom) }
+    ensures later { S.faults input.old ≤ S.faults input.new }
+{
+    programs_have_no_fault();
+    let bytes = match read_bytes(alloc, input, 65_536) {
+        Ok(bytes) => bytes,
+        Err(status) => return Err(status),
+    };
+    match program_of(alloc, &bytes) {
+        Ok(program) => Ok(program),
+        Err(ProgramFault::Syntax { at }) => Err(Status::Syntax { at }),
+        Err(ProgramFault::Bad { rule, node }) => Err(Status::Bad { rule, node }),
+        Err(ProgramFault::NoMemory) => Err(Status::NoMemory),
+    }
+}

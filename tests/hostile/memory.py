@@ -4,8 +4,8 @@ Each run then gives its own answer, or `no memory` with nothing written; and the
 whose threads' own blocks libc keeps).
 """
 
-from program import NO_MEMORY, complaint
-from tables import LONG_LIVE, answer_of, live_answers, long_live_complaint, script
+from program import NO_MEMORY, Answer, complaint, short
+from tables import LONG_LIVE, answer_of, live_answers, long_live_complaint, pair, read_table, script
 
 LONGEST = b"print 7;".ljust(65536)
 
@@ -22,6 +22,13 @@ RUNS = [
     ("none", "gen --size 2 --kill 1@5", 1),
     ("none", "gen --size 20 --places 4 --kill 2@30 --seed 7", 5),
     ("none", "gen --size 400", 50),
+]
+# Of a script with its trace: which trace, the command, and at which allocations.
+PAIRS = [
+    ("ordinary_case", "step --kill 1@3", 1),
+    ("at_waits_for_orphans", "step --places 3 --kill 1@6", 1),
+    ("stale_reference", "step", 1),
+    ("realistic_script", "step --places 8 --kill 3@5 --seed 5", 10),
 ]
 LIVE = [("ordinary_case", "live"), ("ordinary_case", "live --kill 1@3"), ("at_waits_for_orphans", "live --places 3 --kill 1@6"),
         ("stale_reference", "live"), ("two_places_store", "live")]
@@ -60,6 +67,15 @@ def run(program, tally):
     cases = []
     for name, words, step in RUNS:
         add(program, cases, name, words.split(" "), script(name), [answer_of(name, words)], step)
+    if program.has_verify:
+        for name, words, step in PAIRS:
+            add(program, cases, "%s by %s" % (name, words), ["verify"], pair(name, words), [Answer(0, b"run\n", b"")], step)
+            chain = program.run(["span"], pair(name, words))
+            tally.tell("the chain of %s by %s" % (name, words), None if chain.status == 0 else short(chain))
+            add(program, cases, "%s by %s" % (name, words), ["span"], pair(name, words), [chain], step)
+        for case in read_table("pairs.txt"):
+            if case.cut is None and case.answer.status == 1:
+                add(program, cases, case.name, case.words, case.stdin, [case.answer], 3)
     longest = program.run(["step"], LONGEST)
     tally.tell("the longest script", None if longest.status == 0 else str(longest.status))
     add(program, cases, "the longest script", ["step"], LONGEST, [longest], 1)

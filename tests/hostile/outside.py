@@ -9,7 +9,7 @@ import subprocess
 import threading
 
 from program import READ_FAULT, SECONDS, TOO_LONG, WRITE_FAULT, Answer, complaint, short
-from tables import answer_of, live_answers, script
+from tables import answer_of, live_answers, pair, script
 
 ROWS = [("ordinary_case", "step"), ("at_waits_for_orphans", "step --places 3 --kill 1@6"), ("stale_reference", "step"),
         ("realistic_script", "check"), ("realistic_script", "step --places 8 --kill 3@5 --seed 5")]
@@ -19,6 +19,9 @@ ERRORS = [errno.EIO, errno.EINTR, errno.EAGAIN, errno.EBADF, errno.ENOSPC]
 def rows(program):
     """Name, words, input and right answers of the runs that are disturbed."""
     found = [(name, words.split(" "), script(name), [answer_of(name, words)]) for name, words in ROWS]
+    if program.has_verify:
+        given = pair("stale_reference", "step")
+        found += [("the pair of stale_reference", [command], given, [program.run([command], given)]) for command in ("verify", "span")]
     if program.has_live:
         for name, words in [("ordinary_case", "live"), ("at_waits_for_orphans", "live --places 3 --kill 1@6")]:
             for workers in "14":
@@ -99,6 +102,11 @@ def strange_inputs(program, tally):
     os.set_blocking(reads, False)
     with os.fdopen(reads, "rb", 0) as waiting, os.fdopen(writes, "wb", 0):
         tally.tell("standard input has nothing for now", complaint(program.run(words, waiting), [READ_FAULT]))
+    if program.has_verify:
+        # (a longer trace would be read, but its last line is not the last)
+        for extra, wanted in ((0, 10), (1, 5), (70000, 5)):
+            answer = program.run(["verify"], pair("ordinary_case", "step").ljust(16777216 + extra, b"\n"))
+            tally.tell("a pair of 16,777,216 bytes and %d more" % extra, None if answer.status == wanted else short(answer))
     for extra, wanted in ((0, 0), (1, 5), (2, 5), (70000, 5)):
         answer = program.run(words, b"print 7;".ljust(65536 + extra))
         tally.tell("65,536 bytes and %d more" % extra, None if answer.status == wanted else short(answer))

@@ -18,7 +18,8 @@ NO_MEMORY = Answer(8, b"", b"no memory\n")
 READ_FAULT = Answer(6, b"", b"read fault\n")
 TOO_LONG = Answer(5, b"", b"too long\n")
 WRITE_FAULT = 7, b"write fault\n"
-LINES = {2: b"usage ", 3: b"syntax ", 4: b"bad ", 5: b"too long", 6: b"read fault", 7: b"write fault", 8: b"no memory"}
+LINES = {2: b"usage ", 3: b"syntax ", 4: b"bad ", 5: b"too long", 6: b"read fault", 7: b"write fault", 8: b"no memory", 9: b"bad pair",
+         10: b"bad line "}
 
 
 class Program:
@@ -34,6 +35,7 @@ class Program:
         self.start = self.built("start.c", "start", [])
         self.hangs = 0
         self.has_live = self.run(["live"], b"").status != 2
+        self.has_verify = self.run(["verify"], b"").status != 2
 
     def built(self, source, name, flags):
         made = str(self.folder / name)

@@ -3,10 +3,13 @@
 // A case is fixed by the seed and its number: the words, and the input, which is a made script or one of those that were given, mutated.
 // The program is run on it twice, and has to answer the same; once as `check`, which has to refuse the same scripts by the same line; and
 // once disturbed: an allocation is refused, a read or a write fails, or reads and writes are short. Each answer has to be of its form, a
-// text whole with status 0 and 1 alone, and all memory given back. Another answer, a crash or a hang is told with the number of the case.
+// text whole with status 0 and 1 alone, and all memory given back. A trace that was written is given back to `verify`, which has to say
+// that it is a run, and to `span`; then it is mutated, and both have to agree on it. Another answer, a crash or a hang is told with the
+// number of the case.
 //
 //   STORM_SEED=n  STORM_FIRST=n (the number of the first case)  STORM_CASES=n  STORM_SECONDS=n  STORM_SCRIPTS=PATH:PATH..
 //   STORM_SHOW=1  writes the words and the input of the first case and ends
+//   STORM_KEEP=PATH  a pair of script and trace that has a wrong answer is written there
 //
 // The program has to be started with at least WORDS words, whose places in the list it is given the words of the cases.
 #define _GNU_SOURCE
@@ -30,6 +33,7 @@
 #define WORDS 44
 #define ROOM (1L << 29)         // of addresses for a text; pages are taken as they are written
 #define LIMIT 65536             // bytes of a script
+#define PAIR (1L << 19)         // bytes of a script with its trace; longer ones are left out
 #define HANG 100                // seconds of processor time that a run may take; the longest takes less than one
 
 void *__libc_malloc(size_t);
@@ -54,7 +58,11 @@ static Trouble trouble;
 static long reads, writes;
 static atomic_long allocs, held;
 static char input[LIMIT + 4096];
-static size_t input_len, input_at;
+static size_t input_len;
+static char pair[PAIR + 8192];  // a script with a trace
+static size_t pair_len;
+static const char *source = input;
+static size_t source_len, source_at;
 static char *list[WORDS + 1];   // the words of the case, the program's own name at the front
 static char words[1 << 20];
 static size_t words_len;
@@ -99,10 +107,10 @@ ssize_t read(int fd, void *buf, size_t n) {
         errno = EIO;
         return -1;
     }
-    n = least(n, input_len - input_at);
+    n = least(n, source_len - source_at);
     if (trouble.read_max) n = least(n, (size_t)trouble.read_max);
-    memcpy(buf, input + input_at, n);
-    input_at += n;
+    memcpy(buf, source + source_at, n);
+    source_at += n;
     return (ssize_t)n;
 }
 
@@ -151,6 +159,9 @@ static void tell(const char *form, ...) {
 }
 
 static void fail(const char *what) {
+    char *path = getenv("STORM_KEEP");
+    int fd = path && source == pair ? open(path, O_WRONLY | O_CREAT | O_TRUNC, 0644) : -1;
+    if (fd >= 0 && __write(fd, pair, pair_len) < 0) close(fd);
     tell("FAILED case %ld: %s\n", number, what);
     _exit(4);
 }
@@ -250,13 +261,15 @@ static void make_script(void) {
     for (left = 2 + below(30); left > 0;) statement(0);
 }
 
-static void replace(size_t from, size_t to, const char *bytes, size_t n) {
-    size_t tail = input_len - to;
-    if (from + n + tail > LIMIT + 64) return;
-    memmove(input + from + n, input + to, tail);
-    memcpy(input + from, bytes, n);
-    input_len = from + n + tail;
+static void put_in(char *text, size_t *len, size_t most, size_t from, size_t to, const char *bytes, size_t n) {
+    size_t tail = *len - to;
+    if (from + n + tail > most) return;
+    memmove(text + from + n, text + to, tail);
+    memcpy(text + from, bytes, n);
+    *len = from + n + tail;
 }
+
+static void replace(size_t from, size_t to, const char *bytes, size_t n) { put_in(input, &input_len, LIMIT + 64, from, to, bytes, n); }
 
 static void mutate(void) {
     static const char *tokens[] = {"{", "}", "(", ")", "[", "]", "=", ";", "+", "==", "<", ",", "set ", "new ", "get ", "put ", "forget ",
@@ -397,7 +410,8 @@ static void run(Answer *to, Trouble with) {
     argv_[count + 1] = NULL;
     trouble = with;
     allocs = reads = writes = held = 0;
-    input_at = 0;
+    if (source == input) source_len = input_len; else source_len = pair_len;
+    source_at = 0;
     to->out_len = to->err_len = 0;
     answer = to;
     running = 1;
@@ -464,13 +478,167 @@ static Trouble some_trouble(long total, long total_reads, size_t text) {
     return with;
 }
 
+// Pairs of a script and a trace.
+
+static void change(size_t from, size_t to, const char *bytes, size_t n) { put_in(pair, &pair_len, PAIR, from, to, bytes, n); }
+
+static void make_pair(const Answer *trace) {
+    pair_len = (size_t)snprintf(pair, sizeof pair, "rx10 pair %zu\n", input_len);
+    memcpy(pair + pair_len, input, input_len);
+    pair_len += input_len;
+    memcpy(pair + pair_len, trace->out, trace->out_len);
+    pair_len += trace->out_len;
+}
+
+// A place in the trace, mostly; else anywhere.
+static size_t some_place(size_t trace) { return one_in(12) ? (size_t)below((long)pair_len + 1) : trace + (size_t)below((long)(pair_len - trace) + 1); }
+
+static size_t line_start(size_t at) {
+    while (at > 0 && pair[at - 1] != '\n') at--;
+    return at;
+}
+
+static size_t line_end(size_t at) {
+    while (at < pair_len && pair[at] != '\n') at++;
+    return at < pair_len ? at + 1 : at;
+}
+
+static void change_pair(size_t trace) {
+    static const char *tokens[] = {" 0", " 1", " 2", " 4294967295", " 4294967296", " t0", " t1", " s0", " s1", " host", " lost", " masked",
+        " thrown", " |", "open", "at", "spawn", "arrive", "wait", "release", "end", "death", "join", "print", "census", "make", "get", "put",
+        "forget", "full", "stale", "index", "close", "journal 0", "done", "dead:1", "num:3", "overflow", "-1", "00", " is ", "\n", "  ", "\xff"};
+    char piece[4096];
+    if (trace > pair_len) trace = 0;
+    size_t at = some_place(trace), from = line_start(at), to = line_end(at), n = least(to - from, sizeof piece);
+    switch (below(12)) {
+    case 0: if (at < pair_len) pair[at] = (char)chance(); break;
+    case 1: if (at < pair_len) pair[at] ^= (char)(1 << below(7)); break;
+    case 2: change(from, to, "", 0); break;
+    case 3: memcpy(piece, pair + from, n); change(to, to, piece, n); break;
+    case 4: if (one_in(6)) pair_len = at; break;
+    case 5: {                       // two lines in a row, each with the other's number
+        size_t end = line_end(to), first = from, second = to;
+        while (first < to && pair[first] != ' ') first++;
+        while (second < end && pair[second] != ' ') second++;
+        size_t one = to - first, two = end - second, mid = second - to;
+        if (end <= to || first == to || second == end || one + two + mid > sizeof piece) break;
+        memcpy(piece, pair + second, two);
+        memcpy(piece + two, pair + to, mid);
+        memcpy(piece + two + mid, pair + first, one);
+        memcpy(pair + first, piece, one + two + mid);
+        break;
+    }
+    case 6: {                       // a line goes elsewhere
+        memcpy(piece, pair + from, n);
+        change(from, from + n, "", 0);
+        at = line_start(some_place(trace < pair_len ? trace : 0));
+        change(at, at, piece, n);
+        break;
+    }
+    case 7: case 8: {
+        const char *token = tokens[below(sizeof tokens / sizeof *tokens)];
+        change(at, at + least((size_t)below(6), pair_len - at), token, strlen(token));
+        break;
+    }
+    default:                        // a digit
+        while (at < pair_len && (pair[at] < '0' || pair[at] > '9')) at++;
+        if (at < pair_len) pair[at] = (char)('0' + below(10));
+    }
+}
+
+static int is_number(const char **at, const char *end) {
+    const char *from = *at;
+    while (*at < end && **at >= '0' && **at <= '9') (*at)++;
+    return *at > from && (*from != '0' || *at == from + 1);
+}
+
+static int is_line(const Answer *a, const char *front, int numbers) {
+    const char *at = a->out + strlen(front), *end = a->out + a->out_len;
+    if (a->out_len < strlen(front) || memcmp(a->out, front, strlen(front))) return 0;
+    for (; numbers > 0; numbers--)
+        if (at == end || *at++ != ' ' || !is_number(&at, end)) return 0;
+    return at + 1 == end && *at == '\n';
+}
+
+static void hold_pair(const Answer *a, int is_span) {
+    static const char *lines[] = {"", "", "", "syntax ", "bad ", "too long\n", "", "", "", "bad pair\n", "bad line "};
+    if (a->status > 1) {
+        if (a->status > 10 || !*lines[a->status] || a->out_len || !says(a, lines[a->status])) fail("a refusal of a pair is not of its form");
+        return;
+    }
+    if (a->err_len) fail("a line on standard error beside a verdict");
+    if (a->status == 1) {
+        if (!is_line(a, "entry", 1) && !is_line(a, "end", 0) && !is_line(a, "event", 2) && !is_line(a, "open", 1)) fail("no verdict");
+        return;
+    }
+    if (!is_span) {
+        if (!is_line(a, "run", 0)) fail("status 0 and another verdict than `run`");
+        return;
+    }
+    const char *at = a->out + 11, *end = a->out + a->out_len;
+    long lines_left = 0;
+    if (a->out_len < 20 || memcmp(a->out, "statements ", 11)) fail("a chain has no head");
+    long statements = atol(at);
+    if (!is_number(&at, end) || end - at < 8 || memcmp(at, "\nchain ", 7)) fail("a chain has no length");
+    at += 7;
+    long chain = atol(at);
+    if (!is_number(&at, end) || at == end || *at++ != '\n') fail("a chain has no length");
+    for (const char *k = at; k < end; k++) lines_left += *k == '\n';
+    if (lines_left != chain || chain > statements || (chain == 0) != (statements == 0)) fail("a chain is not as long as it says");
+}
+
+static int has_verify;
+static long verdicts[12];
+
+// The pair, by `verify` and by `span`: they refuse the same pairs by the same line.
+static void judge_pair(Answer *first, Answer *second) {
+    Trouble none = {0};
+    list[1] = "verify";
+    count = 1;
+    run(first, none);
+    hold_pair(first, 0);
+    verdicts[first->status]++;
+    long total = allocs, total_reads = reads;
+    run(second, none);
+    if (!is_same(first, second)) fail("two verdicts on one pair");
+    Trouble with = some_trouble(total, total_reads, first->out_len);
+    run(second, with);
+    hold_disturbed(second, first, &with);
+    list[1] = "span";
+    run(second, none);
+    hold_pair(second, 1);
+    if (first->status == 0 ? second->status != 0 : !is_same(first, second)) fail("`span` and `verify` differ in what they refuse");
+}
+
+// The trace of a run is judged, and some that were made of it.
+static void try_pair(Answer *trace, Answer *other) {
+    if (trace->out_len + input_len + 64 > PAIR || trace->status > 1) return;
+    char *kept = list[1];
+    int kept_count = count;
+    make_pair(trace);
+    size_t head = pair_len - trace->out_len, whole = pair_len;
+    source = pair;
+    judge_pair(trace, other);
+    if (trace->status != 0) fail("the trace of a run is judged as no run");
+    static char copy[PAIR + 8192];
+    memcpy(copy, pair, whole);
+    for (int round = 0; round < 3; round++) {
+        if (round) memcpy(pair, copy, pair_len = whole);
+        for (long k = 1 + below(one_in(3) ? 5 : 2); k > 0; k--) change_pair(head);
+        judge_pair(trace, other);
+    }
+    source = input;
+    list[1] = kept;
+    count = kept_count;
+}
+
 static int has_live;
 static volatile sig_atomic_t stopped;
 
 static void stop(int signal) { stopped = signal; }
 
 // The same by threads, without picks: a run, and the same refusals; it may be disturbed by a refused allocation.
-static void try_live(const Answer *step, Answer *other) {
+static void try_live(Answer *step, Answer *other) {
     int kept = count;
     count = 1;
     for (int k = 2; k + 1 <= kept; k += 2) {
@@ -489,6 +657,7 @@ static void try_live(const Answer *step, Answer *other) {
     if (with.alloc && is_no_memory(other)) return;
     if (step->status > 1 ? !is_same(step, other) : other->status > 1) fail("`live` and `step` differ in what they refuse");
     hold(other);
+    if (has_verify && one_in(2)) try_pair(other, step);
 }
 
 static long statuses[6];
@@ -516,7 +685,9 @@ static void try_case(Answer *first, Answer *second) {
     if (first->status > 1 ? !is_same(first, second) : second->status != 0) fail("`check` and `step` differ in what they refuse");
     list[1] = kept;
     count = kept_count;
-    if (has_live && one_in(8)) try_live(first, second);
+    int is_live = has_live && one_in(8);
+    if (is_live) try_live(first, second);
+    else if (has_verify && one_in(6)) try_pair(first, second);
 }
 
 static void load(const char *path) {
@@ -558,6 +729,9 @@ static int storm(int argc, char **argv, char **envp) {
     list[1] = "live";
     run(&both[0], (Trouble){0});
     has_live = both[0].status != 2;
+    list[1] = "verify";
+    run(&both[0], (Trouble){0});
+    has_verify = both[0].status != 2;
     long seed = told("STORM_SEED", 1), from = told("STORM_FIRST", 0), most = told("STORM_CASES", 1L << 60);
     time_t end = time(NULL) + told("STORM_SECONDS", 1L << 40);
     for (number = from; number - from < most && !stopped && (number % 64 || time(NULL) < end); number++) {
@@ -572,8 +746,9 @@ static int storm(int argc, char **argv, char **envp) {
             for (int k = 0; k < 2; k++) madvise(both[k].out, ROOM, MADV_DONTNEED);
         }
     }
-    tell("%ld cases, by status %ld %ld %ld %ld %ld %ld\n", number - from, statuses[0], statuses[1], statuses[2], statuses[3], statuses[4],
-         statuses[5]);
+    tell("%ld cases, by status %ld %ld %ld %ld %ld %ld; pairs: run %ld, another verdict %ld, refused %ld\n", number - from, statuses[0],
+         statuses[1], statuses[2], statuses[3], statuses[4], statuses[5], verdicts[0], verdicts[1],
+         verdicts[3] + verdicts[4] + verdicts[5] + verdicts[9] + verdicts[10]);
     return 0;
 }
 

@@ -3,21 +3,26 @@
 A table is a text of cases. Each begins with `case SCRIPT WORDS`, SCRIPT being the name of a file of scripts/ or `none`; `cut N` says that
 the input is the first N bytes of it; `status N` is the exit status, `says LINE` the line on standard error, and `writes N` stands before
 the N lines of standard output. In live.txt cases of one script and one list of words are one run with several right answers.
+
+In pairs.txt the input is the script together with the trace that answers.txt has for it under the words of the line `of`. `drop N` leaves
+out line N of that trace, `line N TEXT` puts a text in its place, `told N` is what the first line tells in place of the script's length.
 """
 
 import collections
+import functools
 import pathlib
 
 from program import Answer, complaint, shape_complaint, short
 
 HERE = pathlib.Path(__file__).resolve().parent
-Case = collections.namedtuple("Case", "script words cut answer")
+Case = collections.namedtuple("Case", "script words cut answer name stdin")
 
 
 def script(name):
     return b"" if name == "none" else (HERE / "scripts" / (name + ".rx")).read_bytes()
 
 
+@functools.cache
 def read_table(name):
     """The cases of a table, in order."""
     lines = iter((HERE / "tables" / name).read_text().split("\n")[:-1])
@@ -26,16 +31,40 @@ def read_table(name):
         word, _, rest = line.partition(" ")
         if word == "case":
             source, _, words = rest.partition(" ")
-            cases.append({"script": source, "words": words.split(" "), "cut": None, "status": None, "says": b"", "writes": b""})
+            cases.append({"script": source, "words": words.split(" "), "cut": None, "status": None, "says": b"", "writes": b"",
+                          "of": None, "changes": [], "told": None})
         elif word in ("cut", "status"):
             cases[-1][word] = int(rest)
         elif word == "says":
             cases[-1]["says"] = rest.encode() + b"\n"
         elif word == "writes":
             cases[-1]["writes"] = "".join(next(lines) + "\n" for _ in range(int(rest))).encode()
+        elif word in ("of", "told"):
+            cases[-1][word] = rest
+        elif word in ("drop", "line"):
+            number, _, text = rest.partition(" ")
+            cases[-1]["changes"].append((int(number), None if word == "drop" else text))
         else:
             raise ValueError("%s: %s" % (name, line))
-    return [Case(it["script"], it["words"], it["cut"], Answer(it["status"], it["writes"], it["says"])) for it in cases]
+    return [case_of(it) for it in cases]
+
+
+def case_of(it):
+    words = " ".join(it["words"])
+    stdin = script(it["script"]) if it["of"] is None else pair(it["script"], it["of"], it["changes"], it["told"])
+    changes = "".join(", line %d %s" % (number, "left out" if text is None else "changed") for number, text in it["changes"])
+    name = "%s of %s%s%s%s" % (words, it["script"], "" if it["of"] is None else " by " + it["of"], changes,
+                               "" if it["cut"] is None else ", cut at %d" % it["cut"])
+    return Case(it["script"], it["words"], it["cut"], Answer(it["status"], it["writes"], it["says"]), name, stdin[:it["cut"]])
+
+
+def pair(name, words, changes=(), told=None):
+    """The script together with the trace that the tables have for it under these words (as one text), with changes of the trace's lines."""
+    lines = answer_of(name, words).out.decode().split("\n")[:-1]
+    for number, text in sorted(changes, reverse=True):
+        lines[number - 1:number] = [] if text is None else [text]
+    front = "rx10 pair %s\n" % (len(script(name)) if told is None else told)
+    return front.encode() + script(name) + "".join(line + "\n" for line in lines).encode()
 
 
 def answer_of(name, words):
@@ -70,10 +99,9 @@ def long_live_complaint(answer):
 
 def run(program, tally):
     """Every case of the tables with one answer, and each of `live` with one, two and eight workers."""
-    cases = [case for table in ("answers.txt", "deaths.txt", "prefixes.txt") for case in read_table(table)]
-    named = [("%s of %s %s" % (" ".join(case.words), case.script, "" if case.cut is None else "cut at %d" % case.cut), case)
-             for case in cases]
-    tally.each(named, lambda case: complaint(program.run(case.words, script(case.script)[:case.cut]), [case.answer]))
+    tables = ["answers.txt", "deaths.txt", "prefixes.txt", *(["pairs.txt"] if program.has_verify else [])]
+    named = [(case.name, case) for table in tables for case in read_table(table)]
+    tally.each(named, lambda case: complaint(program.run(case.words, case.stdin), [case.answer]))
     if not program.has_live:
         return
     pairs = sorted({(case.script, " ".join(case.words)) for case in read_table("live.txt")})

@@ -19,8 +19,11 @@ OPTIONS = {
     "live": ["--places", "--heap", "--kill", "--join", "--workers"],
     "gen": ["--size", "--places", "--heap", "--kill", "--seed"],
     "check": [],
+    "verify": [],
+    "span": [],
 }
-FILES = ("step", "live", "check")
+FILES = ("step", "live", "check", "verify", "span")
+PAIRS = ("verify", "span")
 OF_LAUNCHER = ("draw", "sweep", "explain", "install", "build", "help")
 
 
@@ -91,6 +94,9 @@ def why_option(words, k):
     """What is wrong with word k, where an option of the command must stand."""
     command, word = words[0], words[k]
     options = OPTIONS[command]
+    if command in PAIRS and not word.startswith("-"):
+        missing = [it for it in words[1:3] if it != "-" and not os.path.isfile(it)]
+        return "there is no file `%s` here" % missing[0] if missing else "`%s` takes two files, a script and a trace" % command
     if word in options:
         if word in ("--seed", "--pick") and word not in words[1:k]:
             return "`--seed` and `--pick` exclude each other"

@@ -1,13 +1,14 @@
 #!/usr/bin/env python3
 """Draws a trace: a lane for each place, a bar for each activity, a bracket for each scope, and a list of all entries.
 
-usage: rx10 draw [TRACE] [-o FILE] [--script FILE] [--columns N] [--title TEXT] [--svg | --perfetto]
+usage: rx10 draw [TRACE] [-o FILE] [--script FILE] [--span FILE] [--columns N] [--title TEXT] [--svg | --perfetto]
 
 TRACE is what `rx10 step` wrote; standard input where it is left out. The picture is one HTML file that needs nothing else: NAME.html in
 this folder for NAME.trace, standard output where the trace came from standard input.
 
   -o FILE         writes to FILE; `-` is standard output
   --script FILE   shows with each entry the line of the script that it comes from
+  --span FILE     marks the chain of statements that `rx10 span` wrote to FILE
   --columns N     so many entries in a strip; 32 where it is left out
   --svg           in place of the page, its picture alone (NAME.svg)
   --perfetto      in place of the picture, JSON that ui.perfetto.dev and chrome://tracing open (NAME.json)
@@ -48,6 +49,7 @@ LEGEND = [
     ('<rect class="dead" x="0" y="1" width="26" height="14"/>', "the place is dead"),
     ('<path class="event" d="M8 4v8"/><path class="event refused" d="M16 4v8"/>', "a store answers, refuses"),
 ]
+CHAIN = ('<path class="chain" d="M2 8H24M4 8a2.6 2.6 0 1 0 5.2 0a2.6 2.6 0 1 0 -5.2 0"/>', "the longest chain of statements")
 
 
 def source_lines(name, text):
@@ -69,7 +71,20 @@ def source_lines(name, text):
     return found
 
 
-def item(entry, story, found):
+def chain_of(name, text, trace):
+    """The numbers of the entries that tell the statements of a chain, as `rx10 span` wrote it."""
+    lines = text.split("\n")
+    if not lines[0].startswith("statements "):
+        raise ValueError("%s has no chain of statements; `rx10 span SCRIPT TRACE` writes one" % name)
+    told = {path: it.number for it in trace.entries for path in [*it.batch, it.path] if path}
+    paths = [it for it in lines[2:] if it]
+    missing = next((it for it in paths if it not in told), None)
+    if missing:
+        raise ValueError("%s is of another trace: none of its entries tells the statement %s" % (name, missing))
+    return frozenset(told[it] for it in paths)
+
+
+def item(entry, story, found, chain):
     """One entry of the list."""
     kinds = [entry.kind]
     if entry.thrown or entry.masked:
@@ -79,19 +94,20 @@ def item(entry, story, found):
     source = found(entry.path) if found and entry.path else None
     small = "<small>%s</small>" % escape(source) if source else ""
     words = escape(activities.in_words(entry, story))
-    return '<li class="is-%s" title="%s"><b>%d</b>%s%s</li>' % (kinds[0], escape(entry.line), entry.number, words, small)
+    kind = kinds[0] + (" on-chain" if entry.number in chain else "")
+    return '<li class="is-%s" title="%s"><b>%d</b>%s%s</li>' % (kind, escape(entry.line), entry.number, words, small)
 
 
-def page(trace, title, found, source, columns):
+def page(trace, title, found, source, columns, chain):
     """The whole HTML file."""
     story = activities.Story(trace)
     root = trace.root()
     came = "the root is not released"
     if root:
         came = "the root was released" + (activities.names_of(root) or ", with nothing lost and nothing thrown")
-    drawn = lanes.strips(story, columns)
-    items = [item(it, story, found) for it in trace.entries]
-    legend = "".join('<span><svg width="28" height="17">%s</svg>%s</span>' % it for it in LEGEND)
+    drawn = lanes.strips(story, columns, chain)
+    items = [item(it, story, found, chain) for it in trace.entries]
+    legend = "".join('<span><svg width="28" height="17">%s</svg>%s</span>' % it for it in LEGEND + [CHAIN] * bool(chain))
     places = "%d place%s" % (trace.places, "" if trace.places == 1 else "s")
     setup = "%s, %d heap words each; kills: %s" % (places, trace.heap, " ".join(trace.kills) or "none")
     if trace.joins:
@@ -120,6 +136,7 @@ def arguments(words):
     parser.add_argument("trace", nargs="?")
     parser.add_argument("-o", dest="out")
     parser.add_argument("--script")
+    parser.add_argument("--span")
     parser.add_argument("--title")
     parser.add_argument("--columns", type=int, default=32)
     parser.add_argument("--perfetto", action="store_true")
@@ -142,15 +159,18 @@ def main(words):
         text = pathlib.Path(given.trace).read_bytes() if given.trace else sys.stdin.buffer.read()
         script = pathlib.Path(given.script).read_bytes() if given.script else None
         trace = trace_text.read_trace(text.decode("utf-8", "replace"))
+        chain = frozenset()
+        if given.span:
+            chain = chain_of(given.span, pathlib.Path(given.span).read_text("utf-8", "replace"), trace)
         if given.perfetto:
             made = json.dumps({"displayTimeUnit": "ns", "traceEvents": perfetto.events_of(activities.Story(trace))})
         elif given.svg:
             style = "".join(it for it in (HERE / "page.css").read_text().splitlines(True) if it.startswith("svg "))
-            made = lanes.whole(lanes.strips(activities.Story(trace), given.columns), style)
+            made = lanes.whole(lanes.strips(activities.Story(trace), given.columns, chain), style)
         else:
             found = source_lines(given.script, script) if script is not None else None
             title = given.title or (pathlib.Path(given.trace).stem if given.trace else "trace")
-            made = page(trace, title, found, script.decode("utf-8", "replace") if script is not None else None, given.columns)
+            made = page(trace, title, found, script.decode("utf-8", "replace") if script is not None else None, given.columns, chain)
         ending = ".json" if given.perfetto else ".svg" if given.svg else ".html"
         out = given.out or ("-" if not given.trace else pathlib.Path(given.trace).stem + ending)
         if out == "-":

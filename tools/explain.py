@@ -24,16 +24,18 @@ RULES = {
     5: "rule 5: the work of a script is at most 100,000",
 }
 STATUSES = {
-    "0": ("Done", "the run ended, and the root's release has nothing lost and nothing thrown; for `check`: the script may be run"),
-    "1": ("Faulted", "the run ended, and the root's release names a lost place or carries a fault that nothing caught"),
+    "0": ("Done", "the run ended, and the root's release has nothing lost and nothing thrown; for `check`: the script may be run; for "
+          "`verify` and `span`: the trace is one of a whole run"),
+    "1": ("Faulted", "the run ended, and the root's release names a lost place or carries a fault that nothing caught; for `verify` and "
+          "`span`: the trace has a flaw"),
     "2": ("Usage", "`usage K`: word K of the command, counted from 0, is none that may stand there, or is missing"),
     "3": ("Syntax", "`syntax AT`: the bytes are no script; AT is where the first token starts that can't go on, counted in bytes from 0"),
     "4": ("Bad", "`bad RULE NODE`: the script fails a rule; NODE is the number of the statement, from 0, in the order of first words"),
-    "5": ("TooLong", "`too long`: the script has more than 65,536 bytes"),
+    "5": ("TooLong", "`too long`: the script has more than 65,536 bytes, or the pair of a script and a trace more than 16,777,216"),
     "6": ("ReadFault", "`read fault`: standard input could not be read"),
     "7": ("WriteFault", "`write fault`: standard output could not be written, or not to its end"),
     "8": ("NoMemory", "`no memory`: memory was asked for and not given"),
-    "9": ("BadPair", "`bad pair`: the input is no pair of a script and a trace"),
+    "9": ("Pair", "`bad pair`: the input is no pair of a script and a trace"),
     "10": ("BadTrace", "`bad line N`: line N of the trace, from 1, can't stand there"),
     "125": ("", "the launcher could not do its part: build the program, or read the file; it says why on standard error"),
 }
@@ -129,10 +131,30 @@ def of_rule(name, text, rule, node):
     return marked(name, text, at, length, why or "this statement fails rule %d" % rule, [RULES.get(rule, "rule %d" % rule)])
 
 
+PAIR = re.compile(rb"rx10 pair (0|[1-9][0-9]{0,18})\n")
+
+
+def parts_of(text):
+    """The script and the trace of a pair, or None where it is none."""
+    head = PAIR.match(text)
+    if not head or int(head[1]) > 65536 or head.end() + int(head[1]) > len(text):
+        return None
+    return text[head.end():head.end() + int(head[1])], text[head.end() + int(head[1]):]
+
+
+def of_pair(name, text):
+    """A text that is no pair."""
+    head = PAIR.match(text)
+    if head and int(head[1]) > 65536:
+        return "%s: a script has 65,536 bytes at most, and this one has %d" % (name, int(head[1]))
+    if head:
+        return "%s: the first line tells of %d bytes of script, and %d follow" % (name, int(head[1]), len(text) - head.end())
+    return "%s: the input is no pair: its first line must be `rx10 pair N`, then come N bytes of a script, and then a trace" % name
+
+
 def of_line(name, text, number):
-    """A pair of script and trace whose trace goes wrong at a line."""
-    head = re.match(rb"rx10 pair ([0-9]+)\n", text)
-    start = head.end() + int(head[1]) if head else 0
+    """A trace that goes wrong at a line."""
+    start = 0
     for _ in range(number - 1):
         found = text.find(b"\n", start)
         if found < 0:
@@ -143,8 +165,9 @@ def of_line(name, text, number):
     return marked(name, text, start, length, "line %d of the trace can't stand here" % number, ["docs/trace.md has the lines"])
 
 
-def explained(status, said, name, text, words):
-    """What to add to the one line that the program said, or None. name and text are those of the input, or None where it is not known."""
+def explained(status, said, name, text, words, parted=False):
+    """What to add to the one line that the program said, or None. name and text are those of the input, or None where it is not known; of
+    a pair that was made of two files, name is that of the one which is at fault."""
     numbers = [int(it) for it in re.findall("[0-9]+", said)]
     if status == 2 and len(numbers) == 1:
         return "rx10: %s\n  %s\n  `rx10 %s` tells the words" % (
@@ -152,12 +175,18 @@ def explained(status, said, name, text, words):
             "%s --help" % words[0] if words and words[0] in command_words.OPTIONS else "--help")
     if text is None:
         return None
+    if status == 9:
+        return of_pair(name, text)
+    if words and words[0] in ("verify", "span"):
+        parts = parts_of(text)
+        if not parts:
+            return None
+        text = parts[status == 10]
+        name = name if parted else "%s (its %s)" % (name, "trace" if status == 10 else "script")
     if status == 3 and len(numbers) == 1 and numbers[0] <= len(text):
         return of_syntax(name, text, numbers[0])
     if status == 4 and len(numbers) == 2:
         return of_rule(name, text, *numbers)
-    if status == 9:
-        return "%s: the input is no pair: its first line must be `rx10 pair N`, then come N bytes of a script, and then a trace" % name
     if status == 10 and len(numbers) == 1:
         return of_line(name, text, numbers[0])
     return None
@@ -181,20 +210,20 @@ def read(path):
         return it.read(1 << 25)
 
 
-def after(status, said, kept, name, words):
+def after(parted, status, said, kept, name, *words):
     """Adds to a refusal of which the launcher tells."""
     try:
         text = read(kept) if kept else None
     except OSError:
         text = None
-    more = explained(int(status), said, name, text, words)
+    more = explained(int(status), said, name, text, list(words), parted)
     if more:
         print(more, file=sys.stderr)
 
 
 def main(words):
-    if words[:1] == ["--after"]:
-        after(*words[1:5], words[5:])
+    if words[:1] in (["--after"], ["--after-parts"]):
+        after(words[0] == "--after-parts", *words[1:])
         return 0
     if not words or words[0] in ("-h", "--help"):
         print(__doc__.split("\n\n")[1])

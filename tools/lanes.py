@@ -47,8 +47,8 @@ class Row:
 class Strip:
     """The entries from `begin` up to `end` as one SVG."""
 
-    def __init__(self, story, begin, end, active):
-        self.story, self.begin, self.end = story, begin, end
+    def __init__(self, story, begin, end, active, chain):
+        self.story, self.begin, self.end, self.chain = story, begin, end, chain
         self.total = len(story.trace.entries)
         self.width = LEFT + FIRST + (end - begin) * COLUMN - COLUMN // 2 + 14
         self.parts = []
@@ -138,6 +138,7 @@ class Strip:
         self.draw_lanes()
         self.put('<rect class="cursor" x="-99" y="0" width="%d" height="%d"/>', COLUMN, self.height)
         self.draw_columns()
+        self.draw_chain()
         self.draw_root()
         for number in self.row_of:
             self.draw_bars(self.story.activities[number])
@@ -180,6 +181,15 @@ class Strip:
             is_right = moment + 3 > self.end and moment - self.begin > 3
             at = (" end", x - 8) if is_right else ("", x + 8)
             self.put('<text class="%s-word%s" x="%g" y="%d">%s</text>', entry.kind, *at, top + height - 4, words % place)
+
+    def draw_chain(self):
+        """A line under the numbers, with a dot at each entry that tells a statement of the chain."""
+        if not self.chain or min(self.chain) >= self.end or max(self.chain) < self.begin:
+            return
+        left, right = self.clip(min(self.chain)), self.clip(max(self.chain))
+        dots = "".join("M%g 20a2.6 2.6 0 1 0 5.2 0a2.6 2.6 0 1 0 -5.2 0" % (self.x(it) - 2.6) for it in sorted(self.chain)
+                       if self.begin <= it < self.end)
+        self.put('<path class="chain" d="M%g 20H%g%s"/>', left, right, dots)
 
     def draw_root(self):
         """The bracket of the root scope, which the host opened and releases."""
@@ -322,8 +332,8 @@ def whole(drawn, style):
     return "%s%s%s</svg>\n" % (head, ground, "\n".join(parts))
 
 
-def strips(story, columns):
-    """The SVGs of a trace, so many entries each."""
+def strips(story, columns, chain=frozenset()):
+    """The SVGs of a trace, so many entries each. The entries of the chain are marked."""
     total = len(story.trace.entries)
     begun = sorted(story.activities.values(), key=lambda it: it.begin)
     alive, made, at = [], [], 0
@@ -333,5 +343,5 @@ def strips(story, columns):
             alive.append(begun[at])
             at += 1
         alive = [it for it in alive if it.over >= begin]
-        made.append(Strip(story, begin, end, [it.number for it in alive]).draw())
+        made.append(Strip(story, begin, end, [it.number for it in alive], chain).draw())
     return made

@@ -63,6 +63,21 @@ class Pictures(unittest.TestCase):
             self.assertIn(part, done.stdout)
         xml.dom.minidom.parseString(done.stdout)
 
+    def test_the_longest_chain(self):
+        trace = EXAMPLES / "adoption.trace"
+        with tempfile.TemporaryDirectory(prefix="rx10 draw ") as room:
+            chain = pathlib.Path(room) / "adoption.span"
+            for text, marks, items in [("statements 8\nchain 2\n0\n1\n", 1, 2), ("statements 0\nchain 0\n", 0, 0)]:
+                chain.write_text(text)
+                done = launch("draw", trace, "--span", chain, "-o", "-")
+                self.assertEqual(done.returncode, 0, done.stderr)
+                self.assertEqual(done.stdout.count('<path class="chain" d="M') - done.stdout.count("M2 8H24"), marks)
+                self.assertEqual((done.stdout.count(" on-chain"), done.stdout.count("the longest chain")), (items, marks))
+            for text in ("run\n", "entry 5\n", "", "statements 1\nchain 1\n7\n"):
+                chain.write_text(text)
+                done = launch("draw", trace, "--span", chain, "-o", "-")
+                self.assertEqual((done.returncode, done.stdout), (1, ""), text)
+
     def test_every_example_is_whole(self):
         for trace in EXAMPLES.glob("*.trace"):
             xml.dom.minidom.parseString(launch("draw", trace, "--svg", "-o", "-", "--columns", "7").stdout)

@@ -26,6 +26,8 @@ class Editor(unittest.TestCase):
             self.assertEqual(set(completed("rx10", command, "--")), {*options, "--help"})
         self.assertEqual(completed("./rx10", "step", "--kill", "1@3", "examples/he"), ["examples/hello.rx"])
         self.assertEqual(completed("./rx10", "draw", "examples/he"), ["examples/hello.trace"])
+        self.assertEqual(completed("./rx10", "verify", "examples/he"), ["examples/hello.rx"])
+        self.assertEqual(completed("./rx10", "span", "examples/hello.rx", "examples/he"), ["examples/hello.trace"])
 
     def test_grammar(self):
         rules = json.loads((TOP / "tools/editor/rx10.tmLanguage.json").read_text())["patterns"]

@@ -6,11 +6,18 @@ import subprocess
 import unittest
 
 from places import EXAMPLES, PICTURES, PROGRAM, TOP
+from test_launcher import pair_of
 
 import trace_text
 
 RUN = re.compile(r"Run it with: \./rx10 (step.*) (examples/\S+)$", re.M)
 LIVE = re.compile(r"Run it with: \./rx10 (live.*) (examples/\S+)$", re.M)
+
+
+def judged(path, trace):
+    """The verdict on a trace of a script."""
+    pair = pair_of(path.read_bytes(), trace)
+    return subprocess.run([PROGRAM, "verify"], input=pair, capture_output=True, timeout=60, check=False).stdout
 
 
 class Examples(unittest.TestCase):
@@ -25,6 +32,7 @@ class Examples(unittest.TestCase):
         with open(path, "rb") as source:
             done = subprocess.run([PROGRAM, *found[1].split()], stdin=source, capture_output=True, timeout=60, check=False)
         self.assertEqual(done.stdout.decode(), path.with_suffix(".trace").read_text())
+        self.assertEqual(judged(path, done.stdout), b"run\n")
         root = trace_text.read_trace(done.stdout.decode()).root()
         self.assertEqual(done.returncode, 1 if root.lost or root.thrown else 0)
         self.assertEqual(done.stderr, b"")
@@ -39,6 +47,7 @@ class Examples(unittest.TestCase):
             with open(path, "rb") as source:
                 done = subprocess.run([PROGRAM, *words], stdin=source, capture_output=True, timeout=60, check=False)
             self.assertEqual(done.returncode, 0)
+            self.assertEqual(judged(path, done.stdout), b"run\n")
             acts = [line.split()[1:] for line in done.stdout.decode().splitlines()]
             printed = [act[2] for act in acts if act[:1] == ["print"]]
             self.assertEqual(sorted(printed), ["1", "2", "3", "6"])

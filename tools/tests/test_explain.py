@@ -48,6 +48,8 @@ WORDS = [
     ("step nothing.rx", 1, "there is no file `nothing.rx` here"),
     ("live --workers 9", 2, "the number of workers, from 1 to 8"),
     ("gen --places 3", 3, "`gen` needs `--size LINES`"),
+    ("verify --places 2", 1, "`verify` takes no options"),
+    ("span none.rx none.trace", 1, "there is no file `none.rx` here"),
 ]
 
 
@@ -75,9 +77,17 @@ class Faults(unittest.TestCase):
         self.assertEqual(shown[2][shown[3].index("^"):], "prin")
 
     def test_pairs_and_lines_of_traces(self):
-        shown = explain.explained(10, "bad line 2", "x", b"rx10 pair 8\nprint 7;rx10 trace 2\nplace 2\n", ["verify"])
-        self.assertTrue(shown.startswith("x:3:1: line 2 of the trace can't stand here"), shown)
-        self.assertIn("is no pair", explain.explained(9, "bad pair", "x", b"", ["verify"]))
+        pair = b"rx10 pair 8\nprint 7;rx10 trace 2\nplace 2\n"
+        shown = explain.explained(10, "bad line 2", "x", pair, ["verify"])
+        self.assertTrue(shown.startswith("x (its trace):2:1: line 2 of the trace can't stand here"), shown)
+        shown = explain.explained(10, "bad line 2", "t", pair, ["span"], True)
+        self.assertTrue(shown.startswith("t:2:1: line 2 of the trace can't stand here"), shown)
+        shown = explain.explained(3, "syntax 7", "x", b"rx10 pair 7\nprint 7rx10 trace 2\n", ["verify"])
+        self.assertTrue(shown.startswith("x (its script):1:8: the script ends here"), shown)
+        for text, part in [(b"", "its first line must be"), (b"rx10 pair 07\nprint 7;", "its first line must be"),
+                           (b"rx10 pair 9\nprint 7;", "tells of 9 bytes of script, and 8 follow"),
+                           (b"rx10 pair 65537\n", "65,536 bytes at most"), (b"rx10 pair " + b"9" * 9999 + b"\n", "is no pair")]:
+            self.assertIn(part, explain.explained(9, "bad pair", "x", text, ["verify"]))
 
     def test_deep_scripts_are_read(self):
         for deep in (b"(" * 60000, b"finish{" * 9000, b"print " + b"(" * 20000 + b"1" + b"+1)" * 10000):

@@ -1,0 +1,28 @@
+-- What may be moved to another thread, and which books may be shared. A struct that holds a snapshot gets no rule of its own, so each
+-- is found here once, from the rules of its fields.
+use denote.RattleType.{RattleType}
+use denote.Ref.{NamedLft}
+use denote.Param.Send.{IsSend, IsSync, sendable}
+use Rattle.std.proofs.Crossing.{crosses}
+use Rattle.std.proofs.alloc.Global.TheSendSync as heap
+use Rattle.std.proofs.option.Option.TheSendSync as option
+use Rattle.rx_base.proofs.ids.PlaceId.TheSendSync as place
+use Rattle.rx_book.proofs.books.Book.TheSendSync as book
+use Rattle.rx_book.proofs.passes.Note.TheSendSync as note
+use Rattle.rx_ledger.proofs.asks.Request.TheSendSync as request
+use Rattle.rx_ledger.proofs.keeper.Keeper.TheSendSync as keeper
+use Rattle.rx_counts.proofs.ledger.CountLedger.TheSendSync as counts
+use Rattle.rx_store.proofs.store.Store.TheSendSync as store
+use Rattle.rx_objects.proofs.trail.Trail.TheLaws.TheKnot as trail
+use Rattle.rx_objects.specs.contracts.ledger.LedgerObject as LedgerObject
+use Rattle.rx_objects.specs.contracts.ledger.LedgerOp as LedgerOp
+use Rattle.rx_objects.specs.contracts.place.PlaceObject as PlaceObject
+
+pub ledger_op_send : IsSend LedgerOp.the_row
+ledger_op_send = search (request.the_field_send, option.the_field_send, note.the_send, crosses, sendable) depth 60 fits 20000
+
+pub ledger_object_send : IsSend LedgerObject.the_row
+ledger_object_send = search (keeper.the_send, counts.the_send, place.the_field_send, note.the_send, heap.the_field_send, trail.crosses, crosses, sendable) depth 60 fits 20000
+
+pub place_object_send : (a : NamedLft) (G : RattleType) → IsSync G → IsSend (PlaceObject.the_row a G)
+place_object_send a G y = search (place.the_field_send, store.the_send, book.the_sync, ledger_object_send, option.the_field_send, note.the_send, trail.crosses, crosses, sendable) depth 60 fits 20000

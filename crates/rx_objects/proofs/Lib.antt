@@ -1,0 +1,13 @@
+pub mod Lines
+pub mod Staying
+pub mod Stepping
+pub mod Noting
+pub mod Leaving
+pub mod Places
+pub mod Fitting
+pub mod Named
+pub mod Host
+pub mod Begins
+pub mod Ending
+pub mod Crosses
+pub mod Scene

@@ -1,0 +1,148 @@
+-- What the main activity may ask before its first entry.
+use Rattle.std.specs.Prelude.{◌≡◌, ℕ, ◌≤◌, List, [], ◌∷◌, map, Option, Some, None, slice_get, refl}
+use Rattle.std.proofs.Common.{ap, sym, ◌∙◌, subst, arith}
+use Rattle.rx_base.specs.declared.ids.TaskId.{TaskId}
+use Rattle.rx_rules.specs.Code.{Block}
+use Rattle.rx_rules.specs.Terms.{Empty, items, no_vars, does, begins, Does, Local, Makes, Gets, Puts, Forgets, Opens, Calls, Spawns, Waits, Releases, Prints, Counts, Done}
+use Rattle.rx_rules.specs.Fold.{tree_of}
+use Rattle.rx_rules.specs.Run.{Given, Folds}
+use Rattle.rx_rules.specs.Plays.{Cells, cell_of}
+use Rattle.std.specs.List.{filter_map}
+use Rattle.rx_control.specs.declared.step.Next.TheVariants.{Cell as CellStep, Book as BookStep}
+use Rattle.rx_control.specs.declared.step.Want.TheVariants.{Open as WantOpen}
+use Rattle.rx_control.specs.Next.{next_of}
+use Rattle.rx_history.specs.Setups.{given}
+use Rattle.rx_history.specs.declared.asks.Ask.TheVariants.{Open as AskOpen}
+use Rattle.rx_finish.specs.declared.ledger.Caller.{Caller}
+use Rattle.rx_ticket.specs.declared.tickets.AnyTicket.TheVariants.{Running}
+use Rattle.rx_ledger.specs.declared.asks.Request.{Request}
+use Rattle.rx_ledger.specs.Asking.{MayApply}
+use Rattle.rx_ledger.specs.Answering.{asker, main_caller}
+use Rattle.rx_ledger.proofs.Rows.{main_begins}
+use Rattle.rx_book.specs.declared.views.Stamped.{Stamped}
+use Rattle.rx_book.specs.declared.views.View.{View}
+use Rattle.rx_book.specs.declared.passes.Note.{Note}
+use Rattle.rx_book.specs.History.{items_of}
+use Rattle.rx_book.specs.Passes.{view_of}
+use Rattle.rx_parts.specs.Ledger.{LegalLedger, RootIsLast, AllMake, main_actor, entries_of, Walks, stays}
+use Rattle.rx_parts.specs.Places.{journal_of}
+use Rattle.rx_parts.proofs.Growing.{ledger-opens}
+use Rattle.rx_parts_book.specs.declared.items.EntryItem.{EntryItem}
+use Rattle.rx_parts_book.specs.declared.items.EventItem.{EventItem}
+use Rattle.rx_parts_book.specs.Histories.{event_named, ledger_items, made_events}
+use Rattle.rx_objects.specs.declared.ledger.LedgerFixed.{LedgerFixed}
+use Rattle.rx_objects.specs.declared.ledger.LedgerOp.{LedgerOp}
+use Rattle.rx_objects.specs.declared.place.PlaceOp.{PlaceOp}
+use Rattle.rx_objects.specs.declared.place.PlaceFixed.{PlaceFixed}
+use Rattle.rx_objects.specs.Ledger.{LedgerIsLegal}
+use Rattle.rx_objects.specs.Mentioned.{events_new, entries_in}
+use Rattle.rx_objects.specs.Asking.{Requests, Suits, RequestIsMade, HostAsks}
+use Rattle.rx_objects.specs.Noted.{NoteSuits}
+use Rattle.rx_objects.specs.Laws.{AsksLedger, CallIsShown}
+use Rattle.rx_objects.proofs.Fitting.{none_new}
+use Rattle.rx_objects.proofs.Ending.{objects_open}
+
+-- the history without entries
+pub opened : (f : LedgerFixed) (seen : List (Stamped EntryItem)) → 1 ≤ f.setup.places → f.setup.places ≤ 16 → seen ≡ [] → LedgerIsLegal f seen
+opened f seen some few none = subst (LedgerIsLegal f) (sym none) (objects_open.0 f some few)
+
+module _ (code : Block) (f : LedgerFixed) (seen : List (Stamped EntryItem)) (some : 1 ≤ f.setup.places) (few : f.setup.places ≤ 16) (none : seen ≡ []) where
+  abbrev U : Given
+  U = given f.setup
+
+  -- with the main activity, as a record that shows it
+  abbrev pub first : LegalLedger code U (ledger_items seen)
+  first =
+      record {
+        folds = subst (λ (l : List (Stamped EntryItem)). Folds U (entries_of (ledger_items l))) (sym none) (ledger-opens code U some few).folds;
+        last = subst (λ (l : List (Stamped EntryItem)). RootIsLast (entries_of (ledger_items l))) (sym none) tt;
+        actors = main_actor code U.places ∷ [];
+        made = subst (λ (l : List (Stamped EntryItem)). AllMake 0 (main_actor code U.places ∷ []) (ledger_items l) (main_actor code U.places ∷ [])) (sym none) refl;
+      }
+
+pub main_call : (code : Block) (f : PlaceFixed) (v : View EventItem) (op : PlaceOp) → 1 ≤ f.ledger.fixed.setup.places → f.ledger.fixed.setup.places ≤ 16 → f.place.0 ≡ 0 → v.number ≡ [] → v.seen ≡ []
+    → (view_of op.pass).number ≡ [] → (view_of op.pass).seen ≡ [] → op.mark.task ≡ record { 0 = 0 }
+    → next_of (does (no_vars f.ledger.fixed.setup.places) 0 (items code [] Empty)) ≡ CellStep op.op → begins (items code [] Empty) ≡ Some op.mark.path → CallIsShown code f v op
+main_call code f v op some few place seat unseen number none task next begun =
+    record {
+      does = does (no_vars f.ledger.fixed.setup.places) 0 (items code [] Empty);
+      asks = next;
+      call = record {
+        legal = first code f.ledger.fixed (view_of op.pass).seen some few none;
+        actor = main_actor code f.ledger.fixed.setup.places;
+        stands = ap (λ (t : TaskId). slice_get (main_actor code f.ledger.fixed.setup.places ∷ []) t.0) task;
+        here = refl;
+        place = sym place;
+        seated = seat;
+        since = [];
+        earlier = ap (λ (l : List (Stamped EventItem)). filter_map (cell_of op.mark.task.0) (journal_of (made_events l))) unseen;
+        stand = (main_actor code f.ledger.fixed.setup.places).stand;
+        walks = stays;
+        asks = refl;
+        begins = begun;
+        above = omega arith;
+      };
+      held = sym number;
+    }
+
+-- the first entry opens a finish
+next_opens : (d : Does) → next_of d ≡ BookStep WantOpen → d ≡ Opens
+next_opens (Local left vars) h = absurd (let f : ⊥ = cc h in f)
+next_opens (Makes name words) h = absurd (let f : ⊥ = cc h in f)
+next_opens (Gets name target index) h = absurd (let f : ⊥ = cc h in f)
+next_opens (Puts target index value) h = absurd (let f : ⊥ = cc h in f)
+next_opens (Forgets target) h = absurd (let f : ⊥ = cc h in f)
+next_opens Opens h = refl
+next_opens (Calls place) h = absurd (let f : ⊥ = cc h in f)
+next_opens (Spawns place) h = absurd (let f : ⊥ = cc h in f)
+next_opens (Waits faults) h = absurd (let f : ⊥ = cc h in f)
+next_opens Releases h = absurd (let f : ⊥ = cc h in f)
+next_opens (Prints value) h = absurd (let f : ⊥ = cc h in f)
+next_opens (Counts name) h = absurd (let f : ⊥ = cc h in f)
+next_opens (Done faults) h = absurd (let f : ⊥ = cc h in f)
+
+same_caller : (a b : Caller) → Some a ≡ Some b → a ≡ b
+same_caller a b h = cc h
+
+pub main_opens : (code : Block) (f : LedgerFixed) (v : View EntryItem) (op : LedgerOp) (path : List ℕ) → 1 ≤ f.setup.places → f.setup.places ≤ 16 → v.number ≡ [] → v.seen ≡ []
+    → op.request ≡ record { ticket = Running main_caller; ask = AskOpen; batch = []; path = Some path } → op.mentions.before.value ≡ op.mentions.now.value → op.note ≡ None
+    → next_of (does (no_vars f.setup.places) 0 (items code [] Empty)) ≡ BookStep WantOpen → begins (items code [] Empty) ≡ Some path → AsksLedger code f v op
+main_opens code f v op path some few number none asks same no_note next begun =
+    record {
+      legal = first code f v.seen some few none;
+      may = λ low. subst (MayApply (tree_of f.setup.places (entries_in (items_of v.seen)))) (sym asks)
+          (main_begins f.setup.places (entries_in (items_of v.seen)) main_caller (ap (λ (l : List (Stamped EntryItem)). entries_in (items_of l)) none) refl, tt);
+      holds = λ who is.
+          let it : main_caller ≡ who = same_caller main_caller who (ap (λ (q : Request). asker q.ticket) (sym asks) ∙ is) in
+          (main_actor code f.setup.places, ap (λ (w : Caller). slice_get (main_actor code f.setup.places ∷ []) w.task.0) (sym it), sym number);
+      asks = subst (λ (q : Request). RequestIsMade (main_actor code f.setup.places ∷ []) v.reach v.number (map event_named (events_new op.mentions)) q) (sym asks) made;
+      note = subst (λ (o : Option (Note EventItem)). NoteSuits f.places (items_of v.seen) op.request.ticket (map event_named (events_new op.mentions)) o) (sym no_note) nothing;
+      host = subst (λ (q : Request). HostAsks v.number q.ask) (sym asks) tt;
+    }
+  where
+    nothing : map event_named (events_new op.mentions) ≡ []
+    nothing = ap (map event_named) (none_new op.mentions same)
+
+    walks : Walks (record { 0 = 0 }) (main_actor code f.setup.places).stand (map event_named (events_new op.mentions)) (main_actor code f.setup.places).stand
+    walks = subst (λ (l : Cells). Walks (record { 0 = 0 }) (main_actor code f.setup.places).stand l (main_actor code f.setup.places).stand) (sym nothing) stays
+
+    made : Requests (main_actor code f.setup.places ∷ []) v.reach v.number (map event_named (events_new op.mentions)) [] (Some main_caller) (Suits AskOpen (Some path))
+    made =
+        record {
+          who = main_caller;
+          asks = refl;
+          does = does (no_vars f.setup.places) 0 (items code [] Empty);
+          may = record {
+            actor = main_actor code f.setup.places;
+            stands = refl;
+            held = number;
+            here = refl;
+            stand = (main_actor code f.setup.places).stand;
+            walks = walks;
+            in_time = omega arith;
+            begun = refl;
+            asks = refl;
+          };
+          place = refl;
+          suited = (next_opens (does (no_vars f.setup.places) 0 (items code [] Empty)) next, begun);
+        }

@@ -1,0 +1,9 @@
+pub use Rattle.atomic_table.specs.Seated
+pub mod Mentioned
+pub mod Asking
+pub mod Noted
+pub mod Ledger
+pub mod Place
+pub mod Laws
+pub mod Ending
+pub mod Inside

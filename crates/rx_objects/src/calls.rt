@@ -1,0 +1,105 @@
+// How the store of a place is called, and what a control is told of its answer.
+ghost use Rattle.std.specs.Prelude.{◌≡◌, ◌<◌, ◌^◌, false, true, length};
+ghost use Rattle.rx_store.specs.Kept.{ends_closed};
+ghost use Rattle.rx_control.specs.declared.step.CellOp.TheVariants.{Make, Get, Put, Forget};
+ghost use Rattle.rx_stores.specs.Asked.{Asked, MayAskStore};
+
+use rx_base::{Fault, GlobalRef, Value};
+use rx_control::CellOp;
+use rx_store::{Mark, Store, StoreFault};
+
+// Room for one event more, where the journal may grow.
+pub(crate) fn has_room(store: &mut Store) -> bool
+    ensures same { store.new ≡ record store.old { spare = store.new.spare } }
+    ensures room { result ≡ true → (0 < store.new.spare) × (length store.new.events < 2 ^ 31) }
+{
+    store.reserve(1).is_ok() && store.journal().len() < 2147483648
+}
+
+// Makes a call for which there is room, and tells what the control is to take.
+pub(crate) fn ask(store: &mut Store, m: Mark, op: CellOp) -> Result<Option<Value>, Fault>
+    requires open { ends_closed store.old.events ≡ false }
+    requires fits { MayAskStore store.old.place op }
+    requires room { 0 < store.old.spare }
+    requires events { length store.old.events < 2 ^ 31 }
+    ensures { Asked store.old store.new m op result }
+{
+    match op {
+        CellOp::Make { words } => ask_make(store, m, words),
+        CellOp::Get { target, index } => ask_get(store, m, target, index),
+        CellOp::Put {
+            target,
+            index,
+            value,
+        } => ask_put(store, m, target, index, value),
+        CellOp::Forget { target } => ask_forget(store, m, target),
+    }
+}
+
+// Makes a block.
+fn ask_make(store: &mut Store, m: Mark, words: u32) -> Result<Option<Value>, Fault>
+    requires open { ends_closed store.old.events ≡ false }
+    requires some { 0 < words }
+    requires room { 0 < store.old.spare }
+    requires events { length store.old.events < 2 ^ 31 }
+    ensures { Asked store.old store.new m (Make words) result }
+{
+    match store.make(m, words) {
+        Ok(r) => Ok(Some(Value::Ref(r))),
+        Err(StoreFault::Full) => Err(Fault::HeapFull),
+        Err(_) => unreachable!(),
+    }
+}
+
+// Reads a word.
+fn ask_get(store: &mut Store, m: Mark, r: GlobalRef, index: i64) -> Result<Option<Value>, Fault>
+    requires open { ends_closed store.old.events ≡ false }
+    requires home { r.home ≡ store.old.place }
+    requires room { 0 < store.old.spare }
+    requires events { length store.old.events < 2 ^ 31 }
+    ensures { Asked store.old store.new m (Get r index) result }
+{
+    match store.get(m, r, index) {
+        Ok(value) => Ok(Some(Value::Num(value))),
+        Err(StoreFault::Stale) => Err(Fault::Stale),
+        Err(StoreFault::Index) => Err(Fault::Index),
+        Err(_) => unreachable!(),
+    }
+}
+
+// Writes a word.
+fn ask_put(
+    store: &mut Store,
+    m: Mark,
+    r: GlobalRef,
+    index: i64,
+    value: i64,
+) -> Result<Option<Value>, Fault>
+    requires open { ends_closed store.old.events ≡ false }
+    requires home { r.home ≡ store.old.place }
+    requires room { 0 < store.old.spare }
+    requires events { length store.old.events < 2 ^ 31 }
+    ensures { Asked store.old store.new m (Put r index value) result }
+{
+    match store.put(m, r, index, value) {
+        Ok(()) => Ok(None),
+        Err(StoreFault::Stale) => Err(Fault::Stale),
+        Err(StoreFault::Index) => Err(Fault::Index),
+        Err(_) => unreachable!(),
+    }
+}
+
+// Forgets a block.
+fn ask_forget(store: &mut Store, m: Mark, r: GlobalRef) -> Result<Option<Value>, Fault>
+    requires open { ends_closed store.old.events ≡ false }
+    requires home { r.home ≡ store.old.place }
+    requires room { 0 < store.old.spare }
+    requires events { length store.old.events < 2 ^ 31 }
+    ensures { Asked store.old store.new m (Forget r) result }
+{
+    match store.forget(m, r) {
+        Ok(()) => Ok(None),
+        Err(StoreFault::Stale) => Err(Fault::Stale),
+        Err(_) => unreachable!(),
+    }
+}

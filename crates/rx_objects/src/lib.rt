@@ -1,0 +1,27 @@
+//! The objects of a run in parts: the ledger with the notes of places that it keeps, and the store of a place with the ledger's
+//! history that its callers had seen. Each lies in a book of its own (rx_book). It stands on the keeper (rx_ledger), on the stores
+//! (rx_store), and on rx_parts and rx_parts_book, which say which histories of the two books are legal and what their items are.
+//! The layers above use that every history of these books is legal, and that the notes which come with the root's release have all
+//! events that entries name.
+#![tactic(auto)]
+
+mod calls;
+mod laws;
+mod ledger;
+mod mentions;
+mod place;
+#[cfg(test)]
+mod tests;
+mod trail;
+#[cfg(test)]
+mod worked;
+
+pub use laws::{
+    books_make_run, host_is_told, host_may_ask, ledger_op_fits, meeting_hears, meeting_shows,
+    noted_are_named, objects_open, others_spare_tickets, place_op_fits, places_end,
+    stamps_before_death,
+};
+pub use ledger::{LedgerCall, LedgerFixed, LedgerObject, LedgerOp, LedgerReply};
+pub use mentions::Mentions;
+pub use place::{PlaceCall, PlaceFixed, PlaceObject, PlaceOp, PlaceReply};
+pub use trail::Trail;

@@ -1,0 +1,204 @@
+// A place's object: its store, and a note of the longest history of the ledger that its callers had seen.
+ghost use Rattle.std.specs.Prelude.{◌≡◌, ◌<◌, ◌++◌, ◌∷◌, [], false, length, List};
+ghost use Rattle.rx_base.specs.Sets.{has_bit};
+ghost use Rattle.rx_rules.specs.declared.events.PlaceEvent.{PlaceEvent as Event};
+ghost use Rattle.rx_book.specs.Passes.{view_of, word_of, note_view, note_word, IsAsSeen};
+ghost use Rattle.rx_book.specs.Calls.{Met};
+ghost use Rattle.rx_objects.specs.Ledger.{LedgerIsLegal};
+ghost use Rattle.rx_objects.specs.Place.{shown, PlaceKeeps};
+
+use crate::calls::{ask, has_room};
+use crate::ledger::LedgerObject;
+use crate::trail::Trail;
+use rx_base::{Fault, Gate, PlaceId, PlaceSet, Value};
+use rx_book::{Book, Note, Object, Pass};
+use rx_control::CellOp;
+use rx_parts_book::{EntryItem, EventItem};
+use rx_rules::PlaceEvent;
+use rx_store::{Mark, Store};
+use std::marker::Model;
+use std::snapshot::Snapshot;
+use std::sync::Wait;
+
+/// An operation of a place's book: who asks, what, and the asker's pass of the ledger's book.
+#[derive(Drop)]
+pub struct PlaceOp {
+    pub mark: Mark,
+    pub op: CellOp,
+    pub pass: Pass<EntryItem>,
+}
+
+/// An answer, and the pass, which has met the place's note.
+#[derive(Drop)]
+pub enum PlaceReply {
+    Cell {
+        answer: Result<Option<Value>, Fault>,
+        pass: Pass<EntryItem>,
+    },
+    /// There was no memory, and the place has failed.
+    NoMemory {
+        pass: Pass<EntryItem>,
+    },
+}
+
+/// One call: the event that it added to the journal, and the asker's pass then. It has no bytes.
+#[derive(Drop)]
+pub struct PlaceCall {
+    pub event: Snapshot<PlaceEvent>,
+    pub pass: Snapshot<Pass<EntryItem>>,
+}
+
+/// What is fixed of a place's object: its number, the words of its heap, and the ledger's book. No value of it is made.
+pub struct PlaceFixed {
+    pub place: PlaceId,
+    pub words: u32,
+    pub ledger: Book<LedgerObject>,
+}
+
+/// A place. The note is None only after the place has failed.
+#[derive(Drop)]
+pub struct PlaceObject<'a, G: Gate + Sync> {
+    pub place: PlaceId,
+    pub store: Store,
+    pub ledger: &'a Book<LedgerObject>,
+    pub note: Option<Note<EntryItem>>,
+    pub gate: &'a G,
+    calls: Trail<PlaceCall>,
+}
+
+impl<'a, G: Gate + Sync> Model for PlaceObject<'a, G> {
+    ghost use Rattle.rx_objects.specs.Place.{events_called, PlaceView, PlaceKeeps};
+
+    ghost Value = { PlaceView };
+
+    ghost view = { λ s. record {
+      entries = events_called s.calls;
+      place = s.place;
+      words = s.store.words;
+      ledger = s.ledger.now;
+    } };
+
+    ghost invariant = { λ s. PlaceKeeps s.place s.store s.ledger.now s.note (events_called s.calls) };
+}
+
+// The pass meets the note, and a new note is made of what it has seen then.
+fn exchange(
+    ledger: &Book<LedgerObject>,
+    pass: &mut Pass<EntryItem>,
+    note: Note<EntryItem>,
+) -> Note<EntryItem>
+    requires own { word_of pass.old ≡ ledger.now.word }
+    requires note { note_word note ≡ ledger.now.word }
+    ensures own { (word_of pass.new ≡ ledger.now.word) × (note_word result ≡ ledger.now.word) }
+    ensures met { Met shown (view_of pass.old) (note_view note) (view_of pass.new) }
+    ensures seen { IsAsSeen (view_of pass.new) (note_view result) }
+{
+    ledger.meet(pass, note);
+    match ledger.note(pass) {
+        Ok(note) => note,
+        Err(_) => unreachable!(),
+    }
+}
+
+// The last event of the journal.
+fn last_event(store: &Store) -> Snapshot<PlaceEvent>
+    requires { 0 < length store.now.events }
+    ensures { (es : List Event) (e : Event) → store.now.events ≡ es ++ e ∷ [] → result.value ≡ e }
+{
+    let journal = store.journal();
+    Snapshot::of(journal.item(journal.len() - 1))
+}
+
+impl<'a, G: Gate + Sync> PlaceObject<'a, G> {
+    /// A place without events. The note is of the ledger's book, and knows of no death of the place.
+    pub fn open(
+        place: PlaceId,
+        store: Store,
+        ledger: &'a Book<LedgerObject>,
+        note: Note<EntryItem>,
+        gate: &'a G,
+    ) -> Self
+        requires own { note_word note ≡ ledger.now.word }
+        requires lawful { LedgerIsLegal ledger.now.fixed (note_view note).seen }
+        requires alive { has_bit (note_view note).dead place.0 ≡ false }
+        requires store { (store.events ≡ []) × (store.place ≡ place) }
+        ensures { result ≡ record { entries = []; place = place; words = store.words; ledger = ledger.now } }
+    {
+        PlaceObject {
+            place,
+            store,
+            ledger,
+            note: Some(note),
+            gate,
+            calls: Trail::Empty,
+        }
+    }
+
+    /// The store and the note at the end. It takes no memory.
+    pub fn into_parts(self) -> (Store, Option<Note<EntryItem>>)
+        ensures kept { PlaceKeeps self.entry.place result.0 self.entry.ledger result.1 self.entry.entries }
+        ensures words { result.0.words ≡ self.entry.words }
+    {
+        let PlaceObject {
+            place: _,
+            store,
+            ledger: _,
+            note,
+            gate: _,
+            calls: _,
+        } = self;
+        (store, note)
+    }
+}
+
+impl<'a, G: Gate + Sync> Object for PlaceObject<'a, G> {
+    type Op = PlaceOp;
+
+    type Reply = PlaceReply;
+
+    type Item = EventItem;
+
+    type Fixed = PlaceFixed;
+
+    ghost use Rattle.rx_objects.specs.Place.{PlaceDoes, PlaceIsLegal, PlaceFits};
+
+    ghost fixed = { λ s. record { place = s.place; words = s.words; ledger = s.ledger } };
+
+    ghost entries = { λ s. s.entries };
+
+    ghost step = { PlaceDoes };
+
+    ghost legal = { PlaceIsLegal };
+
+    ghost fits = { PlaceFits };
+
+    fn apply<R: Wait>(&mut self, _rt: &R, op: PlaceOp) -> PlaceReply {
+        let PlaceOp { mark, op, mut pass } = op;
+        let Some(note) = self.note.take() else {
+            return PlaceReply::NoMemory { pass };
+        };
+        let note = exchange(self.ledger, &mut pass, note);
+        if !has_room(&mut self.store) {
+            return PlaceReply::NoMemory { pass };
+        }
+        self.gate.cell(self.place);
+        let answer = ask(&mut self.store, mark, op);
+        let call = PlaceCall {
+            event: last_event(&self.store),
+            pass: Snapshot::of(&pass),
+        };
+        self.note = Some(note);
+        self.calls = Trail::After(Snapshot::of(&self.calls), call);
+        PlaceReply::Cell { answer, pass }
+    }
+
+    fn len(&self) -> u32 {
+        self.store.journal().len() as u32
+    }
+
+    fn deaths(&self) -> PlaceSet {
+        PlaceSet(0)
+    }
+
+    fn stays() {}
+}

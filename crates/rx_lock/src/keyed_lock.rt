@@ -1,16 +1,21 @@
 // The lock, and the turn of the one who has it.
-ghost use Rattle.std.specs.Prelude.{◌≡◌, IfOk, IfErr};
+ghost use Rattle.std.specs.Prelude.{◌≡◌, if◌then◌else◌, IfOk, IfErr};
 
-use crate::steps::{Close, Fact, Give, Hand, Rule, Sit, Take};
+use crate::steps::{Close, Fact, Give, Hand, Mark, Rule, Sit, Take};
 use atomic_table::{Seat, Table};
 use rx_base::NoMemory;
 use std::alloc::Global;
 use std::hint::spin_loop;
 use std::marker::Model;
 use std::sync::Wait;
+use std::time::Duration;
 
-// How often one who finds the value out looks for it again before it sleeps.
-const LOOKS: u32 = 1_000;
+// How often one who finds the value out looks for it again before it naps.
+const LOOKS: u32 = 100;
+
+// The naps that follow, each with a look behind it, in microseconds. They grow, so that those who wait seldom take the value from a core
+// that has it near and uses it again and again: bringing it to another core costs more than a short use.
+const NAPS: [u64; 6] = [20, 40, 80, 160, 320, 640];
 
 /// The right and the duty to put a value back. It can't be dropped. Contracts see it as the lock that it is of.
 pub struct Turn<T, K> {
@@ -30,8 +35,8 @@ impl<T, K> Model for Turn<T, K> {
 }
 
 /// A value under a lock. `F` is the fact that the value keeps about the key whenever no one has the lock. Contracts see which
-/// lock it is, and the key. The word beside the value is 0 where the value is at home, 1 where it is out, and 2 once the lock is
-/// closed.
+/// lock it is, and the key. The word beside the value is 0 where the value is at home, 1 where it is out, 2 where it is out and
+/// somebody may sleep, and 3 once the lock is closed.
 pub struct Lock<T, K, F: Fact<T, K>> {
     table: Table<Option<T>, Hand<K>, K, Rule<F>, Global>,
 }
@@ -75,15 +80,17 @@ impl<T, K, F: Fact<T, K>> Lock<T, K, F> {
         }
     }
 
-    /// Waits until the value is at home, and takes it: it looks for a while, and then sleeps. No memory.
+    /// Waits until the value is at home, and takes it: it looks for a while, naps between further looks, and then sleeps. Whoever
+    /// comes first takes it, also before one that has waited for longer. No memory.
     pub fn lock<R: Wait>(&self, rt: &R) -> (T, Turn<T, K>)
         ensures fact { F.holds self.now.key result.0 }
         ensures own { result.1 ≡ self.now }
     {
         let shared = &self.table.shared;
         let (_, mut seat) = shared.load_new_seat::<Sit>(0);
+        let mut has_slept = false;
         for _ in rt.forever() {
-            let found = shared.compare_exchange::<Take<F>>(&mut seat, 0, 0, 1);
+            let found = shared.compare_exchange::<Take<F>>(&mut seat, 0, 0, taken(has_slept));
             if found == 0 {
                 let Some(value) = shared.exchange(&mut seat, 0, None) else {
                     unreachable!()
@@ -91,7 +98,11 @@ impl<T, K, F: Fact<T, K>> Lock<T, K, F> {
                 return (value, Turn { seat });
             }
             if !self.comes_home() {
-                shared.park(rt, 0, 1);
+                has_slept = true;
+                if !self.comes_home_between_naps(rt) {
+                    shared.compare_exchange::<Mark>(&mut seat, 0, 1, 2);
+                    shared.park(rt, 0, 2);
+                }
             }
         }
         unreachable!()
@@ -108,7 +119,19 @@ impl<T, K, F: Fact<T, K>> Lock<T, K, F> {
         false
     }
 
-    /// Puts a value back, and wakes one who waits. No memory.
+    // The same, by one look behind each nap. A nap ends by itself. Where others sleep, a wake that is meant for them may end it too.
+    fn comes_home_between_naps<R: Wait>(&self, rt: &R) -> bool {
+        let shared = &self.table.shared;
+        for micros in NAPS {
+            shared.park_timeout(rt, 0, 1, Duration::from_micros(micros));
+            if shared.peek(0) == 0 {
+                return true;
+            }
+        }
+        false
+    }
+
+    /// Puts a value back, and wakes one who waits where somebody may sleep. No memory.
     pub fn unlock(&self, turn: Turn<T, K>, value: T)
         requires own { turn ≡ self.now }
         requires fact { F.holds self.now.key value }
@@ -117,8 +140,10 @@ impl<T, K, F: Fact<T, K>> Lock<T, K, F> {
         let Turn { mut seat } = turn;
         let gone = shared.exchange(&mut seat, 0, Some(value));
         let None = gone else { unreachable!() };
-        shared.store::<Give>(&mut seat, 0, 0);
-        shared.wake_one(0);
+        let found = shared.swap::<Give>(&mut seat, 0, 0);
+        if found == 2 {
+            shared.wake_one(0);
+        }
     }
 
     /// Ends the lock, whose value is out with this turn.
@@ -127,10 +152,17 @@ impl<T, K, F: Fact<T, K>> Lock<T, K, F> {
     {
         let Self { table } = self;
         let Turn { mut seat } = turn;
-        table.shared.store::<Close>(&mut seat, 0, 2);
+        table.shared.store::<Close>(&mut seat, 0, 3);
         let mut closed = table.close_with(seat);
         let gone = closed.take(0);
         closed.free();
         let None = gone else { unreachable!() };
     }
+}
+
+// The word of one who takes the value. A wake ends one sleep alone and leaves no mark of the others, so one who has slept leaves it anew.
+fn taken(has_slept: bool) -> u64
+    ensures { result ≡ (if has_slept then 2 else 1) }
+{
+    if has_slept { 2 } else { 1 }
 }

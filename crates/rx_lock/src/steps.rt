@@ -48,6 +48,15 @@ impl<T, K, F: Fact<T, K>> Play<Option<T>, Hand<K>> for Take<F> {
     ghost then = { Took F.holds };
 }
 
+// One says that it may sleep, and learns nothing.
+pub struct Mark;
+
+impl<T, K> Play<Option<T>, Hand<K>> for Mark {
+    ghost use Rattle.rx_lock.specs.Latched.{Marked};
+
+    ghost then = { Marked };
+}
+
 // One gives the value back.
 pub struct Give;
 

@@ -1,6 +1,7 @@
 ghost use Rattle.std.specs.Prelude.{◌≡◌, ◌≤◌};
 
 use crate::{Fact, Lock};
+use std::hint::spin_loop;
 use std::sync::Wait;
 use std::test::Fail;
 use std::thread;
@@ -40,5 +41,35 @@ fn two_threads_take_turns(rt: HostRuntime) -> Result<(), Fail> {
     let (n, turn) = lock.lock(&rt);
     lock.close(turn);
     assert_eq!(rt; n, 200);
+    Ok(())
+}
+
+// Adds one, and has the lock for so long meanwhile that another who comes falls asleep.
+fn add_slowly<R: Wait>(rt: &R, lock: &Lock<u64, u64, IsWithin>, most: u64)
+    requires { lock.now.key ≡ most }
+{
+    let (n, turn) = lock.lock(rt);
+    for _ in 0..1_000_000 {
+        spin_loop();
+    }
+    let next = if n < most { n + 1 } else { n };
+    lock.unlock(turn, next);
+}
+
+#[test]
+fn one_who_sleeps_is_woken(rt: HostRuntime) -> Result<(), Fail> {
+    let made: Result<Lock<u64, u64, IsWithin>, _> = Lock::new(rt.alloc(), 0, &1000);
+    let Ok(lock) = made else {
+        panic!(rt; "no memory")
+    };
+    let shared = &lock;
+    thread::join(
+        &rt,
+        || add_slowly(&rt, shared, 1000),
+        || add_slowly(&rt, shared, 1000),
+    );
+    let (n, turn) = lock.lock(&rt);
+    lock.close(turn);
+    assert_eq!(rt; n, 2);
     Ok(())
 }

@@ -14,5 +14,5 @@ store-requires g c =
     let me : seat.me ≡ (holding t.key, (0, None) ∷ []) = λ i. ((c.turn.invariant.0 ∙ ap holding key) i, c.turn.invariant.1 i) in (
       search rules,
       search rules,
-      subst (λ (m : Me (Option g.row.T.Denot) (Hand g.row.K.Denot)). Allows (Latched g.F.Fact.holds t.key) t.table_id.slots seat.id m 0 (λ _. 2) (λ _. Ends closing (step t.table_id.slots 0 2 0 none) m 2)) (sym me) (closes g.F.Fact.holds t.key t.table_id.slots seat.id (search rules)),
+      subst (λ (m : Me (Option g.row.T.Denot) (Hand g.row.K.Denot)). Allows (Latched g.F.Fact.holds t.key) t.table_id.slots seat.id m 0 (λ _. 3) (λ _. Ends closing (step t.table_id.slots 0 3 0 none) m 3)) (sym me) (closes g.F.Fact.holds t.key t.table_id.slots seat.id (search rules)),
     )

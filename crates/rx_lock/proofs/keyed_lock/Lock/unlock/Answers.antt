@@ -6,8 +6,8 @@ use Rattle.rx_lock.specs.Latched.{idle, holding, Latched, Ends}
 use Rattle.rx_lock.proofs.Latches.{unlocks}
 use Rattle.rx_lock.proofs.keyed_lock.Lock.unlock.Goals as goal
 
-pub store-requires : goal.store-requires
-store-requires g c =
+pub swap-found-requires : goal.swap-found-requires
+swap-found-requires g c =
     let t = c.self.inside.table.shared in
     let turn = c.turn.inside in
     let key : turn.seat.me.0.key ≡ t.key = ap (λ l. l.key) (c.turn.view_is ∙ (c.requires.own ∙ sym c.self.view_is)) in
@@ -16,6 +16,6 @@ store-requires g c =
     c.exchange-gone.ensures.3 ∙ (λ i. (hand i, (0, Some c.args.value) ∷ rest (c.turn.invariant.1 i))) in (
       search rules,
       search rules,
-      subst (λ (m : Me (Option g.row.T.Denot) (Hand g.row.K.Denot)). Allows (Latched g.F.Fact.holds t.key) t.table_id.slots c.exchange-gone.new.seat.id m 0 (λ _. 0) (λ _. Ends idle (step t.table_id.slots 0 0 0 none) m 0)) (sym me)
+      subst (λ (m : Me (Option g.row.T.Denot) (Hand g.row.K.Denot)). Allows (Latched g.F.Fact.holds t.key) t.table_id.slots c.exchange-gone.new.seat.id m 0 (λ _. 0) (Ends idle (step t.table_id.slots 0 0 0 none) m)) (sym me)
           (unlocks g.F.Fact.holds t.key t.table_id.slots c.exchange-gone.new.seat.id c.args.value (search rules) (subst (λ (k : g.row.K.Denot). g.F.Fact.holds k c.args.value) (ap (λ l. l.key) (sym c.self.view_is)) c.requires.fact)),
     )

@@ -5,7 +5,6 @@
 //! events that entries name.
 #![tactic(auto)]
 
-mod calls;
 mod laws;
 mod ledger;
 mod mentions;

@@ -1,5 +1,5 @@
 // A place's object: its store, and a note of the longest history of the ledger that its callers had seen.
-ghost use Rattle.std.specs.Prelude.{◌≡◌, ◌<◌, ◌++◌, ◌∷◌, [], false, length, List};
+ghost use Rattle.std.specs.Prelude.{◌≡◌, ◌<◌, ◌^◌, ◌++◌, ◌∷◌, [], false, true, length, List};
 ghost use Rattle.rx_base.specs.Sets.{has_bit};
 ghost use Rattle.rx_rules.specs.declared.events.PlaceEvent.{PlaceEvent as Event};
 ghost use Rattle.rx_book.specs.Passes.{view_of, word_of, note_view, note_word, IsAsSeen};
@@ -7,7 +7,6 @@ ghost use Rattle.rx_book.specs.Calls.{Met};
 ghost use Rattle.rx_objects.specs.Ledger.{LedgerIsLegal};
 ghost use Rattle.rx_objects.specs.Place.{shown, PlaceKeeps};
 
-use crate::calls::{ask, has_room};
 use crate::ledger::LedgerObject;
 use crate::trail::Trail;
 use rx_base::{Fault, Gate, PlaceId, PlaceSet, Value};
@@ -16,6 +15,7 @@ use rx_control::CellOp;
 use rx_parts_book::{EntryItem, EventItem};
 use rx_rules::PlaceEvent;
 use rx_store::{Mark, Store};
+use rx_stores::ask;
 use std::marker::Model;
 use std::snapshot::Snapshot;
 use std::sync::Wait;
@@ -98,6 +98,14 @@ fn exchange(
         Ok(note) => note,
         Err(_) => unreachable!(),
     }
+}
+
+// Room for one event more, where the journal may grow.
+fn has_room(store: &mut Store) -> bool
+    ensures same { store.new ≡ record store.old { spare = store.new.spare } }
+    ensures room { result ≡ true → (0 < store.new.spare) × (length store.new.events < 2 ^ 31) }
+{
+    store.reserve(1).is_ok() && store.journal().len() < 2147483648
 }
 
 // The last event of the journal.

@@ -24,8 +24,10 @@ pub(crate) fn call_store(
     Ok(ask(store, m, op))
 }
 
-// Makes a call for which there is room, and tells what the control is to take.
-fn ask(store: &mut Store, m: Mark, op: CellOp) -> Result<Option<Value>, Fault>
+/// Makes a call of an open store, for which there is room, and gives what the control is to take: a value where one was asked for, or the
+/// fault that the statement raises. The call adds one event. It takes no memory. What it gives is stated by `Asked`, and the rules of
+/// stores stand in docs/semantics.md.
+pub fn ask(store: &mut Store, m: Mark, op: CellOp) -> Result<Option<Value>, Fault>
     requires open { ends_closed store.old.events ≡ false }
     requires fits { MayAskStore store.old.place op }
     requires room { 0 < store.old.spare }

@@ -6,4 +6,5 @@
 mod calls;
 mod stores;
 
+pub use calls::ask;
 pub use stores::Stores;

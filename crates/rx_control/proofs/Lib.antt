@@ -13,3 +13,4 @@ pub mod Words
 pub mod Steps
 pub mod Answering
 pub mod Bound
+pub mod Kept

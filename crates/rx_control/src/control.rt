@@ -80,7 +80,7 @@ impl Control {
             alloc,
             script,
             Path::open(alloc),
-            Variables::none(places),
+            Variables::none(alloc, places),
             script.top(),
         )
     }
@@ -138,7 +138,7 @@ impl Control {
                     script,
                     at_hand(script, block, next),
                     path,
-                    self.vars.copy(),
+                    self.vars.copy(alloc)?,
                 )
             }
             None => unreachable!(),
@@ -177,8 +177,7 @@ impl Control {
                 let stmt = at_hand(script, block, next);
                 let plan = make_plan(script, stmt, &self.vars, here);
                 let faults = faults_of(alloc, plan)?;
-                self.carry_out(script, block, next, part, plan, faults);
-                Ok(())
+                self.carry_out(script, block, next, part, plan, faults)
             }
             Some(Frame::Turns { body, turn, times }) => {
                 self.take_turn(script, body, turn, times);
@@ -194,7 +193,8 @@ impl Control {
         }
     }
 
-    // Makes the step of a statement by its plan. The faults are those that the plan raises.
+    // Makes the step of a statement by its plan. The faults are those that the plan raises. A name gets its value first, since that
+    // may be refused.
     fn carry_out(
         &mut self,
         script: &Script,
@@ -203,20 +203,21 @@ impl Control {
         part: Option<u32>,
         plan: Plan,
         faults: Faults,
-    )
+    ) -> Result<(), NoMemory>
         requires room { vec_len self.old.frames + 2 ≤ vec_capacity self.old.frames }
         requires due { (t : Term) × (below : List Frame) × Due script.now self.old t below block next part plan }
         requires faults { FaultsFit plan faults }
-        ensures done { (t : Term) (below : List Frame) → (h : Due script.now self.old t below block next part plan)
-            → Leaves script.now self.new (lifted h.front.others h.act) }
+        ensures done { OnOk result ((t : Term) (below : List Frame) → (h : Due script.now self.old t below block next part plan)
+            → Leaves script.now self.new (lifted h.front.others h.act)) }
         ensures asks { (next : Next) → plan ≡ Plan.Ask next → IsSame self.new self.old }
+        ensures err { OnErr result (IsSame self.new self.old) }
     {
         let after = following(script, block, next);
         match plan {
             Plan::Assign { name, value } => {
+                self.vars.set(name, Value::Num(value))?;
                 go_on(&mut self.frames, block, after, part);
                 settle(script, &mut self.frames);
-                self.vars.set(name, Value::Num(value));
             }
             Plan::Raise(_) => {
                 unwind(&mut self.frames);
@@ -258,6 +259,7 @@ impl Control {
             }
             Plan::Ask(_) => {}
         }
+        Ok(())
     }
 
     // Makes the next turn of a `repeat`, or ends it.
@@ -359,9 +361,9 @@ impl Control {
                 Ok(value) => {
                     let stmt = at_hand(script, block, next);
                     let after = following(script, block, next);
+                    receive(&mut self.vars, receiver(stmt), value)?;
                     go_on(&mut self.frames, block, after, part);
                     settle(script, &mut self.frames);
-                    receive(&mut self.vars, receiver(stmt), value);
                     Ok(())
                 }
             },
@@ -385,27 +387,28 @@ impl Control {
         ensures err { OnErr result (IsSame self.new self.old) }
         ensures steps { (t : Term) → steps (granted [] t) ≤ steps t }
     {
-        self.count(p.script(), places);
-        Ok(())
+        self.count(p.script(), places)
     }
 
     // Goes on behind the census, over the script alone.
-    fn count(&mut self, script: &Script, places: u8)
+    fn count(&mut self, script: &Script, places: u8) -> Result<(), NoMemory>
         requires { (t : Term) × (here : PlaceId) × StandsFor script.now self.old t
             × (next_of (does self.old.vars here.0 t) ≡ Next.Book Want.Census) }
-        ensures stands { (t : Term) (here : PlaceId) → StandsFor script.now self.old t
-            → next_of (does self.old.vars here.0 t) ≡ Next.Book Want.Census → StandsFor script.now self.new (granted [] t) }
-        ensures vars { (t : Term) (here : PlaceId) (path : List ℕ) → StandsFor script.now self.old t
+        ensures stands { OnOk result ((t : Term) (here : PlaceId) → StandsFor script.now self.old t
+            → next_of (does self.old.vars here.0 t) ≡ Next.Book Want.Census → StandsFor script.now self.new (granted [] t)) }
+        ensures vars { OnOk result ((t : Term) (here : PlaceId) (path : List ℕ) → StandsFor script.now self.old t
             → next_of (does self.old.vars here.0 t) ≡ Next.Book Want.Census
-            → self.new.vars ≡ vars_told (does self.old.vars here.0 t) (Act.Census places path) self.old.vars }
+            → self.new.vars ≡ vars_told (does self.old.vars here.0 t) (Act.Census places path) self.old.vars) }
+        ensures err { OnErr result (IsSame self.new self.old) }
     {
         match self.front() {
             Some((block, next, part)) => {
                 let stmt = at_hand(script, block, next);
                 let after = following(script, block, next);
+                learn(&mut self.vars, counted(stmt), places)?;
                 go_on(&mut self.frames, block, after, part);
                 settle(script, &mut self.frames);
-                learn(&mut self.vars, counted(stmt), places);
+                Ok(())
             }
             None => unreachable!(),
         }

@@ -1,5 +1,5 @@
 // The statement at the front.
-ghost use Rattle.std.specs.Prelude.{◌≡◌, ℕ, pos, ◌+◌, ◌≤◌, List, [], ◌∷◌, ◌++◌, Option, Some, None, Ok, MatchOption, vec_len, vec_capacity};
+ghost use Rattle.std.specs.Prelude.{◌≡◌, ℕ, pos, ◌+◌, ◌≤◌, List, [], ◌∷◌, ◌++◌, Option, Some, None, Ok, OnOk, OnErr, MatchOption, vec_len, vec_capacity};
 ghost use Rattle.rx_rules.specs.Code.{Stmt as Tree, Block};
 ghost use Rattle.rx_base.specs.declared.values.Value.TheVariants.{Num as Number};
 ghost use Rattle.rx_rules.specs.Terms.{Term, begins, bound, stmt_receives, vars_after, answer_of};
@@ -13,7 +13,7 @@ ghost use Rattle.rx_control.specs.Inside.Plans.{name_in, stmt_counts};
 
 use crate::Variables;
 use crate::frame::{Frame, settle};
-use rx_base::Value;
+use rx_base::{NoMemory, Value};
 use rx_script::{BlockId, NameId, Script, Stmt};
 
 /// The statement at a position of a block.
@@ -71,15 +71,20 @@ pub(crate) fn receiver(stmt: Stmt) -> Option<NameId>
 }
 
 /// The name gets the value, where there are both.
-pub(crate) fn receive(vars: &mut Variables, name: Option<NameId>, value: Option<Value>)
-    ensures { vars.new ≡ vars_after (answer_of (name_in name) (Ok value)) vars.old }
+pub(crate) fn receive(
+    vars: &mut Variables,
+    name: Option<NameId>,
+    value: Option<Value>,
+) -> Result<(), NoMemory>
+    ensures ok { OnOk result (vars.new ≡ vars_after (answer_of (name_in name) (Ok value)) vars.old) }
+    ensures err { OnErr result (vars.new ≡ vars.old) }
 {
     match name {
         Some(name) => match value {
             Some(value) => vars.set(name, value),
-            None => {}
+            None => Ok(()),
         },
-        None => {}
+        None => Ok(()),
     }
 }
 
@@ -107,16 +112,18 @@ pub(crate) fn counted(stmt: Stmt) -> Option<NameId>
 }
 
 /// The name gets the number of places, which is known from now on, where there is a name.
-pub(crate) fn learn(vars: &mut Variables, name: Option<NameId>, places: u8)
-    ensures { (n : ℕ) → name_in name ≡ Some n
-        → vars.new ≡ record (bound n (Number (pos places)) vars.old) { places = places } }
+pub(crate) fn learn(vars: &mut Variables, name: Option<NameId>, places: u8) -> Result<(), NoMemory>
+    ensures ok { OnOk result ((n : ℕ) → name_in name ≡ Some n
+        → vars.new ≡ record (bound n (Number (pos places)) vars.old) { places = places }) }
+    ensures err { OnErr result (vars.new ≡ vars.old) }
 {
     match name {
         Some(name) => {
-            vars.set(name, Value::Num(i64::from(places)));
+            vars.set(name, Value::Num(i64::from(places)))?;
             vars.tell(places);
+            Ok(())
         }
-        None => {}
+        None => Ok(()),
     }
 }
 

@@ -609,14 +609,15 @@ fn moved_control(c: Control) -> Control {
 }
 
 #[test]
-fn variables_hold_values(rt: HostRuntime) {
-    let mut vars = Variables::none(PLACES);
-    vars.set(NameId(3), Value::Num(7));
-    let copy = vars.copy();
-    vars.set(NameId(3), Value::Num(8));
-    vars.set(NameId(32), Value::Num(9));
+fn variables_hold_values(rt: HostRuntime) -> Result<(), Fail> {
+    let mut vars = Variables::none(rt.alloc(), PLACES);
+    vars.set(NameId(3), Value::Num(7))?;
+    let copy = vars.copy(rt.alloc())?;
+    vars.set(NameId(3), Value::Num(8))?;
+    vars.set(NameId(32), Value::Num(9))?;
     assert_eq!(rt; copy.get(NameId(3)), Some(Value::Num(7)));
     assert_eq!(rt; vars.get(NameId(3)), Some(Value::Num(8)));
     assert_eq!(rt; vars.get(NameId(31)), None);
     assert_eq!(rt; vars.get(NameId(32)), None);
+    Ok(())
 }

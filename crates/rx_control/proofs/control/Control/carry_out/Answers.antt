@@ -20,8 +20,8 @@ settle-requires c =
     let w = went c.args.script.now c.args.self.now c.requires.due.0 c.requires.due.1 c.go_on.new.frames.items c.args.block c.args.next c.following-after.result c.args.part h.front (c.go_on.ensures.items c.requires.due.1 (Seq c.args.block c.args.next c.args.part) h.front.frames) c.following-after.ensures in
     (c.args.self.now.base, More h.front.more (path_of c.args.self.now.base c.requires.due.1 ++ option_to_list c.args.part) (suc c.args.next) ∷ h.front.others, w.stands)
 
-pub returns-in-Assign-clause-done : goal.returns-in-Assign-clause-done
-returns-in-Assign-clause-done c t below h =
+pub returns-in_ok-set-in-Assign-clause-done : goal.returns-in_ok-set-in-Assign-clause-done
+returns-in_ok-set-in-Assign-clause-done c t below h =
     let P : Plan → Type 0 = λ p. IsPlan c.args.script.now p c.args.self.now.vars (at (path_of c.args.self.now.base below ++ option_to_list c.args.part) c.args.next) (seq (More h.front.more (path_of c.args.self.now.base below ++ option_to_list c.args.part) (suc c.args.next) ∷ h.front.others)) h.act in
     let k = subst P c.in-Assign.is h.is in
     let w = went c.args.script.now c.args.self.now t below c.go_on.new.frames.items c.args.block c.args.next c.following-after.result c.args.part h.front (c.go_on.ensures.items below (Seq c.args.block c.args.next c.args.part) h.front.frames) c.following-after.ensures in
@@ -29,7 +29,7 @@ returns-in-Assign-clause-done c t below h =
     done-leaves c.args.script.now d h.front.others h.act (seq (More h.front.more (path_of c.args.self.now.base below ++ option_to_list c.args.part) (suc c.args.next) ∷ h.front.others)) (bound c.in-Assign.name.0 (Number c.in-Assign.value) c.args.self.now.vars) (More h.front.more (path_of c.args.self.now.base below ++ option_to_list c.args.part) (suc c.args.next) ∷ h.front.others) None k h.front.calm
     (c.settle.ensures c.args.self.now.base (More h.front.more (path_of c.args.self.now.base below ++ option_to_list c.args.part) (suc c.args.next) ∷ h.front.others) w.stands) refl
     (let fits : SFits w64 c.in-Assign.value = search (rules, ints) in
-    c.set.ensures ∙ ap (λ z. bound c.in-Assign.name.0 (Number z) c.args.self.now.vars) (to_z-of_z w64 c.in-Assign.value fits))
+    c.in_ok-set-in-Assign.ensures.ok ∙ ap (λ z. bound c.in-Assign.name.0 (Number z) c.args.self.now.vars) (to_z-of_z w64 c.in-Assign.value fits))
 
 pub returns-in-Raise-clause-done : goal.returns-in-Raise-clause-done
 returns-in-Raise-clause-done c t below h =

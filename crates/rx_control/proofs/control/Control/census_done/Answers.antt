@@ -1,6 +1,6 @@
 use Rattle.std.proofs.Common.{◌≡◌, []}
 use Rattle.rx_base.specs.declared.ids.PlaceId.{PlaceId}
-use Rattle.std.specs.Prelude.{ℕ, List}
+use Rattle.std.specs.Prelude.{ℕ, List, OnOk}
 use Rattle.rx_rules.specs.declared.entries.Act.TheVariants.{Census}
 use Rattle.rx_rules.specs.Terms.{Term, does, granted}
 use Rattle.rx_rules.specs.Plays.{vars_told}
@@ -15,12 +15,12 @@ use Rattle.rx_control.proofs.control.Control.census_done.Goals as goal
 
 pub returns-clause-stands : goal.returns-clause-stands
 returns-clause-stands c =
-    let P : Shape → Type 0 = λ s. (t : Term) (here : PlaceId) → StandsFor s c.args.self.now t → next_of (does c.args.self.now.vars here.0 t) ≡ Book CensusWanted → StandsFor s c.count.new.self (granted [] t) in
+    let P : Shape → Type 0 = λ s. OnOk c.count.result ((t : Term) (here : PlaceId) → StandsFor s c.args.self.now t → next_of (does c.args.self.now.vars here.0 t) ≡ Book CensusWanted → StandsFor s c.count.new.self (granted [] t)) in
     subst P c.script.ensures c.count.ensures.stands
 
 pub returns-clause-vars : goal.returns-clause-vars
 returns-clause-vars c =
-    let P : Shape → Type 0 = λ s. (t : Term) (here : PlaceId) (path : List ℕ) → StandsFor s c.args.self.now t → next_of (does c.args.self.now.vars here.0 t) ≡ Book CensusWanted → c.count.new.self.vars ≡ vars_told (does c.args.self.now.vars here.0 t) (Census c.args.places path) c.args.self.now.vars in
+    let P : Shape → Type 0 = λ s. OnOk c.count.result ((t : Term) (here : PlaceId) (path : List ℕ) → StandsFor s c.args.self.now t → next_of (does c.args.self.now.vars here.0 t) ≡ Book CensusWanted → c.count.new.self.vars ≡ vars_told (does c.args.self.now.vars here.0 t) (Census c.args.places path) c.args.self.now.vars) in
     subst P c.script.ensures c.count.ensures.vars
 
 pub returns-clause-steps : goal.returns-clause-steps

@@ -32,7 +32,7 @@ pub returns-clause-stands : goal.returns-clause-stands
 returns-clause-stands c =
     let s = c.script-script.result.now in
     let e = c.in-Some.ensures in
-    let P : Control → Type 0 = λ d. (t : Stmt) → StmtIs s c.at_hand.result t → StandsFor s d (stmt_child t c.in_ok-path-in-Some.path) × (d.vars ≡ c.copy.result) in
+    let P : Control → Type 0 = λ d. (t : Stmt) → StmtIs s c.at_hand.result t → StandsFor s d (stmt_child t c.in_ok-path-in-Some.path) × (d.vars ≡ c.in_ok-copy-in-Some.field-0) in
     let Q : Control → Type 0 = λ d. (t : Term) → StandsFor c.args.p.now.script c.args.self.now t → (x : List ℕ) → begins t ≡ Some x → StandsFor c.args.p.now.script d (child t) × (d.vars ≡ c.args.self.now.vars) in
     ok-then c.born.result P Q c.born.ensures
     (λ d h t k x b.
@@ -43,13 +43,16 @@ returns-clause-stands c =
     let f : child t ≡ stmt_child a.stmt c.in_ok-path-in-Some.path = ap child a.is ∙ child-wrap (Run a.stmt (at y c.in-Some.next) (seq (More a.more y (suc c.in-Some.next) ∷ a.others))) a.others ∙ ap (stmt_child a.stmt) (sym (c.in_ok-path-in-Some.ensures e.1.0 (Seq c.in-Some.block c.in-Some.next c.in-Some.part) e.1.1)) in
     let M : Term → Type 0 = λ u. StandsFor s d u in
     let N : Shape → Type 0 = λ s. StandsFor s d (child t) in
-    (subst N c.script-script.ensures (subst M (sym f) q.0), q.1 ∙ c.copy.ensures))
+    (subst N c.script-script.ensures (subst M (sym f) q.0), q.1 ∙ c.in_ok-copy-in-Some.ensures))
 
 pub unreachable-requires : goal.unreachable-requires
 unreachable-requires c = none-some c.requires.1 (sym (c.in-None.ensures c.args.p.now.script c.requires.0 c.requires.2) ∙ c.requires.3)
 
 pub returns-in_err-path-in-Some-clause-steps : goal.returns-in_err-path-in-Some-clause-steps
 returns-in_err-path-in-Some-clause-steps c t x h = child-falls t x h
+
+pub returns-in_err-copy-in-Some-clause-steps : goal.returns-in_err-copy-in-Some-clause-steps
+returns-in_err-copy-in-Some-clause-steps c t x h = child-falls t x h
 
 pub returns-clause-steps : goal.returns-clause-steps
 returns-clause-steps c t x h = child-falls t x h

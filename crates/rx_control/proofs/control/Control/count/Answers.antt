@@ -52,7 +52,7 @@ returns-clause-vars c t here path h n =
     let e = c.in-Some.ensures in
     let a = at-statement c.args.script.now c.args.self.now t e.1.0 c.in-Some.block c.in-Some.next c.in-Some.part e.0 e.1.1 h in
     let k = census-front c.args.script.now c.args.self.now t e.1.0 c.in-Some.block c.in-Some.next c.in-Some.part a c.args.self.now.vars here.0 n in
-    c.learn.ensures k.name (sym (c.counted.ensures c.args.script.now a.stmt (c.at_hand-stmt.ensures a.stmt a.more a.awaits)) ∙ k.counts)
+    c.in_ok-learn-in-Some.ensures.ok k.name (sym (c.counted.ensures c.args.script.now a.stmt (c.at_hand-stmt.ensures a.stmt a.more a.awaits)) ∙ k.counts)
     ∙ sym (ap (λ d. vars_told d (Census c.args.places path) c.args.self.now.vars) k.is)
 
 pub unreachable-requires : goal.unreachable-requires

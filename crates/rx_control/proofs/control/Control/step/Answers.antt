@@ -1,9 +1,10 @@
 use Rattle.std.proofs.Common.{suc, ◌∷◌, ◌++◌, ap, ◌∙◌}
-use Rattle.std.specs.Prelude.{option_to_list}
-use Rattle.rx_rules.specs.Terms.{Releases, stmt_does, at, does}
+use Rattle.std.specs.Prelude.{List, option_to_list}
+use Rattle.rx_rules.specs.Terms.{Term, Releases, stmt_does, at, does}
+use Rattle.rx_control.specs.declared.frame.Frame.{Frame}
 use Rattle.rx_control.specs.Levels.{More, seq}
 use Rattle.rx_control.specs.declared.frame.Frame.TheVariants.{Seq, Turns, Try, Body, Held}
-use Rattle.rx_control.specs.Stands.{path_of}
+use Rattle.rx_control.specs.Stands.{path_of, StandsFor, Leaves}
 use Rattle.rx_control.specs.Inside.Front.{lifted}
 use Rattle.rx_control.specs.Inside.Plans.{Due}
 use Rattle.rx_control.specs.Next.{next_of}
@@ -11,6 +12,7 @@ use Rattle.rx_control.proofs.Front.{next-lifted}
 use Rattle.rx_control.proofs.Plans.{asks}
 use Rattle.rx_control.proofs.Standing.{at-top, at-statement, calm-seq, calm-held}
 use Rattle.rx_control.proofs.NextIs.{stmt-does, waiting-does, inside-leaves, turns-local, try-local}
+use Rattle.rx_control.proofs.Words.{on-ok-then}
 use Rattle.rx_control.proofs.Steps.{leaves-by}
 use Rattle.rx_control.proofs.control.Control.step.Goals as goal
 
@@ -46,7 +48,11 @@ carry_out-requires-clause-due c =
     (q.0, e.0, u)
 
 pub returns-in_ok-faults-in-Some-Seq-clause-ok : goal.returns-in_ok-faults-in-Some-Seq-clause-ok
-returns-in_ok-faults-in-Some-Seq-clause-ok c t h =
+returns-in_ok-faults-in-Some-Seq-clause-ok c =
+    let P : Type 0 = (t : Term) (below : List Frame) → (h : Due c.args.script.now c.args.self.now t below c.in-Some-Seq.block c.in-Some-Seq.next c.in-Some-Seq.part c.make_plan-plan.result)
+    → Leaves c.args.script.now c.carry_out.new.self (lifted h.front.others h.act) in
+    let Q : Type 0 = (t : Term) → StandsFor c.args.script.now c.args.self.now t → Leaves c.args.script.now c.carry_out.new.self (does c.args.self.now.vars c.args.here.0 t) in
+    on-ok-then c.carry_out.result P Q c.carry_out.ensures.done (λ done t h.
     let e = rw c.in-Some-Seq.field-0-is at c.in-Some-Seq.ensures in
     let b = at-top c.args.script.now c.args.self.now t e.0 (Seq c.in-Some-Seq.block c.in-Some-Seq.next c.in-Some-Seq.part) e.1 h in
     let r = calm-seq c.args.script.now c.args.self.now t e.0 c.in-Some-Seq.block c.in-Some-Seq.next c.in-Some-Seq.part b in
@@ -56,7 +62,7 @@ returns-in_ok-faults-in-Some-Seq-clause-ok c t h =
     let d = stmt_does c.args.self.now.vars c.args.here.0 a.stmt (at y c.in-Some-Seq.next) rest in
     let u : Due c.args.script.now c.args.self.now t e.0 c.in-Some-Seq.block c.in-Some-Seq.next c.in-Some-Seq.part c.make_plan-plan.result = record { front = a; act = d; is = c.make_plan-plan.ensures a.stmt (c.at_hand-stmt.ensures a.stmt a.more a.awaits) (at y c.in-Some-Seq.next) rest } in
     leaves-by c.args.script.now c.carry_out.new.self (does c.args.self.now.vars c.args.here.0 t) (lifted a.others d)
-    (stmt-does c.args.script.now c.args.self.now t e.0 c.in-Some-Seq.block c.in-Some-Seq.next c.in-Some-Seq.part a c.args.self.now.vars c.args.here.0) (c.carry_out.ensures.done t e.0 u)
+    (stmt-does c.args.script.now c.args.self.now t e.0 c.in-Some-Seq.block c.in-Some-Seq.next c.in-Some-Seq.part a c.args.self.now.vars c.args.here.0) (done t e.0 u))
 
 pub returns-in-Some-Held-clause-ok : goal.returns-in-Some-Held-clause-ok
 returns-in-Some-Held-clause-ok c t h =

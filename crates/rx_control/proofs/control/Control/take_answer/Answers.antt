@@ -55,8 +55,8 @@ returns-in_ok-faults-in-Err-clause-ok c t y h b =
       sym (ap (λ z. vars_after z c.args.self.now.vars) (answered-err c.in-Err.fault (receives t))),
     )
 
-pub returns-in-Ok-clause-ok : goal.returns-in-Ok-clause-ok
-returns-in-Ok-clause-ok c t y h b =
+pub returns-in_ok-receive-in-Ok-clause-ok : goal.returns-in_ok-receive-in-Ok-clause-ok
+returns-in_ok-receive-in-Ok-clause-ok c t y h b =
     let e = c.in-Some.ensures in
     let a = at-statement c.args.script.now c.args.self.now t e.1.0 c.in-Some.block c.in-Some.next c.in-Some.part e.0 e.1.1 h in
     let x = path_of c.args.self.now.base e.1.0 ++ option_to_list c.in-Some.part in
@@ -67,7 +67,7 @@ returns-in-Ok-clause-ok c t y h b =
     let o : receives t ≡ name_in c.receiver.result = ap receives a.is ∙ receives-front a.stmt a.more x c.in-Some.next a.others ∙ c.receiver.ensures c.args.script.now a.stmt (c.at_hand-stmt.ensures a.stmt a.more a.awaits) in
     subst P (sym c.in-Ok.is) (
       settled-stands c.args.script.now d ls None _ e.0 (c.settle.ensures c.args.self.now.base ls w.stands) (ap (answered (answer_of (receives t) (Ok c.in-Ok.value))) a.is ∙ goes-front c.in-Ok.value (receives t) a.stmt a.more x c.in-Some.next a.others),
-      c.receive.ensures ∙ sym (ap (λ o. vars_after (answer_of o (Ok c.in-Ok.value)) c.args.self.now.vars) o),
+      c.in_ok-receive-in-Ok.ensures.ok ∙ sym (ap (λ o. vars_after (answer_of o (Ok c.in-Ok.value)) c.args.self.now.vars) o),
     )
 
 pub returns-in-None-clause-ok : goal.returns-in-None-clause-ok
@@ -79,8 +79,8 @@ returns-in_ok-faults-in-Err-clause-other c t h b =
     let a = at-statement c.args.script.now c.args.self.now t e.1.0 c.in-Some.block c.in-Some.next c.in-Some.part e.0 e.1.1 h in
     absurd (none-some _ (sym b ∙ statement-begin c.args.script.now c.args.self.now t e.1.0 c.in-Some.block c.in-Some.next c.in-Some.part a))
 
-pub returns-in-Ok-clause-other : goal.returns-in-Ok-clause-other
-returns-in-Ok-clause-other c t h b =
+pub returns-in_ok-receive-in-Ok-clause-other : goal.returns-in_ok-receive-in-Ok-clause-other
+returns-in_ok-receive-in-Ok-clause-other c t h b =
     let e = c.in-Some.ensures in
     let a = at-statement c.args.script.now c.args.self.now t e.1.0 c.in-Some.block c.in-Some.next c.in-Some.part e.0 e.1.1 h in
     absurd (none-some _ (sym b ∙ statement-begin c.args.script.now c.args.self.now t e.1.0 c.in-Some.block c.in-Some.next c.in-Some.part a))

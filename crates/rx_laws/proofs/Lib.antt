@@ -12,14 +12,14 @@ mod Losses
 mod Made
 mod Masked
 mod NestedTerm
-mod Paths
+pub mod Paths
 mod Says
 mod Stacks
 mod StillOpen
 mod Story
-mod Straight
-mod TermCode
-mod TermOrder
+pub mod Straight
+pub mod TermCode
+pub mod TermOrder
 mod Ties
 mod TiesStep
 mod ToldOnce

@@ -14,7 +14,7 @@ use Rattle.rx_rules.specs.Code.{Block}
 use Rattle.rx_rules.specs.Terms.{Does}
 use Rattle.rx_rules.specs.Fold.{opening, AllAllowed}
 use Rattle.rx_rules.specs.Plays.{Cells, Fits, Tells, move_of}
-use Rattle.rx_rules.specs.Run.{Given, Folds, NoRoot, PlanKept, plan_of}
+use Rattle.rx_rules.specs.Run.{Given, Folds, PlanKept, plan_of}
 use Rattle.rx_runs.specs.Segments.{InTime, plan_left}
 use Rattle.rx_runs.proofs.Append.{allowed-push}
 use Rattle.rx_runs.proofs.Pushes.{plan-push}
@@ -27,6 +27,7 @@ use Rattle.rx_parts.specs.Closing.{StampedTo}
 use Rattle.rx_parts.specs.Calling.{AllHostItems, Grants, CallStep, HostStep, ArrivalStep, top_stamp, TopStamp, PlaceGrows, EachSeated, SeatMakes, CallKeeps, CallMakes}
 use Rattle.rx_parts.proofs.Lists.{one_item, not_none, prefix_on}
 use Rattle.rx_parts.proofs.Changes.{Change, same, lands, goes_on, leaves, changed, own_moves}
+use Rattle.rx_runs.proofs.RootLast.{root_last-push}
 use Rattle.rx_parts.proofs.Tasks.{later, not_away}
 use Rattle.rx_parts.proofs.Along.{acts_old}
 use Rattle.rx_parts.proofs.Determined.{leads_once, leads_join}
@@ -34,16 +35,6 @@ use Rattle.rx_parts.proofs.Whole.{legal_later, seen_from}
 
 pub ledger-opens : LedgerOpens
 ledger-opens code U some few = record { folds = record { some = some; few = few; allowed = tt; plan = tt }; last = tt; actors = main_actor code U.places ∷ []; made = refl }
-
-root_more : (es : List Entry) (e : Entry) → NoRoot es → RootIsLast (es ++ e ∷ [])
-root_more [] (Step t act batch) h = tt
-root_more [] (Root lost masked thrown) h = refl
-root_more [] (Death d) h = tt
-root_more [] (Join p) h = tt
-root_more (Step t act batch ∷ es) e h = root_more es e h
-root_more (Root lost masked thrown ∷ es) e h = absurd h
-root_more (Death d ∷ es) e h = root_more es e h
-root_more (Join p ∷ es) e h = root_more es e h
 
 pub entries_push : (h : List LedgerItem) (i : LedgerItem) → entries_of (h ++ i ∷ []) ≡ entries_of h ++ i.entry ∷ []
 entries_push [] i = refl
@@ -61,7 +52,7 @@ ledger-grows code U h i next legal free may time makes =
     let made : ItemMakes (0 + length h) legal.actors i next = subst (λ (v : ℕ). ItemMakes v legal.actors i next) (sym l) makes in (
       record {
         folds = record { some = legal.folds.some; few = legal.folds.few; allowed = subst (AllAllowed 0 (opening U.places)) e allowed; plan = subst (PlanKept 0 (plan_of U)) e plan };
-        last = subst RootIsLast e (root_more (entries_of h) i.entry free);
+        last = subst RootIsLast e (root_last-push (entries_of h) i.entry free);
         actors = next;
         made = leads_join 0 (main_actor code U.places ∷ []) h (i ∷ []) legal.actors next legal.made (next, made, refl);
       },

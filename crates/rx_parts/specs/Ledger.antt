@@ -6,12 +6,13 @@ use Rattle.rx_base.specs.declared.values.Fault.{Fault}
 use Rattle.rx_rules.specs.declared.entries.Act.{Act}
 use Rattle.rx_rules.specs.declared.entries.Act.TheVariants.{At as Calls, Spawn, Arrive, End}
 use Rattle.rx_rules.specs.declared.entries.Entry.{Entry}
-use Rattle.rx_rules.specs.declared.entries.Entry.TheVariants.{Step, Root}
+use Rattle.rx_rules.specs.declared.entries.Entry.TheVariants.{Step}
 use Rattle.rx_rules.specs.declared.events.Cell.{Cell}
 use Rattle.rx_rules.specs.Code.{Block}
 use Rattle.rx_rules.specs.Terms.{Term, Empty, Vars, no_vars, items, Answer, answered, vars_after, Local, Done, does, begins, granted, child}
 use Rattle.rx_rules.specs.Plays.{Birth, Cells, Moves, Fits, Tells, begun, brought, vars_told}
 use Rattle.rx_rules.specs.Run.{Given, Folds}
+pub use Rattle.rx_runs.specs.Rooted.{RootIsLast}
 use Rattle.rx_runs.specs.Segments.{Stand}
 
 -- an entry, its caller, and what is named beside it
@@ -161,12 +162,6 @@ pub data ItemMakes (n : ℕ) : List Actor → LedgerItem → List Actor → Type
 abbrev pub AllMake : ℕ → List Actor → List LedgerItem → List Actor → Type 0
 AllMake n actors [] last = actors ≡ last
 AllMake n actors (i ∷ h) last = (next : List Actor) × ItemMakes n actors i next × AllMake (suc n) next h last
-
--- nothing stands after the release of the root
-abbrev pub RootIsLast : List Entry → Type 0
-RootIsLast [] = Unit {0}
-RootIsLast (Root lost masked thrown ∷ es) = es ≡ []
-RootIsLast (e ∷ es) = RootIsLast es
 
 -- a legal history of the ledger's book, and what it says of each task
 pub record LegalLedger (code : Block) (U : Given) (h : List LedgerItem) : Type 0 where

@@ -23,13 +23,14 @@ use Rattle.rx_rules.specs.Reached.{opens}
 use Rattle.rx_rules.specs.Plays as rules
 use Rattle.rx_rules.specs.Plays.{Starts, Cells, Moves, Birth, Plays, Begins, EachPlays, Tells, birth_of, birth_from, travels, cell_of, journal_at, moves_from}
 use Rattle.rx_rules.specs.Store.{State, IsStoreRun, after_cell, opening_state}
-use Rattle.rx_rules.specs.Run.{Given, IsRun, PlanKept, plan_of, EndsWithRoot, AllJournals, AtHome, NotFalling, ClosesAt, death_number}
+use Rattle.rx_rules.specs.Run.{Given, IsRun, PlanKept, plan_of, AllJournals, AtHome, NotFalling, ClosesAt, death_number}
 use Rattle.rx_rules.specs.Inversions.{FromOn, events_of_task}
 use Rattle.rx_rules.proofs.Inverting.{cells_from_low}
 use Rattle.rx_rules.proofs.Numbers.{next-made}
 use Rattle.rx_sound.proofs.Histories.{none_yet}
 use Rattle.rx_runs.specs.Segments.{Stand}
 use Rattle.rx_runs.proofs.Pairs.{journal_got}
+use Rattle.rx_runs.proofs.RootLast.{root_last-ends}
 use Rattle.rx_parts.specs.Ledger.{LedgerItem, Actor, Present, Walks, stays, local, stores, main_actor, AllMake, RootIsLast, LegalLedger, entries_of}
 use Rattle.rx_parts.specs.Places.{MadeEvent, journal_of, MayMake, LegalFrom, last_carried}
 use Rattle.rx_parts.specs.Parts.{EachPlace, journals_of, AllNamed}
@@ -173,11 +174,6 @@ nothing_left : (since : Cells) (m : ℕ × Cell × List ℕ) (later cells : Cell
 nothing_left [] m later cells e h = let g : [] ≡ m ∷ later = sym h ∙ e in let j : ⊥ = cc in j
 nothing_left (d ∷ since) m later cells e h = let g : [] ≡ d ∷ (since ++ m ∷ later) = sym h ∙ e in let j : ⊥ = cc in j
 
-root_is_last : (es : List Entry) → EndsWithRoot es → RootIsLast es
-root_is_last [] h = absurd h
-root_is_last (Root lost masked thrown ∷ es) h = h
-root_is_last (e ∷ es) h = root_is_last es h
-
 take_drop : {X : Type 0} (r : ℕ) (xs : List X) → IsPrefix (take r xs) xs
 take_drop zero xs = (xs, refl)
 take_drop (suc r) [] = ([], refl)
@@ -210,7 +206,7 @@ module _ (code : Block) (U : Given) (es : List Entry) (js : List (List PlaceEven
           allowed = subst (AllAllowed 0 (opening U.places)) (sym whole_is) run.folds.allowed;
           plan = subst (PlanKept 0 (plan_of U)) (sym whole_is) run.folds.plan;
         };
-        last = subst RootIsLast (sym whole_is) (root_is_last es run.ends);
+        last = subst RootIsLast (sym whole_is) (root_last-ends es run.ends);
         actors = last;
         made = points_lead run.played.starts (events_of_task es js) 0 (main_actor code U.places ∷ []) h last points;
       }

@@ -10,5 +10,4 @@ pub mod Journals
 pub mod OneJournal
 pub mod Judged
 pub mod Worked
-pub mod FromBelow
 pub mod SomeCauses

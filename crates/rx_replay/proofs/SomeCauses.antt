@@ -29,7 +29,7 @@ use Rattle.rx_verdict.proofs.Births.{Has, StartsTask, parent}
 use Rattle.rx_verdict.proofs.Once.{made_at}
 use Rattle.rx_replay.specs.Lawful.{AsksSome}
 use Rattle.rx_replay.specs.SomeWords.{CausesAskSome}
-use Rattle.rx_replay.proofs.FromBelow.{Keeps, keeps, some-items, some-answered, some-granted, some-child}
+use Rattle.rx_runs.proofs.SomeWords.{Keeps, keeps, some-items, some-answered, some-granted, some-child}
 
 -- what a call that asks for some words is told, asks for some
 told-some : (d : Does) (here : PlaceId) (cell : Cell) (a : Answer) → Keeps d → Tells d here cell a → AsksSome cell

@@ -42,3 +42,4 @@ pub mod Left
 pub mod SomeWords
 pub mod Events
 pub mod Knowing
+pub mod RootLast

@@ -17,12 +17,12 @@ use Rattle.rx_runs.specs.SomeWords.{StmtMakesSome, MakesSome, TermMakesSome, Ask
 
 -- Terms.
 
-some-items : (b : Block) (x : List ℕ) (i : ℕ) (rest : Term) → MakesSome b → TermMakesSome rest → TermMakesSome (items_from b x i rest)
+pub some-items : (b : Block) (x : List ℕ) (i : ℕ) (rest : Term) → MakesSome b → TermMakesSome rest → TermMakesSome (items_from b x i rest)
 some-items Nothing x i rest h r = r
 some-items (Then first more) x i rest h r = (h.0, some-items more x (suc i) rest h.1 r)
 
 -- a local step leaves such a term, and a block is made of at least one word
-abbrev Keeps : Does → Type 0
+abbrev pub Keeps : Does → Type 0
 Keeps (Local left vars) = TermMakesSome left
 Keeps (Makes name words) = 0 < words
 Keeps (Gets name target index) = Unit {0}
@@ -128,7 +128,7 @@ of_body (Trying u p c y m) d rest r h = in-context (λ t. Body t rest) d (λ t k
 of_body (Body u m) d rest r h = in-context (λ t. Body t rest) d (λ t k. (k, r)) h
 of_body (Held m) d rest r h = in-context (λ t. Body t rest) d (λ t k. (k, r)) h
 
-keeps : (vars : Vars) (here : ℕ) (t : Term) → TermMakesSome t → Keeps (does vars here t)
+pub keeps : (vars : Vars) (here : ℕ) (t : Term) → TermMakesSome t → Keeps (does vars here t)
 keeps vars here Empty h = tt
 keeps vars here (Run stmt x rest) h = of_stmt vars here stmt x rest h.0 h.1
 keeps vars here (Raise faults) h = tt
@@ -157,7 +157,7 @@ some-after (Trying inside o b x rest) h = some-after inside h.0
 some-after (Body inside rest) h = some-after inside h.0
 some-after (Held rest) h = tt
 
-some-answered : (a : Answer) (t : Term) → TermMakesSome t → TermMakesSome (answered a t)
+pub some-answered : (a : Answer) (t : Term) → TermMakesSome t → TermMakesSome (answered a t)
 some-answered (Gives name value) t h = some-replaced t (after_it t) h (some-after t h)
 some-answered Fine t h = some-replaced t (after_it t) h (some-after t h)
 some-answered (Fails fault) t h = some-replaced t (Raise (fault ∷ [])) h tt
@@ -192,7 +192,7 @@ raises : (faults : List Fault) (rest : Term) → TermMakesSome rest → TermMake
 raises [] rest h = h
 raises (f ∷ fs) rest h = tt
 
-some-granted : (faults : List Fault) (t : Term) → TermMakesSome t → TermMakesSome (granted faults t)
+pub some-granted : (faults : List Fault) (t : Term) → TermMakesSome t → TermMakesSome (granted faults t)
 some-granted faults Empty h = tt
 some-granted faults (Run stmt x rest) h = grants stmt x rest h.0 h.1
 some-granted faults (Raise fs) h = tt
@@ -218,7 +218,7 @@ starts (If test first other) x s = tt
 starts (Repeat times body) x s = tt
 starts (Try body dead_only handler) x s = tt
 
-some-child : (t : Term) → TermMakesSome t → TermMakesSome (child t)
+pub some-child : (t : Term) → TermMakesSome t → TermMakesSome (child t)
 some-child Empty h = tt
 some-child (Run stmt x rest) h = starts stmt x h.0
 some-child (Raise faults) h = tt

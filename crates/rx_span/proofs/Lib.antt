@@ -1,4 +1,4 @@
-pub mod FromBelow
+pub mod Before
 pub mod Picks
 pub mod Forks
 pub mod Sharing
@@ -9,5 +9,4 @@ pub mod Depths
 pub mod States
 pub mod Passing
 pub mod Picked
-pub mod FromBelowTerms
 pub mod Told

@@ -9,7 +9,7 @@ use Rattle.rx_span.specs.Inside.Sorting.{Descends, backwards}
 use Rattle.rx_span.specs.Paths.{Comes, NotAfter}
 use Rattle.rx_span.specs.Chains.{In, AllIn, IsChain, IsSpan}
 use Rattle.rx_span.specs.Inside.Best.{may_lead, pick, best_chains}
-use Rattle.rx_span.proofs.FromBelow.{before-comes}
+use Rattle.rx_span.proofs.Before.{before-comes}
 use Rattle.rx_span.proofs.Sharing.{comes-trans, comes-other}
 use Rattle.rx_span.proofs.Lists.{Ascends, all-member, ascends-back, back-in, in-back, in-permutation}
 

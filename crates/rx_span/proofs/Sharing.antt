@@ -8,7 +8,7 @@ use Rattle.std.proofs.lemmas.Option.{same_Some}
 use Rattle.rx_base.proofs.Elements.{drop-next}
 use Rattle.rx_rules.specs.Code.{Block, Stmt, Async, AtAsync, At, Finish, If, Repeat, Try, Nothing, Then}
 use Rattle.rx_rules.specs.Order.{comes_before}
-use Rattle.rx_span.proofs.FromBelow.{Starts, comes_before-below, starts-not_below}
+use Rattle.rx_laws.proofs.Paths.{Starts, comes_before-below, starts-not_below}
 use Rattle.rx_order.specs.Marks.{marks, marks_in, marks_of}
 use Rattle.rx_span.specs.Paths.{Names, NamesIn, IsPath, Comes}
 use Rattle.rx_span.specs.Inside.Sorting.{comes, shared}

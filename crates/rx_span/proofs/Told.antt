@@ -26,7 +26,9 @@ use Rattle.rx_sound.proofs.Reach.{task_below}
 use Rattle.rx_sound.proofs.Reached.{sound}
 use Rattle.rx_sound.proofs.Histories.{reached_now, dead-now, none_yet}
 use Rattle.rx_span.specs.Paths.{Names, NamesIn, IsPath, ArePaths, RunTellsPaths}
-use Rattle.rx_span.proofs.FromBelowTerms.{stmt_at, stmt_in, code_at, Coded, IfLocal, local-coded, replaced-coded, after-coded, granted-coded, child-coded, start-coded}
+use Rattle.rx_laws.proofs.Straight.{stmt_at, stmt_in, code_at}
+use Rattle.rx_laws.proofs.TermOrder.{IfLocal}
+use Rattle.rx_laws.proofs.TermCode.{Coded, local-coded, replaced-coded, after-coded, granted-coded, child-coded, start-coded}
 
 -- where a statement is found, the path names it
 mutual

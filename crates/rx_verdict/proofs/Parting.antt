@@ -21,12 +21,14 @@ use Rattle.rx_runs.specs.Segments.{plan_left, InTime}
 use Rattle.rx_runs.proofs.Append.{allowed-push}
 use Rattle.rx_runs.proofs.Pushes.{plan-push, moves-push, birth-push}
 use Rattle.rx_verdict.specs.Makes.{Makes, Landing, Made, TaskMakes}
-use Rattle.rx_verdict.specs.Verdicts.{Part, RootAtMostLast}
+use Rattle.rx_runs.specs.Rooted.{RootIsLast}
+use Rattle.rx_runs.proofs.RootLast.{root_last-push}
+use Rattle.rx_verdict.specs.Verdicts.{Part}
 use Rattle.rx_verdict.specs.Walks.{Walks}
 use Rattle.rx_verdict.specs.Passes.{IsAway, IsAt, HasEnded}
 use Rattle.rx_verdict.specs.Parts.{PartBegins, PartGoesOn, IsRoot, RootEnds, IsQuiet, QuietStays}
 use Rattle.rx_verdict.proofs.Once.{made_at}
-use Rattle.rx_verdict.proofs.Shown.{take_none, allowed_take, plan_take, each_makes, made_first}
+use Rattle.rx_verdict.proofs.Shown.{allowed_take, plan_take, each_makes, made_first, rooted_begins}
 use Rattle.rx_verdict.proofs.Deciding.{opening_stands}
 use Rattle.rx_verdict.specs.Decides.{main_start}
 use Rattle.rx_verdict.proofs.Passing.{births_push}
@@ -53,17 +55,7 @@ plan_last n ks (Root lost masked thrown ∷ es) e h = let z : suc n + length es 
 plan_last n ks (Death d ∷ es) e h = let z : suc n + length es ≡ n + length (Death d ∷ es) = omega arith in subst (λ (k : ℕ). InTime k (plan_left (rest_of ks) es) e) z (plan_last (suc n) (rest_of ks) es e h.1)
 plan_last n ks (Join d ∷ es) e h = let z : suc n + length es ≡ n + length (Join d ∷ es) = omega arith in subst (λ (k : ℕ). InTime k (plan_left (rest_of ks) es) e) z (plan_last (suc n) (rest_of ks) es e h.1)
 
-pub rooted_push : (es : List Entry) (e : Entry) → NoRoot es → RootAtMostLast (es ++ e ∷ [])
-rooted_push [] (Step t act batch) h = tt
-rooted_push [] (Root lost masked thrown) h = refl
-rooted_push [] (Death d) h = tt
-rooted_push [] (Join d) h = tt
-rooted_push (Step t act batch ∷ es) e h = rooted_push es e h
-rooted_push (Root lost masked thrown ∷ es) e h = absurd h
-rooted_push (Death d ∷ es) e h = rooted_push es e h
-rooted_push (Join d ∷ es) e h = rooted_push es e h
-
-rooted_last : (es : List Entry) (e : Entry) → RootAtMostLast (es ++ e ∷ []) → NoRoot es
+rooted_last : (es : List Entry) (e : Entry) → RootIsLast (es ++ e ∷ []) → NoRoot es
 rooted_last [] e h = tt
 rooted_last (Step t act batch ∷ es) e h = rooted_last es e h
 rooted_last (Root lost masked thrown ∷ []) e h = absurd (let f : ⊥ = cc in f)
@@ -71,22 +63,13 @@ rooted_last (Root lost masked thrown ∷ x ∷ es) e h = absurd (let f : ⊥ = c
 rooted_last (Death d ∷ es) e h = rooted_last es e h
 rooted_last (Join d ∷ es) e h = rooted_last es e h
 
-rooted_begins : (es : List Entry) (i : ℕ) → RootAtMostLast es → RootAtMostLast (take i es)
-rooted_begins es zero h = tt
-rooted_begins [] (suc i) h = tt
-rooted_begins (Step t act batch ∷ es) (suc i) h = rooted_begins es i h
-rooted_begins (Root lost masked thrown ∷ []) (suc i) h = take_none i
-rooted_begins (Root lost masked thrown ∷ x ∷ es) (suc i) h = absurd (let f : ⊥ = cc in f)
-rooted_begins (Death d ∷ es) (suc i) h = rooted_begins es i h
-rooted_begins (Join d ∷ es) (suc i) h = rooted_begins es i h
-
 pub part_goes_on : PartGoesOn
 part_goes_on code U es js i e at = (
   λ p g.
       let next : take i es ++ e ∷ [] ≡ take (suc i) es = sym (take_next es i e at) in
       record {
         allowed = subst (λ (l : List Entry). AllAllowed 0 (opening U.places) l) next (allowed-push 0 (opening U.places) (take i es) e p.allowed g.allowed);
-        rooted = subst RootAtMostLast next (rooted_push (take i es) e g.no_root);
+        rooted = subst RootIsLast next (root_last-push (take i es) e g.no_root);
         plan = subst (λ (l : List Entry). PlanKept 0 (plan_of U) l) next (plan-push 0 (plan_of U) (take i es) e p.plan (let z : length (take i es) ≡ 0 + length (take i es) = omega arith in subst (λ (k : ℕ). InTime k (plan_left (plan_of U) (take i es)) e) z g.in_time));
         starts = g.starts;
         made = subst (λ (l : List Entry). Made code U.places l js g.starts) next g.made;
@@ -95,14 +78,14 @@ part_goes_on code U es js i e at = (
       let next : take (suc i) es ≡ take i es ++ e ∷ [] = take_next es i e at in
       record {
         allowed = allowed_last 0 (opening U.places) (take i es) e (subst (λ (l : List Entry). AllAllowed 0 (opening U.places) l) next p.allowed);
-        no_root = rooted_last (take i es) e (subst RootAtMostLast next p.rooted);
+        no_root = rooted_last (take i es) e (subst RootIsLast next p.rooted);
         in_time = (let z : 0 + length (take i es) ≡ length (take i es) = omega arith in subst (λ (k : ℕ). InTime k (plan_left (plan_of U) (take i es)) e) z (plan_last 0 (plan_of U) (take i es) e (subst (λ (l : List Entry). PlanKept 0 (plan_of U) l) next p.plan)));
         starts = p.starts;
         made = subst (λ (l : List Entry). Made code U.places l js p.starts) next p.made;
       },
 )
 
-ends_if : (es : List Entry) (e : Entry) → RootAtMostLast (es ++ e ∷ []) → IsRoot e → EndsWithRoot (es ++ e ∷ [])
+ends_if : (es : List Entry) (e : Entry) → RootIsLast (es ++ e ∷ []) → IsRoot e → EndsWithRoot (es ++ e ∷ [])
 ends_if [] (Root lost masked thrown) h k = refl
 ends_if [] (Step t act batch) h k = absurd k
 ends_if [] (Death d) h k = absurd k
@@ -135,7 +118,7 @@ fewer code U es js m n le h =
     let cut : take m (take n es) ≡ take m es = take-take m n es le in
     record {
       allowed = subst (λ (l : List Entry). AllAllowed 0 (opening U.places) l) cut (allowed_take 0 (opening U.places) (take n es) m h.allowed);
-      rooted = subst RootAtMostLast cut (rooted_begins (take n es) m h.rooted);
+      rooted = subst RootIsLast cut (rooted_begins (take n es) m h.rooted);
       plan = subst (λ (l : List Entry). PlanKept 0 (plan_of U) l) cut (plan_take 0 (plan_of U) (take n es) m h.plan);
       starts = take (1 + births (take m (take n es))) h.starts;
       made = subst (λ (l : List Entry). Made code U.places l js (take (1 + births (take m (take n es))) h.starts)) cut (made_first code U.places (take n es) js h.starts h.made h.allowed m);

@@ -33,7 +33,8 @@ use Rattle.rx_verdict.specs.Walks as walks
 use Rattle.rx_verdict.specs.Walks.{Walks, MakesFrom, IsAsked, next_does, AsksLedger, Halts}
 use Rattle.rx_verdict.proofs.Births.{starts}
 use Rattle.rx_verdict.proofs.Deciding.{no_start, seat_walks, request_decides, end_decides, halt_decides, opening_stands}
-use Rattle.rx_verdict.proofs.Parting.{take_next, rooted_push, part_goes_on, quiet_stays}
+use Rattle.rx_runs.proofs.RootLast.{root_last-push}
+use Rattle.rx_verdict.proofs.Parting.{take_next, part_goes_on, quiet_stays}
 use Rattle.rx_verdict.proofs.Passing.{walks_wider, entry_is_made, player_makes, player_goes_on, away_only, away_arrives, ended_never, others_stay, newborn_none}
 use Rattle.rx_verdict.proofs.Walking.{at_request}
 use Rattle.std.proofs.lemmas.Option.{slice_get_within}
@@ -99,7 +100,7 @@ module _ (code : Block) (U : Given) (es : List Entry) (js : List (List PlaceEven
         some = p.some;
         few = p.few;
         allowed = allowed-push 0 (opening U.places) es (Step t act batch) p.allowed next;
-        rooted = rooted_push es (Step t act batch) root;
+        rooted = root_last-push es (Step t act batch) root;
         plan = plan-push 0 (plan_of U) es (Step t act batch) p.plan (subst (λ (k : ℕ). InTime k (plan_left (plan_of U) es) (Step t act batch)) z time);
         starts = to;
         made = made;
@@ -257,7 +258,7 @@ seats_stay code U es js i seats e p f q =
       some = p.some;
       few = p.few;
       allowed = allowed-push 0 (opening U.places) (take i es) e p.allowed f.allowed;
-      rooted = rooted_push (take i es) e f.no_root;
+      rooted = root_last-push (take i es) e f.no_root;
       plan = plan-push 0 (plan_of U) (take i es) e p.plan (subst (λ (k : ℕ). InTime k (plan_left (plan_of U) (take i es)) e) z (time_is code U es js i seats p e f));
       starts = p.starts;
       made = h.0;

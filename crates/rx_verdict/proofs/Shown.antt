@@ -21,10 +21,12 @@ use Rattle.rx_rules.specs.Plays.{Cells, Moves, Starts, Plays, Begins, EachPlays,
 use Rattle.rx_rules.specs.Store.{opening_state}
 use Rattle.rx_rules.specs.Run.{Given, in_all, Event, plan_of, PlanKept, rest_of, EndsWithRoot, JournalOk, death_number, IsRun}
 use Rattle.rx_rules.proofs.Numbers.{next-made}
+use Rattle.rx_runs.specs.Rooted.{RootIsLast}
+use Rattle.rx_runs.proofs.RootLast.{root_last-ends}
 use Rattle.rx_verdict.specs.declared.verdict.Verdict.TheVariants.{Run}
 use Rattle.rx_verdict.specs.Makes as parts
 use Rattle.rx_verdict.specs.Makes.{Makes, MakesEvent, AnyStamp, Between, Landing, Made, TaskMakes, TaskMakesEvent, EachMakes, cells_of}
-use Rattle.rx_verdict.specs.Verdicts.{Part, IsGood, CauseOf, HasCause, AllGood, IsVerdict, RunIsVerdict, RootAtMostLast, events_before}
+use Rattle.rx_verdict.specs.Verdicts.{Part, IsGood, CauseOf, HasCause, AllGood, IsVerdict, RunIsVerdict, events_before}
 use Rattle.rx_verdict.proofs.Stamps.{cause_any}
 use Rattle.rx_verdict.proofs.Replays.{plays_make, plays_event}
 use Rattle.rx_verdict.proofs.Births.{Has, StartsTask, starts, other_none, other_some, born_before, from-other, from-here, newborn, births-left}
@@ -52,13 +54,17 @@ plan_take n ks (Join d ∷ es) (suc i) h = (h.0, plan_take (suc n) (rest_of ks) 
 plan_take n ks (Step t act batch ∷ es) (suc i) h = (h.0, plan_take (suc n) ks es i h.1)
 plan_take n ks (Root lost masked thrown ∷ es) (suc i) h = (h.0, plan_take (suc n) ks es i h.1)
 
-rooted_take : (es : List Entry) (i : ℕ) → EndsWithRoot es → RootAtMostLast (take i es)
-rooted_take es zero h = tt
-rooted_take [] (suc i) h = absurd h
-rooted_take (Root lost masked thrown ∷ es) (suc i) h = ap (λ (xs : List Entry). take i xs) h ∙ take_none i
-rooted_take (Step t act batch ∷ es) (suc i) h = rooted_take es i h
-rooted_take (Death d ∷ es) (suc i) h = rooted_take es i h
-rooted_take (Join d ∷ es) (suc i) h = rooted_take es i h
+pub rooted_begins : (es : List Entry) (i : ℕ) → RootIsLast es → RootIsLast (take i es)
+rooted_begins es zero h = tt
+rooted_begins [] (suc i) h = tt
+rooted_begins (Step t act batch ∷ es) (suc i) h = rooted_begins es i h
+rooted_begins (Root lost masked thrown ∷ []) (suc i) h = take_none i
+rooted_begins (Root lost masked thrown ∷ x ∷ es) (suc i) h = absurd (let f : ⊥ = cc in f)
+rooted_begins (Death d ∷ es) (suc i) h = rooted_begins es i h
+rooted_begins (Join d ∷ es) (suc i) h = rooted_begins es i h
+
+rooted_take : (es : List Entry) (i : ℕ) → EndsWithRoot es → RootIsLast (take i es)
+rooted_take es i h = rooted_begins es i (root_last-ends es h)
 
 births_take : (es : List Entry) (i : ℕ) → births (take i es) ≤ births es
 births_take es zero = let none : births [] ≡ 0 = refl in omega (arith, none)

@@ -13,7 +13,8 @@ use Rattle.rx_rules.specs.Terms.{Term, Vars}
 use Rattle.rx_runs.specs.Segments.{plan_left, InTime}
 use Rattle.rx_verdict.specs.Makes.{Made}
 use Rattle.rx_verdict.specs.Passes.{Stays}
-use Rattle.rx_verdict.specs.Verdicts.{Part, RootAtMostLast}
+use Rattle.rx_runs.specs.Rooted.{RootIsLast}
+use Rattle.rx_verdict.specs.Verdicts.{Part}
 
 -- Entry e, after these: the tree allows it, no entry before it releases the root, it is the death or join that is due or stands
 -- where none is, and all terms make their entries with it.
@@ -46,7 +47,7 @@ IsRoot _ = ⊥
 abbrev pub RootEnds : Type 0
 RootEnds =
     (EndsWithRoot [] → ⊥)
-    × ((es : List Entry) (e : Entry) → RootAtMostLast (es ++ e ∷ [])
+    × ((es : List Entry) (e : Entry) → RootIsLast (es ++ e ∷ [])
     → (IsRoot e → EndsWithRoot (es ++ e ∷ [])) × (EndsWithRoot (es ++ e ∷ []) → IsRoot e))
 
 -- the entry is of no task

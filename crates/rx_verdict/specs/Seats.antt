@@ -23,7 +23,8 @@ use Rattle.rx_verdict.specs.Makes.{Made, cells_of}
 use Rattle.rx_verdict.specs.Marks.{home_of, StandsAt, WholePass}
 use Rattle.rx_verdict.specs.Parts.{IsQuiet}
 use Rattle.rx_verdict.specs.Passes.{IsAway, IsAt, HasEnded}
-use Rattle.rx_verdict.specs.Verdicts.{Part, RootAtMostLast}
+use Rattle.rx_runs.specs.Rooted.{RootIsLast}
+use Rattle.rx_verdict.specs.Verdicts.{Part}
 use Rattle.rx_verdict.specs.Walks.{Walks, next_does, AsksLedger, Halts}
 
 -- what the pass keeps for a task
@@ -46,7 +47,7 @@ pub record Seated (code : Block) (U : Given) (es : List Entry) (js : List (List 
   pub some : 1 ≤ U.places
   pub few : U.places ≤ 16
   pub allowed : AllAllowed 0 (opening U.places) es
-  pub rooted : RootAtMostLast es
+  pub rooted : RootIsLast es
   pub plan : PlanKept 0 (plan_of U) es
   pub starts : Starts
   pub made : Made code U.places es js starts

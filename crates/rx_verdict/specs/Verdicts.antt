@@ -2,7 +2,6 @@
 use Rattle.std.specs.Prelude.{◌≡◌, ◌⊎◌, ℕ, suc, ◌+◌, ◌<◌, ◌≤◌, List, [], ◌∷◌, length, take, Option, Some, None, slice_get}
 use Rattle.std.specs.List.{filter_map}
 use Rattle.rx_rules.specs.declared.entries.Entry.{Entry}
-use Rattle.rx_rules.specs.declared.entries.Entry.TheVariants.{Root}
 use Rattle.rx_rules.specs.declared.events.PlaceEvent.{PlaceEvent}
 use Rattle.rx_rules.specs.declared.events.PlaceEvent.TheVariants.{Done, Close}
 use Rattle.rx_rules.specs.Code.{Block}
@@ -11,24 +10,19 @@ use Rattle.rx_rules.specs.Fold.{AllAllowed, opening, births}
 use Rattle.rx_rules.specs.Plays.{Starts, cell_of, journal_at, birth_of}
 use Rattle.rx_rules.specs.Store.{IsStoreRun, opening_state}
 use Rattle.rx_rules.specs.Run.{Given, Proper, in_all, plan_of, PlanKept, EndsWithRoot, NotFalling, death_number, close_in, IsRun}
+use Rattle.rx_runs.specs.Rooted.{RootIsLast}
 use Rattle.rx_verdict.specs.declared.verdict.Verdict.{Verdict}
 use Rattle.rx_verdict.specs.declared.verdict.Verdict.TheVariants.{Run, Entry as AtEntry, End, Event, Open}
 use Rattle.rx_verdict.specs.Makes.{Made, TaskMakesEvent, StampRule, AnyStamp, Between}
 
 -- Parts of a run.
 
--- no entry follows a release of the root
-abbrev pub RootAtMostLast : List Entry → Type 0
-RootAtMostLast [] = Unit {0}
-RootAtMostLast (Root lost masked thrown ∷ es) = es ≡ []
-RootAtMostLast (e ∷ es) = RootAtMostLast es
-
 -- The first n entries: each is allowed where it stands, none follows a release of the root, the deaths and joins are those that
 -- are due, and each task born among them, answered by the events of its place's journal and by its entries among them, makes
 -- exactly these entries.
 pub record Part (code : Block) (U : Given) (es : List Entry) (js : List (List PlaceEvent)) (n : ℕ) : Type 0 where
   pub allowed : AllAllowed 0 (opening U.places) (take n es)
-  pub rooted : RootAtMostLast (take n es)
+  pub rooted : RootIsLast (take n es)
   pub plan : PlanKept 0 (plan_of U) (take n es)
   pub starts : Starts
   pub made : Made code U.places (take n es) js starts

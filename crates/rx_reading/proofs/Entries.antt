@@ -20,7 +20,7 @@ use Rattle.rx_reading.specs.Limits.{IsShort, FitsPath, FitsFault, FitsAct, FitsE
 use Rattle.rx_reading.specs.Words.{fields}
 use Rattle.rx_reading.specs.Inside.Readers.{Reader, followed, done, either}
 use Rattle.rx_reading.specs.Inside.FieldWords.{number_below, number_of, place_of, task_spelt, scope_spelt, path_of, fault_of, count_of, number_at, place_at, task_at, scope_at, path_at, count_at}
-use Rattle.rx_reading.specs.Inside.PartWords.{lost_read, masked_read, thrown_at, batch_at}
+use Rattle.rx_reading.specs.Inside.PartWords.{lost_read, masked_read, thrown_at, batch_at, nested_at, way_at, outcome_at}
 use Rattle.rx_reading.specs.Inside.EntryWords.{open_at, at_at, spawn_at, arrive_at, wait_at, release_at, end_at, print_at, census_at, step_at, root_at, death_at, join_at, entry_at}
 use Rattle.rx_reading.proofs.Cuts.{Plain, all-map}
 use Rattle.rx_reading.proofs.Faults.{plain-word-is, fault-item, fault-takes}
@@ -73,45 +73,86 @@ IsAct places key act t = (t ≡ act_fields act) × (FitsAct places act × (32 �
 flat2 : (a b : List ℕ) → a ++ (b ++ []) ≡ a ++ b
 flat2 a b = simp append-nil
 
-flat-at : (s i r t f o p : List ℕ) → s ++ (i ++ (r ++ (t ++ (f ++ (o ++ (p ++ [])))))) ≡ ((((s ++ i) ++ r) ++ t) ++ (f ++ o)) ++ p
+flat-nested : (s i r : List ℕ) → s ++ (i ++ (r ++ [])) ≡ s ++ (i ++ r)
+flat-nested s i r = simp append-nil
+
+flat-open : (s i r p : List ℕ) → (s ++ (i ++ r)) ++ (p ++ []) ≡ ((s ++ i) ++ r) ++ p
+flat-open s i r p = simp (append_assoc, append-nil)
+
+flat-at : (s i r t f o p : List ℕ) → (s ++ (i ++ r)) ++ (t ++ ((f ++ o) ++ (p ++ []))) ≡ ((((s ++ i) ++ r) ++ t) ++ (f ++ o)) ++ p
 flat-at s i r t f o p = simp (append_assoc, append-nil)
 
-flat-spawn : (t i s f o p : List ℕ) → t ++ (i ++ (s ++ (f ++ (o ++ (p ++ []))))) ≡ (((t ++ i) ++ s) ++ (f ++ o)) ++ p
+flat-spawn : (t i s f o p : List ℕ) → t ++ (i ++ (s ++ ((f ++ o) ++ (p ++ [])))) ≡ (((t ++ i) ++ s) ++ (f ++ o)) ++ p
 flat-spawn t i s f o p = simp (append_assoc, append-nil)
 
-flat-release : (s l m t : List ℕ) → s ++ (l ++ (m ++ (t ++ []))) ≡ s ++ ((l ++ m) ++ t)
+flat-release : (s l m t : List ℕ) → s ++ ((l ++ (m ++ t)) ++ []) ≡ s ++ ((l ++ m) ++ t)
 flat-release s l m t = simp (append_assoc, append-nil)
+
+-- a scope and the one inside which it stands
+abbrev nested_field : ScopeId × ScopeId → List ℕ
+nested_field n = scope_field n.0 ++ (codes " in" ++ scope_field n.1)
+
+abbrev AreScopes : ScopeId × ScopeId → Type 0
+AreScopes n = IsScope n.0 × IsScope n.1
+
+nested-one : Takes nested_at (Told nested_field AreScopes)
+nested-one =
+    takes-followed scope_at _ scope_field IsScope (Told nested_field AreScopes) scope-one (λ scope a.
+    takes-keyed (codes "in") _ _ (
+    takes-followed scope_at _ scope_field IsScope _ scope-one (λ parent b.
+    takes-done (scope, parent) _ (flat-nested (scope_field scope) (codes " in") (scope_field parent), (a, b)))))
+
+-- from where, and where to
+abbrev way_text : PlaceId × PlaceId → List ℕ
+way_text w = place_field w.0 ++ place_field w.1
+
+abbrev ArePlaces : ℕ → PlaceId × PlaceId → Type 0
+ArePlaces places w = IsPlace places w.0 × IsPlace places w.1
+
+way-one : (places : ℕ) → Takes (way_at places) (Told way_text (ArePlaces places))
+way-one places =
+    takes-followed (place_at places) _ place_field (IsPlace places) (Told way_text (ArePlaces places)) (place-one places) (λ from a.
+    takes-followed (place_at places) _ place_field (IsPlace places) _ (place-one places) (λ to b.
+    takes-done (from, to) _ (flat2 (place_field from) (place_field to), (a, b))))
+
+-- what a release names
+abbrev outcome_text : PlaceSet × ℕ × List Fault → List ℕ
+outcome_text o = lost_part o.0 ++ (masked_part o.1 ++ thrown_part o.2)
+
+abbrev IsOutcome : ℕ → PlaceSet × ℕ × List Fault → Type 0
+IsOutcome places o = (o.0.0 < 2 ^ places) × IsShort o.1 × AllByRecursion (FitsFault places) o.2
+
+outcome-one : (places : ℕ) → places ≤ 16 → Takes (outcome_at places) (Told outcome_text (IsOutcome places))
+outcome-one places few =
+    takes-followed (lost_read places) _ lost_part (λ s. s.0 < 2 ^ places) (Told outcome_text (IsOutcome places)) (lost-takes places few) (λ lost a.
+    takes-followed masked_read _ masked_part IsShort _ masked-take (λ masked b.
+    takes-followed (thrown_at places) _ thrown_part (AllByRecursion (FitsFault places)) _ (thrown-one places) (λ thrown c.
+    takes-done (lost, masked, thrown) _ (flat-nested (lost_part lost) (masked_part masked) (thrown_part thrown), (a, b, c)))))
 
 open-takes : (places : ℕ) → Takes open_at (IsAct places (codes "open"))
 open-takes places =
-    takes-followed scope_at _ scope_field IsScope (IsAct places (codes "open")) scope-one (λ scope a.
-    takes-keyed (codes "in") _ _ (
-    takes-followed scope_at _ scope_field IsScope _ scope-one (λ parent b.
-    takes-followed path_at _ path_field FitsPath _ path-one (λ path c.
-    takes-done (Open scope parent path) _ (flat4 (scope_field scope) (codes " in") (scope_field parent) (path_field path), ((a, b, c), refl))))))
+    takes-followed nested_at _ nested_field AreScopes (IsAct places (codes "open")) nested-one (λ n a.
+    takes-followed path_at _ path_field FitsPath _ path-one (λ path b.
+    takes-done (Open n.0 n.1 path) _ (flat-open (scope_field n.0) (codes " in") (scope_field n.1) (path_field path), ((a.0, a.1, b), refl))))
 
 at-takes : (places : ℕ) → Takes (at_at places) (IsAct places (codes "at"))
 at-takes places =
-    takes-followed scope_at _ scope_field IsScope (IsAct places (codes "at")) scope-one (λ scope a.
-    takes-keyed (codes "in") _ _ (
-    takes-followed scope_at _ scope_field IsScope _ scope-one (λ parent b.
-    takes-followed task_at _ task_field IsTask _ task-one (λ callee c.
-    takes-followed (place_at places) _ place_field (IsPlace places) _ (place-one places) (λ from d.
-    takes-followed (place_at places) _ place_field (IsPlace places) _ (place-one places) (λ to e.
-    takes-followed path_at _ path_field FitsPath _ path-one (λ path f.
-    takes-done (At scope parent callee from to path) _
-    (flat-at (scope_field scope) (codes " in") (scope_field parent) (task_field callee) (place_field from) (place_field to) (path_field path), ((a, b, c, d, e, f), refl)))))))))
+    takes-followed nested_at _ nested_field AreScopes (IsAct places (codes "at")) nested-one (λ n a.
+    takes-followed task_at _ task_field IsTask _ task-one (λ callee b.
+    takes-followed (way_at places) _ way_text (ArePlaces places) _ (way-one places) (λ w c.
+    takes-followed path_at _ path_field FitsPath _ path-one (λ path d.
+    takes-done (At n.0 n.1 callee w.0 w.1 path) _
+    (flat-at (scope_field n.0) (codes " in") (scope_field n.1) (task_field callee) (place_field w.0) (place_field w.1) (path_field path), ((a.0, a.1, b, c.0, c.1, d), refl))))))
 
 spawn-takes : (places : ℕ) → Takes (spawn_at places) (IsAct places (codes "spawn"))
 spawn-takes places =
     takes-followed task_at _ task_field IsTask (IsAct places (codes "spawn")) task-one (λ child a.
     takes-keyed (codes "in") _ _ (
     takes-followed scope_at _ scope_field IsScope _ scope-one (λ scope b.
-    takes-followed (place_at places) _ place_field (IsPlace places) _ (place-one places) (λ from c.
-    takes-followed (place_at places) _ place_field (IsPlace places) _ (place-one places) (λ to d.
-    takes-followed path_at _ path_field FitsPath _ path-one (λ path e.
-    takes-done (Spawn child scope from to path) _
-    (flat-spawn (task_field child) (codes " in") (scope_field scope) (place_field from) (place_field to) (path_field path), ((a, b, c, d, e), refl))))))))
+    takes-followed (way_at places) _ way_text (ArePlaces places) _ (way-one places) (λ w c.
+    takes-followed path_at _ path_field FitsPath _ path-one (λ path d.
+    takes-done (Spawn child scope w.0 w.1 path) _
+    (flat-spawn (task_field child) (codes " in") (scope_field scope) (place_field w.0) (place_field w.1) (path_field path), ((a, b, c.0, c.1, d), refl)))))))
 
 arrive-takes : (places : ℕ) → Takes (arrive_at places) (IsAct places (codes "arrive"))
 arrive-takes places =
@@ -127,10 +168,8 @@ wait-takes places =
 release-takes : (places : ℕ) → places ≤ 16 → Takes (release_at places) (IsAct places (codes "release"))
 release-takes places few =
     takes-followed scope_at _ scope_field IsScope (IsAct places (codes "release")) scope-one (λ scope a.
-    takes-followed (lost_read places) _ lost_part (λ s. s.0 < 2 ^ places) _ (lost-takes places few) (λ lost b.
-    takes-followed masked_read _ masked_part IsShort _ masked-take (λ masked c.
-    takes-followed (thrown_at places) _ thrown_part (AllByRecursion (FitsFault places)) _ (thrown-one places) (λ thrown d.
-    takes-done (Release scope lost masked thrown) _ (flat-release (scope_field scope) (lost_part lost) (masked_part masked) (thrown_part thrown), ((a, b, c, d), refl))))))
+    takes-followed (outcome_at places) _ outcome_text (IsOutcome places) _ (outcome-one places few) (λ o b.
+    takes-done (Release scope o.0 o.1 o.2) _ (flat-release (scope_field scope) (lost_part o.0) (masked_part o.1) (thrown_part o.2), ((a, b.0, b.1, b.2), refl))))
 
 end-takes : (places : ℕ) → Takes (end_at places) (IsAct places (codes "end"))
 end-takes places =
@@ -164,10 +203,8 @@ step-takes places key act_at h =
 root-takes : (places : ℕ) → places ≤ 16 → Takes (root_at places) (λ e t. IsAfter places (codes "release") e ((32 ∷ codes "host") ++ t))
 root-takes places few =
     takes-keyed (codes "s0") _ (λ e t. IsAfter places (codes "release") e ((32 ∷ codes "host") ++ t)) (
-    takes-followed (lost_read places) _ lost_part (λ s. s.0 < 2 ^ places) _ (lost-takes places few) (λ lost a.
-    takes-followed masked_read _ masked_part IsShort _ masked-take (λ masked b.
-    takes-followed (thrown_at places) _ thrown_part (AllByRecursion (FitsFault places)) _ (thrown-one places) (λ thrown c.
-    takes-done (Root lost masked thrown) _ (flat-release (codes " release host s0") (lost_part lost) (masked_part masked) (thrown_part thrown), (a, b, c))))))
+    takes-followed (outcome_at places) _ outcome_text (IsOutcome places) _ (outcome-one places few) (λ o a.
+    takes-done (Root o.0 o.1 o.2) _ (flat-release (codes " release host s0") (lost_part o.0) (masked_part o.1) (thrown_part o.2), (a.0, a.1, a.2))))
 
 death-takes : (places : ℕ) → Takes (death_at places) (IsAfter places (codes "death"))
 death-takes places =
@@ -270,27 +307,40 @@ batch-again batch fits =
     again-part (codes "|") path_of path_field batch (plain-word-is (codes "|") refl)
     (all-map FitsPath (Item path_of path_field) path-item batch fits)
 
+nested-again : (scope parent : ScopeId) → IsScope scope → IsScope parent → Again nested_at (scope, parent) (nested_field (scope, parent)) Any
+nested-again scope parent a b =
+    let n : ScopeId × ScopeId = (scope, parent) in
+    again-as nested_at n _ _ Any Any (flat-nested (scope_field scope) (codes " in") (scope_field parent)) (λ rest o. o) (
+    again-field scope_at _ scope n (scope_field scope) _ Any (scope-again scope a) (
+    again-keyed (codes "in") _ n _ Any (plain-word-is (codes "in") refl) (
+    again-field scope_at _ parent n (scope_field parent) _ Any (scope-again parent b) (
+    again-done n Any))))
+
+way-again : (places : ℕ) (from to : PlaceId) → places ≤ 16 → IsPlace places from → IsPlace places to → Again (way_at places) (from, to) (way_text (from, to)) Any
+way-again places from to few a b =
+    let w : PlaceId × PlaceId = (from, to) in
+    again-as (way_at places) w _ _ Any Any (flat2 (place_field from) (place_field to)) (λ rest o. o) (
+    again-field (place_at places) _ from w (place_field from) _ Any (place-once places from few a) (
+    again-field (place_at places) _ to w (place_field to) _ Any (place-once places to few b) (
+    again-done w Any)))
+
 open-again : (places : ℕ) (scope parent : ScopeId) (path : List ℕ) → FitsAct places (Open scope parent path) → Again open_at (Open scope parent path) (act_fields (Open scope parent path)) OnlyBatch
 open-again places scope parent path fits =
-    again-as open_at (Open scope parent path) _ _ Any OnlyBatch (flat4 (scope_field scope) (codes " in") (scope_field parent) (path_field path)) (λ rest o. tt) (
-    again-field scope_at _ scope (Open scope parent path) (scope_field scope) _ Any (scope-again scope fits.0) (
-    again-keyed (codes "in") _ (Open scope parent path) _ Any (plain-word-is (codes "in") refl) (
-    again-field scope_at _ parent (Open scope parent path) (scope_field parent) _ Any (scope-again parent fits.1) (
-    again-field path_at _ path (Open scope parent path) (path_field path) _ Any (path-again path fits.2) (
-    again-done (Open scope parent path) Any)))))
+    let act : Act = Open scope parent path in
+    again-as open_at act _ _ Any OnlyBatch (flat-open (scope_field scope) (codes " in") (scope_field parent) (path_field path)) (λ rest o. tt) (
+    again-field nested_at _ (scope, parent) act (nested_field (scope, parent)) _ Any (nested-again scope parent fits.0 fits.1) (
+    again-field path_at _ path act (path_field path) _ Any (path-again path fits.2) (
+    again-done act Any)))
 
 at-again : (places : ℕ) (scope parent : ScopeId) (callee : TaskId) (from to : PlaceId) (path : List ℕ) → places ≤ 16 → FitsAct places (At scope parent callee from to path) → Again (at_at places) (At scope parent callee from to path) (act_fields (At scope parent callee from to path)) OnlyBatch
 at-again places scope parent callee from to path few fits =
     let act : Act = At scope parent callee from to path in
     again-as (at_at places) act _ _ Any OnlyBatch (flat-at (scope_field scope) (codes " in") (scope_field parent) (task_field callee) (place_field from) (place_field to) (path_field path)) (λ rest o. tt) (
-    again-field scope_at _ scope act (scope_field scope) _ Any (scope-again scope fits.0) (
-    again-keyed (codes "in") _ act _ Any (plain-word-is (codes "in") refl) (
-    again-field scope_at _ parent act (scope_field parent) _ Any (scope-again parent fits.1) (
+    again-field nested_at _ (scope, parent) act (nested_field (scope, parent)) _ Any (nested-again scope parent fits.0 fits.1) (
     again-field task_at _ callee act (task_field callee) _ Any (task-again callee fits.2) (
-    again-field (place_at places) _ from act (place_field from) _ Any (place-once places from few fits.3) (
-    again-field (place_at places) _ to act (place_field to) _ Any (place-once places to few fits.4) (
+    again-field (way_at places) _ (from, to) act (way_text (from, to)) _ Any (way-again places from to few fits.3 fits.4) (
     again-field path_at _ path act (path_field path) _ Any (path-again path fits.5) (
-    again-done act Any))))))))
+    again-done act Any)))))
 
 spawn-again : (places : ℕ) (child : TaskId) (scope : ScopeId) (from to : PlaceId) (path : List ℕ) → places ≤ 16 → FitsAct places (Spawn child scope from to path) → Again (spawn_at places) (Spawn child scope from to path) (act_fields (Spawn child scope from to path)) OnlyBatch
 spawn-again places child scope from to path few fits =
@@ -299,10 +349,9 @@ spawn-again places child scope from to path few fits =
     again-field task_at _ child act (task_field child) _ Any (task-again child fits.0) (
     again-keyed (codes "in") _ act _ Any (plain-word-is (codes "in") refl) (
     again-field scope_at _ scope act (scope_field scope) _ Any (scope-again scope fits.1) (
-    again-field (place_at places) _ from act (place_field from) _ Any (place-once places from few fits.2) (
-    again-field (place_at places) _ to act (place_field to) _ Any (place-once places to few fits.3) (
+    again-field (way_at places) _ (from, to) act (way_text (from, to)) _ Any (way-again places from to few fits.2 fits.3) (
     again-field path_at _ path act (path_field path) _ Any (path-again path fits.4) (
-    again-done act Any)))))))
+    again-done act Any))))))
 
 arrive-again : (places : ℕ) (place : PlaceId) → places ≤ 16 → place.0 < places → Again (arrive_at places) (Arrive place) (act_fields (Arrive place)) OnlyBatch
 arrive-again places place few fits =
@@ -338,29 +387,23 @@ ending thrown = End thrown
 end-again : (places : ℕ) (thrown : List Fault) → places ≤ 16 → FitsAct places (End thrown) → Again (end_at places) (End thrown) (act_fields (End thrown)) OnlyBatch
 end-again places thrown few fits = (again-last (thrown_at places) ending thrown _ _ _ OnlyBatch (only-thrown places) (thrown-again places thrown few fits)).again
 
--- what a release names, by whatever is made of it
-parts-again : {A : Type 0} (places : ℕ) (make : PlaceSet → ℕ → List Fault → A) (lost : PlaceSet) (masked : ℕ) (thrown : List Fault) (M : List (List ℕ) → Type 0) → ((rest : List (List ℕ)) → M rest → OnlyBatch rest) → places ≤ 16 → lost.0 < 2 ^ places → IsShort masked → AllByRecursion (FitsFault places) thrown
-    → Again (followed (lost_read places) (λ l. followed masked_read (λ k. followed (thrown_at places) (λ t. done (make l k t))))) (make lost masked thrown) (lost_part lost ++ (masked_part masked ++ thrown_part thrown)) M
-parts-again {A} places make lost masked thrown M only few low short fits =
-    let a : A = make lost masked thrown in
-    let last = again-last (thrown_at places) (make lost masked) thrown _ _ _ M (λ rest m. only-thrown places rest (only rest m)) (thrown-again places thrown few fits) in
-    let number = masked-again masked short in
-    let more = before-followed masked_read (λ k. followed (thrown_at places) (λ t. done (make lost k t))) masked a (masked_part masked) (thrown_part thrown) (AfterPart (codes "lost") (place_of places)) Unmasked M number.again last.again
+outcome-again : (places : ℕ) (lost : PlaceSet) (masked : ℕ) (thrown : List Fault) (M : List (List ℕ) → Type 0) → ((rest : List (List ℕ)) → M rest → OnlyBatch rest) → places ≤ 16 → IsOutcome places (lost, masked, thrown) → Again (outcome_at places) (lost, masked, thrown) (outcome_text (lost, masked, thrown)) M
+outcome-again places lost masked thrown M only few fits =
+    let o : PlaceSet × ℕ × List Fault = (lost, masked, thrown) in
+    let last = again-last (thrown_at places) (λ t. (lost, masked, t)) thrown _ _ _ M (λ rest m. only-thrown places rest (only rest m)) (thrown-again places thrown few fits.2) in
+    let number = masked-again masked fits.1 in
+    let more = before-followed masked_read (λ k. followed (thrown_at places) (λ t. done (lost, k, t))) masked o (masked_part masked) (thrown_part thrown) (AfterPart (codes "lost") (place_of places)) Unmasked M number.again last.again
     (λ rest m. unmasked last.again.front rest last.starts (only rest m))
     (λ rest m. then-masked places number.again.front last.again.front rest few number.starts last.starts (only rest m)) in
-    again-followed (lost_read places) _ lost a (lost_part lost) _ _ M (lost-again places lost few low) more.again more.before
-
-flat-parts : (s l m t : List ℕ) → s ++ (l ++ (m ++ t)) ≡ s ++ ((l ++ m) ++ t)
-flat-parts s l m t = simp append_assoc
-
-abbrev releasing : ScopeId → PlaceSet → ℕ → List Fault → Act
-releasing scope lost masked thrown = Release scope lost masked thrown
+    again-followed (lost_read places) _ lost o (lost_part lost) _ _ M (lost-again places lost few fits.0) more.again more.before
 
 release-again : (places : ℕ) (scope : ScopeId) (lost : PlaceSet) (masked : ℕ) (thrown : List Fault) → places ≤ 16 → FitsAct places (Release scope lost masked thrown) → Again (release_at places) (Release scope lost masked thrown) (act_fields (Release scope lost masked thrown)) OnlyBatch
 release-again places scope lost masked thrown few fits =
-    again-as (release_at places) (Release scope lost masked thrown) _ _ OnlyBatch OnlyBatch (flat-parts (scope_field scope) (lost_part lost) (masked_part masked) (thrown_part thrown)) (λ rest o. o) (
-    again-field scope_at _ scope (Release scope lost masked thrown) (scope_field scope) _ OnlyBatch (scope-again scope fits.0)
-    (parts-again places (releasing scope) lost masked thrown OnlyBatch (λ rest o. o) few fits.1 fits.2 fits.3))
+    let act : Act = Release scope lost masked thrown in
+    again-as (release_at places) act _ _ OnlyBatch OnlyBatch (flat-release (scope_field scope) (lost_part lost) (masked_part masked) (thrown_part thrown)) (λ rest o. o) (
+    again-field scope_at _ scope act (scope_field scope) _ OnlyBatch (scope-again scope fits.0) (
+    again-followed (outcome_at places) _ (lost, masked, thrown) act (outcome_text (lost, masked, thrown)) [] OnlyBatch OnlyBatch (outcome-again places lost masked thrown OnlyBatch (λ rest o. o) few (fits.1, fits.2, fits.3))
+    (record { front = []; spelled = refl; plain = tt; reads = λ rest n. refl }) (λ rest o. o)))
 
 abbrev stepped : TaskId → Act → List (List ℕ) → Entry
 stepped task act batch = Step task act batch
@@ -386,13 +429,12 @@ not-host ((b ∷ bs) ∷ ws) x e =
     second : (a b c d : ℕ) (x y : List ℕ) → a ∷ b ∷ x ≡ c ∷ d ∷ y → b ≡ d
     second a b c d x y e = cc
 
-abbrev rooted : PlaceSet → ℕ → List Fault → Entry
-rooted lost masked thrown = Root lost masked thrown
-
-root-again : (places : ℕ) (lost : PlaceSet) (masked : ℕ) (thrown : List Fault) → places ≤ 16 → FitsEntry places (Root lost masked thrown) → Again (root_at places) (Root lost masked thrown) (codes " s0" ++ (lost_part lost ++ (masked_part masked ++ thrown_part thrown))) IsEnd
+root-again : (places : ℕ) (lost : PlaceSet) (masked : ℕ) (thrown : List Fault) → places ≤ 16 → FitsEntry places (Root lost masked thrown) → Again (root_at places) (Root lost masked thrown) (codes " s0" ++ (outcome_text (lost, masked, thrown) ++ [])) IsEnd
 root-again places lost masked thrown few fits =
-    again-keyed (codes "s0") _ (Root lost masked thrown) _ IsEnd (plain-word-is (codes "s0") refl)
-    (parts-again places rooted lost masked thrown IsEnd end-only few fits.0 fits.1 fits.2)
+    let e : Entry = Root lost masked thrown in
+    again-keyed (codes "s0") _ e _ IsEnd (plain-word-is (codes "s0") refl) (
+    again-followed (outcome_at places) _ (lost, masked, thrown) e (outcome_text (lost, masked, thrown)) [] IsEnd IsEnd (outcome-again places lost masked thrown IsEnd end-only few (fits.0, fits.1, fits.2))
+    (record { front = []; spelled = refl; plain = tt; reads = λ rest n. refl }) (λ rest o. o))
 
 join-again : (places : ℕ) (place : PlaceId) → places ≤ 16 → place.0 < places → Again (join_at places) (Join place) (place_field place) IsEnd
 join-again places place few fits =
@@ -434,7 +476,7 @@ entry-again places (Step task (Print value path) batch) few fits = stepped-again
 entry-again places (Step task (Census count path) batch) few fits = stepped-again places (codes "census") census_at task (Census count path) batch refl (plain-word-is (codes "census") refl) (λ ws. refl) fits (census-again places count path fits.1)
 entry-again places (Root lost masked thrown) few fits =
     let root : Entry = Root lost masked thrown in
-    again-as (entry_at places) root _ _ IsEnd IsEnd (flat-parts (codes " release host s0") (lost_part lost) (masked_part masked) (thrown_part thrown)) (λ rest e. e)
+    again-as (entry_at places) root _ _ IsEnd IsEnd (flat-release (codes " release host s0") (lost_part lost) (masked_part masked) (thrown_part thrown)) (λ rest e. e)
     (again-kind (entry_at places) (either (codes "host") (root_at places) (step_at (release_at places))) (codes "release") root _ IsEnd (λ ws. refl) (plain-word-is (codes "release") refl)
     (again-kind (either (codes "host") (root_at places) (step_at (release_at places))) (root_at places) (codes "host") root _ IsEnd (λ ws. refl) (plain-word-is (codes "host") refl)
     (root-again places lost masked thrown few fits)))

@@ -5,8 +5,8 @@ ghost use Rattle.rx_reading.specs.Inside.EntryWords.{open_at, at_at, spawn_at, a
 ghost use Rattle.rx_reading.specs.Inside.EntryWords.{census_at, act_at};
 
 use crate::parts::{
-    count_field, keyword, lost_part, masked_part, number_field, path_field, place_field,
-    scope_field, task_field, thrown_part,
+    count_field, keyword, nested_scope, number_field, outcome_part, path_field, place_field,
+    scope_field, task_field, thrown_part, way_field,
 };
 use crate::words::Words;
 use rx_base::NoMemory;
@@ -53,13 +53,7 @@ pub(crate) fn act(
 fn open(alloc: Global, words: &mut Words<'_>) -> Result<Option<Act>, NoMemory>
     ensures { IfOk result (λ act. answer_left act words.new ≡ open_at words.old) }
 {
-    let Some(scope) = scope_field(words) else {
-        return Ok(None);
-    };
-    if !keyword(words, b"in") {
-        return Ok(None);
-    }
-    let Some(parent) = scope_field(words) else {
+    let Some((scope, parent)) = nested_scope(words) else {
         return Ok(None);
     };
     let Some(path) = path_field(alloc, words)? else {
@@ -75,22 +69,13 @@ fn open(alloc: Global, words: &mut Words<'_>) -> Result<Option<Act>, NoMemory>
 fn at(alloc: Global, words: &mut Words<'_>, places: u8) -> Result<Option<Act>, NoMemory>
     ensures { IfOk result (λ act. answer_left act words.new ≡ at_at places words.old) }
 {
-    let Some(scope) = scope_field(words) else {
-        return Ok(None);
-    };
-    if !keyword(words, b"in") {
-        return Ok(None);
-    }
-    let Some(parent) = scope_field(words) else {
+    let Some((scope, parent)) = nested_scope(words) else {
         return Ok(None);
     };
     let Some(callee) = task_field(words) else {
         return Ok(None);
     };
-    let Some(from) = place_field(words, places) else {
-        return Ok(None);
-    };
-    let Some(to) = place_field(words, places) else {
+    let Some((from, to)) = way_field(words, places) else {
         return Ok(None);
     };
     let Some(path) = path_field(alloc, words)? else {
@@ -118,10 +103,7 @@ fn spawn(alloc: Global, words: &mut Words<'_>, places: u8) -> Result<Option<Act>
     let Some(scope) = scope_field(words) else {
         return Ok(None);
     };
-    let Some(from) = place_field(words, places) else {
-        return Ok(None);
-    };
-    let Some(to) = place_field(words, places) else {
+    let Some((from, to)) = way_field(words, places) else {
         return Ok(None);
     };
     let Some(path) = path_field(alloc, words)? else {
@@ -162,13 +144,7 @@ fn release(alloc: Global, words: &mut Words<'_>, places: u8) -> Result<Option<Ac
     let Some(scope) = scope_field(words) else {
         return Ok(None);
     };
-    let Some(lost) = lost_part(words, places) else {
-        return Ok(None);
-    };
-    let Some(masked) = masked_part(words) else {
-        return Ok(None);
-    };
-    let Some(thrown) = thrown_part(alloc, words, places)? else {
+    let Some((lost, masked, thrown)) = outcome_part(alloc, words, places)? else {
         return Ok(None);
     };
     Ok(Some(Act::Release {

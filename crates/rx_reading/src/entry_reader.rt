@@ -4,9 +4,7 @@ ghost use Rattle.rx_reading.specs.Words.{answer_left};
 ghost use Rattle.rx_reading.specs.Inside.EntryWords.{act_at, step_at, release_or_root_at, root_at, death_at, join_at, entry_at};
 
 use crate::acts::{Kind, act};
-use crate::parts::{
-    batch_part, keyword, lost_part, masked_part, place_field, task_field, thrown_part,
-};
+use crate::parts::{batch_part, keyword, outcome_part, place_field, task_field};
 use crate::words::Words;
 use rx_base::NoMemory;
 use rx_history::Entry;
@@ -93,13 +91,7 @@ fn root(alloc: Global, words: &mut Words<'_>, places: u8) -> Result<Option<Entry
     if !keyword(words, b"s0") {
         return Ok(None);
     }
-    let Some(lost) = lost_part(words, places) else {
-        return Ok(None);
-    };
-    let Some(masked) = masked_part(words) else {
-        return Ok(None);
-    };
-    let Some(thrown) = thrown_part(alloc, words, places)? else {
+    let Some((lost, masked, thrown)) = outcome_part(alloc, words, places)? else {
         return Ok(None);
     };
     Ok(Some(Entry::Root {

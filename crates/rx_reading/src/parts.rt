@@ -4,7 +4,7 @@ ghost use Rattle.rx_reading.specs.Words.{answer_left};
 ghost use Rattle.rx_reading.specs.Inside.FieldWords.{natural_at, number_at, place_at, task_at, scope_at, path_at, count_at, block_at};
 ghost use Rattle.rx_reading.specs.Inside.FieldWords.{path_of, place_of, masked_of, fault_of};
 ghost use Rattle.rx_reading.specs.Inside.PartWords.{set_of, places_at, lost_read, masked_read, thrown_at, batch_at};
-ghost use Rattle.rx_reading.specs.Inside.PartWords.{item_of, key_of, left_of};
+ghost use Rattle.rx_reading.specs.Inside.PartWords.{item_of, key_of, left_of, nested_at, way_at, outcome_at};
 
 use crate::items::{fault, path, place, scope, task};
 use crate::numbers::{count, natural, number};
@@ -91,6 +91,27 @@ pub(crate) fn keyword(words: &mut Words<'_>, key: &[u8]) -> bool
     }
 }
 
+// A scope, and the one inside which it stands.
+pub(crate) fn nested_scope(words: &mut Words<'_>) -> Option<(ScopeId, ScopeId)>
+    ensures { answer_left result words.new ≡ nested_at words.old }
+{
+    let scope = scope_field(words)?;
+    if !keyword(words, b"in") {
+        return None;
+    }
+    let parent = scope_field(words)?;
+    Some((scope, parent))
+}
+
+// Where a task comes from, and where it goes.
+pub(crate) fn way_field(words: &mut Words<'_>, places: u8) -> Option<(PlaceId, PlaceId)>
+    ensures { answer_left result words.new ≡ way_at places words.old }
+{
+    let from = place_field(words, places)?;
+    let to = place_field(words, places)?;
+    Some((from, to))
+}
+
 // Takes the next word where it is a place.
 fn next_place(words: &mut Words<'_>, places: u8) -> Option<PlaceId>
     ensures { (result, words.new) ≡ item_of (place_of places) words.old }
@@ -127,7 +148,7 @@ fn next_path(alloc: Global, words: &mut Words<'_>) -> Result<Option<Path>, NoMem
 }
 
 // The places that lost tasks, in ascending order.
-pub(crate) fn lost_part(words: &mut Words<'_>, places: u8) -> Option<PlaceSet>
+fn lost_part(words: &mut Words<'_>, places: u8) -> Option<PlaceSet>
     requires { places ≤ 16 }
     ensures { answer_left result words.new ≡ lost_read places words.old }
 {
@@ -154,7 +175,7 @@ fn place_set(words: &mut Words<'_>, places: u8) -> Option<PlaceSet>
 }
 
 // How many faults are masked.
-pub(crate) fn masked_part(words: &mut Words<'_>) -> Option<u32>
+fn masked_part(words: &mut Words<'_>) -> Option<u32>
     ensures { answer_left result words.new ≡ masked_read words.old }
 {
     if !keyword(words, b"masked") {
@@ -190,6 +211,27 @@ pub(crate) fn thrown_part(
         return Ok(None);
     }
     Ok(Some(thrown))
+}
+
+// What a release names: the places that lost tasks, how many faults are masked, and the faults that are told.
+pub(crate) fn outcome_part(
+    alloc: Global,
+    words: &mut Words<'_>,
+    places: u8,
+) -> Result<Option<(PlaceSet, u32, Faults)>, NoMemory>
+    requires { places ≤ 16 }
+    ensures { IfOk result (λ outcome. answer_left outcome words.new ≡ outcome_at places words.old) }
+{
+    let Some(lost) = lost_part(words, places) else {
+        return Ok(None);
+    };
+    let Some(masked) = masked_part(words) else {
+        return Ok(None);
+    };
+    let Some(thrown) = thrown_part(alloc, words, places)? else {
+        return Ok(None);
+    };
+    Ok(Some((lost, masked, thrown)))
 }
 
 // The paths of the statements that a task has begun.

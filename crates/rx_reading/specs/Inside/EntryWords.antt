@@ -7,22 +7,19 @@ use Rattle.rx_rules.specs.declared.entries.Entry.TheVariants.{Step, Root, Death,
 use Rattle.rx_reading.specs.declared.acts.Kind.{Kind}
 use Rattle.rx_reading.specs.declared.acts.Kind.TheVariants as kinds
 use Rattle.rx_reading.specs.Inside.FieldWords.{number_at, place_at, task_at, scope_at, path_at, count_at}
-use Rattle.rx_reading.specs.Inside.PartWords.{lost_read, masked_read, thrown_at, batch_at}
+use Rattle.rx_reading.specs.Inside.PartWords.{thrown_at, batch_at, nested_at, way_at, outcome_at}
 use Rattle.rx_reading.specs.Inside.Readers.{Reader, followed, done, keyed, either}
 
 abbrev pub open_at : Reader Act
-open_at = followed scope_at (λ scope. keyed (codes "in") (followed scope_at
-    (λ parent. followed path_at (λ path. done (Open scope parent path)))))
+open_at = followed nested_at (λ n. followed path_at (λ path. done (Open n.0 n.1 path)))
 
 abbrev pub at_at : ℕ → Reader Act
-at_at places = followed scope_at (λ scope. keyed (codes "in") (followed scope_at (λ parent. followed task_at (λ callee.
-    followed (place_at places) (λ from. followed (place_at places)
-    (λ to. followed path_at (λ path. done (At scope parent callee from to path))))))))
+at_at places = followed nested_at (λ n. followed task_at (λ callee. followed (way_at places)
+    (λ w. followed path_at (λ path. done (At n.0 n.1 callee w.0 w.1 path)))))
 
 abbrev pub spawn_at : ℕ → Reader Act
 spawn_at places = followed task_at (λ child. keyed (codes "in") (followed scope_at (λ scope.
-    followed (place_at places) (λ from. followed (place_at places)
-    (λ to. followed path_at (λ path. done (Spawn child scope from to path)))))))
+    followed (way_at places) (λ w. followed path_at (λ path. done (Spawn child scope w.0 w.1 path))))))
 
 abbrev pub arrive_at : ℕ → Reader Act
 arrive_at places = followed (place_at places) (λ place. done (Arrive place))
@@ -31,8 +28,7 @@ abbrev pub wait_at : ℕ → Reader Act
 wait_at places = followed scope_at (λ scope. followed (thrown_at places) (λ thrown. done (Wait scope thrown)))
 
 abbrev pub release_at : ℕ → Reader Act
-release_at places = followed scope_at (λ scope. followed (lost_read places) (λ lost. followed masked_read
-    (λ masked. followed (thrown_at places) (λ thrown. done (Release scope lost masked thrown)))))
+release_at places = followed scope_at (λ scope. followed (outcome_at places) (λ o. done (Release scope o.0 o.1 o.2)))
 
 abbrev pub end_at : ℕ → Reader Act
 end_at places = followed (thrown_at places) (λ thrown. done (End thrown))
@@ -61,8 +57,7 @@ step_at act_at = followed task_at (λ task. followed act_at (λ act. followed ba
 
 -- the host's release of the root
 abbrev pub root_at : ℕ → Reader Entry
-root_at places = keyed (codes "s0") (followed (lost_read places) (λ lost. followed masked_read
-    (λ masked. followed (thrown_at places) (λ thrown. done (Root lost masked thrown)))))
+root_at places = keyed (codes "s0") (followed (outcome_at places) (λ o. done (Root o.0 o.1 o.2)))
 
 abbrev pub death_at : ℕ → Reader Entry
 death_at places = followed (place_at places) (λ place. done (Death place))

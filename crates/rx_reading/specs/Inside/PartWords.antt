@@ -2,10 +2,11 @@
 use Rattle.std.specs.Prelude.{ℕ, ◌+◌, ◌^◌, nat_lt, ◌==◌, Bool, true, false, List, [], ◌∷◌, Option, Some, None, if◌then◌else◌, codes}
 use Rattle.std.specs.Str.{bytes_eq}
 use Rattle.rx_base.specs.declared.ids.PlaceId.{PlaceId}
+use Rattle.rx_base.specs.declared.ids.ScopeId.{ScopeId}
 use Rattle.rx_base.specs.declared.place_set.PlaceSet.{PlaceSet}
 use Rattle.rx_base.specs.declared.values.Fault.{Fault}
-use Rattle.rx_reading.specs.Inside.FieldWords.{place_of, path_of, masked_of, fault_of}
-use Rattle.rx_reading.specs.Inside.Readers.{Reader, word, part}
+use Rattle.rx_reading.specs.Inside.FieldWords.{place_of, path_of, masked_of, fault_of, place_at, scope_at}
+use Rattle.rx_reading.specs.Inside.Readers.{Reader, word, part, followed, done, keyed}
 
 -- the set with this number
 abbrev pub set_of : ℕ → PlaceSet
@@ -39,6 +40,19 @@ masked_read (w ∷ ws) = if bytes_eq w (codes "masked") then word masked_of ws e
 -- faults in their order
 abbrev pub thrown_at : ℕ → Reader (List Fault)
 thrown_at places = part (codes "thrown") (fault_of places)
+
+-- a scope, and the one inside which it stands
+abbrev pub nested_at : Reader (ScopeId × ScopeId)
+nested_at = followed scope_at (λ scope. keyed (codes "in") (followed scope_at (λ parent. done (scope, parent))))
+
+-- where a task comes from, and where it goes
+abbrev pub way_at : ℕ → Reader (PlaceId × PlaceId)
+way_at places = followed (place_at places) (λ from. followed (place_at places) (λ to. done (from, to)))
+
+-- what a release names
+abbrev pub outcome_at : ℕ → Reader (PlaceSet × ℕ × List Fault)
+outcome_at places = followed (lost_read places) (λ lost. followed masked_read
+    (λ masked. followed (thrown_at places) (λ thrown. done (lost, masked, thrown))))
 
 -- the paths of a batch in their order
 abbrev pub batch_at : Reader (List (List ℕ))

@@ -13,6 +13,7 @@ pub mod laws;
 mod moving;
 mod opening;
 mod parts;
+mod refusing;
 mod releasing;
 #[cfg(test)]
 mod tests;

@@ -7,10 +7,12 @@ ghost use Rattle.rx_ledger.specs.Inside.Doing.{request_of, books_tree, Calm, Did
 
 use crate::asks::Reply;
 use crate::books::Books;
+use crate::refusing::refused;
 use rx_base::{Batch, Path};
-use rx_finish::{FinishLedger, LedgerFault, landing_of};
+use rx_finish::{FinishLedger, landing_of};
+use rx_history::Ask;
 use rx_rules::{Act, Entry};
-use rx_ticket::{InTransit, Live, Ticket};
+use rx_ticket::{AnyTicket, InTransit, Live, Ticket};
 
 impl<L: FinishLedger> Books<L> {
     /// Makes a travelling task live. It takes no memory.
@@ -34,12 +36,7 @@ impl<L: FinishLedger> Books<L> {
                     ticket: ticket.landed(),
                 }
             }
-            Err(LedgerFault::Lost { place, at }) => {
-                ticket.lost(place, at);
-                Reply::Lost { place, at }
-            }
-            Err(LedgerFault::NoMemory) => unreachable!(),
-            Err(LedgerFault::NotYet { place: _ }) => unreachable!(),
+            Err(fault) => refused(fault, AnyTicket::Moving(ticket), Ask::Arrive, batch, None),
         }
     }
 
@@ -66,12 +63,13 @@ impl<L: FinishLedger> Books<L> {
                 });
                 Reply::Printed { ticket }
             }
-            Err(LedgerFault::Lost { place, at }) => {
-                ticket.lost(place, at);
-                Reply::Lost { place, at }
-            }
-            Err(LedgerFault::NoMemory) => unreachable!(),
-            Err(LedgerFault::NotYet { place: _ }) => unreachable!(),
+            Err(fault) => refused(
+                fault,
+                AnyTicket::Running(ticket),
+                Ask::Print { value },
+                batch,
+                Some(path),
+            ),
         }
     }
 
@@ -92,12 +90,13 @@ impl<L: FinishLedger> Books<L> {
                 });
                 Reply::Census { ticket, places }
             }
-            Err(LedgerFault::Lost { place, at }) => {
-                ticket.lost(place, at);
-                Reply::Lost { place, at }
-            }
-            Err(LedgerFault::NoMemory) => unreachable!(),
-            Err(LedgerFault::NotYet { place: _ }) => unreachable!(),
+            Err(fault) => refused(
+                fault,
+                AnyTicket::Running(ticket),
+                Ask::Census,
+                batch,
+                Some(path),
+            ),
         }
     }
 }

@@ -5,9 +5,10 @@ ghost use Rattle.rx_ticket.specs.declared.tickets.AnyTicket.TheVariants.{Running
 ghost use Rattle.rx_history.specs.declared.asks.Ask.TheVariants.{Open, At, Spawn};
 ghost use Rattle.rx_ledger.specs.Inside.Doing.{request_of, books_tree, Calm, DidRequest};
 
-use crate::asks::{Reply, Request};
+use crate::asks::Reply;
 use crate::books::{Books, Note};
 use crate::parts::ticket_for;
+use crate::refusing::refused;
 use rx_base::{Batch, Path, PlaceId};
 use rx_finish::{FinishLedger, LedgerFault, place_of};
 use rx_history::Ask;
@@ -23,14 +24,13 @@ impl<L: FinishLedger> Books<L> {
         ensures { DidRequest L.stands self.old (request_of (Running ticket) Open batch (Some path)) result self.new }
     {
         if self.scopes.reserve(1).is_err() {
-            return Reply::NoMemory {
-                request: Request {
-                    ticket: AnyTicket::Running(ticket),
-                    ask: Ask::Open,
-                    batch,
-                    path: Some(path),
-                },
-            };
+            return refused(
+                LedgerFault::NoMemory,
+                AnyTicket::Running(ticket),
+                Ask::Open,
+                batch,
+                Some(path),
+            );
         }
         let who = ticket.caller();
         match self.ledger.open_finish(who) {
@@ -53,19 +53,13 @@ impl<L: FinishLedger> Books<L> {
                     scope,
                 }
             }
-            Err(LedgerFault::Lost { place, at }) => {
-                ticket.lost(place, at);
-                Reply::Lost { place, at }
-            }
-            Err(LedgerFault::NoMemory) => Reply::NoMemory {
-                request: Request {
-                    ticket: AnyTicket::Running(ticket),
-                    ask: Ask::Open,
-                    batch,
-                    path: Some(path),
-                },
-            },
-            Err(LedgerFault::NotYet { place: _ }) => unreachable!(),
+            Err(fault) => refused(
+                fault,
+                AnyTicket::Running(ticket),
+                Ask::Open,
+                batch,
+                Some(path),
+            ),
         }
     }
 
@@ -83,14 +77,13 @@ impl<L: FinishLedger> Books<L> {
         ensures { DidRequest L.stands self.old (request_of (Running ticket) (At to) batch (Some path)) result self.new }
     {
         if self.scopes.reserve(1).is_err() {
-            return Reply::NoMemory {
-                request: Request {
-                    ticket: AnyTicket::Running(ticket),
-                    ask: Ask::At { to },
-                    batch,
-                    path: Some(path),
-                },
-            };
+            return refused(
+                LedgerFault::NoMemory,
+                AnyTicket::Running(ticket),
+                Ask::At { to },
+                batch,
+                Some(path),
+            );
         }
         let who = ticket.caller();
         let from = place_of(who.place);
@@ -117,19 +110,13 @@ impl<L: FinishLedger> Books<L> {
                     callee: ticket_for(born.lost, born.child, born.scope, from, to),
                 }
             }
-            Err(LedgerFault::Lost { place, at }) => {
-                ticket.lost(place, at);
-                Reply::Lost { place, at }
-            }
-            Err(LedgerFault::NoMemory) => Reply::NoMemory {
-                request: Request {
-                    ticket: AnyTicket::Running(ticket),
-                    ask: Ask::At { to },
-                    batch,
-                    path: Some(path),
-                },
-            },
-            Err(LedgerFault::NotYet { place: _ }) => unreachable!(),
+            Err(fault) => refused(
+                fault,
+                AnyTicket::Running(ticket),
+                Ask::At { to },
+                batch,
+                Some(path),
+            ),
         }
     }
 
@@ -166,19 +153,13 @@ impl<L: FinishLedger> Books<L> {
                     child: ticket_for(born.lost, born.child, born.scope, from, to),
                 }
             }
-            Err(LedgerFault::Lost { place, at }) => {
-                ticket.lost(place, at);
-                Reply::Lost { place, at }
-            }
-            Err(LedgerFault::NoMemory) => Reply::NoMemory {
-                request: Request {
-                    ticket: AnyTicket::Running(ticket),
-                    ask: Ask::Spawn { to },
-                    batch,
-                    path: Some(path),
-                },
-            },
-            Err(LedgerFault::NotYet { place: _ }) => unreachable!(),
+            Err(fault) => refused(
+                fault,
+                AnyTicket::Running(ticket),
+                Ask::Spawn { to },
+                batch,
+                Some(path),
+            ),
         }
     }
 }

@@ -5,9 +5,10 @@ ghost use Rattle.rx_ticket.specs.declared.tickets.AnyTicket.TheVariants.{Held, H
 ghost use Rattle.rx_history.specs.declared.asks.Ask.TheVariants.{Release, Root};
 ghost use Rattle.rx_ledger.specs.Inside.Doing.{request_of, books_tree, Calm, DidRequest};
 
-use crate::asks::{Reply, Request};
+use crate::asks::Reply;
 use crate::books::Books;
 use crate::parts::{copy_into, faults_of, parent_of};
+use crate::refusing::refused;
 use rx_base::Batch;
 use rx_finish::{FinishLedger, LedgerFault};
 use rx_history::Ask;
@@ -25,14 +26,13 @@ impl<L: FinishLedger> Books<L> {
         let who = ticket.caller();
         let Ok(room) = Vec::with_capacity(self.alloc, faults_of(&self.scopes, who.inner) as usize)
         else {
-            return Reply::NoMemory {
-                request: Request {
-                    ticket: AnyTicket::Held(ticket),
-                    ask: Ask::Release,
-                    batch,
-                    path: None,
-                },
-            };
+            return refused(
+                LedgerFault::NoMemory,
+                AnyTicket::Held(ticket),
+                Ask::Release,
+                batch,
+                None,
+            );
         };
         match self.ledger.release(who) {
             Ok(outcome) => {
@@ -52,27 +52,7 @@ impl<L: FinishLedger> Books<L> {
                     outcome,
                 }
             }
-            Err(LedgerFault::Lost { place, at }) => {
-                ticket.lost(place, at);
-                Reply::Lost { place, at }
-            }
-            Err(LedgerFault::NotYet { place }) => Reply::NotYet {
-                place,
-                request: Request {
-                    ticket: AnyTicket::Held(ticket),
-                    ask: Ask::Release,
-                    batch,
-                    path: None,
-                },
-            },
-            Err(LedgerFault::NoMemory) => Reply::NoMemory {
-                request: Request {
-                    ticket: AnyTicket::Held(ticket),
-                    ask: Ask::Release,
-                    batch,
-                    path: None,
-                },
-            },
+            Err(fault) => refused(fault, AnyTicket::Held(ticket), Ask::Release, batch, None),
         }
     }
 
@@ -96,24 +76,7 @@ impl<L: FinishLedger> Books<L> {
                 self.ended = true;
                 Reply::RootDone
             }
-            Err(LedgerFault::NotYet { place }) => Reply::NotYet {
-                place,
-                request: Request {
-                    ticket: AnyTicket::Host,
-                    ask: Ask::Root,
-                    batch,
-                    path: None,
-                },
-            },
-            Err(LedgerFault::NoMemory) => Reply::NoMemory {
-                request: Request {
-                    ticket: AnyTicket::Host,
-                    ask: Ask::Root,
-                    batch,
-                    path: None,
-                },
-            },
-            Err(LedgerFault::Lost { place: _, at: _ }) => unreachable!(),
+            Err(fault) => refused(fault, AnyTicket::Host, Ask::Root, batch, None),
         }
     }
 }

@@ -5,9 +5,10 @@ ghost use Rattle.rx_ticket.specs.declared.tickets.AnyTicket.TheVariants.{Running
 ghost use Rattle.rx_history.specs.declared.asks.Ask.TheVariants.{Wait, End};
 ghost use Rattle.rx_ledger.specs.Inside.Doing.{request_of, books_tree, Calm, DidRequest};
 
-use crate::asks::{Reply, Request};
+use crate::asks::Reply;
 use crate::books::Books;
 use crate::parts::{raised, set_faults};
+use crate::refusing::refused;
 use rx_base::{Batch, Faults};
 use rx_finish::{FinishLedger, LedgerFault};
 use rx_history::Ask;
@@ -27,14 +28,13 @@ impl<L: FinishLedger> Books<L> {
             thrown.copy(self.alloc),
             raised(&self.scopes, who.inner, thrown.len()),
         ) else {
-            return Reply::NoMemory {
-                request: Request {
-                    ticket: AnyTicket::Running(ticket),
-                    ask: Ask::Wait { thrown },
-                    batch,
-                    path: None,
-                },
-            };
+            return refused(
+                LedgerFault::NoMemory,
+                AnyTicket::Running(ticket),
+                Ask::Wait { thrown },
+                batch,
+                None,
+            );
         };
         match self.ledger.wait(who, thrown) {
             Ok(()) => {
@@ -51,19 +51,13 @@ impl<L: FinishLedger> Books<L> {
                     ticket: ticket.waits(),
                 }
             }
-            Err((LedgerFault::Lost { place, at }, _)) => {
-                ticket.lost(place, at);
-                Reply::Lost { place, at }
-            }
-            Err((LedgerFault::NoMemory, back)) => Reply::NoMemory {
-                request: Request {
-                    ticket: AnyTicket::Running(ticket),
-                    ask: Ask::Wait { thrown: back },
-                    batch,
-                    path: None,
-                },
-            },
-            Err((LedgerFault::NotYet { place: _ }, _)) => unreachable!(),
+            Err((fault, back)) => refused(
+                fault,
+                AnyTicket::Running(ticket),
+                Ask::Wait { thrown: back },
+                batch,
+                None,
+            ),
         }
     }
 
@@ -79,14 +73,13 @@ impl<L: FinishLedger> Books<L> {
             thrown.copy(self.alloc),
             raised(&self.scopes, who.scope, thrown.len()),
         ) else {
-            return Reply::NoMemory {
-                request: Request {
-                    ticket: AnyTicket::Running(ticket),
-                    ask: Ask::End { thrown },
-                    batch,
-                    path: None,
-                },
-            };
+            return refused(
+                LedgerFault::NoMemory,
+                AnyTicket::Running(ticket),
+                Ask::End { thrown },
+                batch,
+                None,
+            );
         };
         match self.ledger.end(who, thrown) {
             Ok(()) => {
@@ -99,19 +92,13 @@ impl<L: FinishLedger> Books<L> {
                 ticket.spent();
                 Reply::Ended
             }
-            Err((LedgerFault::Lost { place, at }, _)) => {
-                ticket.lost(place, at);
-                Reply::Lost { place, at }
-            }
-            Err((LedgerFault::NoMemory, back)) => Reply::NoMemory {
-                request: Request {
-                    ticket: AnyTicket::Running(ticket),
-                    ask: Ask::End { thrown: back },
-                    batch,
-                    path: None,
-                },
-            },
-            Err((LedgerFault::NotYet { place: _ }, _)) => unreachable!(),
+            Err((fault, back)) => refused(
+                fault,
+                AnyTicket::Running(ticket),
+                Ask::End { thrown: back },
+                batch,
+                None,
+            ),
         }
     }
 }

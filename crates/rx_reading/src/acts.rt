@@ -1,7 +1,7 @@
 // What an entry of a task tells of it, after the task.
 ghost use Rattle.std.specs.Prelude.{◌≡◌, ◌≤◌, codes, IfOk};
 ghost use Rattle.rx_reading.specs.Words.{answer_left};
-ghost use Rattle.rx_reading.specs.Inside.EntryWords.{open_at, at_at, spawn_at, arrive_at, wait_at, release_at, end_at, print_at};
+ghost use Rattle.rx_reading.specs.Inside.EntryWords.{open_at, at_at, spawn_at, wait_at, release_at, print_at};
 ghost use Rattle.rx_reading.specs.Inside.EntryWords.{census_at, act_at};
 
 use crate::parts::{
@@ -41,10 +41,20 @@ pub(crate) fn act(
         Kind::Open => open(alloc, words),
         Kind::At => at(alloc, words, places),
         Kind::Spawn => spawn(alloc, words, places),
-        Kind::Arrive => Ok(arrive(words, places)),
+        Kind::Arrive => {
+            let Some(place) = place_field(words, places) else {
+                return Ok(None);
+            };
+            Ok(Some(Act::Arrive { place }))
+        }
         Kind::Wait => wait(alloc, words, places),
         Kind::Release => release(alloc, words, places),
-        Kind::End => end(alloc, words, places),
+        Kind::End => {
+            let Some(thrown) = thrown_part(alloc, words, places)? else {
+                return Ok(None);
+            };
+            Ok(Some(Act::End { thrown }))
+        }
         Kind::Print => print(alloc, words),
         Kind::Census => census(alloc, words),
     }
@@ -118,13 +128,6 @@ fn spawn(alloc: Global, words: &mut Words<'_>, places: u8) -> Result<Option<Act>
     }))
 }
 
-fn arrive(words: &mut Words<'_>, places: u8) -> Option<Act>
-    ensures { answer_left result words.new ≡ arrive_at places words.old }
-{
-    let place = place_field(words, places)?;
-    Some(Act::Arrive { place })
-}
-
 fn wait(alloc: Global, words: &mut Words<'_>, places: u8) -> Result<Option<Act>, NoMemory>
     ensures { IfOk result (λ act. answer_left act words.new ≡ wait_at places words.old) }
 {
@@ -153,15 +156,6 @@ fn release(alloc: Global, words: &mut Words<'_>, places: u8) -> Result<Option<Ac
         masked,
         thrown,
     }))
-}
-
-fn end(alloc: Global, words: &mut Words<'_>, places: u8) -> Result<Option<Act>, NoMemory>
-    ensures { IfOk result (λ act. answer_left act words.new ≡ end_at places words.old) }
-{
-    let Some(thrown) = thrown_part(alloc, words, places)? else {
-        return Ok(None);
-    };
-    Ok(Some(Act::End { thrown }))
 }
 
 fn print(alloc: Global, words: &mut Words<'_>) -> Result<Option<Act>, NoMemory>

@@ -14,3 +14,4 @@ pub mod Steps
 pub mod Answering
 pub mod Bound
 pub mod Kept
+pub mod Raising

@@ -2,10 +2,11 @@
 ghost use Rattle.std.specs.Prelude.{◌≡◌, [], ◌∷◌, IfOk};
 ghost use Rattle.std.specs.List.{list_all};
 ghost use Rattle.rx_rules.specs.Terms.{catches, is_dead};
+ghost use Rattle.rx_rules.specs.Plays.{raised_by};
 ghost use Rattle.rx_control.specs.Inside.Plans.{FaultsFit};
 
 use crate::plan::Plan;
-use rx_base::{Fault, Faults, NoMemory};
+use rx_base::{Fault, Faults, NoMemory, PlaceId, PlaceSet};
 use std::alloc::Global;
 
 /// Whether a `catch` takes the faults.
@@ -68,4 +69,17 @@ pub(crate) fn one_fault(alloc: Global, fault: Fault) -> Result<Faults, NoMemory>
     let mut faults = Faults::open(alloc);
     faults.push(fault)?;
     Ok(faults)
+}
+
+/// What a release raises: one fault for each place that lost tasks, in ascending order, and then those thrown.
+pub fn faults_raised(alloc: Global, lost: PlaceSet, thrown: &Faults) -> Result<Faults, NoMemory>
+    ensures { IfOk result (λ faults. faults ≡ raised_by lost thrown.now) }
+{
+    let mut faults = Faults::open(alloc);
+    for place in 0..16u8 {
+        if lost.contains(PlaceId(place)) {
+            faults.push(Fault::Dead(PlaceId(place)))?;
+        }
+    }
+    faults.joined(alloc, thrown)
 }

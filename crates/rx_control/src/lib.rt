@@ -18,5 +18,6 @@ mod tests;
 mod variables;
 
 pub use control::Control;
+pub use faults::faults_raised;
 pub use step::{CellOp, Next, Want};
 pub use variables::Variables;

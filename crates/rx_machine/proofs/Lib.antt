@@ -23,7 +23,6 @@ pub mod Spawned
 pub mod Waited
 pub mod Ended
 pub mod Released
-pub mod Raising
 pub mod Stepping
 pub mod Whole
 pub mod Called

@@ -1,8 +1,7 @@
 // The turn that releases a scope, and the host's release of the root.
-ghost use Rattle.std.specs.Prelude.{◌≡◌, ◌<◌, ℕ, List, [], ◌∷◌, ◌++◌, OnOk, OnErr, IfOk, false};
+ghost use Rattle.std.specs.Prelude.{◌≡◌, ◌<◌, ℕ, List, [], ◌∷◌, ◌++◌, OnOk, OnErr, false};
 ghost use Rattle.rx_base.specs.declared.ids.ScopeId.{ScopeId};
 ghost use Rattle.rx_rules.specs.Terms.{Releases};
-ghost use Rattle.rx_rules.specs.Plays.{raised_by};
 ghost use Rattle.rx_rules.specs.Picked.{Turn};
 ghost use Rattle.rx_machine.specs.Refusals.{NothingTold};
 ghost use Rattle.rx_machine.specs.Holds.{Finished, LeadsTo};
@@ -12,11 +11,11 @@ ghost use Rattle.rx_machine.specs.Inside.Acts.{HasDone};
 use crate::entry::{go_on, no_memory};
 use crate::machine::Machine;
 use crate::seat::Seat;
-use rx_base::{Fault, Faults, NoMemory, PlaceId, PlaceSet, ScopeId};
+use rx_base::{NoMemory, PlaceId, ScopeId};
 use rx_check::Program;
+use rx_control::faults_raised;
 use rx_finish::FinishLedger;
 use rx_rules::{Act, Entry};
-use std::alloc::Global;
 
 impl<L: FinishLedger> Machine<L> {
     /// Ends a turn by the release of the scope at which the task waits.
@@ -73,19 +72,6 @@ impl<L: FinishLedger> Machine<L> {
             Err(fault) => Err(no_memory(fault)),
         }
     }
-}
-
-/// What a release raises: one fault for each place that lost tasks, in ascending order, and then those thrown.
-fn faults_raised(alloc: Global, lost: PlaceSet, thrown: &Faults) -> Result<Faults, NoMemory>
-    ensures { IfOk result (λ faults. faults ≡ raised_by lost thrown.now) }
-{
-    let mut faults = Faults::open(alloc);
-    for place in 0..16u8 {
-        if lost.contains(PlaceId(place)) {
-            faults.push(Fault::Dead(PlaceId(place)))?;
-        }
-    }
-    faults.joined(alloc, thrown)
 }
 
 /// Takes off the innermost of the scopes.

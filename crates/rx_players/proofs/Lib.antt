@@ -18,6 +18,5 @@ pub mod AdmitSlots
 pub mod AdmitPlayers
 pub mod AdmitAsked
 pub mod AdmitPlay
-pub mod Raising
 pub mod SomeWords
 pub mod MarksEnd

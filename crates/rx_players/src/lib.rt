@@ -1,7 +1,7 @@
 //! What the tasks of a history have still to run. A player is a task that has come somewhere in its run: it walks by local steps and
 //! by store calls that the next event of its place answers, up to a request to the ledger, its end, or a store call that no event
-//! answers. It stands on rx_control for the steps and on rx_verdict for what a walk is. The layer above compares where a player
-//! has come to with the next entry of its task.
+//! answers. It stands on rx_control for the steps and on rx_verdict for what a walk is. `Players::admit` compares where a player has
+//! come to with the next entry of its task, and lets it go on behind it; the layer above asks it of one entry after another.
 #![tactic(auto)]
 
 mod admitting;

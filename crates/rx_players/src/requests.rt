@@ -17,9 +17,9 @@ ghost use Rattle.rx_players.specs.Inside.Requests.{wanted, IsAsked, CountsMore, 
 
 use crate::compare::{same_faults, same_path};
 use crate::seat::Seat;
-use rx_base::{Batch, Fault, Faults, NoMemory, Path, PlaceId, PlaceSet};
+use rx_base::{Batch, Faults, NoMemory, Path, PlaceId, PlaceSet};
 use rx_check::Program;
-use rx_control::{Control, Want};
+use rx_control::{Control, Want, faults_raised};
 use rx_rules::Act;
 use std::alloc::Global;
 
@@ -201,17 +201,4 @@ fn resume(control: &mut Control, p: &Program, faults: Faults) -> Result<(), NoMe
         Ok(()) => Ok(()),
         Err(_) => Err(NoMemory),
     }
-}
-
-/// What a release raises: one fault for each place that lost tasks, in ascending order, and then those thrown.
-fn faults_raised(alloc: Global, lost: PlaceSet, thrown: &Faults) -> Result<Faults, NoMemory>
-    ensures { IfOk result (λ faults. faults ≡ raised_by lost thrown.now) }
-{
-    let mut faults = Faults::open(alloc);
-    for place in 0..16u8 {
-        if lost.contains(PlaceId(place)) {
-            faults.push(Fault::Dead(PlaceId(place)))?;
-        }
-    }
-    faults.joined(alloc, thrown)
 }

@@ -9,19 +9,6 @@ use Rattle.rx_base.specs.declared.values.Fault.TheVariants.{Dead}
 use Rattle.rx_base.specs.Sets.{all_places, has_bit, members}
 use Rattle.rx_base.proofs.Members.{place-at}
 
--- so many numbers in ascending order
-abbrev pub numbers_from : ℕ → ℕ → List ℕ
-numbers_from s zero = []
-numbers_from s (suc k) = s ∷ numbers_from (suc s) k
-
-number_at : (s k p : ℕ) → p < k → slice_get (numbers_from s k) p ≡ Some (s + p)
-number_at s zero p h = absurd (omega arith)
-number_at s (suc k) zero h = let e : s ≡ s + 0 = omega arith in ap (λ (v : ℕ). Some v) e
-number_at s (suc k) (suc p) h =
-    let inside : p < k = omega arith in
-    let e : suc s + p ≡ s + suc p = omega arith in
-    number_at (suc s) k p inside ∙ ap (λ (v : ℕ). Some v) e
-
 next_place : (p : ℕ) → p < 16 → drop p all_places ≡ p ∷ drop (p + 1) all_places
 next_place p h =
     let g : slice_get all_places p ≡ Some p = place-at p h in

@@ -1,9 +1,9 @@
 use Rattle.std.specs.Result.{IfOk}
 use Rattle.std.proofs.Common.{◌≡◌, ◌<◌, ◌≤◌, ◌+◌, List, ◌++◌, arith, ap, sym, ◌∙◌, subst}
 use Rattle.rx_base.specs.declared.values.Fault.{Fault}
-use Rattle.rx_players.proofs.Raising.{raised_from, raised_all, raises-one, raises-none, raises-all}
-use Rattle.rx_players.proofs.requests.faults_raised.Goals.{then-contains+in_ok-push, else-contains}
-use Rattle.rx_players.proofs.requests.faults_raised.Goals as goal
+use Rattle.rx_control.proofs.Raising.{raised_from, raised_all, raises-one, raises-none, raises-all}
+use Rattle.rx_control.proofs.faults.faults_raised.Goals.{then-contains+in_ok-push, else-contains}
+use Rattle.rx_control.proofs.faults.faults_raised.Goals as goal
 
 pub loop-place-init : goal.loop-place-init
 loop-place-init c = ap (λ fs. fs ++ raised_all c.args.lost) c.open-faults.ensures

@@ -1,6 +1,0 @@
-use Rattle.std.proofs.Common.{◌≡◌, ◌++◌}
-use Rattle.rx_players.proofs.Raising.{raised_from, raised_all}
-use Rattle.rx_players.proofs.requests.faults_raised.Given as goal
-
-abbrev pub invariant-loop-place : goal.invariant-loop-place
-invariant-loop-place l = l.faults ++ raised_from l.lost l.place ≡ raised_all l.fn.lost

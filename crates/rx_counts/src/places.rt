@@ -69,7 +69,7 @@ pub fn cells_of(places: u8) -> usize
     (n + 1) * n
 }
 
-/// The row of a place or of a pair: row 0 is that of the places, and the others are those of the ways from each place.
+/// The row of a place or of a pair: the first row is that of the places, and the others are those of the ways from each place.
 fn row_of(place: Where) -> usize
     ensures { result ≡ row place }
 {

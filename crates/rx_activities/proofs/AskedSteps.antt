@@ -1,0 +1,60 @@
+-- What a step asks for, what a started task's statement is, and what the control is after the request was made.
+use Rattle.std.specs.Prelude.{◌≡◌, ℕ, List, Option, Some, refl}
+use Rattle.std.proofs.Common.{ap, sym, ◌∙◌}
+use Rattle.rx_base.specs.declared.ids.PlaceId.{PlaceId}
+use Rattle.rx_base.specs.declared.values.Fault.{Fault}
+use Rattle.rx_rules.specs.Terms.{Term, Empty, Vars, Does, Local, Makes, Gets, Puts, Forgets, Opens, Calls, Spawns, Waits, Releases, Prints, Counts, Done, does, begins, granted, replaced}
+use Rattle.rx_nodes.specs.Shape.{Shape}
+use Rattle.rx_control.specs.declared.control.Control.{Control}
+use Rattle.rx_control.specs.declared.step.Next.{Next}
+use Rattle.rx_control.specs.declared.step.Next.TheVariants.{Book as BookStep, Done as EndStep}
+use Rattle.rx_control.specs.declared.step.Want.TheVariants.{Wait as WantWait}
+use Rattle.rx_control.specs.Next.{next_of, carried}
+use Rattle.rx_control.specs.Stands.{StandsFor}
+use Rattle.rx_machine.proofs.Beginning.{Begins, begins-so}
+use Rattle.rx_machine.proofs.Requested.{asks_wait}
+use Rattle.rx_activities.specs.Inside.Sending.{target, IsReady}
+
+path_of : (d : Does) (o : Option (List ℕ)) (to : PlaceId) → Begins d o → target (next_of d) ≡ Some to → (x : List ℕ) × (o ≡ Some x)
+path_of (Local left vars) o to b h = absurd (let g : ⊥ = cc h in g)
+path_of (Makes name words) o to b h = absurd (let g : ⊥ = cc h in g)
+path_of (Gets name target index) o to b h = absurd (let g : ⊥ = cc h in g)
+path_of (Puts target index value) o to b h = absurd (let g : ⊥ = cc h in g)
+path_of (Forgets target) o to b h = absurd (let g : ⊥ = cc h in g)
+path_of Opens o to b h = absurd (let g : ⊥ = cc h in g)
+path_of (Calls place) o to b h = b
+path_of (Spawns place) o to b h = b
+path_of (Waits faults) o to b h = absurd (let g : ⊥ = cc h in g)
+path_of Releases o to b h = absurd (let g : ⊥ = cc h in g)
+path_of (Prints value) o to b h = absurd (let g : ⊥ = cc h in g)
+path_of (Counts name) o to b h = absurd (let g : ⊥ = cc h in g)
+path_of (Done faults) o to b h = absurd (let g : ⊥ = cc h in g)
+
+-- a step that starts a task begins a statement
+pub started_path : (next : Next) (to : PlaceId) (vars : Vars) (here : ℕ) (t : Term) → next ≡ next_of (does vars here t) → target next ≡ Some to → (x : List ℕ) × (begins t ≡ Some x)
+started_path next to vars here t is h = path_of (does vars here t) (begins t) to (begins-so vars here t) (ap target (sym is) ∙ h)
+
+-- The control.
+
+pub ready_kept : (s : Shape) (n : Next) (c : Control) → (n ≡ BookStep WantWait → ⊥) → IsReady s n c c
+ready_kept s n c other = record { vars = refl; waits = λ e t here stands is. absurd (other e); same = λ a b. refl }
+
+pub ready_waits : (s : Shape) (n : Next) (old new : Control) → n ≡ BookStep WantWait → new.vars ≡ old.vars
+    → ((t : Term) (here : PlaceId) (faults : List Fault) → StandsFor s old t → carried (does old.vars here.0 t) ≡ Some faults → StandsFor s new (replaced t Empty))
+    → ((t : Term) (here : PlaceId) (faults list : List Fault) → does old.vars here.0 t ≡ Waits faults → granted list (replaced t Empty) ≡ granted list t) → IsReady s n old new
+ready_waits s n old new waits vars after wait =
+    record {
+      vars = vars;
+      waits = λ e t here stands is.
+          let d = asks_wait (does old.vars here.0 t) (sym is ∙ e) in
+          (after t here d.0 stands (ap carried d.1), λ list. wait t here d.0 list d.1);
+      same = λ a b. absurd (a waits);
+    }
+
+pub ready_ends : (s : Shape) (n : Next) (old new : Control) → n ≡ EndStep → new.vars ≡ old.vars → IsReady s n old new
+ready_ends s n old new ends vars =
+    record {
+      vars = vars;
+      waits = λ e t here stands is. absurd (let f : EndStep ≡ BookStep WantWait = sym ends ∙ e in let g : ⊥ = cc f in g);
+      same = λ a b. absurd (b ends);
+    }

@@ -1,0 +1,4 @@
+pub mod Stepping
+pub mod Answered
+pub mod Sending
+pub mod Births

@@ -1,0 +1,4 @@
+pub mod Knowing
+pub mod Starting
+pub mod Turning
+pub mod Inside

@@ -1,0 +1,77 @@
+-- What is known of a task that was started, and of one that is on its way.
+use Rattle.std.specs.Prelude.{◌≡◌, ◌+◌, ◌<◌, ◌≤◌, ◌^◌, [], length, Option, Some, None, slice_get}
+use Rattle.rx_rules.specs.Code.{Block}
+use Rattle.rx_rules.specs.Run.{Proper}
+use Rattle.rx_rules.specs.Terms.{Empty, items, no_vars}
+use Rattle.rx_runs.specs.SomeWords.{TermMakesSome}
+use Rattle.rx_finish.specs.declared.ledger.Caller.{Caller}
+use Rattle.rx_finish.specs.Callers.{MayAskArrive}
+use Rattle.rx_finish.specs.Calls.{landing}
+use Rattle.rx_nodes.specs.Shape.{Stands}
+use Rattle.rx_history.specs.Setups.{given}
+use Rattle.rx_control.specs.declared.control.Control.{Control}
+use Rattle.rx_control.specs.Stands.{StandsFor}
+use Rattle.rx_book.specs.Named.{BookName}
+use Rattle.rx_book.specs.declared.passes.Pass.{Pass}
+use Rattle.rx_book.specs.Passes.{view_of, word_of}
+use Rattle.rx_ledger.specs.Answering.{main_caller}
+use Rattle.rx_ledger.specs.Owned.{own_told}
+use Rattle.rx_machine.specs.Held.{Unheld}
+use Rattle.rx_machine.specs.Spine.{NoScopeOpen}
+use Rattle.rx_parts.specs.Ledger.{Actor, Away, LegalLedger}
+use Rattle.rx_parts_book.specs.declared.items.EntryItem.{EntryItem}
+use Rattle.rx_parts_book.specs.declared.items.EventItem.{EventItem}
+use Rattle.rx_parts_book.specs.Histories.{ledger_items}
+use Rattle.rx_objects.specs.declared.ledger.LedgerFixed.{LedgerFixed}
+use Rattle.rx_activities.specs.declared.hand.Journey.{Journey}
+use Rattle.rx_activities.specs.declared.hand.Started.{Started}
+use Rattle.rx_activities.specs.declared.hand.Started.TheVariants.{Here, Away as Leaves}
+use Rattle.rx_activities.specs.Knowing.{entries_seen, tree_seen, IsOfRun, Knows}
+
+-- by what was seen of the ledger the task is on its way to this place, and stands at its beginning
+pub record ComesSo (code : Block) (L : BookName LedgerFixed) (j : Journey) : Type 0 where
+  pub legal : LegalLedger code (given L.fixed.setup) (ledger_items (view_of j.pass).seen)
+  pub actor : Actor
+  pub stands : slice_get legal.actors j.ticket.task.0 ≡ Some actor
+  pub holder : actor.holder ≡ (view_of j.pass).number
+  pub away : actor.phase ≡ Away
+  pub place : actor.birth.to ≡ landing j.ticket.place
+  pub no_batch : actor.stand.batch ≡ []
+  pub unnamed : actor.named ≡ []
+  pub term : StandsFor L.fixed.program.script j.control actor.stand.term
+  pub vars : j.control.vars ≡ actor.stand.vars
+  pub some : TermMakesSome actor.stand.term
+  pub known : actor.stand.vars.places ≤ (tree_seen L.fixed j.pass).places
+  pub unheld : Unheld actor.stand.term
+  pub no_scope : NoScopeOpen actor.stand.term
+  pub bare : own_told (entries_seen j.pass) j.ticket.task ≡ []
+  pub serves : length (entries_seen j.pass) + 1 < 2 ^ 31 → MayAskArrive (tree_seen L.fixed j.pass) j.ticket
+
+-- what is known of a task on its way, whatever statements the script stands for
+pub record Comes (L : BookName LedgerFixed) (j : Journey) : Type 0 where
+  pub pass : IsOfRun L j.pass
+  pub inside : (landing j.ticket.place).0 < (tree_seen L.fixed j.pass).places
+  pub stands : (code : Block) → Stands L.fixed.program.script code → ComesSo code L j
+
+-- what is known of a task that was started at its starter's place, or that leaves it
+abbrev pub Begins : BookName LedgerFixed → Started → Type 0
+Begins L (Here hand) = Knows L hand
+Begins L (Leaves journey) = Comes L journey
+
+abbrev pub BeginsIf : BookName LedgerFixed → Option Started → Type 0
+BeginsIf L None = Unit {0}
+BeginsIf L (Some s) = Begins L s
+
+-- the control, the ticket and the passes of the main activity before the first entry
+pub record IsOpening (L : BookName LedgerFixed) (control : Control) (ticket : Caller) (pass : Pass EntryItem) (seat : Pass EventItem)
+    : Type 0 where
+  pub proper : Proper (given L.fixed.setup)
+  pub main : ticket ≡ main_caller
+  pub word : word_of pass ≡ L.word
+  pub number : (view_of pass).number ≡ []
+  pub unseen : (view_of pass).seen ≡ []
+  pub at : slice_get L.fixed.places 0 ≡ Some (word_of seat)
+  pub seat_number : (view_of seat).number ≡ []
+  pub seat_unseen : (view_of seat).seen ≡ []
+  pub stands : (code : Block) → Stands L.fixed.program.script code → StandsFor L.fixed.program.script control (items code [] Empty)
+      × (control.vars ≡ no_vars L.fixed.setup.places)

@@ -1,0 +1,33 @@
+-- What is known after a turn.
+use Rattle.std.specs.Prelude.{◌≡◌}
+use Rattle.rx_check.specs.Checked.{Checked}
+use Rattle.rx_book.specs.Named.{BookName}
+use Rattle.rx_objects.specs.declared.ledger.LedgerFixed.{LedgerFixed}
+use Rattle.rx_activities.specs.declared.hand.Hand.{Hand}
+use Rattle.rx_activities.specs.declared.hand.Outcome.{Outcome}
+use Rattle.rx_activities.specs.declared.hand.Outcome.TheVariants.{Goes, Waits, Over, Failed}
+use Rattle.rx_activities.specs.declared.landing.Landing.{Landing}
+use Rattle.rx_activities.specs.declared.landing.Landing.TheVariants.{Landed, Lost, Failed as NoMemory}
+use Rattle.rx_activities.specs.Knowing.{IsOfRun, Knows}
+use Rattle.rx_activities.specs.Starting.{BeginsIf}
+
+-- the activity belongs to a run of this program
+abbrev pub IsKnown : Checked → Hand → Type 0
+IsKnown p a = (L : BookName LedgerFixed) × (L.fixed.program ≡ p) × Knows L a
+
+-- in each run of this program in which it was known what the activity held, it is known what it holds now
+abbrev pub StaysKnown : Checked → Hand → Hand → Type 0
+StaysKnown p a b = (L : BookName LedgerFixed) → L.fixed.program ≡ p → Knows L a → Knows L b
+
+-- an activity that goes on, or waits, knows what it has to; the pass of one that is over is of the run
+abbrev pub Leaves : BookName LedgerFixed → Outcome → Type 0
+Leaves L (Goes hand started) = Knows L hand × BeginsIf L started
+Leaves L (Waits hand) = Knows L hand
+Leaves L (Over pass) = IsOfRun L pass
+Leaves L (Failed pass) = IsOfRun L pass
+
+-- the same of an arrival
+abbrev pub Arrives : BookName LedgerFixed → Landing → Type 0
+Arrives L (Landed hand) = Knows L hand
+Arrives L (Lost pass) = IsOfRun L pass
+Arrives L (NoMemory pass) = IsOfRun L pass

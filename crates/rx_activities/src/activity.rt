@@ -1,0 +1,277 @@
+// Activities, as queues and mailboxes hold them: what is known of one is known by its type.
+ghost use Rattle.std.specs.Prelude.{◌≡◌, [], ◌<◌, ◌≤◌};
+ghost use Rattle.rx_rules.specs.Code.{Block};
+ghost use Rattle.rx_rules.specs.Terms.{Empty, items, no_vars};
+ghost use Rattle.rx_finish.specs.Calls.{landing};
+ghost use Rattle.rx_nodes.specs.Shape.{Stands};
+ghost use Rattle.rx_control.specs.Stands.{StandsFor};
+ghost use Rattle.rx_book.specs.Calls.{IsFresh};
+ghost use Rattle.rx_book.specs.Passes.{view_of, word_of};
+ghost use Rattle.rx_ledger.specs.Answering.{main_caller};
+ghost use Rattle.rx_activities.specs.Knowing.{PlaceIs, IsNewSeat, IsOfRun, Knows};
+ghost use Rattle.rx_activities.specs.Starting.{IsOpening, Begins};
+ghost use Rattle.rx_activities.specs.Turning.{Leaves};
+
+use crate::hand::{Hand, Journey, Outcome, Started};
+use crate::landing::Landing;
+use crate::naming::{LedgerPass, Naming};
+use rx_base::{Batch, Gate, PlaceId};
+use rx_book::{Book, Pass};
+use rx_check::{Program, checked};
+use rx_control::{Control, Next};
+use rx_objects::{LedgerObject, PlaceObject};
+use rx_parts_book::{EntryItem, EventItem};
+use rx_ticket::{AnyTicket, InTransit, Live, Ticket};
+use std::alloc::Global;
+use std::marker::{Model, PhantomData};
+use std::snapshot::Snapshot;
+use std::sync::Wait;
+
+/// An activity that is live. Contracts see its place. It may be moved to another thread. It has to be brought to its end, or given
+/// up.
+pub struct Activity<N: Naming> {
+    hand: Hand,
+    // The number of entries of which it knew before it asked for a release that was not yet allowed.
+    polled: Option<u32>,
+    of: PhantomData<N>,
+}
+
+impl<N: Naming> Model for Activity<N> {
+    ghost use Rattle.rx_base.specs.declared.ids.PlaceId.{PlaceId};
+    ghost use Rattle.rx_activities.specs.Knowing.{Knows};
+
+    ghost Value = { PlaceId };
+
+    ghost view = { λ a. a.hand.place };
+
+    ghost invariant = { λ a. Knows N.ledger a.hand };
+}
+
+/// An activity on its way. Contracts see the place for which it is. It may be moved to another thread, and may be dropped.
+#[derive(Drop)]
+pub struct Traveller<N: Naming> {
+    journey: Journey,
+    of: PhantomData<N>,
+}
+
+impl<N: Naming> Model for Traveller<N> {
+    ghost use Rattle.rx_base.specs.declared.ids.PlaceId.{PlaceId};
+    ghost use Rattle.rx_finish.specs.Calls.{landing};
+    ghost use Rattle.rx_activities.specs.Starting.{Comes};
+
+    ghost Value = { PlaceId };
+
+    ghost view = { λ t. landing t.journey.ticket.place };
+
+    ghost invariant = { λ t. Comes N.ledger t.journey };
+}
+
+/// An activity that was started.
+pub enum Began<N: Naming> {
+    /// At its starter's place.
+    Here(Activity<N>),
+    /// For another place.
+    Away(Traveller<N>),
+}
+
+/// What a turn leaves.
+pub enum Turn<N: Naming> {
+    /// The activity goes on, and may have started another.
+    Goes {
+        activity: Activity<N>,
+        began: Option<Began<N>>,
+    },
+    /// Its scope may not be released as long as the history has no more entries.
+    Waits(Activity<N>),
+    /// It has ended, or its place has died.
+    Over(LedgerPass<N>),
+    /// There was no memory. The activity is given up.
+    Failed(LedgerPass<N>),
+}
+
+/// What the arrival of an activity leaves.
+pub enum Arrival<N: Naming> {
+    /// It is at its place.
+    Landed(Activity<N>),
+    /// Its place has died.
+    Lost(LedgerPass<N>),
+    /// There was no memory. The activity is given up.
+    Failed(LedgerPass<N>),
+}
+
+impl<N: Naming> Activity<N> {
+    /// The main activity of a run, at place 0, by the first passes of the ledger's book and of the book of place 0.
+    pub fn main(
+        alloc: Global,
+        p: &Program,
+        control: Control,
+        ticket: Ticket<Live>,
+        pass: Pass<EntryItem>,
+        seat: Pass<EventItem>,
+    ) -> Activity<N>
+        requires program { N.ledger.fixed.program ≡ p.now }
+        requires opening { IsOpening N.ledger control ticket pass seat }
+        ensures { result ≡ record { 0 = 0 } }
+    {
+        checked(p);
+        rx_objects::objects_open();
+        let told = Snapshot::of(&seat);
+        Activity {
+            hand: Hand {
+                control,
+                batch: Batch::open(alloc),
+                ticket: AnyTicket::Running(ticket),
+                place: PlaceId(0),
+                made: false,
+                pass,
+                seat,
+                told,
+            },
+            polled: None,
+            of: PhantomData,
+        }
+    }
+
+    /// Its place.
+    pub fn place(&self) -> PlaceId
+        ensures { result ≡ self.now }
+    {
+        self.hand.place
+    }
+
+    /// Gives the activity up, and keeps what it has seen of the ledger. Its ticket is spent.
+    pub fn give_up(self) -> LedgerPass<N> {
+        let Activity {
+            hand,
+            polled: _,
+            of: _,
+        } = self;
+        LedgerPass::of(hand.give_up())
+    }
+
+    /// Makes the local steps up to the next call of a book, and that call: at most one of the ledger's and one of the place's. An
+    /// activity that waits asks the ledger again only where the history may have grown. It owes no return.
+    pub fn turn<G: Gate + Sync, R: Wait>(
+        self,
+        rt: &R,
+        alloc: Global,
+        p: &Program,
+        ledger: &Book<LedgerObject>,
+        place_book: &Book<PlaceObject<'_, G>>,
+    ) -> Turn<N>
+        requires ledger { ledger.now ≡ N.ledger }
+        requires program { ledger.now.fixed.program ≡ p.now }
+        requires place { PlaceIs N.ledger self place_book.now }
+    {
+        let Activity {
+            mut hand,
+            polled,
+            of,
+        } = self;
+        let seen = hand.look(ledger);
+        if polled == Some(seen) {
+            return Turn::Waits(Activity { hand, polled, of });
+        }
+        let next = match hand.run_on(rt, alloc, p) {
+            Ok(next) => next,
+            Err(_) => {
+                return Turn::Failed(LedgerPass::of(hand.give_up()));
+            }
+        };
+        let outcome = match next {
+            Next::Cell(op) => hand.call_store(rt, alloc, p, ledger, place_book, op),
+            other => hand.call_ledger(rt, alloc, p, ledger, place_book, other),
+        };
+        turn_of(outcome, seen)
+    }
+}
+
+impl Hand {
+    // The number of entries of a beginning of the history, which its pass has seen afterwards.
+    fn look(&mut self, ledger: &Book<LedgerObject>) -> u32
+        requires { Knows ledger.now self.old }
+        ensures known { Knows ledger.now self.new }
+        ensures place { self.new.place ≡ self.old.place }
+    {
+        ledger.seen_len(&mut self.pass)
+    }
+}
+
+// The activity of a hand.
+fn activity_of<N: Naming>(hand: Hand, polled: Option<u32>) -> Activity<N>
+    requires { Knows N.ledger hand }
+    ensures { result ≡ hand.place }
+{
+    Activity {
+        hand,
+        polled,
+        of: PhantomData,
+    }
+}
+
+// What began, as it may be kept.
+fn began_of<N: Naming>(started: Started) -> Began<N>
+    requires { Begins N.ledger started }
+{
+    match started {
+        Started::Here(hand) => Began::Here(activity_of(hand, None)),
+        Started::Away(journey) => Began::Away(Traveller {
+            journey,
+            of: PhantomData,
+        }),
+    }
+}
+
+// What a turn leaves, as it may be kept. One that waits asks again once the history has more entries than these, of which it knew
+// before its request: what others append after the answer is then not missed.
+fn turn_of<N: Naming>(outcome: Outcome, seen: u32) -> Turn<N>
+    requires { Leaves N.ledger outcome }
+{
+    match outcome {
+        Outcome::Goes { hand, started } => Turn::Goes {
+            activity: activity_of(hand, None),
+            began: match started {
+                Some(started) => Some(began_of(started)),
+                None => None,
+            },
+        },
+        Outcome::Waits { hand } => Turn::Waits(activity_of(hand, Some(seen))),
+        Outcome::Over { pass } => Turn::Over(LedgerPass::of(pass)),
+        Outcome::Failed { pass } => Turn::Failed(LedgerPass::of(pass)),
+    }
+}
+
+impl<N: Naming> Traveller<N> {
+    /// The place for which it is on its way.
+    pub fn target(&self) -> PlaceId
+        ensures { result ≡ self.now }
+    {
+        self.journey.target()
+    }
+
+    /// Its ticket.
+    pub fn ticket(&self) -> &Ticket<InTransit> {
+        &self.journey.ticket
+    }
+
+    /// Makes it arrive, with a new pass of its place's book.
+    pub fn land<R: Wait>(
+        self,
+        rt: &R,
+        alloc: Global,
+        p: &Program,
+        ledger: &Book<LedgerObject>,
+        seat: Pass<EventItem>,
+    ) -> Arrival<N>
+        requires ledger { ledger.now ≡ N.ledger }
+        requires program { ledger.now.fixed.program ≡ p.now }
+        requires seat { IsNewSeat N.ledger self seat }
+    {
+        let Traveller { journey, of: _ } = self;
+        match journey.land(rt, alloc, p, ledger, seat) {
+            Landing::Landed { hand } => Arrival::Landed(activity_of(hand, None)),
+            Landing::Lost { pass } => Arrival::Lost(LedgerPass::of(pass)),
+            Landing::Failed { pass } => Arrival::Failed(LedgerPass::of(pass)),
+        }
+    }
+}

@@ -1,0 +1,234 @@
+// A request to the ledger for an activity.
+ghost use Rattle.std.specs.Prelude.{◌≡◌, ◌≢◌, None, IfOk, IfSome, MatchBool};
+ghost use Rattle.rx_rules.specs.Code.{Block};
+ghost use Rattle.rx_rules.specs.Terms.{Term, does};
+ghost use Rattle.rx_nodes.specs.Shape.{Shape, Stands};
+ghost use Rattle.rx_control.specs.Stands.{StandsFor};
+ghost use Rattle.rx_control.specs.Next.{next_of};
+ghost use Rattle.rx_book.specs.Passes.{view_of, word_of};
+ghost use Rattle.rx_objects.specs.Laws.{AsksLedger};
+ghost use Rattle.rx_activities.specs.Knowing.{Knows, PlaceIs};
+ghost use Rattle.rx_activities.specs.Turning.{Leaves};
+ghost use Rattle.rx_activities.specs.Inside.Stepping.{IsNext};
+ghost use Rattle.rx_activities.specs.Inside.Sending.{IsCall, SuitsStep, IsReady, target, ChildIs, PassIsLeft, SeatIsLeft, NoteIs, MentionsAre, IsReplied};
+
+use crate::hand::{Hand, Outcome, spend};
+use crate::replies::{Child, Rest};
+use rx_base::{Gate, NoMemory, PlaceId};
+use rx_book::{Book, Note, Pass};
+use rx_check::{Program, checked};
+use rx_control::{Control, Next, Want};
+use rx_history::Ask;
+use rx_ledger::{Reply, Request};
+use rx_objects::{LedgerObject, LedgerOp, LedgerReply, Mentions, PlaceObject, ledger_op_fits};
+use rx_parts_book::{EntryItem, EventItem};
+use std::alloc::Global;
+use std::snapshot::Snapshot;
+use std::sync::Wait;
+
+// What the control asks the ledger for. The control of a wait or an end gives its faults away.
+fn ask_of(alloc: Global, control: &mut Control, next: Next) -> Ask
+    requires { IsCall next }
+    ensures suits { (s : Shape) (t : Term) (here : PlaceId) → StandsFor s control.old t
+        → next ≡ next_of (does control.old.vars here.0 t) → SuitsStep (does control.old.vars here.0 t) result }
+    ensures ready { (s : Shape) → IsReady s next control.old control.new }
+{
+    match next {
+        Next::Book(Want::Open) => Ask::Open,
+        Next::Book(Want::At { to }) => Ask::At { to },
+        Next::Book(Want::Spawn { to }) => Ask::Spawn { to },
+        Next::Book(Want::Wait) => Ask::Wait {
+            thrown: control.take_faults(alloc),
+        },
+        Next::Book(Want::Release) => Ask::Release,
+        Next::Book(Want::Print { value }) => Ask::Print { value },
+        Next::Book(Want::Census) => Ask::Census,
+        Next::Done => Ask::End {
+            thrown: control.take_faults(alloc),
+        },
+        Next::Local => unreachable!(),
+        Next::Cell(_) => unreachable!(),
+    }
+}
+
+// The place for which the step starts a task.
+fn target_of(next: Next) -> Option<PlaceId>
+    ensures { result ≡ target next }
+{
+    match next {
+        Next::Book(Want::At { to }) => Some(to),
+        Next::Book(Want::Spawn { to }) => Some(to),
+        _ => None,
+    }
+}
+
+// What a task holds that is to be started, where the step starts one: a pass of the ledger's book, and one of the place's book
+// where it begins there.
+fn child_of<G: Gate + Sync>(
+    alloc: Global,
+    p: &Program,
+    ledger: &Book<LedgerObject>,
+    place_book: &Book<PlaceObject<'_, G>>,
+    control: &Control,
+    here: PlaceId,
+    next: Next,
+    pass: &mut Pass<EntryItem>,
+    seat: &mut Pass<EventItem>,
+) -> Result<Option<Child>, NoMemory>
+    requires stands { (t : Term) × StandsFor p.now.script control.now t }
+    requires next { (t : Term) → StandsFor p.now.script control.now t → next ≡ next_of (does control.now.vars here.0 t) }
+    requires pass { word_of pass.old ≡ ledger.now.word }
+    requires seat { word_of seat.old ≡ place_book.now.word }
+    ensures pass { PassIsLeft pass.old pass.new }
+    ensures seat { SeatIsLeft seat.old seat.new }
+    ensures child { IfOk result (ChildIs p.now.script control.now here next pass.old seat.old) }
+{
+    let Some(to) = target_of(next) else {
+        return Ok(None);
+    };
+    let control = control.child(alloc, p)?;
+    let child_pass = ledger.split(pass)?;
+    let child_seat = if to == here {
+        Some(place_book.split(seat)?)
+    } else {
+        None
+    };
+    Ok(Some(Child {
+        control,
+        pass: child_pass,
+        seat: child_seat,
+    }))
+}
+
+// A note of the place's book, where events were made.
+fn note_for<G: Gate + Sync>(
+    place_book: &Book<PlaceObject<'_, G>>,
+    seat: &mut Pass<EventItem>,
+    made: bool,
+) -> Option<Note<EventItem>>
+    requires { word_of seat.old ≡ place_book.now.word }
+    ensures same { (word_of seat.new ≡ word_of seat.old) × (view_of seat.new ≡ view_of seat.old) }
+    ensures note { MatchBool made (IfSome result (NoteIs seat.old) × (result ≢ None)) (result ≡ None) }
+{
+    if !made {
+        return None;
+    }
+    match place_book.note(seat) {
+        Ok(note) => Some(note),
+        Err(_) => unreachable!(),
+    }
+}
+
+// What the request mentions.
+fn mentions_of(
+    told: Snapshot<Pass<EventItem>>,
+    pass: &Pass<EntryItem>,
+    seat: &Pass<EventItem>,
+    child: &Option<Child>,
+) -> Mentions
+    ensures { MentionsAre told.value seat.now child.now result }
+{
+    let now = Snapshot::of(seat);
+    let (child, seat) = match child {
+        Some(child) => {
+            let own = match &child.seat {
+                Some(seat) => Snapshot::of(seat),
+                None => Snapshot::of(seat),
+            };
+            (Snapshot::of(&child.pass), own)
+        }
+        None => (Snapshot::of(pass), Snapshot::of(seat)),
+    };
+    Mentions {
+        before: told,
+        now,
+        child,
+        seat,
+    }
+}
+
+/// Asks the ledger, and gives its answer.
+pub(crate) fn ask<R: Wait>(
+    rt: &R,
+    p: &Program,
+    ledger: &Book<LedgerObject>,
+    pass: &mut Pass<EntryItem>,
+    op: LedgerOp,
+) -> Reply
+    requires program { ledger.now.fixed.program ≡ p.now }
+    requires own { word_of pass.old ≡ ledger.now.word }
+    requires asks { (code : Block) → Stands p.now.script code → AsksLedger code ledger.now.fixed (view_of pass.old) op }
+    ensures own { word_of pass.new ≡ word_of pass.old }
+    ensures replied { IsReplied ledger.now.fixed (view_of pass.old) op result (view_of pass.new) }
+{
+    checked(p);
+    ledger_op_fits();
+    let answer = ledger.call(rt, pass, op);
+    let LedgerReply { reply, notes: _ } = answer;
+    reply
+}
+
+impl Hand {
+    /// Asks the ledger for what is next, and goes on by its answer.
+    pub(crate) fn call_ledger<G: Gate + Sync, R: Wait>(
+        self,
+        rt: &R,
+        alloc: Global,
+        p: &Program,
+        ledger: &Book<LedgerObject>,
+        place_book: &Book<PlaceObject<'_, G>>,
+        next: Next,
+    ) -> Outcome
+        requires program { ledger.now.fixed.program ≡ p.now }
+        requires place { PlaceIs ledger.now self.place place_book.now }
+        requires known { Knows ledger.now self }
+        requires next { IsNext p.now self next }
+        requires calls { IsCall next }
+        ensures { Leaves ledger.now result }
+    {
+        checked(p);
+        let Hand {
+            mut control,
+            batch,
+            ticket,
+            place,
+            made,
+            mut pass,
+            mut seat,
+            told,
+        } = self;
+        let Ok(path) = control.path(alloc, p) else {
+            spend(ticket);
+            return Outcome::Failed { pass };
+        };
+        let prepared = child_of(
+            alloc, p, ledger, place_book, &control, place, next, &mut pass, &mut seat,
+        );
+        let Ok(child) = prepared else {
+            spend(ticket);
+            return Outcome::Failed { pass };
+        };
+        let note = note_for(place_book, &mut seat, made);
+        let mentions = mentions_of(told, &pass, &seat, &child);
+        let ask_for = ask_of(alloc, &mut control, next);
+        let request = Request {
+            ticket,
+            ask: ask_for,
+            batch,
+            path,
+        };
+        let op = LedgerOp {
+            request,
+            note,
+            mentions,
+        };
+        let reply = ask(rt, p, ledger, &mut pass, op);
+        let rest = Rest {
+            control,
+            place,
+            pass,
+            seat,
+        };
+        rest.take(alloc, p, ledger, reply, child)
+    }
+}

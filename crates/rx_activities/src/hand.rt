@@ -1,0 +1,94 @@
+// What an activity holds, and what a turn leaves.
+ghost use Rattle.std.specs.Prelude.{◌≡◌};
+
+use rx_base::{Batch, PlaceId};
+use rx_book::Pass;
+use rx_control::Control;
+use rx_parts_book::{EntryItem, EventItem};
+use rx_ticket::{AnyTicket, InTransit, Ticket};
+use std::snapshot::Snapshot;
+
+/// What an activity at a place holds.
+pub struct Hand {
+    pub control: Control,
+    /// The statements that were begun since its entry before.
+    pub batch: Batch,
+    pub ticket: AnyTicket,
+    pub place: PlaceId,
+    /// Whether it may have made events since its entry before. Where it is false there are none.
+    pub made: bool,
+    /// Its pass of the ledger's book.
+    pub pass: Pass<EntryItem>,
+    /// Its pass of its place's book.
+    pub seat: Pass<EventItem>,
+    /// That pass when its entry before was made. It has no bytes.
+    pub told: Snapshot<Pass<EventItem>>,
+}
+
+/// What an activity holds that is on its way.
+#[derive(Drop)]
+pub struct Journey {
+    pub control: Control,
+    pub ticket: Ticket<InTransit>,
+    pub pass: Pass<EntryItem>,
+}
+
+/// A task that was started, at its starter's place or for another.
+pub enum Started {
+    Here(Hand),
+    Away(Journey),
+}
+
+/// What a turn leaves.
+pub enum Outcome {
+    /// The activity goes on, and may have started another.
+    Goes {
+        hand: Hand,
+        started: Option<Started>,
+    },
+    /// Its scope may not be released yet.
+    Waits {
+        hand: Hand,
+    },
+    /// It has ended, or was lost with its place.
+    Over {
+        pass: Pass<EntryItem>,
+    },
+    /// There was no memory. Its ticket is spent.
+    Failed {
+        pass: Pass<EntryItem>,
+    },
+}
+
+/// Spends a ticket of which nothing more is asked.
+pub(crate) fn spend(ticket: AnyTicket) {
+    match ticket {
+        AnyTicket::Moving(_) => {}
+        AnyTicket::Running(ticket) => ticket.spent(),
+        AnyTicket::Held(ticket) => {
+            let inner = ticket.caller().inner;
+            ticket.resumed(inner).spent();
+        }
+        AnyTicket::Host => {}
+    }
+}
+
+impl Hand {
+    /// Gives the activity up for want of memory, or since its place has died, and keeps what it has seen of the ledger.
+    pub(crate) fn give_up(self) -> Pass<EntryItem>
+        ensures { result ≡ self.pass }
+    {
+        let Hand {
+            control: _,
+            batch: _,
+            ticket,
+            place: _,
+            made: _,
+            pass,
+            seat: _,
+            told: _,
+        } = self;
+        spend(ticket);
+        pass
+    }
+}

@@ -1,1 +1,11 @@
-mod Rounding
+mod Stationing
+mod Finishing
+mod Opened
+mod Whole
+mod Noted
+mod Heard
+mod Closed
+mod LedgerClosed
+mod Shut
+mod Released
+mod Crosses

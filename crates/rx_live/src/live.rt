@@ -1,50 +1,47 @@
-// Workers that make turns under one lock.
-ghost use Rattle.std.specs.Prelude.{◌≡◌, ◌≤◌, ◌<◌, length, IfOk};
+// A run by several workers, from its opening to its end.
+ghost use Rattle.std.specs.Prelude.{◌≡◌, ◌≤◌, ◌<◌, [], length, IfOk, IfSome};
 ghost use Rattle.rx_rules.specs.Code.{Block};
 ghost use Rattle.rx_rules.specs.Fold.{opening, tree_of};
-ghost use Rattle.rx_rules.specs.Run.{Proper, IsRun};
+ghost use Rattle.rx_rules.specs.Run.{Proper, IsRun, in_all};
 ghost use Rattle.rx_nodes.specs.Shape.{Stands};
+ghost use Rattle.rx_book.specs.Passes.{view_of, word_of};
+ghost use Rattle.rx_objects.specs.Ledger.{LedgerIsLegal};
+ghost use Rattle.rx_objects.specs.Ending.{RootIsTold};
 ghost use Rattle.rx_history.specs.Events.{events_of};
 ghost use Rattle.rx_history.specs.Setups.{given, to_join};
-ghost use Rattle.rx_live.specs.Rounds.{Keeps};
+ghost use Rattle.rx_live.specs.Inside.Stations.{IsHall};
+ghost use Rattle.rx_live.specs.Inside.Ending.{IsMain, MayRelease, RunEnds, SeatsFrom, SeesEnd};
 
-use crate::round::Round;
-use rx_base::{Gate, NoMemory};
+use crate::ending::{
+    Released, close_ledger, close_places, close_stores, meet_notes, meet_worker, meet_workers,
+    release,
+};
+use crate::hall::Hall;
+use crate::opening::{Places, open_ledger, open_words};
+use crate::tally::Tally;
+use crate::worker::Worker;
+use rx_activities::{Activity, LedgerPass, Naming};
+use rx_base::{Gate, NoGate, NoMemory, PlaceId};
+use rx_book::{BareBook, Book, Note, Pass};
 use rx_check::{Program, checked};
+use rx_control::Control;
 use rx_counts::CountLedger;
 use rx_finish::FinishLedger;
 use rx_history::{History, Journals, Setup};
-use rx_lock::{Fact, Lock};
-use rx_machine::Machine;
-use std::alloc::Global;
-use std::snapshot::Snapshot;
+use rx_objects::LedgerObject;
+use rx_parts_book::{EntryItem, EventItem};
+use rx_store::Store;
+use rx_ticket::{Live, Ticket};
+use std::alloc::{AllocError, Global};
+use std::marker::Brand;
 use std::sync::Wait;
 use std::thread;
 use std::thread::Threads;
 
-// What is run: the lock's key. It has no bytes.
-#[derive(Drop)]
-pub(crate) struct Job {
-    program: Snapshot<Program>,
-    setup: Snapshot<Setup>,
-}
-
-// The machine under the lock has made turns of this program under this setup.
-pub(crate) struct IsOfJob;
-
-impl<L: FinishLedger> Fact<Round<L>, Job> for IsOfJob {
-    ghost use Rattle.rx_history.specs.Setups.{given};
-    ghost use Rattle.rx_live.specs.Rounds.{Keeps};
-
-    ghost holds = { λ job. Keeps L.stands job.program.value.script (given job.setup.value) };
-}
-
-type Desk<L> = Lock<Round<L>, Job, IsOfJob>;
-
 /// Runs a program under a setup with so many workers, each in a thread of its own where one can be made, over a ledger that stands
 /// for the opening tree and has room for the places that are to join. What comes is a whole run, and the ledger, which stands for
-/// the tree to which its history folds. `Err` is want of memory, after which the ledger is gone. Worker k makes each of its turns
-/// with the pick k, and comes by the gate before it.
+/// the tree to which its history folds. `Err` is want of memory, after which the ledger is gone. Worker k comes by the gate before
+/// each of its turns, and each place before each call of its store.
 pub fn run_live<G: Gate + Sync, R: Threads + Wait + Sync>(
     rt: &R,
     alloc: Global,
@@ -62,73 +59,237 @@ pub fn run_live<G: Gate + Sync, R: Threads + Wait + Sync>(
     ensures ledger { IfOk result (λ r. ⟦<CountLedger as FinishLedger>⟧.stands r.2
         (to_join (given setup.now) (tree_of setup.now.places r.0.entries)) (tree_of setup.now.places r.0.entries)) }
 {
-    run_over(rt, alloc, p, setup, workers, ledger, gate)
-}
-
-// The same over any ledger that may be moved to another thread.
-fn run_over<L: FinishLedger + Send, G: Gate + Sync, R: Threads + Wait + Sync>(
-    rt: &R,
-    alloc: Global,
-    p: &Program,
-    setup: &Setup,
-    workers: u32,
-    ledger: L,
-    gate: &G,
-) -> Result<(History, Journals, L), NoMemory>
-    requires proper { Proper (given setup.now) }
-    requires workers { (1 ≤ workers) × (workers ≤ 8) }
-    requires opened { L.stands ledger (length setup.now.joins) (opening setup.now.places) }
-    ensures run { IfOk result (λ r. (code : Block) → Stands p.now.script code → IsRun code (given setup.now) r.0.entries (events_of r.1)) }
-    ensures setup { IfOk result (λ r. given r.0.setup ≡ given setup.now) }
-    ensures ledger { IfOk result (λ r. L.stands r.2 (to_join (given setup.now) (tree_of setup.now.places r.0.entries))
-        (tree_of setup.now.places r.0.entries)) }
-{
     checked(p);
-    let machine = Machine::open(alloc, p, setup.copy(alloc)?, ledger)?;
-    let job = Job {
-        program: Snapshot::of(p),
-        setup: Snapshot::of(setup),
+    rx_objects::stamps_before_death();
+    rx_objects::books_make_run();
+    let places = setup.places as usize + setup.joins.len();
+    let words = open_words(alloc, places)?;
+    let control = Control::main(alloc, p, setup.places)?;
+    let (book, mut pass, ticket) = open_ledger(rt, alloc, p, setup, ledger, &words)?;
+    let Ok(mut host) = book.split(&mut pass) else {
+        unreachable!()
     };
-    let made: Result<Desk<L>, _> = Lock::new(alloc, Round::begin(alloc, machine), &job);
-    let Ok(desk) = made else {
+    let main = Main {
+        control,
+        ticket,
+        pass,
+        words,
+    };
+    let done = run_named::<Brand, G, R>(
+        rt, alloc, p, workers, gate, setup.heap, &book, &mut host, main,
+    );
+    let Some(stores) = done else {
+        let _object = book.abandon(rt);
         return Err(NoMemory);
     };
-    let shared = &desk;
-    let done = thread::map_indices(
+    let (history, ledger) = close_ledger(rt, p, book, host);
+    let journals = close_stores(alloc, &history, stores)?;
+    Ok((history, journals, ledger))
+}
+
+// What a run begins with beside the books: the main activity's control, ticket and pass of the ledger's book, and the words of the
+// places' books.
+pub(crate) struct Main {
+    control: Control,
+    ticket: Ticket<Live>,
+    pass: Pass<EntryItem>,
+    words: Vec<BareBook<EventItem>>,
+}
+
+// The run between the opening and the closing of the ledger's book: what is left of it are the stores of all places. `None` is want of
+// memory.
+fn run_named<'a, N: Naming + Send + Sync, G: Gate + Sync, R: Threads + Wait + Sync>(
+    rt: &R,
+    alloc: Global,
+    p: &'a Program,
+    workers: u32,
+    gate: &'a G,
+    heap: u32,
+    ledger: &'a Book<LedgerObject>,
+    host: &mut Pass<EntryItem>,
+    main: Main,
+) -> Option<Vec<Store>>
+    requires workers { workers ≤ 8 }
+    requires ledger { ledger.now ≡ N.ledger }
+    requires program { ledger.now.fixed.program ≡ p.now }
+    requires proper { Proper (given N.ledger.fixed.setup) }
+    requires heap { heap ≡ N.ledger.fixed.setup.heap }
+    requires host { MayRelease N.ledger host.old × ((view_of host.old).seen ≡ []) × ((view_of host.old).dead ≡ 0) }
+    requires main { IsMain N.ledger main.control main.ticket main.pass main.words.items }
+    ensures own { word_of host.new ≡ N.ledger.word }
+    ensures ends { IfSome result (λ stores. RunEnds N.ledger host.new stores.items) }
+{
+    let Main {
+        control,
+        ticket,
+        pass,
+        words,
+    } = main;
+    let opened = Places::<'a, N, G>::open(rt, alloc, ledger, host, words, heap, gate);
+    let Some(places) = opened else {
+        ticket.spent();
+        return None;
+    };
+    let Places {
+        stations,
+        seats,
+        first,
+    } = places;
+    let Some(first) = first else { unreachable!() };
+    let activity = Activity::<N>::main(alloc, p, control, ticket, pass, first);
+    let hall = Hall {
+        program: p,
+        ledger,
+        stations,
+        tally: Tally::of_one(),
+    };
+    hall.begin(rt, activity);
+    run_all(rt, alloc, hall, gate, workers, host, seats)
+}
+
+// The run from its first turn to the closing of the places' books.
+fn run_all<'a, N: Naming + Send + Sync, G: Gate + Sync, R: Threads + Wait + Sync>(
+    rt: &R,
+    alloc: Global,
+    hall: Hall<'a, N, G>,
+    gate: &G,
+    workers: u32,
+    host: &mut Pass<EntryItem>,
+    seats: Vec<Pass<EventItem>>,
+) -> Option<Vec<Store>>
+    requires workers { workers ≤ 8 }
+    requires hall { IsHall N.ledger hall.ledger.now hall.program.now hall.stations.items }
+    requires some { 0 < length hall.stations.items }
+    requires seats { SeatsFrom N.ledger 0 seats.items × (length seats.items ≡ length hall.stations.items) }
+    requires all { length hall.stations.items ≡ in_all (given N.ledger.fixed.setup) }
+    requires host { MayRelease N.ledger host.old }
+    ensures own { word_of host.new ≡ N.ledger.word }
+    ensures ends { IfSome result (λ stores. RunEnds N.ledger host.new stores.items) }
+{
+    let kept = spread(rt, alloc, &hall, gate, workers);
+    let ended = go_on_alone(rt, alloc, &hall, host, &seats);
+    let Some(ended) = ended else {
+        hall.abandon(rt);
+        return None;
+    };
+    let Ok(kept) = kept else {
+        hall.abandon(rt);
+        return None;
+    };
+    end_all(rt, alloc, hall, host, seats, kept, ended)
+}
+
+// The run from the root's release to the closing of the places' books.
+fn end_all<'a, N: Naming, G: Gate + Sync, R: Wait>(
+    rt: &R,
+    alloc: Global,
+    hall: Hall<'a, N, G>,
+    host: &mut Pass<EntryItem>,
+    seats: Vec<Pass<EventItem>>,
+    kept: Vec<Option<LedgerPass<N>>>,
+    ended: Ended<N>,
+) -> Option<Vec<Store>>
+    requires hall { IsHall N.ledger hall.ledger.now hall.program.now hall.stations.items }
+    requires seats { SeatsFrom N.ledger 0 seats.items × (length seats.items ≡ length hall.stations.items) }
+    requires all { length hall.stations.items ≡ in_all (given N.ledger.fixed.setup) }
+    requires host { SeesEnd N.ledger host.old }
+    requires told { RootIsTold N.ledger.fixed ended.notes.items (view_of host.old).seen }
+    ensures own { word_of host.new ≡ N.ledger.word }
+    ensures ends { IfSome result (λ stores. RunEnds N.ledger host.new stores.items) }
+{
+    let Ended { notes, own } = ended;
+    let mut seats = seats;
+    let p = hall.program;
+    let ledger = hall.ledger;
+    meet_notes(&hall.stations, &mut seats, notes);
+    let stations = hall.into_stations();
+    let Some(stores) = close_places(rt, alloc, p, ledger, host, stations, seats) else {
+        return None;
+    };
+    meet_workers(p, ledger, host, kept);
+    meet_worker(p, ledger, host, own);
+    Some(stores)
+}
+
+// The workers, each on a thread of its own where one can be made, and what each has kept.
+fn spread<'a, N: Naming + Send + Sync, G: Gate + Sync, R: Threads + Wait + Sync>(
+    rt: &R,
+    alloc: Global,
+    hall: &Hall<'a, N, G>,
+    gate: &G,
+    workers: u32,
+) -> Result<Vec<Option<LedgerPass<N>>>, AllocError>
+    requires workers { workers ≤ 8 }
+    requires hall { IsHall N.ledger hall.now.ledger.now hall.now.program.now hall.now.stations.items }
+    requires some { 0 < length hall.now.stations.items }
+{
+    thread::map_indices(
         rt,
         alloc,
         workers as usize,
-        &|k| -> u32
-            requires { (shared.now.key.program.value ≡ p.now) × (k < 8) }
-        { work(rt, shared, p, gate, k as u32) },
-    );
-    let (round, turn) = desk.lock(rt);
-    desk.close(turn);
-    if done.is_err() {
-        return Err(NoMemory);
-    }
-    round.finish(rt, p)
+        &|k| -> Option<LedgerPass<N>>
+            requires { IsHall N.ledger hall.now.ledger.now hall.now.program.now hall.now.stations.items
+                × (0 < length hall.now.stations.items) × (k < 8) }
+        { work(rt, alloc, hall, gate, k as u32) },
+    )
 }
 
-// The turns of one worker, up to the end of the run or want of memory. It answers nothing.
-fn work<L: FinishLedger, G: Gate, R: Wait>(
+// One worker from its opening to its end, and what it has kept.
+fn work<'a, N: Naming, G: Gate + Sync, R: Wait>(
     rt: &R,
-    desk: &Desk<L>,
-    p: &Program,
+    alloc: Global,
+    hall: &Hall<'a, N, G>,
     gate: &G,
-    worker: u32,
-) -> u32
-    requires { desk.now.key.program.value ≡ p.now }
+    number: u32,
+) -> Option<LedgerPass<N>>
+    requires hall { IsHall N.ledger hall.now.ledger.now hall.now.program.now hall.now.stations.items }
+    requires some { 0 < length hall.now.stations.items }
 {
-    checked(p);
-    for n in 0..u64::MAX {
-        gate.turn(worker, n);
-        let (mut round, turn) = desk.lock(rt);
-        let goes_on = round.go_on(p, worker);
-        desk.unlock(turn, round);
-        if !goes_on {
-            return 0;
+    let Some(mut worker) = Worker::open(rt, alloc, hall, number) else {
+        gate.turn(number, 0);
+        hall.tally.refuse();
+        return None;
+    };
+    worker.work(rt, alloc, hall, gate);
+    worker.into_kept()
+}
+
+// What the last request leaves: the notes that came with the root's release, and what the caller has kept as a worker.
+#[derive(Drop)]
+struct Ended<N: Naming> {
+    notes: Vec<(PlaceId, Note<EventItem>)>,
+    own: Option<LedgerPass<N>>,
+}
+
+// The caller goes on alone until no activity is left and the root is released. `None` is want of memory.
+fn go_on_alone<'a, N: Naming, G: Gate + Sync, R: Wait>(
+    rt: &R,
+    alloc: Global,
+    hall: &Hall<'a, N, G>,
+    host: &mut Pass<EntryItem>,
+    seats: &Vec<Pass<EventItem>>,
+) -> Option<Ended<N>>
+    requires hall { IsHall N.ledger hall.now.ledger.now hall.now.program.now hall.now.stations.items }
+    requires some { (0 < length hall.now.stations.items) × (0 < length seats.now.items) }
+    requires host { MayRelease N.ledger host.old }
+    ensures own { word_of host.new ≡ N.ledger.word }
+    ensures lawful { LedgerIsLegal N.ledger.fixed (view_of host.new).seen }
+    ensures told { IfSome result (λ e. RootIsTold N.ledger.fixed e.notes.items (view_of host.new).seen) }
+{
+    let mut worker = Worker::open(rt, alloc, hall, 0)?;
+    for _request in rt.forever() {
+        worker.work(rt, alloc, hall, &NoGate);
+        if hall.tally.is_refused() {
+            return None;
+        }
+        match release(rt, alloc, hall.program, hall.ledger, host, &seats[0]) {
+            Released::Done(notes) => {
+                let own = worker.into_kept();
+                return Some(Ended { notes, own });
+            }
+            Released::NotYet => thread::yield_now(),
+            Released::NoMemory => return None,
         }
     }
-    0
+    unreachable!()
 }

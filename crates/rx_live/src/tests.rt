@@ -1,28 +1,48 @@
-// That the call can succeed, that its workers come by the gate at one time, and that a machine may be moved between threads.
+// That the call can succeed, that its workers come by the gate at one time, and that two places are asked at one time.
+ghost use Rattle.std.specs.Prelude.{◌≡◌, []};
+ghost use Rattle.rx_rules.specs.Run.{Proper};
+ghost use Rattle.rx_history.specs.Setups.{given};
+
 use crate::run_live;
-use rx_base::MeetGate;
-use rx_check::check;
+use rx_base::{CellGate, MeetGate};
+use rx_check::{Program, check};
 use rx_counts::CountLedger;
 use rx_history::{JoinList, KillList, Setup};
-use rx_machine::Machine;
 use rx_script::read_script;
+use std::alloc::Global;
 use std::test::Fail;
 
-#[test]
-fn two_workers_meet_and_end_a_run(rt: HostRuntime) -> Result<(), Fail> {
-    let alloc = rt.alloc();
-    let Ok(script) = read_script(alloc, b"finish { at 1 async { print 7; } } print 8;") else {
-        panic!(rt; "no script")
+// A checked script.
+fn program(alloc: Global, bytes: &[u8]) -> Option<Program> {
+    if bytes.len() > 65_536 {
+        return None;
+    }
+    let Ok(script) = read_script(alloc, bytes) else {
+        return None;
     };
-    let Ok(program) = check(alloc, script) else {
-        panic!(rt; "no program")
-    };
-    let setup = Setup {
+    check(alloc, script).ok()
+}
+
+// Two places, and no kills and no joins.
+fn calm(alloc: Global) -> Setup
+    ensures proper { Proper (given result) }
+    ensures calm { (result.places ≡ 2) × (result.joins ≡ []) }
+{
+    Setup {
         places: 2,
         heap: 256,
         kills: KillList::open(alloc),
         joins: JoinList::open(alloc),
+    }
+}
+
+#[test]
+fn two_workers_meet_and_end_a_run(rt: HostRuntime) -> Result<(), Fail> {
+    let alloc = rt.alloc();
+    let Some(program) = program(alloc, b"finish { at 1 async { print 7; } } print 8;") else {
+        panic!(rt; "no program")
     };
+    let setup = calm(alloc);
     let Ok(ledger) = CountLedger::open_for(alloc, 2, 0) else {
         panic!(rt; "no memory")
     };
@@ -35,11 +55,24 @@ fn two_workers_meet_and_end_a_run(rt: HostRuntime) -> Result<(), Fail> {
     Ok(())
 }
 
-// Values of the type may be moved to another thread.
-fn may_move<T: Send>() {}
-
-/// A machine may be moved where its ledger may.
 #[test]
-fn runs_may_be_moved(_rt: HostRuntime) {
-    may_move::<Machine<CountLedger>>();
+fn two_places_are_asked_at_one_time(rt: HostRuntime) -> Result<(), Fail> {
+    let alloc = rt.alloc();
+    let Some(program) = program(alloc, b"finish { at 1 async { new a = 1; } new b = 1; }") else {
+        panic!(rt; "no program")
+    };
+    let setup = calm(alloc);
+    let Ok(ledger) = CountLedger::open_for(alloc, 2, 0) else {
+        panic!(rt; "no memory")
+    };
+    let gate = CellGate::open(100_000_000);
+    let Ok((history, journals, _)) = run_live(&rt, alloc, &program, &setup, 2, ledger, &gate) else {
+        panic!(rt; "no memory")
+    };
+    assert!(rt; gate.met());
+    assert_eq!(rt; history.len(), 8);
+    assert_eq!(rt; journals.len(), 2);
+    assert_eq!(rt; journals.item(0).len(), 1);
+    assert_eq!(rt; journals.item(1).len(), 1);
+    Ok(())
 }

@@ -1,0 +1,66 @@
+-- The ledger's book is closed.
+use Rattle.std.specs.Prelude.{◌≡◌, ℕ, true, false, List, [], ◌∷◌, ◌++◌}
+use Rattle.std.proofs.Common.{ap, sym, ◌∙◌, subst}
+use Rattle.std.proofs.lemmas.List.{append-nil}
+use mathlib.Core.List.{IsPrefix}
+use Rattle.rx_rules.specs.declared.entries.Entry.{Entry}
+use Rattle.rx_rules.specs.declared.entries.Entry.TheVariants.{Step, Root, Death, Join}
+use Rattle.rx_rules.specs.Code.{Block}
+use Rattle.rx_rules.specs.Fold.{tree_of}
+use Rattle.rx_rules.specs.Run.{EndsWithRoot, NoRoot}
+use Rattle.rx_rules.specs.Tree.{Tree}
+use Rattle.rx_nodes.specs.Shape.{Stands}
+use Rattle.rx_history.specs.declared.setup.Setup.{Setup}
+use Rattle.rx_history.specs.Setups.{given, to_join}
+use Rattle.rx_book.specs.declared.views.Stamped.{Stamped}
+use Rattle.rx_book.specs.declared.passes.Pass.{Pass}
+use Rattle.rx_book.specs.History.{items_of}
+use Rattle.rx_book.specs.Passes.{view_of}
+use Rattle.rx_book.specs.Named.{BookName}
+use Rattle.rx_ledger.specs.Keeping.{left_to_join}
+use Rattle.rx_ledger.specs.Kept.{Kept, IsHistory, RootLast}
+use Rattle.rx_parts_book.specs.declared.items.EntryItem.{EntryItem}
+use Rattle.rx_objects.specs.declared.ledger.LedgerFixed.{LedgerFixed}
+use Rattle.rx_objects.specs.Mentioned.{entries_in}
+use Rattle.rx_objects.specs.Ledger.{LedgerIsLegal}
+use Rattle.rx_objects.specs.Ending.{entries_at}
+use Rattle.rx_live.specs.Inside.Ending.{SeesEnd}
+use Rattle.rx_live.proofs.Finishing.{none_behind, whole_is}
+
+root_stands : (es more : List Entry) → EndsWithRoot es → NoRoot (es ++ more) → ⊥
+root_stands [] more ends none = ends
+root_stands (Root lost masked thrown ∷ es) more ends none = none
+root_stands (Step t act batch ∷ es) more ends none = root_stands es more ends none
+root_stands (Death d ∷ es) more ends none = root_stands es more ends none
+root_stands (Join d ∷ es) more ends none = root_stands es more ends none
+
+-- behind the root's release nothing was made
+pub whole_history : (k : Kept) (es : List Entry) → IsHistory k → k.entries ≡ es → EndsWithRoot es → k.entries ++ k.behind ≡ es
+whole_history k es history is ends = go history.root_last
+  where
+    there : EndsWithRoot k.entries
+    there = subst EndsWithRoot (sym is) ends
+
+    nothing : k.behind ≡ [] → k.entries ++ k.behind ≡ es
+    nothing none = ap (λ (l : List Entry). k.entries ++ l) none ∙ (append-nil k.entries ∙ is)
+
+    go : RootLast (k.entries ++ k.behind) → k.entries ++ k.behind ≡ es
+    go (true, h) = nothing (none_behind k.entries k.behind there h)
+    go (false, h) = absurd (root_stands k.entries k.behind there h)
+
+-- the ledger stands for the tree to which the history folds
+pub stands_there : {X : Type 0} (stands : X → ℕ → Tree → Type 0) (l : X) (s t : Setup) (es fs : List Entry) → s ≡ t → fs ≡ es → stands l (left_to_join (given s) es) (tree_of s.places es)
+    → stands l (to_join (given t) (tree_of t.places fs)) (tree_of t.places fs)
+stands_there stands l s t es fs same is h =
+    subst (λ (gs : List Entry). stands l (to_join (given t) (tree_of t.places gs)) (tree_of t.places gs)) (sym is)
+    (subst (λ (q : Setup). stands l (to_join (given q) (tree_of q.places es)) (tree_of q.places es)) same h)
+
+module _ (code : Block) (L : BookName LedgerFixed) (host : Pass EntryItem) (h : List (Stamped EntryItem)) (items : List EntryItem) (k : Kept) (stands : Stands L.fixed.program.script code) (sees : SeesEnd L host)
+    (lawful : LedgerIsLegal L.fixed h) (begins : IsPrefix (view_of host).seen h) (whole : items ≡ items_of h) (told : entries_in items ≡ k.entries) where
+  -- the keeper's entries were all seen
+  pub all_seen : k.entries ≡ entries_at (view_of host).seen
+  all_seen = sym told ∙ (ap entries_in whole ∙ ap entries_at (whole_is code L.fixed (view_of host).seen h stands sees.ends lawful begins))
+
+  -- and it has made no other
+  pub all_made : IsHistory k → k.entries ++ k.behind ≡ entries_at (view_of host).seen
+  all_made history = whole_history k (entries_at (view_of host).seen) history all_seen sees.ends

@@ -1,0 +1,74 @@
+// What workers tell one another beside the queues. It changes no meaning: no contract speaks of it.
+use std::sync::atomic::{AtomicBool, AtomicU64, Ordering};
+
+/// How many activities there are, and whether memory was refused.
+#[derive(Drop)]
+pub(crate) struct Tally {
+    /// Activities that are not over, those on their way among them.
+    left: AtomicU64,
+    /// Those of them that do not wait.
+    going: AtomicU64,
+    /// Activities that are over.
+    over: AtomicU64,
+    refused: AtomicBool,
+}
+
+impl Tally {
+    /// Of one activity.
+    pub(crate) fn of_one() -> Tally {
+        Tally {
+            left: AtomicU64::new(1),
+            going: AtomicU64::new(1),
+            over: AtomicU64::new(0),
+            refused: AtomicBool::new(false),
+        }
+    }
+
+    /// One more is started.
+    pub(crate) fn starts(&self) {
+        self.left.fetch_add(1, Ordering::SeqCst);
+        self.going.fetch_add(1, Ordering::SeqCst);
+    }
+
+    /// One waits.
+    pub(crate) fn waits(&self) {
+        self.going.fetch_sub(1, Ordering::SeqCst);
+    }
+
+    /// One that waited is looked at again.
+    pub(crate) fn wakes(&self) {
+        self.going.fetch_add(1, Ordering::SeqCst);
+    }
+
+    /// One is over.
+    pub(crate) fn ends(&self) {
+        self.over.fetch_add(1, Ordering::SeqCst);
+        self.going.fetch_sub(1, Ordering::SeqCst);
+        self.left.fetch_sub(1, Ordering::SeqCst);
+    }
+
+    /// Memory was refused.
+    pub(crate) fn refuse(&self) {
+        self.refused.store(true, Ordering::SeqCst);
+    }
+
+    /// Whether memory was refused.
+    pub(crate) fn is_refused(&self) -> bool {
+        self.refused.load(Ordering::SeqCst)
+    }
+
+    /// Whether no activity is left, or memory was refused.
+    pub(crate) fn is_done(&self) -> bool {
+        self.left.load(Ordering::SeqCst) == 0 || self.is_refused()
+    }
+
+    /// How many activities are over. A scope may be released only behind one more of them, or where none goes.
+    pub(crate) fn over(&self) -> u64 {
+        self.over.load(Ordering::SeqCst)
+    }
+
+    /// Whether each that is left waits.
+    pub(crate) fn all_wait(&self) -> bool {
+        self.going.load(Ordering::SeqCst) == 0
+    }
+}

@@ -149,8 +149,8 @@ impl<N: Naming> Activity<N> {
         LedgerPass::of(hand.give_up())
     }
 
-    /// Makes the local steps up to the next call of a book, and that call: at most one of the ledger's and one of the place's. An
-    /// activity that waits asks the ledger again only where the history may have grown. It owes no return.
+    /// Makes the local steps up to the next call of a book, and that call: of the place's book or of the ledger's. An activity that
+    /// waits asks the ledger again only where the history may have grown. It owes no return.
     pub fn turn<G: Gate + Sync, R: Wait>(
         self,
         rt: &R,

@@ -5,6 +5,8 @@ use crate::tests::{CENSUS, SCRIPT, STEP, printed};
 use crate::texts::{ORDINARY, REALISTIC};
 use crate::{Status, rx10, rx10_step};
 use rx_base::{Gate, MeetGate, MemSink, MemSource, NoGate, NoMemory, RxWord};
+use rx_counts::CountLedger;
+use rx_machine::Machine;
 use rx_reading::read_trace;
 use std::alloc::Global;
 use std::sync::Wait;
@@ -108,4 +110,13 @@ fn commands_without_threads_answer_as_before(rt: HostRuntime) -> Result<(), NoMe
     );
     assert!(rt; answer == Status::Usage { word: 0 });
     Ok(())
+}
+
+// Values of the type may be moved to another thread.
+fn may_move<T: Send>() {}
+
+/// A machine may be moved where its ledger may.
+#[test]
+fn machines_may_be_moved(_rt: HostRuntime) {
+    may_move::<Machine<CountLedger>>();
 }

@@ -30,12 +30,14 @@ use Rattle.rx_book.specs.declared.passes.Note.{Note}
 use Rattle.rx_book.specs.History.{items_of}
 use Rattle.rx_book.specs.Passes.{view_of, word_of, note_view, note_word}
 use Rattle.rx_book.specs.Named.{BookName}
-use Rattle.rx_machine.specs.Held.{is_held}
-use Rattle.rx_machine.proofs.Beginning.{Begins, begins-so}
-use Rattle.rx_machine.proofs.Released.{release-held}
-use Rattle.rx_machine.proofs.SpineGrants.{GrantsSpine, spine-grant, EmptyWhereDone, spine-done}
-use Rattle.rx_machine.proofs.Stepping.{not_held}
-use Rattle.rx_machine.proofs.Targets.{Targets, targets-exist}
+use Rattle.rx_terms.specs.Held.{is_held}
+use Rattle.rx_terms.proofs.Beginning.{begins-so}
+use Rattle.rx_terms.specs.Steps.{Begins}
+use Rattle.rx_terms.proofs.Granting.{release_held}
+use Rattle.rx_terms.proofs.SpineGrants.{GrantsSpine, spine-grant, EmptyWhereDone, spine-done}
+use Rattle.rx_terms.proofs.Granting.{not_held}
+use Rattle.rx_terms.proofs.Targets.{targets-exist}
+use Rattle.rx_terms.specs.Steps.{Targets}
 use Rattle.rx_parts.specs.Ledger.{Walks}
 use Rattle.rx_parts.proofs.Reading.{actors-say}
 use Rattle.rx_parts_book.specs.declared.items.EventItem.{EventItem}
@@ -52,7 +54,8 @@ use Rattle.rx_activities.specs.declared.hand.Hand.{Hand}
 use Rattle.rx_activities.specs.Knowing.{StandsSo, Knows, Serves, since, entries_seen, tree_seen, kinds_told}
 use Rattle.rx_activities.specs.Inside.Sending.{SuitsStep}
 use Rattle.rx_activities.proofs.BelowOwned.{one_caller}
-use Rattle.rx_activities.proofs.BelowSilent.{Silent, silent_so}
+use Rattle.rx_terms.proofs.Silent.{silent_so}
+use Rattle.rx_terms.specs.Steps.{Silent}
 
 -- Tickets.
 
@@ -171,7 +174,7 @@ module _ (code : Block) (L : BookName LedgerFixed) (a : Hand) (k : Knows L a) (s
   may_for (AskWait thrown) h few =
       (moving few (free (Waits thrown) h (λ f. let g : ⊥ = cc f in g)) (MayAskWait T) (may_wait thrown h), no_path (begins t) (silent (Waits thrown) h))
   may_for AskRelease h few =
-      let waits : is_held t ≡ true = release-held (record { term = t; vars = s.stand.vars; batch = [] }) a.place.0 h in
+      let waits : is_held t ≡ true = release_held s.stand.vars a.place.0 t h in
       (serves_held T a.ticket (subst (λ (b : Bool). Serves T b a.ticket) waits (s.serves few)), no_path (begins t) (silent Releases h))
   may_for (AskEnd thrown) h few =
       (moving few (free (Done thrown) h (λ f. let g : ⊥ = cc f in g)) (MayAskEnd T) (may_end thrown h), no_path (begins t) (silent (Done thrown) h))

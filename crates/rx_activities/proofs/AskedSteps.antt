@@ -11,8 +11,9 @@ use Rattle.rx_control.specs.declared.step.Next.TheVariants.{Book as BookStep, Do
 use Rattle.rx_control.specs.declared.step.Want.TheVariants.{Wait as WantWait}
 use Rattle.rx_control.specs.Next.{next_of, carried}
 use Rattle.rx_control.specs.Stands.{StandsFor}
-use Rattle.rx_machine.proofs.Beginning.{Begins, begins-so}
-use Rattle.rx_machine.proofs.Requested.{asks_wait}
+use Rattle.rx_terms.proofs.Beginning.{begins-so}
+use Rattle.rx_terms.specs.Steps.{Begins}
+use Rattle.rx_control.proofs.Requests.{asks_wait}
 use Rattle.rx_activities.specs.Inside.Sending.{target, IsReady}
 
 path_of : (d : Does) (o : Option (List ℕ)) (to : PlaceId) → Begins d o → target (next_of d) ≡ Some to → (x : List ℕ) × (o ≡ Some x)

@@ -26,10 +26,10 @@ use Rattle.rx_book.specs.Passes.{view_of, word_of}
 use Rattle.rx_book.specs.Named.{BookName}
 use Rattle.rx_ledger.specs.Owned.{Owned, own_told}
 use Rattle.rx_ledger.specs.Answering.{asker}
-use Rattle.rx_machine.specs.Held.{is_held, Unheld}
-use Rattle.rx_machine.specs.Spine.{NoScopeOpen, Spine}
-use Rattle.rx_machine.proofs.Holding.{unheld-front}
-use Rattle.rx_machine.proofs.Spines.{flat-spine}
+use Rattle.rx_terms.specs.Held.{is_held, Unheld}
+use Rattle.rx_terms.specs.Spine.{NoScopeOpen, Spine}
+use Rattle.rx_terms.proofs.Holding.{unheld-front}
+use Rattle.rx_terms.proofs.Spines.{flat-spine}
 use Rattle.rx_parts.specs.Ledger.{Actor, Present, Walks, LegalLedger, stays}
 use Rattle.rx_parts_book.specs.declared.items.EntryItem.{EntryItem}
 use Rattle.rx_parts_book.specs.declared.items.EventItem.{EventItem}

@@ -19,9 +19,9 @@ use Rattle.rx_book.specs.Passes.{view_of, word_of}
 use Rattle.rx_book.specs.Named.{BookName}
 use Rattle.rx_ledger.specs.Owned.{own_told}
 use Rattle.rx_ledger.proofs.Rows.{main_begins}
-use Rattle.rx_machine.proofs.Holding.{unheld-items}
-use Rattle.rx_machine.proofs.Spines.{flat-items}
-use Rattle.rx_machine.proofs.Programs.{makes-some}
+use Rattle.rx_terms.proofs.Holding.{unheld-items}
+use Rattle.rx_terms.proofs.Spines.{flat-items}
+use Rattle.rx_control.proofs.SomeWords.{makes-some}
 use Rattle.rx_parts.specs.Ledger.{main_actor}
 use Rattle.rx_parts_book.specs.declared.items.EntryItem.{EntryItem}
 use Rattle.rx_parts_book.specs.declared.items.EventItem.{EventItem}
@@ -35,8 +35,8 @@ use Rattle.rx_activities.specs.Knowing.{IsOfRun, IsSeatAt, Knows}
 use Rattle.rx_activities.specs.Starting.{IsOpening}
 use Rattle.rx_activities.specs.Inside.Births.{IsWith}
 use Rattle.rx_activities.proofs.BeganAt.{BeginsSo, knows_at}
-use Rattle.rx_activities.proofs.BelowChild.{some-items}
-use Rattle.rx_activities.proofs.BelowTree.{one-tree}
+use Rattle.rx_runs.proofs.SomeWords.{some-items}
+use Rattle.rx_check.proofs.OneTree.{one-tree}
 
 -- a new pass of a place's book knows what it has to
 pub new_seat : (L : BookName LedgerFixed) (p : PlaceId) (seat : Pass EventItem) (pass : Pass EntryItem) → slice_get L.fixed.places p.0 ≡ Some (word_of seat) → (view_of seat).seen ≡ [] → IsSeatAt L p seat pass

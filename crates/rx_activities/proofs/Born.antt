@@ -44,8 +44,8 @@ use Rattle.rx_ledger.specs.Kept.{Kept, Answered}
 use Rattle.rx_ledger.specs.Owned.{own_after, own_told}
 use Rattle.rx_ledger.proofs.Called.{own_append}
 use Rattle.rx_ledger.proofs.OwnTold.{numbers_are_left, unborn_owns}
-use Rattle.rx_machine.proofs.Granting.{unheld-child}
-use Rattle.rx_machine.proofs.SpineGrants.{flat-child}
+use Rattle.rx_terms.proofs.Granting.{unheld-child}
+use Rattle.rx_terms.proofs.SpineGrants.{flat-child}
 use Rattle.rx_parts.specs.Ledger.{LedgerItem, Actor, Present, Away, Walks, LegalLedger, actor_born, actors_born}
 use Rattle.rx_parts.specs.Calling.{EachSeated}
 use Rattle.rx_parts.specs.Growing.{MayRequest}
@@ -71,7 +71,7 @@ use Rattle.rx_activities.specs.Starting.{ComesSo, Comes, Begins as BeginsAs}
 use Rattle.rx_activities.specs.Inside.Births.{IsWith, HasMet, IsBorn, IsAtStart, TravelsWith, StaysWith, StartsWith}
 use Rattle.rx_activities.specs.Inside.Sending.{WasSent, IsPrepared, SeatIsNew}
 use Rattle.rx_activities.proofs.BeganAt.{BeginsSo, knows_at}
-use Rattle.rx_activities.proofs.BelowChild.{some-child}
+use Rattle.rx_runs.proofs.SomeWords.{some-child}
 use Rattle.rx_activities.proofs.BornCalls as calls
 
 pub same_caller : (v w : Caller) → Some v ≡ Some w → v ≡ w

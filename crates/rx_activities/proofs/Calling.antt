@@ -12,8 +12,10 @@ use Rattle.rx_rules.specs.Fold.{tree_of}
 use Rattle.rx_rules.specs.Run.{Given, Folds}
 use Rattle.rx_rules.specs.Picked.{Player, Goes, stays as goes_none}
 use Rattle.rx_runs.specs.Steps.{TermSinks}
-use Rattle.rx_machine.proofs.Beginning.{Begins, begins-so}
-use Rattle.rx_machine.proofs.Called.{IsCall, is_call, call-so}
+use Rattle.rx_terms.proofs.Beginning.{begins-so}
+use Rattle.rx_terms.specs.Steps.{Begins}
+use Rattle.rx_stores.proofs.Calls.{IsCall, is_call}
+use Rattle.rx_terms.proofs.Receiving.{call-so}
 use Rattle.rx_runs.specs.SomeWords.{AsksSome}
 use Rattle.rx_runs.proofs.SomeWords.{goes_some}
 use Rattle.rx_nodes.specs.Shape.{Stands}
@@ -32,8 +34,8 @@ use Rattle.rx_book.specs.History.{items_of}
 use Rattle.rx_book.specs.Passes.{view_of, word_of}
 use Rattle.rx_book.specs.Named.{BookName}
 use Rattle.rx_book.specs.Calls.{Looked}
-use Rattle.rx_machine.specs.Held.{is_held}
-use Rattle.rx_machine.specs.Spine.{Spine}
+use Rattle.rx_terms.specs.Held.{is_held}
+use Rattle.rx_terms.specs.Spine.{Spine}
 use Rattle.rx_ledger.specs.Answering.{asker}
 use Rattle.rx_parts.proofs.Lists.{one_item}
 use Rattle.rx_parts.specs.Ledger.{Actor, Walks, LegalLedger, stays, local, stores}

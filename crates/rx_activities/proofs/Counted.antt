@@ -32,8 +32,8 @@ use Rattle.rx_ledger.specs.Kept.{Answered}
 use Rattle.rx_ledger.specs.Owned.{Owned, own_told}
 use Rattle.rx_ledger.proofs.Called.{front_folds}
 use Rattle.rx_ledger.proofs.StaysGood.{places_more}
-use Rattle.rx_machine.proofs.Granting.{AfterGrant}
-use Rattle.rx_machine.proofs.SpineGrants.{GrantsSpine}
+use Rattle.rx_terms.proofs.Granting.{AfterGrant}
+use Rattle.rx_terms.proofs.SpineGrants.{GrantsSpine}
 use Rattle.rx_parts_book.specs.declared.items.EventItem.{EventItem}
 use Rattle.rx_objects.specs.declared.ledger.LedgerFixed.{LedgerFixed}
 use Rattle.rx_objects.specs.Ending.{entries_at}

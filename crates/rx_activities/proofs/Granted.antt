@@ -19,8 +19,8 @@ use Rattle.rx_book.specs.declared.views.View.{View}
 use Rattle.rx_book.specs.declared.passes.Pass.{Pass}
 use Rattle.rx_book.specs.Passes.{view_of}
 use Rattle.rx_book.specs.Named.{BookName}
-use Rattle.rx_machine.specs.Held.{is_held, HeldInFront}
-use Rattle.rx_machine.specs.Spine.{Spine}
+use Rattle.rx_terms.specs.Held.{is_held, HeldInFront}
+use Rattle.rx_terms.specs.Spine.{Spine}
 use Rattle.rx_parts.specs.Ledger.{LedgerItem, Actor, Walks, stays, LegalLedger, actor_granted}
 use Rattle.rx_parts.specs.Growing.{NoneBy, MayRequest}
 use Rattle.rx_parts.specs.Calling.{AllHostItems}
@@ -35,7 +35,7 @@ use Rattle.rx_objects.specs.Ending.{entries_at}
 use Rattle.rx_activities.specs.declared.hand.Hand.{Hand}
 use Rattle.rx_activities.specs.Knowing.{StandsSo, Serves, since, kinds_told}
 use Rattle.rx_activities.specs.Inside.Births.{IsWith}
-use Rattle.rx_activities.proofs.BelowSome.{some_granted}
+use Rattle.rx_runs.proofs.SomeWords.{some-granted}
 
 -- the events made since an entry that was made just now
 pub none_since : (h : Hand) (seat : Pass EventItem) → h.told.value ≡ seat → h.seat ≡ seat → since h ≡ []
@@ -151,7 +151,7 @@ module _ (code : Block) (L : BookName LedgerFixed) (a : Hand) (t : TaskId) (s : 
         term = subst (λ (x : Control). StandsFor L.fixed.program.script x left) (sym is.control) term;
         vars = ap (λ (x : Control). x.vars) is.control ∙ (vars ∙ sym told);
         batch = is.batch_is;
-        some = some_granted (brought act) s.stand.term s.some;
+        some = some-granted (brought act) s.stand.term s.some;
         known = seen_so (λ (x : View EntryItem). now.stand.vars.places ≤ (tree_of L.fixed.setup.places (entries_at x.seen)).places)
             (subst (λ (w : Vars). w.places ≤ (tree_of L.fixed.setup.places (entries_at (view_of pass).seen)).places) (sym told) n.known);
         held = n.held;

@@ -22,8 +22,8 @@ use Rattle.rx_book.specs.declared.views.Stamped.{Stamped}
 use Rattle.rx_book.specs.declared.passes.Pass.{Pass}
 use Rattle.rx_book.specs.Passes.{view_of}
 use Rattle.rx_book.specs.Named.{BookName}
-use Rattle.rx_machine.specs.Held.{is_held}
-use Rattle.rx_machine.specs.Spine.{Spine}
+use Rattle.rx_terms.specs.Held.{is_held}
+use Rattle.rx_terms.specs.Spine.{Spine}
 use Rattle.rx_parts.specs.Ledger.{LedgerItem, LegalLedger}
 use Rattle.rx_parts.specs.Growing.{NoneBy}
 use Rattle.rx_parts_book.specs.declared.items.EntryItem.{EntryItem}

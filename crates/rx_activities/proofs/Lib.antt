@@ -1,8 +1,6 @@
 pub mod Walking
 pub mod Calling
 pub mod Later
-pub mod BelowSilent
-pub mod BelowSome
 pub mod BelowFew
 pub mod BelowItems
 pub mod BelowOwned
@@ -17,13 +15,10 @@ pub mod GrantedReplies
 pub mod Counted
 pub mod SentBack
 pub mod SentNever
-pub mod BelowChild
-pub mod BelowTree
 pub mod BeganAt
 pub mod BornCalls
 pub mod Born
 pub mod Births
-pub mod BelowTerms
 pub mod Stored
 pub mod BeganMain
 pub mod Landed

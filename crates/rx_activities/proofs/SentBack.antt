@@ -31,9 +31,9 @@ use Rattle.rx_ledger.specs.Answering.{asker, MustWait, task, host}
 use Rattle.rx_ledger.specs.Asking.{IsHeld, MayAskFor, MayApply}
 use Rattle.rx_ledger.specs.Kept.{Answered}
 use Rattle.rx_ledger.specs.Owned.{own_told}
-use Rattle.rx_machine.specs.Held.{is_held}
-use Rattle.rx_machine.specs.Spine.{Spine}
-use Rattle.rx_machine.proofs.Released.{release-held}
+use Rattle.rx_terms.specs.Held.{is_held}
+use Rattle.rx_terms.specs.Spine.{Spine}
+use Rattle.rx_terms.proofs.Granting.{release_held}
 use Rattle.rx_parts.specs.Ledger.{LedgerItem, Actor, Walks, LegalLedger}
 use Rattle.rx_parts.specs.Growing.{NoneBy}
 use Rattle.rx_parts.proofs.Growing.{task-stays}
@@ -113,7 +113,7 @@ module _ (shape : Shape) (L : BookName LedgerFixed) (rest : Rest) (child : Optio
     releases = asks_release d _ place w.op.request answer.answers.1 (suits_so shape L rest (NotYet place request) child w program code stands s)
 
     waits : is_held s.stand.term ≡ true
-    waits = release-held (record { term = s.stand.term; vars = s.stand.vars; batch = [] }) w.hand.place.0 releases.1
+    waits = release_held s.stand.vars w.hand.place.0 s.stand.term releases.1
 
     unmade : since w.hand ≡ []
     unmade = s.calm waits

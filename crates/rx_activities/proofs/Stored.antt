@@ -34,9 +34,10 @@ use Rattle.rx_book.specs.Calls.{Begins, Called, Looked}
 use Rattle.rx_book.proofs.History.{entries_by-append}
 use Rattle.rx_book.proofs.Fronts.{prefix_self}
 use Rattle.rx_ledger.proofs.StaysGood.{places_more}
-use Rattle.rx_machine.specs.Held.{is_held, HeldInFront}
-use Rattle.rx_machine.proofs.Called.{IsCall, begun_is}
-use Rattle.rx_machine.proofs.Stepping.{not_held}
+use Rattle.rx_terms.specs.Held.{is_held, HeldInFront}
+use Rattle.rx_stores.proofs.Calls.{IsCall}
+use Rattle.rx_terms.proofs.SpineGrants.{begun_is}
+use Rattle.rx_terms.proofs.Granting.{not_held}
 use Rattle.rx_parts.specs.Ledger.{LedgerItem, Walks}
 use Rattle.rx_parts.specs.Places.{MadeEvent, LegalPlace, journal_of, seen_by}
 use Rattle.rx_parts.specs.Closing.{StampedTo}
@@ -64,7 +65,11 @@ use Rattle.rx_objects.proofs.Places.{journal_same, carried_same, carried_push, t
 use Rattle.rx_activities.specs.declared.hand.Hand.{Hand}
 use Rattle.rx_activities.specs.Knowing.{StandsSo, Knows, IsOfRun, Serves, since, kinds_told, entries_seen, tree_seen}
 use Rattle.rx_activities.specs.Inside.Answered.{PartsAre}
-use Rattle.rx_activities.proofs.BelowTerms.{answer_waits, answer_spine, answer_knows, begun_one, some_answered}
+use Rattle.rx_terms.proofs.Granting.{answer_waits}
+use Rattle.rx_terms.proofs.SpineGrants.{answer_spine}
+use Rattle.rx_terms.proofs.Beginning.{begun_one}
+use Rattle.rx_runs.proofs.Knowing.{answer_knows}
+use Rattle.rx_runs.proofs.SomeWords.{some-answered}
 use Rattle.rx_activities.proofs.Calling.{fixed_at, op_of, with_pass, walk_up, looked_stands, looked_stand, call_is}
 use Rattle.rx_activities.proofs.Later.{stands_later, later_stand, entries_more}
 
@@ -213,7 +218,7 @@ module _ (L : BookName LedgerFixed) (a : Hand) (k : Knows L a) (q : Pass EntryIt
           term = term;
           vars = vars ∙ ap (vars_after ans) s.vars;
           batch = made ∙ (ap (λ (b : List (List ℕ)). b ++ x ∷ []) s.batch ∙ sym (begun_one s.stand.term s.stand.batch x path));
-          some = some_answered ans s.stand.term s.some;
+          some = some-answered ans s.stand.term s.some;
           known = subst (λ (m : ℕ). m ≤ (tree_seen L.fixed p).places) (sym (answer_knows ans s.stand.vars)) s.known;
           held = waits.0;
           calm = λ yes. absurd (let no : true ≡ false = sym yes ∙ waits.1 in cc);

@@ -19,10 +19,10 @@ use Rattle.rx_control.specs.Next.{next_of}
 use Rattle.rx_control.proofs.Told.{told_local}
 use Rattle.rx_check.specs.Checked.{Checked}
 use Rattle.rx_book.specs.Named.{BookName}
-use Rattle.rx_machine.specs.Held.{is_held}
-use Rattle.rx_machine.proofs.Holding.{AfterLocal, after-local}
-use Rattle.rx_machine.proofs.Spines.{LeavesSpine, spine-local}
-use Rattle.rx_machine.proofs.Stepping.{not_held}
+use Rattle.rx_terms.specs.Held.{is_held}
+use Rattle.rx_terms.proofs.Holding.{AfterLocal, after-local}
+use Rattle.rx_terms.proofs.Spines.{LeavesSpine, spine-local}
+use Rattle.rx_terms.proofs.Granting.{not_held}
 use Rattle.rx_parts.specs.Ledger.{Walks, stays, local, stores}
 use Rattle.rx_objects.specs.declared.ledger.LedgerFixed.{LedgerFixed}
 use Rattle.rx_activities.specs.declared.hand.Hand.{Hand}

@@ -25,8 +25,8 @@ use Rattle.rx_book.specs.Passes.{view_of, word_of}
 use Rattle.rx_book.specs.Named.{BookName}
 use Rattle.rx_ledger.specs.Answering.{asker}
 use Rattle.rx_ledger.specs.Owned.{own_told}
-use Rattle.rx_machine.specs.Held.{is_held, HeldInFront}
-use Rattle.rx_machine.specs.Spine.{Spine}
+use Rattle.rx_terms.specs.Held.{is_held, HeldInFront}
+use Rattle.rx_terms.specs.Spine.{Spine}
 use Rattle.rx_parts.specs.Ledger.{Actor, Present, Walks, LegalLedger}
 use Rattle.rx_parts_book.specs.declared.items.EntryItem.{EntryItem}
 use Rattle.rx_parts_book.specs.declared.items.EventItem.{EventItem}

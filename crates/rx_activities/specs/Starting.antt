@@ -16,8 +16,8 @@ use Rattle.rx_book.specs.declared.passes.Pass.{Pass}
 use Rattle.rx_book.specs.Passes.{view_of, word_of}
 use Rattle.rx_ledger.specs.Answering.{main_caller}
 use Rattle.rx_ledger.specs.Owned.{own_told}
-use Rattle.rx_machine.specs.Held.{Unheld}
-use Rattle.rx_machine.specs.Spine.{NoScopeOpen}
+use Rattle.rx_terms.specs.Held.{Unheld}
+use Rattle.rx_terms.specs.Spine.{NoScopeOpen}
 use Rattle.rx_parts.specs.Ledger.{Actor, Away, LegalLedger}
 use Rattle.rx_parts_book.specs.declared.items.EntryItem.{EntryItem}
 use Rattle.rx_parts_book.specs.declared.items.EventItem.{EventItem}

@@ -15,3 +15,5 @@ pub mod Answering
 pub mod Bound
 pub mod Kept
 pub mod Raising
+pub mod Requests
+pub mod SomeWords

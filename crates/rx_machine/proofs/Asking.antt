@@ -17,7 +17,7 @@ use Rattle.rx_nodes.specs.Shape.{Shape}
 use Rattle.rx_machine.specs.declared.seat.Seat.{Seat}
 use Rattle.rx_machine.specs.Inside.Callers.{caller, first_scope}
 use Rattle.rx_machine.specs.Slots.{IsSeat}
-use Rattle.rx_machine.specs.Held.{is_held}
+use Rattle.rx_terms.specs.Held.{is_held}
 use Rattle.rx_machine.proofs.Live.{live_stands, live_number}
 
 -- an id is that of its number

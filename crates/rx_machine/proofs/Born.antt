@@ -33,20 +33,20 @@ use Rattle.rx_control.specs.declared.control.Control.{Control}
 use Rattle.rx_control.specs.Stands.{StandsFor}
 use Rattle.rx_machine.specs.declared.machine.Machine.{Machine}
 use Rattle.rx_machine.specs.declared.seat.Seat.{Seat}
-use Rattle.rx_machine.specs.Held.{is_held, HeldInFront}
-use Rattle.rx_machine.specs.Spine.{Spine}
+use Rattle.rx_terms.specs.Held.{is_held, HeldInFront}
+use Rattle.rx_terms.specs.Spine.{Spine}
 use Rattle.rx_machine.specs.Slots.{live_task, if_unstruck, own_scopes, own_kinds, SlotIs, IsSeat, seat_at, seat_in}
 use Rattle.rx_stores.specs.Kepts.{StoresAre}
 use Rattle.rx_history.specs.Setups.{to_join}
 use Rattle.rx_machine.specs.Holds.{Seated, HoldsBut, IsPick, HasGone, LeadsTo}
 use Rattle.rx_machine.proofs.Acted.{Went, game_after, tree-after, turned, shared}
 use Rattle.rx_machine.proofs.Finding.{same_or_not, get_other, get_before}
-use Rattle.rx_machine.proofs.Granting.{unheld-child}
-use Rattle.rx_machine.proofs.Holding.{unheld-front}
+use Rattle.rx_terms.proofs.Granting.{unheld-child}
+use Rattle.rx_terms.proofs.Holding.{unheld-front}
 use Rattle.rx_machine.proofs.Live.{none_above}
 use Rattle.rx_machine.proofs.Own.{SameOwn, slot-on}
-use Rattle.rx_machine.proofs.SpineGrants.{flat-child}
-use Rattle.rx_machine.proofs.Spines.{flat-spine}
+use Rattle.rx_terms.proofs.SpineGrants.{flat-child}
+use Rattle.rx_terms.proofs.Spines.{flat-spine}
 
 -- A task that is not yet born opened no scope.
 

@@ -43,164 +43,21 @@ use Rattle.rx_control.specs.Next.{next_of}
 use Rattle.rx_control.specs.Stands.{StandsFor}
 use Rattle.rx_machine.specs.declared.machine.Machine.{Machine}
 use Rattle.rx_machine.specs.declared.seat.Seat.{Seat}
-use Rattle.rx_machine.specs.Held.{is_held, HeldInFront}
-use Rattle.rx_machine.specs.Spine.{NoScopeOpen, Spine}
+use Rattle.rx_terms.specs.Held.{is_held, HeldInFront}
+use Rattle.rx_terms.specs.Spine.{NoScopeOpen, Spine}
 use Rattle.rx_machine.specs.Slots.{IsSeat, live_task, own_kinds}
 use Rattle.rx_stores.specs.Kepts.{StoresAre}
 use Rattle.rx_machine.specs.Holds.{Acting}
 use Rattle.rx_machine.specs.Inside.Requests.{OnlyStores, AfterStep}
 use Rattle.rx_stores.specs.Asked.{MayAskStore, Receives, Asked}
 use Rattle.rx_machine.proofs.Live.{live_stands}
-use Rattle.rx_machine.proofs.Beginning.{Begins, begins-so}
-use Rattle.rx_machine.proofs.Granting.{after-answer, unheld-after}
-use Rattle.rx_machine.proofs.SpineGrants.{IsBegun, spine-answer}
-use Rattle.rx_machine.proofs.Stepping.{goes-stores, acting-on, not_held}
-
--- What a term asks of the store.
-
--- the store is that of this place, and the name that waits is that of the statement
-abbrev pub CallSo : ℕ → Does → Option ℕ → Type 0
-CallSo here (Local left vars) o = Unit {0}
-CallSo here (Makes name words) o = o ≡ Some name
-CallSo here (Gets name target index) o = (target.home.0 ≡ here) × (o ≡ Some name)
-CallSo here (Puts target index value) o = target.home.0 ≡ here
-CallSo here (Forgets target) o = target.home.0 ≡ here
-CallSo here Opens o = Unit {0}
-CallSo here (Calls place) o = Unit {0}
-CallSo here (Spawns place) o = Unit {0}
-CallSo here (Waits faults) o = Unit {0}
-CallSo here Releases o = Unit {0}
-CallSo here (Prints value) o = Unit {0}
-CallSo here (Counts name) o = Unit {0}
-CallSo here (Done faults) o = Unit {0}
-
-on-number : (here : ℕ) (vars : Vars) (v : Option ℤ) (f : ℤ → Does) (o : Option ℕ) → ((z : ℤ) → CallSo here (f z) o) → CallSo here (with_number vars v f) o
-on-number here vars None f o h = tt
-on-number here vars (Some z) f o h = h z
-
-on-place : (here : ℕ) (vars : Vars) (p : Result ℕ Fault) (f : ℕ → Does) (o : Option ℕ) → ((z : ℕ) → CallSo here (f z) o) → CallSo here (with_place vars p f) o
-on-place here vars (Err fault) f o h = tt
-on-place here vars (Ok z) f o h = h z
-
-on-test : (here : ℕ) (b : Bool) (d e : Does) (o : Option ℕ) → (b ≡ true → CallSo here d o) → CallSo here e o → CallSo here (cond b d e) o
-on-test here true d e o h k = h refl
-on-test here false d e o h k = k
-
-of_stmt : (vars : Vars) (here : ℕ) (stmt : Stmt) (x : List ℕ) (rest : Term) → CallSo here (stmt_does vars here stmt x rest) (stmt_receives stmt)
-of_stmt vars here (SetTo name value) x rest = on-number here vars (eval vars here value) (λ z. Local rest (bound name (Number z) vars)) None (λ z. tt)
-of_stmt vars here (New name words) x rest = refl
-of_stmt vars here (Get name target index) x rest =
-    let r = ref_in (value_of vars target) in
-    on-number here vars (eval vars here index) (λ k. cond (r.home.0 == here) (Gets name r k) (Local (raise WrongPlace) vars)) (Some name)
-    (λ k. on-test here (r.home.0 == here) (Gets name r k) (Local (raise WrongPlace) vars) (Some name) (λ e. (eqb-true r.home.0 here e, refl)) tt)
-of_stmt vars here (Put target index value) x rest =
-    let r = ref_in (value_of vars target) in
-    on-number here vars (eval vars here index) (λ k. with_number vars (eval vars here value) (λ z. cond (r.home.0 == here) (Puts r k z) (Local (raise WrongPlace) vars))) None
-    (λ k. on-number here vars (eval vars here value) (λ z. cond (r.home.0 == here) (Puts r k z) (Local (raise WrongPlace) vars)) None
-    (λ z. on-test here (r.home.0 == here) (Puts r k z) (Local (raise WrongPlace) vars) None (λ e. eqb-true r.home.0 here e) tt))
-of_stmt vars here (Forget target) x rest =
-    let r = ref_in (value_of vars target) in on-test here (r.home.0 == here) (Forgets r) (Local (raise WrongPlace) vars) None (λ e. eqb-true r.home.0 here e) tt
-of_stmt vars here (Print value) x rest = on-number here vars (eval vars here value) Prints None (λ z. tt)
-of_stmt vars here (Census name) x rest = tt
-of_stmt vars here (Throw value) x rest = on-number here vars (eval vars here value) (λ z. Local (raise (Thrown z)) vars) None (λ z. tt)
-of_stmt vars here (Async body) x rest = tt
-of_stmt vars here (AtAsync place body) x rest = on-place here vars (target_of (eval vars here place) vars.places) Spawns None (λ p. tt)
-of_stmt vars here (At place body) x rest = on-place here vars (target_of (eval vars here place) vars.places) Calls None (λ p. tt)
-of_stmt vars here (Finish body) x rest = tt
-of_stmt vars here (If test first other) x rest =
-    on-number here vars (eval vars here test) (λ z. Local (cond (is_zero z) (items other (at x 1) rest) (items first (at x 0) rest)) vars) None (λ z. tt)
-of_stmt vars here (Repeat times body) x rest = tt
-of_stmt vars here (Try body dead_only handler) x rest = tt
-
-inside : (here : ℕ) (f : Term → Term) (d : Does) (o : Option ℕ) → CallSo here d o → CallSo here (within f d) o
-inside here f (Local left vars) o h = tt
-inside here f (Makes name words) o h = h
-inside here f (Gets name target index) o h = h
-inside here f (Puts target index value) o h = h
-inside here f (Forgets target) o h = h
-inside here f Opens o h = tt
-inside here f (Calls place) o h = tt
-inside here f (Spawns place) o h = tt
-inside here f (Waits faults) o h = tt
-inside here f Releases o h = tt
-inside here f (Prints value) o h = tt
-inside here f (Counts name) o h = tt
-inside here f (Done faults) o h = tt
-
-pub call-so : (vars : Vars) (here : ℕ) (t : Term) → CallSo here (does vars here t) (receives t)
-call-so vars here Empty = tt
-call-so vars here (Run stmt x rest) = of_stmt vars here stmt x rest
-call-so vars here (Raise faults) = tt
-call-so vars here (Turns body x k times rest) = tt
-call-so vars here (Trying Empty o b x rest) = tt
-call-so vars here (Trying (Raise fs) o b x rest) = tt
-call-so vars here (Trying (Run s y m) o b x rest) = inside here (λ t. Trying t o b x rest) (does vars here (Run s y m)) (receives (Run s y m)) (call-so vars here (Run s y m))
-call-so vars here (Trying (Turns c y k n m) o b x rest) = tt
-call-so vars here (Trying (Trying u p c y m) o b x rest) = inside here (λ t. Trying t o b x rest) (does vars here (Trying u p c y m)) (receives (Trying u p c y m)) (call-so vars here (Trying u p c y m))
-call-so vars here (Trying (Body u m) o b x rest) = inside here (λ t. Trying t o b x rest) (does vars here (Body u m)) (receives (Body u m)) (call-so vars here (Body u m))
-call-so vars here (Trying (Held m) o b x rest) = tt
-call-so vars here (Body Empty rest) = tt
-call-so vars here (Body (Raise fs) rest) = tt
-call-so vars here (Body (Run s y m) rest) = inside here (λ t. Body t rest) (does vars here (Run s y m)) (receives (Run s y m)) (call-so vars here (Run s y m))
-call-so vars here (Body (Turns c y k n m) rest) = tt
-call-so vars here (Body (Trying u p c y m) rest) = inside here (λ t. Body t rest) (does vars here (Trying u p c y m)) (receives (Trying u p c y m)) (call-so vars here (Trying u p c y m))
-call-so vars here (Body (Body u m) rest) = inside here (λ t. Body t rest) (does vars here (Body u m)) (receives (Body u m)) (call-so vars here (Body u m))
-call-so vars here (Body (Held m) rest) = tt
-call-so vars here (Held rest) = tt
-
--- what is told of a call, for its statement, the name that waits, the store that may be asked, and the steps that are left
-pub record IsCall (t : Term) (here : PlaceId) (op : CellOp) (d : Does) : Type 0 where
-  pub begins : (x : List ℕ) × (begins t ≡ Some x)
-  pub receives : Receives d (receives t)
-  pub may : MayAskStore here op
-  pub sinks : (a : Answer) → steps (answered a t) + 1 ≤ steps t
-  pub free : d ≡ Releases → ⊥
-
-pub is_call : (t : Term) (here : PlaceId) (op : CellOp) (d : Does) → next_of d ≡ CellStep op → Begins d (begins t) → CallSo here.0 d (receives t) → AsksSome d → Sinks t d → IsCall t here op d
-is_call t here op (Local left vars) e b c s k = absurd (let f : ⊥ = cc in f)
-is_call t here (Make n) (Makes name words) e b c s k = record { begins = b; receives = c; may = (let w : words ≡ n = cc in subst (λ (v : ℕ). 0 < v) w s); sinks = k; free = λ f. (let g : ⊥ = cc in g) }
-is_call t here (GetWord r i) (Makes name words) e b c s k = absurd (let f : ⊥ = cc in f)
-is_call t here (PutWord r i v) (Makes name words) e b c s k = absurd (let f : ⊥ = cc in f)
-is_call t here (ForgetBlock r) (Makes name words) e b c s k = absurd (let f : ⊥ = cc in f)
-is_call t here (Make n) (Gets name target index) e b c s k = absurd (let f : ⊥ = cc in f)
-is_call t here (GetWord r i) (Gets name target index) e b c s k = record { begins = b; receives = c.1; may = (let w : target ≡ r = cc in ap (λ v. v.home) (sym w) ∙ place-is target.home here c.0); sinks = k; free = λ f. (let g : ⊥ = cc in g) }
-is_call t here (PutWord r i v) (Gets name target index) e b c s k = absurd (let f : ⊥ = cc in f)
-is_call t here (ForgetBlock r) (Gets name target index) e b c s k = absurd (let f : ⊥ = cc in f)
-is_call t here (Make n) (Puts target index value) e b c s k = absurd (let f : ⊥ = cc in f)
-is_call t here (GetWord r i) (Puts target index value) e b c s k = absurd (let f : ⊥ = cc in f)
-is_call t here (PutWord r i v) (Puts target index value) e b c s k = record { begins = b; receives = tt; may = (let w : target ≡ r = cc in ap (λ v. v.home) (sym w) ∙ place-is target.home here c); sinks = k; free = λ f. (let g : ⊥ = cc in g) }
-is_call t here (ForgetBlock r) (Puts target index value) e b c s k = absurd (let f : ⊥ = cc in f)
-is_call t here (Make n) (Forgets target) e b c s k = absurd (let f : ⊥ = cc in f)
-is_call t here (GetWord r i) (Forgets target) e b c s k = absurd (let f : ⊥ = cc in f)
-is_call t here (PutWord r i v) (Forgets target) e b c s k = absurd (let f : ⊥ = cc in f)
-is_call t here (ForgetBlock r) (Forgets target) e b c s k = record { begins = b; receives = tt; may = (let w : target ≡ r = cc in ap (λ v. v.home) (sym w) ∙ place-is target.home here c); sinks = k; free = λ f. (let g : ⊥ = cc in g) }
-is_call t here op Opens e b c s k = absurd (let f : ⊥ = cc in f)
-is_call t here op (Calls place) e b c s k = absurd (let f : ⊥ = cc in f)
-is_call t here op (Spawns place) e b c s k = absurd (let f : ⊥ = cc in f)
-is_call t here op (Waits faults) e b c s k = absurd (let f : ⊥ = cc in f)
-is_call t here op Releases e b c s k = absurd (let f : ⊥ = cc in f)
-is_call t here op (Prints value) e b c s k = absurd (let f : ⊥ = cc in f)
-is_call t here op (Counts name) e b c s k = absurd (let f : ⊥ = cc in f)
-is_call t here op (Done faults) e b c s k = absurd (let f : ⊥ = cc in f)
-
-pub begun_is : (t : Term) (x : List ℕ) → begins t ≡ Some x → IsBegun t
-begun_is Empty x e = absurd (let f : ⊥ = cc in f)
-begun_is (Run stmt y rest) x e = tt
-begun_is (Raise faults) x e = absurd (let f : ⊥ = cc in f)
-begun_is (Turns body y k times rest) x e = absurd (let f : ⊥ = cc in f)
-begun_is (Trying inside o b y rest) x e = begun_is inside x e
-begun_is (Body inside rest) x e = begun_is inside x e
-begun_is (Held rest) x e = absurd (let f : ⊥ = cc in f)
-
-flat-after : (t : Term) (ks : List Kind) → Spine t ks → NoScopeOpen (after_it t)
-flat-after Empty ks h = tt
-flat-after (Run stmt x rest) ks h = h.1
-flat-after (Raise faults) ks h = tt
-flat-after (Turns body x k times rest) ks h = tt
-flat-after (Trying inside o b x rest) ks h = flat-after inside ks h.0
-flat-after (Body inside rest) [] h = absurd h
-flat-after (Body inside rest) (k ∷ ks) h = flat-after inside ks h.1
-flat-after (Held rest) ks h = tt
+use Rattle.rx_terms.proofs.Beginning.{begins-so}
+use Rattle.rx_terms.proofs.Receiving.{call-so}
+use Rattle.rx_stores.proofs.Calls.{IsCall, is_call}
+use Rattle.rx_terms.proofs.Granting.{after-answer, unheld-after}
+use Rattle.rx_terms.proofs.SpineGrants.{IsBegun, spine-answer, begun_is, flat-after}
+use Rattle.rx_machine.proofs.Stepping.{goes-stores, acting-on}
+use Rattle.rx_terms.proofs.Granting.{not_held}
 
 -- Stores by their places.
 

@@ -21,13 +21,14 @@ use Rattle.rx_history.specs.Setups.{to_join}
 use Rattle.rx_machine.specs.declared.machine.Machine.{Machine}
 use Rattle.rx_machine.specs.declared.seat.Seat.{Seat}
 use Rattle.rx_machine.specs.Slots.{own_kinds}
-use Rattle.rx_machine.specs.Held.{is_held}
+use Rattle.rx_terms.specs.Held.{is_held}
 use Rattle.rx_machine.specs.Holds.{Seated, Acting, LeadsTo}
 use Rattle.rx_machine.proofs.Acted.{Went, acted}
 use Rattle.rx_machine.proofs.Asking.{not_lost}
-use Rattle.rx_machine.proofs.Beginning.{Begins, begins-so}
-use Rattle.rx_machine.proofs.Granting.{AfterGrant, after-grant, held-releases}
-use Rattle.rx_machine.proofs.SpineGrants.{GrantsSpine, spine-grant}
+use Rattle.rx_terms.proofs.Beginning.{begins-so}
+use Rattle.rx_terms.specs.Steps.{Begins}
+use Rattle.rx_terms.proofs.Granting.{AfterGrant, after-grant, held-releases}
+use Rattle.rx_terms.proofs.SpineGrants.{GrantsSpine, spine-grant}
 
 -- the statement that counts
 pub census-begins : (q : Player) (here : ℕ) (name : ℕ) → does q.vars here q.term ≡ Counts name → (x : List ℕ) × (begins q.term ≡ Some x)

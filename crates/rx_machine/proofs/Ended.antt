@@ -31,7 +31,7 @@ use Rattle.rx_machine.specs.declared.machine.Machine.{Machine}
 use Rattle.rx_machine.specs.declared.seat.Seat.{Seat}
 use Rattle.rx_machine.specs.Inside.Callers.{caller}
 use Rattle.rx_machine.specs.Slots.{IsSeat, SlotIs, live_task, own_kinds, seat_at}
-use Rattle.rx_machine.specs.Held.{is_held}
+use Rattle.rx_terms.specs.Held.{is_held}
 use Rattle.rx_stores.specs.Kepts.{StoresAre}
 use Rattle.rx_machine.specs.Holds.{Seated, Acting, LeadsTo}
 use Rattle.rx_machine.proofs.Finding.{same_or_not}
@@ -39,8 +39,8 @@ use Rattle.rx_machine.proofs.Live.{live_number, live_stands, less-same, less-oth
 use Rattle.rx_machine.proofs.Own.{end-tasks, end-own, slot-on}
 use Rattle.rx_machine.proofs.Acted.{same-room, Went}
 use Rattle.rx_machine.proofs.Asking.{id_of, not_lost, seat_asks, moving}
-use Rattle.rx_machine.proofs.Granting.{held-releases}
-use Rattle.rx_machine.proofs.SpineGrants.{EmptyWhereDone, spine-done}
+use Rattle.rx_terms.proofs.Granting.{held-releases}
+use Rattle.rx_terms.proofs.SpineGrants.{EmptyWhereDone, spine-done}
 
 -- a task that has nothing left to run does not wait
 end-free : (q : Player) (here : ℕ) (fs : List Fault) → does q.vars here q.term ≡ Done fs → is_held q.term ≡ false

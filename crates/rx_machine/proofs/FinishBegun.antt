@@ -26,14 +26,15 @@ use Rattle.rx_history.specs.Setups.{to_join}
 use Rattle.rx_machine.specs.declared.machine.Machine.{Machine}
 use Rattle.rx_machine.specs.declared.seat.Seat.{Seat}
 use Rattle.rx_machine.specs.Slots.{own_scopes, own_kinds}
-use Rattle.rx_machine.specs.Held.{is_held}
-use Rattle.rx_machine.specs.Spine.{Spine}
+use Rattle.rx_terms.specs.Held.{is_held}
+use Rattle.rx_terms.specs.Spine.{Spine}
 use Rattle.rx_machine.specs.Holds.{Seated, Acting, LeadsTo}
 use Rattle.rx_machine.proofs.Acted.{told-nothing, Went, acted}
 use Rattle.rx_machine.proofs.Asking.{not_lost}
-use Rattle.rx_machine.proofs.Beginning.{Begins, begins-so}
-use Rattle.rx_machine.proofs.Granting.{AfterGrant, after-grant, held-releases}
-use Rattle.rx_machine.proofs.SpineGrants.{GrantsSpine, spine-grant}
+use Rattle.rx_terms.proofs.Beginning.{begins-so}
+use Rattle.rx_terms.specs.Steps.{Begins}
+use Rattle.rx_terms.proofs.Granting.{AfterGrant, after-grant, held-releases}
+use Rattle.rx_terms.proofs.SpineGrants.{GrantsSpine, spine-grant}
 use Rattle.rx_machine.proofs.Own.{opened-same, opened-other}
 
 -- the statement that begins the finish

@@ -13,7 +13,7 @@ use Rattle.rx_nodes.specs.Shape.{Shape}
 use Rattle.rx_control.specs.Stands.{StandsFor}
 use Rattle.rx_machine.specs.declared.machine.Machine.{Machine}
 use Rattle.rx_machine.specs.declared.seat.Seat.{Seat}
-use Rattle.rx_machine.specs.Held.{is_held, HeldInFront}
+use Rattle.rx_terms.specs.Held.{is_held, HeldInFront}
 use Rattle.rx_machine.specs.Slots.{SlotIs, seat_at, live_in, root_row}
 use Rattle.rx_sound.specs.Enabling.{able_in}
 use Rattle.rx_machine.specs.Picking.{IsReady}
@@ -21,9 +21,9 @@ use Rattle.rx_origins.specs.Origins.{TellsOrigins}
 use Rattle.rx_origins.specs.declared.origin.Origin.{Origin}
 use Rattle.rx_stores.specs.Kepts.{StoresAre}
 use Rattle.rx_machine.specs.Holds.{RunsOn, Seated}
-use Rattle.rx_machine.proofs.Holding.{unheld-front, unheld-items}
+use Rattle.rx_terms.proofs.Holding.{unheld-front, unheld-items}
 use Rattle.rx_machine.proofs.OriginsKept.{tells_root}
-use Rattle.rx_machine.proofs.Spines.{flat-spine, flat-items}
+use Rattle.rx_terms.proofs.Spines.{flat-spine, flat-items}
 
 -- its seat stands in slot 0, and no other slot has one
 pub opens-seats : (shape : Shape) (code : Block) (U : Given) (seat : Seat) (n : ℕ) → seat.row ≡ root_row → seat.scopes.items ≡ [] → seat.batch ≡ [] → StandsFor shape seat.control (items code [] Empty) → seat.control.vars ≡ no_vars U.places → SlotIs shape (opening U.places) (start_game code U).players n (seat_at (Some seat ∷ []) n)

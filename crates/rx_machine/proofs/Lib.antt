@@ -2,11 +2,6 @@ pub mod Finding
 pub mod Live
 pub mod Own
 pub mod Acted
-pub mod Holding
-pub mod Granting
-pub mod Spines
-pub mod SpineGrants
-pub mod Beginning
 pub mod Asking
 pub mod Printed
 pub mod Counted
@@ -17,7 +12,6 @@ pub mod Landed
 pub mod EnabledTasks
 pub mod Readying
 pub mod Able
-pub mod Targets
 pub mod Born
 pub mod Spawned
 pub mod Waited

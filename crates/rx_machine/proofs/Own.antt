@@ -14,7 +14,7 @@ use Rattle.rx_rules.specs.Picked.{Player}
 use Rattle.rx_nodes.specs.Shape.{Shape}
 use Rattle.rx_machine.specs.declared.seat.Seat.{Seat}
 use Rattle.rx_machine.specs.Slots.{live_task, own_scopes, own_kinds, SlotIs}
-use Rattle.rx_machine.specs.Spine.{Spine}
+use Rattle.rx_terms.specs.Spine.{Spine}
 use Rattle.rx_machine.proofs.Live.{without_task}
 
 -- the own scopes of a task, their numbers and kinds, are those of another tree

@@ -1,42 +1,10 @@
 -- What a checked script gives to a run.
-use Rattle.std.proofs.Common.{◌≡◌, ℕ, ◌<◌, ◌≤◌, true, false, Bool, refl, arith}
-use Rattle.std.specs.Prelude.{nat_lt, ◌&&◌}
-use Rattle.std.proofs.lemmas.Bool.Decides.{nat_tests}
-use Rattle.rx_rules.specs.Code.{Stmt, SetTo, New, Get, Put, Forget, Print, Census, Throw, Async, AtAsync, At, Finish, If, Repeat, Try, Block, Nothing, Then, work}
+use Rattle.std.specs.Prelude.{◌≤◌}
+use Rattle.rx_rules.specs.Code.{Block, work}
 use Rattle.rx_rules.specs.Run.{Given, Proper}
-use Rattle.rx_nodes.specs.Grammar.{InRange, AllInRange, may_hold}
-use Rattle.rx_runs.specs.SomeWords.{MakesSome, StmtMakesSome}
+use Rattle.rx_nodes.specs.Grammar.{AllInRange}
+use Rattle.rx_control.proofs.SomeWords.{makes-some}
 use Rattle.rx_machine.specs.Holds.{RunsOn}
-
-pub some-words : (k : ℕ) → may_hold k ≡ true → 0 < k
-some-words k e = by-test (nat_lt 0 k) refl e
-  where
-    by-test : (b : Bool) → nat_lt 0 k ≡ b → (b && nat_lt k 65537) ≡ true → 0 < k
-    by-test true t f = grind (arith, nat_tests)
-    by-test false t f = cc
-
--- in a script of the grammar each `new` asks for a word
-mutual
-  pub stmt-makes : (t : Stmt) → InRange t → StmtMakesSome t
-  stmt-makes (SetTo n e) f = tt
-  stmt-makes (New n k) f = some-words k f
-  stmt-makes (Get n t e) f = tt
-  stmt-makes (Put t i e) f = tt
-  stmt-makes (Forget t) f = tt
-  stmt-makes (Print e) f = tt
-  stmt-makes (Census name) f = tt
-  stmt-makes (Throw e) f = tt
-  stmt-makes (Async b) f = makes-some b f
-  stmt-makes (AtAsync e b) f = makes-some b f
-  stmt-makes (At e b) f = makes-some b f
-  stmt-makes (Finish b) f = makes-some b f
-  stmt-makes (If e a b) f = (makes-some a f.0, makes-some b f.1)
-  stmt-makes (Repeat n b) f = makes-some b f.1
-  stmt-makes (Try a d b) f = (makes-some a f.0, makes-some b f.1)
-
-  pub makes-some : (b : Block) → AllInRange b → MakesSome b
-  makes-some Nothing f = tt
-  makes-some (Then t ts) f = (stmt-makes t f.0, makes-some ts f.1)
 
 -- under a proper setup a machine runs on with it
 pub runs-on : (code : Block) (U : Given) → Proper U → AllInRange code → work code ≤ 100000 → RunsOn code U

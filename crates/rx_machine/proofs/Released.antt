@@ -32,15 +32,15 @@ use Rattle.rx_machine.specs.declared.machine.Machine.{Machine}
 use Rattle.rx_machine.specs.declared.seat.Seat.{Seat}
 use Rattle.rx_machine.specs.Inside.Callers.{caller}
 use Rattle.rx_machine.specs.Slots.{IsSeat, live_task, own_scopes, own_kinds}
-use Rattle.rx_machine.specs.Spine.{Spine}
-use Rattle.rx_machine.specs.Held.{is_held}
+use Rattle.rx_terms.specs.Spine.{Spine}
+use Rattle.rx_terms.specs.Held.{is_held}
 use Rattle.rx_machine.specs.Holds.{Seated, Acting, IsPick, LeadsTo}
 use Rattle.rx_machine.proofs.Live.{live_number, live_stands, change-other, change-same, release-live}
 use Rattle.rx_machine.proofs.Own.{release-own}
 use Rattle.rx_machine.proofs.Acted.{told-nothing, Went, acted}
 use Rattle.rx_machine.proofs.Asking.{id_of, not_lost, seat_asks, seat_inner}
-use Rattle.rx_machine.proofs.Granting.{AfterGrant, after-grant, IsNoRelease, unheld-stays}
-use Rattle.rx_machine.proofs.SpineGrants.{GrantsSpine, spine-grant}
+use Rattle.rx_terms.proofs.Granting.{AfterGrant, after-grant, release_held}
+use Rattle.rx_terms.proofs.SpineGrants.{GrantsSpine, spine-grant}
 use Rattle.rx_machine.proofs.Waited.{innermost}
 
 -- Each element passes the test.
@@ -83,14 +83,6 @@ pick-quiet U k i seat G pick waits =
     let enabled_so = get-passes (is_enabled T) (reverse (filter (is_enabled T) T.tasks)) _ seat.row (reverse-passes (is_enabled T) (filter (is_enabled T) T.tasks) (filter-passes (is_enabled T) T.tasks)) pick.picked in
     quiet-there (is_none seat.row.struck) seat.row.waits (quiet T (inner T seat.row)) enabled_so waits
 
--- a task that releases waits
-pub release-held : (q : Player) (here : ℕ) → does q.vars here q.term ≡ Releases → is_held q.term ≡ true
-release-held q here asks =
-    (elim (is_held q.term) as (λ b. is_held q.term ≡ b → b ≡ true) [
-      | true ↦ λ e. refl
-      | false ↦ λ e. absurd (subst (λ (d : Does). IsNoRelease d) asks (unheld-stays q.vars here q.term e))
-    ]) refl
-
 -- the ledger may be asked
 pub release-asks : (shape : Shape) (T : Tree) (i : ℕ) (q : Player) (seat : Seat) (here : PlaceId) → IsSeat shape T i q seat → HasNumbers T → does q.vars here.0 q.term ≡ Releases → MayAskRelease T (caller seat.row seat.scopes.items)
 release-asks shape T i q seat here s numbers asks =
@@ -99,7 +91,7 @@ release-asks shape T i q seat here s numbers asks =
     let id : seat.row.number ≡ record { 0 = i } = id_of seat.row.number i (live_number T i seat.row s.row) in
     seat_asks shape T i q seat (WaitsInside T (caller seat.row seat.scopes.items)) s numbers
     (record {
-      waits = s.waits ∙ release-held q here.0 asks;
+      waits = s.waits ∙ release_held q.vars here.0 q.term asks;
       scope = found.0;
       own = subst (λ (t : TaskId). own_scope T t ≡ Some found.0) (sym id) found.1;
     })
@@ -108,7 +100,7 @@ release-asks shape T i q seat here s numbers asks =
 pub release-quiet : (shape : Shape) (U : Given) (k i : ℕ) (q : Player) (seat : Seat) (here : PlaceId) (G : Game) → IsSeat shape (tree_in U G) i q seat → IsPick U k i seat G → does q.vars here.0 q.term ≡ Releases → quiet (tree_in U G) (caller seat.row seat.scopes.items).inner ≡ true
 release-quiet shape U k i q seat here G s pick asks =
     let T : Tree = tree_in U G in
-    subst (λ (v : ScopeId). quiet T v ≡ true) (seat_inner shape T i q seat s) (pick-quiet U k i seat G pick (s.waits ∙ release-held q here.0 asks))
+    subst (λ (v : ScopeId). quiet T v ≡ true) (seat_inner shape T i q seat s) (pick-quiet U k i seat G pick (s.waits ∙ release_held q.vars here.0 q.term asks))
 
 -- the ledger refuses for want of memory alone
 pub release-refused : (T : Tree) (who : Caller) (e : LedgerFault) (S : Tree → Type 0) → blow_of T who.task ≡ None → quiet T who.inner ≡ true → ReleaseReply T who (Err e) S → e ≡ NoMemory

@@ -33,18 +33,20 @@ use Rattle.rx_machine.specs.declared.machine.Machine.{Machine}
 use Rattle.rx_machine.specs.declared.seat.Seat.{Seat}
 use Rattle.rx_machine.specs.Inside.Callers.{caller}
 use Rattle.rx_machine.specs.Slots.{live_task, if_unstruck, own_scopes, own_kinds}
-use Rattle.rx_machine.specs.Spine.{Spine}
-use Rattle.rx_machine.specs.Held.{is_held}
+use Rattle.rx_terms.specs.Spine.{Spine}
+use Rattle.rx_terms.specs.Held.{is_held}
 use Rattle.rx_machine.specs.Holds.{Seated, Acting, LeadsTo}
 use Rattle.rx_machine.proofs.Acted.{told-nothing, Went}
 use Rattle.rx_machine.proofs.Asking.{not_lost}
-use Rattle.rx_machine.proofs.Beginning.{Begins, begins-so}
+use Rattle.rx_terms.proofs.Beginning.{begins-so}
+use Rattle.rx_terms.specs.Steps.{Begins}
 use Rattle.rx_machine.proofs.Born.{NewSeat, none-own, new-slot, started}
-use Rattle.rx_machine.proofs.Granting.{AfterGrant, after-grant, held-releases}
+use Rattle.rx_terms.proofs.Granting.{AfterGrant, after-grant, held-releases}
 use Rattle.rx_machine.proofs.Live.{live_stands, add-other, add-same, change-other, change-same}
 use Rattle.rx_machine.proofs.Own.{opened-same, opened-other}
-use Rattle.rx_machine.proofs.SpineGrants.{GrantsSpine, spine-grant}
-use Rattle.rx_machine.proofs.Targets.{Targets, targets-exist}
+use Rattle.rx_terms.proofs.SpineGrants.{GrantsSpine, spine-grant}
+use Rattle.rx_terms.proofs.Targets.{targets-exist}
+use Rattle.rx_terms.specs.Steps.{Targets}
 
 -- What starts a task begins a statement, does not wait, and is for a place that exists.
 

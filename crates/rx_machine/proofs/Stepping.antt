@@ -26,14 +26,14 @@ use Rattle.rx_control.specs.Stands.{StandsFor, Leaves}
 use Rattle.rx_control.proofs.Told.{told_local}
 use Rattle.rx_machine.specs.declared.machine.Machine.{Machine}
 use Rattle.rx_machine.specs.declared.seat.Seat.{Seat}
-use Rattle.rx_machine.specs.Held.{is_held}
+use Rattle.rx_terms.specs.Held.{is_held}
 use Rattle.rx_machine.specs.Slots.{IsSeat, own_kinds}
 use Rattle.rx_stores.specs.Kepts.{StoresAre}
 use Rattle.rx_machine.specs.Holds.{Shares, Acting}
 use Rattle.rx_machine.specs.Inside.Requests.{IsAsked, OnlyStores, AfterStep}
-use Rattle.rx_machine.proofs.Holding.{AfterLocal, after-local}
-use Rattle.rx_machine.proofs.Granting.{held-releases}
-use Rattle.rx_machine.proofs.Spines.{LeavesSpine, spine-local}
+use Rattle.rx_terms.proofs.Holding.{AfterLocal, after-local}
+use Rattle.rx_terms.proofs.Granting.{held-releases}
+use Rattle.rx_terms.proofs.Spines.{LeavesSpine, spine-local}
 
 -- Steps at the end.
 
@@ -128,14 +128,6 @@ asked_done Releases e = tt
 asked_done (Prints value) e = tt
 asked_done (Counts name) e = tt
 asked_done (Done faults) e = tt
-
--- a term that makes a step other than a release does not wait
-pub not_held : (vars : Vars) (here : ℕ) (t : Term) → (does vars here t ≡ Releases → ⊥) → is_held t ≡ false
-not_held vars here t never =
-    (elim (is_held t) as (λ b. is_held t ≡ b → b ≡ false) [
-      | true ↦ λ e. absurd (never (held-releases vars here t e))
-      | false ↦ λ e. refl
-    ]) refl
 
 -- Local steps.
 

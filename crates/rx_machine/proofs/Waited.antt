@@ -32,15 +32,15 @@ use Rattle.rx_machine.specs.declared.machine.Machine.{Machine}
 use Rattle.rx_machine.specs.declared.seat.Seat.{Seat}
 use Rattle.rx_machine.specs.Inside.Callers.{caller}
 use Rattle.rx_machine.specs.Slots.{IsSeat, live_task, own_kinds}
-use Rattle.rx_machine.specs.Spine.{Spine}
-use Rattle.rx_machine.specs.Held.{is_held}
+use Rattle.rx_terms.specs.Spine.{Spine}
+use Rattle.rx_terms.specs.Held.{is_held}
 use Rattle.rx_machine.specs.Holds.{Seated, Acting, LeadsTo}
 use Rattle.rx_machine.proofs.Live.{live_number, live_stands, change-other, change-same}
 use Rattle.rx_machine.proofs.Own.{scope-change}
 use Rattle.rx_machine.proofs.Acted.{told-nothing, Went, acted}
 use Rattle.rx_machine.proofs.Asking.{id_of, not_lost, seat_asks, moving}
-use Rattle.rx_machine.proofs.Granting.{AfterGrant, after-grant, held-releases}
-use Rattle.rx_machine.proofs.SpineGrants.{GrantsSpine, spine-grant}
+use Rattle.rx_terms.proofs.Granting.{AfterGrant, after-grant, held-releases}
+use Rattle.rx_terms.proofs.SpineGrants.{GrantsSpine, spine-grant}
 
 -- a task that comes to a wait does not wait yet
 wait-free : (q : Player) (here : ℕ) (fs : List Fault) → does q.vars here q.term ≡ Waits fs → is_held q.term ≡ false

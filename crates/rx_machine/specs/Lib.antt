@@ -1,5 +1,3 @@
-pub mod Held
-pub mod Spine
 pub mod Slots
 pub mod Picking
 pub mod Holds

@@ -11,8 +11,8 @@ use Rattle.rx_rules.specs.Picked.{Player}
 use Rattle.rx_nodes.specs.Shape.{Shape}
 use Rattle.rx_control.specs.Stands.{StandsFor}
 use Rattle.rx_machine.specs.declared.seat.Seat.{Seat}
-use Rattle.rx_machine.specs.Held.{is_held, HeldInFront}
-use Rattle.rx_machine.specs.Spine.{Spine}
+use Rattle.rx_terms.specs.Held.{is_held, HeldInFront}
+use Rattle.rx_terms.specs.Spine.{Spine}
 
 -- the row of the main activity
 abbrev pub root_row : Task

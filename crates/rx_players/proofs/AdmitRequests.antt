@@ -29,7 +29,7 @@ use Rattle.rx_players.specs.declared.seat.Seat.{Seat}
 use Rattle.rx_players.specs.Events.{IsFirst}
 use Rattle.rx_players.specs.Stood.{Stood}
 use Rattle.rx_players.specs.Inside.Requests.{wanted, FitsRest, IsAsked, IsGranted, AfterPath, AfterWait, AfterAct, AfterRequest}
-use Rattle.rx_players.proofs.FromBelow.{Begins}
+use Rattle.rx_terms.specs.Steps.{Begins}
 
 -- An act fits exactly where it is of the kind that is wanted and its rest is right.
 

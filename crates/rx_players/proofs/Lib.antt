@@ -5,8 +5,6 @@ pub mod Answered
 pub mod Following
 pub mod Rows
 pub mod Positions
-pub mod FromBelow
-pub mod FromBelowCalls
 pub mod Walking
 pub mod Opening
 pub mod MarksOn
@@ -18,5 +16,4 @@ pub mod AdmitSlots
 pub mod AdmitPlayers
 pub mod AdmitAsked
 pub mod AdmitPlay
-pub mod SomeWords
 pub mod MarksEnd

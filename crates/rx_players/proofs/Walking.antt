@@ -33,8 +33,10 @@ use Rattle.rx_players.specs.Answers.{answers}
 use Rattle.rx_players.specs.Events.{IsFirst, IsOf}
 use Rattle.rx_players.specs.Stood.{Stood, Walked}
 use Rattle.rx_players.specs.Inside.Steps.{GoesFurther}
-use Rattle.rx_players.proofs.FromBelow.{Begins, begins-so}
-use Rattle.rx_players.proofs.FromBelowCalls.{CallSo, call-so}
+use Rattle.rx_terms.proofs.Beginning.{begins-so}
+use Rattle.rx_terms.specs.Steps.{Begins}
+use Rattle.rx_terms.proofs.Receiving.{call-so}
+use Rattle.rx_terms.specs.Steps.{CallSo}
 use Rattle.rx_players.proofs.Following.{none_past, here_event}
 use Rattle.rx_players.proofs.Rows.{told_of}
 use Rattle.rx_players.proofs.Telling.{answers_tells}

@@ -126,7 +126,7 @@ local_knows vars left here t after e = subst (λ (d : Does). Keeps vars d) e (ke
 
 -- Answers, walks and acts.
 
-answer_knows : (a : Answer) (vars : Vars) → (vars_after a vars).places ≡ vars.places
+pub answer_knows : (a : Answer) (vars : Vars) → (vars_after a vars).places ≡ vars.places
 answer_knows (Gives name value) vars = refl
 answer_knows Fine vars = refl
 answer_knows (Fails fault) vars = refl

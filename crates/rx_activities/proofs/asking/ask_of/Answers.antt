@@ -3,7 +3,7 @@ use Rattle.rx_rules.specs.Terms.{Waits, Done, does}
 use Rattle.rx_control.specs.declared.step.Next.TheVariants.{Book as BookStep}
 use Rattle.rx_control.specs.declared.step.Want.TheVariants.{Wait as WantWait}
 use Rattle.rx_control.specs.Next.{carried}
-use Rattle.rx_machine.proofs.Requested.{asks_wait, asks_end}
+use Rattle.rx_control.proofs.Requests.{asks_wait, asks_end}
 use Rattle.rx_activities.proofs.AskedSteps.{ready_waits}
 use Rattle.rx_activities.proofs.asking.ask_of.Goals as goal
 

@@ -5,7 +5,7 @@ use Rattle.rx_rules.specs.Terms.{begins}
 use Rattle.rx_verdict.specs.Walks.{next_does}
 use Rattle.rx_players.specs.declared.players.Slot.{Slot}
 use Rattle.rx_players.specs.Inside.Requests.{IsAsked, IsNewborn}
-use Rattle.rx_players.proofs.FromBelow.{begins-so}
+use Rattle.rx_terms.proofs.Beginning.{begins-so}
 use Rattle.rx_players.proofs.AdmitRequests.{begins_it}
 use Rattle.rx_players.proofs.admitting.newborn.Goals as goal
 

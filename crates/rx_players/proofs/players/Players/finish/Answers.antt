@@ -12,7 +12,7 @@ use Rattle.rx_history.specs.Events.{events_of}
 use Rattle.rx_players.specs.declared.players.Players.{Players}
 use Rattle.rx_players.specs.declared.players.Slot.{Slot}
 use Rattle.rx_players.specs.Players.{PlayersAre}
-use Rattle.rx_players.proofs.SomeWords.{makes-some}
+use Rattle.rx_control.proofs.SomeWords.{makes-some}
 use Rattle.rx_players.proofs.MarksWalk.{same_size}
 use Rattle.rx_players.proofs.MarksEnd.{StuckBelow, one_stuck, none_stuck, pass_is, marks_made}
 use Rattle.rx_players.proofs.players.Players.finish.Goals as goal

@@ -1,26 +1,13 @@
 -- A request or a store call is made by the statement that begins.
-use Rattle.std.specs.Prelude.{◌≡◌, ℕ, ℤ, Bool, true, false, cond, ◌==◌, List, Option, Some, None, Result, Ok, Err, refl}
+use Rattle.std.specs.Prelude.{◌≡◌, ℕ, ℤ, Bool, true, false, cond, ◌==◌, List, Option, Some, None, Result, Ok, Err, refl, [], ◌∷◌, ◌++◌}
 use Rattle.rx_base.specs.declared.values.Fault.{Fault}
 use Rattle.rx_base.specs.declared.values.Fault.TheVariants.{Thrown, WrongPlace}
 use Rattle.rx_base.specs.declared.values.Value.TheVariants.{Num as Number}
 use Rattle.rx_rules.specs.Code.{Stmt, SetTo, New, Get, Put, Forget, Print, Census, Throw, Async, AtAsync, At, Finish, If, Repeat, Try}
 use Rattle.rx_rules.specs.Terms.{Vars, Term, Empty, Run, Raise, Turns, Trying, Body, Held, items, at, Does, Local, Makes, Gets, Puts, Forgets, Opens, Calls, Spawns, Waits, Releases, Prints, Counts, Done, raise, bound, value_of, ref_in, eval, target_of, is_zero, with_number, with_place, stmt_does, within, does, begins}
-
--- the statement that begins, where a request or a store call is made
-abbrev pub Begins : Does → Option (List ℕ) → Type 0
-Begins (Local left vars) b = Unit {0}
-Begins (Makes name words) b = (x : List ℕ) × (b ≡ Some x)
-Begins (Gets name target index) b = (x : List ℕ) × (b ≡ Some x)
-Begins (Puts target index value) b = (x : List ℕ) × (b ≡ Some x)
-Begins (Forgets target) b = (x : List ℕ) × (b ≡ Some x)
-Begins Opens b = (x : List ℕ) × (b ≡ Some x)
-Begins (Calls place) b = (x : List ℕ) × (b ≡ Some x)
-Begins (Spawns place) b = (x : List ℕ) × (b ≡ Some x)
-Begins (Waits faults) b = Unit {0}
-Begins Releases b = Unit {0}
-Begins (Prints value) b = (x : List ℕ) × (b ≡ Some x)
-Begins (Counts name) b = (x : List ℕ) × (b ≡ Some x)
-Begins (Done faults) b = Unit {0}
+use Rattle.rx_terms.specs.Steps.{Begins}
+use Rattle.rx_rules.specs.Plays.{begun}
+use Rattle.std.proofs.Common.{ap}
 
 on-number : (vars : Vars) (o : Option ℤ) (f : ℤ → Does) (b : Option (List ℕ)) → ((z : ℤ) → Begins (f z) b) → Begins (with_number vars o f) b
 on-number vars None f b h = tt
@@ -95,3 +82,7 @@ begins-so vars here (Body (Trying u p c y m) rest) = inside (λ t. Body t rest) 
 begins-so vars here (Body (Body u m) rest) = inside (λ t. Body t rest) (does vars here (Body u m)) (begins (Body u m)) (begins-so vars here (Body u m))
 begins-so vars here (Body (Held m) rest) = inside (λ t. Body t rest) (does vars here (Held m)) (begins (Held m)) (begins-so vars here (Held m))
 begins-so vars here (Held rest) = tt
+
+-- the batch with the statement that begins
+pub begun_one : (t : Term) (batch : List (List ℕ)) (x : List ℕ) → begins t ≡ Some x → begun t batch ≡ batch ++ x ∷ []
+begun_one t batch x e = ap (λ (o : Option (List ℕ)). elim o as (λ _. List (List ℕ)) [ Some y ↦ batch ++ y ∷ [] | None ↦ batch ]) e

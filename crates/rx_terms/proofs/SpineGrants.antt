@@ -7,9 +7,9 @@ use Rattle.rx_base.specs.declared.values.Value.TheVariants.{Num as Number}
 use Rattle.rx_rules.specs.declared.tasks.Kind.{Kind}
 use Rattle.rx_rules.specs.declared.tasks.Kind.TheVariants.{Finish as OfFinish, Call as OfCall}
 use Rattle.rx_rules.specs.Code.{Block, Stmt, SetTo, New, Get, Put, Forget, Print, Census, Throw, Async, AtAsync, At, Finish, If, Repeat, Try}
-use Rattle.rx_rules.specs.Terms.{Vars, Term, Empty, Run, Raise, Turns, Trying, Body, Held, items, at, Does, Local, Makes, Gets, Puts, Forgets, Opens, Calls, Spawns, Waits, Releases, Prints, Counts, Done, raise, bound, value_of, ref_in, eval, target_of, is_zero, with_number, with_place, stmt_does, within, does, stmt_granted, or_raise, granted, stmt_child, child, replaced}
-use Rattle.rx_machine.specs.Spine.{NoScopeOpen, Spine}
-use Rattle.rx_machine.proofs.Spines.{flat-spine, flat-items}
+use Rattle.rx_rules.specs.Terms.{Vars, Term, Empty, Run, Raise, Turns, Trying, Body, Held, items, at, Does, Local, Makes, Gets, Puts, Forgets, Opens, Calls, Spawns, Waits, Releases, Prints, Counts, Done, raise, bound, value_of, ref_in, eval, target_of, is_zero, with_number, with_place, stmt_does, within, does, stmt_granted, or_raise, granted, stmt_child, child, replaced, begins, Answer, Gives, Fine, Fails, answered, after_it}
+use Rattle.rx_terms.specs.Spine.{NoScopeOpen, Spine}
+use Rattle.rx_terms.proofs.Spines.{flat-spine, flat-items}
 
 -- what stands after each request: a scope more, one less, or the same; a wait is at a finish, and what is done has none open
 abbrev pub GrantsSpine : List Kind → Does → Term → Type 0
@@ -302,3 +302,31 @@ flat-child (Turns body x k times rest) = tt
 flat-child (Trying inside o b x rest) = flat-child inside
 flat-child (Body inside rest) = flat-child inside
 flat-child (Held rest) = tt
+
+-- The store's answer.
+
+-- where a statement begins, one has begun
+pub begun_is : (t : Term) (x : List ℕ) → begins t ≡ Some x → IsBegun t
+begun_is Empty x e = absurd (let f : ⊥ = cc in f)
+begun_is (Run stmt y rest) x e = tt
+begun_is (Raise faults) x e = absurd (let f : ⊥ = cc in f)
+begun_is (Turns body y k times rest) x e = absurd (let f : ⊥ = cc in f)
+begun_is (Trying inside o b y rest) x e = begun_is inside x e
+begun_is (Body inside rest) x e = begun_is inside x e
+begun_is (Held rest) x e = absurd (let f : ⊥ = cc in f)
+
+flat-after : (t : Term) (ks : List Kind) → Spine t ks → NoScopeOpen (after_it t)
+flat-after Empty ks h = tt
+flat-after (Run stmt x rest) ks h = h.1
+flat-after (Raise faults) ks h = tt
+flat-after (Turns body x k times rest) ks h = tt
+flat-after (Trying inside o b x rest) ks h = flat-after inside ks h.0
+flat-after (Body inside rest) [] h = absurd h
+flat-after (Body inside rest) (k ∷ ks) h = flat-after inside ks h.1
+flat-after (Held rest) ks h = tt
+
+-- the same scopes are open after the store's answer
+pub answer_spine : (a : Answer) (t : Term) (ks : List Kind) → Spine t ks → IsBegun t → Spine (answered a t) ks
+answer_spine (Gives name value) t ks h b = spine-answer ks t (after_it t) h (flat-after t ks h) b
+answer_spine Fine t ks h b = spine-answer ks t (after_it t) h (flat-after t ks h) b
+answer_spine (Fails fault) t ks h b = spine-answer ks t (Raise (fault ∷ [])) h tt b

@@ -1,27 +1,12 @@
--- What a store call asks of its statement: the place and the name that waits. Proved below for the machine too.
-use Rattle.std.specs.Prelude.{◌≡◌, ℕ, ℤ, ◌==◌, Bool, true, false, cond, List, Option, Some, None, Result, Ok, Err, refl}
+-- What a term asks of the store.
+use Rattle.std.specs.Prelude.{◌≡◌, ℕ, ℤ, Bool, true, false, cond, ◌==◌, List, Option, Some, None, Result, Ok, Err, refl}
 use Rattle.std.proofs.lemmas.Bool.{eqb-true}
-use Rattle.rx_base.specs.declared.values.Value.TheVariants.{Num as Number}
 use Rattle.rx_base.specs.declared.values.Fault.{Fault}
 use Rattle.rx_base.specs.declared.values.Fault.TheVariants.{Thrown, WrongPlace}
+use Rattle.rx_base.specs.declared.values.Value.TheVariants.{Num as Number}
 use Rattle.rx_rules.specs.Code.{Stmt, SetTo, New, Get, Put, Forget, Print, Census, Throw, Async, AtAsync, At, Finish, If, Repeat, Try}
 use Rattle.rx_rules.specs.Terms.{Vars, Term, Empty, Run, Raise, Turns, Trying, Body, Held, items, at, Does, Local, Makes, Gets, Puts, Forgets, Opens, Calls, Spawns, Waits, Releases, Prints, Counts, Done, raise, bound, value_of, ref_in, eval, target_of, is_zero, with_number, with_place, stmt_does, within, does, receives, stmt_receives}
-
--- the store is that of this place, and the name that waits is that of the statement
-abbrev pub CallSo : ℕ → Does → Option ℕ → Type 0
-CallSo here (Local left vars) o = Unit {0}
-CallSo here (Makes name words) o = o ≡ Some name
-CallSo here (Gets name target index) o = (target.home.0 ≡ here) × (o ≡ Some name)
-CallSo here (Puts target index value) o = target.home.0 ≡ here
-CallSo here (Forgets target) o = target.home.0 ≡ here
-CallSo here Opens o = Unit {0}
-CallSo here (Calls place) o = Unit {0}
-CallSo here (Spawns place) o = Unit {0}
-CallSo here (Waits faults) o = Unit {0}
-CallSo here Releases o = Unit {0}
-CallSo here (Prints value) o = Unit {0}
-CallSo here (Counts name) o = Unit {0}
-CallSo here (Done faults) o = Unit {0}
+use Rattle.rx_terms.specs.Steps.{CallSo}
 
 on-number : (here : ℕ) (vars : Vars) (v : Option ℤ) (f : ℤ → Does) (o : Option ℕ) → ((z : ℤ) → CallSo here (f z) o) → CallSo here (with_number vars v f) o
 on-number here vars None f o h = tt

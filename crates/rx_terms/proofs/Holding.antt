@@ -5,7 +5,7 @@ use Rattle.rx_base.specs.declared.values.Fault.TheVariants.{Thrown, WrongPlace}
 use Rattle.rx_base.specs.declared.values.Value.TheVariants.{Num as Number}
 use Rattle.rx_rules.specs.Code.{Block, Nothing, Then, Stmt, SetTo, New, Get, Put, Forget, Print, Census, Throw, Async, AtAsync, At, Finish, If, Repeat, Try}
 use Rattle.rx_rules.specs.Terms.{Vars, Term, Empty, Run, Raise, Turns, Trying, Body, Held, items, items_from, at, Does, Local, Makes, Gets, Puts, Forgets, Opens, Calls, Spawns, Waits, Releases, Prints, Counts, Done, raise, bound, value_of, ref_in, eval, target_of, is_zero, catches, with_number, with_place, stmt_does, within, does}
-use Rattle.rx_machine.specs.Held.{is_held, Unheld, HeldInFront}
+use Rattle.rx_terms.specs.Held.{is_held, Unheld, HeldInFront}
 
 -- where no task waits, none waits at the front
 pub unheld-front : (t : Term) → Unheld t → HeldInFront t × (is_held t ≡ false)

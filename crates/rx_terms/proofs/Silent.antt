@@ -1,26 +1,11 @@
--- A wait, a release and an end begin no statement. (Belongs into rx_machine, beside proofs/Beginning.)
-use Rattle.std.specs.Prelude.{◌≡◌, ℕ, ℤ, Bool, true, false, cond, ◌==◌, List, Option, Some, None, Result, Ok, Err, refl}
+-- A wait, a release and an end begin no statement.
+use Rattle.std.specs.Prelude.{ℕ, ℤ, Bool, true, false, cond, ◌==◌, List, Option, Some, None, Result, Ok, Err, refl}
 use Rattle.rx_base.specs.declared.values.Fault.{Fault}
 use Rattle.rx_base.specs.declared.values.Fault.TheVariants.{Thrown, WrongPlace}
 use Rattle.rx_base.specs.declared.values.Value.TheVariants.{Num as Number}
 use Rattle.rx_rules.specs.Code.{Stmt, SetTo, New, Get, Put, Forget, Print, Census, Throw, Async, AtAsync, At, Finish, If, Repeat, Try}
 use Rattle.rx_rules.specs.Terms.{Vars, Term, Empty, Run, Raise, Turns, Trying, Body, Held, items, at, Does, Local, Makes, Gets, Puts, Forgets, Opens, Calls, Spawns, Waits, Releases, Prints, Counts, Done, raise, bound, value_of, ref_in, eval, target_of, is_zero, with_number, with_place, stmt_does, within, does, begins}
-
--- no statement begins where a task waits, releases or ends
-abbrev pub Silent : Does → Option (List ℕ) → Type 0
-Silent (Local left vars) b = Unit {0}
-Silent (Makes name words) b = Unit {0}
-Silent (Gets name target index) b = Unit {0}
-Silent (Puts target index value) b = Unit {0}
-Silent (Forgets target) b = Unit {0}
-Silent Opens b = Unit {0}
-Silent (Calls place) b = Unit {0}
-Silent (Spawns place) b = Unit {0}
-Silent (Waits faults) b = b ≡ None
-Silent Releases b = b ≡ None
-Silent (Prints value) b = Unit {0}
-Silent (Counts name) b = Unit {0}
-Silent (Done faults) b = b ≡ None
+use Rattle.rx_terms.specs.Steps.{Silent}
 
 on-number : (vars : Vars) (o : Option ℤ) (f : ℤ → Does) (b : Option (List ℕ)) → ((z : ℤ) → Silent (f z) b) → Silent (with_number vars o f) b
 on-number vars None f b h = tt

@@ -1,13 +1,13 @@
 -- Whether a term waits after a request was granted, and what a term that waits does.
 use Rattle.std.specs.Prelude.{◌≡◌, ℕ, ℤ, Bool, true, false, cond, ◌==◌, List, [], ◌∷◌, Option, Some, None, Result, Ok, Err, refl}
-use Rattle.std.proofs.Common.{ap}
+use Rattle.std.proofs.Common.{ap, subst}
 use Rattle.rx_base.specs.declared.values.Fault.{Fault}
 use Rattle.rx_base.specs.declared.values.Fault.TheVariants.{Thrown, WrongPlace}
 use Rattle.rx_base.specs.declared.values.Value.TheVariants.{Num as Number}
 use Rattle.rx_rules.specs.Code.{Block, Stmt, SetTo, New, Get, Put, Forget, Print, Census, Throw, Async, AtAsync, At, Finish, If, Repeat, Try}
-use Rattle.rx_rules.specs.Terms.{Vars, Term, Empty, Run, Raise, Turns, Trying, Body, Held, items, at, Does, Local, Makes, Gets, Puts, Forgets, Opens, Calls, Spawns, Waits, Releases, Prints, Counts, Done, raise, bound, value_of, ref_in, eval, target_of, is_zero, with_number, with_place, stmt_does, within, does, stmt_granted, or_raise, granted, stmt_child, child, replaced, after_it}
-use Rattle.rx_machine.specs.Held.{is_held, Unheld, HeldInFront}
-use Rattle.rx_machine.proofs.Holding.{unheld-front, unheld-items}
+use Rattle.rx_rules.specs.Terms.{Vars, Term, Empty, Run, Raise, Turns, Trying, Body, Held, items, at, Does, Local, Makes, Gets, Puts, Forgets, Opens, Calls, Spawns, Waits, Releases, Prints, Counts, Done, raise, bound, value_of, ref_in, eval, target_of, is_zero, with_number, with_place, stmt_does, within, does, stmt_granted, or_raise, granted, stmt_child, child, replaced, after_it, Answer, Gives, Fine, Fails, answered}
+use Rattle.rx_terms.specs.Held.{is_held, Unheld, HeldInFront}
+use Rattle.rx_terms.proofs.Holding.{unheld-front, unheld-items}
 
 -- after a granted request the task waits exactly where it asked for a wait or a call
 abbrev pub AfterGrant : Does → Term → Type 0
@@ -276,3 +276,25 @@ unheld-stays vars here (Body (Trying u p c y m) rest) h = free-within (λ t. Bod
 unheld-stays vars here (Body (Body u m) rest) h = free-within (λ t. Body t rest) (does vars here (Body u m)) (unheld-stays vars here (Body u m) h)
 unheld-stays vars here (Body (Held m) rest) h = absurd (let f : ⊥ = cc in f)
 unheld-stays vars here (Held rest) h = absurd (let f : ⊥ = cc in f)
+
+-- no task waits after the store's answer
+pub answer_waits : (a : Answer) (t : Term) → HeldInFront t → HeldInFront (answered a t) × (is_held (answered a t) ≡ false)
+answer_waits (Gives name value) t h = after-answer t (after_it t) h (unheld-after t h)
+answer_waits Fine t h = after-answer t (after_it t) h (unheld-after t h)
+answer_waits (Fails fault) t h = after-answer t (Raise (fault ∷ [])) h tt
+
+-- a task that does not release does not wait
+pub not_held : (vars : Vars) (here : ℕ) (t : Term) → (does vars here t ≡ Releases → ⊥) → is_held t ≡ false
+not_held vars here t never =
+    (elim (is_held t) as (λ b. is_held t ≡ b → b ≡ false) [
+      | true ↦ λ e. absurd (never (held-releases vars here t e))
+      | false ↦ λ e. refl
+    ]) refl
+
+-- a task that releases waits
+pub release_held : (vars : Vars) (here : ℕ) (t : Term) → does vars here t ≡ Releases → is_held t ≡ true
+release_held vars here t asks =
+    (elim (is_held t) as (λ b. is_held t ≡ b → b ≡ true) [
+      | true ↦ λ e. refl
+      | false ↦ λ e. absurd (subst (λ (d : Does). IsNoRelease d) asks (unheld-stays vars here t e))
+    ]) refl

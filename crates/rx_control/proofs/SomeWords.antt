@@ -1,4 +1,4 @@
--- In a script of the grammar each `new` asks for a word. Proved for the machine too.
+-- In a script of the grammar each `new` asks for a word.
 use Rattle.std.proofs.Common.{◌≡◌, ℕ, ◌<◌, true, false, Bool, refl, arith}
 use Rattle.std.specs.Prelude.{nat_lt, ◌&&◌}
 use Rattle.std.proofs.lemmas.Bool.Decides.{nat_tests}

@@ -6,22 +6,7 @@ use Rattle.rx_base.specs.declared.values.Fault.TheVariants.{Thrown, WrongPlace, 
 use Rattle.rx_base.specs.declared.values.Value.TheVariants.{Num as Number}
 use Rattle.rx_rules.specs.Code.{Stmt, SetTo, New, Get, Put, Forget, Print, Census, Throw, Async, AtAsync, At, Finish, If, Repeat, Try}
 use Rattle.rx_rules.specs.Terms.{Vars, Term, Empty, Run, Raise, Turns, Trying, Body, Held, items, at, Does, Local, Makes, Gets, Puts, Forgets, Opens, Calls, Spawns, Waits, Releases, Prints, Counts, Done, raise, bound, value_of, ref_in, eval, target_of, is_zero, with_number, with_place, stmt_does, within, does}
-
--- what is started is started for a place that exists
-abbrev pub Targets : ℕ → Does → Type 0
-Targets places (Local left vars) = Unit {0}
-Targets places (Makes name words) = Unit {0}
-Targets places (Gets name target index) = Unit {0}
-Targets places (Puts target index value) = Unit {0}
-Targets places (Forgets target) = Unit {0}
-Targets places Opens = Unit {0}
-Targets places (Calls place) = place < places
-Targets places (Spawns place) = place < places
-Targets places (Waits faults) = Unit {0}
-Targets places Releases = Unit {0}
-Targets places (Prints value) = Unit {0}
-Targets places (Counts name) = Unit {0}
-Targets places (Done faults) = Unit {0}
+use Rattle.rx_terms.specs.Steps.{Targets}
 
 on-number : (places : ℕ) (vars : Vars) (o : Option ℤ) (f : ℤ → Does) → ((z : ℤ) → Targets places (f z)) → Targets places (with_number vars o f)
 on-number places vars None f h = tt

@@ -8,7 +8,7 @@ use Rattle.rx_rules.specs.declared.tasks.Kind.{Kind}
 use Rattle.rx_rules.specs.declared.tasks.Kind.TheVariants.{Finish as OfFinish}
 use Rattle.rx_rules.specs.Code.{Block, Nothing, Then, Stmt, SetTo, New, Get, Put, Forget, Print, Census, Throw, Async, AtAsync, At, Finish, If, Repeat, Try}
 use Rattle.rx_rules.specs.Terms.{Vars, Term, Empty, Run, Raise, Turns, Trying, Body, Held, items, items_from, at, Does, Local, Makes, Gets, Puts, Forgets, Opens, Calls, Spawns, Waits, Releases, Prints, Counts, Done, raise, bound, value_of, ref_in, eval, target_of, is_zero, catches, with_number, with_place, stmt_does, within, does}
-use Rattle.rx_machine.specs.Spine.{NoScopeOpen, Spine}
+use Rattle.rx_terms.specs.Spine.{NoScopeOpen, Spine}
 
 -- where no scope is open the spine is empty
 pub flat-spine : (t : Term) → NoScopeOpen t → Spine t []

@@ -1,0 +1,4 @@
+pub mod Held
+pub mod Spine
+pub mod Steps
+pub mod Laws

@@ -1,5 +1,5 @@
 pub mod Digits
-pub mod Dotted
 pub mod Lists
 pub mod OneText
 pub mod Standing
+pub mod Short

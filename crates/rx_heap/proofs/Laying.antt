@@ -171,5 +171,5 @@ least_free R holes i n d l some lt short c =
     }
 
 -- a run of words put back at its place leaves as many words
-pub length-put_back : (ws cs : List ℤ) (n : ℕ) → n ≡ length ws → length cs ≡ length ws → length (take n (cs ++ drop (length cs) ws)) ≡ length ws
+pub length-put_back : {X : Type 0} (ws cs : List X) (n : ℕ) → n ≡ length ws → length cs ≡ length ws → length (take n (cs ++ drop (length cs) ws)) ≡ length ws
 length-put_back ws cs n e same = simp (length-take, length-append, length-drop) (omega arith)

@@ -1,4 +1,5 @@
 pub mod HoleLists
+pub mod Finding
 pub mod Cutting
 pub mod Joining
 pub mod Placing

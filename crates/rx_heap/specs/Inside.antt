@@ -1,2 +1,3 @@
 -- What contracts of private functions say; a reader of the public contracts needs none of it.
 pub mod HoleEdits
+pub mod Longest

@@ -1,5 +1,5 @@
 -- What contracts see of a heap and of a block, and how blocks and holes lie.
-use Rattle.std.specs.Prelude.{◌≡◌, ℕ, ◌+◌, ◌*◌, ◌^◌, ◌<◌, ◌≤◌, ◌⊎◌, ℤ, List, [], ◌∷◌, length, slice_index}
+use Rattle.std.specs.Prelude.{◌≡◌, ℕ, ◌+◌, ◌<◌, ◌≤◌, ◌⊎◌, ℤ, List, [], ◌∷◌, length, slice_index}
 use Rattle.rx_heap.specs.declared.block.Hole.{Hole}
 
 -- a heap: its words, its holes, and for each word the length of the live block that begins there, 0 where none does
@@ -50,9 +50,3 @@ pub record IsFree (R : Region) (n a : ℕ) : Type 0 where
 pub record IsLeastFree (R : Region) (n a : ℕ) : Type 0 where
   pub here : IsFree R n a
   pub least : (b : ℕ) → b < a → IsFree R n b → ⊥
-
--- what the heap keeps besides: its words have numbers, and the list of holes never outgrows what was taken for it
-pub record IsKept (R : Region) (capacity : ℕ) : Type 0 where
-  pub laid : IsLaid R
-  pub small : length R.words < 2 ^ 32
-  pub room : length R.words < 2 * capacity

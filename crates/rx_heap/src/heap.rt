@@ -3,7 +3,7 @@ ghost use Rattle.std.specs.Prelude.{◌≡◌, ℕ, ◌+◌, ◌<◌, ◌≤◌,
 ghost use Rattle.std.specs.Prelude.{replicate, slice_get, slice_set};
 ghost use Rattle.rx_heap.specs.Region.{IsLiveExtent, IsFree, IsLeastFree, IsLaid};
 
-use crate::holes::{cut, fitting, put};
+use crate::holes::{GROUP, cut, fitting, put, raise};
 use crate::{Block, Full, Hole};
 use rx_base::NoMemory;
 use std::alloc::Global;
@@ -16,18 +16,21 @@ pub struct Heap {
     holes: Vec<Hole>,
     // For each word the length of the live block that begins there, 0 where none does.
     lengths: Vec<u32>,
+    // For each group of words a length that no hole which begins there exceeds.
+    longest: Vec<u32>,
 }
 
 impl Model for Heap {
     ghost use Rattle.std.specs.Prelude.{vec_capacity};
-    ghost use Rattle.rx_heap.specs.Region.{Region, IsKept};
+    ghost use Rattle.rx_heap.specs.Region.{Region};
+    ghost use Rattle.rx_heap.specs.Inside.Longest.{IsKept};
 
     ghost Value = { Region };
 
     ghost view = { λ h. record { words = h.words.items; holes = h.holes.items; lengths = h.lengths.items } };
 
     ghost invariant = { λ h. IsKept (record { words = h.words.items; holes = h.holes.items; lengths = h.lengths.items })
-        (vec_capacity h.holes) };
+        (vec_capacity h.holes) h.longest.items };
 }
 
 impl Heap {
@@ -45,10 +48,13 @@ impl Heap {
             start: 0,
             len: words,
         })?;
+        let mut longest = vec![in alloc; 0; words as usize / GROUP + 1]?;
+        longest[0] = words;
         Ok(Heap {
             words: vec![in alloc; 0; words as usize]?,
             holes,
             lengths: vec![in alloc; 0; words as usize]?,
+            longest,
         })
     }
 
@@ -66,10 +72,17 @@ impl Heap {
         ensures no_start { OnErr result ((a : ℕ) → IsFree self.old n a → ⊥) }
         ensures err { OnErr result (self.new ≡ self.old) }
     {
-        let Some(i) = fitting(&self.holes, n) else {
+        let Some(i) = fitting(&self.holes, &mut self.longest, n) else {
             return Err(Full);
         };
-        let start = cut(&mut self.holes, i, n);
+        let Hole { start, len } = cut(&mut self.holes, i, n);
+        raise(
+            &mut self.longest,
+            Hole {
+                start: start + n,
+                len: len - n,
+            },
+        );
         clear(&mut self.words, start as usize, n as usize);
         self.lengths[start as usize] = n;
         Ok(Block { start, len: n })
@@ -84,7 +97,8 @@ impl Heap {
     {
         let Block { start, len } = b;
         self.lengths[start as usize] = 0;
-        put(&mut self.holes, Hole { start, len });
+        let joined = put(&mut self.holes, Hole { start, len });
+        raise(&mut self.longest, joined);
     }
 
     /// Word i of a live block.

@@ -1,9 +1,16 @@
-use Rattle.std.proofs.Common.{◌<◌}
-use Rattle.std.proofs.lemmas.List.Elements.{All-more}
-use Rattle.rx_heap.specs.declared.block.Hole.{Hole}
+use Rattle.std.proofs.Common.{rules, ltb}
+use Rattle.std.proofs.lemmas.List.Sorted.{IsPartitionPoint-from_clause, IsPartitionedBy-ltb}
+use Rattle.rx_heap.proofs.Finding.{All-before, from_point}
 use Rattle.rx_heap.proofs.holes.count_before.Goals as goal
 
-pub loop-i-preserved : goal.loop-i-preserved
-loop-i-preserved c =
-    let none : Hole = record { start = 0; len = 0 } in
-    All-more (λ h. h.start < c.args.start) c.args.holes.now c.loop-i.i none c.loop-i-test.true c.loop-i.invariant c.if-start-hole.false
+pub returns-clause-before : goal.returns-clause-before
+returns-clause-before c =
+    let hs = c.args.holes.now in
+    let point = IsPartitionPoint-from_clause (λ h. ltb h.start c.args.start) _ _ c.partition_point.ensures.partitioned (IsPartitionedBy-ltb (λ h. h.start) hs c.args.start c.requires) (λ a r q k. search rules) in
+    All-before (λ h. h.start) c.args.start hs _ point
+
+pub returns-clause-after : goal.returns-clause-after
+returns-clause-after c = λ d lt.
+    let hs = c.args.holes.now in
+    let point = IsPartitionPoint-from_clause (λ h. ltb h.start c.args.start) _ _ c.partition_point.ensures.partitioned (IsPartitionedBy-ltb (λ h. h.start) hs c.args.start c.requires) (λ a r q k. search rules) in
+    from_point (λ h. h.start) c.args.start hs _ _ d point (search rules) lt

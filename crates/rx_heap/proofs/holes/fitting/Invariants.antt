@@ -1,5 +1,6 @@
 use Rattle.std.proofs.Common.{◌<◌, take, All}
+use Rattle.rx_heap.specs.Inside.Longest.{IsBounded}
 use Rattle.rx_heap.proofs.holes.fitting.Given as goal
 
-abbrev pub invariant-loop-i : goal.invariant-loop-i
-invariant-loop-i l = All (λ h. h.len < l.n) (take l.i l.holes)
+abbrev pub invariant-loop-group : goal.invariant-loop-group
+invariant-loop-group l = All (λ most. most < l.n) (take l.group l.longest) × All (IsBounded l.longest) l.holes

@@ -1,5 +1,0 @@
-use Rattle.std.proofs.Common.{◌<◌, take, All}
-use Rattle.rx_heap.proofs.holes.count_before.Given as goal
-
-abbrev pub invariant-loop-i : goal.invariant-loop-i
-invariant-loop-i l = All (λ h. h.start < l.start) (take l.i l.holes)

@@ -1,78 +1,103 @@
 -- What the set keeps, in the words of its view.
-use Rattle.std.specs.Prelude.{◌≡◌, ℕ, ◌+◌, ◌/◌, ◌^◌, ◌<◌, ◌≤◌, List, [], ◌∷◌, Some, None, length, slice_get, slice_index, Contains, refl}
+use Rattle.std.specs.Prelude.{◌≡◌, ℕ, suc, ◌+◌, ◌*◌, ◌/◌, ◌^◌, ◌<◌, ◌≤◌, ◌↔◌, IsTrue, true, false, not, eqb, List, [], ◌∷◌, length, slice_index, Contains, refl}
 use Rattle.std.proofs.Common.{arith, ap, sym, subst, ◌∙◌, inl, inr}
-use Rattle.std.proofs.lemmas.Bool.{cases_lt}
+use Rattle.std.proofs.lemmas.Bool.{cases_lt, eq-eqb, ne_eqb}
+use Rattle.std.proofs.lemmas.List.{get_or-drop, get_or_past, length-drop}
+use Rattle.std.proofs.Math.Nat.{pow-suc, pow-le-pow_right}
 use Rattle.rx_rank.specs.Numbers.{removed}
-use Rattle.rx_rank.specs.Counts.{numbers, IsCounted, IsKept}
-use Rattle.rx_rank.proofs.Marking.{Between, between-wider, between_in, between_get, removed_past}
-use Rattle.rx_rank.proofs.Halving.{counted-len, counted_all, numbers-between, numbers-most, leaf_none}
-use Rattle.rx_rank.proofs.Doubling.{none-numbers}
+use Rattle.rx_rank.specs.Counts.{numbers, leaves, IsTree, IsKept}
+use Rattle.rx_rank.proofs.Leaves.{empty, numbers-between, numbers-most, numbers-holds, numbers-lacks, removed_none}
+use Rattle.rx_rank.proofs.Adding.{half-is, root-length}
 
--- the room is that of the leaves
-pub kept_room : (h : ℕ) (xs : List ℕ) → IsCounted h xs → (length xs + 1) / 2 ≡ 2 ^ h
-kept_room h xs c = let len = counted-len h xs c in omega arith
+-- there is a tree where there is room
+pub kept_tree : (h : ℕ) (cs : List ℕ) → IsKept h cs → 0 < length cs → IsTree (length cs / 2) cs
+kept_tree h cs kept some = let t = kept.tree some in subst (λ z. IsTree z cs) (sym (half-is (2 ^ h) cs t.bare)) t
 
--- there are nodes where there is room
-pub kept_some : (h x : ℕ) (xs : List ℕ) → IsKept h xs → x < (length xs + 1) / 2 → IsCounted h xs
-kept_some h x xs k l = k.counted (omega arith)
+pub kept_again : (h : ℕ) (cs new : List ℕ) → IsKept h cs → 0 < length cs → length new ≡ length cs → IsTree (length new / 2) new → IsKept h new
+kept_again h cs new kept some same tree =
+    let e : length new / 2 ≡ 2 ^ h = ap (λ z. z / 2) same ∙ half-is (2 ^ h) cs (kept.tree some).bare in
+    record {
+      height = kept.height;
+      tree = λ _. subst (λ z. IsTree z new) e tree;
+    }
 
-pub kept_numbers : (h k : ℕ) (xs : List ℕ) → IsKept h xs → k < length (numbers h 0 xs) → IsCounted h xs
-kept_numbers h k [] kept l = let e : length (numbers h 0 []) ≡ 0 = ap (λ (z : List ℕ). length z) (none-numbers h 0) in absurd (omega arith)
-kept_numbers h k (x ∷ xs) kept l = kept.counted (omega arith)
+pub kept_new : (h : ℕ) (cs : List ℕ) → h < 32 → IsTree (2 ^ h) cs → IsKept h cs
+kept_new h cs below tree = record { height = below; tree = λ _. tree }
 
-kept_below : (h x : ℕ) (xs : List ℕ) → IsKept h xs → (length xs + 1) / 2 ≤ x → Between 0 x (numbers h 0 xs)
-kept_below h x [] k l = let B : List ℕ → Type 0 = λ z. Between 0 x z in subst B (sym (none-numbers h 0)) tt
-kept_below h x (y ∷ ys) k l =
-    let xs : List ℕ = y ∷ ys in
-    let c : IsCounted h xs = k.counted (omega arith) in
-    let room = kept_room h xs c in
-    between-wider 0 (0 + 2 ^ h) 0 x (numbers h 0 xs) (omega arith) (omega arith) (numbers-between h 0 xs)
-
--- past the room there is nothing
-pub kept_not : (h x : ℕ) (xs : List ℕ) → IsKept h xs → (length xs + 1) / 2 ≤ x → Contains (numbers h 0 xs) x → ⊥
-kept_not h x xs k l i = let p = between_in 0 x x (numbers h 0 xs) (kept_below h x xs k l) i in let p1 = p.1 in omega arith
-
-pub kept_removed : (h x : ℕ) (xs : List ℕ) → IsKept h xs → (length xs + 1) / 2 ≤ x → removed x (numbers h 0 xs) ≡ numbers h 0 xs
-kept_removed h x xs k l = removed_past x x (numbers h 0 xs) (omega arith) (kept_below h x xs k l)
-
--- the first node counts the numbers
-pub kept_first : (h n : ℕ) (xs : List ℕ) → IsKept h xs → Some n ≡ slice_get xs 0 → n ≡ length (numbers h 0 xs)
-kept_first h n [] k e = absurd cc
-kept_first h n (x ∷ xs) k e =
-    let same : n ≡ x = cc in
-    same ∙ counted_all h 0 (x ∷ xs) (k.counted (omega arith))
-
-pub kept_none : (h : ℕ) (xs : List ℕ) → None ≡ slice_get xs 0 → 0 ≡ length (numbers h 0 xs)
-kept_none h [] e = sym (ap (λ (z : List ℕ). length z) (none-numbers h 0))
-kept_none h (x ∷ xs) e = absurd cc
-
--- no more numbers than room, and each below it
-pub kept_most : (h : ℕ) (xs : List ℕ) → IsKept h xs → length (numbers h 0 xs) ≤ (length xs + 1) / 2
-kept_most h [] k = let e : length (numbers h 0 []) ≡ 0 = ap (λ (z : List ℕ). length z) (none-numbers h 0) in omega arith
-kept_most h (x ∷ xs) k = let room = kept_room h (x ∷ xs) (k.counted (omega arith)) in let most = numbers-most h 0 (x ∷ xs) in omega arith
-
-pub kept_at : (h k x : ℕ) (xs : List ℕ) → IsCounted h xs → slice_get (numbers h 0 xs) k ≡ Some x → x < (length xs + 1) / 2
-kept_at h k x xs c e =
-    let room = kept_room h xs c in
-    let below = between_get 0 (0 + 2 ^ h) x k (numbers h 0 xs) (numbers-between h 0 xs) e in
+pub kept_even : (h : ℕ) (cs : List ℕ) → IsKept h cs → length (leaves cs) ≡ length cs / 2
+kept_even h [] kept = refl
+kept_even h (c ∷ cs) kept =
+    let len = (kept.tree (omega arith)).bare.len in
+    let l = length-drop (length (c ∷ cs) / 2) (c ∷ cs) in
     omega arith
 
--- a leaf that counts nothing
-pub leaf_blank : (xs : List ℕ) → xs ≡ 0 ∷ [] → IsCounted 0 xs
-unfolding IsCounted
-leaf_blank xs e =
-    let len : length xs ≡ 1 = ap (λ (z : List ℕ). length z) e in
-    let top : slice_index xs 0 ≡ 0 = ap (λ (z : List ℕ). slice_index z 0) e in
-    (len, omega arith)
+pub kept_less : (h g n : ℕ) (cs : List ℕ) → IsKept h cs → length cs / 2 < n → n ≤ 2 ^ g → length cs ≤ 2 * 2 ^ g
+kept_less h g n cs kept less most = let e = kept_even h cs kept in let l = length-drop (length cs / 2) cs in omega arith
 
-pub leaf_empty : (h : ℕ) (xs ys : List ℕ) → ys ≡ 0 ∷ [] → xs ≡ [] → numbers 0 0 ys ≡ numbers h 0 xs
-leaf_empty h xs ys e none =
-    leaf_none 0 0 ys refl (ap (λ (z : List ℕ). slice_index z 0) e)
-    ∙ sym (ap (λ (z : List ℕ). numbers h 0 z) none ∙ none-numbers h 0)
-
--- a tree that has no room for numbers of 31 bits is not of the greatest height
-pub low : (h n : ℕ) → h < 32 → 2 ^ h < n → n ≤ 2 ^ 31 → h < 31
-low h n below less few = elim (cases_lt h 31) [
-  | inl l ↦ l
-  | inr ge ↦ let e : h ≡ 31 = omega arith in let p : 2 ^ h ≡ 2 ^ 31 = ap (λ z. 2 ^ z) e in absurd (omega arith)
+-- a tree that has no room for some number is less than half as large as one that has
+power-low : (g h : ℕ) → 2 ^ g < 2 ^ h → 2 * 2 ^ g ≤ 2 ^ h
+power-low g h less = elim (cases_lt g h) [
+  | inl low ↦ let p = pow-suc 2 g in let most = pow-le-pow_right {n = 2} (omega arith) {i = g + 1} {j = h} (omega arith) in let e : 2 ^ (g + 1) ≡ 2 * 2 ^ g = (let s : g + 1 ≡ suc g = omega arith in ap (λ z. 2 ^ z) s ∙ omega arith) in omega arith
+  | inr past ↦ let most = pow-le-pow_right {n = 2} (omega arith) {i = h} {j = g} past in absurd (omega arith)
 ]
+
+pub kept_doubles : (g h n : ℕ) (cs : List ℕ) → IsKept g cs → length cs / 2 < n → n ≤ 2 ^ h → 2 * (length cs / 2) ≤ 2 ^ h
+kept_doubles g h n [] kept less most = omega arith
+kept_doubles g h n (c ∷ cs) kept less most =
+    let e = half-is (2 ^ g) (c ∷ cs) (kept.tree (omega arith)).bare in
+    let low = power-low g h (omega arith) in
+    omega arith
+
+-- the root counts the numbers
+pub kept_first : (h n : ℕ) (cs : List ℕ) → IsKept h cs → 1 < length cs → n ≡ slice_index cs 1 → n ≡ length (numbers 0 (leaves cs))
+kept_first h n cs kept some e = e ∙ root-length (2 ^ h) cs (kept.tree (omega arith))
+
+pub kept_none : (h : ℕ) (cs : List ℕ) → IsKept h cs → length cs ≤ 1 → 0 ≡ length (numbers 0 (leaves cs))
+kept_none h [] kept few = sym (ap (λ (z : List ℕ). length z) (empty 0))
+kept_none h (c ∷ cs) kept few = let len = (kept.tree (omega arith)).bare.len in absurd (omega arith)
+
+pub kept_most : (h : ℕ) (cs : List ℕ) → IsKept h cs → length (numbers 0 (leaves cs)) ≤ length cs / 2
+kept_most h cs kept = let e = kept_even h cs kept in let most = numbers-most 0 (leaves cs) in omega arith
+
+pub kept_numbers : (h k : ℕ) (cs : List ℕ) → IsKept h cs → k < length (numbers 0 (leaves cs)) → IsTree (2 ^ h) cs
+kept_numbers h k [] kept l = let e : length (numbers 0 (leaves [])) ≡ 0 = ap (λ (z : List ℕ). length z) (empty 0) in absurd (omega arith)
+kept_numbers h k (c ∷ cs) kept l = kept.tree (omega arith)
+
+pub kept_within : (h k : ℕ) (cs : List ℕ) → IsKept h cs → k < length (numbers 0 (leaves cs)) → k < slice_index cs 1
+kept_within h k cs kept l = let e = root-length (2 ^ h) cs (kept_numbers h k cs kept l) in omega arith
+
+pub kept_room : (h k : ℕ) (cs : List ℕ) → IsKept h cs → k < length (numbers 0 (leaves cs)) → length cs / 2 ≡ 2 ^ h
+kept_room h k cs kept l = half-is (2 ^ h) cs (kept_numbers h k cs kept l).bare
+
+-- a number is there exactly where its leaf counts
+leaf-at : (x : ℕ) (cs : List ℕ) → slice_index (leaves cs) x ≡ slice_index cs (length cs / 2 + x)
+leaf-at x cs = get_or-drop (length cs / 2) cs x 0
+
+held : (x n : ℕ) (cs : List ℕ) → n ≡ slice_index cs (length cs / 2 + x) → (n ≡ 0 → ⊥) → Contains (numbers 0 (leaves cs)) x
+held x n cs e ne =
+    let at : slice_index (leaves cs) x ≡ n = leaf-at x cs ∙ sym e in
+    let x0 : 0 + x ≡ x = omega arith in
+    subst (λ z. Contains (numbers 0 (leaves cs)) z) x0 (numbers-holds 0 x (leaves cs) (λ z. ne (sym at ∙ z)))
+
+lacks : (x : ℕ) (cs : List ℕ) → slice_index cs (length cs / 2 + x) ≡ 0 → Contains (numbers 0 (leaves cs)) x → ⊥
+lacks x cs e i =
+    let x0 : x ≡ 0 + x = omega arith in
+    numbers-lacks 0 x (leaves cs) (leaf-at x cs ∙ e) (subst (λ z. Contains (numbers 0 (leaves cs)) z) x0 i)
+
+counting : (n : ℕ) → not (eqb n 0) ≡ true → n ≡ 0 → ⊥
+counting n t e = let f : not (eqb n 0) ≡ false = ap not (eq-eqb n 0 e) in cc
+
+pub held_where : (x n : ℕ) (cs : List ℕ) → n ≡ slice_index cs (length cs / 2 + x) → IsTrue (not (eqb n 0)) ↔ Contains (numbers 0 (leaves cs)) x
+held_where x n cs e = (
+  λ t. held x n cs e (counting n t),
+  λ i. ap not (ne_eqb n 0 (λ z. lacks x cs (sym e ∙ z) i)),
+)
+
+pub held_past : (x : ℕ) (cs : List ℕ) → length cs ≤ length cs / 2 + x → Contains (numbers 0 (leaves cs)) x → ⊥
+held_past x cs past i = lacks x cs (get_or_past cs (length cs / 2 + x) 0 past) i
+
+-- past the room there is nothing to take out
+pub kept_removed : (h x : ℕ) (cs : List ℕ) → IsKept h cs → length cs / 2 ≤ x → removed x (numbers 0 (leaves cs)) ≡ numbers 0 (leaves cs)
+kept_removed h x cs kept l =
+    let e = kept_even h cs kept in
+    removed_none x 0 (0 + length (leaves cs)) (numbers 0 (leaves cs)) (inr (omega arith)) (numbers-between 0 (leaves cs))

@@ -1,5 +1,3 @@
-mod Marking
-mod Halving
-mod Renewing
-mod Doubling
-mod Keeping
+pub mod Leaves
+pub mod Adding
+pub mod Keeping

@@ -1,112 +1,95 @@
-// A complete binary tree of counts as a list: the count of a node, then the nodes of its left half, then those of its right
-// half. A leaf counts 0 or 1. A tree of a height has 2 ^ height leaves, which stand for the numbers from the tree's first on.
-ghost use Rattle.std.specs.Prelude.{◌≡◌, ℕ, ◌+◌, ◌-◌, ◌*◌, ◌^◌, ◌<◌, ◌≤◌, ◌↔◌, ◌++◌, Some, IsTrue, IfOk, Contains, length, slice_get};
+// A complete binary tree of counts as one list, of which the second half are the leaves. The root stands at 1, and below the node at i
+// those at 2 * i and 2 * i + 1. A leaf counts 0 or 1, and each other node what the two below it count. What stands at 0 counts nothing.
+ghost use Rattle.std.specs.Prelude.{◌≡◌, ◌+◌, ◌*◌, ◌/◌, ◌^◌, ◌<◌, ◌≤◌, Some, IfOk, length, slice_get, slice_set, slice_index};
 ghost use Rattle.rx_rank.specs.Numbers.{marked};
-ghost use Rattle.rx_rank.specs.Counts.{numbers, left_half, right_half, IsCounted};
+ghost use Rattle.rx_rank.specs.Counts.{numbers, leaves, IsTree, IsBare};
 
 use rx_base::NoMemory;
 use std::alloc::Global;
 
+// The k-th number of a tree of this height.
+pub(crate) fn nth(counts: &[u32], height: u32, k: u32) -> u32
+    requires height { height < 32 }
+    requires tree { IsTree (2 ^ height) counts.now }
+    requires within { k < slice_index counts.now 1 }
+    ensures below { result < 2 ^ height }
+    ensures at { slice_get (numbers 0 (leaves counts.now)) k ≡ Some result }
+{
+    let mut i = 1;
+    let mut left = k;
+    'levels: for _level in 0..height {
+        i *= 2;
+        let count = counts[i];
+        if left >= count {
+            left -= count;
+            i += 1;
+        }
+    }
+    (i - counts.len() / 2) as u32
+}
+
+// Puts a number into a tree, or takes it out.
+pub(crate) fn mark(counts: &mut [u32], x: u32, stands: bool)
+    requires tree { IsTree (length counts.old / 2) counts.old }
+    requires inside { x < length counts.old / 2 }
+    ensures tree { IsTree (length counts.new / 2) counts.new }
+    ensures marked { numbers 0 (leaves counts.new) ≡ marked stands x (numbers 0 (leaves counts.old)) }
+{
+    let mut i = counts.len() / 2 + x as usize;
+    let bit = u32::from(stands);
+    if counts[i] == bit {
+        return;
+    }
+    counts[i] = bit;
+    'up: while i > 1 {
+        i /= 2;
+        add_up(counts, i);
+    }
+}
+
+// Makes the count of a node that of the two below it.
+fn add_up(counts: &mut [u32], i: usize)
+    requires inside { 2 * i + 1 < length counts.old }
+    requires fits { slice_index counts.old (2 * i) + slice_index counts.old (2 * i + 1) < 2 ^ 32 }
+    ensures { counts.new ≡ slice_set counts.old i (slice_index counts.old (2 * i) + slice_index counts.old (2 * i + 1)) }
+{
+    counts[i] = counts[2 * i] + counts[2 * i + 1];
+}
+
 // How many leaves a tree of this height has.
-pub(crate) fn leaves(height: u32) -> u32
+fn leaf_count(height: u32) -> usize
     requires { height < 32 }
     ensures { result ≡ 2 ^ height }
 {
     1 << height
 }
 
-// The k-th number of a tree.
-pub(crate) fn nth(nodes: &[u32], height: u32, first: u32, k: u32) -> u32
+// A tree of this height whose first leaves are those of a tree.
+pub(crate) fn grown(alloc: Global, counts: &[u32], height: u32) -> Result<Vec<u32>, NoMemory>
     requires height { height < 32 }
-    requires last { first + 2 ^ height ≤ 2 ^ 32 }
-    requires counted { IsCounted height nodes.now }
-    requires within { k < length (numbers height first nodes.now) }
-    ensures { slice_get (numbers height first nodes.now) k ≡ Some result }
+    requires less { length counts.now ≤ 2 * 2 ^ height }
+    requires tree { 0 < length counts.now → IsTree (length counts.now / 2) counts.now }
+    ensures tree { IfOk result (λ v. IsTree (2 ^ height) v.items) }
+    ensures numbers { IfOk result (λ v. numbers 0 (leaves v.items) ≡ numbers 0 (leaves counts.now)) }
 {
-    if height == 0 {
-        return first;
-    }
-    let half = leaves(height - 1);
-    let right = 2 * half as usize;
-    let count = nodes[1];
-    if k < count {
-        nth(&nodes[1..right], height - 1, first, k)
-    } else {
-        nth(&nodes[right..], height - 1, first + half, k - count)
-    }
+    let half = leaf_count(height);
+    let mut larger = Vec::with_capacity(alloc, 2 * half)?;
+    larger.resize(half, 0)?;
+    larger.extend_from_slice(&counts[counts.len() / 2..])?;
+    larger.resize(2 * half, 0)?;
+    add_all(&mut larger);
+    Ok(larger)
 }
 
-// Whether a number is in a tree.
-pub(crate) fn holds(nodes: &[u32], height: u32, first: u32, x: u32) -> bool
-    requires height { height < 32 }
-    requires last { first + 2 ^ height ≤ 2 ^ 32 }
-    requires counted { IsCounted height nodes.now }
-    ensures { IsTrue result ↔ Contains (numbers height first nodes.now) x }
+// Adds up a tree of which the leaves are there, and every other node is 0.
+fn add_all(counts: &mut [u32])
+    requires { IsBare (length counts.old / 2) counts.old }
+    ensures tree { IsTree (length counts.new / 2) counts.new }
+    ensures leaves { leaves counts.new ≡ leaves counts.old }
 {
-    if height == 0 {
-        return x == first && nodes[0] == 1;
+    let mut i = counts.len() / 2;
+    'down: while i > 1 {
+        i -= 1;
+        add_up(counts, i);
     }
-    let half = leaves(height - 1);
-    let right = 2 * half as usize;
-    if x < first + half {
-        holds(&nodes[1..right], height - 1, first, x)
-    } else {
-        holds(&nodes[right..], height - 1, first + half, x)
-    }
-}
-
-// Puts a number into a tree, or takes it out.
-pub(crate) fn mark(nodes: &mut [u32], height: u32, first: u32, x: u32, stands: bool)
-    requires height { height < 32 }
-    requires last { first + 2 ^ height ≤ 2 ^ 32 }
-    requires counted { IsCounted height nodes.old }
-    requires from { first ≤ x }
-    requires below { x < first + 2 ^ height }
-    ensures counted { IsCounted height nodes.new }
-    ensures marked { numbers height first nodes.new ≡ marked stands x (numbers height first nodes.old) }
-{
-    if height == 0 {
-        nodes[0] = u32::from(stands);
-        return;
-    }
-    let half = leaves(height - 1);
-    let right = 2 * half as usize;
-    if x < first + half {
-        mark(&mut nodes[1..right], height - 1, first, x, stands);
-        add_up(nodes, height, right);
-    } else {
-        mark(&mut nodes[right..], height - 1, first + half, x, stands);
-        add_up(nodes, height, right);
-    }
-}
-
-// Makes the topmost count that of the two halves, of which the right one begins at this node.
-fn add_up(nodes: &mut [u32], height: u32, right: usize)
-    requires some { 0 < height }
-    requires height { height < 32 }
-    requires right { right ≡ 2 * 2 ^ (height - 1) }
-    requires len { length nodes.old + 1 ≡ 2 * right }
-    requires counted_left { IsCounted (height - 1) (left_half (height - 1) nodes.old) }
-    requires counted_right { IsCounted (height - 1) (right_half (height - 1) nodes.old) }
-    ensures counted { IsCounted height nodes.new }
-    ensures numbers { (first : ℕ) → numbers height first nodes.new
-        ≡ numbers (height - 1) first (left_half (height - 1) nodes.old) ++ numbers (height - 1) (first + 2 ^ (height - 1))
-        (right_half (height - 1) nodes.old) }
-{
-    nodes[0] = nodes[1] + nodes[right];
-}
-
-// A tree with the same numbers and twice the leaves.
-pub(crate) fn doubled(alloc: Global, nodes: &[u32], height: u32) -> Result<Vec<u32>, NoMemory>
-    requires height { height < 31 }
-    requires counted { IsCounted height nodes.now }
-    ensures counted { IfOk result (λ v. IsCounted (height + 1) v.items) }
-    ensures numbers { IfOk result (λ v. (first : ℕ) → numbers (height + 1) first v.items ≡ numbers height first nodes.now) }
-{
-    let most = 2 * nodes.len() + 1;
-    let mut twice = Vec::with_capacity(alloc, most)?;
-    twice.push(nodes[0])?;
-    twice.extend_from_slice(nodes)?;
-    twice.resize(most, 0)?;
-    Ok(twice)
 }

@@ -1,10 +1,10 @@
 // The set of numbers.
-ghost use Rattle.std.specs.Prelude.{◌≡◌, ℕ, ◌+◌, ◌*◌, ◌/◌, ◌^◌, ◌<◌, ◌≤◌, ◌↔◌, [], Some, IsTrue, IfOk, OnOk, OnErr, Contains, length};
+ghost use Rattle.std.specs.Prelude.{◌≡◌, ℕ, ◌*◌, ◌/◌, ◌^◌, ◌<◌, ◌≤◌, ◌↔◌, [], Some, IsTrue, IfOk, OnOk, OnErr, Contains, length};
 ghost use Rattle.std.specs.Prelude.{slice_get};
 ghost use Rattle.rx_rank.specs.Numbers.{inserted, removed, marked, Ascends};
-ghost use Rattle.rx_rank.specs.Counts.{numbers, IsCounted, IsKept};
+ghost use Rattle.rx_rank.specs.Counts.{numbers, leaves, IsKept};
 
-use crate::counts::{doubled, holds, leaves, mark, nth};
+use crate::counts::{grown, mark, nth};
 use rx_base::NoMemory;
 use std::alloc::Global;
 use std::marker::Model;
@@ -16,21 +16,21 @@ const MOST_ROOM: u32 = 1 << 31;
 #[derive(Drop)]
 pub struct Ranks {
     alloc: Global,
-    // A tree of counts of this height, or no node where the room is 0.
-    nodes: Vec<u32>,
+    // A tree of counts of this height, or nothing where the room is 0.
+    counts: Vec<u32>,
     height: u32,
 }
 
 impl Model for Ranks {
-    ghost use Rattle.std.specs.Prelude.{◌+◌, ◌/◌, length};
+    ghost use Rattle.std.specs.Prelude.{◌/◌, length};
     ghost use Rattle.rx_rank.specs.Numbers.{Numbers};
-    ghost use Rattle.rx_rank.specs.Counts.{numbers, IsKept};
+    ghost use Rattle.rx_rank.specs.Counts.{numbers, leaves, IsKept};
 
     ghost Value = { Numbers };
 
-    ghost view = { λ r. record { members = numbers r.height 0 r.nodes.items; room = (length r.nodes.items + 1) / 2 } };
+    ghost view = { λ r. record { members = numbers 0 (leaves r.counts.items); room = length r.counts.items / 2 } };
 
-    ghost invariant = { λ r. IsKept r.height r.nodes.items };
+    ghost invariant = { λ r. IsKept r.height r.counts.items };
 }
 
 impl Ranks {
@@ -40,7 +40,7 @@ impl Ranks {
     {
         Ranks {
             alloc,
-            nodes: Vec::new(alloc),
+            counts: Vec::new(alloc),
             height: 0,
         }
     }
@@ -55,13 +55,15 @@ impl Ranks {
         ensures most { OnOk result (self.old.room < n → self.new.room ≤ 2 * n) }
         ensures err { OnErr result (self.new ≡ self.old) }
     {
-        if n as usize <= (self.nodes.len() + 1) / 2 {
+        if n as usize <= self.counts.len() / 2 {
             return Ok(());
         }
         if n > MOST_ROOM {
             return Err(NoMemory);
         }
-        *self = larger(self.alloc, &self.nodes, self.height, n)?;
+        let height = height_for(n);
+        self.counts = grown(self.alloc, &self.counts, height)?;
+        self.height = height;
         Ok(())
     }
 
@@ -71,7 +73,7 @@ impl Ranks {
         ensures members { self.new.members ≡ inserted x self.old.members }
         ensures room { self.new.room ≡ self.old.room }
     {
-        mark(&mut self.nodes, self.height, 0, x, true);
+        mark(&mut self.counts, x, true);
     }
 
     /// Puts a number below the room into the set, or takes it out.
@@ -92,8 +94,8 @@ impl Ranks {
         ensures members { self.new.members ≡ removed x self.old.members }
         ensures room { self.new.room ≡ self.old.room }
     {
-        if (x as usize) < (self.nodes.len() + 1) / 2 {
-            mark(&mut self.nodes, self.height, 0, x, false);
+        if (x as usize) < self.counts.len() / 2 {
+            mark(&mut self.counts, x, false);
         }
     }
 
@@ -101,7 +103,10 @@ impl Ranks {
     pub fn contains(&self, x: u32) -> bool
         ensures { IsTrue result ↔ Contains self.now.members x }
     {
-        (x as usize) < (self.nodes.len() + 1) / 2 && holds(&self.nodes, self.height, 0, x)
+        match self.counts.get(self.counts.len() / 2 + x as usize) {
+            Some(count) => *count != 0,
+            None => false,
+        }
     }
 
     /// How many numbers are in the set, each of which stands in the list once.
@@ -110,7 +115,7 @@ impl Ranks {
         ensures once { Ascends 0 self.now.members }
         ensures most { result ≤ self.now.room }
     {
-        match self.nodes.first() {
+        match self.counts.get(1) {
             Some(count) => *count,
             None => 0,
         }
@@ -122,47 +127,21 @@ impl Ranks {
         ensures at { slice_get self.now.members k ≡ Some result }
         ensures below { result < self.now.room }
     {
-        nth(&self.nodes, self.height, 0, k)
+        nth(&self.counts, self.height, k)
     }
 }
 
-// A set with the numbers of these nodes, which have no room for the numbers below n, and with room for them.
-fn larger(alloc: Global, nodes: &[u32], height: u32, n: u32) -> Result<Ranks, NoMemory>
+// The least height of a tree that has room for the numbers below n.
+fn height_for(n: u32) -> u32
+    requires some { 0 < n }
     requires few { n ≤ 2 ^ 31 }
-    requires kept { IsKept height nodes.now }
-    requires less { (length nodes.now + 1) / 2 < n }
-    ensures members { IfOk result (λ r. r.members ≡ numbers height 0 nodes.now) }
-    ensures room { IfOk result (λ r. n ≤ r.room) }
-    ensures doubles { IfOk result (λ r. 2 * ((length nodes.now + 1) / 2) ≤ r.room) }
-    ensures most { IfOk result (λ r. r.room ≤ 2 * n) }
+    ensures height { result < 32 }
+    ensures room { n ≤ 2 ^ result }
+    ensures most { 2 ^ result < 2 * n }
 {
-    if nodes.is_empty() {
-        let leaf = vec![in alloc; 0]?;
-        grown(alloc, leaf, 0, n)
-    } else {
-        let twice = doubled(alloc, nodes, height)?;
-        grown(alloc, twice, height + 1, n)
+    let mut height = 0;
+    'heights: while 1 << height < n {
+        height += 1;
     }
-}
-
-// A set with the numbers of a tree, and with room for the numbers below n.
-fn grown(alloc: Global, nodes: Vec<u32>, height: u32, n: u32) -> Result<Ranks, NoMemory>
-    requires few { n ≤ 2 ^ 31 }
-    requires height { height < 32 }
-    requires small { 2 ^ height ≤ 2 * n }
-    requires counted { IsCounted height nodes.items }
-    ensures members { IfOk result (λ r. r.members ≡ numbers height 0 nodes.items) }
-    ensures room { IfOk result (λ r. n ≤ r.room) }
-    ensures kept { IfOk result (λ r. 2 ^ height ≤ r.room) }
-    ensures most { IfOk result (λ r. r.room ≤ 2 * n) }
-{
-    if n <= leaves(height) {
-        return Ok(Ranks {
-            alloc,
-            nodes,
-            height,
-        });
-    }
-    let twice = doubled(alloc, &nodes, height)?;
-    grown(alloc, twice, height + 1, n)
+    height
 }

@@ -106,7 +106,7 @@ fn push_eight(out: &mut Vec<u8>, n: u32)
 }
 
 // Appends the digits of a number that has four at the most.
-#[tactic(auto, using(std::proofs::Common::append_assoc, crate::proofs::Short::one_digit, crate::proofs::Short::two_digits, crate::proofs::Short::three_digits, crate::proofs::Short::four_digits))]
+#[tactic(auto, using(std::proofs::Common::append_assoc, crate::proofs::Short::three_digits, crate::proofs::Short::four_digits))]
 fn push_four(out: &mut Vec<u8>, n: u32)
     requires most { n < 10000 }
     requires room { vec_len out.old + 4 ≤ vec_capacity out.old }
@@ -115,17 +115,30 @@ fn push_four(out: &mut Vec<u8>, n: u32)
     ensures capacity { vec_capacity out.new ≡ vec_capacity out.old }
 {
     match n {
-        0..=9 => push_last(out, n),
-        10..=99 => {
-            push_last(out, n / 10);
-            push_last(out, n);
-        }
+        0..=99 => push_two(out, n),
         100..=999 => {
             push_last(out, n / 100);
             push_last(out, n / 10);
             push_last(out, n);
         }
         _ => push_all_four(out, n),
+    }
+}
+
+// Appends the digits of a number that has two at the most.
+#[tactic(auto, using(std::proofs::Common::append_assoc, crate::proofs::Short::one_digit, crate::proofs::Short::two_digits))]
+fn push_two(out: &mut Vec<u8>, n: u32)
+    requires most { n < 100 }
+    requires room { vec_len out.old + 2 ≤ vec_capacity out.old }
+    ensures items { out.new.items ≡ out.old.items ++ decimal n }
+    ensures len { vec_len out.new ≤ vec_len out.old + 2 }
+    ensures capacity { vec_capacity out.new ≡ vec_capacity out.old }
+{
+    if n < 10 {
+        push_last(out, n);
+    } else {
+        push_last(out, n / 10);
+        push_last(out, n);
     }
 }
 

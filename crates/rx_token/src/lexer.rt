@@ -1,6 +1,7 @@
 // From bytes to tokens.
 ghost use Rattle.std.specs.Prelude.{◌≡◌, ◌<◌, ◌≤◌, false, length, option_map, IfSome};
 ghost use Rattle.std.specs.List.{prefix_len};
+ghost use Rattle.std.specs.Prelude.{bytes_eq};
 ghost use Rattle.rx_token.specs.Lexical.{skipped, is_word_byte, number_of_run, padded, keyword_of, run_token, equals_sign, sign_of_byte};
 ghost use Rattle.rx_token.specs.Lexical.{sign_at, token_at};
 
@@ -72,44 +73,51 @@ fn number(run: &[u8]) -> Option<i64>
     Some(value as i64)
 }
 
+// Whether these are the same bytes. Their numbers are compared first, which tells most words apart.
+fn is_same(word: &[u8], other: &[u8]) -> bool
+    ensures { result ≡ bytes_eq word.now other.now }
+{
+    word.len() == other.len() && word == other
+}
+
 fn keyword(word: &[u8]) -> Option<Keyword>
     ensures { result ≡ keyword_of word.now }
 {
-    if word == b"set".as_slice() {
+    if is_same(word, b"set") {
         Some(Keyword::Set)
-    } else if word == b"new".as_slice() {
+    } else if is_same(word, b"new") {
         Some(Keyword::New)
-    } else if word == b"get".as_slice() {
+    } else if is_same(word, b"get") {
         Some(Keyword::Get)
-    } else if word == b"put".as_slice() {
+    } else if is_same(word, b"put") {
         Some(Keyword::Put)
-    } else if word == b"forget".as_slice() {
+    } else if is_same(word, b"forget") {
         Some(Keyword::Forget)
-    } else if word == b"print".as_slice() {
+    } else if is_same(word, b"print") {
         Some(Keyword::Print)
-    } else if word == b"throw".as_slice() {
+    } else if is_same(word, b"throw") {
         Some(Keyword::Throw)
-    } else if word == b"async".as_slice() {
+    } else if is_same(word, b"async") {
         Some(Keyword::Async)
-    } else if word == b"at".as_slice() {
+    } else if is_same(word, b"at") {
         Some(Keyword::At)
-    } else if word == b"finish".as_slice() {
+    } else if is_same(word, b"finish") {
         Some(Keyword::Finish)
-    } else if word == b"if".as_slice() {
+    } else if is_same(word, b"if") {
         Some(Keyword::If)
-    } else if word == b"else".as_slice() {
+    } else if is_same(word, b"else") {
         Some(Keyword::Else)
-    } else if word == b"repeat".as_slice() {
+    } else if is_same(word, b"repeat") {
         Some(Keyword::Repeat)
-    } else if word == b"try".as_slice() {
+    } else if is_same(word, b"try") {
         Some(Keyword::Try)
-    } else if word == b"catch".as_slice() {
+    } else if is_same(word, b"catch") {
         Some(Keyword::Catch)
-    } else if word == b"dead".as_slice() {
+    } else if is_same(word, b"dead") {
         Some(Keyword::Dead)
-    } else if word == b"here".as_slice() {
+    } else if is_same(word, b"here") {
         Some(Keyword::Here)
-    } else if word == b"census".as_slice() {
+    } else if is_same(word, b"census") {
         Some(Keyword::Census)
     } else {
         None

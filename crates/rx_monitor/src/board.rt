@@ -321,9 +321,22 @@ impl BoardReader {
     {
         let mut items = Vec::new(alloc);
         for _ in 0..n {
-            items.push(self.snap())?;
+            self.snap_behind(&mut items)?;
         }
         Ok(items)
+    }
+
+    /// One snapshot more, behind others. They stand in the list that the reader has then seen, in order. `Err` is want of memory for
+    /// the list of them.
+    pub fn snap_behind(&mut self, items: &mut Vec<Summary>) -> Result<(), NoMemory>
+        requires { StandInOrder self.old.list 0 items.old.items }
+        ensures board { self.new.board ≡ self.old.board }
+        ensures begins { IsPrefix self.old.list self.new.list }
+        ensures items { IfOk result (λ _. (length items.new.items ≡ length items.old.items + 1)
+            × StandInOrder self.new.list 0 items.new.items) }
+    {
+        items.push(self.snap())?;
+        Ok(())
     }
 
     /// A snapshot: the last summary of a list that begins with all that the reader had seen, and that it has seen from now on. It takes no

@@ -1,15 +1,16 @@
 // The lines of entries.
-ghost use Rattle.std.specs.Prelude.{◌≡◌, ◌++◌, codes, OnOk};
+ghost use Rattle.std.specs.Prelude.{◌≡◌, ◌+◌, ◌≤◌, ◌++◌, codes, length, OnOk, vec_len, vec_capacity};
 ghost use Rattle.rx_trace.specs.EntryLines.{scope_in, way, act_word, act_fields, entry_text, entry_line, entry_lines};
-ghost use Rattle.rx_trace.specs.Fields.{scope_field, path_field, task_field};
+ghost use Rattle.rx_trace.specs.Fields.{scope_field, task_field};
 
 use crate::fields::{
-    put_line_number, put_natural_field, put_number_field, put_path_field, put_place_field,
-    put_scope_field, put_task_field, put_text,
+    push_natural_field, push_number_field, push_place_field, push_scope_field, push_task_field,
+    put_line_number, put_path_field, put_place_field, put_text,
 };
 use crate::parts::{put_batch, put_release_parts, put_thrown};
 use crate::{Act, Entry, History};
 use rx_base::{NoMemory, Path, PlaceId, ScopeId, TaskId};
+use rx_text::{push_bytes, push_natural};
 
 // The lines of all entries.
 pub(crate) fn put_entries(out: &mut Vec<u8>, h: &History) -> Result<(), NoMemory>
@@ -27,7 +28,8 @@ fn put_entry(out: &mut Vec<u8>, n: usize, entry: &Entry) -> Result<(), NoMemory>
 {
     put_line_number(out, n)?;
     put_entry_text(out, entry)?;
-    put_text(out, b"\n")
+    out.push(b'\n')?;
+    Ok(())
 }
 
 // What stands after the number.
@@ -37,8 +39,10 @@ fn put_entry_text(out: &mut Vec<u8>, entry: &Entry) -> Result<(), NoMemory>
 {
     match entry {
         Entry::Step { task, act, batch } => {
-            put_text(out, word_of(act))?;
-            put_task_field(out, *task)?;
+            // Room for the word, the task and the numbers of the act, but not for its lists.
+            out.reserve(96)?;
+            push_bytes(out, word_of(act));
+            push_task_field(out, *task);
             put_act_fields(out, act)?;
             put_batch(out, batch)
         }
@@ -63,7 +67,8 @@ fn put_entry_text(out: &mut Vec<u8>, entry: &Entry) -> Result<(), NoMemory>
 
 // The word of an act, after a blank.
 fn word_of(act: &Act) -> &'static [u8]
-    ensures { result.now ≡ act_word act.now }
+    ensures word { result.now ≡ act_word act.now }
+    ensures short { length result.now ≤ 8 }
 {
     match act {
         Act::Open { .. } => b" open",
@@ -81,6 +86,7 @@ fn word_of(act: &Act) -> &'static [u8]
 // What stands after the task.
 #[tactic(auto, using(std::proofs::Common::append_assoc))]
 fn put_act_fields(out: &mut Vec<u8>, act: &Act) -> Result<(), NoMemory>
+    requires room { vec_len out.old + 71 ≤ vec_capacity out.old }
     ensures { OnOk result (out.new.items ≡ out.old.items ++ act_fields act.now) }
 {
     match act {
@@ -89,7 +95,7 @@ fn put_act_fields(out: &mut Vec<u8>, act: &Act) -> Result<(), NoMemory>
             parent,
             path,
         } => {
-            put_scope_in(out, *scope, *parent)?;
+            push_scope_in(out, *scope, *parent);
             put_path_field(out, path)
         }
         Act::At {
@@ -100,9 +106,10 @@ fn put_act_fields(out: &mut Vec<u8>, act: &Act) -> Result<(), NoMemory>
             to,
             path,
         } => {
-            put_scope_in(out, *scope, *parent)?;
-            put_task_field(out, *callee)?;
-            put_way(out, *from, *to, path)
+            push_scope_in(out, *scope, *parent);
+            push_task_field(out, *callee);
+            push_way(out, *from, *to);
+            put_path_field(out, path)
         }
         Act::Spawn {
             child,
@@ -111,12 +118,13 @@ fn put_act_fields(out: &mut Vec<u8>, act: &Act) -> Result<(), NoMemory>
             to,
             path,
         } => {
-            put_child(out, *child, *scope)?;
-            put_way(out, *from, *to, path)
+            push_child(out, *child, *scope);
+            push_way(out, *from, *to);
+            put_path_field(out, path)
         }
         Act::Arrive { place } => put_place_field(out, *place),
         Act::Wait { scope, thrown } => {
-            put_scope_field(out, *scope)?;
+            push_scope_field(out, *scope);
             put_thrown(out, thrown)
         }
         Act::Release {
@@ -125,16 +133,16 @@ fn put_act_fields(out: &mut Vec<u8>, act: &Act) -> Result<(), NoMemory>
             masked,
             thrown,
         } => {
-            put_scope_field(out, *scope)?;
+            push_scope_field(out, *scope);
             put_release_parts(out, *lost, *masked, thrown)
         }
         Act::End { thrown } => put_thrown(out, thrown),
         Act::Print { value, path } => {
-            put_number_field(out, *value)?;
+            push_number_field(out, *value);
             put_path_field(out, path)
         }
         Act::Census { places, path } => {
-            put_natural_field(out, u32::from(*places))?;
+            push_natural_field(out, u32::from(*places));
             put_path_field(out, path)
         }
     }
@@ -142,30 +150,38 @@ fn put_act_fields(out: &mut Vec<u8>, act: &Act) -> Result<(), NoMemory>
 
 // A scope in its parent.
 #[tactic(auto, using(std::proofs::Common::append_assoc))]
-fn put_scope_in(out: &mut Vec<u8>, scope: ScopeId, parent: ScopeId) -> Result<(), NoMemory>
-    ensures { OnOk result (out.new.items ≡ out.old.items ++ scope_in scope parent) }
+fn push_scope_in(out: &mut Vec<u8>, scope: ScopeId, parent: ScopeId)
+    requires room { vec_len out.old + 31 ≤ vec_capacity out.old }
+    ensures items { out.new.items ≡ out.old.items ++ scope_in scope parent }
+    ensures len { vec_len out.new ≤ vec_len out.old + 31 }
+    ensures capacity { vec_capacity out.new ≡ vec_capacity out.old }
 {
-    put_scope_field(out, scope)?;
-    put_text(out, b" in")?;
-    put_scope_field(out, parent)
+    push_scope_field(out, scope);
+    push_bytes(out, b" in s");
+    push_natural(out, parent.0);
 }
 
 // A new task in the scope that it hangs under.
 #[tactic(auto, using(std::proofs::Common::append_assoc))]
-fn put_child(out: &mut Vec<u8>, child: TaskId, scope: ScopeId) -> Result<(), NoMemory>
-    ensures { OnOk result (out.new.items ≡ out.old.items ++ task_field child ++ codes " in" ++ scope_field scope) }
+fn push_child(out: &mut Vec<u8>, child: TaskId, scope: ScopeId)
+    requires room { vec_len out.old + 31 ≤ vec_capacity out.old }
+    ensures items { out.new.items ≡ out.old.items ++ (task_field child ++ codes " in" ++ scope_field scope) }
+    ensures len { vec_len out.new ≤ vec_len out.old + 31 }
+    ensures capacity { vec_capacity out.new ≡ vec_capacity out.old }
 {
-    put_task_field(out, child)?;
-    put_text(out, b" in")?;
-    put_scope_field(out, scope)
+    push_task_field(out, child);
+    push_bytes(out, b" in s");
+    push_natural(out, scope.0);
 }
 
-// Where a new task begins its way and where that ends, and the path of its statement.
+// Where a new task begins its way and where that ends.
 #[tactic(auto, using(std::proofs::Common::append_assoc))]
-fn put_way(out: &mut Vec<u8>, from: PlaceId, to: PlaceId, path: &Path) -> Result<(), NoMemory>
-    ensures { OnOk result (out.new.items ≡ out.old.items ++ way from to ++ path_field path.now) }
+fn push_way(out: &mut Vec<u8>, from: PlaceId, to: PlaceId)
+    requires room { vec_len out.old + 26 ≤ vec_capacity out.old }
+    ensures items { out.new.items ≡ out.old.items ++ way from to }
+    ensures len { vec_len out.new ≤ vec_len out.old + 26 }
+    ensures capacity { vec_capacity out.new ≡ vec_capacity out.old }
 {
-    put_place_field(out, from)?;
-    put_place_field(out, to)?;
-    put_path_field(out, path)
+    push_place_field(out, from);
+    push_place_field(out, to);
 }

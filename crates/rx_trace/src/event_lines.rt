@@ -1,15 +1,16 @@
 // The lines of journals and of their events.
-ghost use Rattle.std.specs.Prelude.{◌≡◌, ◌++◌, OnOk};
+ghost use Rattle.std.specs.Prelude.{◌≡◌, ◌+◌, ◌≤◌, ◌++◌, OnOk, vec_len, vec_capacity};
 ghost use Rattle.rx_history.specs.Events.{events_of};
 ghost use Rattle.rx_trace.specs.EventLines.{reading_text, writing_text, call_text, cause_text, answer_text, event_text, event_line};
 ghost use Rattle.rx_trace.specs.EventLines.{event_lines, journal_lines, journals_lines};
 
 use crate::fields::{
-    put_block_field, put_line_number, put_natural_field, put_number_field, put_path_field,
-    put_task_field, put_text,
+    push_block_field, push_natural_field, push_number_field, push_task_field, put_line_number,
+    put_natural_field, put_path_field, put_text,
 };
 use crate::{Cell, Journal, Journals, PlaceEvent};
 use rx_base::{GlobalRef, NoMemory};
+use rx_text::push_bytes;
 
 // The lines of all journals.
 pub(crate) fn put_journals(out: &mut Vec<u8>, j: &Journals) -> Result<(), NoMemory>
@@ -28,7 +29,7 @@ fn put_journal(out: &mut Vec<u8>, place: usize, journal: &Journal) -> Result<(),
 {
     put_text(out, b"journal ")?;
     put_line_number(out, place)?;
-    put_text(out, b"\n")?;
+    out.push(b'\n')?;
     put_events(out, journal)
 }
 
@@ -47,7 +48,8 @@ fn put_event(out: &mut Vec<u8>, n: usize, event: &PlaceEvent) -> Result<(), NoMe
 {
     put_line_number(out, n)?;
     put_event_text(out, event)?;
-    put_text(out, b"\n")
+    out.push(b'\n')?;
+    Ok(())
 }
 
 // What stands after the number.
@@ -62,10 +64,12 @@ fn put_event_text(out: &mut Vec<u8>, event: &PlaceEvent) -> Result<(), NoMemory>
             cell,
             path,
         } => {
-            put_task_field(out, *task)?;
-            put_natural_field(out, *stamp)?;
-            put_call(out, *cell)?;
-            put_answer(out, *cell)?;
+            // Room for all but the path.
+            out.reserve(128)?;
+            push_task_field(out, *task);
+            push_natural_field(out, *stamp);
+            push_call(out, *cell);
+            push_answer(out, *cell);
             put_path_field(out, path)
         }
         PlaceEvent::Close { stamp } => {
@@ -77,59 +81,71 @@ fn put_event_text(out: &mut Vec<u8>, event: &PlaceEvent) -> Result<(), NoMemory>
 
 // A store call.
 #[tactic(auto, using(std::proofs::Common::append_assoc))]
-fn put_call(out: &mut Vec<u8>, cell: Cell) -> Result<(), NoMemory>
-    ensures { OnOk result (out.new.items ≡ out.old.items ++ call_text cell) }
+fn push_call(out: &mut Vec<u8>, cell: Cell)
+    requires room { vec_len out.old + 72 ≤ vec_capacity out.old }
+    ensures items { out.new.items ≡ out.old.items ++ call_text cell }
+    ensures len { vec_len out.new ≤ vec_len out.old + 72 }
+    ensures capacity { vec_capacity out.new ≡ vec_capacity out.old }
 {
     match cell {
         Cell::Make { words, .. } | Cell::MakeFull { words } => {
-            put_text(out, b" make")?;
-            put_natural_field(out, words)
+            push_bytes(out, b" make");
+            push_natural_field(out, words);
         }
-        Cell::Get { target, index, .. } => put_reading(out, target, index),
-        Cell::GetRefused { target, index, .. } => put_reading(out, target, index),
+        Cell::Get { target, index, .. } => push_reading(out, target, index),
+        Cell::GetRefused { target, index, .. } => push_reading(out, target, index),
         Cell::Put {
             target,
             index,
             value,
-        } => put_writing(out, target, index, value),
+        } => push_writing(out, target, index, value),
         Cell::PutRefused {
             target,
             index,
             value,
             ..
-        } => put_writing(out, target, index, value),
+        } => push_writing(out, target, index, value),
         Cell::Forget { target } | Cell::ForgetStale { target } => {
-            put_text(out, b" forget")?;
-            put_block_field(out, target)
+            push_bytes(out, b" forget");
+            push_block_field(out, target);
         }
     }
 }
 
 // The call that reads a word.
 #[tactic(auto, using(std::proofs::Common::append_assoc))]
-fn put_reading(out: &mut Vec<u8>, target: GlobalRef, index: i64) -> Result<(), NoMemory>
-    ensures { OnOk result (out.new.items ≡ out.old.items ++ reading_text target index) }
+fn push_reading(out: &mut Vec<u8>, target: GlobalRef, index: i64)
+    requires room { vec_len out.old + 51 ≤ vec_capacity out.old }
+    ensures items { out.new.items ≡ out.old.items ++ reading_text target index }
+    ensures len { vec_len out.new ≤ vec_len out.old + 51 }
+    ensures capacity { vec_capacity out.new ≡ vec_capacity out.old }
 {
-    put_text(out, b" get")?;
-    put_block_field(out, target)?;
-    put_number_field(out, index)
+    push_bytes(out, b" get");
+    push_block_field(out, target);
+    push_number_field(out, index);
 }
 
 // The call that writes a word.
 #[tactic(auto, using(std::proofs::Common::append_assoc))]
-fn put_writing(out: &mut Vec<u8>, target: GlobalRef, index: i64, value: i64) -> Result<(), NoMemory>
-    ensures { OnOk result (out.new.items ≡ out.old.items ++ writing_text target index value) }
+fn push_writing(out: &mut Vec<u8>, target: GlobalRef, index: i64, value: i64)
+    requires room { vec_len out.old + 72 ≤ vec_capacity out.old }
+    ensures items { out.new.items ≡ out.old.items ++ writing_text target index value }
+    ensures len { vec_len out.new ≤ vec_len out.old + 72 }
+    ensures capacity { vec_capacity out.new ≡ vec_capacity out.old }
 {
-    put_text(out, b" put")?;
-    put_block_field(out, target)?;
-    put_number_field(out, index)?;
-    put_number_field(out, value)
+    push_bytes(out, b" put");
+    push_block_field(out, target);
+    push_number_field(out, index);
+    push_number_field(out, value);
 }
 
 // The answer of a store call.
 #[tactic(auto, using(std::proofs::Common::append_assoc))]
-fn put_answer(out: &mut Vec<u8>, cell: Cell) -> Result<(), NoMemory>
-    ensures { OnOk result (out.new.items ≡ out.old.items ++ answer_text cell) }
+fn push_answer(out: &mut Vec<u8>, cell: Cell)
+    requires room { vec_len out.old + 29 ≤ vec_capacity out.old }
+    ensures items { out.new.items ≡ out.old.items ++ answer_text cell }
+    ensures len { vec_len out.new ≤ vec_len out.old + 29 }
+    ensures capacity { vec_capacity out.new ≡ vec_capacity out.old }
 {
     match cell {
         Cell::Make {
@@ -137,28 +153,31 @@ fn put_answer(out: &mut Vec<u8>, cell: Cell) -> Result<(), NoMemory>
             generation,
             ..
         } => {
-            put_text(out, b" at")?;
-            put_natural_field(out, start)?;
-            put_natural_field(out, generation)
+            push_bytes(out, b" at");
+            push_natural_field(out, start);
+            push_natural_field(out, generation);
         }
-        Cell::MakeFull { .. } => put_text(out, b" full"),
+        Cell::MakeFull { .. } => push_bytes(out, b" full"),
         Cell::Get { value, .. } => {
-            put_text(out, b" is")?;
-            put_number_field(out, value)
+            push_bytes(out, b" is");
+            push_number_field(out, value);
         }
-        Cell::Put { .. } | Cell::Forget { .. } => put_text(out, b" ok"),
-        Cell::GetRefused { stale, .. } | Cell::PutRefused { stale, .. } => put_cause(out, stale),
-        Cell::ForgetStale { .. } => put_cause(out, true),
+        Cell::Put { .. } | Cell::Forget { .. } => push_bytes(out, b" ok"),
+        Cell::GetRefused { stale, .. } | Cell::PutRefused { stale, .. } => push_cause(out, stale),
+        Cell::ForgetStale { .. } => push_cause(out, true),
     }
 }
 
 // Why a call was refused.
-fn put_cause(out: &mut Vec<u8>, stale: bool) -> Result<(), NoMemory>
-    ensures { OnOk result (out.new.items ≡ out.old.items ++ cause_text stale) }
+fn push_cause(out: &mut Vec<u8>, stale: bool)
+    requires room { vec_len out.old + 6 ≤ vec_capacity out.old }
+    ensures items { out.new.items ≡ out.old.items ++ cause_text stale }
+    ensures len { vec_len out.new ≤ vec_len out.old + 6 }
+    ensures capacity { vec_capacity out.new ≡ vec_capacity out.old }
 {
     if stale {
-        put_text(out, b" stale")
+        push_bytes(out, b" stale");
     } else {
-        put_text(out, b" index")
+        push_bytes(out, b" index");
     }
 }

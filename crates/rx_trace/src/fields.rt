@@ -1,12 +1,12 @@
-// The fields of a line, each after a blank.
-ghost use Rattle.std.specs.Prelude.{◌≡◌, ◌++◌, OnOk};
+// The fields of a line, each after a blank. What begins with `push` is written where there is room.
+ghost use Rattle.std.specs.Prelude.{◌≡◌, ◌+◌, ◌≤◌, ◌++◌, OnOk, vec_len, vec_capacity};
 ghost use Rattle.rx_text.specs.Numbers.{natural_text};
 ghost use Rattle.rx_trace.specs.Fields.{natural_field, number_field, path_field, place_field, task_field, scope_field, block_field};
 ghost use Rattle.rx_trace.specs.Fields.{kill_field, fault_field};
 
 use itoa::Buffer;
 use rx_base::{Fault, GlobalRef, Kill, NoMemory, Path, PlaceId, ScopeId, TaskId};
-use rx_text::{put_natural, put_num, put_path};
+use rx_text::{push_natural, push_num, put_natural, put_num, put_path};
 
 // A text as it is.
 pub(crate) fn put_text(out: &mut Vec<u8>, text: &[u8]) -> Result<(), NoMemory>
@@ -20,29 +20,28 @@ pub(crate) fn put_text(out: &mut Vec<u8>, text: &[u8]) -> Result<(), NoMemory>
 pub(crate) fn put_line_number(out: &mut Vec<u8>, n: usize) -> Result<(), NoMemory>
     ensures { OnOk result (out.new.items ≡ out.old.items ++ natural_text n) }
 {
-    let mut buffer = Buffer::new();
-    put_text(out, buffer.format(n).as_bytes())
-}
-
-pub(crate) fn put_natural_field(out: &mut Vec<u8>, n: u32) -> Result<(), NoMemory>
-    ensures { OnOk result (out.new.items ≡ out.old.items ++ natural_field n) }
-{
-    put_text(out, b" ")?;
-    put_natural(out, n)
-}
-
-pub(crate) fn put_number_field(out: &mut Vec<u8>, n: i64) -> Result<(), NoMemory>
-    ensures { OnOk result (out.new.items ≡ out.old.items ++ number_field n) }
-{
-    put_text(out, b" ")?;
-    put_num(out, n)
+    match u32::try_from(n) {
+        Ok(n) => put_natural(out, n),
+        Err(_) => {
+            let mut buffer = Buffer::new();
+            put_text(out, buffer.format(n).as_bytes())
+        }
+    }
 }
 
 pub(crate) fn put_path_field(out: &mut Vec<u8>, path: &Path) -> Result<(), NoMemory>
     ensures { OnOk result (out.new.items ≡ out.old.items ++ path_field path.now) }
 {
-    put_text(out, b" ")?;
+    out.push(b' ')?;
     put_path(out, path)
+}
+
+pub(crate) fn put_natural_field(out: &mut Vec<u8>, n: u32) -> Result<(), NoMemory>
+    ensures { OnOk result (out.new.items ≡ out.old.items ++ natural_field n) }
+{
+    out.reserve(13)?;
+    push_natural_field(out, n);
+    Ok(())
 }
 
 pub(crate) fn put_place_field(out: &mut Vec<u8>, place: PlaceId) -> Result<(), NoMemory>
@@ -51,26 +50,66 @@ pub(crate) fn put_place_field(out: &mut Vec<u8>, place: PlaceId) -> Result<(), N
     put_natural_field(out, u32::from(place.0))
 }
 
-pub(crate) fn put_task_field(out: &mut Vec<u8>, task: TaskId) -> Result<(), NoMemory>
-    ensures { OnOk result (out.new.items ≡ out.old.items ++ task_field task) }
+pub(crate) fn push_natural_field(out: &mut Vec<u8>, n: u32)
+    requires room { vec_len out.old + 13 ≤ vec_capacity out.old }
+    ensures items { out.new.items ≡ out.old.items ++ natural_field n }
+    ensures len { vec_len out.new ≤ vec_len out.old + 13 }
+    ensures capacity { vec_capacity out.new ≡ vec_capacity out.old }
 {
-    put_text(out, b" t")?;
-    put_natural(out, task.0)
+    out.push_reserved(b' ');
+    push_natural(out, n);
 }
 
-pub(crate) fn put_scope_field(out: &mut Vec<u8>, scope: ScopeId) -> Result<(), NoMemory>
-    ensures { OnOk result (out.new.items ≡ out.old.items ++ scope_field scope) }
+pub(crate) fn push_number_field(out: &mut Vec<u8>, n: i64)
+    requires room { vec_len out.old + 21 ≤ vec_capacity out.old }
+    ensures items { out.new.items ≡ out.old.items ++ number_field n }
+    ensures len { vec_len out.new ≤ vec_len out.old + 21 }
+    ensures capacity { vec_capacity out.new ≡ vec_capacity out.old }
 {
-    put_text(out, b" s")?;
-    put_natural(out, scope.0)
+    out.push_reserved(b' ');
+    push_num(out, n);
+}
+
+pub(crate) fn push_place_field(out: &mut Vec<u8>, place: PlaceId)
+    requires room { vec_len out.old + 13 ≤ vec_capacity out.old }
+    ensures items { out.new.items ≡ out.old.items ++ place_field place }
+    ensures len { vec_len out.new ≤ vec_len out.old + 13 }
+    ensures capacity { vec_capacity out.new ≡ vec_capacity out.old }
+{
+    push_natural_field(out, u32::from(place.0));
+}
+
+pub(crate) fn push_task_field(out: &mut Vec<u8>, task: TaskId)
+    requires room { vec_len out.old + 14 ≤ vec_capacity out.old }
+    ensures items { out.new.items ≡ out.old.items ++ task_field task }
+    ensures len { vec_len out.new ≤ vec_len out.old + 14 }
+    ensures capacity { vec_capacity out.new ≡ vec_capacity out.old }
+{
+    out.push_reserved(b' ');
+    out.push_reserved(b't');
+    push_natural(out, task.0);
+}
+
+pub(crate) fn push_scope_field(out: &mut Vec<u8>, scope: ScopeId)
+    requires room { vec_len out.old + 14 ≤ vec_capacity out.old }
+    ensures items { out.new.items ≡ out.old.items ++ scope_field scope }
+    ensures len { vec_len out.new ≤ vec_len out.old + 14 }
+    ensures capacity { vec_capacity out.new ≡ vec_capacity out.old }
+{
+    out.push_reserved(b' ');
+    out.push_reserved(b's');
+    push_natural(out, scope.0);
 }
 
 #[tactic(auto, using(std::proofs::Common::append_assoc))]
-pub(crate) fn put_block_field(out: &mut Vec<u8>, block: GlobalRef) -> Result<(), NoMemory>
-    ensures { OnOk result (out.new.items ≡ out.old.items ++ block_field block) }
+pub(crate) fn push_block_field(out: &mut Vec<u8>, block: GlobalRef)
+    requires room { vec_len out.old + 26 ≤ vec_capacity out.old }
+    ensures items { out.new.items ≡ out.old.items ++ block_field block }
+    ensures len { vec_len out.new ≤ vec_len out.old + 26 }
+    ensures capacity { vec_capacity out.new ≡ vec_capacity out.old }
 {
-    put_natural_field(out, block.start)?;
-    put_natural_field(out, block.generation)
+    push_natural_field(out, block.start);
+    push_natural_field(out, block.generation);
 }
 
 #[tactic(auto, using(std::proofs::Common::append_assoc))]
@@ -78,7 +117,7 @@ pub(crate) fn put_kill_field(out: &mut Vec<u8>, kill: Kill) -> Result<(), NoMemo
     ensures { OnOk result (out.new.items ≡ out.old.items ++ kill_field kill) }
 {
     put_place_field(out, kill.place)?;
-    put_text(out, b"@")?;
+    out.push(b'@')?;
     put_natural(out, kill.moment)
 }
 

@@ -20,7 +20,12 @@ pub fn write_trace(h: &History, j: &Journals, out: &mut Vec<u8>) -> Result<(), N
 {
     let mut text = Vec::new(*out.allocator());
     put_trace(&mut text, h, j)?;
-    out.extend_from_slice(&text)?;
+    // An empty text takes the new one over, without a copy.
+    if out.is_empty() {
+        *out = text;
+    } else {
+        out.extend_from_slice(&text)?;
+    }
     Ok(())
 }
 
@@ -55,7 +60,8 @@ fn put_sizes(out: &mut Vec<u8>, places: u8, heap: u32) -> Result<(), NoMemory>
     put_natural_field(out, u32::from(places))?;
     put_text(out, b" heap")?;
     put_natural_field(out, heap)?;
-    put_text(out, b"\n")
+    out.push(b'\n')?;
+    Ok(())
 }
 
 // The line of the kills.
@@ -65,7 +71,8 @@ fn put_kills(out: &mut Vec<u8>, kills: &KillList) -> Result<(), NoMemory>
 {
     put_text(out, b"kills")?;
     put_kill_fields(out, kills)?;
-    put_text(out, b"\n")
+    out.push(b'\n')?;
+    Ok(())
 }
 
 // The kills in their order.
@@ -85,7 +92,8 @@ fn put_joins(out: &mut Vec<u8>, joins: &JoinList) -> Result<(), NoMemory>
 {
     put_text(out, b"joins")?;
     put_moments(out, joins)?;
-    put_text(out, b"\n")
+    out.push(b'\n')?;
+    Ok(())
 }
 
 // The moments of the joins in their order.

@@ -1,14 +1,15 @@
 -- Plans of statements whose names are given by an equation.
-use Rattle.std.proofs.Common.{◌≡◌, ◌≢◌, ℕ, ℤ, List, Option, cond, ◌==◌, refl, ap, sym, ◌∙◌, subst}
+use Rattle.std.proofs.Common.{◌≡◌, ◌≢◌, ℕ, ℤ, List, Option, Some, None, Bool, cond, ◌==◌, refl, ap, sym, ◌∙◌, subst}
 use Rattle.rx_base.specs.declared.values.Value.TheVariants.{Num as Number}
 use Rattle.rx_base.specs.declared.ids.GlobalRef.{GlobalRef}
 use Rattle.rx_base.specs.declared.ids.PlaceId.{PlaceId}
-use Rattle.rx_base.specs.declared.values.Fault.TheVariants.{WrongPlace}
-use Rattle.rx_rules.specs.Code.{Expr, Stmt, SetTo, Get, Put}
-use Rattle.rx_rules.specs.Terms.{Vars, Term, Does, Local, Gets, Puts, bound, raise, ref_in, value_of, eval, with_number}
+use Rattle.rx_base.specs.declared.values.Fault.TheVariants.{WrongPlace, Thrown}
+use Rattle.rx_rules.specs.Code.{Expr, Stmt, SetTo, Get, Put, Throw, If, Repeat, Try}
+use Rattle.rx_rules.specs.Terms.{Vars, Term, Does, Local, Gets, Puts, bound, raise, ref_in, value_of, eval, with_number, is_zero, items, at, stmt_does}
 use Rattle.rx_nodes.specs.declared.nodes.ExprId.{ExprId}
+use Rattle.rx_nodes.specs.declared.nodes.BlockId.{BlockId}
 use Rattle.rx_nodes.specs.declared.nodes.NameId.{NameId}
-use Rattle.rx_nodes.specs.declared.nodes.Stmt.TheVariants.{Set as SetNode, Get as GetNode, Put as PutNode}
+use Rattle.rx_nodes.specs.declared.nodes.Stmt.TheVariants.{Set as SetNode, Get as GetNode, Put as PutNode, Throw as ThrowNode, If as IfNode, Repeat as RepeatNode, Try as TryNode}
 use Rattle.rx_nodes.specs.Shape.{Shape, StmtIs, ExprStands}
 use Rattle.rx_control.specs.declared.plan.Plan.{Plan}
 use Rattle.rx_control.specs.declared.plan.Plan.TheVariants.{Assign, Raise, Choose, Loop, Attempt, Ask}
@@ -51,3 +52,29 @@ asks s (Choose block part) vars x rest d h n = absurd (n (ap next_of h.2))
 asks s (Loop body times) vars x rest d h n = absurd (n (ap next_of h.2))
 asks s (Attempt body dead_only handler) vars x rest d h n = absurd (n (ap next_of h.2.2))
 asks s (Ask next) vars x rest d h n = (next, refl)
+
+-- a step that needs a number is local where it is local with each number, since it raises without one
+pub number-local : (vars : Vars) (z : Option ℤ) (f : ℤ → Does) → ((k : ℤ) → next_of (f k) ≡ LocalStep) → next_of (with_number vars z f) ≡ LocalStep
+number-local vars (Some k) f h = h k
+number-local vars None f h = refl
+
+-- these statements ask nobody
+pub set-local : (s : Shape) (name : NameId) (value : ExprId) (t : Stmt) (vars : Vars) (here : ℕ) (x : List ℕ) (rest : Term) → StmtIs s (SetNode name value) t → next_of (stmt_does vars here t x rest) ≡ LocalStep
+set-local s name value (SetTo n e) vars here x rest h = number-local vars (eval vars here e) (λ z. Local rest (bound n (Number z) vars)) (λ z. refl)
+set-local s name value _ vars here x rest h = absurd h
+
+pub throw-local : (s : Shape) (value : ExprId) (t : Stmt) (vars : Vars) (here : ℕ) (x : List ℕ) (rest : Term) → StmtIs s (ThrowNode value) t → next_of (stmt_does vars here t x rest) ≡ LocalStep
+throw-local s value (Throw e) vars here x rest h = number-local vars (eval vars here e) (λ z. Local (raise (Thrown z)) vars) (λ z. refl)
+throw-local s value _ vars here x rest h = absurd h
+
+pub if-local : (s : Shape) (test : ExprId) (first other : BlockId) (t : Stmt) (vars : Vars) (here : ℕ) (x : List ℕ) (rest : Term) → StmtIs s (IfNode test first other) t → next_of (stmt_does vars here t x rest) ≡ LocalStep
+if-local s test first other (If e a b) vars here x rest h = number-local vars (eval vars here e) (λ z. Local (cond (is_zero z) (items b (at x 1) rest) (items a (at x 0) rest)) vars) (λ z. refl)
+if-local s test first other _ vars here x rest h = absurd h
+
+pub repeat-local : (s : Shape) (times : ℕ) (body : BlockId) (t : Stmt) (vars : Vars) (here : ℕ) (x : List ℕ) (rest : Term) → StmtIs s (RepeatNode times body) t → next_of (stmt_does vars here t x rest) ≡ LocalStep
+repeat-local s times body (Repeat n b) vars here x rest h = refl
+repeat-local s times body _ vars here x rest h = absurd h
+
+pub try-local : (s : Shape) (body : BlockId) (dead_only : Bool) (handler : BlockId) (t : Stmt) (vars : Vars) (here : ℕ) (x : List ℕ) (rest : Term) → StmtIs s (TryNode body dead_only handler) t → next_of (stmt_does vars here t x rest) ≡ LocalStep
+try-local s body dead_only handler (Try a d b) vars here x rest h = refl
+try-local s body dead_only handler _ vars here x rest h = absurd h

@@ -15,13 +15,13 @@ ghost use Rattle.rx_control.specs.Bound.{StepFalls};
 ghost use Rattle.rx_runs.specs.Steps.{steps};
 ghost use Rattle.rx_control.specs.Next.{next_of, carried};
 ghost use Rattle.rx_control.specs.Inside.Front.{lifted};
-ghost use Rattle.rx_control.specs.Inside.Plans.{Due, FaultsFit};
+ghost use Rattle.rx_control.specs.Inside.Plans.{Due};
 
 use crate::birth::{born, start};
-use crate::faults::{faults_of, is_caught, one_fault};
+use crate::faults::{is_caught, one_fault};
 use crate::frame::{Frame, drop_top, go_on, settle, top, unwind};
-use crate::path::{add_part, path_below};
-use crate::plan::{Plan, make_plan, told};
+use crate::path::front_path;
+use crate::plan::{Plan, make_plan, tell};
 use crate::statement::{
     at_hand, counted, following, learn, open_after, receive, receiver, statement_of,
 };
@@ -57,7 +57,7 @@ impl Control {
                 Some(Frame::Seq { block, next, .. }) => {
                     let script = p.script();
                     let stmt = at_hand(script, block, next);
-                    told(make_plan(script, stmt, &self.vars, here))
+                    tell(script, stmt, &self.vars, here)
                 }
                 Some(Frame::Turns { .. }) => Next::Local,
                 Some(Frame::Try { .. }) => Next::Local,
@@ -104,10 +104,7 @@ impl Control {
         ensures { IfOk result (λ path. (below : List Frame) (f : Frame) → self.now.frames.items ≡ below ++ f ∷ []
             → path ≡ at (path_of self.now.base below ++ option_to_list part) next) }
     {
-        let mut path = path_below(alloc, &self.base, &self.frames)?;
-        add_part(&mut path, part)?;
-        path.push(next)?;
-        Ok(path)
+        front_path(alloc, &self.base, &self.frames, part, next)
     }
 
     /// The path of the statement that the next step begins, and None exactly where it begins none. Ask before the step is made.
@@ -176,8 +173,7 @@ impl Control {
             Some(Frame::Seq { block, next, part }) => {
                 let stmt = at_hand(script, block, next);
                 let plan = make_plan(script, stmt, &self.vars, here);
-                let faults = faults_of(alloc, plan)?;
-                self.carry_out(script, block, next, part, plan, faults)
+                self.carry_out(alloc, script, block, next, part, plan)
             }
             Some(Frame::Turns { body, turn, times }) => {
                 self.take_turn(script, body, turn, times);
@@ -193,20 +189,18 @@ impl Control {
         }
     }
 
-    // Makes the step of a statement by its plan. The faults are those that the plan raises. A name gets its value first, since that
-    // may be refused.
+    // Makes the step of a statement by its plan. What may be refused comes first.
     fn carry_out(
         &mut self,
+        alloc: Global,
         script: &Script,
         block: BlockId,
         next: u32,
         part: Option<u32>,
         plan: Plan,
-        faults: Faults,
     ) -> Result<(), NoMemory>
         requires room { vec_len self.old.frames + 2 ≤ vec_capacity self.old.frames }
         requires due { (t : Term) × (below : List Frame) × Due script.now self.old t below block next part plan }
-        requires faults { FaultsFit plan faults }
         ensures done { OnOk result ((t : Term) (below : List Frame) → (h : Due script.now self.old t below block next part plan)
             → Leaves script.now self.new (lifted h.front.others h.act)) }
         ensures asks { (next : Next) → plan ≡ Plan.Ask next → IsSame self.new self.old }
@@ -219,7 +213,8 @@ impl Control {
                 go_on(&mut self.frames, block, after, part);
                 settle(script, &mut self.frames);
             }
-            Plan::Raise(_) => {
+            Plan::Raise(fault) => {
+                let faults = one_fault(alloc, fault)?;
                 unwind(&mut self.frames);
                 self.raised = Some(faults);
             }

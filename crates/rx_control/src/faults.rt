@@ -3,9 +3,7 @@ ghost use Rattle.std.specs.Prelude.{◌≡◌, [], ◌∷◌, IfOk};
 ghost use Rattle.std.specs.List.{list_all};
 ghost use Rattle.rx_rules.specs.Terms.{catches, is_dead};
 ghost use Rattle.rx_rules.specs.Plays.{raised_by};
-ghost use Rattle.rx_control.specs.Inside.Plans.{FaultsFit};
 
-use crate::plan::Plan;
 use rx_base::{Fault, Faults, NoMemory, PlaceId, PlaceSet};
 use std::alloc::Global;
 
@@ -41,24 +39,6 @@ fn dead(fault: Fault) -> bool
         Fault::Stale => false,
         Fault::Index => false,
         Fault::HeapFull => false,
-    }
-}
-
-/// The faults that a plan raises.
-pub(crate) fn faults_of(alloc: Global, plan: Plan) -> Result<Faults, NoMemory>
-    ensures { IfOk result (λ faults. FaultsFit plan faults) }
-{
-    let mut faults = Faults::open(alloc);
-    match plan {
-        Plan::Raise(fault) => {
-            faults.push(fault)?;
-            Ok(faults)
-        }
-        Plan::Assign { .. } => Ok(faults),
-        Plan::Choose { .. } => Ok(faults),
-        Plan::Loop { .. } => Ok(faults),
-        Plan::Attempt { .. } => Ok(faults),
-        Plan::Ask(_) => Ok(faults),
     }
 }
 

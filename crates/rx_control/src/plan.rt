@@ -1,11 +1,11 @@
 // What a statement does next.
-ghost use Rattle.std.specs.Prelude.{◌≡◌, ℕ, List, Option, Some, cond, ◌==◌};
+ghost use Rattle.std.specs.Prelude.{◌≡◌, ℕ, List, Option, Some, cond, ◌==◌, IsTrue};
 ghost use Rattle.rx_base.specs.declared.values.Value.{Value};
 ghost use Rattle.rx_base.specs.declared.values.Value.TheVariants.{Num as Number};
 ghost use Rattle.rx_base.specs.declared.values.Fault.TheVariants.{Thrown, WrongPlace};
 ghost use Rattle.rx_rules.specs.Code.{Stmt as Tree, Block};
 ghost use Rattle.rx_rules.specs.Terms.{Vars, Term, Does, Local, Gets, Puts, Forgets, Prints, Spawns, Calls, bound, raise, ref_in};
-ghost use Rattle.rx_rules.specs.Terms.{target_of, with_number, with_place, is_zero, items, at};
+ghost use Rattle.rx_rules.specs.Terms.{target_of, with_number, with_place, is_zero, items, at, stmt_does};
 ghost use Rattle.rx_nodes.specs.Shape.{Shape, StmtIs, BlockStands};
 ghost use Rattle.rx_control.specs.Next.{next_of};
 ghost use Rattle.rx_control.specs.Inside.Plans.{Plans, IsPlan, place_in};
@@ -262,8 +262,45 @@ fn choose(z: Option<i64>, first: BlockId, other: BlockId) -> Plan
     }
 }
 
-/// What a plan tells of the next step.
-pub(crate) fn told(plan: Plan) -> Next
+/// What a statement tells of the next step. Where it can only be local, its expressions are not evaluated.
+pub(crate) fn tell(script: &Script, stmt: Stmt, vars: &Variables, here: PlaceId) -> Next
+    requires { (t : Tree) × StmtIs script.now stmt t }
+    ensures { (t : Tree) (x : List ℕ) (rest : Term) → StmtIs script.now stmt t
+        → next_of (stmt_does vars.now here.0 t x rest) ≡ result }
+{
+    if is_local(stmt) {
+        Next::Local
+    } else {
+        told(make_plan(script, stmt, vars, here))
+    }
+}
+
+// Whether a statement asks nobody, whatever its expressions give.
+fn is_local(stmt: Stmt) -> bool
+    ensures { IsTrue result → (s : Shape) (t : Tree) (vars : Vars) (here : ℕ) (x : List ℕ) (rest : Term) → StmtIs s stmt t
+        → next_of (stmt_does vars here t x rest) ≡ Next.Local }
+{
+    match stmt {
+        Stmt::Set { .. } => true,
+        Stmt::New { .. } => false,
+        Stmt::Get { .. } => false,
+        Stmt::Put { .. } => false,
+        Stmt::Forget { .. } => false,
+        Stmt::Census { .. } => false,
+        Stmt::Print { .. } => false,
+        Stmt::Throw { .. } => true,
+        Stmt::Async { .. } => false,
+        Stmt::AtAsync { .. } => false,
+        Stmt::At { .. } => false,
+        Stmt::Finish { .. } => false,
+        Stmt::If { .. } => true,
+        Stmt::Repeat { .. } => true,
+        Stmt::Try { .. } => true,
+    }
+}
+
+// What a plan tells of the next step.
+fn told(plan: Plan) -> Next
     ensures { (s : Shape) (vars : Vars) (x : List ℕ) (rest : Term) (d : Does) → IsPlan s plan vars x rest d → next_of d ≡ result }
 {
     match plan {

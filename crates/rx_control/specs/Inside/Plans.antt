@@ -47,15 +47,6 @@ pub record Due (s : Shape) (c : Control) (t : Term) (below : List Frame) (block 
   pub is : IsPlan s plan c.vars (at (path_of c.base below ++ option_to_list part) next)
       (seq (More front.more (path_of c.base below ++ option_to_list part) (suc next) ∷ front.others)) act
 
--- the faults that a plan raises
-abbrev pub FaultsFit : Plan → List Fault → Type 0
-FaultsFit (Assign name value) faults = Unit {0}
-FaultsFit (Raise fault) faults = faults ≡ fault ∷ []
-FaultsFit (Choose block part) faults = Unit {0}
-FaultsFit (Loop body times) faults = Unit {0}
-FaultsFit (Attempt body dead_only handler) faults = Unit {0}
-FaultsFit (Ask next) faults = Unit {0}
-
 -- the name to which a census gives the number of places
 abbrev pub stmt_counts : Stmt → Option ℕ
 stmt_counts (Census name) = Some name

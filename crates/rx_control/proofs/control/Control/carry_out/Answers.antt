@@ -10,7 +10,7 @@ use Rattle.rx_control.specs.declared.frame.Frame.TheVariants.{Seq, Try}
 use Rattle.rx_control.specs.declared.plan.Plan.{Plan}
 use Rattle.rx_control.specs.declared.control.Control.{Control}
 use Rattle.rx_control.specs.Stands.{path_of}
-use Rattle.rx_control.specs.Inside.Plans.{IsPlan, FaultsFit}
+use Rattle.rx_control.specs.Inside.Plans.{IsPlan}
 use Rattle.rx_control.proofs.Steps.{went, entered, looped, tried, same-path, path-try, done-leaves, settled-turns, whole-stands}
 use Rattle.rx_control.proofs.control.Control.carry_out.Goals as goal
 
@@ -31,17 +31,16 @@ returns-in_ok-set-in-Assign-clause-done c t below h =
     (let fits : SFits w64 c.in-Assign.value = search (rules, ints) in
     c.in_ok-set-in-Assign.ensures.ok ∙ ap (λ z. bound c.in-Assign.name.0 (Number z) c.args.self.now.vars) (to_z-of_z w64 c.in-Assign.value fits))
 
-pub returns-in-Raise-clause-done : goal.returns-in-Raise-clause-done
-returns-in-Raise-clause-done c t below h =
+pub returns-in_ok-faults-in-Raise-clause-done : goal.returns-in_ok-faults-in-Raise-clause-done
+returns-in_ok-faults-in-Raise-clause-done c t below h =
     let P : Plan → Type 0 = λ p. IsPlan c.args.script.now p c.args.self.now.vars (at (path_of c.args.self.now.base below ++ option_to_list c.args.part) c.args.next) (seq (More h.front.more (path_of c.args.self.now.base below ++ option_to_list c.args.part) (suc c.args.next) ∷ h.front.others)) h.act in
     let k = subst P c.in-Raise.is h.is in
-    let F : Plan → Type 0 = λ p. FaultsFit p c.args.faults in
-    let f = subst F c.in-Raise.is c.requires.faults in
-    let d : Control = record { base = c.args.self.now.base; frames = c.unwind.new.frames; raised = Some c.args.faults; vars = c.args.self.now.vars } in
+    let faults = c.in_ok-faults-in-Raise.faults in
+    let d : Control = record { base = c.args.self.now.base; frames = c.unwind.new.frames; raised = Some faults; vars = c.args.self.now.vars } in
     let ls = More (Then h.front.stmt h.front.more) (path_of c.args.self.now.base below ++ option_to_list c.args.part) c.args.next ∷ h.front.others in
-    done-leaves c.args.script.now d h.front.others h.act (raise c.in-Raise.field-0) c.args.self.now.vars ls (Some c.args.faults) k refl
-    (c.unwind.ensures c.args.script.now c.args.self.now.base ls c.args.faults (whole-stands c.args.script.now c.args.self.now t below c.args.block c.args.next c.args.part h.front))
-    (ap (λ fs. wrap (RaiseTerm fs) h.front.others) (sym f)) refl
+    done-leaves c.args.script.now d h.front.others h.act (raise c.in-Raise.fault) c.args.self.now.vars ls (Some faults) k refl
+    (c.unwind.ensures c.args.script.now c.args.self.now.base ls faults (whole-stands c.args.script.now c.args.self.now t below c.args.block c.args.next c.args.part h.front))
+    (ap (λ fs. wrap (RaiseTerm fs) h.front.others) (sym c.in_ok-faults-in-Raise.ensures)) refl
 
 pub settle-requires-in-Choose : goal.settle-requires-in-Choose
 settle-requires-in-Choose c =

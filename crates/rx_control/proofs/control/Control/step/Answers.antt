@@ -47,8 +47,8 @@ carry_out-requires-clause-due c =
     let u : Due c.args.script.now c.args.self.now q.0 e.0 c.in-Some-Seq.block c.in-Some-Seq.next c.in-Some-Seq.part c.make_plan-plan.result = record { front = a; act = d; is = c.make_plan-plan.ensures a.stmt (c.at_hand-stmt.ensures a.stmt a.more a.awaits) (at y c.in-Some-Seq.next) rest } in
     (q.0, e.0, u)
 
-pub returns-in_ok-faults-in-Some-Seq-clause-ok : goal.returns-in_ok-faults-in-Some-Seq-clause-ok
-returns-in_ok-faults-in-Some-Seq-clause-ok c =
+pub returns-in-Some-Seq-clause-ok : goal.returns-in-Some-Seq-clause-ok
+returns-in-Some-Seq-clause-ok c =
     let P : Type 0 = (t : Term) (below : List Frame) → (h : Due c.args.script.now c.args.self.now t below c.in-Some-Seq.block c.in-Some-Seq.next c.in-Some-Seq.part c.make_plan-plan.result)
     → Leaves c.args.script.now c.carry_out.new.self (lifted h.front.others h.act) in
     let Q : Type 0 = (t : Term) → StandsFor c.args.script.now c.args.self.now t → Leaves c.args.script.now c.carry_out.new.self (does c.args.self.now.vars c.args.here.0 t) in
@@ -77,8 +77,8 @@ returns-in-Some-Body-clause-ok c t h =
     let a = at-top c.args.script.now c.args.self.now t e.0 Body e.1 h in
     inside-leaves c.args.script.now c.args.self.now c.args.self.now t e.0 a c.args.self.now.vars c.args.here.0
 
-pub returns-in_ok-faults-in-Some-Seq-clause-other : goal.returns-in_ok-faults-in-Some-Seq-clause-other
-returns-in_ok-faults-in-Some-Seq-clause-other c t h n =
+pub returns-in-Some-Seq-clause-other : goal.returns-in-Some-Seq-clause-other
+returns-in-Some-Seq-clause-other c t h n =
     let e = rw c.in-Some-Seq.field-0-is at c.in-Some-Seq.ensures in
     let b = at-top c.args.script.now c.args.self.now t e.0 (Seq c.in-Some-Seq.block c.in-Some-Seq.next c.in-Some-Seq.part) e.1 h in
     let r = calm-seq c.args.script.now c.args.self.now t e.0 c.in-Some-Seq.block c.in-Some-Seq.next c.in-Some-Seq.part b in

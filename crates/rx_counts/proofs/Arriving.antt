@@ -1,5 +1,5 @@
 -- A task leaves a cell, and joins another.
-use Rattle.std.specs.Prelude.{◌≡◌, ℕ, ◌<◌, ◌≤◌, ◌^◌, ◌+◌, Bool, true, not, List, ◌∷◌, Option, Some, None, length, IfSome, Ok, refl}
+use Rattle.std.specs.Prelude.{◌≡◌, ℕ, ◌<◌, ◌≤◌, ◌^◌, ◌+◌, Bool, true, false, not, List, ◌∷◌, Option, Some, None, length, IfSome, Ok, refl}
 use Rattle.std.specs.List.{find}
 use Rattle.std.specs.Global.{Box}
 use Rattle.std.proofs.Common.{sym, ap, ◌∙◌, subst, arith}
@@ -17,7 +17,7 @@ use Rattle.rx_sound.specs.Sound.{Sound, Inside}
 use Rattle.rx_sound.proofs.Reached.{sound}
 use Rattle.rx_sound.proofs.Stay.{fall_filter}
 use Rattle.rx_finish.specs.declared.ledger.Caller.{Caller}
-use Rattle.rx_finish.specs.Callers.{MayAskArrive, Travels}
+use Rattle.rx_finish.specs.Callers.{MayAskArrive, Travels, does_travel}
 use Rattle.rx_finish.specs.Calls.{ArriveReply, landing}
 use Rattle.rx_finish.proofs.Allowed.{Free, arrive_allowed}
 use Rattle.rx_counts.specs.declared.record.Record.{Record}
@@ -28,6 +28,8 @@ use Rattle.rx_counts.specs.Stands.{slot, HasCell, MayJoin, MayLeave, RecordOf, B
 use Rattle.rx_counts.proofs.Asking.{Kept, kept_at_keeper, place_in, wide, room_kept, as_wide, small, tasks_length, unstruck_of}
 use Rattle.rx_counts.proofs.Joining.{all_same, all_leave, all_join, counted, sums_same, count_out, count_back, others}
 use Rattle.rx_counts.proofs.Masking.{masked_changed}
+use Rattle.rx_counts.specs.Inside.Totalling.{lands}
+use Rattle.rx_counts.proofs.Totalling.{AreOf, are, totals_are, same_tasks, one_lands}
 use Rattle.rx_counts.proofs.Slots.{inside_cells, slot_below}
 use Rattle.rx_counts.proofs.HandOver.{keeper_keeps}
 use Rattle.rx_sound.specs.Chains.{Falls}
@@ -100,9 +102,17 @@ add_ok {size = size} T who rs qs k h le low f at c fit =
       may_join _ T (others who.task T.tasks) qs k (Some who.scope) (At (landing who.place)) h (tasks_length T.next_task (others who.task T.tasks) (fall_filter (λ y. not (is_task who.task y)) T.next_task T.tasks h.tasks_fall)) low at to_in (left_over _ T who Travels rs qs k h f at c fit),
     )
 
+-- the totals where the task has arrived
+pub one_landed : {room : ℕ} (l : CountLedger) (T : Tree) (who : Caller) (g : Task → Task) → (f : Free T who Travels) → StandsFor l room T → (g f.at.task).struck ≡ None → does_travel (g f.at.task).place ≡ false → (1 ≤ l.totals.travel) × AreOf (lands l.totals) (length T.scopes) (g f.at.task ∷ others who.task T.tasks)
+one_landed l T who g f s none at_place =
+    let h : Sound T = sound s.reached in
+    let x : Task = f.at.task in
+    one_lands l.totals (length T.scopes) (others who.task T.tasks) x (g x) f.unstruck none f.at.allowed.travels at_place
+    (same_tasks l.totals (length T.scopes) T.tasks (x ∷ others who.task T.tasks) (count_out who.task T.next_task T.tasks x h.tasks_fall f.at.stands) (are l.totals T s.fit.totals))
+
 -- the ledger that has the new records stands for the new tree
-pub arrived : {room : ℕ} (l m : CountLedger) (T : Tree) (who : Caller) (qs : List (Option (Box Record))) (k : ℕ) → StandsFor l room T → MayAskArrive T who → (f : Free T who Travels) → keeper (stands_home T.dead) T.scopes (Some who.scope) ≡ Some k → m.places ≡ l.places → m.width ≡ l.width → m.dead ≡ l.dead → m.next_task ≡ l.next_task → m.next_scope ≡ l.next_scope → Changed (in_sums (less who.place)) k l.scopes.items qs → Changed (in_sums (more (At (landing who.place)))) k qs m.scopes.items → ArriveReply T who (Ok tt) (StandsFor m room)
-arrived l m T who qs k s may f at places width dead next_task next_scope c d =
+pub arrived : {room : ℕ} (l m : CountLedger) (T : Tree) (who : Caller) (qs : List (Option (Box Record))) (k : ℕ) → StandsFor l room T → MayAskArrive T who → (f : Free T who Travels) → keeper (stands_home T.dead) T.scopes (Some who.scope) ≡ Some k → m.places ≡ l.places → m.width ≡ l.width → m.dead ≡ l.dead → m.next_task ≡ l.next_task → m.next_scope ≡ l.next_scope → m.totals ≡ lands l.totals → Changed (in_sums (less who.place)) k l.scopes.items qs → Changed (in_sums (more (At (landing who.place)))) k qs m.scopes.items → ArriveReply T who (Ok tt) (StandsFor m room)
+arrived l m T who qs k s may f at places width dead next_task next_scope totals c d =
     let h : Sound T = sound s.reached in
     let x : Task = f.at.task in
     let g : Task → Task = λ y. record y { place = At (landing who.place) } in
@@ -118,6 +128,11 @@ arrived l m T who qs k s may f at places width dead next_task next_scope c d =
                   dead = dead ∙ s.fit.dead;
                   next_task = next_task ∙ s.fit.next_task;
                   next_scope = next_scope ∙ s.fit.next_scope;
+                  totals =
+                      totals
+                      ∙ totals_are (lands l.totals) (made_act T who.task (Arrive (landing who.place)))
+                      (same_tasks (lands l.totals) (length T.scopes) (g x ∷ others who.task T.tasks) (change_first (is_task who.task) g T.tasks) (count_back who.task T.next_task T.tasks x g h.tasks_fall f.at.stands)
+                      (one_landed l T who g f s f.unstruck refl).1);
                   numbers = d.len ∙ c.len ∙ s.fit.numbers;
                   scopes =
                       as_wide l.width m.width (stands_home T.dead) T.scopes (change_first (is_task who.task) g T.tasks) m.scopes.items width

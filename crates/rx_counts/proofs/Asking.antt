@@ -156,20 +156,21 @@ pub missing : {size : ℕ} (T : Tree) (rs : List (Option (Box Record))) (k : ℕ
 missing T rs k q e = let f = q.found in cc
 
 -- a ledger with the same records stands for the same trees
-pub same_fit : (l m : CountLedger) (T : Tree) → Fit l T → m.places ≡ l.places → m.width ≡ l.width → m.dead ≡ l.dead → m.next_task ≡ l.next_task → m.next_scope ≡ l.next_scope → length m.scopes.items ≡ length l.scopes.items → ((n : ℕ) → record_at m.scopes.items n ≡ record_at l.scopes.items n) → Fit m T
-same_fit l m T h places width dead next_task next_scope len same =
+pub same_fit : (l m : CountLedger) (T : Tree) → Fit l T → m.places ≡ l.places → m.width ≡ l.width → m.dead ≡ l.dead → m.next_task ≡ l.next_task → m.next_scope ≡ l.next_scope → m.totals ≡ l.totals → length m.scopes.items ≡ length l.scopes.items → ((n : ℕ) → record_at m.scopes.items n ≡ record_at l.scopes.items n) → Fit m T
+same_fit l m T h places width dead next_task next_scope totals len same =
     record {
       places = places ∙ h.places;
       dead = dead ∙ h.dead;
       next_task = next_task ∙ h.next_task;
       next_scope = next_scope ∙ h.next_scope;
+      totals = totals ∙ h.totals;
       numbers = len ∙ h.numbers;
       scopes = as_wide l.width m.width (stands_home T.dead) T.scopes T.tasks m.scopes.items width (λ n. subst (λ o. Both (RecordOf l.width (stands_home T.dead) T.scopes T.tasks) o (find (has_number n) T.scopes)) (sym (same n)) (h.scopes n));
       masked = λ n. subst (λ o. IfSome o (λ r. r.sums.masked ≡ masked_of (stands_home T.dead) T.scopes n)) (sym (same n)) (h.masked n);
     }
 
-pub same_records : {room : ℕ} (l m : CountLedger) (T : Tree) → StandsFor l room T → m.places ≡ l.places → m.width ≡ l.width → m.dead ≡ l.dead → m.next_task ≡ l.next_task → m.next_scope ≡ l.next_scope → m.scopes.items ≡ l.scopes.items → StandsFor m room T
-same_records l m T h places width dead next_task next_scope items = record { reached = h.reached; fit = same_fit l m T h.fit places width dead next_task next_scope (ap length items) (λ n. ap (λ xs. record_at xs n) items); has_room = room_kept l m T T width refl h.has_room }
+pub same_records : {room : ℕ} (l m : CountLedger) (T : Tree) → StandsFor l room T → m.places ≡ l.places → m.width ≡ l.width → m.dead ≡ l.dead → m.next_task ≡ l.next_task → m.next_scope ≡ l.next_scope → m.totals ≡ l.totals → m.scopes.items ≡ l.scopes.items → StandsFor m room T
+same_records l m T h places width dead next_task next_scope totals items = record { reached = h.reached; fit = same_fit l m T h.fit places width dead next_task next_scope totals (ap length items) (λ n. ap (λ xs. record_at xs n) items); has_room = room_kept l m T T width refl h.has_room }
 
 pub open_refused : (T : Tree) (who : Caller) (f : LedgerFault) (S : Tree → Type 0) → f ≡ NoMemory → IsUnstruck T who → S T → OpenReply T who (Err f) S
 open_refused T who f S is none s = subst (λ (v : LedgerFault). OpenReply T who (Err v) S) (sym is) (none, s)

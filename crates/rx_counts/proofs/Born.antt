@@ -1,5 +1,5 @@
 -- Scopes that are opened, and tasks that are born.
-use Rattle.std.specs.Prelude.{◌≡◌, ℕ, ◌<◌, ◌+◌, Bool, true, false, List, [], ◌∷◌, Option, Some, None, is_none, option_map, slice_index_or, IfSome, Ok, refl}
+use Rattle.std.specs.Prelude.{◌≡◌, ℕ, ◌<◌, ◌+◌, Bool, true, false, List, [], ◌∷◌, Option, Some, None, is_none, option_map, slice_index_or, IfSome, Ok, length, refl}
 use Rattle.std.specs.List.{find}
 use Rattle.std.proofs.Common.{sym, ap, ◌∙◌, subst, arith}
 use Rattle.std.proofs.lemmas.Bool.{eq-eqb}
@@ -38,6 +38,8 @@ use Rattle.rx_counts.proofs.Masking.{masked_opened}
 use Rattle.rx_counts.proofs.Walks.{keeper_is}
 use Rattle.rx_counts.proofs.NewRecord.{all_opened, sums_fresh, sums_further}
 use Rattle.rx_counts.specs.Inside.Opening.{IsZero}
+use Rattle.rx_counts.specs.Inside.Totalling.{more_scopes}
+use Rattle.rx_counts.proofs.Totalling.{are, totals_are, one_scope}
 
 -- the record of the inner scope
 pub inner_kept : {room : ℕ} (l : CountLedger) (T : Tree) (who : Caller) (P : Task → Type 0) → StandsFor l room T → (f : Free T who P) → Kept l.width T l.scopes.items who.inner.0
@@ -96,8 +98,8 @@ finish_self g gs e = rw (eq-eqb g.number.0 g.number.0 refl, e)
 pub finish_up : (g : Scope) (gs : List Scope) → finishes g ≡ false → keeper finishes (g ∷ gs) (Some g.number) ≡ keeper finishes gs g.parent
 finish_up g gs e = rw (eq-eqb g.number.0 g.number.0 refl, e)
 
-pub opened_stands : {room : ℕ} (l m : CountLedger) (T : Tree) (who : Caller) (s : ScopeId) (r : Record) → StandsFor l room T → MayAskMoving T who → blow_at l.dead who.place ≡ None → (f : Free T who IsMoving) → s.0 ≡ l.next_scope → r.kind ≡ Finish → r.home ≡ place_number who.place → r.parent ≡ Some who.inner → r.finish ≡ s → IsZero l.width r.sums → r.body ≡ [] → r.ends ≡ [] → m.places ≡ l.places → m.width ≡ l.width → m.dead ≡ l.dead → m.next_task ≡ l.next_task → m.next_scope ≡ l.next_scope + 1 → Pushed r l.scopes.items m.scopes.items → OpenReply T who (Ok s) (StandsFor m room)
-opened_stands l m T who s r st may blow f next kind home parent finish zero body ends places width dead next_task next_scope p =
+pub opened_stands : {room : ℕ} (l m : CountLedger) (T : Tree) (who : Caller) (s : ScopeId) (r : Record) → StandsFor l room T → MayAskMoving T who → blow_at l.dead who.place ≡ None → (f : Free T who IsMoving) → s.0 ≡ l.next_scope → r.kind ≡ Finish → r.home ≡ place_number who.place → r.parent ≡ Some who.inner → r.finish ≡ s → IsZero l.width r.sums → r.body ≡ [] → r.ends ≡ [] → m.places ≡ l.places → m.width ≡ l.width → m.dead ≡ l.dead → m.next_task ≡ l.next_task → m.next_scope ≡ l.next_scope + 1 → m.totals ≡ more_scopes l.totals → Pushed r l.scopes.items m.scopes.items → OpenReply T who (Ok s) (StandsFor m room)
+opened_stands l m T who s r st may blow f next kind home parent finish zero body ends places width dead next_task next_scope totals p =
     let h : Sound T = sound st.reached in
     let number : s.0 ≡ T.next_scope = next ∙ st.fit.next_scope in
     let g : Scope = record { number = s; kind = Finish; opener = Some who.task; home = home_for T who.task; parent = Some who.inner; body = []; ends = [] } in
@@ -118,6 +120,7 @@ opened_stands l m T who s r st may blow f next kind home parent finish zero body
                   dead = dead ∙ st.fit.dead;
                   next_task = next_task ∙ st.fit.next_task;
                   next_scope = (let q = st.fit.next_scope in omega arith);
+                  totals = totals ∙ totals_are (more_scopes l.totals) (made_act T who.task (Open s who.inner [])) (one_scope l.totals (length T.scopes) T.tasks (are l.totals T st.fit.totals));
                   numbers = (let q = st.fit.numbers in let v = p.len in omega arith);
                   scopes =
                       as_wide l.width m.width (stands_home T.dead) (g ∷ T.scopes) T.tasks m.scopes.items width

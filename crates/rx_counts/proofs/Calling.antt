@@ -35,7 +35,9 @@ use Rattle.rx_counts.proofs.Joining.{join_here, join_lost, join_other, all_waits
 use Rattle.rx_counts.proofs.NewRecord.{all_opened, sums_fresh, sums_further, zero_count}
 use Rattle.rx_counts.proofs.Slots.{inside_cells, slot_below}
 use Rattle.rx_counts.proofs.Born.{IsNew, record_new, finish_up, home_known, place_lives, unders_low}
-use Rattle.rx_counts.proofs.Spawning.{start, started_in, to_low, is_lost, struck_by, struck_none}
+use Rattle.rx_counts.proofs.Spawning.{start, started_in, to_low, is_lost, struck_by, struck_none, struck_if}
+use Rattle.rx_counts.specs.Inside.Totalling.{more_scopes, more_tasks}
+use Rattle.rx_counts.proofs.Totalling.{are, totals_are, waits_same, one_scope, one_born}
 
 -- a scope that keeps counts is its own keeper
 self_kept : (keeps : Scope → Bool) (g : Scope) (gs : List Scope) → keeps g ≡ true → keeper keeps (g ∷ gs) (Some g.number) ≡ Some g.number.0
@@ -64,8 +66,8 @@ sums_callee T keeps gs ts child s from to q p true e here cell lost joins h =
 sums_callee T keeps gs ts child s from to q p false e here cell lost joins h =
     subst (λ (v : Sums). SumsOf keeps gs (born T child s from to ∷ ts) v s.0) (sym (joins refl)) (join_here keeps gs ts (born T child s from to) q s.0 here (struck_none T child s from to (sym e)) cell h)
 
-pub called_stands : {room : ℕ} (l m : CountLedger) (T : Tree) (who : Caller) (to : PlaceId) (s : ScopeId) (child : TaskId) (r : Record) (zero : Sums) (b : Bool) → StandsFor l room T → MayAskTo T who to → blow_at l.dead who.place ≡ None → (f : Free T who IsMoving) → s.0 ≡ l.next_scope → child.0 ≡ l.next_task → r.kind ≡ Call → r.home ≡ place_number who.place → r.parent ≡ Some who.inner → keeper finishes T.scopes (Some who.inner) ≡ Some r.finish.0 → IsZero l.width zero → b ≡ not (is_none (death_blow l.dead to)) → (b ≡ true → (r.sums ≡ with_lost r.sums.lost zero) × ((i : ℕ) → i < 16 → has_bit r.sums.lost.0 i ≡ (has_bit zero.lost.0 i || (to.0 == i)))) → (b ≡ false → r.sums ≡ more (start (place_number who.place) to) zero) → r.body ≡ [] → r.ends ≡ [] → m.places ≡ l.places → m.width ≡ l.width → m.dead ≡ l.dead → m.next_task ≡ l.next_task + 1 → m.next_scope ≡ l.next_scope + 1 → Pushed r l.scopes.items m.scopes.items → CallReply T who to (Ok (record { child = child; scope = s; lost = b })) (StandsFor m room)
-called_stands l m T who to s child r zero b st may blow f next num kind home parent fin is_zero e lost joins body ends places width dead next_task next_scope p =
+pub called_stands : {room : ℕ} (l m : CountLedger) (T : Tree) (who : Caller) (to : PlaceId) (s : ScopeId) (child : TaskId) (r : Record) (zero : Sums) (b : Bool) → StandsFor l room T → MayAskTo T who to → blow_at l.dead who.place ≡ None → (f : Free T who IsMoving) → s.0 ≡ l.next_scope → child.0 ≡ l.next_task → r.kind ≡ Call → r.home ≡ place_number who.place → r.parent ≡ Some who.inner → keeper finishes T.scopes (Some who.inner) ≡ Some r.finish.0 → IsZero l.width zero → b ≡ not (is_none (death_blow l.dead to)) → (b ≡ true → (r.sums ≡ with_lost r.sums.lost zero) × ((i : ℕ) → i < 16 → has_bit r.sums.lost.0 i ≡ (has_bit zero.lost.0 i || (to.0 == i)))) → (b ≡ false → r.sums ≡ more (start (place_number who.place) to) zero) → r.body ≡ [] → r.ends ≡ [] → m.places ≡ l.places → m.width ≡ l.width → m.dead ≡ l.dead → m.next_task ≡ l.next_task + 1 → m.next_scope ≡ l.next_scope + 1 → m.totals ≡ more_tasks b (start (place_number who.place) to) (more_scopes l.totals) → Pushed r l.scopes.items m.scopes.items → CallReply T who to (Ok (record { child = child; scope = s; lost = b })) (StandsFor m room)
+called_stands l m T who to s child r zero b st may blow f next num kind home parent fin is_zero e lost joins body ends places width dead next_task next_scope totals p =
     let h : Sound T = sound st.reached in
     let keeps : Scope → Bool = stands_home T.dead in
     let from : PlaceId = place_number who.place in
@@ -93,6 +95,12 @@ called_stands l m T who to s child r zero b st may blow f next num kind home par
                     dead = dead ∙ st.fit.dead;
                     next_task = (let q = st.fit.next_task in omega arith);
                     next_scope = (let q = st.fit.next_scope in omega arith);
+                    totals =
+                        totals
+                        ∙ totals_are (more_tasks b (start from to) (more_scopes l.totals)) (made_act T who.task (Calls s who.inner child from to []))
+                        (waits_same (more_tasks b (start from to) (more_scopes l.totals)) (length (g ∷ T.scopes)) (is_task who.task) true (y ∷ T.tasks)
+                        (one_born (more_scopes l.totals) (length (g ∷ T.scopes)) T.tasks y (start from to) b refl (struck_if (death_of T to) to ∙ sym dies)
+                        (one_scope l.totals (length T.scopes) T.tasks (are l.totals T st.fit.totals))));
                     numbers = (let q = st.fit.numbers in let v = p.len in omega arith);
                     scopes =
                         as_wide l.width m.width keeps (g ∷ T.scopes) (change_first (is_task who.task) waiting (y ∷ T.tasks)) m.scopes.items width

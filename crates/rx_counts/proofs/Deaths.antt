@@ -13,7 +13,7 @@ use Rattle.rx_rules.specs.declared.tasks.Task.{Task}
 use Rattle.rx_rules.specs.declared.tasks.Scope.{Scope}
 use Rattle.rx_rules.specs.Tree.{Tree, is_scope, the_root}
 use Rattle.rx_rules.specs.Entries.{hit, strike}
-use Rattle.rx_rules.specs.Reached.{Reached, dies}
+use Rattle.rx_rules.specs.Reached.{Reached, dies as place_dies}
 use Rattle.rx_sound.specs.Sound.{Each, Sound}
 use Rattle.rx_sound.proofs.Changes.{each_found}
 use Rattle.rx_sound.specs.Chains.{Falls}
@@ -29,6 +29,9 @@ use Rattle.rx_counts.specs.Inside.Dying.{StrikesRecord, MayHit, Passing, given_u
 use Rattle.rx_counts.proofs.Striking.{all_strike, may_hit}
 use Rattle.rx_counts.proofs.Handing.{all_keeps}
 use Rattle.rx_counts.proofs.Lasting.{root_keeps}
+use Rattle.rx_counts.specs.Inside.Totalling.{dies, CanDie, toll_below}
+use Rattle.rx_counts.proofs.Totalling.{AreOf, are, totals_are, scopes_length}
+use Rattle.rx_counts.proofs.Tolls.{toll_is, one_dies}
 use Rattle.rx_counts.proofs.Asking.{tasks_length, fit_shaped, room_kept, as_wide}
 use Rattle.rx_counts.proofs.Masking.{masked_keeps, masked_pairs}
 
@@ -48,13 +51,6 @@ strike_ok l T d n st may =
     let b = h.few in
     (omega arith, may_hit _ d (stands_home T.dead) T.scopes T.tasks l.scopes.items st.fit.scopes)
 
-scopes_length : (T : Tree) → Sound T → length T.scopes ≤ T.next_scope
-scopes_length T h = go T.next_scope T.scopes h.falls
-  where
-    go : (n : ℕ) (gs : List Scope) → Falls n gs → length gs ≤ n
-    go n [] f = omega arith
-    go n (g ∷ gs) f = let a : g.number.0 < n = f.0 in let b : length gs ≤ g.number.0 = go g.number.0 gs f.1 in omega arith
-
 same_length : (b : Blow) (ts : List Task) → length (map (hit b) ts) ≡ length ts
 same_length b [] = refl
 same_length b (x ∷ xs) = ap suc (same_length b xs)
@@ -69,7 +65,7 @@ begins l T d n qs st may few_t few_s struck =
     let b : Blow = record { place = d; entry = n } in
     let h : Sound T = sound st.reached in
     let U : Tree = strike b T in
-    let after : Reached U = dies b st.reached may.dies may.later in
+    let after : Reached U = place_dies b st.reached may.dies may.later in
     let k : Sound U = sound after in
     let cells : length T.dead ≡ 16 = h.cells in
     let inside : d.0 < length T.dead = (let a = may.dies.0 in let c = h.few in omega arith) in
@@ -95,9 +91,15 @@ until_last dead now d i (k ∷ ks) after low = (
   until_last dead now d i ks after low.1,
 )
 
+-- the totals after the strike
+pub strikes : {room : ℕ} (l : CountLedger) (T : Tree) (b : Blow) → StandsFor l room T → CanDie (toll_below b.place l.scopes.items (length l.scopes.items)) l.totals × AreOf (dies (toll_below b.place l.scopes.items (length l.scopes.items)) l.totals) (length T.scopes) (map (hit b) T.tasks)
+strikes l T b st =
+    one_dies l.totals (length T.scopes) b T.tasks (toll_below b.place l.scopes.items (length l.scopes.items))
+    (toll_is _ T b.place l.scopes.items (sound st.reached) st.fit.scopes) (are l.totals T st.fit.totals)
+
 -- and where it ends
-pub died : {room : ℕ} (l m : CountLedger) (T : Tree) (d : PlaceId) (n i : ℕ) → StandsFor l room T → MayStrike T d n → i ≡ length l.scopes.items → m.places ≡ l.places → m.width ≡ l.width → m.dead ≡ slice_set l.dead d.0 (Some n) → m.next_task ≡ l.next_task → m.next_scope ≡ l.next_scope → length m.scopes.items ≡ length l.scopes.items → Passing l.width (strike (record { place = d; entry = n }) T) (stands_home T.dead) (slice_set l.dead d.0 (Some n)) d i m.scopes.items → StandsFor m room (strike (record { place = d; entry = n }) T)
-died l m T d n i st may is places width dead next_task next_scope len p =
+pub died : {room : ℕ} (l m : CountLedger) (T : Tree) (d : PlaceId) (n i : ℕ) → StandsFor l room T → MayStrike T d n → i ≡ length l.scopes.items → m.places ≡ l.places → m.width ≡ l.width → m.dead ≡ slice_set l.dead d.0 (Some n) → m.next_task ≡ l.next_task → m.next_scope ≡ l.next_scope → m.totals ≡ dies (toll_below d l.scopes.items (length l.scopes.items)) l.totals → length m.scopes.items ≡ length l.scopes.items → Passing l.width (strike (record { place = d; entry = n }) T) (stands_home T.dead) (slice_set l.dead d.0 (Some n)) d i m.scopes.items → StandsFor m room (strike (record { place = d; entry = n }) T)
+died l m T d n i st may is places width dead next_task next_scope totals len p =
     let b : Blow = record { place = d; entry = n } in
     let h : Sound T = sound st.reached in
     let U : Tree = strike b T in
@@ -105,13 +107,14 @@ died l m T d n i st may is places width dead next_task next_scope len p =
     let low : Each (λ g. g.number.0 < i) T.scopes = subst (λ (j : ℕ). Each (λ g. g.number.0 < j) T.scopes) (sym (is ∙ st.fit.numbers)) (each_below T.next_scope T.scopes h.falls) in
     let same : Each (λ k. given_until (stands_home T.dead) d i k ≡ stands_home U.dead k) T.scopes = until_last T.dead U.dead d i T.scopes (λ g. ap (λ ds. stands_home ds g) (sym same_dead) ∙ p.after g) low in
     record {
-      reached = dies b st.reached may.dies may.later;
+      reached = place_dies b st.reached may.dies may.later;
       fit =
           record {
             places = places ∙ st.fit.places;
             dead = dead ∙ same_dead;
             next_task = next_task ∙ st.fit.next_task;
             next_scope = next_scope ∙ st.fit.next_scope;
+            totals = totals ∙ totals_are (dies (toll_below d l.scopes.items (length l.scopes.items)) l.totals) U (strikes l T b st).1;
             numbers = len ∙ st.fit.numbers;
             scopes = as_wide l.width m.width (stands_home U.dead) T.scopes U.tasks m.scopes.items width (all_keeps _ (given_until (stands_home T.dead) d i) (stands_home U.dead) T.scopes U.tasks m.scopes.items same (λ j g found. each_found (λ k. given_until (stands_home T.dead) d i k ≡ stands_home U.dead k) (has_number j) T.scopes g same found) p.fit);
             masked = masked_keeps (given_until (stands_home T.dead) d i) (stands_home U.dead) T.scopes m.scopes.items same p.masked;

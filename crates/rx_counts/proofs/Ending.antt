@@ -1,5 +1,5 @@
 -- A task ends.
-use Rattle.std.specs.Prelude.{◌≡◌, ℕ, Bool, true, cond, ◌==◌, List, ◌++◌, length, Option, Some, None, option_map, Ok, IfSome, refl}
+use Rattle.std.specs.Prelude.{◌≡◌, ℕ, ◌≤◌, Bool, true, cond, ◌==◌, List, ◌∷◌, ◌++◌, length, Option, Some, None, option_map, Ok, IfSome, refl}
 use Rattle.std.specs.List.{find}
 use Rattle.std.specs.Global.{Box}
 use Rattle.std.proofs.Common.{sym, ap, ◌∙◌, subst, ⊎_elim}
@@ -8,6 +8,7 @@ use Rattle.rx_base.specs.declared.values.Fault.{Fault}
 use Rattle.rx_base.specs.declared.ids.ScopeId.{ScopeId}
 use Rattle.rx_rules.specs.declared.tasks.Where.{Where}
 use Rattle.rx_rules.specs.declared.tasks.Scope.{Scope}
+use Rattle.rx_rules.specs.declared.tasks.Task.{Task}
 use Rattle.rx_rules.specs.declared.entries.Act.TheVariants.{End}
 use Rattle.rx_rules.specs.Tree.{Tree, is_scope}
 use Rattle.rx_rules.specs.Entries.{change_first, made_act}
@@ -16,7 +17,7 @@ use Rattle.rx_sound.specs.Sound.{Sound}
 use Rattle.rx_sound.proofs.Reached.{sound}
 use Rattle.rx_sound.proofs.Stay.{faulted}
 use Rattle.rx_finish.specs.declared.ledger.Caller.{Caller}
-use Rattle.rx_finish.specs.Callers.{MayAskEnd, IsBare}
+use Rattle.rx_finish.specs.Callers.{MayAskEnd, IsBare, does_travel}
 use Rattle.rx_finish.specs.Calls.{EndReply}
 use Rattle.rx_finish.proofs.Allowed.{Free, end_allowed}
 use Rattle.rx_finish.proofs.Unstruck.{ended_is}
@@ -27,7 +28,9 @@ use Rattle.rx_counts.specs.Keeping.{stands_home, keeper}
 use Rattle.rx_rules.specs.Counts.{has_number}
 use Rattle.rx_counts.specs.Stands.{MayLeave, in_sums, less, masking, RecordsFit, Fit, StandsFor, record_at, Changed, ends_if}
 use Rattle.rx_counts.proofs.Asking.{unstruck_of, same_fit, scope_kept, room_kept, as_wide}
-use Rattle.rx_counts.proofs.Joining.{all_masking, others}
+use Rattle.rx_counts.specs.Inside.Totalling.{ends}
+use Rattle.rx_counts.proofs.Totalling.{AreOf, are, totals_are, same_tasks, one_ends, length_change}
+use Rattle.rx_counts.proofs.Joining.{all_masking, count_out, others}
 use Rattle.rx_counts.proofs.Masking.{masked_changed, masked_ended}
 use Rattle.rx_counts.proofs.Walks.{keeper_faulted, keeper_step}
 use Rattle.rx_counts.proofs.Arriving.{left_in}
@@ -61,8 +64,16 @@ own_keeper T s g k h found live at =
     let same : k ≡ s.0 = cc in
     eq-eqb k s.0 same
 
-pub ended : {room : ℕ} (l m : CountLedger) (T : Tree) (who : Caller) (thrown : List Fault) (k : ScopeId) (qs ps : List (Option (Box Record))) → StandsFor l room T → MayAskEnd T who → (f : Free T who (IsBare T who)) → keeper (stands_home T.dead) T.scopes (Some who.scope) ≡ Some k.0 → m.places ≡ l.places → m.width ≡ l.width → m.dead ≡ l.dead → m.next_task ≡ l.next_task → m.next_scope ≡ l.next_scope → Changed (ends_if (k.0 == who.scope.0) thrown) who.scope.0 l.scopes.items qs → Changed (in_sums (masking (cond (k.0 == who.scope.0) 0 (length thrown)))) k.0 qs ps → Changed (in_sums (less who.place)) k.0 ps m.scopes.items → EndReply T who thrown (Ok tt) (StandsFor m room)
-ended l m T who thrown k qs ps st may f at places width dead next_task next_scope c x d =
+-- the totals where the task has ended
+pub one_ended : {room : ℕ} (l : CountLedger) (T : Tree) (who : Caller) → (f : Free T who (IsBare T who)) → StandsFor l room T → (1 ≤ l.totals.live) × AreOf (ends l.totals) (length T.scopes) (others who.task T.tasks)
+one_ended l T who f st =
+    let h : Sound T = sound st.reached in
+    let x : Task = f.at.task in
+    one_ends l.totals (length T.scopes) (others who.task T.tasks) x f.unstruck (ap does_travel f.at.allowed.moving.is_at)
+    (same_tasks l.totals (length T.scopes) T.tasks (x ∷ others who.task T.tasks) (count_out who.task T.next_task T.tasks x h.tasks_fall f.at.stands) (are l.totals T st.fit.totals))
+
+pub ended : {room : ℕ} (l m : CountLedger) (T : Tree) (who : Caller) (thrown : List Fault) (k : ScopeId) (qs ps : List (Option (Box Record))) → StandsFor l room T → MayAskEnd T who → (f : Free T who (IsBare T who)) → keeper (stands_home T.dead) T.scopes (Some who.scope) ≡ Some k.0 → m.places ≡ l.places → m.width ≡ l.width → m.dead ≡ l.dead → m.next_task ≡ l.next_task → m.next_scope ≡ l.next_scope → m.totals ≡ ends l.totals → Changed (ends_if (k.0 == who.scope.0) thrown) who.scope.0 l.scopes.items qs → Changed (in_sums (masking (cond (k.0 == who.scope.0) 0 (length thrown)))) k.0 qs ps → Changed (in_sums (less who.place)) k.0 ps m.scopes.items → EndReply T who thrown (Ok tt) (StandsFor m room)
+ended l m T who thrown k qs ps st may f at places width dead next_task next_scope totals c x d =
     let h : Sound T = sound st.reached in
     let keeps : Scope → Bool = stands_home T.dead in
     let a = end_allowed T who thrown st.reached may (unstruck_of T who (IsBare T who) f) in
@@ -87,6 +98,11 @@ ended l m T who thrown k qs ps st may f at places width dead next_task next_scop
                   dead = dead ∙ st.fit.dead;
                   next_task = next_task ∙ st.fit.next_task;
                   next_scope = next_scope ∙ st.fit.next_scope;
+                  totals =
+                      (let left = (one_ended l T who f st).1 in
+                      totals
+                      ∙ totals_are (ends l.totals) (record T { tasks = others who.task T.tasks; scopes = change_first (is_scope who.scope) (faulted (λ g. g.body) (λ g. g.ends ++ thrown)) T.scopes })
+                      (record { scopes = left.scopes ∙ sym (length_change (is_scope who.scope) (faulted (λ g. g.body) (λ g. g.ends ++ thrown)) T.scopes); live = left.live; travel = left.travel }));
                   numbers = d.len ∙ x.len ∙ c.len ∙ st.fit.numbers;
                   scopes =
                       as_wide l.width m.width keeps (change_first (is_scope who.scope) (faulted (λ g. g.body) (λ g. g.ends ++ thrown)) T.scopes) (others who.task T.tasks) m.scopes.items width
@@ -110,5 +126,5 @@ same_pointwise s rs qs c n =
     map_id (Some r) = refl
     map_id None = refl
 
-pub end_unchanged : {room : ℕ} (l m : CountLedger) (T : Tree) (who : Caller) → StandsFor l room T → m.places ≡ l.places → m.width ≡ l.width → m.dead ≡ l.dead → m.next_task ≡ l.next_task → m.next_scope ≡ l.next_scope → Changed (λ r. r) who.scope.0 l.scopes.items m.scopes.items → StandsFor m room T
-end_unchanged l m T who st places width dead next_task next_scope c = record { reached = st.reached; fit = same_fit l m T st.fit places width dead next_task next_scope c.len (same_pointwise who.scope.0 l.scopes.items m.scopes.items c); has_room = room_kept l m T T width refl st.has_room }
+pub end_unchanged : {room : ℕ} (l m : CountLedger) (T : Tree) (who : Caller) → StandsFor l room T → m.places ≡ l.places → m.width ≡ l.width → m.dead ≡ l.dead → m.next_task ≡ l.next_task → m.next_scope ≡ l.next_scope → m.totals ≡ l.totals → Changed (λ r. r) who.scope.0 l.scopes.items m.scopes.items → StandsFor m room T
+end_unchanged l m T who st places width dead next_task next_scope totals c = record { reached = st.reached; fit = same_fit l m T st.fit places width dead next_task next_scope totals c.len (same_pointwise who.scope.0 l.scopes.items m.scopes.items c); has_room = room_kept l m T T width refl st.has_room }

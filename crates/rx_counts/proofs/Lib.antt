@@ -8,6 +8,7 @@ pub mod Walks
 pub mod Joining
 pub mod Shapes
 pub mod Asking
+pub mod Totalling
 pub mod Readying
 pub mod Arriving
 pub mod NewRecord
@@ -25,6 +26,7 @@ pub mod Sweeping
 pub mod Outgoing
 pub mod Clearing
 pub mod Striking
+pub mod Tolls
 pub mod Handing
 pub mod Passing
 pub mod Deaths

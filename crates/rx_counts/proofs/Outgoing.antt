@@ -1,7 +1,8 @@
 -- A release by a caller, and by the host.
-use Rattle.std.specs.Prelude.{ℕ, false, Ok, Err, Result, refl}
+use Rattle.std.specs.Prelude.{ℕ, false, length, Ok, Err, Result, refl}
+use Rattle.std.proofs.Common.{◌∙◌}
 use Rattle.rx_rules.specs.declared.entries.Act.TheVariants.{Release}
-use Rattle.rx_rules.specs.Tree.{Tree, the_root}
+use Rattle.rx_rules.specs.Tree.{Tree, is_task, the_root}
 use Rattle.rx_rules.specs.Entries.{without, made_act, Allowed}
 use Rattle.rx_rules.specs.declared.entries.Entry.TheVariants.{Root}
 use Rattle.rx_rules.specs.Reached.{acts, ends}
@@ -17,6 +18,8 @@ use Rattle.rx_counts.specs.Keeping.{stands_home}
 use Rattle.rx_counts.specs.Stands.{Fit, StandsFor}
 use Rattle.rx_counts.specs.Inside.Freeing.{FreeReply}
 use Rattle.rx_counts.proofs.Asking.{unstruck_of, room_kept}
+use Rattle.rx_finish.specs.Totals.{totals_of}
+use Rattle.rx_counts.proofs.Totalling.{are, totals_are, waits_same}
 use Rattle.rx_counts.proofs.Joining.{all_waits}
 
 pub released : {room : ℕ} (T : Tree) (who : Caller) (res : Result Outcome LedgerFault) (m : CountLedger) → (l : CountLedger) → StandsFor l room T → MayAskRelease T who → (f : Free T who (WaitsInside T who)) → FreeReply room T who.inner res m → ReleaseReply T who res (StandsFor m room)
@@ -34,6 +37,10 @@ released T who (Ok o) m l st may f h =
                   dead = fit.dead;
                   next_task = fit.next_task;
                   next_scope = fit.next_scope;
+                  totals =
+                      fit.totals
+                      ∙ totals_are (totals_of (without T who.inner)) (made_act T who.task (Release who.inner o.lost o.masked o.thrown))
+                      (waits_same (totals_of (without T who.inner)) (length (without T who.inner).scopes) (is_task who.task) false (without T who.inner).tasks (are (totals_of (without T who.inner)) (without T who.inner) refl));
                   numbers = fit.numbers;
                   scopes = all_waits _ (stands_home T.dead) (without T who.inner).scopes (without T who.inner).tasks who.task false m.scopes.items fit.scopes;
                   masked = fit.masked;

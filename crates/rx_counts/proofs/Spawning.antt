@@ -30,6 +30,8 @@ use Rattle.rx_counts.specs.Keeping.{stands_home, keeper, finishes}
 use Rattle.rx_counts.specs.Stands.{HasCell, MayJoin, RecordsFit, AllMasked, Fit, StandsFor, record_at, more, in_sums, Loses, Changed, ChangedBy}
 use Rattle.rx_counts.proofs.Asking.{Kept, kept_at_keeper, place_in, wide, room_kept, as_wide, tasks_length, unstruck_of}
 use Rattle.rx_counts.proofs.Joining.{all_join, all_lost}
+use Rattle.rx_counts.specs.Inside.Totalling.{more_tasks}
+use Rattle.rx_counts.proofs.Totalling.{are, totals_are, one_born}
 use Rattle.rx_counts.proofs.Masking.{masked_by, masked_changed}
 use Rattle.rx_counts.proofs.Arriving.{has_cell, may_join}
 use Rattle.rx_counts.proofs.Born.{inner_rooted, governing_is}
@@ -98,8 +100,13 @@ masked_born keeps gs to w k rs qs false lost joins h = masked_changed keeps gs (
 pub finish_rooted : (T : Tree) (who : Caller) (s : ScopeId) → Sound T → (f : Free T who IsMoving) → keeper finishes T.scopes (Some who.inner) ≡ Some s.0 → meets the_root T.scopes (Some s) ≡ true
 finish_rooted T who s h f e = subst (λ (u : ScopeId). meets the_root T.scopes (Some u) ≡ true) (governing_is T.scopes (Some who.inner) s e) (governs_rooted T.next_scope T.scopes (Some who.inner) h.falls h.root_kind (inner_rooted T who IsMoving h f))
 
-pub spawned : {room : ℕ} (l m : CountLedger) (T : Tree) (who : Caller) (to : PlaceId) (child : TaskId) (s : ScopeId) (k : ℕ) (b : Bool) → StandsFor l room T → MayAskTo T who to → (f : Free T who IsMoving) → child.0 ≡ l.next_task → keeper finishes T.scopes (Some who.inner) ≡ Some s.0 → keeper (stands_home T.dead) T.scopes (Some s) ≡ Some k → b ≡ not (is_none (death_blow l.dead to)) → m.places ≡ l.places → m.width ≡ l.width → m.dead ≡ l.dead → m.next_task ≡ l.next_task + 1 → m.next_scope ≡ l.next_scope → (b ≡ true → ChangedBy (Loses to) k l.scopes.items m.scopes.items) → (b ≡ false → Changed (in_sums (more (start (place_number who.place) to))) k l.scopes.items m.scopes.items) → SpawnReply T who to (Ok (record { child = child; scope = s; lost = b })) (StandsFor m room)
-spawned l m T who to child s k b st may f num fin at e places width dead next_task next_scope lost joins =
+-- who is born for a dead place is struck
+pub struck_if : (o : Option ℕ) (to : PlaceId) → is_some (option_map (λ n. let b : Blow = record { place = to; entry = n } in b) o) ≡ is_some o
+struck_if (Some n) to = refl
+struck_if None to = refl
+
+pub spawned : {room : ℕ} (l m : CountLedger) (T : Tree) (who : Caller) (to : PlaceId) (child : TaskId) (s : ScopeId) (k : ℕ) (b : Bool) → StandsFor l room T → MayAskTo T who to → (f : Free T who IsMoving) → child.0 ≡ l.next_task → keeper finishes T.scopes (Some who.inner) ≡ Some s.0 → keeper (stands_home T.dead) T.scopes (Some s) ≡ Some k → b ≡ not (is_none (death_blow l.dead to)) → m.places ≡ l.places → m.width ≡ l.width → m.dead ≡ l.dead → m.next_task ≡ l.next_task + 1 → m.next_scope ≡ l.next_scope → m.totals ≡ more_tasks b (start (place_number who.place) to) l.totals → (b ≡ true → ChangedBy (Loses to) k l.scopes.items m.scopes.items) → (b ≡ false → Changed (in_sums (more (start (place_number who.place) to))) k l.scopes.items m.scopes.items) → SpawnReply T who to (Ok (record { child = child; scope = s; lost = b })) (StandsFor m room)
+spawned l m T who to child s k b st may f num fin at e places width dead next_task next_scope totals lost joins =
     let h : Sound T = sound st.reached in
     let a = spawn_allowed T who to s child st.reached may (unstruck_of T who IsMoving f) (sym (governing_is T.scopes (Some who.inner) s fin)) (num ∙ st.fit.next_task) in
     let dies : b ≡ is_some (death_of T to) = e ∙ is_lost l T to st.fit in (
@@ -114,6 +121,10 @@ spawned l m T who to child s k b st may f num fin at e places width dead next_ta
                     dead = dead ∙ st.fit.dead;
                     next_task = (let q = st.fit.next_task in omega arith);
                     next_scope = next_scope ∙ st.fit.next_scope;
+                    totals =
+                        totals
+                        ∙ totals_are (more_tasks b (start (place_number who.place) to) l.totals) (made_act T who.task (Spawn child s (place_number who.place) to []))
+                        (one_born l.totals (length T.scopes) T.tasks (born T child s (place_number who.place) to) (start (place_number who.place) to) b refl (struck_if (death_of T to) to ∙ sym dies) (are l.totals T st.fit.totals));
                     numbers = len_of to (start (place_number who.place) to) k l.scopes.items m.scopes.items b lost joins ∙ st.fit.numbers;
                     scopes = as_wide l.width m.width (stands_home T.dead) T.scopes (born T child s (place_number who.place) to ∷ T.tasks) m.scopes.items width (all_born _ T T.scopes (stands_home T.dead) T.tasks child s (place_number who.place) to k l.scopes.items m.scopes.items b dies at (has_cell _ (stands_home T.dead) T.next_scope T.scopes T.tasks l.scopes.items k (Some s) (start (place_number who.place) to) h.falls at (started_in T who to h (wide l T st) may f) st.fit.scopes) lost joins st.fit.scopes);
                     masked = masked_born (stands_home T.dead) T.scopes to (start (place_number who.place) to) k l.scopes.items m.scopes.items b lost joins st.fit.masked;

@@ -1,9 +1,10 @@
 -- A task waits.
-use Rattle.std.specs.Prelude.{◌≡◌, ℕ, true, List, Some, Ok, refl}
-use Rattle.std.proofs.Common.{◌∙◌, subst}
+use Rattle.std.specs.Prelude.{◌≡◌, ℕ, true, List, Some, Ok, length, refl}
+use Rattle.std.proofs.Common.{◌∙◌, sym, subst}
 use Rattle.rx_base.specs.declared.values.Fault.{Fault}
 use Rattle.rx_rules.specs.declared.entries.Act.TheVariants.{Wait}
 use Rattle.std.specs.List.{find}
+use Rattle.rx_base.specs.declared.ids.TaskId.{TaskId}
 use Rattle.rx_base.specs.declared.ids.ScopeId.{ScopeId}
 use Rattle.rx_rules.specs.declared.tasks.Scope.{Scope}
 use Rattle.rx_rules.specs.Tree.{Tree, is_task, is_scope}
@@ -15,6 +16,7 @@ use Rattle.rx_rules.specs.Reached.{acts}
 use Rattle.rx_finish.specs.declared.ledger.Caller.{Caller}
 use Rattle.rx_finish.specs.Callers.{MayAskWait, HasFinish}
 use Rattle.rx_finish.specs.Calls.{WaitReply}
+use Rattle.rx_finish.specs.Totals.{totals_of}
 use Rattle.rx_finish.proofs.Allowed.{Free, wait_allowed, own_is}
 use Rattle.rx_counts.specs.declared.ledger.CountLedger.{CountLedger}
 use Rattle.rx_counts.specs.Keeping.{stands_home}
@@ -24,10 +26,18 @@ use Rattle.rx_counts.proofs.Lasting.{own_home}
 use Rattle.rx_counts.proofs.Masking.{masked_waits}
 use Rattle.rx_counts.proofs.Telling.{last_number}
 use Rattle.rx_counts.proofs.Joining.{all_waits}
+use Rattle.rx_counts.proofs.Totalling.{are, totals_are, waits_same, length_change}
 use Rattle.rx_counts.proofs.Faulting.{all_faulted}
 
-pub waits_stands : {room : ℕ} (l m : CountLedger) (T : Tree) (who : Caller) (thrown : List Fault) → StandsFor l room T → MayAskWait T who → (f : Free T who (HasFinish T who)) → m.places ≡ l.places → m.width ≡ l.width → m.dead ≡ l.dead → m.next_task ≡ l.next_task → m.next_scope ≡ l.next_scope → Changed (with_body thrown) who.inner.0 l.scopes.items m.scopes.items → WaitReply T who thrown (Ok tt) (StandsFor m room)
-waits_stands l m T who thrown st may f places width dead next_task next_scope c =
+-- who waits counts as before, and so do the scopes
+waited : (T : Tree) (s : ScopeId) (t : TaskId) (thrown : List Fault) → totals_of T ≡ totals_of (made_act T t (Wait s thrown))
+waited T s t thrown =
+    let h = waits_same (totals_of T) (length T.scopes) (is_task t) true T.tasks (are (totals_of T) T refl) in
+    totals_are (totals_of T) (made_act T t (Wait s thrown))
+    (record { scopes = sym (length_change (is_scope s) (λ g. record g { body = thrown }) T.scopes); live = h.live; travel = h.travel })
+
+pub waits_stands : {room : ℕ} (l m : CountLedger) (T : Tree) (who : Caller) (thrown : List Fault) → StandsFor l room T → MayAskWait T who → (f : Free T who (HasFinish T who)) → m.places ≡ l.places → m.width ≡ l.width → m.dead ≡ l.dead → m.next_task ≡ l.next_task → m.next_scope ≡ l.next_scope → m.totals ≡ l.totals → Changed (with_body thrown) who.inner.0 l.scopes.items m.scopes.items → WaitReply T who thrown (Ok tt) (StandsFor m room)
+waits_stands l m T who thrown st may f places width dead next_task next_scope totals c =
     let a = wait_allowed T who thrown st.reached may (unstruck_of T who (HasFinish T who) f) in
     let h : Sound T = sound st.reached in
     let own : Scope = f.at.allowed.scope in
@@ -45,6 +55,10 @@ waits_stands l m T who thrown st may f places width dead next_task next_scope c 
                   dead = dead ∙ st.fit.dead;
                   next_task = next_task ∙ st.fit.next_task;
                   next_scope = next_scope ∙ st.fit.next_scope;
+                  totals =
+                      totals
+                      ∙ st.fit.totals
+                      ∙ waited T who.inner who.task thrown;
                   numbers = c.len ∙ st.fit.numbers;
                   scopes =
                       as_wide l.width m.width (stands_home T.dead) (change_first (is_scope who.inner) (faulted (λ g. thrown) (λ g. g.ends)) T.scopes) (change_first (is_task who.task) waiting T.tasks) m.scopes.items width

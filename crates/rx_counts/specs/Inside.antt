@@ -3,3 +3,4 @@ pub mod Opening
 pub mod Dying
 pub mod Freeing
 pub mod Nesting
+pub mod Totalling

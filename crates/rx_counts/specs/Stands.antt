@@ -16,6 +16,7 @@ use Rattle.rx_rules.specs.Tree.{Tree, scope_of}
 use Rattle.rx_rules.specs.Entries.{was_lost_at}
 use Rattle.rx_rules.specs.Counts.{has_number}
 use Rattle.rx_rules.specs.Reached.{Reached}
+use Rattle.rx_finish.specs.Totals.{totals_of}
 use Rattle.rx_counts.specs.declared.record.Sums.{Sums}
 use Rattle.rx_counts.specs.declared.record.Record.{Record}
 use Rattle.rx_counts.specs.declared.ledger.CountLedger.{CountLedger}
@@ -99,6 +100,7 @@ pub record Fit (l : CountLedger) (T : Tree) : Type 0 where
   pub dead : l.dead ≡ T.dead
   pub next_task : l.next_task ≡ T.next_task
   pub next_scope : l.next_scope ≡ T.next_scope
+  pub totals : l.totals ≡ totals_of T
   pub numbers : length l.scopes.items ≡ T.next_scope
   pub scopes : RecordsFit l.width (stands_home T.dead) T.scopes T.tasks l.scopes.items
   pub masked : AllMasked (stands_home T.dead) T.scopes l.scopes.items

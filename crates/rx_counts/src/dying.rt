@@ -6,12 +6,14 @@ ghost use Rattle.rx_rules.specs.Tree.{Tree};
 ghost use Rattle.rx_rules.specs.declared.tasks.Scope.{Scope};
 ghost use Rattle.rx_counts.specs.Stands.{record_at, Pairs, ChangedBy};
 ghost use Rattle.rx_counts.specs.Inside.Dying.{hits_cell, hits, Strikes, StrikesRecord, CanHit, MayHit, Emptied, Gained, MayGain};
+ghost use Rattle.rx_counts.specs.Inside.Totalling.{toll_of, toll_in, toll_below, IsSmall};
 ghost use Rattle.rx_counts.specs.Inside.Dying.{CanGain, Gains, Passing, given_by, parent_there};
 
 use crate::cells::Cells;
 use crate::record::{Record, Sums, nothing, stopped};
 use crate::table::keeper_of;
 use rx_base::{Faults, PlaceId, PlaceSet, ScopeId};
+use rx_rules::Where;
 use std::alloc::Global;
 
 /// Whether the death of a place hits the place or the pair of a cell in the table of so many places.
@@ -62,37 +64,73 @@ fn lost_if(lost: PlaceSet, d: PlaceId, hurt: u32) -> PlaceSet
     if 0 < hurt { lost.with(d) } else { lost }
 }
 
+/// How many tasks a death strikes.
+#[derive(Clone, Copy)]
+pub struct Toll {
+    /// Those at the place, and those that travel from or to it.
+    pub all: u32,
+    /// Those at the place.
+    pub there: u32,
+}
+
+impl Toll {
+    fn none() -> Toll
+        ensures { result ≡ record { all = 0; there = 0 } }
+    {
+        Toll { all: 0, there: 0 }
+    }
+
+    fn and(self, more: Toll) -> Toll
+        requires { (self.all + more.all < 2 ^ 32) × (self.there + more.there < 2 ^ 32) }
+        ensures { result ≡ record { all = self.all + more.all; there = self.there + more.there } }
+    {
+        Toll {
+            all: self.all + more.all,
+            there: self.there + more.there,
+        }
+    }
+}
+
 impl Sums {
     /// The death of a place.
-    pub fn strike(&mut self, d: PlaceId)
+    pub fn strike(&mut self, d: PlaceId) -> Toll
         requires { (d.0 < 16) × CanHit d self.old }
-        ensures { Strikes d self.old self.new }
+        ensures strikes { Strikes d self.old self.new }
+        ensures toll { result ≡ toll_of d self.old }
     {
         let total = self.total;
+        let there = self.count(Where::At(d));
         let hurt = clear_hit(&mut self.counts, self.places, d);
         self.total = total - hurt;
         self.lost = lost_if(self.lost, d, hurt);
+        Toll { all: hurt, there }
     }
 }
 
-fn strike_entry(entry: &mut Option<Box<Record>>, d: PlaceId)
+fn strike_entry(entry: &mut Option<Box<Record>>, d: PlaceId) -> Toll
     requires { (d.0 < 16) × IfSome (option_map box_value entry.old) (MayHit d) }
-    ensures { Pairs (StrikesRecord d) (option_map box_value entry.old) (option_map box_value entry.new) }
+    ensures strikes { Pairs (StrikesRecord d) (option_map box_value entry.old) (option_map box_value entry.new) }
+    ensures toll { result ≡ toll_in d (option_map box_value entry.old) }
 {
-    if let Some(kept) = entry {
-        kept.sums.strike(d);
+    match entry {
+        Some(kept) => kept.sums.strike(d),
+        None => Toll::none(),
     }
 }
 
-/// The death of a place strikes each record.
-pub fn strike_all(scopes: &mut Vec<Option<Box<Record>>>, d: PlaceId)
-    requires { (d.0 < 16) × ((n : ℕ) → IfSome (record_at scopes.old.items n) (MayHit d)) }
+/// The death of a place strikes each record. How many tasks it strikes is answered.
+pub fn strike_all(scopes: &mut Vec<Option<Box<Record>>>, d: PlaceId) -> Toll
+    requires hit { (d.0 < 16) × ((n : ℕ) → IfSome (record_at scopes.old.items n) (MayHit d)) }
+    requires few { IsSmall (toll_below d scopes.old.items (length scopes.old.items)) }
     ensures len { length scopes.new.items ≡ length scopes.old.items }
     ensures struck { (n : ℕ) → Pairs (StrikesRecord d) (record_at scopes.old.items n) (record_at scopes.new.items n) }
+    ensures toll { result ≡ toll_below d scopes.old.items (length scopes.old.items) }
 {
+    let mut toll = Toll::none();
     for i in 0..scopes.len() {
-        strike_entry(&mut scopes[i], d);
+        toll = toll.and(strike_entry(&mut scopes[i], d));
     }
+    toll
 }
 
 impl Record {

@@ -6,6 +6,7 @@ ghost use Rattle.rx_base.specs.Sets.{members};
 ghost use Rattle.rx_rules.specs.Counts.{live_count, transit_count, lost_at, adopter};
 ghost use Rattle.rx_finish.specs.Callers.{MayAskTo};
 ghost use Rattle.rx_finish.specs.Calls.{SpawnReply};
+ghost use Rattle.rx_finish.specs.Totals.{totals_of};
 ghost use Rattle.rx_counts.specs.Stands.{StandsFor, HasScope};
 ghost use Rattle.rx_counts.specs.Meaning.{CountsStand};
 ghost use Rattle.rx_counts.specs.Inside.Freeing.{IsLast, OutcomeReply, FreeReply};
@@ -18,8 +19,11 @@ use crate::table::{
     bear, count_at, dropped_by, finish_of, join, keeper_of, leave, look, mask, note_body,
     note_ends, push,
 };
+use crate::totals::{died, ended, freed, landed, opened, started};
 use rx_base::{Faults, NoMemory, PlaceId, PlaceSet, ScopeId, TaskId};
-use rx_finish::{Born, Caller, FinishLedger, LedgerFault, Outcome, landing_of, place_of, travel};
+use rx_finish::{
+    Born, Caller, FinishLedger, LedgerFault, Outcome, Totals, landing_of, place_of, travel,
+};
 use rx_rules::{Kind, Where};
 use std::alloc::Global;
 
@@ -34,6 +38,8 @@ pub struct CountLedger {
     dead: [Option<u32>; 16],
     next_task: u32,
     next_scope: u32,
+    /// Of the tree: each call changes them as it changes the tree.
+    totals: Totals,
 }
 
 impl CountLedger {
@@ -74,6 +80,11 @@ impl CountLedger {
             dead: [None; 16],
             next_task: 1,
             next_scope: 1,
+            totals: Totals {
+                scopes: 1,
+                live: 1,
+                travel: 0,
+            },
         })
     }
 
@@ -116,6 +127,14 @@ impl CountLedger {
         }
     }
 
+    /// How many scopes are not released, and how many unstruck tasks are at a place and travel. It takes no memory, and looks at
+    /// no scope and no task.
+    pub fn totals(&self) -> Totals
+        ensures { (room : ℕ) (T : Tree) → ⟦<CountLedger as FinishLedger>⟧.stands self.now room T → result ≡ totals_of T }
+    {
+        self.totals
+    }
+
     /// What the release of a scope names, and how many scopes go with it.
     fn outcome_of(&self, s: ScopeId) -> Result<(Outcome, u32), LedgerFault>
         requires { (room : ℕ) × (T : Tree) × StandsFor self.now room T × IsLast T s }
@@ -153,6 +172,7 @@ impl CountLedger {
             Err(fault) => Err(fault),
             Ok((outcome, orphans)) => {
                 remove(&mut self.scopes, s, orphans);
+                self.totals = freed(self.totals, orphans);
                 Ok(outcome)
             }
         }
@@ -182,6 +202,7 @@ impl FinishLedger for CountLedger {
             return Err(fault);
         }
         self.next_scope += 1;
+        self.totals = opened(self.totals);
         Ok(number)
     }
 
@@ -194,6 +215,7 @@ impl FinishLedger for CountLedger {
         let finish = finish_of(&self.scopes, who.inner);
         let from = place_of(who.place);
         let is_lost = !lives(&self.dead, to);
+        let place = travel(from, to);
         let Ok(mut kept) = fresh(
             self.alloc,
             self.width,
@@ -204,12 +226,14 @@ impl FinishLedger for CountLedger {
         ) else {
             return Err(LedgerFault::NoMemory);
         };
-        kept.sums.bear(is_lost, travel(from, to), to);
+        kept.sums.bear(is_lost, place, to);
         if let Err(fault) = push(&mut self.scopes, kept, self.alloc) {
             return Err(fault);
         }
         self.next_scope += 1;
         self.next_task += 1;
+        self.totals = opened(self.totals);
+        self.totals = started(self.totals, is_lost, place);
         Ok(Born {
             child,
             scope,
@@ -230,6 +254,7 @@ impl FinishLedger for CountLedger {
         let scope = finish_of(&self.scopes, who.inner);
         let from = place_of(who.place);
         let is_lost = !lives(&self.dead, to);
+        let place = travel(from, to);
         let Some(keeper) = keeper_of(&self.scopes, &self.dead, scope) else {
             return Ok(Born {
                 child,
@@ -237,8 +262,9 @@ impl FinishLedger for CountLedger {
                 lost: is_lost,
             });
         };
-        bear(&mut self.scopes, keeper, is_lost, travel(from, to), to);
+        bear(&mut self.scopes, keeper, is_lost, place, to);
         self.next_task += 1;
+        self.totals = started(self.totals, is_lost, place);
         Ok(Born {
             child,
             scope,
@@ -255,6 +281,7 @@ impl FinishLedger for CountLedger {
         };
         leave(&mut self.scopes, keeper, who.place);
         join(&mut self.scopes, keeper, Where::At(landing_of(who.place)));
+        self.totals = landed(self.totals);
         Ok(())
     }
 
@@ -297,6 +324,7 @@ impl FinishLedger for CountLedger {
         }
         mask(&mut self.scopes, keeper, dropped);
         leave(&mut self.scopes, keeper, who.place);
+        self.totals = ended(self.totals);
         Ok(())
     }
 
@@ -321,7 +349,8 @@ impl FinishLedger for CountLedger {
     fn death(&mut self, place: PlaceId, at: u32) {
         let _tasks = self.next_task;
         let _scopes = self.next_scope;
-        strike_all(&mut self.scopes, place);
+        let toll = strike_all(&mut self.scopes, place);
+        self.totals = died(self.totals, toll);
         self.dead[place.0 as usize] = Some(at);
         hand_over_all(&mut self.scopes, &self.dead, place, self.alloc);
     }

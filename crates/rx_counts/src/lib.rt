@@ -16,5 +16,6 @@ mod removal;
 mod table;
 #[cfg(test)]
 mod tests;
+mod totals;
 
 pub use ledger::{CountLedger, counts_stand};

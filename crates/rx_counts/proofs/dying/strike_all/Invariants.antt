@@ -1,6 +1,7 @@
 use Rattle.std.proofs.Common.{◌≡◌, ℕ, ◌<◌, ◌≤◌, length}
 use Rattle.rx_counts.specs.Stands.{record_at, Pairs}
 use Rattle.rx_counts.specs.Inside.Dying.{StrikesRecord}
+use Rattle.rx_counts.specs.Inside.Totalling.{toll_below}
 use Rattle.rx_counts.proofs.dying.strike_all.Given as goal
 
 abbrev pub invariant-loop-i : goal.invariant-loop-i
@@ -8,4 +9,5 @@ invariant-loop-i l = record {
   len : length l.scopes.items ≡ length l.initial.scopes.items;
   below : (n : ℕ) → n < l.i → Pairs (StrikesRecord l.d) (record_at l.initial.scopes.items n) (record_at l.scopes.items n);
   above : (n : ℕ) → l.i ≤ n → record_at l.scopes.items n ≡ record_at l.initial.scopes.items n;
+  toll : l.toll ≡ toll_below l.d l.initial.scopes.items l.i;
 }

@@ -7,11 +7,12 @@ use Rattle.rx_rules.specs.declared.tasks.Where.TheVariants.{At}
 use Rattle.rx_sound.proofs.Reached.{sound}
 use Rattle.rx_finish.specs.declared.ledger.LedgerFault.{LedgerFault}
 use Rattle.rx_finish.specs.Callers.{Travels}
-use Rattle.rx_finish.specs.Calls.{ArriveReply}
+use Rattle.rx_finish.specs.Calls.{ArriveReply, landing}
 use Rattle.rx_finish.proofs.Allowed.{Free}
 use Rattle.rx_counts.specs.Stands.{Changed, StandsFor, in_sums, more}
 use Rattle.rx_counts.proofs.Asking.{was_lost, caller, keeper_found, keeper_some, keeper_known, scope_rooted, none_kept, wide}
-use Rattle.rx_counts.proofs.Arriving.{take_ok, add_ok, arrived}
+use Rattle.rx_counts.proofs.Arriving.{take_ok, add_ok, arrived, one_landed}
+use Rattle.rx_counts.proofs.Totalling.{few_live}
 use Rattle.rx_counts.proofs.ledger.CountLedgerFinishLedger.arrive.Goals as goal
 
 pub returns-in-Some : goal.returns-in-Some
@@ -36,7 +37,7 @@ pub returns : goal.returns
 returns c = λ room T s may.
     let f : Free T c.args.who Travels = caller c.args.self.now T c.args.who Travels s may (sym c.blow_there.ensures ∙ c.in_default.is) in
     let at = keeper_some c.args.self.now T c.args.who.scope c.in-Some-keeper_of.keeper _ s c.deref.ensures.value c.in-Some-keeper_of.ensures in
-    arrived c.args.self.now _ T c.args.who c.leave.new.scopes.items c.in-Some-keeper_of.keeper.0 s may f at refl refl refl refl refl
+    arrived c.args.self.now _ T c.args.who c.leave.new.scopes.items c.in-Some-keeper_of.keeper.0 s may f at refl refl refl refl refl c.landed-self.ensures
     c.leave.ensures
     (subst (λ (p : PlaceId). Changed (in_sums (more (At p))) c.in-Some-keeper_of.keeper.0 c.leave.new.scopes.items c.join.new.scopes.items) c.landing_of.ensures c.join.ensures)
 
@@ -44,3 +45,9 @@ pub returns-in_default-keeper_of : goal.returns-in_default-keeper_of
 returns-in_default-keeper_of c = λ room T s may.
     let f : Free T c.args.who Travels = caller c.args.self.now T c.args.who Travels s may (sym c.blow_there.ensures ∙ c.in_default.is) in
     absurd (true≢false (sym (keeper_known T c.args.who.scope (sound s.reached) (scope_rooted T c.args.who Travels (sound s.reached) f)) ∙ none_kept c.keeper_of.result _ c.in_default-keeper_of.is (keeper_found c.args.self.now T c.args.who.scope c.keeper_of.result _ s c.deref.ensures.value c.keeper_of.ensures)))
+
+pub landed-self-requires : goal.landed-self-requires
+landed-self-requires c =
+    let T : Tree = c.requires.1 in
+    let f : Free T c.args.who Travels = caller c.args.self.now T c.args.who Travels c.requires.2 c.requires.3 (sym c.blow_there.ensures ∙ c.in_default.is) in
+    ((few_live c.args.self.now T c.requires.2 c.requires.3.numbers.tasks).0, (one_landed c.args.self.now T c.args.who (λ y. record y { place = At (landing c.args.who.place) }) f c.requires.2 f.unstruck refl).0)

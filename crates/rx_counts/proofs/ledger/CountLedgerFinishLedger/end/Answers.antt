@@ -10,7 +10,7 @@ use Rattle.rx_finish.proofs.Allowed.{Free}
 use Rattle.rx_counts.specs.Stands.{StandsFor, Changed, MayLeave, in_sums, masking, ends_if}
 use Rattle.rx_counts.proofs.Asking.{was_lost, unstruck, caller, keeper_some, keeper_found, keeper_known, scope_rooted, scope_kept, none_kept}
 use Rattle.rx_counts.proofs.Arriving.{take_ok}
-use Rattle.rx_counts.proofs.Ending.{changed_sums, may_leave, ended, end_unchanged}
+use Rattle.rx_counts.proofs.Ending.{changed_sums, may_leave, ended, end_unchanged, one_ended}
 use Rattle.rx_counts.proofs.ledger.CountLedgerFinishLedger.end.Goals as goal
 
 pub returns-in-Some : goal.returns-in-Some
@@ -31,7 +31,7 @@ pub returns-in-Err : goal.returns-in-Err
 returns-in-Err c = λ room T s may. (
   unstruck c.args.self.now T c.args.who (IsBare T c.args.who) s may (sym c.blow_there.ensures ∙ c.in_default.is),
   c.in-Err.ensures.refused.0,
-  end_unchanged c.args.self.now _ T c.args.who s refl refl refl refl refl c.in-Err.ensures.refused.1,
+  end_unchanged c.args.self.now _ T c.args.who s refl refl refl refl refl refl c.in-Err.ensures.refused.1,
 )
 
 pub leave-requires : goal.leave-requires
@@ -58,7 +58,13 @@ pub returns : goal.returns
 returns c = λ room T s may.
     let f : Free T c.args.who (IsBare T c.args.who) = caller c.args.self.now T c.args.who (IsBare T c.args.who) s may (sym c.blow_there.ensures ∙ c.in_default.is) in
     let at = keeper_some c.args.self.now T c.args.who.scope c.in-Some-keeper_of.keeper _ s c.deref.ensures.value c.in-Some-keeper_of.ensures in
-    ended c.args.self.now _ T c.args.who c.args.thrown c.in-Some-keeper_of.keeper c.note_ends.new.scopes.items c.mask.new.scopes.items s may f at refl refl refl refl refl
+    ended c.args.self.now _ T c.args.who c.args.thrown c.in-Some-keeper_of.keeper c.note_ends.new.scopes.items c.mask.new.scopes.items s may f at refl refl refl refl refl c.ended-self.ensures
     (subst (λ (b : Bool). Changed (ends_if b c.args.thrown) c.args.who.scope.0 c.args.self.now.scopes.items c.note_ends.new.scopes.items) c.eq-keeps.ensures c.in_default-note_ends.ensures.noted)
     (subst (λ (n : ℕ). Changed (in_sums (masking n)) c.in-Some-keeper_of.keeper.0 c.note_ends.new.scopes.items c.mask.new.scopes.items) (c.dropped_by-dropped.ensures ∙ ap (λ b. cond b 0 (length c.args.thrown)) c.eq-keeps.ensures) c.mask.ensures)
     c.leave.ensures
+
+pub ended-self-requires : goal.ended-self-requires
+ended-self-requires c =
+    let T : Tree = c.requires.1 in
+    let f : Free T c.args.who (IsBare T c.args.who) = caller c.args.self.now T c.args.who (IsBare T c.args.who) c.requires.2 c.requires.3 (sym c.blow_there.ensures ∙ c.in_default.is) in
+    (one_ended c.args.self.now T c.args.who f c.requires.2).0

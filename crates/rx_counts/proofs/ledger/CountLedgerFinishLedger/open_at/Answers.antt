@@ -14,6 +14,9 @@ use Rattle.rx_counts.specs.Stands.{StandsFor, record_at, more}
 use Rattle.rx_counts.proofs.Asking.{was_lost, caller, unstruck, call_refused, same_records, wide}
 use Rattle.rx_counts.proofs.Born.{finish_known}
 use Rattle.rx_counts.proofs.Spawning.{start}
+use Rattle.rx_counts.specs.Inside.Totalling.{more_tasks}
+use Rattle.rx_counts.proofs.Totalling.{few_scopes, few_live}
+use Rattle.rx_rules.specs.Entries.{place_number}
 use Rattle.rx_counts.proofs.Calling.{called_stands, call_ok}
 use Rattle.rx_counts.proofs.ledger.CountLedgerFinishLedger.open_at.Goals as goal
 
@@ -27,20 +30,26 @@ pub bear-requires : goal.bear-requires
 bear-requires c =
     let T : Tree = c.requires.1 in
     let f : Free T c.args.who IsMoving = caller c.args.self.now T c.args.who IsMoving c.requires.2 c.requires.3.asks (sym c.blow_there.ensures ∙ c.in_default.is) in
-    rw (c.travel.ensures, c.place_of-from.ensures)
+    rw (c.travel-place.ensures, c.place_of-from.ensures)
     (call_ok T c.args.who c.args.to c.in-Ok.kept.sums (sound c.requires.2.reached) (wide c.args.self.now T c.requires.2) c.requires.3 f c.in-Ok.ensures.sums)
 
 pub returns-in-Err : goal.returns-in-Err
-returns-in-Err c = λ room T s may. call_refused T c.args.who c.args.to c.in-Err.fault _ c.in-Err.ensures.refused.0 (unstruck c.args.self.now T c.args.who IsMoving s may.asks (sym c.blow_there.ensures ∙ c.in_default.is)) (same_records c.args.self.now _ T s refl refl refl refl refl c.in-Err.ensures.refused.1)
+returns-in-Err c = λ room T s may. call_refused T c.args.who c.args.to c.in-Err.fault _ c.in-Err.ensures.refused.0 (unstruck c.args.self.now T c.args.who IsMoving s may.asks (sym c.blow_there.ensures ∙ c.in_default.is)) (same_records c.args.self.now _ T s refl refl refl refl refl refl c.in-Err.ensures.refused.1)
 
 pub returns : goal.returns
 returns c = λ room T s may.
     let none = sym c.blow_there.ensures ∙ c.in_default.is in
     let f : Free T c.args.who IsMoving = caller c.args.self.now T c.args.who IsMoving s may.asks none in
     let fin = finish_known c.args.self.now T c.args.who IsMoving c.finish_of-finish.result s f (subst (λ rs. IfSome (record_at rs c.args.who.inner.0) (λ r. c.finish_of-finish.result ≡ r.finish)) c.deref.ensures.value c.finish_of-finish.ensures) in
-    let place = c.travel.ensures ∙ ap (λ (p : PlaceId). start p c.args.to) c.place_of-from.ensures in
+    let place = c.travel-place.ensures ∙ ap (λ (p : PlaceId). start p c.args.to) c.place_of-from.ensures in
     let new = c.in-Ok.ensures in
     called_stands c.args.self.now _ T c.args.who c.args.to _ _ _ c.in-Ok.kept.sums _ s may none f refl refl
     new.kind (new.home ∙ c.place_of-from.ensures) new.parent (fin ∙ ap (λ (v : ScopeId). Some v.0) (sym new.finish)) new.sums
     (ap not c.lives-is_lost.ensures) c.bear.ensures.lost (λ e. c.bear.ensures.joins e ∙ ap (λ (w : Where). more w c.in-Ok.kept.sums) place)
-    new.body new.ends refl refl refl refl refl c.in_default-push.ensures.pushed
+    new.body new.ends refl refl refl refl refl (c.started-self.ensures ∙ ap (λ (w : Where). more_tasks (not c.lives-is_lost.result) w c.opened-self.result) place ∙ ap (more_tasks (not c.lives-is_lost.result) (start (place_number c.args.who.place) c.args.to)) c.opened-self.ensures) c.in_default-push.ensures.pushed
+
+pub opened-self-requires : goal.opened-self-requires
+opened-self-requires c = few_scopes c.args.self.now c.requires.1 c.requires.2 c.requires.3.asks.numbers.scopes
+
+pub started-self-requires : goal.started-self-requires
+started-self-requires c = rw c.opened-self.ensures (few_live c.args.self.now c.requires.1 c.requires.2 c.requires.3.asks.numbers.tasks)

@@ -7,6 +7,7 @@ use Rattle.rx_finish.specs.Calls.{OpenReply}
 use Rattle.rx_counts.specs.Stands.{StandsFor}
 use Rattle.rx_counts.proofs.Asking.{was_lost, caller, unstruck, same_records, open_refused}
 use Rattle.rx_counts.proofs.Born.{opened_stands}
+use Rattle.rx_counts.proofs.Totalling.{few_scopes}
 use Rattle.rx_counts.proofs.ledger.CountLedgerFinishLedger.open_finish.Goals as goal
 
 pub returns-in-Some : goal.returns-in-Some
@@ -17,11 +18,14 @@ returns-in_default-fresh c = λ room T s may. open_refused T c.args.who NoMemory
 
 pub returns-in-Err : goal.returns-in-Err
 returns-in-Err c = λ room T s may.
-    open_refused T c.args.who c.in-Err.fault _ c.in-Err.ensures.refused.0 (unstruck c.args.self.now T c.args.who IsMoving s may (sym c.blow_there.ensures ∙ c.in_default.is)) (same_records c.args.self.now _ T s refl refl refl refl refl c.in-Err.ensures.refused.1)
+    open_refused T c.args.who c.in-Err.fault _ c.in-Err.ensures.refused.0 (unstruck c.args.self.now T c.args.who IsMoving s may (sym c.blow_there.ensures ∙ c.in_default.is)) (same_records c.args.self.now _ T s refl refl refl refl refl refl c.in-Err.ensures.refused.1)
 
 pub returns : goal.returns
 returns c = λ room T s may.
     let none = sym c.blow_there.ensures ∙ c.in_default.is in
     let new = c.in-Ok.ensures in
     opened_stands c.args.self.now _ T c.args.who _ c.in-Ok.kept s may none (caller c.args.self.now T c.args.who IsMoving s may none) refl
-    new.kind (new.home ∙ c.place_of-home.ensures) new.parent new.finish new.sums new.body new.ends refl refl refl refl refl c.in_default-push.ensures.pushed
+    new.kind (new.home ∙ c.place_of-home.ensures) new.parent new.finish new.sums new.body new.ends refl refl refl refl refl c.opened-self.ensures c.in_default-push.ensures.pushed
+
+pub opened-self-requires : goal.opened-self-requires
+opened-self-requires c = few_scopes c.args.self.now c.requires.1 c.requires.2 c.requires.3.numbers.scopes

@@ -23,4 +23,4 @@ note_body-requires c =
 pub returns : goal.returns
 returns c = λ room T s may.
     let f : Free T c.args.who (HasFinish T c.args.who) = caller c.args.self.now T c.args.who (HasFinish T c.args.who) s may (sym c.blow_there.ensures ∙ c.in_default.is) in
-    waits_stands c.args.self.now _ T c.args.who c.args.thrown s may f refl refl refl refl refl c.note_body.ensures
+    waits_stands c.args.self.now _ T c.args.who c.args.thrown s may f refl refl refl refl refl refl c.note_body.ensures

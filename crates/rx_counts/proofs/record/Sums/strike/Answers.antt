@@ -5,8 +5,8 @@ use Rattle.rx_counts.specs.Inside.Dying.{hits}
 use Rattle.rx_counts.proofs.Clearing.{struck_cells}
 use Rattle.rx_counts.proofs.record.Sums.strike.Goals as goal
 
-pub returns : goal.returns
-returns c =
+pub returns-clause-strikes : goal.returns-clause-strikes
+returns-clause-strikes c =
     let sum : c.clear_hit-hurt.result ≡ hits c.args.self.now.places c.args.d.0 c.args.self.now.counts = c.clear_hit-hurt.ensures.sum in
     let le : hits c.args.self.now.places c.args.d.0 c.args.self.now.counts ≤ c.args.self.now.total = c.requires.1.total in
     record {

@@ -14,7 +14,7 @@ use Rattle.rx_rules.specs.Picked.{Player, Goes, stays as goes_none}
 use Rattle.rx_runs.specs.Steps.{TermSinks}
 use Rattle.rx_terms.proofs.Beginning.{begins-so}
 use Rattle.rx_terms.specs.Steps.{Begins}
-use Rattle.rx_stores.proofs.Calls.{IsCall, is_call}
+use Rattle.rx_stores.proofs.StoreCalls.{IsCall, is_call}
 use Rattle.rx_terms.proofs.Receiving.{call-so}
 use Rattle.rx_runs.specs.SomeWords.{AsksSome}
 use Rattle.rx_runs.proofs.SomeWords.{goes_some}

@@ -35,7 +35,7 @@ use Rattle.rx_book.proofs.History.{entries_by-append}
 use Rattle.rx_book.proofs.Fronts.{prefix_self}
 use Rattle.rx_ledger.proofs.StaysGood.{places_more}
 use Rattle.rx_terms.specs.Held.{is_held, HeldInFront}
-use Rattle.rx_stores.proofs.Calls.{IsCall}
+use Rattle.rx_stores.proofs.StoreCalls.{IsCall}
 use Rattle.rx_terms.proofs.SpineGrants.{begun_is}
 use Rattle.rx_terms.proofs.Granting.{not_held}
 use Rattle.rx_parts.specs.Ledger.{LedgerItem, Walks}

@@ -53,7 +53,7 @@ use Rattle.rx_stores.specs.Asked.{MayAskStore, Receives, Asked}
 use Rattle.rx_machine.proofs.Live.{live_stands}
 use Rattle.rx_terms.proofs.Beginning.{begins-so}
 use Rattle.rx_terms.proofs.Receiving.{call-so}
-use Rattle.rx_stores.proofs.Calls.{IsCall, is_call}
+use Rattle.rx_stores.proofs.StoreCalls.{IsCall, is_call}
 use Rattle.rx_terms.proofs.Granting.{after-answer, unheld-after}
 use Rattle.rx_terms.proofs.SpineGrants.{IsBegun, spine-answer, begun_is, flat-after}
 use Rattle.rx_machine.proofs.Stepping.{goes-stores, acting-on}

@@ -40,7 +40,7 @@ use Rattle.rx_stores.specs.Kepts.{StoresAre}
 use Rattle.rx_machine.specs.Holds.{Seated, Acting}
 use Rattle.rx_machine.specs.Refusals.{BeginEach, HasBegun, HasTold}
 use Rattle.rx_stores.specs.Asked.{Asked}
-use Rattle.rx_stores.proofs.Calls.{IsCall}
+use Rattle.rx_stores.proofs.StoreCalls.{IsCall}
 use Rattle.rx_machine.proofs.Called.{StoreIs, call-told}
 use Rattle.rx_machine.proofs.Asking.{id_of}
 use Rattle.rx_machine.proofs.Live.{live_stands}

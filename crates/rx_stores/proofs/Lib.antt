@@ -1,3 +1,3 @@
 pub mod Opening
 pub mod Journals
-pub mod Calls
+pub mod StoreCalls

@@ -31,7 +31,6 @@ use Rattle.rx_runs.specs.Events.{FewEvents, GoingTells}
 use Rattle.rx_runs.specs.SomeWords.{MakesSome, TermMakesSome, AsksSome, ComesSome, GoesSome}
 use Rattle.rx_runs.proofs.Pairs.{pairs-get}
 use Rattle.rx_runs.proofs.Rows.{row-found}
-use Rattle.rx_nodes.specs.Shape.{Shape}
 use Rattle.rx_control.specs.declared.step.CellOp.{CellOp}
 use Rattle.rx_control.specs.declared.step.CellOp.TheVariants.{Make, Get as GetWord, Put as PutWord, Forget as ForgetBlock}
 use Rattle.rx_control.specs.declared.step.Next.TheVariants.{Cell as CellStep}

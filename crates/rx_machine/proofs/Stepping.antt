@@ -32,7 +32,7 @@ use Rattle.rx_stores.specs.Kepts.{StoresAre}
 use Rattle.rx_machine.specs.Holds.{Shares, Acting}
 use Rattle.rx_machine.specs.Inside.Requests.{IsAsked, OnlyStores, AfterStep}
 use Rattle.rx_terms.proofs.Holding.{AfterLocal, after-local}
-use Rattle.rx_terms.proofs.Granting.{held-releases}
+use Rattle.rx_terms.proofs.Granting.{held-releases, not_held}
 use Rattle.rx_terms.proofs.Spines.{LeavesSpine, spine-local}
 
 -- Steps at the end.

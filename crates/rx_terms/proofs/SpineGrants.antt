@@ -315,7 +315,7 @@ begun_is (Trying inside o b y rest) x e = begun_is inside x e
 begun_is (Body inside rest) x e = begun_is inside x e
 begun_is (Held rest) x e = absurd (let f : ⊥ = cc in f)
 
-flat-after : (t : Term) (ks : List Kind) → Spine t ks → NoScopeOpen (after_it t)
+pub flat-after : (t : Term) (ks : List Kind) → Spine t ks → NoScopeOpen (after_it t)
 flat-after Empty ks h = tt
 flat-after (Run stmt x rest) ks h = h.1
 flat-after (Raise faults) ks h = tt

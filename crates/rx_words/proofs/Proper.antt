@@ -41,6 +41,7 @@ taken-ranged kinds.Join w k value r = good-ranged (number_of 0 1000000 value) _ 
 taken-ranged kinds.Pick w k value r = good-ranged (pick_list_of value) _ (λ list e. record { places = r.places; heap = r.heap })
 taken-ranged kinds.Seed w k value r = good-ranged (number_of 0 (2 ^ 64 - 1) value) _ (λ n e. record { places = r.places; heap = r.heap })
 taken-ranged kinds.Workers w k value r = good-ranged (number_of 1 8 value) _ (λ n e. record { places = r.places; heap = r.heap })
+taken-ranged kinds.Watch w k value r = good-ranged (number_of 1 1000 value) _ (λ n e. record { places = r.places; heap = r.heap })
 
 -- what options say, or what stands for it, is in range
 within : (least most usual : ℕ) (o : Option ℕ) → (least ≤ usual) × (usual ≤ most) → IfSome o (λ n. (least ≤ n) × (n ≤ most)) → (least ≤ or_else o usual) × (or_else o usual ≤ most)
@@ -89,7 +90,7 @@ settled-proper verbs.Gen w k r = sized w.size
     sized None = tt
 settled-proper verbs.Live w k r = by (first_bad w) refl
   where
-    by : (o : Option ℕ) → first_bad w ≡ o → HasProper (unless_bad o (Live (setup_of w) (or_else w.workers 2)))
+    by : (o : Option ℕ) → first_bad w ≡ o → HasProper (unless_bad o (Live (setup_of w) (or_else w.workers 2) w.watch))
     by (Some n) e = tt
     by None e = setup-proper w r e
 
@@ -103,6 +104,7 @@ cut-proper kinds.Join k = tt
 cut-proper kinds.Pick k = tt
 cut-proper kinds.Seed k = tt
 cut-proper kinds.Workers k = tt
+cut-proper kinds.Watch k = tt
 
 pub options-proper : (verb : Verb) (w : Wants) (k : ℕ) (words : List (List ℕ)) → IsRanged w → HasProper (options verb w k words)
 options-proper verb w k [] r = settled-proper verb w k r

@@ -10,7 +10,7 @@ HasProper (Gen size U seed) = Proper U
 HasProper Check = Unit {0}
 HasProper Verify = Unit {0}
 HasProper Span = Unit {0}
-HasProper (Live U workers) = Proper U
+HasProper (Live U workers watch) = Proper U
 HasProper (BadWord k) = Unit {0}
 
 -- so it is, whatever the words

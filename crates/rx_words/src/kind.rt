@@ -17,6 +17,7 @@ pub(crate) enum Kind {
     Pick,
     Seed,
     Workers,
+    Watch,
 }
 
 // The option that a word names.
@@ -39,6 +40,8 @@ fn option_named(name: &[u8]) -> Kind
         Kind::Seed
     } else if name == b"--workers".as_slice() {
         Kind::Workers
+    } else if name == b"--watch".as_slice() {
+        Kind::Watch
     } else {
         Kind::NoOption
     }
@@ -58,6 +61,7 @@ fn stands(verb: Verb, said: &Said, kind: Kind) -> bool
         Kind::Pick => verb == Verb::Step && said.picks.is_none() && said.seed.is_none(),
         Kind::Seed => verb != Verb::Live && said.picks.is_none() && said.seed.is_none(),
         Kind::Workers => verb == Verb::Live && said.workers.is_none(),
+        Kind::Watch => verb == Verb::Live && said.watch.is_none(),
     }
 }
 

@@ -20,4 +20,5 @@ pub(crate) struct Said {
     pub(crate) picks: Option<Vec<u32>>,
     pub(crate) seed: Option<u64>,
     pub(crate) workers: Option<u32>,
+    pub(crate) watch: Option<u32>,
 }

@@ -273,7 +273,7 @@ module _ (single : OnePickedRun) (proper : SetupsAreProper) (answer_tells : Text
       e ∙ ap status_by (answer_tells questions.Verify bytes others text a b p q) ∙ sym f
   status-told Span old new older newer text s t ok (bytes, a, was, p, e) (others, b, were, q, f) =
       e ∙ ap status_by (answer_tells questions.Span bytes others text a b p q) ∙ sym f
-  status-told (Live U n) old new older newer text s t ok (code, was, (es, js, p, told, e)) (other, were, (fs, ks, q, tells, f)) =
+  status-told (Live U n watch) old new older newer text s t ok (code, was, (es, js, p, told, e)) (other, were, (fs, ks, q, tells, f)) =
       told ∙ texts-tell U es fs js ks p.run.ends q.run.ends (sym e ∙ f) ∙ sym tells
   status-told (BadWord k) old new older newer text s t ok h i = absurd h
 
@@ -302,7 +302,7 @@ module _ (single : OnePickedRun) (proper : SetupsAreProper) (answer_tells : Text
         (e ∙ ap work_line (same-code old new newer bytes code other is was were) ∙ sym f, done ∙ sym over)
     outcome-once Verify old new newer text written s t ok (bytes, is) h k = same-answer questions.Verify old new newer bytes text written s t is h k
     outcome-once Span old new newer text written s t ok (bytes, is) h k = same-answer questions.Span old new newer bytes text written s t is h k
-    outcome-once (Live U n) old new newer text written s t ok known h i = absurd known
+    outcome-once (Live U n watch) old new newer text written s t ok known h i = absurd known
     outcome-once (BadWord k) old new newer text written s t ok known h i = absurd h
 
     pub one-outcome : OneOutcome

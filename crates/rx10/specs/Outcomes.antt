@@ -14,7 +14,7 @@ TextTellsStatus = (words : List (List ℕ)) (old new older newer : Option (List 
 -- threads do.
 abbrev pub IsKnown : Asked → Option (List ℕ) → Type 0
 IsKnown (Gen size U seed) left = Unit {0}
-IsKnown (Live U workers) left = ⊥
+IsKnown (Live U workers watch) left = ⊥
 IsKnown _ left = (bytes : List ℕ) × (left ≡ Some bytes)
 
 -- The same words and the same bytes of the source have one outcome, where no threads are started.

@@ -20,6 +20,9 @@ use Rattle.rx_check.specs.Checked.{Meets}
 use Rattle.rx_trace.specs.Text.{trace_text}
 use Rattle.rx_words.specs.Words.{Asked, Step, Gen, Check, Verify, Span, Live, BadWord, Source, Zeros, Listed, Seeded, source}
 use Rattle.rx_picks.specs.Seeds.{seed_word}
+use Rattle.rx_monitor.specs.declared.summary.Summary.{Summary}
+use Rattle.rx_live.specs.Watching.{IsWatchOf}
+use Rattle.rx_watch.specs.Text.{watch_text}
 use Rattle.rx10.specs.Live.{IsLawful}
 use Rattle.rx_pair.specs.Pair.{IsPair}
 use Rattle.rx_answers.specs.declared.answers.Question.{Question}
@@ -74,6 +77,18 @@ abbrev pub IsLiveTrace : Block → Given → List ℕ → Status → Type 0
 IsLiveTrace code U text status =
     (entries : List Entry) × (journals : List (List PlaceEvent)) × IsLawful code U entries journals × (status ≡ status_of entries)
     × (text ≡ trace_text U entries journals)
+
+-- The bytes are such a trace, and then the lines of n snapshots and one more: each is the summary of as many of the first entries as it
+-- says, none is of fewer than the one before, and the last is that of all.
+abbrev pub IsWatchedTrace : Block → Given → ℕ → List ℕ → Status → Type 0
+IsWatchedTrace code U n text status =
+    (entries : List Entry) × (journals : List (List PlaceEvent)) × (seen : List Summary) × IsLawful code U entries journals
+    × (status ≡ status_of entries) × IsWatchOf n U.places entries seen × (text ≡ trace_text U entries journals ++ watch_text seen)
+
+-- what `live` writes: the trace, and where it is watched these lines behind it
+abbrev pub IsLiveText : Block → Given → Option ℕ → List ℕ → Status → Type 0
+IsLiveText code U None text status = IsLiveTrace code U text status
+IsLiveText code U (Some n) text status = IsWatchedTrace code U n text status
 
 -- the bytes are the numbers of such a run of the generated script
 abbrev pub IsCount : ℕ → Given → Source → List ℕ → Status → Type 0
@@ -136,7 +151,7 @@ IsOutcome (Gen size U seed) old new text status = (new ≡ old) × IsCount size 
 IsOutcome Check old new text status = (code : Block) × WasScript old new code × (text ≡ work_line code) × (status ≡ Done)
 IsOutcome Verify old new text status = IsAnswered questions.Verify old new text status
 IsOutcome Span old new text status = IsAnswered questions.Span old new text status
-IsOutcome (Live U workers) old new text status = (code : Block) × WasScript old new code × IsLiveTrace code U text status
+IsOutcome (Live U workers watch) old new text status = (code : Block) × WasScript old new code × IsLiveText code U watch text status
 IsOutcome (BadWord k) old new text status = ⊥
 
 -- These bytes are a script that meets the rules.
@@ -163,7 +178,7 @@ CanDo (Gen size U seed) left = Unit {0}
 CanDo Check left = (bytes : List ℕ) × (left ≡ Some bytes) × IsGood bytes
 CanDo Verify left = (bytes : List ℕ) × (left ≡ Some bytes) × IsGoodPair bytes
 CanDo Span left = (bytes : List ℕ) × (left ≡ Some bytes) × IsGoodPair bytes
-CanDo (Live U workers) left = (bytes : List ℕ) × (left ≡ Some bytes) × IsGood bytes
+CanDo (Live U workers watch) left = (bytes : List ℕ) × (left ≡ Some bytes) × IsGood bytes
 CanDo (BadWord k) left = ⊥
 
 -- a status of a source from which no text was made

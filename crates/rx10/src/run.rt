@@ -1,5 +1,5 @@
 // From a program to what is written.
-ghost use Rattle.std.specs.Prelude.{◌≡◌, ◌≤◌, ◌<◌, ◌^◌, ℕ, length, IfOk};
+ghost use Rattle.std.specs.Prelude.{◌≡◌, ◌≤◌, ◌<◌, ◌^◌, ℕ, length, IfOk, IfSome};
 ghost use Rattle.rx_rules.specs.Code.{Block};
 ghost use Rattle.rx_rules.specs.Run.{Proper, EndsWithRoot};
 ghost use Rattle.rx_rules.specs.Picked.{IsPicked};
@@ -8,7 +8,7 @@ ghost use Rattle.rx_history.specs.Events.{events_of};
 ghost use Rattle.rx_history.specs.Setups.{given};
 ghost use Rattle.rx_words.specs.Commands.{source_of};
 ghost use Rattle.rx10.specs.declared.status.Status.TheVariants.{Done};
-ghost use Rattle.rx10.specs.Top.{is_clean as clean, status_by, status_of, work_line, picks_of, IsTrace, IsLiveTrace, IsCount};
+ghost use Rattle.rx10.specs.Top.{is_clean as clean, status_by, status_of, work_line, picks_of, IsTrace, IsLiveTrace, IsWatchedTrace, IsLiveText, IsCount};
 
 use rx_base::{Faults, Gate, NoMemory, PlaceSet, members_make_the_set};
 use rx_check::{Program, checked};
@@ -16,12 +16,13 @@ use rx_counts::CountLedger;
 use rx_gen::{counts, generate, put_counts};
 use rx_history::{Entry, History, Journals, Setup};
 use rx_laws::{run_is_exact, run_is_not_early, run_is_ordered};
-use rx_live::run_live;
+use rx_live::{run_live, run_watched};
 use rx_machine::Machine;
 use rx_picks::{ListPicks, Picks, SeedPicks};
 use rx_runs::{entries_are_bounded, few_picks_are_used, picked_run_is_run};
 use rx_text::put_natural;
 use rx_trace::write_trace;
+use rx_watch::put_watch;
 use rx_words::{LiveWords, PickWords};
 use std::alloc::Global;
 use std::sync::Wait;
@@ -61,8 +62,67 @@ pub(crate) fn make_trace(
     Ok((text, clean))
 }
 
-// The text of the trace of a run with several workers, and whether nothing was lost and nothing thrown at the root.
+// The text of a run with several workers, and whether nothing was lost and nothing thrown at the root.
 pub(crate) fn make_live<G: Gate + Sync, R: Threads + Wait + Sync>(
+    rt: &R,
+    alloc: Global,
+    program: &Program,
+    live: &LiveWords,
+    gate: &G,
+) -> Result<(Vec<u8>, bool), NoMemory>
+    requires proper { Proper (given live.now.setup) }
+    requires workers { (1 ≤ live.now.workers) × (live.now.workers ≤ 8) }
+    requires watch { IfSome live.now.watch (λ n. (1 ≤ n) × (n ≤ 1000)) }
+    ensures { IfOk result (λ r. (code : Block) → Stands program.now.script code →
+        IsLiveText code (given live.now.setup) live.now.watch r.0.items (status_by r.1)) }
+{
+    match live.watch {
+        None => make_unwatched(rt, alloc, program, live, gate),
+        Some(watch) => make_watched(rt, alloc, program, live, watch, gate),
+    }
+}
+
+// The text of the trace of such a run, and the lines of its snapshots behind it.
+fn make_watched<G: Gate + Sync, R: Threads + Wait + Sync>(
+    rt: &R,
+    alloc: Global,
+    program: &Program,
+    live: &LiveWords,
+    watch: u32,
+    gate: &G,
+) -> Result<(Vec<u8>, bool), NoMemory>
+    requires proper { Proper (given live.now.setup) }
+    requires workers { (1 ≤ live.now.workers) × (live.now.workers ≤ 8) }
+    requires watch { (1 ≤ watch) × (watch ≤ 1000) }
+    ensures { IfOk result (λ r. (code : Block) → Stands program.now.script code →
+        IsWatchedTrace code (given live.now.setup) watch r.0.items (status_by r.1)) }
+{
+    checked(program);
+    let setup = &live.setup;
+    let room = setup.joins.len() as u8;
+    let ledger = CountLedger::open_for(alloc, setup.places, room)?;
+    let (history, journals, _, seen) = run_watched(
+        rt,
+        alloc,
+        program,
+        setup,
+        live.workers,
+        watch,
+        ledger,
+        gate,
+    )?;
+    run_is_not_early();
+    run_is_exact();
+    run_is_ordered();
+    let mut text = Vec::new(alloc);
+    write_trace(&history, &journals, &mut text)?;
+    put_watch(&mut text, seen.as_slice())?;
+    let is_clear = ends_clean(&history);
+    Ok((text, is_clear))
+}
+
+// The text of the trace of a run with several workers, and whether nothing was lost and nothing thrown at the root.
+fn make_unwatched<G: Gate + Sync, R: Threads + Wait + Sync>(
     rt: &R,
     alloc: Global,
     program: &Program,

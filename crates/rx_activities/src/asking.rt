@@ -164,7 +164,11 @@ pub(crate) fn ask<R: Wait>(
     checked(p);
     ledger_op_fits();
     let answer = ledger.call(rt, pass, op);
-    let LedgerReply { reply, notes: _ } = answer;
+    let LedgerReply {
+        reply,
+        notes: _,
+        shown: _,
+    } = answer;
     reply
 }
 

@@ -1,5 +1,5 @@
 -- The ledger's book is closed.
-use Rattle.std.specs.Prelude.{◌≡◌, ℕ, true, false, List, [], ◌∷◌, ◌++◌}
+use Rattle.std.specs.Prelude.{◌≡◌, ℕ, Bool, true, false, Option, List, [], ◌∷◌, ◌++◌}
 use Rattle.std.proofs.Common.{ap, sym, ◌∙◌, subst}
 use Rattle.std.proofs.lemmas.List.{append-nil}
 use mathlib.Core.List.{IsPrefix}
@@ -24,6 +24,8 @@ use Rattle.rx_objects.specs.declared.ledger.LedgerFixed.{LedgerFixed}
 use Rattle.rx_objects.specs.Mentioned.{entries_in}
 use Rattle.rx_objects.specs.Ledger.{LedgerIsLegal}
 use Rattle.rx_objects.specs.Ending.{entries_at}
+use Rattle.rx_monitor.specs.Boards.{Listing}
+use Rattle.rx_objects.specs.Shown.{BoardShows}
 use Rattle.rx_live.specs.Inside.Ending.{SeesEnd}
 use Rattle.rx_live.proofs.Finishing.{none_behind, whole_is}
 
@@ -54,6 +56,12 @@ pub stands_there : {X : Type 0} (stands : X → ℕ → Tree → Type 0) (l : X)
 stands_there stands l s t es fs same is h =
     subst (λ (gs : List Entry). stands l (to_join (given t) (tree_of t.places gs)) (tree_of t.places gs)) (sym is)
     (subst (λ (q : Setup). stands l (to_join (given q) (tree_of q.places es)) (tree_of q.places es)) same h)
+
+-- the board shows the history
+pub shown_there : (board : Option Listing) (s t : Setup) (es fs : List Entry) (late : Bool) → late ≡ false → s ≡ t → fs ≡ es → BoardShows s.places es late board → BoardShows t.places fs false board
+shown_there board s t es fs late none same is h =
+    subst (λ (gs : List Entry). BoardShows t.places gs false board) (sym is)
+    (subst (λ (q : Setup). BoardShows q.places es false board) same (subst (λ (b : Bool). BoardShows s.places es b board) none h))
 
 module _ (code : Block) (L : BookName LedgerFixed) (host : Pass EntryItem) (h : List (Stamped EntryItem)) (items : List EntryItem) (k : Kept) (stands : Stands L.fixed.program.script code) (sees : SeesEnd L host)
     (lawful : LedgerIsLegal L.fixed h) (begins : IsPrefix (view_of host).seen h) (whole : items ≡ items_of h) (told : entries_in items ≡ k.entries) where

@@ -9,3 +9,4 @@ mod LedgerClosed
 mod Shut
 mod Released
 mod Crosses
+mod Watched

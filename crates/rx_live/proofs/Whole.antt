@@ -1,5 +1,5 @@
 -- From the books of a run that has begun to the whole run.
-use Rattle.std.specs.Prelude.{◌≡◌, ℕ, ◌+◌, ◌≤◌, List, [], ◌∷◌, ◌++◌, length, All}
+use Rattle.std.specs.Prelude.{◌≡◌, ℕ, ◌+◌, ◌≤◌, false, List, [], ◌∷◌, ◌++◌, length, Option, All}
 use Rattle.std.proofs.Common.{ap, sym, ◌∙◌, subst, arith}
 use Rattle.std.proofs.lemmas.List.{length-map}
 use Rattle.rx_rules.specs.declared.entries.Entry.{Entry}
@@ -10,6 +10,9 @@ use Rattle.rx_rules.specs.Tree.{Tree}
 use Rattle.rx_rules.specs.Run.{Proper, NoRoot, IsRun, in_all}
 use Rattle.rx_nodes.specs.Shape.{Stands}
 use Rattle.rx_check.specs.Checked.{Checked}
+use Rattle.atomic_table.specs.Seated.{TableId}
+use Rattle.rx_monitor.specs.Boards.{Listing}
+use Rattle.rx_objects.specs.Shown.{board_of, BoardShows}
 use Rattle.rx_history.specs.declared.setup.Setup.{Setup}
 use Rattle.rx_history.specs.Setups.{given, to_join}
 use Rattle.rx_store.specs.Kept.{Kept}
@@ -156,3 +159,8 @@ shut_so law code L S P final stores es setup program proper long ends entries sc
 pub stands_so : {X : Type 0} (stands : X → ℕ → Tree → Type 0) (l : X) (s t : Setup) (es : List Entry) → s ≡ t → stands l (to_join (given s) (tree_of s.places es)) (tree_of s.places es)
     → stands l (to_join (given t) (tree_of t.places es)) (tree_of t.places es)
 stands_so stands l s t es same h = subst (λ (q : Setup). stands l (to_join (given q) (tree_of q.places es)) (tree_of q.places es)) same h
+
+-- the board that was given shows the history
+pub shows_so : (r b : Option Listing) (o : Option TableId) (s t : Setup) (es : List Entry) → s ≡ t → o ≡ board_of b → (board_of r ≡ o) × BoardShows s.places es false r
+    → (board_of r ≡ board_of b) × BoardShows t.places es false r
+shows_so r b o s t es same is h = (h.0 ∙ is, subst (λ (q : Setup). BoardShows q.places es false r) same h.1)

@@ -1,3 +1,4 @@
 -- What contracts of private functions say; a reader of the public contracts needs none of it.
 pub mod Stations
 pub mod Ending
+pub mod Looking

@@ -1,5 +1,5 @@
 // The end of a run, in its steps.
-ghost use Rattle.std.specs.Prelude.{◌≡◌, ℕ, ◌≤◌, ◌<◌, ◌^◌, List, All, Some, IfOk, IfSome, length, slice_get};
+ghost use Rattle.std.specs.Prelude.{◌≡◌, ℕ, ◌≤◌, ◌<◌, ◌^◌, false, List, All, Some, IfOk, IfSome, length, slice_get};
 ghost use mathlib.Core.List.{IsPrefix};
 ghost use Rattle.rx_rules.specs.Fold.{tree_of};
 ghost use Rattle.rx_rules.specs.Store.{IsStoreRun, opening_state};
@@ -11,12 +11,14 @@ ghost use Rattle.rx_book.specs.Passes.{view_of, word_of, note_view, note_word};
 ghost use Rattle.rx_parts_book.specs.declared.items.EntryItem.{EntryItem as Item};
 ghost use Rattle.rx_objects.specs.Ledger.{LedgerIsLegal};
 ghost use Rattle.rx_objects.specs.Noted.{AreOfPlaces};
+ghost use Rattle.rx_objects.specs.Shown.{board_of, BoardShows};
 ghost use Rattle.rx_objects.specs.Ending.{entries_at, IsHost, IsMet, IsHeard, IsShut, EachShut};
 ghost use Rattle.rx_live.specs.Inside.Stations.{AreFrom};
 ghost use Rattle.rx_live.specs.Inside.Ending.{SeatsFrom, views_of, IsAnswered, IsReleased, MeetsAt, SeesEnd};
 ghost use Rattle.rx_live.specs.Inside.Ending.{StaysAt, HasSeen, HaveWords, PlacesEnded, ShutsAt, MayBeShut};
 
 use crate::hall::abandon_all;
+use crate::opening::end_board;
 use crate::station::Station;
 use rx_activities::{LedgerPass, Naming};
 use rx_base::{Batch, Gate, NoMemory, PlaceId};
@@ -26,8 +28,10 @@ use rx_counts::CountLedger;
 use rx_finish::FinishLedger;
 use rx_history::{Ask, History, Journal, Journals};
 use rx_ledger::{Keeper, Reply, Request};
+use rx_monitor::BoardWriter;
 use rx_objects::{
-    LedgerObject, LedgerOp, LedgerReply, Mentions, host_is_told, host_may_ask, ledger_op_fits,
+    LedgerObject, LedgerOp, LedgerParts, LedgerReply, Mentions, host_is_told, host_may_ask,
+    ledger_op_fits,
 };
 use rx_parts_book::{EntryItem, EventItem};
 use rx_store::Store;
@@ -85,7 +89,11 @@ pub(crate) fn release<R: Wait>(
         note,
         mentions,
     };
-    let LedgerReply { reply, notes } = ledger.call(rt, host, op);
+    let LedgerReply {
+        reply,
+        notes,
+        shown: _,
+    } = ledger.call(rt, host, op);
     answer_of(reply, notes)
 }
 
@@ -244,29 +252,51 @@ pub(crate) fn meet_worker<N: Naming>(
     }
 }
 
-/// The sixth step: the ledger's book is closed.
+/// What the ledger's book leaves.
+pub(crate) struct Closed {
+    pub(crate) history: History,
+    pub(crate) ledger: CountLedger,
+    pub(crate) board: Option<BoardWriter>,
+}
+
+/// The sixth step: the ledger's book is closed. `None` where there was no memory to show a summary on the board, which is then closed.
 pub(crate) fn close_ledger<R: Wait>(
     rt: &R,
     p: &Program,
     ledger: Book<LedgerObject>,
     host: Pass<EntryItem>,
-) -> (History, CountLedger)
+) -> Option<Closed>
     requires program { ledger.fixed.program ≡ p.now }
     requires host { SeesEnd ledger host }
     ensures reach { (view_of host).reach ≤ length (view_of host).seen }
-    ensures setup { result.0.setup ≡ ledger.fixed.setup }
-    ensures entries { result.0.entries ≡ entries_at (view_of host).seen }
-    ensures few { length result.0.entries ≤ 2 ^ 32 }
-    ensures ledger { ⟦<CountLedger as FinishLedger>⟧.stands result.1
-        (to_join (given ledger.fixed.setup) (tree_of ledger.fixed.setup.places result.0.entries))
-        (tree_of ledger.fixed.setup.places result.0.entries) }
+    ensures setup { IfSome result (λ r. r.history.setup ≡ ledger.fixed.setup) }
+    ensures entries { IfSome result (λ r. r.history.entries ≡ entries_at (view_of host).seen) }
+    ensures few { IfSome result (λ r. length r.history.entries ≤ 2 ^ 32) }
+    ensures ledger { IfSome result (λ r. ⟦<CountLedger as FinishLedger>⟧.stands r.ledger
+        (to_join (given ledger.fixed.setup) (tree_of ledger.fixed.setup.places r.history.entries))
+        (tree_of ledger.fixed.setup.places r.history.entries)) }
+    ensures board { IfSome result (λ r. (board_of r.board ≡ ledger.fixed.board)
+        × BoardShows ledger.fixed.setup.places r.history.entries false r.board) }
 {
     checked(p);
     let object = close_book(rt, ledger, host);
-    let keeper = object.into_keeper();
+    let LedgerParts {
+        keeper,
+        board,
+        late,
+    } = object.into_parts();
+    if late {
+        end_board(rt, board);
+        return None;
+    }
     keeper.is_history();
     is_short(&keeper);
-    keeper.into_history()
+    let (history, ledger) = keeper.into_history();
+    Some(Closed {
+        history,
+        ledger,
+        board,
+    })
 }
 
 // A keeper's entries have numbers of 32 bits. It does nothing when it runs.
@@ -280,6 +310,7 @@ fn is_short(keeper: &Keeper<CountLedger>)
 fn close_book<R: Wait>(rt: &R, ledger: Book<LedgerObject>, host: Pass<EntryItem>) -> LedgerObject
     requires { word_of host ≡ ledger.word }
     ensures fixed { (result.setup ≡ ledger.fixed.setup) × (result.program ≡ ledger.fixed.program) }
+    ensures board { result.board ≡ ledger.fixed.board }
     ensures closed { (h : List (Stamped Item)) × (result.entries ≡ items_of h) × LedgerIsLegal ledger.fixed h
         × IsPrefix (view_of host).seen h × ((view_of host).reach ≤ length h) }
 {

@@ -1,24 +1,29 @@
 // A run by several workers, from its opening to its end.
-ghost use Rattle.std.specs.Prelude.{◌≡◌, ◌≤◌, ◌<◌, [], length, IfOk, IfSome};
+ghost use Rattle.std.specs.Prelude.{◌≡◌, ◌≤◌, ◌<◌, ◌+◌, ◌^◌, false, [], length, IfOk, IfSome};
 ghost use Rattle.rx_rules.specs.Code.{Block};
 ghost use Rattle.rx_rules.specs.Fold.{opening, tree_of};
 ghost use Rattle.rx_rules.specs.Run.{Proper, IsRun, in_all};
+ghost use Rattle.rx_rules.specs.Terms.{Empty, items, no_vars};
 ghost use Rattle.rx_nodes.specs.Shape.{Stands};
+ghost use Rattle.rx_control.specs.Stands.{StandsFor};
 ghost use Rattle.rx_book.specs.Passes.{view_of, word_of};
 ghost use Rattle.rx_objects.specs.Ledger.{LedgerIsLegal};
 ghost use Rattle.rx_objects.specs.Ending.{RootIsTold};
+ghost use Rattle.rx_objects.specs.Shown.{board_of, BoardShows};
 ghost use Rattle.rx_history.specs.Events.{events_of};
 ghost use Rattle.rx_history.specs.Setups.{given, to_join};
+ghost use Rattle.rx_live.specs.Inside.Looking.{HaveLooked};
 ghost use Rattle.rx_live.specs.Inside.Stations.{IsHall};
 ghost use Rattle.rx_live.specs.Inside.Ending.{IsMain, MayRelease, RunEnds, SeatsFrom, SeesEnd};
 
 use crate::ending::{
-    Released, close_ledger, close_places, close_stores, meet_notes, meet_worker, meet_workers,
-    release,
+    Closed, Released, close_ledger, close_places, close_stores, meet_notes, meet_worker,
+    meet_workers, release,
 };
 use crate::hall::Hall;
-use crate::opening::{Places, open_ledger, open_words};
+use crate::opening::{Places, end_board, open_ledger, open_words};
 use crate::tally::Tally;
+use crate::watching::{Looked, Looker, beside};
 use crate::worker::Worker;
 use rx_activities::{Activity, LedgerPass, Naming};
 use rx_base::{Gate, NoGate, NoMemory, PlaceId};
@@ -28,6 +33,7 @@ use rx_control::Control;
 use rx_counts::CountLedger;
 use rx_finish::FinishLedger;
 use rx_history::{History, Journals, Setup};
+use rx_monitor::BoardWriter;
 use rx_objects::LedgerObject;
 use rx_parts_book::{EntryItem, EventItem};
 use rx_store::Store;
@@ -59,13 +65,60 @@ pub fn run_live<G: Gate + Sync, R: Threads + Wait + Sync>(
     ensures ledger { IfOk result (λ r. ⟦<CountLedger as FinishLedger>⟧.stands r.2
         (to_join (given setup.now) (tree_of setup.now.places r.0.entries)) (tree_of setup.now.places r.0.entries)) }
 {
+    let Ran {
+        history,
+        journals,
+        ledger,
+        board,
+        looked: _,
+    } = run_with(rt, alloc, p, setup, workers, ledger, gate, None, None)?;
+    end_board(rt, board);
+    Ok((history, journals, ledger))
+}
+
+/// A run, the board on which it was shown, if it was, and what its reader has done.
+pub(crate) struct Ran {
+    pub(crate) history: History,
+    pub(crate) journals: Journals,
+    pub(crate) ledger: CountLedger,
+    pub(crate) board: Option<BoardWriter>,
+    pub(crate) looked: Option<Looked>,
+}
+
+/// The same with a board, if there is one, that shows the history as it grows, and with a reader beside the workers. After an `Err` the
+/// board is closed.
+pub(crate) fn run_with<G: Gate + Sync, R: Threads + Wait + Sync>(
+    rt: &R,
+    alloc: Global,
+    p: &Program,
+    setup: &Setup,
+    workers: u32,
+    ledger: CountLedger,
+    gate: &G,
+    board: Option<BoardWriter>,
+    looker: Option<Looker>,
+) -> Result<Ran, NoMemory>
+    requires proper { Proper (given setup.now) }
+    requires workers { (1 ≤ workers) × (workers ≤ 8) }
+    requires opened { ⟦<CountLedger as FinishLedger>⟧.stands ledger (length setup.now.joins) (opening setup.now.places) }
+    requires board { BoardShows setup.now.places [] false board }
+    ensures run { IfOk result (λ r. (code : Block) → Stands p.now.script code
+        → IsRun code (given setup.now) r.history.entries (events_of r.journals)) }
+    ensures setup { IfOk result (λ r. given r.history.setup ≡ given setup.now) }
+    ensures ledger { IfOk result (λ r. ⟦<CountLedger as FinishLedger>⟧.stands r.ledger
+        (to_join (given setup.now) (tree_of setup.now.places r.history.entries)) (tree_of setup.now.places r.history.entries)) }
+    ensures board { IfOk result (λ r. (board_of r.board ≡ board_of board)
+        × BoardShows setup.now.places r.history.entries false r.board) }
+    ensures looked { IfOk result (λ r. HaveLooked looker r.looked) }
+{
     checked(p);
     rx_objects::stamps_before_death();
     rx_objects::books_make_run();
-    let places = setup.places as usize + setup.joins.len();
-    let words = open_words(alloc, places)?;
-    let control = Control::main(alloc, p, setup.places)?;
-    let (book, mut pass, ticket) = open_ledger(rt, alloc, p, setup, ledger, &words)?;
+    let Ok((control, words)) = prepare(alloc, p, setup) else {
+        end_board(rt, board);
+        return Err(NoMemory);
+    };
+    let (book, mut pass, ticket) = open_ledger(rt, alloc, p, setup, ledger, &words, board)?;
     let Ok(mut host) = book.split(&mut pass) else {
         unreachable!()
     };
@@ -76,15 +129,48 @@ pub fn run_live<G: Gate + Sync, R: Threads + Wait + Sync>(
         words,
     };
     let done = run_named::<Brand, G, R>(
-        rt, alloc, p, workers, gate, setup.heap, &book, &mut host, main,
+        rt, alloc, p, workers, gate, setup.heap, &book, &mut host, main, looker,
     );
-    let Some(stores) = done else {
-        let _object = book.abandon(rt);
+    let Some(Ends { stores, looked }) = done else {
+        let _keeper = book.abandon(rt).into_keeper(rt);
         return Err(NoMemory);
     };
-    let (history, ledger) = close_ledger(rt, p, book, host);
-    let journals = close_stores(alloc, &history, stores)?;
-    Ok((history, journals, ledger))
+    let Some(closed) = close_ledger(rt, p, book, host) else {
+        return Err(NoMemory);
+    };
+    let Closed {
+        history,
+        ledger,
+        board,
+    } = closed;
+    let Ok(journals) = close_stores(alloc, &history, stores) else {
+        end_board(rt, board);
+        return Err(NoMemory);
+    };
+    Ok(Ran {
+        history,
+        journals,
+        ledger,
+        board,
+        looked,
+    })
+}
+
+// The main activity's control, and the words of the places' books.
+fn prepare(
+    alloc: Global,
+    p: &Program,
+    setup: &Setup,
+) -> Result<(Control, Vec<BareBook<EventItem>>), NoMemory>
+    requires few { length setup.now.joins < 2 ^ 32 }
+    ensures control { IfOk result (λ t. (code : Block) → Stands p.now.script code
+        → StandsFor p.now.script t.0 (items code [] Empty) × (t.0.vars ≡ no_vars setup.now.places)) }
+    ensures words { IfOk result (λ t. length t.1.items ≡ setup.now.places + length setup.now.joins) }
+{
+    let places = setup.places as usize + setup.joins.len();
+    let words = open_words(alloc, places)?;
+    let control = Control::main(alloc, p, setup.places)?;
+    Ok((control, words))
 }
 
 // What a run begins with beside the books: the main activity's control, ticket and pass of the ledger's book, and the words of the
@@ -96,8 +182,13 @@ pub(crate) struct Main {
     words: Vec<BareBook<EventItem>>,
 }
 
-// The run between the opening and the closing of the ledger's book: what is left of it are the stores of all places. `None` is want of
-// memory.
+/// What is left of a run beside the ledger's book: the stores of all places, and what its reader has done.
+struct Ends {
+    stores: Vec<Store>,
+    looked: Option<Looked>,
+}
+
+// The run between the opening and the closing of the ledger's book. `None` is want of memory.
 fn run_named<'a, N: Naming + Send + Sync, G: Gate + Sync, R: Threads + Wait + Sync>(
     rt: &R,
     alloc: Global,
@@ -108,7 +199,8 @@ fn run_named<'a, N: Naming + Send + Sync, G: Gate + Sync, R: Threads + Wait + Sy
     ledger: &'a Book<LedgerObject>,
     host: &mut Pass<EntryItem>,
     main: Main,
-) -> Option<Vec<Store>>
+    looker: Option<Looker>,
+) -> Option<Ends>
     requires workers { workers ≤ 8 }
     requires ledger { ledger.now ≡ N.ledger }
     requires program { ledger.now.fixed.program ≡ p.now }
@@ -117,7 +209,8 @@ fn run_named<'a, N: Naming + Send + Sync, G: Gate + Sync, R: Threads + Wait + Sy
     requires host { MayRelease N.ledger host.old × ((view_of host.old).seen ≡ []) × ((view_of host.old).dead ≡ 0) }
     requires main { IsMain N.ledger main.control main.ticket main.pass main.words.items }
     ensures own { word_of host.new ≡ N.ledger.word }
-    ensures ends { IfSome result (λ stores. RunEnds N.ledger host.new stores.items) }
+    ensures ends { IfSome result (λ e. RunEnds N.ledger host.new e.stores.items) }
+    ensures looked { IfSome result (λ e. HaveLooked looker e.looked) }
 {
     let Main {
         control,
@@ -144,7 +237,7 @@ fn run_named<'a, N: Naming + Send + Sync, G: Gate + Sync, R: Threads + Wait + Sy
         tally: Tally::of_one(),
     };
     hall.begin(rt, activity);
-    run_all(rt, alloc, hall, gate, workers, host, seats)
+    run_all(rt, alloc, hall, gate, workers, host, seats, looker)
 }
 
 // The run from its first turn to the closing of the places' books.
@@ -156,7 +249,8 @@ fn run_all<'a, N: Naming + Send + Sync, G: Gate + Sync, R: Threads + Wait + Sync
     workers: u32,
     host: &mut Pass<EntryItem>,
     seats: Vec<Pass<EventItem>>,
-) -> Option<Vec<Store>>
+    looker: Option<Looker>,
+) -> Option<Ends>
     requires workers { workers ≤ 8 }
     requires hall { IsHall N.ledger hall.ledger.now hall.program.now hall.stations.items }
     requires some { 0 < length hall.stations.items }
@@ -164,9 +258,10 @@ fn run_all<'a, N: Naming + Send + Sync, G: Gate + Sync, R: Threads + Wait + Sync
     requires all { length hall.stations.items ≡ in_all (given N.ledger.fixed.setup) }
     requires host { MayRelease N.ledger host.old }
     ensures own { word_of host.new ≡ N.ledger.word }
-    ensures ends { IfSome result (λ stores. RunEnds N.ledger host.new stores.items) }
+    ensures ends { IfSome result (λ e. RunEnds N.ledger host.new e.stores.items) }
+    ensures looked { IfSome result (λ e. HaveLooked looker e.looked) }
 {
-    let kept = spread(rt, alloc, &hall, gate, workers);
+    let (kept, looked) = beside(rt, alloc, &hall, gate, workers, looker);
     let ended = go_on_alone(rt, alloc, &hall, host, &seats);
     let Some(ended) = ended else {
         hall.abandon(rt);
@@ -176,7 +271,8 @@ fn run_all<'a, N: Naming + Send + Sync, G: Gate + Sync, R: Threads + Wait + Sync
         hall.abandon(rt);
         return None;
     };
-    end_all(rt, alloc, hall, host, seats, kept, ended)
+    let stores = end_all(rt, alloc, hall, host, seats, kept, ended)?;
+    Some(Ends { stores, looked })
 }
 
 // The run from the root's release to the closing of the places' books.
@@ -211,8 +307,8 @@ fn end_all<'a, N: Naming, G: Gate + Sync, R: Wait>(
     Some(stores)
 }
 
-// The workers, each on a thread of its own where one can be made, and what each has kept.
-fn spread<'a, N: Naming + Send + Sync, G: Gate + Sync, R: Threads + Wait + Sync>(
+/// The workers, each on a thread of its own where one can be made, and what each has kept.
+pub(crate) fn spread<'a, N: Naming + Send + Sync, G: Gate + Sync, R: Threads + Wait + Sync>(
     rt: &R,
     alloc: Global,
     hall: &Hall<'a, N, G>,

@@ -1,11 +1,12 @@
 // The books of a run, before its first entry.
-ghost use Rattle.std.specs.Prelude.{◌≡◌, ◌≤◌, ◌<◌, true, [], ◌∷◌, ◌++◌, length, List, IfOk, IfSome, IsSomeAnd, Some, slice_get};
+ghost use Rattle.std.specs.Prelude.{◌≡◌, ◌≤◌, ◌<◌, true, false, [], ◌∷◌, ◌++◌, length, List, IfOk, IfSome, IsSomeAnd, Some, slice_get};
 ghost use Rattle.rx_rules.specs.Fold.{opening};
 ghost use Rattle.rx_rules.specs.Run.{Proper};
 ghost use Rattle.rx_history.specs.Setups.{given};
 ghost use Rattle.rx_book.specs.Calls.{IsFresh};
 ghost use Rattle.rx_book.specs.Passes.{view_of, word_of};
 ghost use Rattle.rx_ledger.specs.Answering.{main_caller};
+ghost use Rattle.rx_objects.specs.Shown.{board_of, BoardShows};
 ghost use Rattle.rx_live.specs.Inside.Stations.{AreFrom, IsPlaceBook};
 ghost use Rattle.rx_live.specs.Inside.Ending.{SeatsFrom, IsFirst, ArePlacesWith};
 
@@ -19,6 +20,7 @@ use rx_counts::CountLedger;
 use rx_finish::FinishLedger;
 use rx_history::Setup;
 use rx_ledger::Keeper;
+use rx_monitor::BoardWriter;
 use rx_objects::{LedgerObject, PlaceObject, objects_open};
 use rx_parts_book::{EntryItem, EventItem};
 use rx_store::Store;
@@ -37,7 +39,16 @@ pub(crate) fn open_words(alloc: Global, places: usize) -> Result<Vec<BareBook<Ev
     Ok(words)
 }
 
-/// The ledger's book, the pass of its first caller, and the ticket of the main activity.
+/// Closes a board, if there is one.
+pub(crate) fn end_board<R: Wait>(rt: &R, board: Option<BoardWriter>) {
+    match board {
+        Some(board) => board.close(rt),
+        None => {}
+    }
+}
+
+/// The ledger's book with its board, if it has one, the pass of its first caller, and the ticket of the main activity. After an `Err`
+/// the board is closed.
 pub(crate) fn open_ledger<R: Wait>(
     rt: &R,
     alloc: Global,
@@ -45,10 +56,13 @@ pub(crate) fn open_ledger<R: Wait>(
     setup: &Setup,
     ledger: CountLedger,
     words: &Vec<BareBook<EventItem>>,
+    board: Option<BoardWriter>,
 ) -> Result<(Book<LedgerObject>, Pass<EntryItem>, Ticket<Live>), NoMemory>
     requires proper { Proper (given setup.now) }
     requires opened { ⟦<CountLedger as FinishLedger>⟧.stands ledger (length setup.now.joins) (opening setup.now.places) }
+    requires board { BoardShows setup.now.places [] false board }
     ensures program { IfOk result (λ t. t.0.fixed.program ≡ p.now) }
+    ensures board { IfOk result (λ t. t.0.fixed.board ≡ board_of board) }
     ensures setup { IfOk result (λ t. t.0.fixed.setup ≡ setup.now) }
     ensures places { IfOk result (λ t. t.0.fixed.places ≡ words.now.items) }
     ensures own { IfOk result (λ t. word_of t.1 ≡ t.0.word) }
@@ -57,14 +71,16 @@ pub(crate) fn open_ledger<R: Wait>(
 {
     objects_open();
     let Ok((keeper, ticket)) = Keeper::open(alloc, ledger, setup) else {
+        end_board(rt, board);
         return Err(NoMemory);
     };
-    let object = LedgerObject::open(alloc, keeper, p, words);
+    let object = LedgerObject::open(alloc, keeper, p, words, board);
     match Book::open(rt, alloc, object) {
         Ok((book, pass)) => Ok((book, pass, ticket)),
-        Err(_) => {
+        Err((object, refused)) => {
             ticket.spent();
-            Err(NoMemory)
+            let _keeper = object.into_keeper(rt);
+            Err(refused)
         }
     }
 }

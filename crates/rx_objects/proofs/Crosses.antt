@@ -12,6 +12,7 @@ use Rattle.rx_book.proofs.passes.Note.TheSendSync as note
 use Rattle.rx_ledger.proofs.asks.Request.TheSendSync as request
 use Rattle.rx_ledger.proofs.keeper.Keeper.TheSendSync as keeper
 use Rattle.rx_counts.proofs.ledger.CountLedger.TheSendSync as counts
+use Rattle.rx_monitor.proofs.board.BoardWriter.TheSendSync as writer
 use Rattle.rx_store.proofs.store.Store.TheSendSync as store
 use Rattle.rx_objects.proofs.trail.Trail.TheLaws.TheKnot as trail
 use Rattle.rx_objects.specs.contracts.ledger.LedgerObject as LedgerObject
@@ -22,7 +23,7 @@ pub ledger_op_send : IsSend LedgerOp.the_row
 ledger_op_send = search (request.the_field_send, option.the_field_send, note.the_send, crosses, sendable) depth 60 fits 20000
 
 pub ledger_object_send : IsSend LedgerObject.the_row
-ledger_object_send = search (keeper.the_send, counts.the_send, place.the_field_send, note.the_send, heap.the_field_send, trail.crosses, crosses, sendable) depth 60 fits 20000
+ledger_object_send = search (keeper.the_send, counts.the_send, place.the_field_send, note.the_send, option.the_field_send, writer.the_send, heap.the_field_send, trail.crosses, crosses, sendable) depth 60 fits 20000
 
 pub place_object_send : (a : NamedLft) (G : RattleType) → IsSync G → IsSend (PlaceObject.the_row a G)
 place_object_send a G y = search (place.the_field_send, store.the_send, book.the_sync, ledger_object_send, option.the_field_send, note.the_send, trail.crosses, crosses, sendable) depth 60 fits 20000

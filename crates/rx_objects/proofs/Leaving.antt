@@ -1,5 +1,5 @@
 -- What a call of the ledger's object leaves.
-use Rattle.std.specs.Prelude.{◌≡◌, ℕ, suc, ◌&&◌, Bool, true, false, MatchBool, List, [], ◌∷◌, ◌++◌, map, drop, length, refl}
+use Rattle.std.specs.Prelude.{◌≡◌, ℕ, suc, ◌&&◌, Bool, true, false, MatchBool, List, [], ◌∷◌, ◌++◌, map, drop, length, Option, refl}
 use Rattle.std.proofs.Common.{ap, sym, ◌∙◌, subst}
 use Rattle.std.proofs.lemmas.List.{append-nil, map-append}
 use Rattle.std.proofs.lemmas.List.Elements.{All-nil}
@@ -38,7 +38,7 @@ entries_length : (xs : List EntryItem) → length (entries_in xs) ≡ length xs
 entries_length [] = refl
 entries_length (x ∷ xs) = ap suc (entries_length xs)
 
-module _ (program : Checked) (places : List TableId) (k : Kept) (notes : Notes) (items : List EntryItem) (op : LedgerOp) (r : Reply) (b : Bool) (k' : Kept)
+module _ (program : Checked) (places : List TableId) (board : Option TableId) (k : Kept) (notes : Notes) (items : List EntryItem) (op : LedgerOp) (r : Reply) (b : Bool) (k' : Kept)
     (s : Stepped k op.request r b k') (kept : LedgerKeeps places k.entries notes items) (suits : NoteSuits places items op.request.ticket (map event_named (events_new op.mentions)) op.note) where
   abbrev noted : Notes
   noted = with_note notes (asked_place op.request.ticket) op.note
@@ -86,7 +86,7 @@ module _ (program : Checked) (places : List TableId) (k : Kept) (notes : Notes) 
   frees_is = s.freed_is ∙ ap (λ (c : Bool). is_root_done r && c) (sym (some_mapped (item_for op.mentions) s.new))
 
   pub does : (reply : LedgerReply) → reply.reply ≡ r → (left : Notes) → MatchBool b ((reply.notes.items ≡ noted) × (left ≡ [])) ((reply.notes.items ≡ []) × (left ≡ noted))
-      → LedgerDoes (record { program = program; setup = k.setup; places = places }) items op reply added
+      → LedgerDoes (record { program = program; setup = k.setup; places = places; board = board }) items op reply added
   does reply is left h =
       record {
         behind = k.behind;
@@ -106,9 +106,9 @@ module _ (program : Checked) (places : List TableId) (k : Kept) (notes : Notes) 
       whole = s.entries ∙ ap (λ (es : List Entry). es ++ s.new) (sym kept.same)
 
 -- where there is no room for the note
-pub refused : (program : Checked) (places : List TableId) (k : Kept) (notes : Notes) (items : List EntryItem) (op : LedgerOp) (reply : LedgerReply) → LedgerKeeps places k.entries notes items
-    → reply.reply ≡ NoMemory op.request → reply.notes.items ≡ [] → LedgerDoes (record { program = program; setup = k.setup; places = places }) items op reply []
-refused program places k notes items op reply kept is none =
+pub refused : (program : Checked) (places : List TableId) (board : Option TableId) (k : Kept) (notes : Notes) (items : List EntryItem) (op : LedgerOp) (reply : LedgerReply) → LedgerKeeps places k.entries notes items
+    → reply.reply ≡ NoMemory op.request → reply.notes.items ≡ [] → LedgerDoes (record { program = program; setup = k.setup; places = places; board = board }) items op reply []
+refused program places board k notes items op reply kept is none =
     record {
       behind = k.behind;
       behind' = k.behind;

@@ -11,3 +11,5 @@ pub mod Begins
 pub mod Ending
 pub mod Crosses
 pub mod Scene
+pub mod Dying
+pub mod Shows

@@ -1,5 +1,5 @@
 -- The ledger's object: which of its histories are legal, which operations fit one, and what a call does.
-use Rattle.std.specs.Prelude.{◌≡◌, ℕ, ◌+◌, ◌<◌, ◌^◌, Bool, true, false, ◌&&◌, List, [], ◌∷◌, ◌++◌, map, length}
+use Rattle.std.specs.Prelude.{◌≡◌, ℕ, ◌+◌, ◌<◌, ◌^◌, Bool, true, false, ◌&&◌, List, [], ◌∷◌, ◌++◌, map, length, Option}
 use Rattle.rx_rules.specs.declared.entries.Entry.{Entry}
 use Rattle.rx_rules.specs.declared.entries.Entry.TheVariants.{Root}
 use Rattle.rx_rules.specs.Code.{Block}
@@ -35,6 +35,7 @@ pub record LedgerView : Type 0 where
   pub setup : Setup
   pub program : Checked
   pub places : List TableId
+  pub board : Option TableId
 
 -- the entry is by the host, if it is the root's release
 abbrev pub IsHosts : List ℕ → Entry → Type 0

@@ -2,6 +2,7 @@ pub use Rattle.atomic_table.specs.Seated
 pub mod Mentioned
 pub mod Asking
 pub mod Noted
+pub mod Shown
 pub mod Ledger
 pub mod Place
 pub mod Laws

@@ -1,11 +1,14 @@
-// The ledger's object: the keeper, and the notes of places' books that have the events which its entries name.
-ghost use Rattle.std.specs.Prelude.{◌≡◌, ◌+◌, ◌<◌, ◌^◌, ◌&&◌, [], true, MatchBool, nat_lt};
+// The ledger's object: the keeper, the notes of places' books that have the events which its entries name, and the board on which it
+// shows its history as that grows.
+ghost use Rattle.std.specs.Prelude.{◌≡◌, ◌+◌, ◌<◌, ◌^◌, ◌&&◌, ◌||◌, not, [], true, false, MatchBool, nat_lt};
 ghost use Rattle.rx_objects.specs.Noted.{asked_place, with_note};
 ghost use Rattle.rx_objects.specs.Mentioned.{entries_in};
 ghost use Rattle.rx_objects.specs.Ledger.{MayBeAsked, is_root_done};
+ghost use Rattle.rx_objects.specs.Shown.{board_of, BoardShows};
 ghost use Rattle.rx_objects.specs.Inside.Stepping.{Stepped};
 
 use crate::mentions::Mentions;
+use crate::showing::{BoardName, show_new};
 use crate::trail::Trail;
 use rx_base::{PlaceId, PlaceSet};
 use rx_book::{BareBook, Note, Object};
@@ -13,6 +16,7 @@ use rx_check::Program;
 use rx_finish::place_of;
 use rx_history::Setup;
 use rx_ledger::{CountLedger, Keeper, Reply, Request};
+use rx_monitor::BoardWriter;
 use rx_parts_book::{EntryItem, EventItem};
 use rx_ticket::AnyTicket;
 use std::alloc::Global;
@@ -33,6 +37,8 @@ pub struct LedgerOp {
 pub struct LedgerReply {
     pub reply: Reply,
     pub notes: Vec<(PlaceId, Note<EventItem>)>,
+    /// False where entries were appended and there was no memory to show so on the board.
+    pub shown: bool,
 }
 
 /// One call: the keeper after it, and what its operation mentioned. It has no bytes.
@@ -42,18 +48,22 @@ pub struct LedgerCall {
     pub mentions: Mentions,
 }
 
-/// What is fixed of the ledger's object: what is run, and the words of the places' books. No value of it is made.
+/// What is fixed of the ledger's object: what is run, the words of the places' books, and its board. No value of it is made.
 pub struct LedgerFixed {
     pub program: Program,
     pub setup: Setup,
     pub places: LinkedList<BareBook<EventItem>>,
+    pub board: Option<BoardName>,
 }
 
-/// The keeper with the notes that it keeps until the root's release.
-#[derive(Drop)]
+/// The keeper with the notes that it keeps until the root's release, and the board on which it shows a summary of its entries after
+/// each call that appends some. It can't be dropped, as its board can't.
 pub struct LedgerObject {
     pub keeper: Keeper<CountLedger>,
     pub notes: Vec<(PlaceId, Note<EventItem>)>,
+    pub board: Option<BoardWriter>,
+    // Whether there was no memory for a summary.
+    late: bool,
     calls: Trail<LedgerCall>,
     program: Snapshot<Program>,
     places: Snapshot<Vec<BareBook<EventItem>>>,
@@ -63,6 +73,7 @@ pub struct LedgerObject {
 impl Model for LedgerObject {
     ghost use Rattle.rx_objects.specs.Mentioned.{items_called};
     ghost use Rattle.rx_objects.specs.Ledger.{LedgerView, LedgerKeeps};
+    ghost use Rattle.rx_objects.specs.Shown.{board_of, BoardShows};
 
     ghost Value = { LedgerView };
 
@@ -71,9 +82,11 @@ impl Model for LedgerObject {
       setup = s.keeper.setup;
       program = s.program.value;
       places = s.places.value.items;
+      board = board_of s.board;
     } };
 
-    ghost invariant = { λ s. LedgerKeeps s.places.value.items s.keeper.entries s.notes.items (items_called s.calls) };
+    ghost invariant = { λ s. LedgerKeeps s.places.value.items s.keeper.entries s.notes.items (items_called s.calls)
+        × BoardShows s.keeper.setup.places s.keeper.entries s.late s.board };
 }
 
 // The place at which the task is that asks, or from which it travels; 0 of the host.
@@ -138,6 +151,13 @@ fn is_root_done(reply: &Reply) -> bool
     matches!(reply, Reply::RootDone)
 }
 
+// Whether there was no memory for a summary, of this call or an earlier one.
+fn is_late(late: bool, shown: bool) -> bool
+    ensures { result ≡ (late || not shown) }
+{
+    late || !shown
+}
+
 // Hands all notes out, or none.
 fn hand_out(
     notes: &mut Vec<(PlaceId, Note<EventItem>)>,
@@ -154,21 +174,39 @@ fn hand_out(
     }
 }
 
+/// What is left of a ledger's object, once its notes are let go.
+pub struct LedgerParts {
+    pub keeper: Keeper<CountLedger>,
+    pub board: Option<BoardWriter>,
+    /// Whether there was no memory for a summary.
+    pub late: bool,
+}
+
 impl LedgerObject {
-    /// The object of a keeper that has no entries, without notes. What is fixed of it is the program, the keeper's setup and the words
-    /// of the places' books. It takes no memory.
+    /// The object of a keeper that has no entries, without notes, and with a board that shows so, if with one. What is fixed of it is
+    /// the program, the keeper's setup, the words of the places' books and the board. It takes no memory.
     pub fn open(
         alloc: Global,
         keeper: Keeper<CountLedger>,
         program: &Program,
         places: &Vec<BareBook<EventItem>>,
+        board: Option<BoardWriter>,
     ) -> LedgerObject
-        requires { keeper.entries ≡ [] }
-        ensures { result ≡ record { entries = []; setup = keeper.setup; program = program.now; places = places.now.items } }
+        requires empty { keeper.entries ≡ [] }
+        requires board { BoardShows keeper.setup.places [] false board }
+        ensures { result ≡ record {
+          entries = [];
+          setup = keeper.setup;
+          program = program.now;
+          places = places.now.items;
+          board = board_of board;
+        } }
     {
         LedgerObject {
             keeper,
             notes: Vec::new(alloc),
+            board,
+            late: false,
             calls: Trail::Empty,
             program: Snapshot::of(program),
             places: Snapshot::of(places),
@@ -176,19 +214,45 @@ impl LedgerObject {
         }
     }
 
-    /// The keeper, whose entries are those of the items. The notes are let go. It takes no memory.
-    pub fn into_keeper(self) -> Keeper<CountLedger>
-        ensures entries { entries_in self.entries ≡ result.entries }
-        ensures setup { result.setup ≡ self.setup }
+    /// The keeper, whose entries are those of the items, and the board, which shows them, the last summary being that of all of them
+    /// unless there was no memory for one. The notes are let go. It takes no memory.
+    pub fn into_parts(self) -> LedgerParts
+        ensures entries { entries_in self.entries ≡ result.keeper.entries }
+        ensures setup { result.keeper.setup ≡ self.setup }
+        ensures board { board_of result.board ≡ self.board }
+        ensures shown { BoardShows result.keeper.setup.places result.keeper.entries result.late result.board }
     {
         let LedgerObject {
             keeper,
             notes: _,
+            board,
+            late,
             calls: _,
             program: _,
             places: _,
             alloc: _,
         } = self;
+        LedgerParts {
+            keeper,
+            board,
+            late,
+        }
+    }
+
+    /// The keeper, whose entries are those of the items. The board is closed, and the notes are let go. It takes no memory.
+    pub fn into_keeper<R: Wait>(self, rt: &R) -> Keeper<CountLedger>
+        ensures entries { entries_in self.entries ≡ result.entries }
+        ensures setup { result.setup ≡ self.setup }
+    {
+        let LedgerParts {
+            keeper,
+            board,
+            late: _,
+        } = self.into_parts();
+        match board {
+            Some(board) => board.close(rt),
+            None => {}
+        }
         keeper
     }
 }
@@ -204,7 +268,7 @@ impl Object for LedgerObject {
 
     ghost use Rattle.rx_objects.specs.Ledger.{LedgerDoes, LedgerIsLegal, LedgerFits};
 
-    ghost fixed = { λ s. record { program = s.program; setup = s.setup; places = s.places } };
+    ghost fixed = { λ s. record { program = s.program; setup = s.setup; places = s.places; board = s.board } };
 
     ghost entries = { λ s. s.entries };
 
@@ -214,7 +278,7 @@ impl Object for LedgerObject {
 
     ghost fits = { LedgerFits };
 
-    fn apply<R: Wait>(&mut self, _rt: &R, op: LedgerOp) -> LedgerReply {
+    fn apply<R: Wait>(&mut self, rt: &R, op: LedgerOp) -> LedgerReply {
         let LedgerOp {
             request,
             note,
@@ -225,8 +289,10 @@ impl Object for LedgerObject {
             return LedgerReply {
                 reply: Reply::NoMemory { request },
                 notes: Vec::new(self.alloc),
+                shown: true,
             };
         }
+        let before = self.keeper.len();
         let (reply, freed) = answer(&mut self.keeper, request);
         let notes = hand_out(&mut self.notes, self.alloc, freed);
         self.calls = Trail::After(
@@ -236,7 +302,20 @@ impl Object for LedgerObject {
                 mentions,
             },
         );
-        LedgerReply { reply, notes }
+        let shown = show_new(
+            rt,
+            self.alloc,
+            &mut self.board,
+            &self.keeper,
+            before,
+            self.late,
+        );
+        self.late = is_late(self.late, shown);
+        LedgerReply {
+            reply,
+            notes,
+            shown,
+        }
     }
 
     fn len(&self) -> u32 {

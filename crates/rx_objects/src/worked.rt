@@ -236,12 +236,13 @@ fn open_ledger<R: Wait>(
     let counts = CountLedger::open_for(alloc, setup.places, setup.joins.len() as u8)?;
     match Keeper::open(alloc, counts, setup) {
         Ok((keeper, ticket)) => {
-            let object = LedgerObject::open(alloc, keeper, program, words);
+            let object = LedgerObject::open(alloc, keeper, program, words, None);
             match Book::open(rt, alloc, object) {
                 Ok((book, pass)) => Ok((book, pass, ticket)),
-                Err(_) => {
+                Err((object, refused)) => {
                     ticket.spent();
-                    Err(NoMemory)
+                    object.into_keeper(rt);
+                    Err(refused)
                 }
             }
         }
@@ -281,7 +282,11 @@ fn open_place<'a>(
 
 // Ends what a reply holds, and tells whether a finish was opened and at which place the root's release has to wait for a task.
 fn told(answer: LedgerReply) -> (bool, Option<PlaceId>, usize) {
-    let LedgerReply { reply, notes } = answer;
+    let LedgerReply {
+        reply,
+        notes,
+        shown: _,
+    } = answer;
     let opened = matches!(&reply, Reply::Opened { .. });
     let place = match &reply {
         Reply::NotYet { place, request: _ } => Some(*place),
@@ -395,12 +400,12 @@ fn ledger_scene<R: Abort + Wait>(
                     dead,
                     ..seen
                 },
-                object.into_keeper().len(),
+                object.into_keeper(rt).len(),
             )),
-            Err((book, _, _)) => Ok((seen, book.abandon(rt).into_keeper().len())),
+            Err((book, _, _)) => Ok((seen, book.abandon(rt).into_keeper(rt).len())),
         },
         Err(refused) => {
-            ledger.abandon(rt);
+            ledger.abandon(rt).into_keeper(rt);
             Err(refused)
         }
     }
@@ -491,7 +496,7 @@ fn place_scene<R: Abort + Wait>(
     let (ledger, pass, ticket) = open_ledger(rt, alloc, program, &setup, &Vec::new(alloc))?;
     ticket.spent();
     let seen = at_place(rt, alloc, program, &ledger, pass);
-    ledger.abandon(rt);
+    ledger.abandon(rt).into_keeper(rt);
     seen
 }
 

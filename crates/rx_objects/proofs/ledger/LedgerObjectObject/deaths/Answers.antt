@@ -10,5 +10,5 @@ use Rattle.rx_objects.proofs.ledger.LedgerObjectObject.deaths.Goals as goal
 pub returns : goal.returns
 returns c = λ p h.
     c.deaths.ensures p h
-    ∙ (ap (dies_in p) (sym c.self.invariant.same)
+    ∙ (ap (dies_in p) (sym c.self.invariant.0.same)
     ∙ (deaths_same p h (items_called c.self.inside.calls) ∙ ap (λ v. has_death (λ (x : EntryItem). place_shown x.entry) p v.entries) c.self.view_is))

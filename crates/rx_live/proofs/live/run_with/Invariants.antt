@@ -1,4 +1,4 @@
-use Rattle.rx_live.proofs.live.run_live.Given as goal
+use Rattle.rx_live.proofs.live.run_with.Given as goal
 
 abbrev pub ghosts-run_named : goal.ghosts-run_named
 ghosts-run_named g a = record { ledger = a.ledger.now }

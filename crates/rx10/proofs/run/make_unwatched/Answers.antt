@@ -4,7 +4,7 @@ use Rattle.rx_history.specs.Events.{events_of}
 use Rattle.rx_history.specs.Setups.{given}
 use Rattle.rx_trace.specs.Text.{trace_text}
 use Rattle.rx10.specs.Live.{IsLawful}
-use Rattle.rx10.proofs.run.make_live.Goals as goal
+use Rattle.rx10.proofs.run.make_unwatched.Goals as goal
 
 pub ends_clean-requires : goal.ends_clean-requires
 ends_clean-requires g c =

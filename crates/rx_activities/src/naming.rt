@@ -15,7 +15,7 @@ pub trait Naming {
 }
 
 impl Naming for Brand {
-    ghost use Rattle.std.specs.Prelude.{[]};
+    ghost use Rattle.std.specs.Prelude.{[], None};
 
     ghost ledger = { record {
       word = record { words = 0; slots = 0; views_name = 0; atom = 0; block = 0; offset = 0; slot_names = [] };
@@ -23,6 +23,7 @@ impl Naming for Brand {
         program = record { script = record { stmts = []; exprs = []; blocks = []; names = []; top = record { 0 = 0 } }; work = 0 };
         setup = record { places = 0; heap = 0; kills = []; joins = [] };
         places = [];
+        board = None;
       };
     } };
 }

@@ -1,6 +1,6 @@
 -- What the items of a watch of a run tell.
 use Rattle.std.specs.Prelude.{◌≡◌, ℕ, ◌+◌, false, List, [], ◌∷◌, ◌++◌, map, length, Some, refl}
-use Rattle.std.proofs.Common.{ap, sym, ◌∙◌, subst}
+use Rattle.std.proofs.Common.{ap, sym, ◌∙◌, subst, arith}
 use Rattle.rx_rules.specs.declared.entries.Entry.{Entry}
 use Rattle.rx_monitor.specs.declared.summary.Summary.{Summary}
 use Rattle.rx_monitor.specs.Boards.{Listing, IsWatched}
@@ -15,3 +15,16 @@ tells law n places es board before items count shows done =
     let s : ShowsUpTo places es (length es) board.list = subst (λ (k : ℕ). ShowsUpTo places es k board.list) last shows.1 in
     let told = law (summary_of places es) (λ m. refl) s.earlier (length es) items s.rises (subst (λ (l : List Summary). IsWatched l items) s.shown_are done.1) in
     record { count = done.0 ∙ ap (λ (k : ℕ). k + 1) count; sums = told.0; rises = told.1; last = told.2 }
+
+-- a board on which the summary of no entries was shown
+pub opens : (places : ℕ) (board : Listing) (first : Summary) → first ≡ summary_of places [] 0 → board.list ≡ first ∷ [] → BoardShows places [] false (Some board)
+opens places board first sum shown = (
+  0,
+  record {
+    earlier = [];
+    rises = (omega arith, tt);
+    within = omega arith;
+    shown_are = shown ∙ ap (λ (x : Summary). x ∷ []) sum;
+  },
+  λ _. refl,
+)

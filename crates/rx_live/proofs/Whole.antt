@@ -8,8 +8,13 @@ use Rattle.rx_rules.specs.Code.{Block}
 use Rattle.rx_rules.specs.Fold.{tree_of}
 use Rattle.rx_rules.specs.Tree.{Tree}
 use Rattle.rx_rules.specs.Run.{Proper, NoRoot, IsRun, in_all}
+use Rattle.rx_rules.specs.Terms.{Empty, items, no_vars}
 use Rattle.rx_nodes.specs.Shape.{Stands}
+use Rattle.rx_control.specs.declared.control.Control.{Control}
+use Rattle.rx_control.specs.Stands.{StandsFor}
 use Rattle.rx_check.specs.Checked.{Checked}
+use Rattle.rx_finish.specs.declared.ledger.Caller.{Caller}
+use Rattle.rx_ledger.specs.Answering.{main_caller}
 use Rattle.atomic_table.specs.Seated.{TableId}
 use Rattle.rx_monitor.specs.Boards.{Listing}
 use Rattle.rx_objects.specs.Shown.{board_of, BoardShows}
@@ -20,7 +25,7 @@ use Rattle.rx_book.specs.declared.views.View.{View}
 use Rattle.rx_book.specs.declared.passes.Pass.{Pass}
 use Rattle.rx_book.specs.Calls.{IsFresh}
 use Rattle.rx_book.specs.History.{items_of, entries_by}
-use Rattle.rx_book.specs.Kept.{born}
+use Rattle.rx_book.specs.Kept.{born, parent_left}
 use Rattle.rx_book.specs.Named.{BookName}
 use Rattle.rx_book.specs.Passes.{view_of, word_of}
 use Rattle.rx_parts_book.specs.declared.items.EntryItem.{EntryItem}
@@ -28,7 +33,7 @@ use Rattle.rx_parts_book.specs.declared.items.EventItem.{EventItem}
 use Rattle.rx_objects.specs.declared.ledger.LedgerFixed.{LedgerFixed}
 use Rattle.rx_objects.specs.Noted.{Notes, AllNoted}
 use Rattle.rx_objects.specs.Ending.{entries_at, IsMet, EachEnds, EachShut, RootIsTold, StampsBeforeDeath, BooksMakeRun}
-use Rattle.rx_live.specs.Inside.Ending.{MayRelease, MayBeShut, HaveWords, PlacesEnded, RunEnds, SeesEnd, StaysAt, views_of}
+use Rattle.rx_live.specs.Inside.Ending.{IsMain, MayRelease, MayBeShut, HaveWords, PlacesEnded, RunEnds, SeesEnd, StaysAt, views_of}
 use Rattle.rx_live.proofs.Finishing.{all_later, as_many, may_shut}
 use Rattle.rx_live.proofs.Opened.{unseen_legal}
 
@@ -65,6 +70,22 @@ host_born L first host proper own fresh word is = (
 -- the book's setup is that of the run, so it is proper
 pub proper_so : (L : BookName LedgerFixed) (S : Setup) → L.fixed.setup ≡ S → Proper (given S) → Proper (given L.fixed.setup)
 proper_so L S setup proper = subst (λ (s : Setup). Proper (given s)) (sym setup) proper
+
+-- the main activity begins over what was prepared
+pub is_main : (L : BookName LedgerFixed) (S : Setup) (P : Checked) (control : Control) (ticket : Caller) (first pass : Pass EntryItem) (words : List TableId) → L.fixed.setup ≡ S → L.fixed.program ≡ P → L.fixed.places ≡ words
+    → ticket ≡ main_caller → word_of first ≡ L.word → IsFresh (view_of first) → (word_of pass ≡ word_of first) × (view_of pass ≡ parent_left (view_of first)) → length words ≡ S.places + length S.joins
+    → ((code : Block) → Stands P.script code → StandsFor P.script control (items code [] Empty) × (control.vars ≡ no_vars S.places)) → IsMain L control ticket pass words
+is_main L S P control ticket first pass words setup program places main own fresh same many stands =
+    record {
+      main = main;
+      word = same.0 ∙ own;
+      number = ap (λ (v : View EntryItem). v.number) same.1 ∙ fresh.number;
+      unseen = ap (λ (v : View EntryItem). v.seen) same.1 ∙ fresh.seen;
+      words_are = sym places;
+      all = many ∙ sym (ap (λ (s : Setup). in_all (given s)) setup);
+      stands = subst (λ (s : Setup). (code : Block) → Stands L.fixed.program.script code → StandsFor L.fixed.program.script control (items code [] Empty) × (control.vars ≡ no_vars s.places)) (sym setup)
+          (subst (λ (q : Checked). (code : Block) → Stands q.script code → StandsFor q.script control (items code [] Empty) × (control.vars ≡ no_vars S.places)) (sym program) stands);
+    }
 
 -- The end.
 

@@ -10,13 +10,14 @@ RANGES = {
     "--places": (1, MOST_PLACES, "the number of places"),
     "--heap": (1, 4096, "the words of each place's heap"),
     "--workers": (1, 8, "the number of workers"),
+    "--watch": (1, 1000, "the number of snapshots"),
     "--size": (1, 10000, "the lines of the script"),
     "--seed": (0, 18446744073709551615, "a seed"),
     "--join": (0, MOST_MOMENT, "how many entries the history has when a place joins"),
 }
 OPTIONS = {
     "step": ["--places", "--heap", "--kill", "--join", "--pick", "--seed"],
-    "live": ["--places", "--heap", "--kill", "--join", "--workers"],
+    "live": ["--places", "--heap", "--kill", "--join", "--workers", "--watch"],
     "gen": ["--size", "--places", "--heap", "--kill", "--seed"],
     "check": [],
     "verify": [],

@@ -14,7 +14,7 @@ _rx10() {
             compopt -o default
             return
             ;;
-        --heap | --kill | --join | --pick | --seed | --size | --seeds | --jobs | --columns | --title) return ;;
+        --heap | --kill | --join | --pick | --seed | --size | --watch | --seeds | --jobs | --columns | --title) return ;;
     esac
     if [ -n "$words" ]; then
         mapfile -t COMPREPLY < <(compgen -W "$words" -- "$now")
@@ -22,7 +22,7 @@ _rx10() {
     fi
     case $command in
         step) words='--places --heap --kill --join --pick --seed --help' ;;
-        live) words='--places --heap --kill --join --workers --help' ;;
+        live) words='--places --heap --kill --join --workers --watch --help' ;;
         gen) words='--size --places --heap --kill --seed --help' ;;
         check | verify | span) words='--help' ;;
         draw) words='-o --script --span --columns --title --svg --perfetto --help' ;;

@@ -47,6 +47,7 @@ WORDS = [
     ("step --places=3", 1, "write `--places 3`"),
     ("step nothing.rx", 1, "there is no file `nothing.rx` here"),
     ("live --workers 9", 2, "the number of workers, from 1 to 8"),
+    ("live --watch 0", 2, "the number of snapshots, from 1 to 1000"),
     ("gen --places 3", 3, "`gen` needs `--size LINES`"),
     ("verify --places 2", 1, "`verify` takes no options"),
     ("span none.rx none.trace", 1, "there is no file `none.rx` here"),

@@ -26,6 +26,7 @@ use Rattle.rx_trace.specs.Parts.{lost_part, masked_part, thrown_part, release_pa
 use Rattle.rx_trace.specs.EntryLines.{entry_text, entry_line, entry_lines}
 use Rattle.rx_trace.specs.EventLines.{journals_lines}
 use Rattle.rx_trace.specs.Text.{trace_text, setup_lines}
+use Rattle.rx_watch.specs.Text.{watch_text}
 use Rattle.rx_gen.specs.Numbers.{has_some, starts_by, starts, prints_by, prints, dies, loses_by, loses, numbers, counts_text}
 use Rattle.rx_gen.specs.Lines.{lines}
 use Rattle.rx_script.specs.Faults.{OneScript}
@@ -150,19 +151,28 @@ lines-tell n (a ∷ es) (b ∷ fs) x y h k e =
 stack : (p e j d : List ℕ) → ((p ++ e) ++ j) ++ d ≡ p ++ (e ++ (j ++ d))
 stack p e j d = append_assoc (p ++ e) j d ∙ append_assoc p e (j ++ d)
 
+stack-behind : (p e j d a : List ℕ) → (((p ++ e) ++ j) ++ d) ++ a ≡ p ++ (e ++ (j ++ (d ++ a)))
+stack-behind p e j d a = append_assoc ((p ++ e) ++ j) d a ∙ stack p e j (d ++ a)
+
 -- what stands before the entries
 abbrev head_of : Given → List ℕ
 head_of U = codes "rx10 trace 2\n" ++ setup_lines U ++ codes "history\n"
 
-pub texts-tell : (U : Given) (es fs : List Entry) (js ks : List (List PlaceEvent)) → EndsWithRoot es → EndsWithRoot fs → trace_text U es js ≡ trace_text U fs ks → status_of es ≡ status_of fs
+-- traces with anything behind them tell the status: their lines are read from the front
+pub texts-tell : (U : Given) (es fs : List Entry) (js ks : List (List PlaceEvent)) (a b : List ℕ) → EndsWithRoot es → EndsWithRoot fs → trace_text U es js ++ a ≡ trace_text U fs ks ++ b → status_of es ≡ status_of fs
 unfolding trace_text
-texts-tell U es fs js ks h k e =
+texts-tell U es fs js ks a b h k e =
     let p : List ℕ = head_of U in
     let x : List ℕ = journals_lines 0 js in
     let y : List ℕ = journals_lines 0 ks in
     let d : List ℕ = codes "done\n" in
-    let c = append_cancel_left p (entry_lines 0 es ++ (x ++ d)) (entry_lines 0 fs ++ (y ++ d)) (sym (stack p (entry_lines 0 es) x d) ∙ e ∙ stack p (entry_lines 0 fs) y d) in
-    lines-tell 0 es fs (x ++ d) (y ++ d) h k c
+    let c = append_cancel_left p (entry_lines 0 es ++ (x ++ (d ++ a))) (entry_lines 0 fs ++ (y ++ (d ++ b)))
+    (sym (stack-behind p (entry_lines 0 es) x d a) ∙ e ∙ stack-behind p (entry_lines 0 fs) y d b) in
+    lines-tell 0 es fs (x ++ (d ++ a)) (y ++ (d ++ b)) h k c
+
+-- whole traces do
+pub traces-tell : (U : Given) (es fs : List Entry) (js ks : List (List PlaceEvent)) → EndsWithRoot es → EndsWithRoot fs → trace_text U es js ≡ trace_text U fs ks → status_of es ≡ status_of fs
+traces-tell U es fs js ks h k e = texts-tell U es fs js ks [] [] h k (ap (λ t. t ++ []) e)
 
 -- Sets of places are told by their members.
 
@@ -266,15 +276,17 @@ module _ (single : OnePickedRun) (proper : SetupsAreProper) (answer_tells : Text
 
   status-told : (a : Asked) (old new older newer : Option (List ℕ)) (text : List ℕ) (s t : Status) → HasProper a → IsOutcome a old new text s → IsOutcome a older newer text t → s ≡ t
   status-told (Step U src) old new older newer text s t ok (code, was, (es, js, p, e)) (other, were, (fs, ks, q, f)) =
-      p.tells ∙ texts-tell U es fs js ks p.run.ends q.run.ends (sym e ∙ f) ∙ sym q.tells
+      p.tells ∙ traces-tell U es fs js ks p.run.ends q.run.ends (sym e ∙ f) ∙ sym q.tells
   status-told (Gen size U seed) old new older newer text s t ok h k = (counts-agree size U (source None seed) text text s t ok h.1 k.1).1
   status-told Check old new older newer text s t ok (code, was, e, done) (other, were, f, over) = done ∙ sym over
   status-told Verify old new older newer text s t ok (bytes, a, was, p, e) (others, b, were, q, f) =
       e ∙ ap status_by (answer_tells questions.Verify bytes others text a b p q) ∙ sym f
   status-told Span old new older newer text s t ok (bytes, a, was, p, e) (others, b, were, q, f) =
       e ∙ ap status_by (answer_tells questions.Span bytes others text a b p q) ∙ sym f
-  status-told (Live U n watch) old new older newer text s t ok (code, was, (es, js, p, told, e)) (other, were, (fs, ks, q, tells, f)) =
-      told ∙ texts-tell U es fs js ks p.run.ends q.run.ends (sym e ∙ f) ∙ sym tells
+  status-told (Live U n None) old new older newer text s t ok (code, was, (es, js, p, told, e)) (other, were, (fs, ks, q, tells, f)) =
+      told ∙ traces-tell U es fs js ks p.run.ends q.run.ends (sym e ∙ f) ∙ sym tells
+  status-told (Live U n (Some w)) old new older newer text s t ok (code, was, (es, js, seen, p, told, rows, e)) (other, were, (fs, ks, saw, q, tells, lines, f)) =
+      told ∙ texts-tell U es fs js ks (watch_text seen) (watch_text saw) p.run.ends q.run.ends (sym e ∙ f) ∙ sym tells
   status-told (BadWord k) old new older newer text s t ok h i = absurd h
 
   pub text-tells-status : TextTellsStatus

@@ -112,6 +112,35 @@ fn commands_without_threads_answer_as_before(rt: HostRuntime) -> Result<(), NoMe
     Ok(())
 }
 
+// The lines of the snapshots in what was written.
+fn seen(alloc: Global, text: &[u8]) -> Result<Vec<Vec<u8>>, NoMemory> {
+    let mut lines = Vec::new(alloc);
+    for line in text.split(|b| *b == b'\n') {
+        if line.starts_with(b"seen ") {
+            lines.push(line.to_vec(alloc)?)?;
+        }
+    }
+    Ok(lines)
+}
+
+#[test]
+fn a_run_is_watched(rt: HostRuntime) -> Result<(), NoMemory> {
+    let once = [b"live".as_slice(), b"--workers", b"1", b"--watch", b"1"];
+    let (status, text) = lived(&rt, rt.alloc(), &once, b"", &NoGate)?;
+    let lines = seen(rt.alloc(), &text)?;
+    assert!(rt; status == Status::Done && lines.len() == 2);
+    assert!(rt; lines[1].as_slice() == b"seen 2 scopes 0 live 0 travel 0".as_slice());
+    let killed = [b"live".as_slice(), b"--kill", b"1@3", b"--watch", b"3"];
+    let (status, text) = lived(&rt, rt.alloc(), &killed, SCRIPT, &NoGate)?;
+    let lines = seen(rt.alloc(), &text)?;
+    assert!(rt; status == Status::Faulted && lines.len() == 4);
+    assert!(rt; lines[3].ends_with(b" scopes 0 live 0 travel 0 dead 1"));
+    let none = [b"live".as_slice(), b"--watch", b"0"];
+    let (status, _) = lived(&rt, rt.alloc(), &none, SCRIPT, &NoGate)?;
+    assert!(rt; status == Status::Usage { word: 2 });
+    Ok(())
+}
+
 // Values of the type may be moved to another thread.
 fn may_move<T: Send>() {}
 

@@ -12,6 +12,6 @@ module _ {O I P R F : Type 0} (fixed : O → F) (entries : O → List I) (step :
   -- what is fixed of the object is as it was in the key
   abbrev pub Tied : Snapshot (Locked O I) → Locked O I → Type 0
   Tied k l = (l.mark.table_id ≡ k.value.mark.table_id) × (l.mark.me.1 ≡ []) × (l.mark.me.0.marked ≡ true)
-      × (l.mark.me.0.numbered ≡ false) × (entries l.object ≡ items_of l.mark.me.0.seen)
-      × legal (fixed k.value.object) l.mark.me.0.seen × Replays (step (fixed k.value.object)) l.mark.me.0.seen
-      × (fixed l.object ≡ fixed k.value.object)
+      × (l.mark.me.0.numbered ≡ false) × (entries l.object.value ≡ items_of l.mark.me.0.seen)
+      × legal (fixed k.value.object.value) l.mark.me.0.seen × Replays (step (fixed k.value.object.value)) l.mark.me.0.seen
+      × (fixed l.object.value ≡ fixed k.value.object.value)

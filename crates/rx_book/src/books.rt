@@ -17,9 +17,10 @@ use std::marker::{Brand, Model, PhantomData};
 use std::snapshot::Snapshot;
 use std::sync::Wait;
 
-// What lies under the lock: the object, and the seat that stands for its whole history.
+// What lies under the lock: the object, boxed so that who takes and puts it back moves a word, and the seat that stands for its
+// whole history.
 pub struct Locked<O, I> {
-    pub object: O,
+    pub object: Box<O>,
     pub mark: Spot<I>,
 }
 
@@ -48,7 +49,7 @@ impl<O: Object> Model for Book<O> {
 
     ghost Value = { BookName O.Fixed };
 
-    ghost view = { λ b. record { word = b.word.table.shared.table_id; fixed = O.fixed b.lock.key.value.object } };
+    ghost view = { λ b. record { word = b.word.table.shared.table_id; fixed = O.fixed b.lock.key.value.object.value } };
 
     ghost invariant = { λ b. b.lock.key.value.mark.table_id ≡ b.word.table.shared.table_id };
 }
@@ -162,6 +163,10 @@ impl<O: Object> Book<O> {
         ensures fresh { IfOk result (λ t. IsFresh (view_of t.1)) }
         ensures err { IfErr result (λ e. e.0 ≡ object) }
     {
+        let object = match Box::new(alloc, object) {
+            Ok(object) => object,
+            Err(failed) => return Err((failed.value, NoMemory)),
+        };
         let BareBook { word, mut seat } = bare;
         let mark = word.mark_off(&mut seat);
         let locked = Locked { object, mark };
@@ -170,7 +175,7 @@ impl<O: Object> Book<O> {
             Ok(lock) => Ok((Book { word, lock }, Pass { seat })),
             Err((locked, refused)) => {
                 let Locked { object, mark: _ } = locked;
-                Err((object, refused))
+                Err((Box::into_inner(object), refused))
             }
         }
     }
@@ -186,16 +191,20 @@ impl<O: Object> Book<O> {
         ensures called { Called O.Item.place (O.step self.now.fixed) (O.legal self.now.fixed) seat.old.me.0 op result seat.new.me.0 }
     {
         let (locked, turn) = self.lock.lock(rt);
-        let Locked { mut object, mark } = locked;
+        let Locked {
+            object: mut home,
+            mark,
+        } = locked;
         self.word.meet(seat, mark);
         self.word.tell(seat);
-        let before = Snapshot::of(&object);
+        let object = home.as_mut();
+        let before = Snapshot::of(&*object);
         let old = (object.len(), object.deaths());
         O::stays();
         let reply = object.apply(rt, op);
-        record_new(&self.word, seat, &before, &object, old);
+        record_new(&self.word, seat, &before, object, old);
         let mark = self.word.mark_off(seat);
-        self.lock.unlock(turn, Locked { object, mark });
+        self.lock.unlock(turn, Locked { object: home, mark });
         reply
     }
 
@@ -313,7 +322,7 @@ impl<O: Object> Book<O> {
         self.word.tell(&mut seat);
         let Book { word: _, lock } = self;
         lock.close(turn);
-        object
+        Box::into_inner(object)
     }
 
     /// Waits for the lock, and gives the object without a pass. No memory.
@@ -325,6 +334,6 @@ impl<O: Object> Book<O> {
         let Locked { object, mark: _ } = locked;
         let Book { word: _, lock } = self;
         lock.close(turn);
-        object
+        Box::into_inner(object)
     }
 }

@@ -15,12 +15,13 @@ apply-reply-requires g c =
     let fact = c.lock-locked.ensures.fact in
     let p = at_point g.O.Item.Dies.place v locked.mark.me.0 c.requires.plain.1 fact.2 (subst (Told g.O.Item.Dies.place) (ap (λ m. m.0) c.meet.ensures.2) c.tell.ensures.told) in
     let seen = locked.mark.me.0.seen in
+    let kept = ap g.O.Object.fixed c.as_mut-object.ensures.value ∙ fact.7 in
     let named = ap (λ b. b.fixed) c.self.view_is in (
       seen,
       v.number,
-      subst (λ (f : g.row.O-Fixed.Denot). g.O.Object.legal f seen) (sym fact.7) fact.5,
-      fact.4,
-      subst (λ (f : g.row.O-Fixed.Denot). g.O.Object.fits f seen v.number c.args.op) (sym (fact.7 ∙ named))
+      subst (λ (f : g.row.O-Fixed.Denot). g.O.Object.legal f seen) (sym kept) fact.5,
+      ap g.O.Object.entries c.as_mut-object.ensures.value ∙ fact.4,
+      subst (λ (f : g.row.O-Fixed.Denot). g.O.Object.fits f seen v.number c.args.op) (sym (kept ∙ named))
           (c.requires.fits seen (subst (λ (f : g.row.O-Fixed.Denot). g.O.Object.legal f seen) named fact.5) p.begins),
     )
 
@@ -39,7 +40,9 @@ unlock-requires-clause-fact g c =
     let locked = c.lock-locked.result.0 in
     let m = locked.mark.me.0 in
     let fact = c.lock-locked.ensures.fact in
-    let before = g.O.Object.entries locked.object in
+    let whole = ap g.O.Object.entries c.as_mut-object.ensures.value ∙ fact.4 in
+    let kept = ap g.O.Object.fixed c.as_mut-object.ensures.value ∙ fact.7 in
+    let before = g.O.Object.entries c.as_mut-object.result.now in
     let after = g.O.Object.entries c.apply-reply.new.self in
     let p = at_point place v m c.requires.plain.1 fact.2 (subst (Told place) (ap (λ m. m.0) c.meet.ensures.2) c.tell.ensures.told) in
     let is : c.tell.new.seat.me.0 ≡ both v m = ap (λ m. m.0) (c.tell.ensures.same.2 ∙ c.meet.ensures.2) in
@@ -47,12 +50,12 @@ unlock-requires-clause-fact g c =
     c.record_new.ensures.grown ∙ (λ i. grown place (is i) (drop (length (g.O.Object.entries (c.of-before.ensures i))) after)) in
     let mark : c.mark_off-mark.result.me.0 ≡ mark_only (grown place (both v m) (drop (length before) after)) = ap (λ m. m.0) c.mark_off-mark.ensures.mark.1 ∙ ap mark_only done in
     let named = ap (λ b. b.fixed) c.self.view_is in
-    let f = g.O.Object.fixed c.self.inside.lock.key.value.object in
+    let f = g.O.Object.fixed c.self.inside.lock.key.value.object.value in
     let fit = subst (λ (f : g.row.O-Fixed.Denot). g.O.Object.fits f m.seen v.number c.args.op) (sym named) (c.requires.fits m.seen (subst (λ (f : g.row.O-Fixed.Denot). g.O.Object.legal f m.seen) named fact.5) p.begins) in
-    let more : (new : List g.row.O-Item.Denot) × (after ≡ before ++ new) × g.O.Object.step f before c.args.op c.apply-reply.result new = subst (λ (f : g.row.O-Fixed.Denot). (new : List g.row.O-Item.Denot) × (after ≡ before ++ new) × g.O.Object.step f before c.args.op c.apply-reply.result new) fact.7 c.apply-reply.ensures.did in
-    let law = lawful place (g.O.Object.step f) (g.O.Object.legal f) (g.O.Object.fits f) (c.stays.ensures f) v m p c.args.op c.apply-reply.result before after fact.4 more fact.5 fit in
-    let again = replayed place (g.O.Object.step f) (g.O.Object.legal f) v m p c.args.op c.apply-reply.result before after fact.4 more fact.6 in
-    let all = gains place v.number (both v m).seen before after (fact.4 ∙ ap items_of (sym p.seen)) (more.0, more.1) in (
+    let more : (new : List g.row.O-Item.Denot) × (after ≡ before ++ new) × g.O.Object.step f before c.args.op c.apply-reply.result new = subst (λ (f : g.row.O-Fixed.Denot). (new : List g.row.O-Item.Denot) × (after ≡ before ++ new) × g.O.Object.step f before c.args.op c.apply-reply.result new) kept c.apply-reply.ensures.did in
+    let law = lawful place (g.O.Object.step f) (g.O.Object.legal f) (g.O.Object.fits f) (c.stays.ensures f) v m p c.args.op c.apply-reply.result before after whole more fact.5 fit in
+    let again = replayed place (g.O.Object.step f) (g.O.Object.legal f) v m p c.args.op c.apply-reply.result before after whole more fact.6 in
+    let all = gains place v.number (both v m).seen before after (whole ∙ ap items_of (sym p.seen)) (more.0, more.1) in (
       search rules,
       ap (λ m. m.1) c.mark_off-mark.ensures.mark.1,
       ap (λ m. m.marked) mark ∙ p.marked,
@@ -60,7 +63,7 @@ unlock-requires-clause-fact g c =
       sym all.0 ∙ ap (λ m. items_of m.seen) (sym mark),
       subst (λ (m : View g.row.O-Item.Denot). g.O.Object.legal f m.seen) (sym mark) law,
       subst (λ (m : View g.row.O-Item.Denot). Replays (g.O.Object.step f) m.seen) (sym mark) again,
-      c.apply-reply.ensures.fixed ∙ fact.7,
+      c.apply-reply.ensures.fixed ∙ kept,
     )
 
 pub returns-clause-called : goal.returns-clause-called
@@ -70,7 +73,9 @@ returns-clause-called g c =
     let locked = c.lock-locked.result.0 in
     let m = locked.mark.me.0 in
     let fact = c.lock-locked.ensures.fact in
-    let before = g.O.Object.entries locked.object in
+    let whole = ap g.O.Object.entries c.as_mut-object.ensures.value ∙ fact.4 in
+    let kept = ap g.O.Object.fixed c.as_mut-object.ensures.value ∙ fact.7 in
+    let before = g.O.Object.entries c.as_mut-object.result.now in
     let after = g.O.Object.entries c.apply-reply.new.self in
     let p = at_point place v m c.requires.plain.1 fact.2 (subst (Told place) (ap (λ m. m.0) c.meet.ensures.2) c.tell.ensures.told) in
     let is : c.tell.new.seat.me.0 ≡ both v m = ap (λ m. m.0) (c.tell.ensures.same.2 ∙ c.meet.ensures.2) in
@@ -81,8 +86,8 @@ returns-clause-called g c =
     let f = c.args.self.now.fixed in
     let was = subst (λ (f : g.row.O-Fixed.Denot). g.O.Object.legal f m.seen) named fact.5 in
     let made = subst (λ (f : g.row.O-Fixed.Denot). Replays (g.O.Object.step f) m.seen) named fact.6 in
-    let more : (new : List g.row.O-Item.Denot) × (after ≡ before ++ new) × g.O.Object.step f before c.args.op c.apply-reply.result new = subst (λ (f : g.row.O-Fixed.Denot). (new : List g.row.O-Item.Denot) × (after ≡ before ++ new) × g.O.Object.step f before c.args.op c.apply-reply.result new) (fact.7 ∙ named) c.apply-reply.ensures.did in
-    let law = lawful place (g.O.Object.step f) (g.O.Object.legal f) (g.O.Object.fits f) (c.stays.ensures f) v m p c.args.op c.apply-reply.result before after fact.4 more was (c.requires.fits m.seen was p.begins) in
-    let again = replayed place (g.O.Object.step f) (g.O.Object.legal f) v m p c.args.op c.apply-reply.result before after fact.4 more made in
+    let more : (new : List g.row.O-Item.Denot) × (after ≡ before ++ new) × g.O.Object.step f before c.args.op c.apply-reply.result new = subst (λ (f : g.row.O-Fixed.Denot). (new : List g.row.O-Item.Denot) × (after ≡ before ++ new) × g.O.Object.step f before c.args.op c.apply-reply.result new) (kept ∙ named) c.apply-reply.ensures.did in
+    let law = lawful place (g.O.Object.step f) (g.O.Object.legal f) (g.O.Object.fits f) (c.stays.ensures f) v m p c.args.op c.apply-reply.result before after whole more was (c.requires.fits m.seen was p.begins) in
+    let again = replayed place (g.O.Object.step f) (g.O.Object.legal f) v m p c.args.op c.apply-reply.result before after whole more made in
     subst (λ (w : View g.row.O-Item.Denot). Called place (g.O.Object.step f) (g.O.Object.legal f) v c.args.op c.apply-reply.result w) (sym last)
-    (called place (g.O.Object.step f) (g.O.Object.legal f) v m p c.args.op c.apply-reply.result before after fact.4 more law again)
+    (called place (g.O.Object.step f) (g.O.Object.legal f) v m p c.args.op c.apply-reply.result before after whole more law again)

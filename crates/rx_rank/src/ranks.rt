@@ -58,6 +58,18 @@ impl Ranks {
         if n as usize <= self.counts.len() / 2 {
             return Ok(());
         }
+        self.grow(n)
+    }
+
+    // Makes room for the numbers below n, for which there is none. A refusal changes nothing.
+    fn grow(&mut self, n: u32) -> Result<(), NoMemory>
+        requires { self.old.room < n }
+        ensures room { OnOk result (n ≤ self.new.room) }
+        ensures members { self.new.members ≡ self.old.members }
+        ensures doubles { OnOk result (2 * self.old.room ≤ self.new.room) }
+        ensures most { OnOk result (self.new.room ≤ 2 * n) }
+        ensures err { OnErr result (self.new ≡ self.old) }
+    {
         if n > MOST_ROOM {
             return Err(NoMemory);
         }

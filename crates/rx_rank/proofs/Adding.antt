@@ -1,5 +1,5 @@
 -- A tree of counts whose nodes are added up one by one, what its root counts, and the way down from it.
-use Rattle.std.specs.Prelude.{◌≡◌, ◌≢◌, ℕ, zero, suc, ◌+◌, ◌-◌, ◌*◌, ◌/◌, ◌^◌, ◌<◌, ◌≤◌, Bool, List, [], ◌∷◌, ◌++◌, length, take, drop, set, replicate, sum, Some, slice_get, slice_index, refl}
+use Rattle.std.specs.Prelude.{◌≡◌, ◌≢◌, ℕ, zero, suc, ◌+◌, ◌-◌, ◌*◌, ◌/◌, ◌^◌, ◌<◌, ◌≤◌, Bool, true, false, List, [], ◌∷◌, ◌++◌, length, take, drop, set, replicate, sum, Some, slice_get, slice_index, refl}
 use Rattle.std.proofs.Common.{arith, append_assoc, ap, sym, subst, ◌∙◌, inl, inr}
 use Rattle.std.proofs.lemmas.Bool.{cases_eq, cases_lt}
 use mir.Val.{bool_byte}
@@ -7,7 +7,7 @@ use Rattle.std.proofs.lemmas.List.{set-get_or, drop_at, length-set, length-appen
 use Rattle.std.proofs.lemmas.List.Sums.{sum_by_more, sum_by-take-drop, sum_by-append}
 use Rattle.std.proofs.Math.Seq.{take-add}
 use Rattle.std.proofs.Math.Nat.{pow-suc, pow-le-pow_right}
-use Rattle.rx_rank.specs.Counts.{numbers, leaves, IsSum, IsBare, IsTree}
+use Rattle.rx_rank.specs.Counts.{numbers, leaves, IsSum, IsNextTo, IsLate, IsBare, IsTree}
 use Rattle.rx_rank.specs.Numbers.{marked}
 use Rattle.rx_rank.proofs.Leaves.{numbers-length, numbers-at, numbers-more, numbers-set}
 
@@ -110,6 +110,50 @@ up-goes_on half i start cs up more =
       sums = λ j from high ne. sum-next half (i / 2) j cs up.bare low h (λ other. up.sums j from high other) (λ e. omega (arith, e, ne)) (λ e. omega (arith, e, ne));
       same = drop-set-lt half cs (i / 2) _ h ∙ up.same;
     }
+
+-- on that way the node above the one at i is late by one
+next-more : (s : Bool) (a b c v : ℕ) → IsNextTo s b v → a ≡ b + c → IsNextTo s a (v + c)
+next-more true a b c v n e = let n' : v ≡ b + 1 = n in omega arith
+next-more false a b c v n e = let n' : b ≡ v + 1 = n in omega arith
+
+late-made : (s : Bool) (i v : ℕ) (cs : List ℕ) → 1 < i → i < length cs → IsSum cs (i / 2) → IsNextTo s (slice_index cs i) v → IsLate s (set cs i v) (i / 2)
+late-made s i v cs more below sum next =
+    let above : ℕ = i / 2 in
+    let here : slice_index (set cs i v) i ≡ v = get_or-set_same cs i v 0 below in
+    let top : slice_index (set cs i v) above ≡ slice_index cs above = get_or-set_other cs i above v 0 (λ e. omega (arith, e)) in
+    elim (cases_eq i (2 * above)) [
+      | inl e ↦
+          let l : slice_index (set cs i v) (2 * above) ≡ v = ap (λ z. slice_index (set cs i v) z) (sym e) ∙ here in
+          let r : slice_index (set cs i v) (2 * above + 1) ≡ slice_index cs (2 * above + 1) = get_or-set_other cs i (2 * above + 1) v 0 (λ o. omega (arith, o)) in
+          let old : slice_index cs (2 * above) ≡ slice_index cs i = ap (λ z. slice_index cs z) (sym e) in
+          let sums : slice_index (set cs i v) (2 * above) + slice_index (set cs i v) (2 * above + 1) ≡ v + slice_index cs (2 * above + 1) = omega arith in
+          subst (λ z. IsNextTo s z (slice_index (set cs i v) (2 * above) + slice_index (set cs i v) (2 * above + 1))) (sym top)
+          (subst (λ z. IsNextTo s (slice_index cs above) z) (sym sums) (next-more s (slice_index cs above) (slice_index cs i) (slice_index cs (2 * above + 1)) v next (omega arith)))
+      | inr ne ↦
+          let odd : i ≡ 2 * above + 1 = omega (arith, ne) in
+          let l : slice_index (set cs i v) (2 * above) ≡ slice_index cs (2 * above) = get_or-set_other cs i (2 * above) v 0 (λ o. ne (sym o)) in
+          let r : slice_index (set cs i v) (2 * above + 1) ≡ v = ap (λ z. slice_index (set cs i v) z) (sym odd) ∙ here in
+          let old : slice_index cs (2 * above + 1) ≡ slice_index cs i = ap (λ z. slice_index cs z) (sym odd) in
+          let sums : slice_index (set cs i v) (2 * above) + slice_index (set cs i v) (2 * above + 1) ≡ v + slice_index cs (2 * above) = omega arith in
+          subst (λ z. IsNextTo s z (slice_index (set cs i v) (2 * above) + slice_index (set cs i v) (2 * above + 1))) (sym top)
+          (subst (λ z. IsNextTo s (slice_index cs above) z) (sym sums) (next-more s (slice_index cs above) (slice_index cs i) (slice_index cs (2 * above)) v next (omega arith)))
+    ]
+
+leaf-next : (s : Bool) (a n : ℕ) → a ≤ 1 → n ≡ bool_byte s → a ≢ n → IsNextTo s a n
+leaf-next true a n most e ne = let e' : n ≡ 1 = e in omega (arith, ne)
+leaf-next false a n most e ne = let e' : n ≡ 0 = e in omega (arith, ne)
+
+pub late-begins : (s : Bool) (half i n : ℕ) (cs : List ℕ) → IsTree half cs → half ≤ i → i < 2 * half → n ≡ bool_byte s → slice_index cs i ≢ n → 1 < i → IsLate s (set cs i n) (i / 2)
+late-begins s half i n cs tree from below e ne more =
+    let len = tree.bare.len in
+    late-made s i n cs more (omega arith) (tree.sums (i / 2) (omega arith) (omega arith)) (leaf-next s (slice_index cs i) n (tree.bare.bits i from) e ne)
+
+pub late-goes_on : (s : Bool) (half i : ℕ) (start cs : List ℕ) → IsUp half i start cs → 1 < i → IsLate s cs (i / 2) → 1 < i / 2
+    → IsLate s (set cs (i / 2) (slice_index cs (2 * (i / 2)) + slice_index cs (2 * (i / 2) + 1))) (i / 2 / 2)
+late-goes_on s half i start cs up more late again =
+    let len = up.bare.len in
+    let below = up.below in
+    late-made s (i / 2) _ cs again (omega arith) (up.sums (i / 2 / 2) (omega arith) (omega arith) (λ e. omega (arith, e))) late
 
 pub up-ends : (half i : ℕ) (start cs : List ℕ) → IsUp half i start cs → i ≤ 1 → IsTree half cs
 up-ends half i start cs up last = record {

@@ -1,5 +1,5 @@
 -- How a list of counts stands for a set of numbers.
-use Rattle.std.specs.Prelude.{◌≡◌, ℕ, ◌+◌, ◌*◌, ◌/◌, ◌^◌, ◌<◌, ◌≤◌, ◌==◌, List, [], ◌∷◌, if◌then◌else◌, length, drop, slice_index}
+use Rattle.std.specs.Prelude.{◌≡◌, ℕ, ◌+◌, ◌*◌, ◌/◌, ◌^◌, ◌<◌, ◌≤◌, ◌==◌, Bool, true, false, List, [], ◌∷◌, if◌then◌else◌, length, drop, slice_index}
 
 -- the second half of the list
 abbrev pub leaves : List ℕ → List ℕ
@@ -13,6 +13,15 @@ numbers first (c ∷ cs) = if c == 0 then numbers (first + 1) cs else first ∷ 
 -- the node counts what the two below it count
 abbrev pub IsSum : List ℕ → ℕ → Type 0
 IsSum counts i = slice_index counts i ≡ slice_index counts (2 * i) + slice_index counts (2 * i + 1)
+
+-- one more, or one fewer, than a number
+abbrev pub IsNextTo : Bool → ℕ → ℕ → Type 0
+IsNextTo true n m = m ≡ n + 1
+IsNextTo false n m = n ≡ m + 1
+
+-- the two below the node count one more, or one fewer, than it does
+abbrev pub IsLate : Bool → List ℕ → ℕ → Type 0
+IsLate more counts i = IsNextTo more (slice_index counts i) (slice_index counts (2 * i) + slice_index counts (2 * i + 1))
 
 -- so many leaves, each of which counts 0 or 1, and no node counts more than it can have leaves
 pub record IsBare (half : ℕ) (counts : List ℕ) : Type 0 where

@@ -2,7 +2,7 @@
 // those at 2 * i and 2 * i + 1. A leaf counts 0 or 1, and each other node what the two below it count. What stands at 0 counts nothing.
 ghost use Rattle.std.specs.Prelude.{◌≡◌, ◌+◌, ◌*◌, ◌/◌, ◌^◌, ◌<◌, ◌≤◌, Some, IfOk, length, slice_get, slice_set, slice_index};
 ghost use Rattle.rx_rank.specs.Numbers.{marked};
-ghost use Rattle.rx_rank.specs.Counts.{numbers, leaves, IsTree, IsBare};
+ghost use Rattle.rx_rank.specs.Counts.{numbers, leaves, IsTree, IsBare, IsLate};
 
 use rx_base::NoMemory;
 use std::alloc::Global;
@@ -43,7 +43,21 @@ pub(crate) fn mark(counts: &mut [u32], x: u32, stands: bool)
     counts[i] = bit;
     'up: while i > 1 {
         i /= 2;
-        add_up(counts, i);
+        count_one(counts, i, stands);
+    }
+}
+
+// Makes the count of a node one more or one fewer, after which it is that of the two below it.
+fn count_one(counts: &mut [u32], i: usize, more: bool)
+    requires inside { i < length counts.old }
+    requires fits { slice_index counts.old (2 * i) + slice_index counts.old (2 * i + 1) < 2 ^ 32 }
+    requires late { IsLate more counts.old i }
+    ensures { counts.new ≡ slice_set counts.old i (slice_index counts.old (2 * i) + slice_index counts.old (2 * i + 1)) }
+{
+    if more {
+        counts[i] += 1;
+    } else {
+        counts[i] -= 1;
     }
 }
 

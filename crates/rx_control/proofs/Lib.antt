@@ -17,3 +17,4 @@ pub mod Kept
 pub mod Raising
 pub mod Requests
 pub mod SomeWords
+pub mod Paths

@@ -1,6 +1,6 @@
 // The control of one activity.
 ghost use Rattle.std.specs.Prelude.{◌≡◌, ◌≢◌, ℕ, ◌+◌, ◌*◌, ◌<◌, ◌≤◌, List, [], ◌∷◌, ◌++◌, Option, Some, None, IfOk, OnOk, OnErr, IfErr};
-ghost use Rattle.std.specs.Prelude.{MatchOption, option_to_list, vec_len, vec_capacity};
+ghost use Rattle.std.specs.Prelude.{MatchOption, option_to_list, vec_len, vec_capacity, ◌↔◌, IsTrue};
 ghost use Rattle.rx_base.specs.declared.ids.PlaceId.{PlaceId};
 ghost use Rattle.rx_base.specs.declared.values.Fault.{Fault};
 ghost use Rattle.rx_rules.specs.Code.{Block, work};
@@ -20,7 +20,7 @@ ghost use Rattle.rx_control.specs.Inside.Plans.{Due};
 use crate::birth::{born, start};
 use crate::faults::{is_caught, one_fault};
 use crate::frame::{Frame, drop_top, go_on, settle, top, unwind};
-use crate::path::front_path;
+use crate::path::{front_path, is_front_path};
 use crate::plan::{Plan, make_plan, tell};
 use crate::statement::{
     at_hand, counted, following, learn, open_after, receive, receiver, statement_of,
@@ -117,26 +117,42 @@ impl Control {
         }
     }
 
+    /// Whether the next step begins the statement with this path. It takes no memory.
+    pub fn begins(&self, p: &Program, path: &Path) -> bool
+        ensures { (t : Term) → StandsFor p.now.script self.now t → (IsTrue result ↔ (begins t ≡ Some path.now)) }
+    {
+        match self.front() {
+            Some((_, next, part)) => is_front_path(path, &self.base, &self.frames, part, next),
+            None => false,
+        }
+    }
+
     /// The control of the task that the next step starts, with a copy of the variables; it knows as many places. The next step begins
-    /// a statement; where
-    /// that starts no task, the new control has nothing to run.
+    /// a statement; where that starts no task, the new control has nothing to run.
     pub fn child(&self, alloc: Global, p: &Program) -> Result<Control, NoMemory>
         requires { (t : Term) × (x : List ℕ) × StandsFor p.now.script self.now t × (begins t ≡ Some x) }
         ensures stands { IfOk result (λ c. (t : Term) → StandsFor p.now.script self.now t → (x : List ℕ) → begins t ≡ Some x
             → StandsFor p.now.script c (child t) × (c.vars ≡ self.now.vars)) }
         ensures steps { (t : Term) (x : List ℕ) → begins t ≡ Some x → steps (child t) < steps t }
     {
+        match self.path(alloc, p)? {
+            Some(path) => self.child_at(alloc, p, path),
+            None => unreachable!(),
+        }
+    }
+
+    /// The same, where the path of the statement that the next step begins is at hand.
+    pub fn child_at(&self, alloc: Global, p: &Program, path: Path) -> Result<Control, NoMemory>
+        requires { (t : Term) × StandsFor p.now.script self.now t × (begins t ≡ Some path) }
+        ensures stands { IfOk result (λ c. (t : Term) → StandsFor p.now.script self.now t → begins t ≡ Some path
+            → StandsFor p.now.script c (child t) × (c.vars ≡ self.now.vars)) }
+        ensures steps { (t : Term) (x : List ℕ) → begins t ≡ Some x → steps (child t) < steps t }
+    {
         let script = p.script();
         match self.front() {
-            Some((block, next, part)) => {
-                let path = self.path_here(alloc, next, part)?;
-                born(
-                    alloc,
-                    script,
-                    at_hand(script, block, next),
-                    path,
-                    self.vars.copy(alloc)?,
-                )
+            Some((block, next, _)) => {
+                let vars = self.vars.copy(alloc)?;
+                born(alloc, script, at_hand(script, block, next), path, vars)
             }
             None => unreachable!(),
         }

@@ -1,5 +1,7 @@
 // The path of the statement at the front.
-ghost use Rattle.std.specs.Prelude.{◌≡◌, List, [], ◌∷◌, ◌++◌, IfOk, OnOk, option_to_list};
+ghost use Rattle.std.specs.Prelude.{◌≡◌, ◌≢◌, ◌≤◌, ◌+◌, ◌↔◌, ℕ, List, [], ◌∷◌, ◌++◌, IsTrue, IfOk, IfSome, MatchOption, length, option_to_list};
+ghost use Rattle.std.specs.Prelude.{vec_len, vec_capacity};
+ghost use Rattle.std.specs.List.{flat_map};
 ghost use Rattle.rx_rules.specs.Terms.{at};
 ghost use Rattle.rx_control.specs.declared.frame.Frame.{Frame};
 ghost use Rattle.rx_control.specs.Stands.{numbers, path_of};
@@ -24,33 +26,128 @@ pub(crate) fn front_path(
         return Ok(Path::open(alloc));
     }
     let mut path = path_along(alloc, base.numbers(), &frames[..n - 1])?;
-    add(&mut path, part, next)?;
+    add(&mut path, part, next);
     Ok(Path::from_vec(path))
+}
+
+/// Whether a path is that of a statement in the block of the innermost frame. No memory is taken.
+pub(crate) fn is_front_path(
+    path: &Path,
+    base: &Path,
+    frames: &Vec<Frame>,
+    part: Option<u32>,
+    next: u32,
+) -> bool
+    ensures { (below : List Frame) (f : Frame) → frames.now.items ≡ below ++ f ∷ []
+        → (IsTrue result ↔ (path.now ≡ at (path_of base.now below ++ option_to_list part) next)) }
+{
+    let n = frames.len();
+    if n == 0 {
+        return false;
+    }
+    is_path(path.numbers(), base.numbers(), &frames[..n - 1], part, next)
+}
+
+// Whether a path is the base, what each frame adds, and where a statement stands in the block of the next frame.
+fn is_path(path: &[u32], base: &[u32], frames: &[Frame], part: Option<u32>, next: u32) -> bool
+    ensures { IsTrue result ↔ (path.now ≡ at (path_of base.now frames.now ++ option_to_list part) next) }
+{
+    let Some(left) = left_of(path, base, frames) else {
+        return false;
+    };
+    match behind(left, part, next) {
+        Some(left) => left.len() == 0,
+        None => false,
+    }
+}
+
+// What a path has behind the base and what each frame adds, and None where it does not begin so.
+fn left_of<'a>(path: &'a [u32], base: &[u32], frames: &[Frame]) -> Option<&'a [u32]>
+    ensures { MatchOption result ((left : List ℕ) → path.now ≢ path_of base.now frames.now ++ left)
+        (λ left. path.now ≡ path_of base.now frames.now ++ left.now) }
+{
+    let mut left = behind_base(path, base)?;
+    for frame in frames {
+        left = behind_frame(left, frame)?;
+    }
+    Some(left)
+}
+
+// What stands behind the base, and None where the path does not begin with it.
+fn behind_base<'a>(path: &'a [u32], base: &[u32]) -> Option<&'a [u32]>
+    ensures { MatchOption result ((left : List ℕ) → path.now ≢ base.now ++ left) (λ left. path.now ≡ base.now ++ left.now) }
+{
+    let mut left = path;
+    for number in base {
+        left = behind_number(left, *number)?;
+    }
+    Some(left)
+}
+
+// What stands behind what a frame adds, and None where the path does not begin with it.
+fn behind_frame<'a>(path: &'a [u32], frame: &Frame) -> Option<&'a [u32]>
+    ensures { MatchOption result ((left : List ℕ) → path.now ≢ numbers frame.now ++ left)
+        (λ left. path.now ≡ numbers frame.now ++ left.now) }
+{
+    match frame {
+        Frame::Seq { next, part, .. } => behind(path, *part, next.saturating_sub(1)),
+        Frame::Turns { .. } | Frame::Try { .. } | Frame::Body | Frame::Held => Some(path),
+    }
+}
+
+// What stands behind the number between the path of a statement and the positions in its block, where there is one, and a position,
+// and None where the path does not begin with them.
+fn behind(path: &[u32], part: Option<u32>, position: u32) -> Option<&[u32]>
+    ensures { MatchOption result ((left : List ℕ) → path.now ≢ option_to_list part ++ position ∷ left)
+        (λ left. path.now ≡ option_to_list part ++ position ∷ left.now) }
+{
+    match part {
+        Some(number) => behind_number(behind_number(path, number)?, position),
+        None => behind_number(path, position),
+    }
+}
+
+// What stands behind a number, and None where the path does not begin with it.
+fn behind_number(path: &[u32], number: u32) -> Option<&[u32]>
+    ensures { MatchOption result ((left : List ℕ) → path.now ≢ number ∷ left) (λ left. path.now ≡ number ∷ left.now) }
+{
+    match path {
+        [first, left @ ..] => { if *first == number { Some(left) } else { None } }
+        [] => None,
+    }
 }
 
 // The base and what each frame adds, with room for a statement in the block of the next frame.
 fn path_along(alloc: Global, base: &[u32], frames: &[Frame]) -> Result<Vec<u32>, NoMemory>
-    ensures { IfOk result (λ path. path.items ≡ path_of base.now frames.now) }
+    ensures items { IfOk result (λ path. path.items ≡ path_of base.now frames.now) }
+    ensures room { IfOk result (λ path. vec_len path + 2 ≤ vec_capacity path) }
 {
-    let mut path = Vec::with_capacity(alloc, room(base, frames))?;
+    let Some(room) = room(base, frames) else {
+        return Err(NoMemory);
+    };
+    let mut path = Vec::with_capacity(alloc, room)?;
     path.extend_from_slice(base)?;
     for frame in frames {
-        add_numbers(&mut path, *frame)?;
+        add_numbers(&mut path, frame);
     }
     Ok(path)
 }
 
-// How many numbers such a path has at most. It decides when memory is taken, and nothing else.
-fn room(base: &[u32], frames: &[Frame]) -> usize {
-    let mut room = base.len() + 2;
+// How many numbers such a path has at most, and None where no list has so many.
+fn room(base: &[u32], frames: &[Frame]) -> Option<usize>
+    ensures { IfSome result (λ room. room ≡ length base.now + 2 + length (flat_map numbers frames.now)) }
+{
+    let mut room = base.len().checked_add(2)?;
     for frame in frames {
-        room = room.saturating_add(count(*frame));
+        room = room.checked_add(count(frame))?;
     }
-    room
+    Some(room)
 }
 
 // How many numbers a frame adds to the paths of those above it.
-fn count(frame: Frame) -> usize {
+fn count(frame: &Frame) -> usize
+    ensures { result ≡ length (numbers frame.now) }
+{
     match frame {
         Frame::Seq { part: Some(_), .. } => 2,
         Frame::Seq { part: None, .. } => 1,
@@ -58,30 +155,26 @@ fn count(frame: Frame) -> usize {
     }
 }
 
-// What a frame adds to the paths of those above it.
-fn add_numbers(path: &mut Vec<u32>, frame: Frame) -> Result<(), NoMemory>
-    ensures { OnOk result (path.new.items ≡ path.old.items ++ numbers frame) }
+// Adds what a frame adds to the paths of those above it.
+fn add_numbers(path: &mut Vec<u32>, frame: &Frame)
+    requires room { vec_len path.old + 2 ≤ vec_capacity path.old }
+    ensures items { path.new.items ≡ path.old.items ++ numbers frame.now }
+    ensures capacity { vec_capacity path.new ≡ vec_capacity path.old }
 {
     match frame {
-        Frame::Seq { next, part, .. } => add(path, part, next.saturating_sub(1)),
-        Frame::Turns { .. } | Frame::Try { .. } | Frame::Body | Frame::Held => Ok(()),
+        Frame::Seq { next, part, .. } => add(path, *part, next.saturating_sub(1)),
+        Frame::Turns { .. } | Frame::Try { .. } | Frame::Body | Frame::Held => {}
     }
 }
 
 // Adds the number between the path of a statement and the positions in its block, where there is one, and a position.
-fn add(path: &mut Vec<u32>, part: Option<u32>, position: u32) -> Result<(), NoMemory>
-    ensures { OnOk result (path.new.items ≡ path.old.items ++ option_to_list part ++ position ∷ []) }
+fn add(path: &mut Vec<u32>, part: Option<u32>, position: u32)
+    requires room { vec_len path.old + 2 ≤ vec_capacity path.old }
+    ensures items { path.new.items ≡ path.old.items ++ option_to_list part ++ position ∷ [] }
+    ensures capacity { vec_capacity path.new ≡ vec_capacity path.old }
 {
-    path.reserve(2)?;
-    match part {
-        Some(number) => {
-            path.push_reserved(number);
-            path.push_reserved(position);
-            Ok(())
-        }
-        None => {
-            path.push_reserved(position);
-            Ok(())
-        }
+    if let Some(number) = part {
+        path.push_reserved(number);
     }
+    path.push_reserved(position);
 }

@@ -219,6 +219,9 @@ fn follow(
     for (next, path, answer) in steps {
         assert_eq!(rt; task.next(p, here), *next, "at {path:?}");
         let begun = task.path(rt.alloc(), p)?;
+        if let Some(path) = &begun {
+            assert!(rt; task.begins(p, path));
+        }
         assert_eq!(rt; numbers(rt.alloc(), begun)?.as_slice(), *path);
         step(rt, p, task, here, *answer)?;
     }

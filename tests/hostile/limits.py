@@ -107,6 +107,29 @@ def address_space(program, tally):
     tally.each(cases, limited)
 
 
+def live_limited(program, words, stdin, limit):
+    """A trace that is judged as a run, with its status; no memory; or an end by the loader with nothing written."""
+    answer = program.run(words, stdin, [limit])
+    if answer == NO_MEMORY or (answer.status in NOT_STARTED and not answer.out):
+        return None
+    wrong = shape_complaint(answer, ["live"])
+    if wrong or answer.status not in (0, 1):
+        return wrong or short(answer)
+    judged = program.run(["verify"], b"rx10 pair %d\n" % len(stdin) + stdin + answer.out)
+    return None if judged == Answer(0, b"run\n", b"") else "its trace is judged %s" % short(judged)
+
+
+def live_address_space(program, tally):
+    """Runs of `live` that want much memory, in less and less of it: each has many right answers."""
+    cases = []
+    for workers in (1, 4):
+        for kill in ([], ["--kill", "1@2000"]):
+            words = ["live", "--places", "4", *kill, "--workers", str(workers)]
+            for size in [*range(2048, 32768, 2048), 65536]:
+                cases.append(("%s (large) in %d KiB" % (" ".join(words), size), program, words, DEEP[5], "as=%d" % (size * KIB)))
+    tally.each(cases, live_limited)
+
+
 def stack(program, tally):
     cases = []
     tried = rows(program)
@@ -215,6 +238,8 @@ def signals_at_moments(program, tally):
 
 def run(program, tally):
     address_space(program, tally)
+    if program.has_live:
+        live_address_space(program, tally)
     stack(program, tally)
     strange_words(program, tally)
     signals_at_calls(program, tally)

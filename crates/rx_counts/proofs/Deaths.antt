@@ -1,5 +1,5 @@
 -- The death of a place.
-use Rattle.std.specs.Prelude.{◌≡◌, ℕ, ◌<◌, ◌≤◌, ◌^◌, Bool, true, false, ◌&&◌, ◌==◌, not, List, [], ◌∷◌, Option, Some, None, is_none, slice_index_or, slice_set, length, map, suc, IfSome, refl}
+use Rattle.std.specs.Prelude.{◌≡◌, ℕ, ◌<◌, ◌^◌, Bool, true, false, ◌&&◌, ◌==◌, not, List, [], ◌∷◌, Option, Some, None, is_none, slice_index_or, slice_set, length, map, suc, IfSome, refl}
 use Rattle.std.specs.List.{list_any}
 use Rattle.std.specs.Global.{Box}
 use Rattle.std.proofs.Common.{sym, ap, ◌∙◌, subst, arith}
@@ -16,7 +16,6 @@ use Rattle.rx_rules.specs.Entries.{hit, strike}
 use Rattle.rx_rules.specs.Reached.{Reached, dies as place_dies}
 use Rattle.rx_sound.specs.Sound.{Each, Sound}
 use Rattle.rx_sound.proofs.Changes.{each_found}
-use Rattle.rx_sound.specs.Chains.{Falls}
 use Rattle.rx_sound.proofs.Releasing.{each_below}
 use Rattle.rx_sound.proofs.Reached.{sound}
 use Rattle.rx_finish.specs.Callers.{MayStrike}

@@ -1,5 +1,5 @@
 -- How many tasks a death strikes: the sum over the records, since each task counts in one of them.
-use Rattle.std.specs.Prelude.{◌≡◌, ℕ, zero, suc, ◌<◌, ◌≤◌, ◌+◌, ◌-◌, ◌^◌, Bool, true, false, cond, ◌||◌, ◌&&◌, ◌==◌, not, List, [], ◌∷◌, Option, Some, None, is_none, is_some, option_map, box_value, slice_index_or, length, map, count_by, refl}
+use Rattle.std.specs.Prelude.{◌≡◌, ℕ, zero, suc, ◌<◌, ◌≤◌, ◌+◌, ◌^◌, Bool, true, false, cond, ◌||◌, ◌&&◌, ◌==◌, not, List, [], ◌∷◌, Option, Some, None, is_none, is_some, option_map, box_value, slice_index_or, length, map, count_by, refl}
 use Rattle.std.specs.List.{find}
 use Rattle.std.specs.Global.{Box}
 use Rattle.std.proofs.Common.{sym, ap, ◌∙◌, subst, arith, ⊎_elim}
@@ -7,7 +7,6 @@ use Rattle.std.proofs.lemmas.Bool.{eqb-true, eq-eqb, ne_eqb, true≢false, cases
 use Rattle.std.proofs.Math.Bool.{and-false, and-true}
 use Rattle.std.proofs.lemmas.Option.{get_or_from_slice_get, slice_get_read}
 use Rattle.rx_base.specs.declared.ids.PlaceId.{PlaceId}
-use Rattle.rx_base.specs.declared.ids.ScopeId.{ScopeId}
 use Rattle.rx_base.proofs.Options.{some-of}
 use Rattle.rx_rules.specs.declared.tasks.Where.{Where}
 use Rattle.rx_rules.specs.declared.tasks.Where.TheVariants.{At, Travel}
@@ -35,7 +34,7 @@ use Rattle.rx_counts.proofs.Counting.{one, count_cons, count_none, count_split, 
 use Rattle.rx_counts.proofs.Joining.{number_is}
 use Rattle.rx_counts.proofs.Walks.{keeper_stands}
 use Rattle.rx_counts.proofs.Asking.{kept_at_keeper, keeper_known}
-use Rattle.rx_counts.proofs.Totalling.{AreOf, are, few_tasks}
+use Rattle.rx_counts.proofs.Totalling.{AreOf, few_tasks}
 use Rattle.rx_counts.proofs.Striking.{struck_count, hits_are}
 
 -- Sums of the numbers below n.

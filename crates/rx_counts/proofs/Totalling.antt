@@ -1,5 +1,5 @@
 -- The totals after each change of the tree.
-use Rattle.std.specs.Prelude.{◌≡◌, ℕ, zero, suc, ◌<◌, ◌≤◌, ◌+◌, ◌-◌, ◌^◌, Bool, true, false, cond, ◌&&◌, not, List, [], ◌∷◌, Option, Some, None, is_none, is_some, filter, length, map, count_by, refl}
+use Rattle.std.specs.Prelude.{◌≡◌, ℕ, suc, ◌<◌, ◌≤◌, ◌+◌, ◌^◌, Bool, true, false, cond, ◌&&◌, not, List, [], ◌∷◌, Option, Some, None, is_none, is_some, filter, length, count_by, refl}
 use Rattle.std.proofs.Common.{sym, ap, ◌∙◌, arith}
 use Rattle.std.proofs.lemmas.Bool.{true≢false}
 use Rattle.std.proofs.lemmas.List.Sums.{count_by-le-length}
@@ -13,7 +13,7 @@ use Rattle.rx_rules.specs.Tree.{Tree, is_under, on_chain}
 use Rattle.rx_rules.specs.Entries.{change_first, without}
 use Rattle.rx_sound.specs.Chains.{meets, Falls}
 use Rattle.rx_sound.proofs.Reached.{sound}
-use Rattle.rx_sound.specs.Sound.{Sound, Each}
+use Rattle.rx_sound.specs.Sound.{Sound}
 use Rattle.rx_sound.proofs.Releasing.{each_all, on_meets}
 use Rattle.rx_finish.specs.declared.totals.Totals.{Totals}
 use Rattle.rx_finish.specs.Callers.{does_travel}

@@ -74,12 +74,6 @@ pub struct Toll {
 }
 
 impl Toll {
-    fn none() -> Toll
-        ensures { result ≡ record { all = 0; there = 0 } }
-    {
-        Toll { all: 0, there: 0 }
-    }
-
     fn and(self, more: Toll) -> Toll
         requires { (self.all + more.all < 2 ^ 32) × (self.there + more.there < 2 ^ 32) }
         ensures { result ≡ record { all = self.all + more.all; there = self.there + more.there } }
@@ -114,7 +108,7 @@ fn strike_entry(entry: &mut Option<Box<Record>>, d: PlaceId) -> Toll
 {
     match entry {
         Some(kept) => kept.sums.strike(d),
-        None => Toll::none(),
+        None => Toll { all: 0, there: 0 },
     }
 }
 
@@ -126,7 +120,7 @@ pub fn strike_all(scopes: &mut Vec<Option<Box<Record>>>, d: PlaceId) -> Toll
     ensures struck { (n : ℕ) → Pairs (StrikesRecord d) (record_at scopes.old.items n) (record_at scopes.new.items n) }
     ensures toll { result ≡ toll_below d scopes.old.items (length scopes.old.items) }
 {
-    let mut toll = Toll::none();
+    let mut toll = Toll { all: 0, there: 0 };
     for i in 0..scopes.len() {
         toll = toll.and(strike_entry(&mut scopes[i], d));
     }

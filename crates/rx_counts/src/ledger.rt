@@ -19,7 +19,7 @@ use crate::table::{
     bear, count_at, dropped_by, finish_of, join, keeper_of, leave, look, mask, note_body,
     note_ends, push,
 };
-use crate::totals::{died, ended, freed, landed, opened, started};
+use crate::totals::{died, freed, started};
 use rx_base::{Faults, NoMemory, PlaceId, PlaceSet, ScopeId, TaskId};
 use rx_finish::{
     Born, Caller, FinishLedger, LedgerFault, Outcome, Totals, landing_of, place_of, travel,
@@ -202,7 +202,7 @@ impl FinishLedger for CountLedger {
             return Err(fault);
         }
         self.next_scope += 1;
-        self.totals = opened(self.totals);
+        self.totals.scopes += 1;
         Ok(number)
     }
 
@@ -232,7 +232,7 @@ impl FinishLedger for CountLedger {
         }
         self.next_scope += 1;
         self.next_task += 1;
-        self.totals = opened(self.totals);
+        self.totals.scopes += 1;
         self.totals = started(self.totals, is_lost, place);
         Ok(Born {
             child,
@@ -281,7 +281,8 @@ impl FinishLedger for CountLedger {
         };
         leave(&mut self.scopes, keeper, who.place);
         join(&mut self.scopes, keeper, Where::At(landing_of(who.place)));
-        self.totals = landed(self.totals);
+        self.totals.live += 1;
+        self.totals.travel -= 1;
         Ok(())
     }
 
@@ -324,7 +325,7 @@ impl FinishLedger for CountLedger {
         }
         mask(&mut self.scopes, keeper, dropped);
         leave(&mut self.scopes, keeper, who.place);
-        self.totals = ended(self.totals);
+        self.totals.live -= 1;
         Ok(())
     }
 

@@ -1,21 +1,10 @@
 // The totals of the tree, after each of its changes.
 ghost use Rattle.std.specs.Prelude.{◌≡◌, ◌+◌, ◌-◌, ◌<◌, ◌≤◌, ◌^◌};
-ghost use Rattle.rx_counts.specs.Inside.Totalling.{more_scopes, fewer_scopes, more_tasks, lands, ends, dies, CanDie};
+ghost use Rattle.rx_counts.specs.Inside.Totalling.{fewer_scopes, more_tasks, dies, CanDie};
 
 use crate::dying::Toll;
 use rx_finish::Totals;
 use rx_rules::Where;
-
-/// A scope is opened.
-pub fn opened(totals: Totals) -> Totals
-    requires { totals.scopes + 1 < 2 ^ 32 }
-    ensures { result ≡ more_scopes totals }
-{
-    Totals {
-        scopes: totals.scopes + 1,
-        ..totals
-    }
-}
 
 /// A scope is released, and with it so many below it.
 pub fn freed(totals: Totals, below: u32) -> Totals
@@ -45,29 +34,6 @@ pub fn started(totals: Totals, is_lost: bool, place: Where) -> Totals
             travel: totals.travel + 1,
             ..totals
         },
-    }
-}
-
-/// A task arrives.
-pub fn landed(totals: Totals) -> Totals
-    requires { (totals.live + 1 < 2 ^ 32) × (1 ≤ totals.travel) }
-    ensures { result ≡ lands totals }
-{
-    Totals {
-        live: totals.live + 1,
-        travel: totals.travel - 1,
-        ..totals
-    }
-}
-
-/// A task ends.
-pub fn ended(totals: Totals) -> Totals
-    requires { 1 ≤ totals.live }
-    ensures { result ≡ ends totals }
-{
-    Totals {
-        live: totals.live - 1,
-        ..totals
     }
 }
 

@@ -1,5 +1,5 @@
 use Rattle.std.specs.Prelude.{Err}
-use Rattle.std.proofs.Common.{◌∙◌, sym, subst, refl}
+use Rattle.std.proofs.Common.{◌∙◌, sym, subst, refl, arith}
 use Rattle.std.proofs.lemmas.Bool.{true≢false}
 use Rattle.rx_base.specs.declared.ids.PlaceId.{PlaceId}
 use Rattle.rx_rules.specs.Tree.{Tree}
@@ -37,7 +37,7 @@ pub returns : goal.returns
 returns c = λ room T s may.
     let f : Free T c.args.who Travels = caller c.args.self.now T c.args.who Travels s may (sym c.blow_there.ensures ∙ c.in_default.is) in
     let at = keeper_some c.args.self.now T c.args.who.scope c.in-Some-keeper_of.keeper _ s c.deref.ensures.value c.in-Some-keeper_of.ensures in
-    arrived c.args.self.now _ T c.args.who c.leave.new.scopes.items c.in-Some-keeper_of.keeper.0 s may f at refl refl refl refl refl c.landed-self.ensures
+    arrived c.args.self.now _ T c.args.who c.leave.new.scopes.items c.in-Some-keeper_of.keeper.0 s may f at refl refl refl refl refl refl
     c.leave.ensures
     (subst (λ (p : PlaceId). Changed (in_sums (more (At p))) c.in-Some-keeper_of.keeper.0 c.leave.new.scopes.items c.join.new.scopes.items) c.landing_of.ensures c.join.ensures)
 
@@ -46,8 +46,11 @@ returns-in_default-keeper_of c = λ room T s may.
     let f : Free T c.args.who Travels = caller c.args.self.now T c.args.who Travels s may (sym c.blow_there.ensures ∙ c.in_default.is) in
     absurd (true≢false (sym (keeper_known T c.args.who.scope (sound s.reached) (scope_rooted T c.args.who Travels (sound s.reached) f)) ∙ none_kept c.keeper_of.result _ c.in_default-keeper_of.is (keeper_found c.args.self.now T c.args.who.scope c.keeper_of.result _ s c.deref.ensures.value c.keeper_of.ensures)))
 
-pub landed-self-requires : goal.landed-self-requires
-landed-self-requires c =
+pub overflow_add-self : goal.overflow_add-self
+overflow_add-self c = let small = (few_live c.args.self.now c.requires.1 c.requires.2 c.requires.3.numbers.tasks).0 in omega arith
+
+pub overflow_sub-self : goal.overflow_sub-self
+overflow_sub-self c =
     let T : Tree = c.requires.1 in
     let f : Free T c.args.who Travels = caller c.args.self.now T c.args.who Travels c.requires.2 c.requires.3 (sym c.blow_there.ensures ∙ c.in_default.is) in
-    ((few_live c.args.self.now T c.requires.2 c.requires.3.numbers.tasks).0, (one_landed c.args.self.now T c.args.who (λ y. record y { place = At (landing c.args.who.place) }) f c.requires.2 f.unstruck refl).0)
+    (one_landed c.args.self.now T c.args.who (λ y. record y { place = At (landing c.args.who.place) }) f c.requires.2 f.unstruck refl).0

@@ -58,13 +58,13 @@ pub returns : goal.returns
 returns c = λ room T s may.
     let f : Free T c.args.who (IsBare T c.args.who) = caller c.args.self.now T c.args.who (IsBare T c.args.who) s may (sym c.blow_there.ensures ∙ c.in_default.is) in
     let at = keeper_some c.args.self.now T c.args.who.scope c.in-Some-keeper_of.keeper _ s c.deref.ensures.value c.in-Some-keeper_of.ensures in
-    ended c.args.self.now _ T c.args.who c.args.thrown c.in-Some-keeper_of.keeper c.note_ends.new.scopes.items c.mask.new.scopes.items s may f at refl refl refl refl refl c.ended-self.ensures
+    ended c.args.self.now _ T c.args.who c.args.thrown c.in-Some-keeper_of.keeper c.note_ends.new.scopes.items c.mask.new.scopes.items s may f at refl refl refl refl refl refl
     (subst (λ (b : Bool). Changed (ends_if b c.args.thrown) c.args.who.scope.0 c.args.self.now.scopes.items c.note_ends.new.scopes.items) c.eq-keeps.ensures c.in_default-note_ends.ensures.noted)
     (subst (λ (n : ℕ). Changed (in_sums (masking n)) c.in-Some-keeper_of.keeper.0 c.note_ends.new.scopes.items c.mask.new.scopes.items) (c.dropped_by-dropped.ensures ∙ ap (λ b. cond b 0 (length c.args.thrown)) c.eq-keeps.ensures) c.mask.ensures)
     c.leave.ensures
 
-pub ended-self-requires : goal.ended-self-requires
-ended-self-requires c =
+pub overflow_sub-self : goal.overflow_sub-self
+overflow_sub-self c =
     let T : Tree = c.requires.1 in
     let f : Free T c.args.who (IsBare T c.args.who) = caller c.args.self.now T c.args.who (IsBare T c.args.who) c.requires.2 c.requires.3 (sym c.blow_there.ensures ∙ c.in_default.is) in
     (one_ended c.args.self.now T c.args.who f c.requires.2).0

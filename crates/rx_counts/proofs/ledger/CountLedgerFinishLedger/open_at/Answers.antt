@@ -1,5 +1,5 @@
 use Rattle.std.specs.Prelude.{◌≡◌, Some, IfSome, Err, not}
-use Rattle.std.proofs.Common.{◌∙◌, sym, subst, refl, ap}
+use Rattle.std.proofs.Common.{◌∙◌, sym, subst, refl, ap, arith}
 use Rattle.rx_base.specs.declared.ids.PlaceId.{PlaceId}
 use Rattle.rx_base.specs.declared.ids.ScopeId.{ScopeId}
 use Rattle.rx_sound.proofs.Reached.{sound}
@@ -14,9 +14,8 @@ use Rattle.rx_counts.specs.Stands.{StandsFor, record_at, more}
 use Rattle.rx_counts.proofs.Asking.{was_lost, caller, unstruck, call_refused, same_records, wide}
 use Rattle.rx_counts.proofs.Born.{finish_known}
 use Rattle.rx_counts.proofs.Spawning.{start}
-use Rattle.rx_counts.specs.Inside.Totalling.{more_tasks}
+use Rattle.rx_counts.specs.Inside.Totalling.{more_scopes, more_tasks}
 use Rattle.rx_counts.proofs.Totalling.{few_scopes, few_live}
-use Rattle.rx_rules.specs.Entries.{place_number}
 use Rattle.rx_counts.proofs.Calling.{called_stands, call_ok}
 use Rattle.rx_counts.proofs.ledger.CountLedgerFinishLedger.open_at.Goals as goal
 
@@ -46,10 +45,10 @@ returns c = λ room T s may.
     called_stands c.args.self.now _ T c.args.who c.args.to _ _ _ c.in-Ok.kept.sums _ s may none f refl refl
     new.kind (new.home ∙ c.place_of-from.ensures) new.parent (fin ∙ ap (λ (v : ScopeId). Some v.0) (sym new.finish)) new.sums
     (ap not c.lives-is_lost.ensures) c.bear.ensures.lost (λ e. c.bear.ensures.joins e ∙ ap (λ (w : Where). more w c.in-Ok.kept.sums) place)
-    new.body new.ends refl refl refl refl refl (c.started-self.ensures ∙ ap (λ (w : Where). more_tasks (not c.lives-is_lost.result) w c.opened-self.result) place ∙ ap (more_tasks (not c.lives-is_lost.result) (start (place_number c.args.who.place) c.args.to)) c.opened-self.ensures) c.in_default-push.ensures.pushed
+    new.body new.ends refl refl refl refl refl (c.started-self.ensures ∙ ap (λ (w : Where). more_tasks (not c.lives-is_lost.result) w (more_scopes c.args.self.now.totals)) place) c.in_default-push.ensures.pushed
 
-pub opened-self-requires : goal.opened-self-requires
-opened-self-requires c = few_scopes c.args.self.now c.requires.1 c.requires.2 c.requires.3.asks.numbers.scopes
+pub overflow_add-self-3 : goal.overflow_add-self-3
+overflow_add-self-3 c = let small = few_scopes c.args.self.now c.requires.1 c.requires.2 c.requires.3.asks.numbers.scopes in omega arith
 
 pub started-self-requires : goal.started-self-requires
-started-self-requires c = rw c.opened-self.ensures (few_live c.args.self.now c.requires.1 c.requires.2 c.requires.3.asks.numbers.tasks)
+started-self-requires c = (few_live c.args.self.now c.requires.1 c.requires.2 c.requires.3.asks.numbers.tasks)

@@ -1,5 +1,5 @@
 use Rattle.std.specs.Prelude.{Err}
-use Rattle.std.proofs.Common.{◌∙◌, sym, subst, refl}
+use Rattle.std.proofs.Common.{◌∙◌, sym, subst, refl, arith}
 use Rattle.rx_finish.specs.declared.ledger.LedgerFault.{LedgerFault}
 use Rattle.rx_finish.specs.declared.ledger.LedgerFault.TheVariants.{NoMemory}
 use Rattle.rx_finish.specs.Callers.{IsMoving}
@@ -25,7 +25,7 @@ returns c = λ room T s may.
     let none = sym c.blow_there.ensures ∙ c.in_default.is in
     let new = c.in-Ok.ensures in
     opened_stands c.args.self.now _ T c.args.who _ c.in-Ok.kept s may none (caller c.args.self.now T c.args.who IsMoving s may none) refl
-    new.kind (new.home ∙ c.place_of-home.ensures) new.parent new.finish new.sums new.body new.ends refl refl refl refl refl c.opened-self.ensures c.in_default-push.ensures.pushed
+    new.kind (new.home ∙ c.place_of-home.ensures) new.parent new.finish new.sums new.body new.ends refl refl refl refl refl refl c.in_default-push.ensures.pushed
 
-pub opened-self-requires : goal.opened-self-requires
-opened-self-requires c = few_scopes c.args.self.now c.requires.1 c.requires.2 c.requires.3.numbers.scopes
+pub overflow_add-self-2 : goal.overflow_add-self-2
+overflow_add-self-2 c = let small = few_scopes c.args.self.now c.requires.1 c.requires.2 c.requires.3.numbers.scopes in omega arith

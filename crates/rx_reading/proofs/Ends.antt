@@ -6,15 +6,18 @@ use Rattle.std.proofs.lemmas.Bool.{eqb-true, and_parts, le-leb}
 use Rattle.std.proofs.lemmas.Option.{same_Some, none-some}
 use Rattle.rx_base.specs.declared.ids.Kill.{Kill}
 use Rattle.rx_text.proofs.Lists.{left-more}
-use Rattle.rx_history.specs.Events.{AllEvents, events_of}
+use Rattle.rx_history.specs.Events.{AllEvents}
 use Rattle.rx_history.specs.KillOrder.{ComesLast}
 use Rattle.rx_history.specs.JoinOrder.{IsAtLeastLast}
 use Rattle.rx_history.specs.Logs.{Log}
-use Rattle.rx_history.specs.Setups.{given}
 use Rattle.rx_trace.specs.Text.{trace_text}
+use Rattle.rx_rules.specs.declared.entries.Entry.{Entry}
+use Rattle.rx_rules.specs.declared.events.PlaceEvent.{PlaceEvent}
+use Rattle.rx_rules.specs.Run.{Given}
+use Rattle.rx_reading.specs.Limits.{IsWithin}
 use Rattle.rx_reading.specs.Inside.FieldWords.{next, number_below, number_of, number_at}
 use Rattle.rx_history.specs.KillOrder.{is_before}
-use Rattle.rx_reading.specs.Inside.Machine.{ReadingState, may_follow, joins_of, is_there, all_there, read_line}
+use Rattle.rx_reading.specs.Inside.Machine.{ReadingState, Over, may_follow, joins_of, is_there, all_there, read_line}
 use Rattle.rx_reading.specs.Reading.{IsBadLine}
 use Rattle.rx_reading.specs.Inside.Stages.{state_of}
 use Rattle.rx_reading.specs.Words.{Lacks, first_word}
@@ -117,7 +120,7 @@ at-bad bytes number s rest line tail at is lacks e =
 pub at-end : (bytes : List ℕ) (number : ℕ) (s : ReadingState) (rest : List ℕ) → At bytes number s rest → Lacks 10 rest → IsOpen s rest → IsBadLine bytes number
 at-end bytes number s rest at lacks is_open = subst (IsBadLine bytes) (sym at.1) (bad-end bytes at.0 s rest at.2 lacks is_open)
 
-nothing : (xs : List ℕ) → true ≡ (length xs == 0) → xs ≡ []
+pub nothing : (xs : List ℕ) → true ≡ (length xs == 0) → xs ≡ []
 nothing [] e = refl
 nothing (x ∷ xs) e = let none : length (x ∷ xs) ≡ 0 = eqb-true (length (x ∷ xs)) 0 (sym e) in absurd (omega arith)
 
@@ -126,20 +129,20 @@ something [] e h = cc
 something (x ∷ xs) e h = cc
 
 -- the whole text
-pub at-all : (bytes : List ℕ) (number : ℕ) (s : Stage) (rest : List ℕ) (h : Log) (j : AllEvents) → At bytes number (state_of s) rest → s ≡ stages.Over h j → true ≡ (length rest == 0) → bytes ≡ trace_text (given h.setup) h.entries (events_of j)
-at-all bytes number s rest h j at is none =
-    let read : HasRead bytes at.0 (state_of (stages.Over h j)) [] = subst (λ x. HasRead bytes at.0 (state_of x) []) is (subst (HasRead bytes at.0 (state_of s)) (nothing rest none) at.2) in
-    (read-all bytes at.0 (given h.setup) h.entries (events_of j) read).0
+pub at-all : (bytes : List ℕ) (number : ℕ) (s : ReadingState) (rest : List ℕ) (U : Given) (es : List Entry) (js : List (List PlaceEvent)) → At bytes number s rest → rest ≡ [] → s ≡ Over U es js
+    → (bytes ≡ trace_text U es js) × IsWithin U es js
+at-all bytes number s rest U es js at none is =
+    read-all bytes at.0 U es js (subst (λ x. HasRead bytes at.0 x []) is (subst (HasRead bytes at.0 s) none at.2))
 
-pub open-some : (s : ReadingState) (rest : List ℕ) → false ≡ (length rest == 0) → IsOpen s rest
-open-some s rest some U es js is none = something rest some none
+pub open_some : (s : ReadingState) (rest : List ℕ) → false ≡ (length rest == 0) → IsOpen s rest
+open_some s rest some U es js is none = something rest some none
 
-pub open-unless : (s : Stage) (rest : List ℕ) → ((h : Log) (j : AllEvents) → s ≡ stages.Over h j → ⊥) → IsOpen (state_of s) rest
-open-unless stages.Untitled rest never U es js is none = cc
-open-unless stages.Titled rest never U es js is none = cc
-open-unless (stages.Sized places heap) rest never U es js is none = cc
-open-unless (stages.Listed places heap kills) rest never U es js is none = cc
-open-unless (stages.Planned setup) rest never U es js is none = cc
-open-unless (stages.Entering history) rest never U es js is none = cc
-open-unless (stages.Logging history journals journal) rest never U es js is none = cc
-open-unless (stages.Over h j) rest never U es js is none = never h j refl
+pub open_unless : (s : Stage) (rest : List ℕ) → ((h : Log) (j : AllEvents) → s ≡ stages.Over h j → ⊥) → IsOpen (state_of s) rest
+open_unless stages.Untitled rest never U es js is none = cc
+open_unless stages.Titled rest never U es js is none = cc
+open_unless (stages.Sized places heap) rest never U es js is none = cc
+open_unless (stages.Listed places heap kills) rest never U es js is none = cc
+open_unless (stages.Planned setup) rest never U es js is none = cc
+open_unless (stages.Entering history) rest never U es js is none = cc
+open_unless (stages.Logging history journals journal) rest never U es js is none = cc
+open_unless (stages.Over h j) rest never U es js is none = never h j refl

@@ -18,3 +18,6 @@ pub mod Stripped
 pub mod Taking
 pub mod Joining
 pub mod Ends
+pub mod Known
+pub mod Digit
+pub mod Same

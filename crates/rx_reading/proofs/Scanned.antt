@@ -68,6 +68,21 @@ short-is w o e = by (natural_of w) refl o e
 pub natural_by_number : (w : List ℕ) → natural_of w ≡ next (number_of w) short_of
 natural_by_number w = sym (short-is w (number_of w) refl)
 
+-- a number of 32 bits is one of 64 bits
+natural_number : (w : List ℕ) (n : ℕ) → natural_of w ≡ Some n → number_of w ≡ Some (pos n)
+natural_number w n e =
+    let is = below-takes (2 ^ 32) w n e in
+    let low : n < 2 ^ 32 = is.1 in
+    let fits : FitsSigned w64 (pos n) = record { sfits = omega arith } in
+    ap number_of is.0 ∙ number-again (pos n) fits
+
+-- the number of 64 bits that a number of 32 bits is stored as
+pub stored_number : (w : List ℕ) (n : ℕ) (z : ℤ) → natural_of w ≡ Some n → z ≡ pos n → Some (to_z w64 (of_z w64 z)) ≡ number_of w
+stored_number w n z e is =
+    let low : n < 2 ^ 32 = (below-takes (2 ^ 32) w n e).1 in
+    let fits : FitsSigned w64 (pos n) = record { sfits = omega arith } in
+    ap (λ y. Some (to_z w64 (of_z w64 y))) is ∙ ap Some (to_z-of_z w64 (pos n) fits) ∙ sym (natural_number w n e)
+
 abbrev limited : ℕ → ℕ → Option ℕ
 limited limit n = cond (nat_lt n limit) (Some n) None
 

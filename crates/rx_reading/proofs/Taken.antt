@@ -6,7 +6,7 @@ use Rattle.std.proofs.lemmas.Bool.{eqb-true, eq-eqb, eqb-false}
 use Rattle.std.proofs.lemmas.List.{take_rest, take_all, drop_all, length-take-le}
 use Rattle.std.proofs.lemmas.List.Sums.{prefix_len-le-length}
 use Rattle.std.proofs.Math.Seq.{drop-append_seam}
-use Rattle.rx_reading.specs.Words.{Lacks, pieces, later, words_left, first_word, next_of}
+use Rattle.rx_reading.specs.Words.{Lacks, pieces, later, words_left, first_word}
 use Rattle.rx_reading.proofs.Cuts.{pieces-cut, pieces-one}
 
 abbrev pub before : ℕ → List ℕ → ℕ
@@ -72,7 +72,3 @@ word-first n tail is = first-cut tail n is (n == length tail) refl ∙ ap (λ r.
 pub next-word : (n : ℕ) (rest front tail : List ℕ) → rest ≡ front ++ 32 ∷ tail → Lacks 32 front → n ≡ before 32 tail → Some (take n tail, words_left (take (length tail - n) (drop n tail))) ≡ first_word (words_left rest)
 next-word n rest front tail whole lacks is =
     sym (ap (λ r. first_word (words_left r)) whole ∙ ap (λ ws. first_word (later ws)) (pieces-cut 32 front tail lacks) ∙ ap first_word (word-first n tail is))
-
-pub peeked : (n : ℕ) (rest front tail : List ℕ) → rest ≡ front ++ 32 ∷ tail → Lacks 32 front → n ≡ before 32 tail → Some (take n tail) ≡ next_of (words_left rest)
-peeked n rest front tail whole lacks is =
-    sym (ap (λ r. next_of (words_left r)) whole ∙ ap (λ ws. next_of (later ws)) (pieces-cut 32 front tail lacks) ∙ ap next_of (word-first n tail is))

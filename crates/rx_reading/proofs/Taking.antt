@@ -1,6 +1,6 @@
 -- The next word, taken where it is an item.
 use Rattle.std.proofs.Common.{◌≡◌, ℕ, ◌+◌, ◌*◌, ◌/◌, ◌<◌, ◌≤◌, ◌^◌, Bool, true, false, cond, ◌||◌, ◌==◌, List, [], ◌∷◌, ◌++◌, length, refl, ap, sym, ◌∙◌, subst, arith, append_assoc, append-nil}
-use Rattle.std.specs.Prelude.{Option, Some, None, option_map, filter}
+use Rattle.std.specs.Prelude.{Option, Some, None, filter}
 use Rattle.std.specs.List.{AllByRecursion}
 use Rattle.std.specs.Str.{bytes_eq}
 use Rattle.rx_base.specs.declared.ids.PlaceId.{PlaceId}
@@ -13,31 +13,26 @@ use Rattle.std.proofs.lemmas.Bool.{lt-ltb}
 use Rattle.std.proofs.lemmas.Option.{same_Some, none-some}
 use Rattle.rx_reading.specs.Inside.FieldWords.{place_of}
 use Rattle.rx_reading.specs.Inside.Readers.{Reader, either, gathered, many, one_or_more, part}
-use Rattle.rx_reading.specs.Words.{first_word, next_of}
+use Rattle.rx_reading.specs.Words.{first_word}
 use Rattle.rx_reading.specs.Inside.PartWords.{set_of, place_joined, places_at, key_of, left_of, item_of}
 use Rattle.rx_reading.proofs.Cuts.{bytes-same}
 use Rattle.rx_reading.proofs.Fields.{place-takes}
 use Rattle.rx_reading.proofs.Losses.{joined-low, joined-bit}
 
-abbrev with : {S : Type 0} → (S → List ℕ) → List (List ℕ) → S → List ℕ × List (List ℕ)
-with now new s = (now s, new)
-
-rest-of : {S : Type 0} (r : Option S) (now : S → List ℕ) (new : List (List ℕ)) (w : List ℕ) (ws : List (List ℕ)) → option_map (with now new) r ≡ Some (w, ws) → new ≡ ws
-rest-of None now new w ws e = absurd (none-some (w, ws) e)
-rest-of (Some s) now new w ws e = ap (λ x. x.1) (same_Some (now s, new) (w, ws) e)
-
--- an item is taken
-pub item-some : {A S : Type 0} (of : List ℕ → Option A) (ws new : List (List ℕ)) (w : List ℕ) (a : A) (r : Option S) (now : S → List ℕ) → Some w ≡ next_of ws → of w ≡ Some a → option_map (with now new) r ≡ first_word ws → (Some a, new) ≡ item_of of ws
-item-some of [] new w a r now next is e = absurd (none-some w (sym next))
-item-some of (v ∷ ws) new w a r now next is e =
-    let same : w ≡ v = same_Some w v next in
-    let left : new ≡ ws = rest-of r now new v ws e in
+-- the first word is an item
+pub item-first : {A : Type 0} (of : List ℕ → Option A) (ws new : List (List ℕ)) (w : List ℕ) (a : A) → Some (w, new) ≡ first_word ws → of w ≡ Some a → (Some a, new) ≡ item_of of ws
+item-first of [] new w a first is = absurd (none-some (w, new) (sym first))
+item-first of (v ∷ ws) new w a first is =
+    let same : w ≡ v = ap (λ x. x.0) (same_Some (w, new) (v, ws) first) in
+    let left : new ≡ ws = ap (λ x. x.1) (same_Some (w, new) (v, ws) first) in
     ap (λ n. (Some a, n)) left ∙ sym (ap (λ o. left_of o v ws) (ap of (sym same) ∙ is))
 
--- none is there
-pub item-none : {A : Type 0} (of : List ℕ → Option A) (ws : List (List ℕ)) (w : List ℕ) → Some w ≡ next_of ws → of w ≡ None → (None, ws) ≡ item_of of ws
-item-none of [] w next is = absurd (none-some w (sym next))
-item-none of (v ∷ ws) w next is = sym (ap (λ o. left_of o v ws) (ap of (sym (same_Some w v next)) ∙ is))
+-- the first word is none
+pub no-item-first : {A : Type 0} (of : List ℕ → Option A) (ws new : List (List ℕ)) (w : List ℕ) (r : Option A) → Some (w, new) ≡ first_word ws → of w ≡ None → r ≡ None → (r, ws) ≡ item_of of ws
+no-item-first of [] new w r first is none = absurd (none-some (w, new) (sym first))
+no-item-first of (v ∷ ws) new w r first is none =
+    let same : w ≡ v = ap (λ x. x.0) (same_Some (w, new) (v, ws) first) in
+    ap (λ o. (o, v ∷ ws)) none ∙ sym (ap (λ o. left_of o v ws) (ap of (sym same) ∙ is))
 
 abbrev paired : {A B : Type 0} → A → B → A × B
 paired a b = (a, b)
@@ -164,9 +159,6 @@ by-word q r (v ∷ ws) rest w key first same picks =
     let is : key ≡ v = sym (bytes-same w key (sym same)) ∙ ap (λ x. x.0) e in
     let left : rest ≡ ws = ap (λ x. x.1) e in
     ap r left ∙ sym (picks ws) ∙ ap (λ k. q (k ∷ ws)) is
-
-pub item-none-as : {A : Type 0} (of : List ℕ → Option A) (ws : List (List ℕ)) (w : List ℕ) → Some w ≡ next_of ws → of w ≡ None → (r : Option A) → r ≡ None → paired r ws ≡ item_of of ws
-item-none-as of ws w next is r none = ap (λ o. paired o ws) none ∙ item-none of ws w next is
 
 -- the first word is another
 pub other-word : {A : Type 0} (key : List ℕ) (r other : Reader A) (words new : List (List ℕ)) (b : Bool) → (b, new) ≡ key_of key words → b ≡ false → other [] ≡ None → other new ≡ either key r other words

@@ -5,7 +5,7 @@ ghost use Rattle.rx_reading.specs.Inside.EntryWords.{act_at, step_at, release_or
 
 use crate::acts::{Kind, act};
 use crate::parts::{batch_part, keyword, outcome_part, place_field, task_field};
-use crate::words::Words;
+use crate::words::{Words, is_same};
 use rx_base::NoMemory;
 use rx_history::Entry;
 use std::alloc::Global;
@@ -22,27 +22,27 @@ pub(crate) fn entry(
     let Some(word) = words.next() else {
         return Ok(None);
     };
-    if word == b"open".as_slice() {
+    if is_same(word, b"open") {
         step(alloc, words, places, Kind::Open)
-    } else if word == b"at".as_slice() {
+    } else if is_same(word, b"at") {
         step(alloc, words, places, Kind::At)
-    } else if word == b"spawn".as_slice() {
+    } else if is_same(word, b"spawn") {
         step(alloc, words, places, Kind::Spawn)
-    } else if word == b"arrive".as_slice() {
+    } else if is_same(word, b"arrive") {
         step(alloc, words, places, Kind::Arrive)
-    } else if word == b"wait".as_slice() {
+    } else if is_same(word, b"wait") {
         step(alloc, words, places, Kind::Wait)
-    } else if word == b"release".as_slice() {
+    } else if is_same(word, b"release") {
         release(alloc, words, places)
-    } else if word == b"end".as_slice() {
+    } else if is_same(word, b"end") {
         step(alloc, words, places, Kind::End)
-    } else if word == b"print".as_slice() {
+    } else if is_same(word, b"print") {
         step(alloc, words, places, Kind::Print)
-    } else if word == b"census".as_slice() {
+    } else if is_same(word, b"census") {
         step(alloc, words, places, Kind::Census)
-    } else if word == b"death".as_slice() {
+    } else if is_same(word, b"death") {
         Ok(death(words, places))
-    } else if word == b"join".as_slice() {
+    } else if is_same(word, b"join") {
         Ok(join(words, places))
     } else {
         Ok(None)

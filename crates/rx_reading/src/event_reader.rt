@@ -8,7 +8,7 @@ ghost use Rattle.rx_reading.specs.Inside.EventWords.{forget_at, cell_at, done_at
 
 use crate::items::task;
 use crate::parts::{block_field, keyword, natural_field, number_field, path_field};
-use crate::words::Words;
+use crate::words::{Words, is_same};
 use rx_base::{GlobalRef, NoMemory, TaskId};
 use rx_history::{Cell, PlaceEvent};
 use std::alloc::Global;
@@ -31,8 +31,9 @@ pub(crate) fn event(
 fn next_task(words: &mut Words<'_>) -> Option<TaskId>
     ensures { (result, words.new) ≡ item_of task_spelt words.old }
 {
-    let task = task(words.peek()?)?;
-    let _ = words.next();
+    let (word, after) = words.first()?;
+    let task = task(word)?;
+    *words = after;
     Some(task)
 }
 
@@ -78,13 +79,13 @@ fn cell(words: &mut Words<'_>, home: u8) -> Option<Cell>
     ensures { answer_left result words.new ≡ cell_at home words.old }
 {
     let word = words.next()?;
-    if word == b"make".as_slice() {
+    if is_same(word, b"make") {
         make(words)
-    } else if word == b"get".as_slice() {
+    } else if is_same(word, b"get") {
         get(words, home)
-    } else if word == b"put".as_slice() {
+    } else if is_same(word, b"put") {
         put(words, home)
-    } else if word == b"forget".as_slice() {
+    } else if is_same(word, b"forget") {
         forget(words, home)
     } else {
         None

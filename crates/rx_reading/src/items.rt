@@ -44,23 +44,23 @@ pub(crate) fn scope(word: &[u8]) -> Option<ScopeId>
 pub(crate) fn path(alloc: Global, word: &[u8]) -> Result<Option<Path>, NoMemory>
     ensures { IfOk result (λ path. path ≡ path_of word.now) }
 {
-    let mut path = Path::open(alloc);
+    let mut numbers = Vec::with_capacity(alloc, word.len() / 2 + 1)?;
     let mut rest = word;
     'numbers: while let Some((front, tail)) = cut(rest, b'.') {
         let Some(n) = natural(front) else {
             return Ok(None);
         };
-        path.push(n)?;
+        numbers.push(n)?;
         rest = tail;
     }
     let Some(n) = natural(rest) else {
         return Ok(None);
     };
-    path.push(n)?;
-    if path.len() > 65 {
+    numbers.push(n)?;
+    if numbers.len() > 65 {
         return Ok(None);
     }
-    Ok(Some(path))
+    Ok(Some(Path::from_vec(numbers)))
 }
 
 pub(crate) fn fault(word: &[u8], places: u8) -> Option<Fault>

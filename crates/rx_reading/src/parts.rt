@@ -8,7 +8,7 @@ ghost use Rattle.rx_reading.specs.Inside.PartWords.{item_of, key_of, left_of, ne
 
 use crate::items::{fault, path, place, scope, task};
 use crate::numbers::{count, natural, number};
-use crate::words::Words;
+use crate::words::{Words, is_same};
 use rx_base::{
     Batch, Fault, Faults, GlobalRef, NoMemory, Path, PlaceId, PlaceSet, ScopeId, TaskId,
 };
@@ -78,10 +78,10 @@ pub(crate) fn block_field(words: &mut Words<'_>, home: u8) -> Option<GlobalRef>
 pub(crate) fn keyword(words: &mut Words<'_>, key: &[u8]) -> bool
     ensures { (result, words.new) ≡ key_of key.now words.old }
 {
-    match words.peek() {
-        Some(word) => {
-            if word == key {
-                let _ = words.next();
+    match words.first() {
+        Some((word, after)) => {
+            if is_same(word, key) {
+                *words = after;
                 true
             } else {
                 false
@@ -116,8 +116,9 @@ pub(crate) fn way_field(words: &mut Words<'_>, places: u8) -> Option<(PlaceId, P
 fn next_place(words: &mut Words<'_>, places: u8) -> Option<PlaceId>
     ensures { (result, words.new) ≡ item_of (place_of places) words.old }
 {
-    let place = place(words.peek()?, places)?;
-    let _ = words.next();
+    let (word, after) = words.first()?;
+    let place = place(word, places)?;
+    *words = after;
     Some(place)
 }
 
@@ -125,8 +126,9 @@ fn next_place(words: &mut Words<'_>, places: u8) -> Option<PlaceId>
 fn next_fault(words: &mut Words<'_>, places: u8) -> Option<Fault>
     ensures { (result, words.new) ≡ item_of (fault_of places) words.old }
 {
-    let fault = fault(words.peek()?, places)?;
-    let _ = words.next();
+    let (word, after) = words.first()?;
+    let fault = fault(word, places)?;
+    *words = after;
     Some(fault)
 }
 
@@ -134,10 +136,10 @@ fn next_fault(words: &mut Words<'_>, places: u8) -> Option<Fault>
 fn next_path(alloc: Global, words: &mut Words<'_>) -> Result<Option<Path>, NoMemory>
     ensures { IfOk result (λ path. (path, words.new) ≡ item_of path_of words.old) }
 {
-    match words.peek() {
-        Some(word) => match path(alloc, word) {
+    match words.first() {
+        Some((word, after)) => match path(alloc, word) {
             Ok(Some(path)) => {
-                let _ = words.next();
+                *words = after;
                 Ok(Some(path))
             }
             Ok(None) => Ok(None),

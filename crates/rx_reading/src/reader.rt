@@ -1,13 +1,18 @@
 // The text of a trace is read.
-ghost use Rattle.std.specs.Prelude.{◌≡◌, ◌<◌, ◌^◌, length, IfOk, IfErr};
+ghost use Rattle.std.specs.Prelude.{◌≡◌, ◌<◌, ◌^◌, List, [], length, IfOk, IfErr, IfSome, IfNone};
+ghost use Rattle.rx_rules.specs.declared.entries.Entry.{Entry};
+ghost use Rattle.rx_rules.specs.declared.events.PlaceEvent.{PlaceEvent};
+ghost use Rattle.rx_rules.specs.Run.{Given};
 ghost use Rattle.rx_history.specs.Events.{events_of};
 ghost use Rattle.rx_history.specs.Setups.{given};
 ghost use Rattle.rx_trace.specs.Text.{trace_text};
 ghost use Rattle.rx_reading.specs.Limits.{IsWithin};
 ghost use Rattle.rx_reading.specs.Faults.{IfBadLine};
 ghost use Rattle.rx_reading.specs.Reading.{IsBadLine};
+ghost use Rattle.rx_reading.specs.Inside.Machine.{Over};
+ghost use Rattle.rx_reading.specs.Inside.Stages.{state_of};
 
-use crate::stage::{Stage, next_stage};
+use crate::stage::{Stage, read_next};
 use crate::words::cut;
 use rx_history::{History, Journals};
 use std::alloc::Global;
@@ -33,22 +38,35 @@ pub fn read_trace(alloc: Global, bytes: &[u8]) -> Result<(History, Journals), Tr
     let mut rest = bytes;
     let mut number: u32 = 1;
     'lines: while let Some((line, tail)) = cut(rest, b'\n') {
-        match next_stage(alloc, stage, line) {
-            Ok(Some(next)) => stage = next,
-            Ok(None) => return Err(TraceFault::BadLine { number }),
+        match read_next(alloc, &mut stage, line) {
+            Ok(true) => {}
+            Ok(false) => return Err(TraceFault::BadLine { number }),
             Err(_) => return Err(TraceFault::NoMemory),
         }
         rest = tail;
         number += 1;
     }
+    match whole(stage, rest) {
+        Some((history, journals)) => Ok((history, journals)),
+        None => Err(TraceFault::BadLine { number }),
+    }
+}
+
+// What was read, where nothing is left to read and nothing more may come.
+#[tactic(auto, using(crate::proofs::Ends::open_some, crate::proofs::Ends::open_unless, crate::proofs::Ends::nothing))]
+fn whole(stage: Stage, rest: &[u8]) -> Option<(History, Journals)>
+    ensures some { IfSome result (λ x. (rest.now ≡ []) × (state_of stage ≡ Over (given x.0.setup) x.0.entries (events_of x.1))) }
+    ensures none { IfNone result ((setup : Given) (entries : List Entry) (journals : List (List PlaceEvent))
+        → state_of stage ≡ Over setup entries journals → rest.now ≡ [] → ⊥) }
+{
     match stage {
         Stage::Over { history, journals } => {
             if rest.is_empty() {
-                Ok((history, journals))
+                Some((history, journals))
             } else {
-                Err(TraceFault::BadLine { number })
+                None
             }
         }
-        _ => Err(TraceFault::BadLine { number }),
+        _ => None,
     }
 }

@@ -1,5 +1,6 @@
 // Reading a text line by line.
-ghost use Rattle.std.specs.Prelude.{◌≡◌, ◌≤◌, ◌<◌, ◌&&◌, ◌==◌, nat_lt, ◌++◌, ◌∷◌, [], Some, codes, option_map, IfOk, length};
+ghost use Rattle.std.specs.Prelude.{◌≡◌, ◌≤◌, ◌<◌, ◌&&◌, ◌==◌, nat_lt, ◌++◌, ◌∷◌, [], true, false, Some, None, codes};
+ghost use Rattle.std.specs.Prelude.{option_map, IfOk, length, slice_index};
 ghost use Rattle.std.specs.Str.{bytes_eq};
 ghost use Rattle.rx_reading.specs.Words.{answer_left, pieces};
 ghost use Rattle.rx_history.specs.Events.{events_of};
@@ -18,6 +19,7 @@ use crate::words::split_words;
 use rx_base::NoMemory;
 use rx_history::{Entry, History, Journal, Journals, KillList, PlaceEvent, Setup};
 use std::alloc::Global;
+use std::mem;
 
 // What has been read.
 #[derive(Drop)]
@@ -88,21 +90,128 @@ fn read_event(
 }
 
 // Whether the line begins the journal of a place.
+#[tactic(auto, using(crate::proofs::Known::no_journal))]
 fn is_journal(line: &[u8], place: usize) -> bool
     ensures { result ≡ begins_journal place line.now }
 {
+    if !begins_with_j(line) {
+        return false;
+    }
     match strip(line, b"journal ") {
         Some(rest) => is_number(rest, place),
         None => false,
     }
 }
 
-// One line more.
-pub(crate) fn next_stage(
+// Whether the line begins with the letter of a journal.
+fn begins_with_j(line: &[u8]) -> bool
+    ensures { result ≡ (slice_index line.now 0 == 106) }
+{
+    match line {
+        [b'j', ..] => true,
+        _ => false,
+    }
+}
+
+// Reads one line more, and answers whether it may come next.
+pub(crate) fn read_next(alloc: Global, stage: &mut Stage, line: &[u8]) -> Result<bool, NoMemory>
+    requires { IsReady stage.old }
+    ensures good { IfOk result (λ good. good ≡ true → read_line (state_of stage.old) line.now ≡ Some (state_of stage.new)) }
+    ensures bad { IfOk result (λ good. good ≡ false → read_line (state_of stage.old) line.now ≡ None) }
+{
+    // Most lines are entries and events, which are added in place.
+    if added(alloc, stage, line)? {
+        Ok(true)
+    } else {
+        changed(alloc, stage, line)
+    }
+}
+
+// The stage that a line more makes of this one takes its place; answers whether the line may come next.
+fn changed(alloc: Global, stage: &mut Stage, line: &[u8]) -> Result<bool, NoMemory>
+    requires { IsReady stage.old }
+    ensures good { IfOk result (λ good. good ≡ true → read_line (state_of stage.old) line.now ≡ Some (state_of stage.new)) }
+    ensures bad { IfOk result (λ good. good ≡ false → read_line (state_of stage.old) line.now ≡ None) }
+{
+    let before = mem::replace(stage, Stage::Untitled);
+    match next_stage(alloc, before, line)? {
+        Some(next) => {
+            *stage = next;
+            Ok(true)
+        }
+        None => Ok(false),
+    }
+}
+
+// Adds the entry or the event that a line is, in place, and answers whether it is one that may come next.
+fn added(alloc: Global, stage: &mut Stage, line: &[u8]) -> Result<bool, NoMemory>
+    requires { IsReady stage.old }
+    ensures added { IfOk result (λ is. is ≡ true → read_line (state_of stage.old) line.now ≡ Some (state_of stage.new)) }
+    ensures not_added { IfOk result (λ is. is ≡ false → stage.new ≡ stage.old) }
+{
+    match stage {
+        Stage::Entering { history } => entry_added(alloc, history, line),
+        Stage::Logging {
+            history,
+            journals,
+            journal,
+        } => event_added(alloc, history, journals, journal, line),
+        _ => Ok(false),
+    }
+}
+
+// Adds the entry that a line is.
+fn entry_added(alloc: Global, history: &mut History, line: &[u8]) -> Result<bool, NoMemory>
+    requires { in_all (given history.old.setup) ≤ 16 }
+    ensures added { IfOk result (λ is. is ≡ true → read_line (Entering (given history.old.setup) history.old.entries) line.now
+        ≡ Some (Entering (given history.new.setup) history.new.entries)) }
+    ensures not_added { IfOk result (λ is. is ≡ false → history.new ≡ history.old) }
+{
+    if is_journal(line, 0) {
+        return Ok(false);
+    }
+    match read_entry(alloc, line, history.len(), places_in_all(&history.setup))? {
+        Some(entry) => {
+            history.reserve(1)?;
+            history.add(entry);
+            Ok(true)
+        }
+        None => Ok(false),
+    }
+}
+
+// Adds the event that a line is.
+fn event_added(
     alloc: Global,
-    stage: Stage,
+    history: &History,
+    journals: &Journals,
+    journal: &mut Journal,
     line: &[u8],
-) -> Result<Option<Stage>, NoMemory>
+) -> Result<bool, NoMemory>
+    requires few { in_all (given history.now.setup) ≤ 16 }
+    requires below { length journals.now.journals < in_all (given history.now.setup) }
+    ensures added { IfOk result (λ is. is ≡ true → read_line
+        (Logging (given history.now.setup) history.now.entries (events_of journals.now) journal.old.events) line.now
+        ≡ Some (Logging (given history.now.setup) history.now.entries (events_of journals.now) journal.new.events)) }
+    ensures not_added { IfOk result (λ is. is ≡ false → journal.new ≡ journal.old) }
+{
+    let home = journals.len();
+    let places = usize::from(places_in_all(&history.setup));
+    if is_next_journal(line, home + 1, places) || is_end(line, home + 1, places) {
+        return Ok(false);
+    }
+    match read_event(alloc, line, journal.len(), home as u8)? {
+        Some(event) => {
+            journal.reserve(1)?;
+            journal.add(event);
+            Ok(true)
+        }
+        None => Ok(false),
+    }
+}
+
+// The stage after one line more.
+fn next_stage(alloc: Global, stage: Stage, line: &[u8]) -> Result<Option<Stage>, NoMemory>
     requires { IsReady stage }
     ensures { IfOk result (λ next. option_map state_of next ≡ read_line (state_of stage) line.now) }
 {

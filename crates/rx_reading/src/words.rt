@@ -1,7 +1,8 @@
 // How bytes are cut into lines, and a line into words.
 ghost use Rattle.std.specs.Prelude.{◌≡◌, ◌+◌, ◌<◌, ◌≤◌, ◌++◌, ◌∷◌, ◌==◌, not, length, option_map, IfSome, IfNone};
 ghost use Rattle.std.specs.List.{prefix_len};
-ghost use Rattle.rx_reading.specs.Words.{Lacks, pieces, words_left, first_word, next_of};
+ghost use Rattle.std.specs.Str.{bytes_eq};
+ghost use Rattle.rx_reading.specs.Words.{Lacks, pieces, words_left, first_word};
 
 use std::marker::Model;
 
@@ -42,38 +43,33 @@ impl<'a> Model for Words<'a> {
 }
 
 impl<'a> Words<'a> {
-    // The next word.
-    pub(crate) fn next(&mut self) -> Option<&'a [u8]>
-        ensures { option_map (λ w. (w.now, self.new)) result ≡ first_word self.old }
+    // The next word, and the words after it.
+    pub(crate) fn first(&self) -> Option<(&'a [u8], Words<'a>)>
+        ensures { option_map (λ x. (x.0.now, x.1)) result ≡ first_word self.now }
     {
         match cut(self.rest, b' ') {
             None => None,
             Some((_, tail)) => {
                 let len = run_len(tail, b' ');
-                self.rest = &tail[len..];
-                Some(&tail[..len])
+                Some((&tail[..len], Words { rest: &tail[len..] }))
             }
         }
     }
 
-    // The next word, which stays the next.
-    pub(crate) fn peek(&self) -> Option<&'a [u8]>
-        ensures { option_map (λ w. w.now) result ≡ next_of self.now }
+    // The next word.
+    pub(crate) fn next(&mut self) -> Option<&'a [u8]>
+        ensures { option_map (λ w. (w.now, self.new)) result ≡ first_word self.old }
     {
-        match cut(self.rest, b' ') {
-            None => None,
-            Some((_, tail)) => {
-                let len = run_len(tail, b' ');
-                Some(&tail[..len])
-            }
-        }
+        let (word, after) = self.first()?;
+        *self = after;
+        Some(word)
     }
 
     // Whether no word is left.
     pub(crate) fn is_empty(&self) -> bool
         ensures { result ≡ (length self.now == 0) }
     {
-        self.peek().is_none()
+        self.first().is_none()
     }
 }
 
@@ -83,4 +79,20 @@ pub(crate) fn split_words(line: &[u8]) -> (&[u8], Words<'_>)
 {
     let len = run_len(line, b' ');
     (&line[..len], Words { rest: &line[len..] })
+}
+
+// Whether these are the same bytes. They are compared one by one, since words are short.
+#[tactic(auto, using(crate::proofs::Same::other_length, crate::proofs::Same::none_left))]
+pub(crate) fn is_same(word: &[u8], other: &[u8]) -> bool
+    ensures same { result ≡ bytes_eq word.now other.now }
+{
+    if word.len() != other.len() {
+        return false;
+    }
+    for i in 0..word.len() {
+        if word[i] != other[i] {
+            return false;
+        }
+    }
+    true
 }

@@ -6,7 +6,7 @@ use Rattle.rx_reading.proofs.items.path.Given as goal
 
 -- the numbers so far and those of what is left are all
 abbrev pub invariant-numbers : goal.invariant-numbers
-invariant-numbers l = option_map (λ ns. l.path ++ ns) (naturals_of (pieces 46 l.rest)) ≡ naturals_of (pieces 46 l.word)
+invariant-numbers l = option_map (λ ns. l.numbers.items ++ ns) (naturals_of (pieces 46 l.rest)) ≡ naturals_of (pieces 46 l.word)
 
 abbrev pub decreases-numbers : goal.decreases-numbers
 decreases-numbers l = length l.rest

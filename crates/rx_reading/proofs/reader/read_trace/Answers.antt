@@ -1,28 +1,23 @@
-use Rattle.std.proofs.Common.{sym, ap, ◌∙◌}
-use Rattle.std.specs.Prelude.{option_map}
+use Rattle.rx_history.specs.Events.{events_of}
+use Rattle.rx_history.specs.Setups.{given}
 use Rattle.rx_reading.specs.Inside.Stages.{state_of}
-use Rattle.rx_reading.proofs.Ends.{at-more, at-bad, at-end, at-all, open-some, open-unless}
+use Rattle.rx_reading.proofs.Ends.{at-more, at-bad, at-end, at-all}
 use Rattle.rx_reading.proofs.reader.read_trace.Goals as goal
 
-pub returns-in-Ok-None-clause-bad : goal.returns-in-Ok-None-clause-bad
-returns-in-Ok-None-clause-bad c =
+pub returns-in-Ok-false-clause-bad : goal.returns-in-Ok-false-clause-bad
+returns-in-Ok-false-clause-bad c =
     at-bad c.args.bytes.now c.lines.number (state_of c.lines.stage) c.lines.rest.now c.in-Some.line.now c.in-Some.tail.now c.lines.invariant c.in-Some.ensures.some.0 c.in-Some.ensures.some.1
-    (sym c.in-Ok-None.ensures ∙ ap (option_map state_of) c.in-Ok-None.field-0-is)
+    (c.in-Ok-false.ensures.bad c.in-Ok-false.field-0-test)
 
 pub lines-preserved : goal.lines-preserved
 lines-preserved c =
-    at-more c.args.bytes.now c.lines.number (state_of c.lines.stage) (state_of c.in-Ok-Some.next) c.lines.rest.now c.in-Some.line.now c.in-Some.tail.now c.lines.invariant c.in-Some.ensures.some.0 c.in-Some.ensures.some.1
-    (sym c.in-Ok-Some.ensures ∙ ap (option_map state_of) c.in-Ok-Some.field-0-is)
+    at-more c.args.bytes.now c.lines.number (state_of c.lines.stage) (state_of c.read_next.new.stage) c.lines.rest.now c.in-Some.line.now c.in-Some.tail.now c.lines.invariant c.in-Some.ensures.some.0 c.in-Some.ensures.some.1
+    (c.in-Ok-true.ensures.good c.in-Ok-true.field-0-test)
 
-pub returns-then-is_empty-clause-ok : goal.returns-then-is_empty-clause-ok
-returns-then-is_empty-clause-ok c = at-all c.args.bytes.now c.lines.number c.lines.stage c.lines.rest.now c.in-Over.history c.in-Over.journals c.lines.invariant c.in-Over.is c.if-is_empty.ensures
+pub returns-in-Some-whole-clause-ok : goal.returns-in-Some-whole-clause-ok
+returns-in-Some-whole-clause-ok c =
+    (at-all c.args.bytes.now c.lines.number (state_of c.lines.stage) c.lines.rest.now (given c.in-Some-whole.history.setup) c.in-Some-whole.history.entries (events_of c.in-Some-whole.journals)
+    c.lines.invariant c.in-Some-whole.ensures.some.0 c.in-Some-whole.ensures.some.1).0
 
-pub returns-in-Over-clause-bad : goal.returns-in-Over-clause-bad
-returns-in-Over-clause-bad c = at-end c.args.bytes.now c.lines.number (state_of c.lines.stage) c.lines.rest.now c.lines.invariant c.in_default.ensures.none (open-some (state_of c.lines.stage) c.lines.rest.now c.if-is_empty.ensures)
-
-pub returns : goal.returns
-returns c = record {
-  ok = tt;
-  within = tt;
-  bad = at-end c.args.bytes.now c.lines.number (state_of c.lines.stage) c.lines.rest.now c.lines.invariant c.in_default.ensures.none (open-unless c.lines.stage c.lines.rest.now c.in_default-stage.not-Over);
-}
+pub returns-in-None-clause-bad : goal.returns-in-None-clause-bad
+returns-in-None-clause-bad c = at-end c.args.bytes.now c.lines.number (state_of c.lines.stage) c.lines.rest.now c.lines.invariant c.in_default.ensures.none c.in-None.ensures.none

@@ -1,7 +1,7 @@
 use Rattle.std.proofs.Common.{ap, sym, ◌∙◌}
 use Rattle.rx_reading.specs.Words.{first_word}
 use Rattle.rx_reading.proofs.Taken.{none-left, next-word}
-use Rattle.rx_reading.proofs.words.Words.next.Goals as goal
+use Rattle.rx_reading.proofs.words.Words.first.Goals as goal
 
 pub returns-in-None : goal.returns-in-None
 returns-in-None c = sym (ap first_word (sym c.self.view_is ∙ none-left c.self.inside.rest.now c.in-None.ensures.none))

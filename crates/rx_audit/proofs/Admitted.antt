@@ -25,6 +25,7 @@ use Rattle.rx_ledger.specs.Keeping.{left_to_join}
 use Rattle.rx_ledger.proofs.Pushing.{left-root, still_open-step}
 use Rattle.rx_ledger.proofs.Deaths.{older}
 use Rattle.rx_audit.specs.Admits.{LedgerIs}
+use Rattle.rx_ledger.proofs.Stepped.{come_on, stands_on}
 
 -- the same fold and plan with one entry more
 folds_on : (U : Given) (es : List Entry) (e : Entry) → Folds U es → Allowed (tree_of U.places es) e → InTime (length es) (plan_left (plan_of U) es) e → Folds U (es ++ e ∷ [])
@@ -36,16 +37,6 @@ folds_on U es e folds may time =
       allowed = allowed-push 0 (opening U.places) es e folds.allowed may;
       plan = plan-push 0 (plan_of U) es e folds.plan (subst (λ (i : ℕ). InTime i (plan_left (plan_of U) es) e) zero_n time);
     }
-
--- the number of places is the same, and so is the room
-stands_on : {L : Type 0} (stands : L → ℕ → Tree → Type 0) (U : Given) (l : L) (es : List Entry) (e : Entry) (T : Tree) → tree_of U.places (es ++ e ∷ []) ≡ T → T.places ≡ (tree_of U.places es).places → stands l (left_to_join U es) T → stands l (left_to_join U (es ++ e ∷ [])) (tree_of U.places (es ++ e ∷ []))
-stands_on stands U l es e T same places stood =
-    subst (λ (V : Tree). stands l (in_all U - V.places) V) (sym same) (subst (λ (n : ℕ). stands l (in_all U - n) T) (sym places) stood)
-
-come_on : (U : Given) (es : List Entry) (e : Entry) (xs : List Event) (T : Tree) → tree_of U.places (es ++ e ∷ []) ≡ T → T.places ≡ (tree_of U.places es).places → ((p : PlaceId) → death_number 0 p (es ++ e ∷ []) ≡ death_number 0 p es) → MayCome (in_all U) (tree_of U.places es).places es xs → MayCome (in_all U) (tree_of U.places (es ++ e ∷ [])).places (es ++ e ∷ []) xs
-come_on U es e xs T same places dead come =
-    subst (λ (V : Tree). MayCome (in_all U) V.places (es ++ e ∷ []) xs) (sym same)
-    (subst (λ (n : ℕ). MayCome (in_all U) n (es ++ e ∷ []) xs) (sym places) (may_on (in_all U) (tree_of U.places es).places es (es ++ e ∷ []) xs dead come))
 
 module _ {L : Type 0} (stands : L → ℕ → Tree → Type 0) (U : Given) (es : List Entry) (l : L) (xs : List Event) (k : LedgerIs stands U es l xs false) where
   abbrev T : Tree

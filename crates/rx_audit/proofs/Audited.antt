@@ -53,17 +53,11 @@ use Rattle.rx_audit.proofs.Admitted.{stepped, rooted, may_die, may_strike, died,
 use Rattle.rx_audit.proofs.Agreeing.{outcome_same}
 use Rattle.rx_audit.proofs.Asked.{asked, not_asked}
 use Rattle.rx_audit.proofs.Noted.{quiet_rows, acted_rows}
-
-root_and_none : (es : List Entry) → EndsWithRoot es → NoRoot es → ⊥
-root_and_none [] e n = e
-root_and_none (Step t act batch ∷ es) e n = root_and_none es e n
-root_and_none (Root lost masked thrown ∷ es) e n = n
-root_and_none (Death d ∷ es) e n = root_and_none es e n
-root_and_none (Join d ∷ es) e n = root_and_none es e n
+use Rattle.rx_ledger.proofs.Keepers.{root_or_none}
 
 -- after the root's release nothing may follow
 pub ended_never : {L : Type 0} (stands : L → ℕ → Tree → Type 0) (U : Given) (es : List Entry) (a : Audit L) (e : Entry) → AuditIs stands U es a → a.ended ≡ true → Admits U es e → ⊥
-ended_never stands U es a e h over m = root_and_none es (subst (λ (b : Bool). Ending b es) over h.ledger.ending) m.no_root
+ended_never stands U es a e h over m = root_or_none es (subst (λ (b : Bool). Ending b es) over h.ledger.ending) m.no_root
 
 module _ {L : Type 0} (stands : L → ℕ → Tree → Type 0) (U : Given) (es : List Entry) (a : Audit L) (h : AuditIs stands U es a) (on : a.ended ≡ false) (few : a.count + 2 < 2 ^ 31) where
   abbrev T : Tree
@@ -257,4 +251,4 @@ pub tells_end : {L : Type 0} (stands : L → ℕ → Tree → Type 0) (U : Given
 tells_end stands U es a h = (λ e. subst (λ (b : Bool). Ending b es) e h.ledger.ending, λ last. ended a.ended h.ledger.ending last) where
   ended : (b : Bool) → Ending b es → EndsWithRoot es → b ≡ true
   ended true k last = refl
-  ended false k last = absurd (root_and_none es last k)
+  ended false k last = absurd (root_or_none es last k)

@@ -43,6 +43,7 @@ use Rattle.rx_audit.specs.Rows.{StandsAs, kinds_of, RowIs, RowsAre}
 use Rattle.rx_audit.specs.Inside.Notes.{who_after, standing_after, kinds_after, HasDone, IsNewborn, BornBy, HasNoted}
 use Rattle.rx_audit.proofs.Staying.{stays, acted}
 use Rattle.rx_audit.proofs.Asked.{kinds_more}
+use Rattle.rx_ledger.proofs.Begins.{unborn}
 
 -- Lists.
 
@@ -121,9 +122,6 @@ newborn T V child s from to stands none few =
           let place : (born T child s from to).place ≡ Travel from to = ap (λ (b : Bool). cond b (At to) (Travel from to)) e in
           record { caller = inl (record { task = born T child s from to; stands = stands; says = record { under = refl; place = place }; inner_is = inside; allowed = record { travels = ap does_travel place } }); numbers = few }
     ]) refl
-
-unborn : (T : Tree) (h : Sound T) (child : TaskId) → child.0 ≡ T.next_task → filter (opened_by child) T.scopes ≡ []
-unborn T h child next = none_opened T.tasks T.next_task T.scopes child h.tasks_fall h.opened (omega (arith, next))
 
 module _ (U : Given) (es : List Entry) (folds : Folds U es) where
   abbrev T : Tree

@@ -44,19 +44,9 @@ use Rattle.rx_audit.specs.Asks.{may_ask, MayAskAct}
 use Rattle.rx_audit.specs.Rows.{StandsAs}
 use Rattle.rx_audit.specs.Inside.Notes.{who_after, standing_after}
 use Rattle.rx_audit.proofs.Agreeing.{stands_free, own_named, released_inner}
+use Rattle.rx_ledger.proofs.Others.{none_filtered}
 
 -- An entry of another task.
-
-none_filtered : {X : Type 0} (p q : X → Bool) (xs : List X) → find p xs ≡ None → find p (filter q xs) ≡ None
-none_filtered p q [] e = refl
-none_filtered p q (x ∷ xs) e =
-    (elim (p x) as (λ b. p x ≡ b → cond b (Some x) (find p xs) ≡ None → find p (filter q (x ∷ xs)) ≡ None) [
-      | true ↦ λ w k. absurd (let v : ⊥ = cc in v)
-      | false ↦ λ w k. elim (q x) as (λ c. find p (cond c (x ∷ filter q xs) (filter q xs)) ≡ None) [
-        | true ↦ ap (λ (b : Bool). cond b (Some x) (find p (filter q xs))) w ∙ none_filtered p q xs k
-        | false ↦ none_filtered p q xs k
-      ]
-    ]) refl e
 
 -- who has left does not come back
 pub stays_gone : (n : ℕ) (T : Tree) (e : Entry) (t : TaskId) → Allowed T e → t.0 < T.next_task → task_of T t ≡ None → task_of (made n T e) t ≡ None

@@ -66,7 +66,7 @@ none_changed p q f same (x ∷ xs) e =
       ]
     ]) refl e
 
-none_filtered : {X : Type 0} (p q : X → Bool) (xs : List X) → find p xs ≡ None → find p (filter q xs) ≡ None
+pub none_filtered : {X : Type 0} (p q : X → Bool) (xs : List X) → find p xs ≡ None → find p (filter q xs) ≡ None
 none_filtered p q [] e = refl
 none_filtered p q (x ∷ xs) e =
     (elim (p x) as (λ b. p x ≡ b → cond b (Some x) (find p xs) ≡ None → find p (filter q (x ∷ xs)) ≡ None) [

@@ -6,12 +6,7 @@ use Rattle.rx_base.specs.declared.ids.GlobalRef.{GlobalRef}
 use Rattle.rx_rules.specs.declared.events.Cell.TheVariants.{Make, MakeFull, Get, Put, Forget, GetRefused, PutRefused, ForgetStale}
 use Rattle.rx_rules.specs.Store.{State, Live, MayCell, IsLeastFree, Reads, Refuses, fits, block_of, word_at, is_index}
 use Rattle.rx_replay.specs.Asks.{makes, OneAnswer}
-
-order : (a b : ℕ) → (a < b) ⊎ ((a ≡ b) ⊎ (b < a))
-order zero zero = inr (inl refl)
-order zero (suc b) = inl (omega arith)
-order (suc a) zero = inr (inr (omega arith))
-order (suc a) (suc b) = ⊎_elim (λ (l : a < b). inl (omega arith)) (λ (t : (a ≡ b) ⊎ (b < a)). ⊎_elim (λ (e : a ≡ b). inr (inl (ap suc e))) (λ (l : b < a). inr (inr (omega arith))) t) (order a b)
+use Rattle.rx_verdict.proofs.Single.{order}
 
 least_once : (w : ℕ) (S : State) (n a b : ℕ) → IsLeastFree w S n a → IsLeastFree w S n b → a ≡ b
 least_once w S n a b h k = ⊎_elim (λ (l : a < b). absurd (true≢false (sym h.here ∙ k.least a l)))

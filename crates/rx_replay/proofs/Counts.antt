@@ -9,6 +9,7 @@ use Rattle.rx_store.specs.Kept.{state_from, closed_from, stamp_from, state_of, e
 use Rattle.rx_store.proofs.Running.{run_done, run_close}
 use Rattle.rx_replay.specs.Lawful.{AreLawful, AllWantSome, WantsSome, IsLawfulCount, OneLawfulCount}
 use Rattle.rx_replay.specs.Inside.Next.{MayFollow, state_after, is_close}
+use Rattle.rx_verdict.proofs.Single.{order}
 
 -- The first of more events.
 
@@ -128,12 +129,6 @@ pub closed-next : (es : List PlaceEvent) (e : PlaceEvent) → ends_closed (es ++
 closed-next es e = closed-more false es e
 
 -- One number.
-
-order : (a b : ℕ) → (a < b) ⊎ ((a ≡ b) ⊎ (b < a))
-order zero zero = inr (inl refl)
-order zero (suc b) = inl (omega arith)
-order (suc a) zero = inr (inr (omega arith))
-order (suc a) (suc b) = ⊎_elim (λ (l : a < b). inl (omega arith)) (λ (t : (a ≡ b) ⊎ (b < a)). ⊎_elim (λ (e : a ≡ b). inr (inl (ap suc e))) (λ (l : b < a). inr (inr (omega arith))) t) (order a b)
 
 not-less : (w : ℕ) (j : List PlaceEvent) (m n : ℕ) → IsLawfulCount w j m → IsLawfulCount w j n → m < n → ⊥
 not-less w j m n h k l = let within : n ≤ length j = k.within in h.no_more (omega arith) (lawful-first w (suc m) n j (omega arith) k.lawful)

@@ -1,12 +1,11 @@
 -- The places that are dead in the tree to which a history folds are those whose deaths stand in it.
 use Rattle.std.specs.Prelude.{◌≡◌, ℕ, zero, suc, ◌+◌, ◌*◌, ◌/◌, ◌%◌, ◌^◌, ◌<◌, ◌==◌, ◌||◌, cond, Bool, true, false, length, List, [], ◌∷◌, ◌++◌, not, filter, replicate, slice_index_or, slice_set, Option, Some, None, is_some, refl}
-use Rattle.std.proofs.Common.{sym, subst, ap, ◌∙◌, arith}
+use Rattle.std.proofs.Common.{sym, ap, ◌∙◌, arith}
 use Rattle.std.specs.Int.{bit_at}
 use Rattle.std.proofs.lemmas.Bool.{eqb-true, eqb-false}
 use Rattle.std.proofs.lemmas.List.{get_or-set_same, get_or-set_other, length-set}
 use Rattle.std.proofs.lemmas.Nat.Bits.{bit_at-zero, bit_at-suc, bit_at_lowest}
 use Rattle.rx_base.specs.Sets.{has_bit}
-use Rattle.rx_base.specs.declared.ids.PlaceId.{PlaceId}
 use Rattle.rx_base.specs.declared.ids.TaskId.{TaskId}
 use Rattle.rx_base.specs.declared.values.Fault.{Fault}
 use Rattle.rx_rules.specs.declared.entries.Act.TheVariants.{Open, At as Calls, Spawn, Arrive, Wait, Release, End, Print, Census}
@@ -18,6 +17,7 @@ use Rattle.rx_rules.specs.Entries.{made, made_act, after_end, change_scope}
 use Rattle.rx_rules.specs.Fold.{opening, fold_from, tree_of}
 use Rattle.rx_ledger.specs.Told.{dies_in}
 use Rattle.rx_objects.specs.Shown.{dead_bits}
+use Rattle.rx_sound.proofs.Histories.{no_dead}
 
 -- The number of the dead.
 
@@ -103,16 +103,11 @@ dead_from n T (Death d ∷ es) p low =
     dead_from (suc n) (made n T (Death d)) es p (let e = length_now n T (Death d) in omega (arith, low, e))
     ∙ struck T.dead n d.0 p (dies_in p es) low (d.0 == p) refl
 
-none_first : (n p : ℕ) → slice_index_or {A = Option ℕ} (replicate n None) p None ≡ None
-none_first zero p = refl
-none_first (suc n) zero = refl
-none_first (suc n) (suc p) = none_first n p
-
 pub dead_as_told : (places : ℕ) (es : List Entry) (p : ℕ) → p < 16 → has_bit (dead_bits (tree_of places es).dead) p ≡ dies_in p es
 dead_as_told places es p low =
     bit_is (tree_of places es).dead p
     ∙ (dead_from 0 (opening places) es p low
-    ∙ ap (λ (o : Option ℕ). is_some o || dies_in p es) (none_first 16 p))
+    ∙ ap (λ (o : Option ℕ). is_some o || dies_in p es) (no_dead 16 p))
 
 pub dead_few : (places : ℕ) (es : List Entry) → dead_bits (tree_of places es).dead < 65536
 dead_few places es =

@@ -1,9 +1,9 @@
 -- Slots and the seats of the pass, where one changes or one is added.
-use Rattle.std.specs.Prelude.{◌≡◌, ◌≢◌, ℕ, zero, suc, ◌<◌, ◌≤◌, List, [], ◌∷◌, ◌++◌, length, Some, slice_get, slice_set, refl}
+use Rattle.std.specs.Prelude.{◌≡◌, ◌≢◌, ℕ, zero, suc, ◌<◌, ◌≤◌, List, [], ◌∷◌, ◌++◌, length, Some, get_or, slice_get, slice_set, refl}
 use Rattle.std.specs.List.{filter_map}
 use Rattle.std.proofs.Common.{ap, sym, subst, ◌∙◌, arith, ⊎_elim}
 use Rattle.std.proofs.lemmas.Bool.{cases_eq, cases_lt}
-use Rattle.std.proofs.lemmas.Option.{slice_get_within}
+use Rattle.std.proofs.lemmas.Option.{slice_get_within, slice_get_read}
 use Rattle.rx_base.specs.declared.ids.PlaceId.{PlaceId}
 use Rattle.rx_base.proofs.Elements.{get-last, get-set, length-push}
 use Rattle.rx_rules.specs.declared.entries.Entry.{Entry}
@@ -59,6 +59,13 @@ pub set_twice : {X : Type 0} (xs : List X) (k : ℕ) (x y : X) → slice_set (sl
 set_twice [] k x y = refl
 set_twice (z ∷ xs) zero x y = refl
 set_twice (z ∷ xs) (suc k) x y = ap (λ (l : List _). z ∷ l) (set_twice xs k x y)
+
+-- The seat that was found in a slot.
+
+pub same_seat : (slots : List Slot) (t : ℕ) (x : Slot) (seat was : Seat) → x ≡ get_or slots t x → x ≡ Here seat → slice_get slots t ≡ Some (Here was) → seat ≡ was
+same_seat slots t x seat was value is at =
+    let g = slice_get_read slots (length slots) t x refl (slice_get_within slots t (Here was) at) value in
+    let e : Some (Here seat) ≡ Some (Here was) = ap (λ (s : Slot). Some s) (sym is) ∙ (sym g ∙ at) in cc e
 
 -- A seat after entries that are not its task's.
 

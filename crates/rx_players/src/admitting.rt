@@ -140,14 +140,20 @@ impl Players {
     {
         rx_verdict::seats_tell();
         rx_verdict::seats_end();
-        let mut seat = take_seat(&mut self.slots, task);
+        let Slot::Here(seat) = &mut self.slots[task.0 as usize] else {
+            unreachable!()
+        };
         let Act::End { thrown } = act else {
             return false;
         };
         if !same_batch(&seat.batch, batch) {
             return false;
         }
-        same_faults(&seat.control.take_faults(alloc), thrown)
+        if !same_faults(&seat.control.take_faults(alloc), thrown) {
+            return false;
+        }
+        close(&mut self.slots, task);
+        true
     }
 
     // Whether the entry of a task that asks the ledger is its request; it has gone on then, and has a slot for whom it starts.
@@ -171,18 +177,20 @@ impl Players {
         rx_sound::fold_is_reached();
         rx_sound::reached_is_sound();
         rx_verdict::seats_ask();
-        let mut seat = take_seat(&mut self.slots, task);
+        let Slot::Here(seat) = &mut self.slots[task.0 as usize] else {
+            unreachable!()
+        };
         if !is_wanted(&want, seat.home, act) {
             return Ok(false);
         }
         if !same_batch(&seat.batch, batch) {
             return Ok(false);
         }
-        let newborn = newborn(&self.table, alloc, p, number, &seat, act)?;
-        if !seat.go_on(alloc, p, number, act)? {
+        let newborn = newborn(&self.table, alloc, p, number, seat, act)?;
+        let has_asked = seat.go_on(alloc, p, number, act)?;
+        if !has_asked {
             return Ok(false);
         }
-        put_back(&mut self.slots, task, seat);
         add(&mut self.slots, newborn)?;
         Ok(true)
     }
@@ -285,6 +293,14 @@ fn put_back(slots: &mut Vec<Slot>, task: TaskId, seat: Seat)
     ensures { slots.new.items ≡ slice_set slots.old.items task.0 (Here seat) }
 {
     slots[task.0 as usize] = Slot::Here(seat);
+}
+
+/// The slot of a task that has ended is over.
+fn close(slots: &mut Vec<Slot>, task: TaskId)
+    requires { task.0 < length slots.old.items }
+    ensures { slots.new.items ≡ slice_set slots.old.items task.0 Over }
+{
+    slots[task.0 as usize] = Slot::Over;
 }
 
 /// Adds the slot of a task that was started, where there is one.

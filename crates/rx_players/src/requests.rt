@@ -1,12 +1,12 @@
 // How a task goes on after a request to the ledger, where an act is what it asked.
-ghost use Rattle.std.specs.Prelude.{◌≡◌, ◌+◌, ◌<◌, ◌≤◌, ◌^◌, ◌↔◌, List, Some, true, IsTrue, IfOk, OnOk};
+ghost use Rattle.std.specs.Prelude.{◌≡◌, ◌+◌, ◌<◌, ◌≤◌, ◌^◌, List, true, IfOk, OnOk};
 ghost use Rattle.rx_base.specs.declared.ids.PlaceId.{PlaceId};
 ghost use Rattle.rx_base.specs.declared.values.Fault.{Fault};
 ghost use Rattle.rx_rules.specs.declared.entries.Act.{Act};
 ghost use Rattle.rx_rules.specs.declared.events.PlaceEvent.{PlaceEvent};
 ghost use Rattle.rx_rules.specs.Picked.{Player};
 ghost use Rattle.rx_rules.specs.Plays.{Cells, raised_by};
-ghost use Rattle.rx_rules.specs.Terms.{Term, Waits, does, begins};
+ghost use Rattle.rx_rules.specs.Terms.{Term, Waits, does};
 ghost use Rattle.rx_control.specs.declared.step.Next.{Next};
 ghost use Rattle.rx_control.specs.declared.step.Want.{Want};
 ghost use Rattle.rx_control.specs.Next.{next_of};
@@ -15,7 +15,7 @@ ghost use Rattle.rx_verdict.specs.Walks.{next_does};
 ghost use Rattle.rx_players.specs.Stood.{Stood};
 ghost use Rattle.rx_players.specs.Inside.Requests.{wanted, IsAsked, CountsMore, IsGranted, AfterPath, AfterWait, AfterAct, AfterRequest};
 
-use crate::compare::{same_faults, same_path};
+use crate::compare::same_faults;
 use crate::seat::Seat;
 use rx_base::{Batch, Faults, NoMemory, Path, PlaceId, PlaceSet};
 use rx_check::Program;
@@ -110,23 +110,13 @@ fn answer(control: &mut Control, alloc: Global, p: &Program, act: &Act) -> Resul
     }
 }
 
-/// Whether the next step begins the statement with this path.
-fn begins_at(control: &Control, alloc: Global, p: &Program, path: &Path) -> Result<bool, NoMemory>
-    ensures { IfOk result (λ b. (t : Term) → StandsFor p.now.script control.now t → IsTrue b ↔ (begins t ≡ Some path.now)) }
-{
-    match control.path(alloc, p)? {
-        Some(begun) => Ok(same_path(&begun, path)),
-        None => Ok(false),
-    }
-}
-
 /// Lets a control go on that asked with this path.
 fn pass(control: &mut Control, alloc: Global, p: &Program, path: &Path) -> Result<bool, NoMemory>
     requires { (t : Term) × StandsFor p.now.script control.old t }
     ensures { IfOk result (λ b. (t : Term) → StandsFor p.now.script control.old t
         → AfterPath p.now.script control.old control.new t path.now b) }
 {
-    if !begins_at(control, alloc, p, path)? {
+    if !control.begins(p, path) {
         return Ok(false);
     }
     resume(control, p, Faults::open(alloc))?;
@@ -148,7 +138,7 @@ fn count(
         → next_of (does control.old.vars here.0 t) ≡ Next.Book Want.Census
         → AfterAct p.now.script control.old control.new here t (Act.Census places path.now) b) }
 {
-    if !begins_at(control, alloc, p, path)? {
+    if !control.begins(p, path) {
         return Ok(false);
     }
     control.census_done(p, places)?;

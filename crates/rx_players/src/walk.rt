@@ -1,6 +1,6 @@
 // A walk: the local steps and store calls of a task up to where it stops.
 ghost use Rattle.std.specs.Prelude.{◌≡◌, ◌<◌, ℕ, List, Some, None, true, false, IfOk, OnOk, Option};
-ghost use Rattle.rx_rules.specs.Terms.{Term, does, begins};
+ghost use Rattle.rx_rules.specs.Terms.{Term, does};
 ghost use Rattle.rx_rules.specs.Picked.{Player};
 ghost use Rattle.rx_rules.specs.Plays.{Cells, begun};
 ghost use Rattle.rx_runs.specs.Steps.{steps};
@@ -14,29 +14,17 @@ ghost use Rattle.rx_players.specs.Stood.{Stood, Stops, Walked};
 ghost use Rattle.rx_players.specs.Inside.Steps.{AfterStep, AfterCall};
 
 use crate::answering::{answers, told};
-use crate::compare::same_path;
 use crate::seat::{Seat, Stop};
 use crate::table::EventTable;
-use rx_base::{NoMemory, Path};
+use rx_base::NoMemory;
 use rx_check::Program;
-use rx_control::{CellOp, Control, Next};
+use rx_control::{CellOp, Next};
 use rx_history::Journals;
 use rx_rules::PlaceEvent;
 use std::alloc::Global;
 
 // More steps than a term can make of a script whose work is at most 100,000.
 const LIMIT: u32 = 300_001;
-
-/// The path of the statement that the next step begins.
-fn path_of(alloc: Global, p: &Program, control: &Control) -> Result<Path, NoMemory>
-    requires { (t : Term) × (x : List ℕ) × StandsFor p.now.script control.now t × (begins t ≡ Some x) }
-    ensures { IfOk result (λ path. (t : Term) (x : List ℕ) → StandsFor p.now.script control.now t → begins t ≡ Some x → path ≡ x) }
-{
-    match control.path(alloc, p)? {
-        Some(path) => Ok(path),
-        None => unreachable!(),
-    }
-}
 
 impl Seat {
     /// Walks on up to a request to the ledger, the end, or a store call that the task's next event does not answer. After want of
@@ -155,10 +143,10 @@ impl Seat {
                 if !answers(&op, cell) {
                     return Ok(false);
                 }
-                let begun = path_of(alloc, p, &self.control)?;
-                if !same_path(&begun, path) {
+                if !self.control.begins(p, path) {
                     return Ok(false);
                 }
+                let begun = path.copy(alloc)?;
                 self.batch.push(begun)?;
                 self.control
                     .cell_done(alloc, p, told(self.home, op, *cell))?;

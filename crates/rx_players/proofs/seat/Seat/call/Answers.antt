@@ -1,5 +1,6 @@
-use Rattle.std.proofs.Common.{rules, ℕ, suc, ◌<◌, ◌≤◌, List, [], ◌∷◌, ◌++◌, length, slice_get, refl, ap, sym, ◌∙◌}
+use Rattle.std.proofs.Common.{rules, ◌≡◌, ℕ, suc, ◌<◌, ◌≤◌, List, [], ◌∷◌, ◌++◌, length, slice_get, Some, refl, ap, sym, ◌∙◌}
 use Rattle.std.proofs.lemmas.Bool.{true≢false}
+use Rattle.std.proofs.lemmas.Option.{same_Some}
 use Rattle.rx_rules.specs.declared.events.PlaceEvent.{PlaceEvent}
 use Rattle.rx_rules.specs.Plays.{journal_at}
 use Rattle.rx_history.specs.Events.{events_of}
@@ -36,12 +37,6 @@ unreachable-requires c =
     no_task_there (journal_at js seat.home.0) seat.position seat.task.0 c.in-Close.stamp c.item.result.now
     (ap (λ (l : List PlaceEvent). slice_get l seat.position) same ∙ c.item.ensures) c.in-Close.is mine
 
-pub path_of-requires : goal.path_of-requires
-path_of-requires c =
-    let r = c.requires in
-    let is = is_store_call c.args.self.now.home r.3 c.args.op c.terms_sink.ensures r.6 in
-    (r.3.term, is.begins.0, r.5.term, is.begins.1)
-
 pub returns-then-not-answers : goal.returns-then-not-answers
 returns-then-not-answers c = λ tasks is lt z left s e.
     let seat = c.args.self.now in
@@ -51,16 +46,15 @@ returns-then-not-answers c = λ tasks is lt z left s e.
       other_halts seat.home z left _ c.args.op c.in-Done.stamp c.in-Done.cell c.in-Done.path e event (sym c.answers.ensures ∙ c.if-not-answers.true),
     )
 
-pub returns-then-not-same_path : goal.returns-then-not-same_path
-returns-then-not-same_path c = λ tasks is lt z left s e.
+pub returns-then-not-begins : goal.returns-then-not-begins
+returns-then-not-begins c = λ tasks is lt z left s e.
     let seat = c.args.self.now in
     let shape = c.args.p.now.script in
     let event = event_left shape c.args.journals.now seat z left c.item-journal.result.now c.item.result.now c.in-Done.task c.in-Done.stamp c.in-Done.cell c.in-Done.path s c.item-journal.ensures c.item.ensures c.in-Done.is in
-    let call = is_store_call seat.home z c.args.op c.terms_sink.ensures e in
-    let begun = c.in_ok-begun-in-Done.ensures z.term call.begins.0 s.term call.begins.1 in (
+    let call = is_store_call seat.home z c.args.op c.terms_sink.ensures e in (
       no_walk shape (events_of c.args.journals.now) seat z left s,
       path_halts seat.home z left _ c.in-Done.stamp c.in-Done.cell call.begins.0 c.in-Done.path call.begins.1 event
-          (λ q. true≢false (sym (c.same_path.ensures.1 (begun ∙ q)) ∙ c.if-not-same_path.true)),
+          (λ q. true≢false (sym ((c.begins.ensures z.term s.term).1 (call.begins.1 ∙ ap (λ (w : List ℕ). Some w) q)) ∙ c.if-not-begins.true)),
     )
 
 pub returns : goal.returns
@@ -71,12 +65,12 @@ returns c = λ tasks is lt z left s e.
     let journal = c.item-journal.result.now in
     let event = event_left shape c.args.journals.now seat z left journal c.item.result.now c.in-Done.task c.in-Done.stamp c.in-Done.cell c.in-Done.path s c.item-journal.ensures c.item.ensures c.in-Done.is in
     let call = is_store_call seat.home z c.args.op c.terms_sink.ensures e in
-    let begun = c.in_ok-begun-in-Done.ensures z.term call.begins.0 s.term call.begins.1 in
+    let begun : call.begins.0 ≡ c.in-Done.path = same_Some _ _ (sym call.begins.1 ∙ (c.begins.ensures z.term s.term).0 c.if-not-begins.false) in
     let done = c.in_ok-cell_done-in-Done.ensures.ok z.term call.begins.0 s.term call.begins.1 in
     let within : seat.position < length journal.events = search rules in
     let mine = is_here shape c.args.journals.now seat z left journal s c.item-journal.ensures within in
     let next = c.after-self.ensures js tasks seat.task.0 mine.0 mine.1 mine.2 is lt mine.3 in
     walked_store shape js seat _ z left _ c.args.op call.begins.0 c.in-Done.path c.in-Done.stamp c.in-Done.cell c.told.result c.terms_sink.ensures s e call.begins.1 event
-    (sym begun ∙ c.same_path.ensures.0 c.if-not-same_path.false) c.told.ensures done.0 done.1
-    (c.in_ok-push-in-Done.ensures.ok ∙ ap (λ (w : List ℕ). seat.batch ++ w ∷ []) begun) refl refl refl next.same
+    begun c.told.ensures done.0 done.1
+    (c.in_ok-push-in-Done.ensures.ok ∙ ap (λ (w : List ℕ). seat.batch ++ w ∷ []) (c.in_ok-begun-in-Done.ensures ∙ sym begun)) refl refl refl next.same
     (first_again seat.task.0 (journal_at js seat.home.0) (suc seat.position) c.after-self.result next)

@@ -96,7 +96,7 @@ NewSlot shape T n p (Some seat) = IsSeat shape T n p seat
 
 -- the seat of a new task that no death struck
 abbrev pub NewSeat : Control → Seat → Type 0
-NewSeat control seat = (seat.scopes.items ≡ []) × (seat.control ≡ control) × (seat.batch ≡ [])
+NewSeat control seat = (seat.scopes.items ≡ []) × (seat.control.value ≡ control) × (seat.batch ≡ [])
 
 pub new-slot : (shape : Shape) (T T' : Tree) (n : ℕ) (q : Player) (slot : Option Seat) (control : Control) (number : TaskId) (under : ScopeId) (from to : PlaceId) → live_task T' n ≡ if_unstruck (born T number under from to) → (own_scopes T' n ≡ []) × (own_kinds T' n ≡ []) → StandsFor shape control (child q.term) → control.vars ≡ q.vars → is_none slot ≡ is_some (death_of T to) → IfSome slot (λ seat. (V : Tree) → death_of V to ≡ None → seat.row ≡ born V number under from to) → IfSome slot (NewSeat control) → NewSlot shape T' n (child_player q) slot
 new-slot shape T T' n q None control number under from to live own stands vars lost row rest = live ∙ born-struck T number under from to true (sym lost)

@@ -173,7 +173,7 @@ module _ {L : Type 0} (stands : L → ℕ → Tree → Type 0) (shape : Shape) (
       let places : U.places + length U.joins ≤ 16 = proper.few in omega (arith, first, rest, entries, places, few)
 
 -- the new seat
-answered-seat : (shape : Shape) (T : Tree) (i : ℕ) (here : PlaceId) (q : Player) (seat seat' : Seat) (x : List ℕ) (ans : Answer) → IsSeat shape T i q seat → begins q.term ≡ Some x → (does q.vars here.0 q.term ≡ Releases → ⊥) → StandsFor shape seat'.control (answered ans q.term) → seat'.control.vars ≡ vars_after ans seat.control.vars → seat'.batch ≡ seat.batch ++ x ∷ [] → seat'.row ≡ seat.row → seat'.scopes ≡ seat.scopes → IsSeat shape T i (record { term = answered ans q.term; vars = vars_after ans q.vars; batch = begun q.term q.batch }) seat'
+answered-seat : (shape : Shape) (T : Tree) (i : ℕ) (here : PlaceId) (q : Player) (seat seat' : Seat) (x : List ℕ) (ans : Answer) → IsSeat shape T i q seat → begins q.term ≡ Some x → (does q.vars here.0 q.term ≡ Releases → ⊥) → StandsFor shape seat'.control.value (answered ans q.term) → seat'.control.value.vars ≡ vars_after ans seat.control.value.vars → seat'.batch ≡ seat.batch ++ x ∷ [] → seat'.row ≡ seat.row → seat'.scopes ≡ seat.scopes → IsSeat shape T i (record { term = answered ans q.term; vars = vars_after ans q.vars; batch = begun q.term q.batch }) seat'
 answered-seat shape T i here q seat seat' x ans s b free term vars batch row scopes =
     let away : is_held q.term ≡ false = not_held q.vars here.0 q.term free in
     let waits : HeldInFront (answered ans q.term) × (is_held (answered ans q.term) ≡ false) = answer-waits ans q.term s.held in
@@ -227,7 +227,7 @@ call-told stands shape code U m k i here q seat G op answer x old new mark items
     let stored : StoresAre U.heap 0 items (slice_set G.journals here.0 longer) = subst (λ (ss : List Kept). StoresAre U.heap 0 ss (slice_set G.journals here.0 longer)) (sym put) (subst (λ (js : List (List PlaceEvent)). StoresAre U.heap 0 (slice_set m.stores.items here.0 new) js) (set-twice G.journals here.0 a.events longer) kept) in
     (after_cell a.left cell, longer, goes-stores cell x ans a.gone.goes told b may, stored)
 
-pub called : {L : Type 0} (stands : L → ℕ → Tree → Type 0) (shape : Shape) (code : Block) (U : Given) (m m' : Machine L) (k i : ℕ) (here : PlaceId) (q : Player) (seat seat' : Seat) (G : Game) (op : CellOp) (answer : Result (Option Value) Fault) (x : List ℕ) (old new : Kept) (mark : Mark) → (a : Acting stands shape code U m k i here q seat G) → (c : IsCall q.term here op (does q.vars here.0 q.term)) → begins q.term ≡ Some x → next_of (does q.vars here.0 q.term) ≡ CellStep op → StoreIs stands shape code U m k i here q seat G a old → OnlyStores m m' → m'.stores.items ≡ slice_set m.stores.items here.0 new → mark.task ≡ seat.row.number → mark.stamp ≡ length G.entries → mark.path ≡ x → Asked old new mark op answer → StandsFor shape seat'.control (answered (answer_of (receives q.term) answer) q.term) → seat'.control.vars ≡ vars_after (answer_of (receives q.term) answer) seat.control.vars → seat'.batch ≡ seat.batch ++ x ∷ [] → seat'.row ≡ seat.row → seat'.scopes ≡ seat.scopes → AfterStep stands shape code U m' k i here q seat' G None
+pub called : {L : Type 0} (stands : L → ℕ → Tree → Type 0) (shape : Shape) (code : Block) (U : Given) (m m' : Machine L) (k i : ℕ) (here : PlaceId) (q : Player) (seat seat' : Seat) (G : Game) (op : CellOp) (answer : Result (Option Value) Fault) (x : List ℕ) (old new : Kept) (mark : Mark) → (a : Acting stands shape code U m k i here q seat G) → (c : IsCall q.term here op (does q.vars here.0 q.term)) → begins q.term ≡ Some x → next_of (does q.vars here.0 q.term) ≡ CellStep op → StoreIs stands shape code U m k i here q seat G a old → OnlyStores m m' → m'.stores.items ≡ slice_set m.stores.items here.0 new → mark.task ≡ seat.row.number → mark.stamp ≡ length G.entries → mark.path ≡ x → Asked old new mark op answer → StandsFor shape seat'.control.value (answered (answer_of (receives q.term) answer) q.term) → seat'.control.value.vars ≡ vars_after (answer_of (receives q.term) answer) seat.control.value.vars → seat'.batch ≡ seat.batch ++ x ∷ [] → seat'.row ≡ seat.row → seat'.scopes ≡ seat.scopes → AfterStep stands shape code U m' k i here q seat' G None
 called stands shape code U m m' k i here q seat seat' G op answer x old new mark a c b e is only put task stamp path asked term vars batch row scopes =
     let ans : Answer = answer_of (receives q.term) answer in
     let w = call-told stands shape code U m k i here q seat G op answer x old new mark m'.stores.items a c b e is put task stamp path asked in (

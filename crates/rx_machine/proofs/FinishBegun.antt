@@ -59,7 +59,7 @@ open-refused T who (NotYet place) S free h = absurd h
 reversed-push : {X : Type 0} (xs : List X) (y : X) → reverse (xs ++ y ∷ []) ≡ y ∷ reverse xs
 reversed-push xs y = reverse-append xs (y ∷ [])
 
-pub finish-opened : {L : Type 0} (stands : L → ℕ → Tree → Type 0) (shape : Shape) (code : Block) (U : Given) (m m' : Machine L) (k i : ℕ) (here : PlaceId) (q : Player) (seat seat' : Seat) (G : Game) (s r : ScopeId) (x : List ℕ) → Acting stands shape code U m k i here q seat G → does q.vars here.0 q.term ≡ Opens → begins q.term ≡ Some x → AllowedAct (tree_in U G) seat.row.number (Open s r x) → StandsFor shape seat'.control (granted [] q.term) → seat'.control.vars ≡ seat.control.vars → seat'.row ≡ seat.row → seat'.scopes.items ≡ seat.scopes.items ++ s ∷ [] → seat'.batch ≡ [] → Went stands m m' (to_join U (tree_in U G)) (made_act (tree_in U G) seat.row.number (Open s r x)) (Step seat.row.number (Open s r x) seat.batch) → m'.seats.items ≡ slice_set m.seats.items i (Some seat') → LeadsTo (Turn U k G true) (Seated stands shape code U m')
+pub finish-opened : {L : Type 0} (stands : L → ℕ → Tree → Type 0) (shape : Shape) (code : Block) (U : Given) (m m' : Machine L) (k i : ℕ) (here : PlaceId) (q : Player) (seat seat' : Seat) (G : Game) (s r : ScopeId) (x : List ℕ) → Acting stands shape code U m k i here q seat G → does q.vars here.0 q.term ≡ Opens → begins q.term ≡ Some x → AllowedAct (tree_in U G) seat.row.number (Open s r x) → StandsFor shape seat'.control.value (granted [] q.term) → seat'.control.value.vars ≡ seat.control.value.vars → seat'.row ≡ seat.row → seat'.scopes.items ≡ seat.scopes.items ++ s ∷ [] → seat'.batch ≡ [] → Went stands m m' (to_join U (tree_in U G)) (made_act (tree_in U G) seat.row.number (Open s r x)) (Step seat.row.number (Open s r x) seat.batch) → m'.seats.items ≡ slice_set m.seats.items i (Some seat') → LeadsTo (Turn U k G true) (Seated stands shape code U m')
 finish-opened stands shape code U m m' k i here q seat seat' G s r x a asks path may term vars row scopes batch went back =
     let T : Tree = tree_in U G in
     let h = a.gone.seat_is in

@@ -26,7 +26,7 @@ use Rattle.rx_machine.proofs.OriginsKept.{tells_root}
 use Rattle.rx_terms.proofs.Spines.{flat-spine, flat-items}
 
 -- its seat stands in slot 0, and no other slot has one
-pub opens-seats : (shape : Shape) (code : Block) (U : Given) (seat : Seat) (n : ℕ) → seat.row ≡ root_row → seat.scopes.items ≡ [] → seat.batch ≡ [] → StandsFor shape seat.control (items code [] Empty) → seat.control.vars ≡ no_vars U.places → SlotIs shape (opening U.places) (start_game code U).players n (seat_at (Some seat ∷ []) n)
+pub opens-seats : (shape : Shape) (code : Block) (U : Given) (seat : Seat) (n : ℕ) → seat.row ≡ root_row → seat.scopes.items ≡ [] → seat.batch ≡ [] → StandsFor shape seat.control.value (items code [] Empty) → seat.control.value.vars ≡ no_vars U.places → SlotIs shape (opening U.places) (start_game code U).players n (seat_at (Some seat ∷ []) n)
 opens-seats shape code U seat zero row scopes batch term vars =
     let front : HeldInFront (items code [] Empty) × (is_held (items code [] Empty) ≡ false) = unheld-front (items code [] Empty) (unheld-items code [] 0 Empty tt) in (
       record { term = items code [] Empty; vars = no_vars U.places; batch = [] },
@@ -48,7 +48,7 @@ opens-seats shape code U seat (suc n) row scopes batch term vars =
     ap (λ (b : Bool). live_in (cond b (Some root_row) None)) other
 
 -- the machine stands for the game before the first turn
-pub opens-so : {L : Type 0} (stands : L → ℕ → Tree → Type 0) (shape : Shape) (code : Block) (U : Given) (m : Machine L) (seat : Seat) → RunsOn code U → given m.history.setup ≡ U → m.history.entries ≡ [] → m.plan ≡ plan_of U → m.failed ≡ false → stands m.ledger (length U.joins) (opening U.places) → StoresAre U.heap 0 m.stores.items (replicate (in_all U) []) → m.seats.items ≡ Some seat ∷ [] → seat.row ≡ root_row → seat.scopes.items ≡ [] → seat.batch ≡ [] → StandsFor shape seat.control (items code [] Empty) → seat.control.vars ≡ no_vars U.places → Seated stands shape code U m (start_game code U)
+pub opens-so : {L : Type 0} (stands : L → ℕ → Tree → Type 0) (shape : Shape) (code : Block) (U : Given) (m : Machine L) (seat : Seat) → RunsOn code U → given m.history.setup ≡ U → m.history.entries ≡ [] → m.plan ≡ plan_of U → m.failed ≡ false → stands m.ledger (length U.joins) (opening U.places) → StoresAre U.heap 0 m.stores.items (replicate (in_all U) []) → m.seats.items ≡ Some seat ∷ [] → seat.row ≡ root_row → seat.scopes.items ≡ [] → seat.batch ≡ [] → StandsFor shape seat.control.value (items code [] Empty) → seat.control.value.vars ≡ no_vars U.places → Seated stands shape code U m (start_game code U)
 opens-so stands shape code U m seat on setup entries plan failed ledger stores seats row scopes batch term vars =
     record {
       shares = record {

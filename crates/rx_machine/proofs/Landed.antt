@@ -53,7 +53,7 @@ root-refused T (NotYet place) S calm h = absurd (let f : true ≡ false = sym ca
 abbrev there : PlaceId → Task → Task
 there to x = record x { place = At to }
 
-pub landed : {L : Type 0} (stands : L → ℕ → Tree → Type 0) (shape : Shape) (code : Block) (U : Given) (m m' : Machine L) (k i : ℕ) (to : PlaceId) (seat seat' : Seat) (G : Game) → Landing stands shape code U m k i to seat G → AllowedAct (tree_in U G) seat.row.number (Arrive to) → seat'.row ≡ there to seat.row → seat'.scopes ≡ seat.scopes → seat'.control ≡ seat.control → seat'.batch ≡ seat.batch → Went stands m m' (to_join U (tree_in U G)) (made_act (tree_in U G) seat.row.number (Arrive to)) (Step seat.row.number (Arrive to) []) → m'.seats.items ≡ slice_set m.seats.items i (Some seat') → LeadsTo (Turn U k G true) (Seated stands shape code U m')
+pub landed : {L : Type 0} (stands : L → ℕ → Tree → Type 0) (shape : Shape) (code : Block) (U : Given) (m m' : Machine L) (k i : ℕ) (to : PlaceId) (seat seat' : Seat) (G : Game) → Landing stands shape code U m k i to seat G → AllowedAct (tree_in U G) seat.row.number (Arrive to) → seat'.row ≡ there to seat.row → seat'.scopes ≡ seat.scopes → seat'.control.value ≡ seat.control.value → seat'.batch ≡ seat.batch → Went stands m m' (to_join U (tree_in U G)) (made_act (tree_in U G) seat.row.number (Arrive to)) (Step seat.row.number (Arrive to) []) → m'.seats.items ≡ slice_set m.seats.items i (Some seat') → LeadsTo (Turn U k G true) (Seated stands shape code U m')
 landed stands shape code U m m' k i to seat seat' G a may row scopes control batch went back =
     let T : Tree = tree_in U G in
     let t : TaskId = seat.row.number in

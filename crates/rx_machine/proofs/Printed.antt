@@ -48,7 +48,7 @@ print-granted T who NoMemory free h = h
 print-granted T who (Lost place at) free h = not_lost T who.task (record { place = place; entry = at }) free h
 print-granted T who (NotYet place) free h = h
 
-pub printed : {L : Type 0} (stands : L → ℕ → Tree → Type 0) (shape : Shape) (code : Block) (U : Given) (m m' : Machine L) (k i : ℕ) (here : PlaceId) (q : Player) (seat seat' : Seat) (G : Game) (z : ℤ) (x : List ℕ) → Acting stands shape code U m k i here q seat G → does q.vars here.0 q.term ≡ Prints z → begins q.term ≡ Some x → AllowedAct (tree_in U G) seat.row.number (Print z x) → StandsFor shape seat'.control (granted [] q.term) → seat'.control.vars ≡ seat.control.vars → seat'.row ≡ seat.row → seat'.scopes ≡ seat.scopes → seat'.batch ≡ [] → Went stands m m' (to_join U (tree_in U G)) (tree_in U G) (Step seat.row.number (Print z x) seat.batch) → m'.seats.items ≡ slice_set m.seats.items i (Some seat') → LeadsTo (Turn U k G true) (Seated stands shape code U m')
+pub printed : {L : Type 0} (stands : L → ℕ → Tree → Type 0) (shape : Shape) (code : Block) (U : Given) (m m' : Machine L) (k i : ℕ) (here : PlaceId) (q : Player) (seat seat' : Seat) (G : Game) (z : ℤ) (x : List ℕ) → Acting stands shape code U m k i here q seat G → does q.vars here.0 q.term ≡ Prints z → begins q.term ≡ Some x → AllowedAct (tree_in U G) seat.row.number (Print z x) → StandsFor shape seat'.control.value (granted [] q.term) → seat'.control.value.vars ≡ seat.control.value.vars → seat'.row ≡ seat.row → seat'.scopes ≡ seat.scopes → seat'.batch ≡ [] → Went stands m m' (to_join U (tree_in U G)) (tree_in U G) (Step seat.row.number (Print z x) seat.batch) → m'.seats.items ≡ slice_set m.seats.items i (Some seat') → LeadsTo (Turn U k G true) (Seated stands shape code U m')
 printed stands shape code U m m' k i here q seat seat' G z x a asks path may term vars row scopes batch went back =
     let T : Tree = tree_in U G in
     let s = a.gone.seat_is in

@@ -119,7 +119,7 @@ kinds-left ks ls front j k h e =
     let rest : ls ≡ reverse front = cc in
     sym (reverse-reverse front) ∙ ap (λ (v : List Kind). reverse v) (sym rest)
 
-pub released : {L : Type 0} (stands : L → ℕ → Tree → Type 0) (sound : ReachedSound) (keeps : ReleaseKeeps) (pops : ReleasePops) (shape : Shape) (code : Block) (U : Given) (m m' : Machine L) (k i : ℕ) (here : PlaceId) (q : Player) (seat seat' : Seat) (G : Game) (s : ScopeId) (lost : PlaceSet) (masked : ℕ) (thrown : List Fault) → Acting stands shape code U m k i here q seat G → does q.vars here.0 q.term ≡ Releases → AllowedAct (tree_in U G) seat.row.number (Release s lost masked thrown) → StandsFor shape seat'.control (granted (raised_by lost thrown) q.term) → seat'.control.vars ≡ seat.control.vars → seat'.row ≡ resumed seat.row → ((below : List ScopeId) (x : ScopeId) → seat.scopes.items ≡ below ++ x ∷ [] → seat'.scopes.items ≡ below) → seat'.batch ≡ [] → Went stands m m' (to_join U (tree_in U G)) (made_act (tree_in U G) seat.row.number (Release s lost masked thrown)) (Step seat.row.number (Release s lost masked thrown) seat.batch) → m'.seats.items ≡ slice_set m.seats.items i (Some seat') → LeadsTo (Turn U k G true) (Seated stands shape code U m')
+pub released : {L : Type 0} (stands : L → ℕ → Tree → Type 0) (sound : ReachedSound) (keeps : ReleaseKeeps) (pops : ReleasePops) (shape : Shape) (code : Block) (U : Given) (m m' : Machine L) (k i : ℕ) (here : PlaceId) (q : Player) (seat seat' : Seat) (G : Game) (s : ScopeId) (lost : PlaceSet) (masked : ℕ) (thrown : List Fault) → Acting stands shape code U m k i here q seat G → does q.vars here.0 q.term ≡ Releases → AllowedAct (tree_in U G) seat.row.number (Release s lost masked thrown) → StandsFor shape seat'.control.value (granted (raised_by lost thrown) q.term) → seat'.control.value.vars ≡ seat.control.value.vars → seat'.row ≡ resumed seat.row → ((below : List ScopeId) (x : ScopeId) → seat.scopes.items ≡ below ++ x ∷ [] → seat'.scopes.items ≡ below) → seat'.batch ≡ [] → Went stands m m' (to_join U (tree_in U G)) (made_act (tree_in U G) seat.row.number (Release s lost masked thrown)) (Step seat.row.number (Release s lost masked thrown) seat.batch) → m'.seats.items ≡ slice_set m.seats.items i (Some seat') → LeadsTo (Turn U k G true) (Seated stands shape code U m')
 released stands sound keeps pops shape code U m m' k i here q seat seat' G s lost masked thrown a asks may term vars row popped batch went back =
     let T : Tree = tree_in U G in
     let t : TaskId = seat.row.number in

@@ -103,7 +103,7 @@ pub record IsBorn (T : Tree) (number : TaskId) (under : ScopeId) (from to : Plac
   pub rest : IfSome slot (NewSeat control)
 
 -- the turn of a start
-pub spawned : {L : Type 0} (stands : L → ℕ → Tree → Type 0) (shape : Shape) (code : Block) (U : Given) (m m' : Machine L) (k i : ℕ) (here to : PlaceId) (q : Player) (seat seat' : Seat) (slot : Option Seat) (control : Control) (G : Game) (number : TaskId) (under : ScopeId) (x : List ℕ) → Acting stands shape code U m k i here q seat G → Sound (tree_in U G) → does q.vars here.0 q.term ≡ Spawns to.0 → begins q.term ≡ Some x → AllowedAct (tree_in U G) seat.row.number (Spawn number under here to []) → StandsFor shape seat'.control (granted [] q.term) → seat'.control.vars ≡ seat.control.vars → seat'.row ≡ seat.row → seat'.scopes ≡ seat.scopes → seat'.batch ≡ [] → StandsFor shape control (child q.term) → control.vars ≡ seat.control.vars → IsBorn (tree_in U G) number under here to control slot → Went stands m m' (to_join U (tree_in U G)) (made_act (tree_in U G) seat.row.number (Spawn number under here to x)) (Step seat.row.number (Spawn number under here to x) seat.batch) → m'.seats.items ≡ slice_set m.seats.items i (Some seat') ++ slot ∷ [] → LeadsTo (Turn U k G true) (Seated stands shape code U m')
+pub spawned : {L : Type 0} (stands : L → ℕ → Tree → Type 0) (shape : Shape) (code : Block) (U : Given) (m m' : Machine L) (k i : ℕ) (here to : PlaceId) (q : Player) (seat seat' : Seat) (slot : Option Seat) (control : Control) (G : Game) (number : TaskId) (under : ScopeId) (x : List ℕ) → Acting stands shape code U m k i here q seat G → Sound (tree_in U G) → does q.vars here.0 q.term ≡ Spawns to.0 → begins q.term ≡ Some x → AllowedAct (tree_in U G) seat.row.number (Spawn number under here to []) → StandsFor shape seat'.control.value (granted [] q.term) → seat'.control.value.vars ≡ seat.control.value.vars → seat'.row ≡ seat.row → seat'.scopes ≡ seat.scopes → seat'.batch ≡ [] → StandsFor shape control (child q.term) → control.vars ≡ seat.control.value.vars → IsBorn (tree_in U G) number under here to control slot → Went stands m m' (to_join U (tree_in U G)) (made_act (tree_in U G) seat.row.number (Spawn number under here to x)) (Step seat.row.number (Spawn number under here to x) seat.batch) → m'.seats.items ≡ slice_set m.seats.items i (Some seat') ++ slot ∷ [] → LeadsTo (Turn U k G true) (Seated stands shape code U m')
 spawned stands shape code U m m' k i here to q seat seat' slot control G number under x a sound asks path may term vars row scopes batch child_term child_vars is went back =
     let T : Tree = tree_in U G in
     let b : Task = born T number under here to in
@@ -129,7 +129,7 @@ spawned stands shape code U m m' k i here to q seat seat' slot control G number 
     a.inside back a.stores
 
 -- the turn of a call
-pub called : {L : Type 0} (stands : L → ℕ → Tree → Type 0) (shape : Shape) (code : Block) (U : Given) (m m' : Machine L) (k i : ℕ) (here to : PlaceId) (q : Player) (seat seat' : Seat) (slot : Option Seat) (control : Control) (G : Game) (scope parent : ScopeId) (number : TaskId) (x : List ℕ) → Acting stands shape code U m k i here q seat G → Sound (tree_in U G) → does q.vars here.0 q.term ≡ Calls to.0 → begins q.term ≡ Some x → AllowedAct (tree_in U G) seat.row.number (CallsAt scope parent number here to []) → StandsFor shape seat'.control (granted [] q.term) → seat'.control.vars ≡ seat.control.vars → seat'.row ≡ waiting seat.row → seat'.scopes.items ≡ seat.scopes.items ++ scope ∷ [] → seat'.batch ≡ [] → StandsFor shape control (child q.term) → control.vars ≡ seat.control.vars → IsBorn (tree_in U G) number scope here to control slot → Went stands m m' (to_join U (tree_in U G)) (made_act (tree_in U G) seat.row.number (CallsAt scope parent number here to x)) (Step seat.row.number (CallsAt scope parent number here to x) seat.batch) → m'.seats.items ≡ slice_set m.seats.items i (Some seat') ++ slot ∷ [] → LeadsTo (Turn U k G true) (Seated stands shape code U m')
+pub called : {L : Type 0} (stands : L → ℕ → Tree → Type 0) (shape : Shape) (code : Block) (U : Given) (m m' : Machine L) (k i : ℕ) (here to : PlaceId) (q : Player) (seat seat' : Seat) (slot : Option Seat) (control : Control) (G : Game) (scope parent : ScopeId) (number : TaskId) (x : List ℕ) → Acting stands shape code U m k i here q seat G → Sound (tree_in U G) → does q.vars here.0 q.term ≡ Calls to.0 → begins q.term ≡ Some x → AllowedAct (tree_in U G) seat.row.number (CallsAt scope parent number here to []) → StandsFor shape seat'.control.value (granted [] q.term) → seat'.control.value.vars ≡ seat.control.value.vars → seat'.row ≡ waiting seat.row → seat'.scopes.items ≡ seat.scopes.items ++ scope ∷ [] → seat'.batch ≡ [] → StandsFor shape control (child q.term) → control.vars ≡ seat.control.value.vars → IsBorn (tree_in U G) number scope here to control slot → Went stands m m' (to_join U (tree_in U G)) (made_act (tree_in U G) seat.row.number (CallsAt scope parent number here to x)) (Step seat.row.number (CallsAt scope parent number here to x) seat.batch) → m'.seats.items ≡ slice_set m.seats.items i (Some seat') ++ slot ∷ [] → LeadsTo (Turn U k G true) (Seated stands shape code U m')
 called stands shape code U m m' k i here to q seat seat' slot control G scope parent number x a sound asks path may term vars row scopes batch child_term child_vars is went back =
     let T : Tree = tree_in U G in
     let t : TaskId = seat.row.number in

@@ -131,7 +131,7 @@ asked_done (Done faults) e = tt
 
 -- Local steps.
 
-local-seat : (shape : Shape) (T : Tree) (i : ℕ) (here : PlaceId) (q : Player) (seat seat' : Seat) (after : Term) (left : Vars) → IsSeat shape T i q seat → does q.vars here.0 q.term ≡ Local after left → StandsFor shape seat'.control after → seat'.control.vars ≡ left → seat'.batch ≡ begun q.term seat.batch → seat'.row ≡ seat.row → seat'.scopes ≡ seat.scopes → IsSeat shape T i (record { term = after; vars = left; batch = begun q.term q.batch }) seat'
+local-seat : (shape : Shape) (T : Tree) (i : ℕ) (here : PlaceId) (q : Player) (seat seat' : Seat) (after : Term) (left : Vars) → IsSeat shape T i q seat → does q.vars here.0 q.term ≡ Local after left → StandsFor shape seat'.control.value after → seat'.control.value.vars ≡ left → seat'.batch ≡ begun q.term seat.batch → seat'.row ≡ seat.row → seat'.scopes ≡ seat.scopes → IsSeat shape T i (record { term = after; vars = left; batch = begun q.term q.batch }) seat'
 local-seat shape T i here q seat seat' after left s e term vars batch row scopes =
     let waits : AfterLocal (Local after left) = subst (λ (d : Does). AfterLocal d) e (after-local q.vars here.0 q.term s.held) in
     let spine : LeavesSpine (reverse (own_kinds T i)) (Local after left) = subst (λ (d : Does). LeavesSpine (reverse (own_kinds T i)) d) e (spine-local (reverse (own_kinds T i)) q.vars here.0 q.term s.spine) in
@@ -150,15 +150,15 @@ local-seat shape T i here q seat seat' after left s e term vars batch row scopes
 pub same : {L : Type 0} (m : Machine L) → OnlyStores m m
 same m = record { history = refl; ledger = refl; seats = refl; ready = refl; plan = refl; failed = refl }
 
-pub stepped-local : {L : Type 0} (stands : L → ℕ → Tree → Type 0) (shape : Shape) (code : Block) (U : Given) (m : Machine L) (k i : ℕ) (here : PlaceId) (q : Player) (seat seat' : Seat) (G : Game) → TermSinks → Acting stands shape code U m k i here q seat G → next_of (does q.vars here.0 q.term) ≡ LocalStep → Leaves shape seat'.control (does q.vars here.0 q.term) → seat'.batch ≡ begun q.term seat.batch → seat'.row ≡ seat.row → seat'.scopes ≡ seat.scopes → AfterStep stands shape code U m k i here q seat' G None
+pub stepped-local : {L : Type 0} (stands : L → ℕ → Tree → Type 0) (shape : Shape) (code : Block) (U : Given) (m : Machine L) (k i : ℕ) (here : PlaceId) (q : Player) (seat seat' : Seat) (G : Game) → TermSinks → Acting stands shape code U m k i here q seat G → next_of (does q.vars here.0 q.term) ≡ LocalStep → Leaves shape seat'.control.value (does q.vars here.0 q.term) → seat'.batch ≡ begun q.term seat.batch → seat'.row ≡ seat.row → seat'.scopes ≡ seat.scopes → AfterStep stands shape code U m k i here q seat' G None
 stepped-local stands shape code U m k i here q seat seat' G law a e leaves batch row scopes =
     let l = told_local (does q.vars here.0 q.term) e in
-    let left : StandsFor shape seat'.control l.0 × (seat'.control.vars ≡ l.1) = subst (λ (d : Does). Leaves shape seat'.control d) l.2 leaves in
+    let left : StandsFor shape seat'.control.value l.0 × (seat'.control.value.vars ≡ l.1) = subst (λ (d : Does). Leaves shape seat'.control.value d) l.2 leaves in
     let less : steps l.0 + 1 ≤ steps q.term = subst (λ (d : Does). Sinks q.term d) l.2 (law q.vars here.0 q.term) in
     (record { term = l.0; vars = l.1; batch = begun q.term q.batch }, acting-on stands shape code U m m k i here q _ seat seat' G a.left a.events a (same m) row (goes-local a.gone.goes l.2) (local-seat shape (tree_in U G) i here q seat seat' l.0 l.1 a.gone.seat_is l.2 left.0 left.1 batch row scopes) a.stores, less)
 
 -- what the control tells, said of the player
-pub told-next : {L : Type 0} (stands : L → ℕ → Tree → Type 0) (shape : Shape) (code : Block) (U : Given) (m : Machine L) (k i : ℕ) (here : PlaceId) (q : Player) (seat : Seat) (G : Game) (next : Next) → Acting stands shape code U m k i here q seat G → next ≡ next_of (does seat.control.vars here.0 q.term) → next_of (does q.vars here.0 q.term) ≡ next
+pub told-next : {L : Type 0} (stands : L → ℕ → Tree → Type 0) (shape : Shape) (code : Block) (U : Given) (m : Machine L) (k i : ℕ) (here : PlaceId) (q : Player) (seat : Seat) (G : Game) (next : Next) → Acting stands shape code U m k i here q seat G → next ≡ next_of (does seat.control.value.vars here.0 q.term) → next_of (does q.vars here.0 q.term) ≡ next
 told-next stands shape code U m k i here q seat G next a e =
     sym (e ∙ ap (λ (v : Vars). next_of (does v here.0 q.term)) a.gone.seat_is.vars)
 

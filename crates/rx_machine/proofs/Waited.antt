@@ -85,7 +85,7 @@ wait-refused T who thrown (NoMemory, back) S free h = refl
 wait-refused T who thrown (Lost place at, back) S free h = absurd (not_lost T who.task (record { place = place; entry = at }) free h.0)
 wait-refused T who thrown (NotYet place, back) S free h = absurd h
 
-pub waited : {L : Type 0} (stands : L → ℕ → Tree → Type 0) (shape : Shape) (code : Block) (U : Given) (m m' : Machine L) (k i : ℕ) (here : PlaceId) (q : Player) (seat seat' : Seat) (G : Game) (fs : List Fault) (s : ScopeId) → Acting stands shape code U m k i here q seat G → does q.vars here.0 q.term ≡ Waits fs → AllowedAct (tree_in U G) seat.row.number (Wait s fs) → StandsFor shape seat'.control (granted [] q.term) → seat'.control.vars ≡ seat.control.vars → seat'.row ≡ waiting seat.row → seat'.scopes ≡ seat.scopes → seat'.batch ≡ [] → Went stands m m' (to_join U (tree_in U G)) (made_act (tree_in U G) seat.row.number (Wait s fs)) (Step seat.row.number (Wait s fs) seat.batch) → m'.seats.items ≡ slice_set m.seats.items i (Some seat') → LeadsTo (Turn U k G true) (Seated stands shape code U m')
+pub waited : {L : Type 0} (stands : L → ℕ → Tree → Type 0) (shape : Shape) (code : Block) (U : Given) (m m' : Machine L) (k i : ℕ) (here : PlaceId) (q : Player) (seat seat' : Seat) (G : Game) (fs : List Fault) (s : ScopeId) → Acting stands shape code U m k i here q seat G → does q.vars here.0 q.term ≡ Waits fs → AllowedAct (tree_in U G) seat.row.number (Wait s fs) → StandsFor shape seat'.control.value (granted [] q.term) → seat'.control.value.vars ≡ seat.control.value.vars → seat'.row ≡ waiting seat.row → seat'.scopes ≡ seat.scopes → seat'.batch ≡ [] → Went stands m m' (to_join U (tree_in U G)) (made_act (tree_in U G) seat.row.number (Wait s fs)) (Step seat.row.number (Wait s fs) seat.batch) → m'.seats.items ≡ slice_set m.seats.items i (Some seat') → LeadsTo (Turn U k G true) (Seated stands shape code U m')
 waited stands shape code U m m' k i here q seat seat' G fs s a asks may term vars row scopes batch went back =
     let T : Tree = tree_in U G in
     let at = a.gone.seat_is in

@@ -43,8 +43,8 @@ own_kinds T n = map (λ g. g.kind) (filter (opened_by (record { 0 = n })) T.scop
 pub record IsSeat (shape : Shape) (T : Tree) (n : ℕ) (p : Player) (seat : Seat) : Type 0 where
   pub row : live_task T n ≡ Some seat.row
   pub scopes : own_scopes T n ≡ reverse seat.scopes.items
-  pub term : StandsFor shape seat.control p.term
-  pub vars : seat.control.vars ≡ p.vars
+  pub term : StandsFor shape seat.control.value p.term
+  pub vars : seat.control.value.vars ≡ p.vars
   pub batch : seat.batch ≡ p.batch
   -- it waits exactly where its term does, and its open scopes are those of its term
   pub waits : seat.row.waits ≡ is_held p.term

@@ -7,7 +7,7 @@ ghost use Rattle.rx_machine.specs.Refusals.{NothingTold};
 ghost use Rattle.rx_machine.specs.Inside.Games.{SomeDoing};
 ghost use Rattle.rx_machine.specs.Inside.Acts.{HasDone};
 
-use crate::entry::{go_on, no_memory, path_of};
+use crate::entry::{child_of, go_on, no_memory, path_of};
 use crate::machine::Machine;
 use crate::seat::Seat;
 use rx_base::{Batch, Faults, NoMemory, PlaceId};
@@ -37,7 +37,7 @@ impl<L: FinishLedger> Machine<L> {
         rx_runs::known_places_are_there();
         rx_runs::going_tells_no_places();
         let path = path_of(self.alloc, p, &seat.control)?;
-        let control = seat.control.child(self.alloc, p)?;
+        let control = child_of(self.alloc, p, &seat.control)?;
         self.seats.reserve(1)?;
         let who = seat.caller();
         let born = match self.ledger.spawn(who, to) {
@@ -45,8 +45,8 @@ impl<L: FinishLedger> Machine<L> {
             Err(fault) => return Err(no_memory(fault)),
         };
         go_on(&mut seat.control, p, Faults::open(self.alloc))?;
-        let child = new_seat(self.alloc, born, here, to, control);
-        self.seats.push_reserved(child);
+        let slot = new_seat(self.alloc, born, here, to, control);
+        self.seats.push_reserved(slot);
         self.close_turn(
             i,
             seat,
@@ -80,7 +80,7 @@ impl<L: FinishLedger> Machine<L> {
         rx_runs::known_places_are_there();
         rx_runs::going_tells_no_places();
         let path = path_of(self.alloc, p, &seat.control)?;
-        let control = seat.control.child(self.alloc, p)?;
+        let control = child_of(self.alloc, p, &seat.control)?;
         self.seats.reserve(1)?;
         seat.scopes.reserve(1)?;
         let who = seat.caller();
@@ -91,8 +91,8 @@ impl<L: FinishLedger> Machine<L> {
         go_on(&mut seat.control, p, Faults::open(self.alloc))?;
         seat.row.waits = true;
         seat.scopes.push_reserved(born.scope);
-        let callee = new_seat(self.alloc, born, here, to, control);
-        self.seats.push_reserved(callee);
+        let slot = new_seat(self.alloc, born, here, to, control);
+        self.seats.push_reserved(slot);
         self.close_turn(
             i,
             seat,
@@ -110,10 +110,16 @@ impl<L: FinishLedger> Machine<L> {
 }
 
 /// The seat of a task that was just started; none where it is born struck.
-fn new_seat(alloc: Global, task: Born, from: PlaceId, to: PlaceId, control: Control) -> Option<Seat>
+fn new_seat(
+    alloc: Global,
+    task: Born,
+    from: PlaceId,
+    to: PlaceId,
+    control: Box<Control>,
+) -> Option<Seat>
     ensures lost { is_none result ≡ task.lost }
     ensures row { IfSome result (λ seat. (T : Tree) → death_of T to ≡ None → seat.row ≡ born T task.child task.scope from to) }
-    ensures seat { IfSome result (λ seat. (seat.scopes.items ≡ []) × (seat.control ≡ control) × (seat.batch ≡ [])) }
+    ensures seat { IfSome result (λ seat. (seat.scopes.items ≡ []) × (seat.control.value ≡ control.value) × (seat.batch ≡ [])) }
 {
     if task.lost {
         return None;

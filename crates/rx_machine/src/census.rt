@@ -6,6 +6,7 @@ ghost use Rattle.rx_machine.specs.Refusals.{NothingTold};
 ghost use Rattle.rx_machine.specs.Inside.Games.{SomeDoing};
 ghost use Rattle.rx_machine.specs.Inside.Acts.{HasDone};
 
+use crate::control;
 use crate::entry::path_of;
 use crate::machine::Machine;
 use crate::seat::Seat;
@@ -33,7 +34,7 @@ impl<L: FinishLedger> Machine<L> {
             Ok(places) => places,
             Err(_) => unreachable!(),
         };
-        seat.control.census_done(p, places)?;
+        control::census_done(&mut seat.control, p, places)?;
         self.close_turn(i, seat, Act::Census { places, path });
         Ok(())
     }

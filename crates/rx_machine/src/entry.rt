@@ -1,6 +1,10 @@
 // How the turn of a task ends: by an entry that tells its act.
 ghost use Rattle.std.specs.Prelude.{◌≡◌, ◌<◌, ℕ, List, length, Some, OnOk, IfOk};
-ghost use Rattle.rx_rules.specs.Terms.{Term, begins, granted};
+ghost use Rattle.rx_base.specs.declared.ids.PlaceId.{PlaceId};
+ghost use Rattle.rx_base.specs.declared.values.Fault.{Fault};
+ghost use Rattle.rx_rules.specs.Terms.{Term, Empty, Waits, child, does, begins, granted, replaced};
+ghost use Rattle.rx_nodes.specs.Shape.{Shape};
+ghost use Rattle.rx_control.specs.Next.{carried};
 ghost use Rattle.rx_finish.specs.declared.ledger.LedgerFault.{LedgerFault};
 ghost use Rattle.rx_control.specs.Stands.{StandsFor};
 ghost use Rattle.rx_machine.specs.Inside.Acts.{HasClosed};
@@ -32,9 +36,9 @@ impl<L: FinishLedger> Machine<L> {
 }
 
 /// The path of the statement that the next step begins.
-pub(crate) fn path_of(alloc: Global, p: &Program, control: &Control) -> Result<Path, NoMemory>
-    requires { (t : Term) × (x : List ℕ) × StandsFor p.now.script control.now t × (begins t ≡ Some x) }
-    ensures { IfOk result (λ path. (t : Term) (x : List ℕ) → StandsFor p.now.script control.now t → begins t ≡ Some x → path ≡ x) }
+pub(crate) fn path_of(alloc: Global, p: &Program, control: &Box<Control>) -> Result<Path, NoMemory>
+    requires { (t : Term) × (x : List ℕ) × StandsFor p.now.script control.now.value t × (begins t ≡ Some x) }
+    ensures { IfOk result (λ path. (t : Term) (x : List ℕ) → StandsFor p.now.script control.now.value t → begins t ≡ Some x → path ≡ x) }
 {
     match control.path(alloc, p)? {
         Some(path) => Ok(path),
@@ -43,15 +47,38 @@ pub(crate) fn path_of(alloc: Global, p: &Program, control: &Control) -> Result<P
 }
 
 /// Lets a control go on whose request was granted, which raises these faults.
-pub(crate) fn go_on(control: &mut Control, p: &Program, faults: Faults) -> Result<(), NoMemory>
-    requires { (t : Term) × StandsFor p.now.script control.old t }
-    ensures ok { OnOk result ((t : Term) → StandsFor p.now.script control.old t → StandsFor p.now.script control.new (granted faults t)) }
-    ensures vars { OnOk result (control.new.vars ≡ control.old.vars) }
+pub(crate) fn go_on(control: &mut Box<Control>, p: &Program, faults: Faults) -> Result<(), NoMemory>
+    requires { (t : Term) × StandsFor p.now.script control.old.value t }
+    ensures ok { OnOk result ((t : Term) → StandsFor p.now.script control.old.value t → StandsFor p.now.script control.new.value (granted faults t)) }
+    ensures vars { OnOk result (control.new.value.vars ≡ control.old.value.vars) }
 {
     match control.resume(p, faults) {
         Ok(()) => Ok(()),
         Err(_) => Err(NoMemory),
     }
+}
+
+/// The control of the task that the next step starts.
+pub(crate) fn child_of(alloc: Global, p: &Program, control: &Box<Control>) -> Result<Box<Control>, NoMemory>
+    requires { (t : Term) × (x : List ℕ) × StandsFor p.now.script control.now.value t × (begins t ≡ Some x) }
+    ensures stands { IfOk result (λ c. (t : Term) → StandsFor p.now.script control.now.value t → (x : List ℕ) → begins t ≡ Some x
+        → StandsFor p.now.script c.value (child t) × (c.value.vars ≡ control.now.value.vars)) }
+{
+    let child = control.child(alloc, p)?;
+    Ok(Box::new(alloc, child)?)
+}
+
+/// The faults that a wait or the end carries, which the control has no longer.
+pub(crate) fn faults_of(alloc: Global, control: &mut Box<Control>) -> Faults
+    ensures list { (s : Shape) (t : Term) (here : PlaceId) (faults : List Fault) → StandsFor s control.old.value t
+        → carried (does control.old.value.vars here.0 t) ≡ Some faults → result ≡ faults }
+    ensures after { (s : Shape) (t : Term) (here : PlaceId) (faults : List Fault) → StandsFor s control.old.value t
+        → carried (does control.old.value.vars here.0 t) ≡ Some faults → StandsFor s control.new.value (replaced t Empty) }
+    ensures vars { control.new.value.vars ≡ control.old.value.vars }
+    ensures wait { (t : Term) (here : PlaceId) (faults list : List Fault)
+        → does control.old.value.vars here.0 t ≡ Waits faults → granted list (replaced t Empty) ≡ granted list t }
+{
+    control.take_faults(alloc)
 }
 
 /// The error of a refusal that is want of memory.

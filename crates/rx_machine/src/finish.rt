@@ -7,7 +7,7 @@ ghost use Rattle.rx_machine.specs.Refusals.{NothingTold};
 ghost use Rattle.rx_machine.specs.Inside.Games.{SomeDoing};
 ghost use Rattle.rx_machine.specs.Inside.Acts.{HasDone};
 
-use crate::entry::{go_on, no_memory, path_of};
+use crate::entry::{faults_of, go_on, no_memory, path_of};
 use crate::machine::Machine;
 use crate::seat::Seat;
 use rx_base::{Faults, NoMemory};
@@ -61,7 +61,7 @@ impl<L: FinishLedger> Machine<L> {
         ensures refused { OnErr result (NothingTold self.old self.new) }
         ensures ready { self.new.ready ≡ self.old.ready }
     {
-        let faults = seat.control.take_faults(self.alloc);
+        let faults = faults_of(self.alloc, &mut seat.control);
         let thrown = faults.copy(self.alloc)?;
         let who = seat.caller();
         match self.ledger.wait(who, faults) {

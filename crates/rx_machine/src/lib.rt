@@ -7,6 +7,7 @@
 mod arrival;
 mod birth;
 mod census;
+mod control;
 mod death;
 mod enabled;
 mod end;

@@ -82,9 +82,10 @@ fn root_seat(alloc: Global, p: &Program, places: u8) -> Result<Seat, NoMemory>
     ensures row { IfOk result (λ seat. seat.row ≡ root_row) }
     ensures bare { IfOk result (λ seat. (seat.scopes.items ≡ []) × (seat.batch ≡ [])) }
     ensures control { IfOk result (λ seat. (b : Block) → Stands p.now.script b
-        → StandsFor p.now.script seat.control (items b [] Empty) × (seat.control.vars ≡ no_vars places)) }
+        → StandsFor p.now.script seat.control.value (items b [] Empty) × (seat.control.value.vars ≡ no_vars places)) }
 {
-    let control = Control::main(alloc, p, places)?;
+    let main = Control::main(alloc, p, places)?;
+    let control = Box::new(alloc, main)?;
     Ok(Seat {
         row: Task {
             number: TaskId(0),

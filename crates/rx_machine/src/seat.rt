@@ -14,7 +14,8 @@ pub struct Seat {
     pub row: Task,
     /// The scopes that it opened and that still stand, the outermost first.
     pub scopes: Vec<ScopeId>,
-    pub control: Control,
+    /// It lies by itself in memory, so that a seat is short.
+    pub control: Box<Control>,
     pub batch: Batch,
 }
 

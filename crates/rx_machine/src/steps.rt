@@ -11,6 +11,7 @@ ghost use Rattle.rx_machine.specs.Refusals.{HasTold};
 ghost use Rattle.rx_machine.specs.Inside.Requests.{IsRequest, OnlyStores, AfterStep};
 ghost use Rattle.rx_machine.specs.Inside.Games.{SomeActing, SomeDoing, EachActing};
 
+use crate::control;
 use crate::entry::path_of;
 use crate::machine::Machine;
 use crate::seat::Seat;
@@ -68,7 +69,7 @@ impl<L: FinishLedger> Machine<L> {
             HasTold U k G self.new.stores.items)) }
     {
         rx_runs::terms_sink();
-        match seat.control.next(p, here) {
+        match control::next(&seat.control, p, here) {
             Next::Local => {
                 local_step(self.alloc, p, seat, here)?;
                 Ok(None)
@@ -112,26 +113,26 @@ impl<L: FinishLedger> Machine<L> {
             path,
         };
         let answer = self.stores.call(here, m, op)?;
-        seat.control.cell_done(self.alloc, p, answer)?;
+        control::cell_done(&mut seat.control, self.alloc, p, answer)?;
         Ok(())
     }
 }
 
 // Makes the local step that is next.
 fn local_step(alloc: Global, p: &Program, seat: &mut Seat, here: PlaceId) -> Result<(), NoMemory>
-    requires { (t : Term) × StandsFor p.now.script seat.old.control t }
-    ensures { OnOk result ((t : Term) → StandsFor p.now.script seat.old.control t
-        → Leaves p.now.script seat.new.control (does seat.old.control.vars here.0 t)
+    requires { (t : Term) × StandsFor p.now.script seat.old.control.value t }
+    ensures { OnOk result ((t : Term) → StandsFor p.now.script seat.old.control.value t
+        → Leaves p.now.script seat.new.control.value (does seat.old.control.value.vars here.0 t)
         × (seat.new.batch ≡ begun t seat.old.batch) × (seat.new.row ≡ seat.old.row) × (seat.new.scopes ≡ seat.old.scopes)) }
 {
     begin(alloc, p, seat)?;
-    seat.control.local(alloc, p, here)?;
+    control::local(&mut seat.control, alloc, p, here)?;
     Ok(())
 }
 
 // Notes the statement that the next step begins, where it begins one.
 fn begin(alloc: Global, p: &Program, seat: &mut Seat) -> Result<(), NoMemory>
-    ensures { OnOk result ((t : Term) → StandsFor p.now.script seat.old.control t
+    ensures { OnOk result ((t : Term) → StandsFor p.now.script seat.old.control.value t
         → seat.new ≡ record seat.old { batch = begun t seat.old.batch }) }
 {
     match seat.control.path(alloc, p)? {
@@ -145,8 +146,8 @@ fn begin(alloc: Global, p: &Program, seat: &mut Seat) -> Result<(), NoMemory>
 
 // Notes the statement that the next step begins, and gives its path.
 fn begin_call(alloc: Global, p: &Program, seat: &mut Seat) -> Result<Path, NoMemory>
-    requires { (t : Term) × (x : List ℕ) × StandsFor p.now.script seat.old.control t × (begins t ≡ Some x) }
-    ensures { IfOk result (λ path. (t : Term) (x : List ℕ) → StandsFor p.now.script seat.old.control t → begins t ≡ Some x
+    requires { (t : Term) × (x : List ℕ) × StandsFor p.now.script seat.old.control.value t × (begins t ≡ Some x) }
+    ensures { IfOk result (λ path. (t : Term) (x : List ℕ) → StandsFor p.now.script seat.old.control.value t → begins t ≡ Some x
         → (path ≡ x) × (seat.new ≡ record seat.old { batch = seat.old.batch ++ x ∷ [] })) }
 {
     let path = path_of(alloc, p, &seat.control)?;

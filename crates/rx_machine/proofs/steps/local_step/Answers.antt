@@ -7,6 +7,6 @@ use Rattle.rx_machine.proofs.steps.local_step.Goals as goal
 pub returns : goal.returns
 returns c = λ t h.
     let b = c.in_ok-begin.ensures t h in
-    let control : c.begin.new.seat.control ≡ c.args.seat.now.control = ap (λ s. s.control) b in
+    let control : c.begin.new.seat.control.value ≡ c.args.seat.now.control.value = ap (λ s. s.control.value) b in
     let left = c.in_ok-local.ensures.ok t (subst (λ (v : Control). StandsFor c.args.p.now.script v t) (sym control) h) in
-    (subst (λ (v : Control). Leaves c.args.p.now.script c.local.new.self (does v.vars c.args.here.0 t)) control left, ap (λ s. s.batch) b, ap (λ s. s.row) b, ap (λ s. s.scopes) b)
+    (subst (λ (v : Control). Leaves c.args.p.now.script c.local.new.control.value (does v.vars c.args.here.0 t)) control left, ap (λ s. s.batch) b, ap (λ s. s.row) b, ap (λ s. s.scopes) b)

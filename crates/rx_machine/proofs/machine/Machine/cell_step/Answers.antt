@@ -30,14 +30,14 @@ cell_done-requires g c =
     let game = c.requires.game in
     let is = call_is g.L.FinishLedger.stands c.args.p.now.script game.0 game.1 c.args.self.now game.2 c.args.i c.args.here game.3 c.args.seat.now game.4 game.5 c.args.op c.terms_sink.ensures c.terms_make_some.ensures c.going_makes_some.ensures game.5.but.shares.on.makes game.6 in
     let b = c.in_ok-path.ensures game.3.term is.begins.0 game.5.gone.seat_is.term is.begins.1 in
-    (game.3.term, subst (λ (v : Control). StandsFor c.args.p.now.script v game.3.term) (sym (ap (λ s. s.control) b.1)) game.5.gone.seat_is.term)
+    (game.3.term, subst (λ (v : Control). StandsFor c.args.p.now.script v game.3.term) (sym (ap (λ s. s.control.value) b.1)) game.5.gone.seat_is.term)
 
 pub returns-clause-next : goal.returns-clause-next
 returns-clause-next g c = λ code U k q G a e.
     let is = call_is g.L.FinishLedger.stands c.args.p.now.script code U c.args.self.now k c.args.i c.args.here q c.args.seat.now G a c.args.op c.terms_sink.ensures c.terms_make_some.ensures c.going_makes_some.ensures a.but.shares.on.makes e in
     let s = store_is g.L.FinishLedger.stands c.args.p.now.script code U c.args.self.now k c.args.i c.args.here q c.args.seat.now G a c.games_come.ensures a.but.shares.on.proper in
     let b = c.in_ok-path.ensures q.term is.begins.0 a.gone.seat_is.term is.begins.1 in
-    let control : c.begin_call.new.seat.control ≡ c.args.seat.now.control = ap (λ s. s.control) b.1 in
+    let control : c.begin_call.new.seat.control.value ≡ c.args.seat.now.control.value = ap (λ s. s.control.value) b.1 in
     let asked = c.in_ok-answer.ensures.answer s.0 s.1.found in
     let done = c.in_ok-cell_done.ensures.ok q.term is.begins.0 (subst (λ (v : Control). StandsFor c.args.p.now.script v q.term) (sym control) a.gone.seat_is.term) is.begins.1 in
     called g.L.FinishLedger.stands c.args.p.now.script code U c.args.self.now _ k c.args.i c.args.here q c.args.seat.now _ G c.args.op c.in_ok-answer.answer is.begins.0 s.0 asked.0 _ a is is.begins.1 e s.1

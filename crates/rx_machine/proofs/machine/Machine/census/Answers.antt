@@ -81,7 +81,7 @@ census_done-requires-clause-known g c =
     let may = subst (λ (w : Caller). MayAsk T w IsMoving) (sym c.caller.ensures) (seat_asks c.args.p.now.script T c.args.i game.3 c.args.seat IsMoving s a.numbers (moving c.args.p.now.script T c.args.i game.3 c.args.seat here s a.gone.is_at (census-free game.3 here.0 game.6.0 game.6.1))) in
     let count : c.in-Ok.places ≡ T.places = (c.in-Ok.ensures _ T a.but.shares.ledger may).asks.1 in
     let known : game.3.vars.places ≤ T.places = known-there g.L.FinishLedger.stands c.args.p.now.script game.0 game.1 c.args.self.now game.2 c.args.i here game.3 c.args.seat game.4 c.known_places_are_there.ensures c.going_tells_no_places.ensures a in
-    let same : c.args.seat.control.vars.places ≡ game.3.vars.places = ap (λ v. v.places) s.vars in
+    let same : c.args.seat.control.value.vars.places ≡ game.3.vars.places = ap (λ v. v.places) s.vars in
     omega (arith, count, known, same)
 
 pub close_turn-requires-clause-inside : goal.close_turn-requires-clause-inside

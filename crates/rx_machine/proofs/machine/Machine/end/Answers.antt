@@ -35,7 +35,7 @@ no_memory-requires g c =
     let a = game.5 in
     let may = subst (λ (w : Caller). MayAskEnd T w) (sym c.caller-who.ensures) (end-asks shape T i game.3 c.args.seat here game.6.0 a.gone.seat_is a.numbers a.gone.is_at game.6.1) in
     let free = subst (λ (w : Caller). blow_of T w.task ≡ None) (sym c.caller-who.ensures) (seat_unstruck shape T i game.3 c.args.seat a.gone.seat_is) in
-    end-refused T c.caller-who.result c.take_faults-faults.result (c.in-Err.fault, c.in-Err.field-0-1) (g.L.FinishLedger.stands c.end.new.self _) free (c.in-Err.ensures _ T a.but.shares.ledger may)
+    end-refused T c.caller-who.result c.faults_of-faults.result (c.in-Err.fault, c.in-Err.field-0-1) (g.L.FinishLedger.stands c.end.new.self _) free (c.in-Err.ensures _ T a.but.shares.ledger may)
 
 pub returns-clause-made : goal.returns-clause-made
 returns-clause-made g c = λ shape i here code U k q G a asks.
@@ -43,14 +43,14 @@ returns-clause-made g c = λ shape i here code U k q G a asks.
     let s = a.gone.seat_is in
     let fs = asks.0 in
     let so = ap (λ v. does v here.0 q.term) s.vars ∙ asks.1 in
-    let faults : c.take_faults-faults.result ≡ fs = c.take_faults-faults.ensures.list shape q.term here fs s.term (ap carried so) in
+    let faults : c.faults_of-faults.result ≡ fs = c.faults_of-faults.ensures.list shape q.term here fs s.term (ap carried so) in
     let may = subst (λ (w : Caller). MayAskEnd T w) (sym c.caller-who.ensures) (end-asks shape T i q c.args.seat here fs s a.numbers a.gone.is_at asks.1) in
     let did = c.in-Ok.ensures _ T a.but.shares.ledger may in
     let who : c.caller-who.result.task ≡ c.args.seat.row.number = ap (λ (w : Caller). w.task) c.caller-who.ensures in
     let allowed = subst (λ (t : TaskId). AllowedAct T t (End [])) who did.allowed in
     let ledger =
     subst (λ (v : List Fault). g.L.FinishLedger.stands c.end.new.self (to_join U T) (made_act T c.args.seat.row.number (End v))) faults
-    (subst (λ (t : TaskId). g.L.FinishLedger.stands c.end.new.self (to_join U T) (made_act T t (End c.take_faults-faults.result))) who did.made) in
+    (subst (λ (t : TaskId). g.L.FinishLedger.stands c.end.new.self (to_join U T) (made_act T t (End c.faults_of-faults.result))) who did.made) in
     let entries =
     ap (λ l. l.entries) c.add.ensures
     ∙ (ap (λ (v : List Fault). c.args.self.now.history.entries ++ Step c.caller-who.result.task (End v) c.replace-batch.result ∷ []) (c.in_ok-thrown.ensures ∙ faults)

@@ -26,8 +26,8 @@ path_of-requires g c =
     let game = c.requires.game in
     let b = call-begins game.3 c.args.here.0 c.args.to.0 game.6 in (game.3.term, b.0, game.5.gone.seat_is.term, b.1)
 
-pub child-requires : goal.child-requires
-child-requires g c =
+pub child_of-requires : goal.child_of-requires
+child_of-requires g c =
     let game = c.requires.game in
     let b = call-begins game.3 c.args.here.0 c.args.to.0 game.6 in (game.3.term, b.0, game.5.gone.seat_is.term, b.1)
 
@@ -57,7 +57,7 @@ go_on-requires g c = let game = c.requires.game in (game.3.term, game.5.gone.sea
 pub close_turn-requires-clause-inside : goal.close_turn-requires-clause-inside
 close_turn-requires-clause-inside g c =
     let inside : c.args.i < length c.args.self.now.seats.items = c.requires.game.5.inside in
-    let more : length c.push_reserved-2.new.self.items ≡ length c.args.self.now.seats.items + 1 = ap (λ v. length v) (c.push_reserved-2.ensures.items ∙ ap (λ v. v ++ c.new_seat-callee.result ∷ []) c.reserve.ensures.items) ∙ length-append c.args.self.now.seats.items (c.new_seat-callee.result ∷ []) in
+    let more : length c.push_reserved-2.new.self.items ≡ length c.args.self.now.seats.items + 1 = ap (λ v. length v) (c.push_reserved-2.ensures.items ∙ ap (λ v. v ++ c.new_seat-slot.result ∷ []) c.reserve.ensures.items) ∙ length-append c.args.self.now.seats.items (c.new_seat-slot.result ∷ []) in
     omega (arith, inside, more)
 
 pub returns-clause-made : goal.returns-clause-made
@@ -70,9 +70,9 @@ returns-clause-made g c = λ code U k q G a asks.
     let path = c.in_ok-path.ensures q.term b.0 s.term b.1 in
     let at : begins q.term ≡ Some c.in_ok-path.path = b.1 ∙ ap (λ v. Some v) (sym path) in
     let did = call-did T c.args.seat.row c.args.seat.scopes.items c.args.here c.args.to c.in-Ok.born (g.L.FinishLedger.stands c.open_at.new.self (to_join U T)) a.gone.is_at (subst (λ (w : Caller). CallReply T w c.args.to (Ok c.in-Ok.born) (g.L.FinishLedger.stands c.open_at.new.self (to_join U T))) who (c.in-Ok.ensures _ T a.but.shares.ledger may)) in
-    let term = subst (λ (fs : List Fault). StandsFor c.args.p.now.script c.go_on.new.control (granted fs q.term)) c.open.ensures (c.in_ok-go_on.ensures.ok q.term s.term) in
+    let term = subst (λ (fs : List Fault). StandsFor c.args.p.now.script c.go_on.new.control.value (granted fs q.term)) c.open.ensures (c.in_ok-go_on.ensures.ok q.term s.term) in
     let born = c.in_ok-control.ensures.stands q.term s.term b.0 b.1 in
-    let slot = c.new_seat-callee.result in
+    let slot = c.new_seat-slot.result in
     let after : Seat = record { row = waiting c.args.seat.row; scopes = c.push_reserved.new.self; control = c.go_on.new.control; batch = [] } in
     let back : c.close_turn.new.self.seats.items ≡ slice_set c.args.self.now.seats.items c.args.i (Some after) ++ slot ∷ [] =
     c.close_turn.ensures.seats ∙ (ap (λ v. slice_set v c.args.i (Some after)) (c.push_reserved-2.ensures.items ∙ ap (λ v. v ++ slot ∷ []) c.reserve.ensures.items)
@@ -81,6 +81,6 @@ returns-clause-made g c = λ code U k q G a asks.
     let act = At c.in-Ok.born.scope parent c.in-Ok.born.child c.args.here c.args.to c.in_ok-path.path in
     let went = subst (λ (w : Caller). Went g.L.FinishLedger.stands c.args.self.now c.close_turn.new.self (to_join U T) (made_act T c.args.seat.row.number act) (Step c.args.seat.row.number (At c.in-Ok.born.scope w.inner c.in-Ok.born.child c.args.here c.args.to c.in_ok-path.path) c.args.seat.batch)) who
     (closed g.L.FinishLedger.stands c.args.self.now _ _ c.args.i _ _ _ (made_act T c.args.seat.row.number act) refl c.close_turn.ensures did.1) in
-    called g.L.FinishLedger.stands c.args.p.now.script code U c.args.self.now _ k c.args.i c.args.here c.args.to q c.args.seat after slot c.in_ok-control.control G c.in-Ok.born.scope parent c.in-Ok.born.child c.in_ok-path.path a (c.reached_is_sound.ensures T a.reached) asks at did.0 term c.in_ok-go_on.ensures.vars refl (c.push_reserved.ensures.items ∙ ap (λ v. v ++ c.in-Ok.born.scope ∷ []) c.reserve-2.ensures.items) refl born.0 born.1
-    (record { lost = c.new_seat-callee.ensures.lost ∙ did.2; row = c.new_seat-callee.ensures.row; rest = c.new_seat-callee.ensures.seat })
+    called g.L.FinishLedger.stands c.args.p.now.script code U c.args.self.now _ k c.args.i c.args.here c.args.to q c.args.seat after slot c.in_ok-control.control.value G c.in-Ok.born.scope parent c.in-Ok.born.child c.in_ok-path.path a (c.reached_is_sound.ensures T a.reached) asks at did.0 term c.in_ok-go_on.ensures.vars refl (c.push_reserved.ensures.items ∙ ap (λ v. v ++ c.in-Ok.born.scope ∷ []) c.reserve-2.ensures.items) refl born.0 born.1
+    (record { lost = c.new_seat-slot.ensures.lost ∙ did.2; row = c.new_seat-slot.ensures.row; rest = c.new_seat-slot.ensures.seat })
     went back

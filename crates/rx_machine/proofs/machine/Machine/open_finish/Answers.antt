@@ -63,7 +63,7 @@ returns-clause-made g c = λ here code U k q G a asks.
     let did = c.in-Ok.ensures _ T a.but.shares.ledger may in
     let t : c.caller-who.result.task ≡ c.args.seat.row.number = ap (λ (w : Caller). w.task) who in
     let act = Open c.in-Ok.scope c.caller-who.result.inner c.in_ok-path.path in
-    let term = subst (λ (fs : List Fault). StandsFor c.args.p.now.script c.go_on.new.control (granted fs q.term)) c.open.ensures (c.in_ok-go_on.ensures.ok q.term s.term) in
+    let term = subst (λ (fs : List Fault). StandsFor c.args.p.now.script c.go_on.new.control.value (granted fs q.term)) c.open.ensures (c.in_ok-go_on.ensures.ok q.term s.term) in
     finish-opened g.L.FinishLedger.stands c.args.p.now.script code U c.args.self.now _ k c.args.i here q c.args.seat _ G c.in-Ok.scope c.caller-who.result.inner c.in_ok-path.path a asks at
     (subst (λ (u : TaskId). AllowedAct T u act) t did.allowed)
     term c.in_ok-go_on.ensures.vars refl (c.push_reserved.ensures.items ∙ ap (λ (ss : List ScopeId). ss ++ c.in-Ok.scope ∷ []) c.reserve.ensures.items) refl

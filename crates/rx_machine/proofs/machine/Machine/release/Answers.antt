@@ -53,7 +53,7 @@ returns-clause-made g c = λ here code U k q G a asks.
     let who : c.caller-who.result.task ≡ c.args.seat.row.number = ap (λ (w : Caller). w.task) c.caller-who.ensures in
     let allowed = subst (λ (t : TaskId). AllowedAct T t (Release inner o.lost o.masked o.thrown)) who did.allowed in
     let ledger = subst (λ (t : TaskId). g.L.FinishLedger.stands c.release.new.self (to_join U T) (made_act T t (Release inner o.lost o.masked o.thrown))) who did.made in
-    let term = subst (λ (v : List Fault). StandsFor shape c.go_on.new.control (granted v q.term)) c.in_ok-raised.ensures (c.in_ok-go_on.ensures.ok q.term s.term) in
+    let term = subst (λ (v : List Fault). StandsFor shape c.go_on.new.control.value (granted v q.term)) c.in_ok-raised.ensures (c.in_ok-go_on.ensures.ok q.term s.term) in
     released g.L.FinishLedger.stands c.reached_is_sound.ensures c.release_keeps_others.ensures c.release_pops_newest.ensures shape code U c.args.self.now _ k c.args.i here q c.args.seat _ G inner o.lost o.masked o.thrown a asks allowed term c.in_ok-go_on.ensures.vars refl c.drop_innermost.ensures refl
     (closed g.L.FinishLedger.stands c.args.self.now _ _ c.args.i _ (Release inner o.lost o.masked o.thrown) _ (made_act T c.args.seat.row.number (Release inner o.lost o.masked o.thrown)) refl c.close_turn.ensures ledger)
     c.close_turn.ensures.seats

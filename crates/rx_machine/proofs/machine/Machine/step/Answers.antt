@@ -24,7 +24,7 @@ returns-in_ok-local_step-in-Local-clause-next g c = λ code U k q G a.
     let e = told-next g.L.FinishLedger.stands c.args.p.now.script code U c.args.self.now k c.args.i c.args.here q c.args.seat.now G _ a (c.in-Local.ensures q.term s.term) in
     let left = c.in_ok-local_step-in-Local.ensures q.term s.term in
     let leaves =
-    subst (λ (v : Vars). Leaves c.args.p.now.script c.local_step.new.seat.control (does v c.args.here.0 q.term)) s.vars left.0 in
+    subst (λ (v : Vars). Leaves c.args.p.now.script c.local_step.new.seat.control.value (does v c.args.here.0 q.term)) s.vars left.0 in
     stepped-local g.L.FinishLedger.stands c.args.p.now.script code U c.args.self.now k c.args.i c.args.here q c.args.seat.now _ G c.terms_sink.ensures a e leaves left.1 left.2 left.3
 
 pub returns-in_err-local_step-in-Local-clause-refused : goal.returns-in_err-local_step-in-Local-clause-refused

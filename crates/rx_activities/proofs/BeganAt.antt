@@ -88,7 +88,7 @@ module _ (L : BookName LedgerFixed) (c : Control) (place : PlaceId) (pass : Pass
   by_ticket : (P : AnyTicket → Type 0) → P (Running who) → P a.ticket
   by_ticket P h = subst P (sym o.ticket_is) h
 
-  by_control : (P : Control → Type 0) → P c → P a.control
+  by_control : (P : Control → Type 0) → P c → P a.control.value
   by_control P h = subst P (sym o.control) h
 
   seat_at : IsSeatAt L place seat pass → IsSeatAt L a.place a.seat a.pass

@@ -96,7 +96,7 @@ module _ (L : BookName LedgerFixed) (rest : Rest) (reply : Reply) (child : Optio
   module _ (kept : is_refusal reply ≡ false) (who : Caller) (act : Act) (new : TaskId) (scope : ScopeId) (to : PlaceId) (path : List ℕ) (d : Does) (asks : asker w.op.request.ticket ≡ Some who)
       (may : AllowedAct (tree_of f.setup.places (there kept)) who.task act) (added : now.entries ≡ there kept ++ Step who.task act w.op.request.batch ∷ []) (starts : started_by act ≡ Some new)
       (born_is : (n : ℕ) (i : LedgerItem) (x : Stand) → actors_born n i act x ≡ actor_born n i (place_number who.place) to x ∷ []) (next : new.0 ≡ (tree_of f.setup.places (there kept)).next_task) (inside : to.0 < (tree_of f.setup.places (there kept)).places)
-      (did : (t : Term) → StandsFor f.program.script w.hand.control t → does w.hand.control.vars w.hand.place.0 t ≡ d) (path_is : w.op.request.path ≡ Some path) (target_is : target (next_of d) ≡ Some to)
+      (did : (t : Term) → StandsFor f.program.script w.hand.control.value t → does w.hand.control.value.vars w.hand.place.0 t ≡ d) (path_is : w.op.request.path ≡ Some path) (target_is : target (next_of d) ≡ Some to)
       (fits : (here : PlaceId) (t : Term) → place_number who.place ≡ here → begins t ≡ Some path → Fits here t d act)
       (o : Option AnyTicket) (o_is : o ≡ ticket_of (tree_of f.setup.places (there kept)) new scope (place_number who.place) to) (serves : Folds (given f.setup) (there kept) → HasNumbers (tree_of f.setup.places now.entries) → MayStart (tree_of f.setup.places now.entries) o) where
     abbrev e : Entry
@@ -129,8 +129,8 @@ module _ (L : BookName LedgerFixed) (rest : Rest) (reply : Reply) (child : Optio
     starts_it =
         let s : StandsSo code L w.hand w.knows.who.task = w.knows.stands code st in
         let is_target : target w.next ≡ Some to = ap target (w.does_next s.stand.term s.term ∙ ap next_of (did s.stand.term s.term)) ∙ target_is in
-        started L rest.place to rest.pass f.program.script w.hand.control w.hand.place w.hand.pass w.hand.seat w.op.mentions o child
-        (subst (λ (x : Option PlaceId). ChildFor f.program.script w.hand.control w.hand.place x w.hand.pass w.hand.seat child) is_target w.child_is) w.mentions.mentioned
+        started L rest.place to rest.pass f.program.script w.hand.control.value w.hand.place w.hand.pass w.hand.seat w.op.mentions o child
+        (subst (λ (x : Option PlaceId). ChildFor f.program.script w.hand.control.value w.hand.place x w.hand.pass w.hand.seat child) is_target w.child_is) w.mentions.mentioned
         (λ t c is prepared child_is seat_is.
         born.is_born L rest reply child w (answered kept) who act new scope to asks may added starts born_is next says inside_now code st c prepared child_is seat_is t
         (of_ticket (is_some (death_of (tree_of f.setup.places (there kept)) to)) ((place_number who.place).0 == to.0) _ _ t (sym is ∙ o_is))
@@ -145,7 +145,7 @@ called_so L rest ticket callee child code st w =
     let ask : w.op.request.ask ≡ AskCall a.to = ap (λ (q : Request). q.ask) a.asked in
     starts_it L rest reply child code st w kept a.who (ActCall a.scope a.who.inner a.child (place_number a.who.place) a.to a.path) a.child a.scope a.to a.path (Calls a.to.0) (ap (λ (q : Request). asker q.ticket) a.asked)
     a.entry.allowed a.entry.added refl (λ n i x. refl) a.entry.allowed.asks.3 a.entry.allowed.asks.4
-    (λ t is. subst (SuitsStep (does w.hand.control.vars w.hand.place.0 t)) ask (w.asks t is)) (ap (λ (q : Request). q.path) a.asked) refl (λ here t from path. (refl, from, path))
+    (λ t is. subst (SuitsStep (does w.hand.control.value.vars w.hand.place.0 t)) ask (w.asks t is)) (ap (λ (q : Request). q.path) a.asked) refl (λ here t from path. (refl, from, path))
     callee a.callee_is (λ folds numbers. children_begin (given L.fixed.setup) (there L rest reply child code st w kept) (now L rest reply child code st w).entries w.op.request reply folds a numbers)
 
 -- after a start
@@ -157,7 +157,7 @@ spawned_so L rest ticket other child code st w =
     let ask : w.op.request.ask ≡ AskSpawn a.to = ap (λ (q : Request). q.ask) a.asked in
     starts_it L rest reply child code st w kept a.who (ActSpawn a.child a.scope (place_number a.who.place) a.to a.path) a.child a.scope a.to a.path (Spawns a.to.0) (ap (λ (q : Request). asker q.ticket) a.asked)
     a.entry.allowed a.entry.added refl (λ n i x. refl) a.entry.allowed.asks.1 a.entry.allowed.asks.3
-    (λ t is. subst (SuitsStep (does w.hand.control.vars w.hand.place.0 t)) ask (w.asks t is)) (ap (λ (q : Request). q.path) a.asked) refl (λ here t from path. (refl, from, path))
+    (λ t is. subst (SuitsStep (does w.hand.control.value.vars w.hand.place.0 t)) ask (w.asks t is)) (ap (λ (q : Request). q.path) a.asked) refl (λ here t from path. (refl, from, path))
     other a.started_is (λ folds numbers. children_begin (given L.fixed.setup) (there L rest reply child code st w kept) (now L rest reply child code st w).entries w.op.request reply folds a numbers)
 
 -- the same of a script that is the run's

@@ -1,6 +1,7 @@
 -- What a task knows that was started, once its pass of the ledger's book has met a note of its starter's pass.
 use Rattle.std.specs.Prelude.{◌≡◌, ◌≢◌, ◌+◌, ◌<◌, ◌≤◌, ◌^◌, ◌==◌, ℕ, suc, Bool, true, false, cond, List, [], ◌∷◌, ◌++◌, length, map, drop, Option, Some, None, slice_get, refl}
 use Rattle.std.proofs.Common.{ap, sym, ◌∙◌, subst, arith}
+use Rattle.std.specs.Global.{Box}
 use Rattle.std.proofs.lemmas.Bool.{eqb-true, eq-eqb, ne_eqb}
 use mathlib.Core.List.{IsPrefix}
 use Rattle.rx_base.specs.declared.ids.PlaceId.{PlaceId}
@@ -15,7 +16,7 @@ use Rattle.rx_rules.specs.Entries.{place_number, AllowedAct}
 use Rattle.rx_rules.specs.Fold.{tree_of}
 use Rattle.rx_rules.specs.Plays.{Cells, Fits, started_by}
 use Rattle.rx_rules.specs.Run.{Folds}
-use Rattle.rx_rules.specs.Terms.{does}
+use Rattle.rx_rules.specs.Terms.{does, child}
 use Rattle.rx_rules.specs.Tree.{Tree}
 use Rattle.rx_sound.proofs.Reach.{task_below}
 use Rattle.rx_sound.proofs.Reached.{sound}
@@ -26,6 +27,8 @@ use Rattle.rx_finish.specs.Callers.{HasNumbers, MayAskMoving, MayAskArrive}
 use Rattle.rx_ticket.specs.declared.tickets.AnyTicket.{AnyTicket}
 use Rattle.rx_ticket.specs.declared.tickets.AnyTicket.TheVariants.{Moving, Running}
 use Rattle.rx_nodes.specs.Shape.{Stands}
+use Rattle.rx_control.specs.declared.control.Control.{Control}
+use Rattle.rx_control.specs.Stands.{StandsFor}
 use Rattle.rx_history.specs.Setups.{given}
 use Rattle.rx_book.specs.declared.views.Stamped.{Stamped}
 use Rattle.rx_book.specs.declared.views.View.{View}
@@ -146,7 +149,7 @@ module _ (L : BookName LedgerFixed) (rest : Rest) (reply : Reply) (child_of : Op
       (may : AllowedAct (tree_of places (was.entries ++ due_entries am.due)) who.task act) (added : now.entries ≡ (was.entries ++ due_entries am.due) ++ Step who.task act w.op.request.batch ∷ []) (starts : started_by act ≡ Some new)
       (born_is : (n : ℕ) (i : LedgerItem) (x : Stand) → actors_born n i act x ≡ actor_born n i (place_number who.place) to x ∷ []) (next : new.0 ≡ (tree_of places (was.entries ++ due_entries am.due)).next_task)
       (fits : (code : Block) (st : Stands L.fixed.program.script code) → Fits (k.stands code st).actor.birth.to (k.stands code st).stand.term (does (k.stands code st).stand.vars (k.stands code st).actor.birth.to.0 (k.stands code st).stand.term) act)
-      (inside : to.0 < (tree_of places (entries_at z.seen)).places) (first : Block) (is_first : Stands L.fixed.program.script first) (ch : Child) (prepared : IsPrepared L.fixed.program.script a.control a.place to a.pass a.seat ch)
+      (inside : to.0 < (tree_of places (entries_at z.seen)).places) (first : Block) (is_first : Stands L.fixed.program.script first) (ch : Child) (prepared : IsPrepared L.fixed.program.script a.control.value a.place to a.pass a.seat ch)
       (child_is : w.op.mentions.child.value ≡ ch.pass) (seat_is : (s : Pass EventItem) → ch.seat ≡ Some s → w.op.mentions.seat.value ≡ s) where
     abbrev there : List Entry
     there = was.entries ++ due_entries am.due
@@ -277,9 +280,9 @@ module _ (L : BookName LedgerFixed) (rest : Rest) (reply : Reply) (child_of : Op
           (go (subst (λ (es : List Entry). HasNumbers (tree_of places es)) lines_are (numbers_are_left places (entries_at z.seen) few_z))))
 
       -- on its way
-      away_so : (from.0 == to.0) ≡ false → (length (entries_at m.seen) + 1 < 2 ^ 31 → MayAskArrive (tree_of places (entries_at m.seen)) (fresh_caller new scope (Travel from to))) → (code : Block) → Stands L.fixed.program.script code
-          → ComesSo code L (record { control = ch.control; ticket = fresh_caller new scope (Travel from to); pass = met })
-      away_so apart serves code st =
+      away_so : (box : Box Control) → box.value ≡ ch.control.value → (from.0 == to.0) ≡ false → (length (entries_at m.seen) + 1 < 2 ^ 31 → MayAskArrive (tree_of places (entries_at m.seen)) (fresh_caller new scope (Travel from to))) → (code : Block) → Stands L.fixed.program.script code
+          → ComesSo code L (record { control = box; ticket = fresh_caller new scope (Travel from to); pass = met })
+      away_so box same apart serves code st =
           let x = said code st in
           let s' = s code st in
           record {
@@ -291,8 +294,8 @@ module _ (L : BookName LedgerFixed) (rest : Rest) (reply : Reply) (child_of : Op
             place = refl;
             no_batch = refl;
             unnamed = refl;
-            term = prepared.term s'.stand.term s'.term;
-            vars = prepared.vars ∙ s'.vars;
+            term = subst (λ (c : Control). StandsFor L.fixed.program.script c (child s'.stand.term)) (sym same) (prepared.term s'.stand.term s'.term);
+            vars = ap (λ (c : Control). c.vars) same ∙ (prepared.vars ∙ s'.vars);
             some = some-child s'.stand.term s'.some;
             known = known s'.stand.vars.places s'.known;
             unheld = unheld-child s'.stand.term;
@@ -301,13 +304,13 @@ module _ (L : BookName LedgerFixed) (rest : Rest) (reply : Reply) (child_of : Op
             serves = serves;
           }
 
-      pub comes : (from.0 == to.0) ≡ false → (length (entries_at m.seen) + 1 < 2 ^ 31 → MayAskArrive (tree_of places (entries_at m.seen)) (fresh_caller new scope (Travel from to)))
-          → Comes L (record { control = ch.control; ticket = fresh_caller new scope (Travel from to); pass = met })
-      comes apart serves =
+      pub comes : (box : Box Control) → box.value ≡ ch.control.value → (from.0 == to.0) ≡ false → (length (entries_at m.seen) + 1 < 2 ^ 31 → MayAskArrive (tree_of places (entries_at m.seen)) (fresh_caller new scope (Travel from to)))
+          → Comes L (record { control = box; ticket = fresh_caller new scope (Travel from to); pass = met })
+      comes box same apart serves =
           record {
             pass = run;
             inside = by_seen (λ l. to.0 < (tree_of places (entries_at l)).places) inside;
-            stands = λ code st. away_so apart serves code st;
+            stands = λ code st. away_so box same apart serves code st;
           }
 
       -- at its starter's place
@@ -338,7 +341,7 @@ module _ (L : BookName LedgerFixed) (rest : Rest) (reply : Reply) (child_of : Op
             seat-makes code (given f.setup) rest.place.0 (ledger_items m.seen) (made_events (view_of sp).seen) new.0 (born code st) x.0 (seat_at.lawful code st) carried x.1 in
             no_events new.0 sp (ap (λ (y : View EventItem). y.mine) view) (subst (λ (d : List ℕ). EachSeated new.0 d (made_events (view_of sp).seen)) (ap (λ (p : Pass EventItem). (view_of p).number) (seat_is sp is_seat)) seats)
 
-        here_so : (code : Block) → Stands L.fixed.program.script code → BeginsSo code L ch.control rest.place met sp (fresh_caller new scope (Stays to))
+        here_so : (code : Block) → Stands L.fixed.program.script code → BeginsSo code L ch.control.value rest.place met sp (fresh_caller new scope (Stays to))
         here_so code st =
             let x = said code st in
             let s' = s code st in
@@ -364,9 +367,9 @@ module _ (L : BookName LedgerFixed) (rest : Rest) (reply : Reply) (child_of : Op
               serves = serves;
             }
 
-        pub knows : (hand : Hand) → IsWith ch.control rest.place met sp (Running (fresh_caller new scope (Stays to))) [] hand → Knows L hand
+        pub knows : (hand : Hand) → IsWith ch.control.value rest.place met sp (Running (fresh_caller new scope (Stays to))) [] hand → Knows L hand
         knows hand o =
-            knows_at L ch.control rest.place met sp (fresh_caller new scope (Stays to)) hand o (ap Stays to_is) run seat_at
+            knows_at L ch.control.value rest.place met sp (fresh_caller new scope (Stays to)) hand o (ap Stays to_is) run seat_at
             (subst (λ (p : PlaceId). p.0 < (tree_of places (entries_at m.seen)).places) (sym w.place) (let x = k.inside in let y = known (suc a.place.0) (omega (arith, x)) in omega (arith, y)))
             (λ code st. here_so code st)
 
@@ -382,14 +385,14 @@ module _ (L : BookName LedgerFixed) (rest : Rest) (reply : Reply) (child_of : Op
         record {
           word = prepared.word ∙ k.pass.word;
           at_start = subst (λ (t : AnyTicket). IsAtStart t ch.seat) (sym is) tt;
-          begins = λ met x h so. begins met x h (subst (λ (t : AnyTicket). StartsWith rest.place t ch.control met ch.seat x) is so);
+          begins = λ met x h so. begins met x h (subst (λ (t : AnyTicket). StartsWith rest.place t ch.control.value met ch.seat x) is so);
         }
       where
-        begins : (met : Pass EntryItem) (x : Started) → HasMet ch.pass rest.pass met → TravelsWith (fresh_caller new scope (Travel from to)) ch.control met x → BeginsAs L x
+        begins : (met : Pass EntryItem) (x : Started) → HasMet ch.pass rest.pass met → TravelsWith (fresh_caller new scope (Travel from to)) ch.control.value met x → BeginsAs L x
         begins met (Here hand) h so = absurd so
         begins met (Leaves j) h so =
-            subst (Comes L) (λ i. record { control = sym so.0 i; ticket = sym so.1 i; pass = sym so.2 i })
-            (comes met h apart (λ few. served met h (λ T. MayAskArrive T (fresh_caller new scope (Travel from to))) (λ numbers. subst (λ (t : AnyTicket). MayStart (tree_of places now.entries) (Some t)) is (serves numbers)) few))
+            subst (Comes L) (λ i. record { control = j.control; ticket = sym so.1 i; pass = sym so.2 i })
+            (comes met h j.control so.0 apart (λ few. served met h (λ T. MayAskArrive T (fresh_caller new scope (Travel from to))) (λ numbers. subst (λ (t : AnyTicket). MayStart (tree_of places now.entries) (Some t)) is (serves numbers)) few))
 
     here : (ticket : AnyTicket) → ticket ≡ live → (from.0 == to.0) ≡ true → (HasNumbers (tree_of places now.entries) → MayStart (tree_of places now.entries) (Some ticket)) → IsBorn L rest.place rest.pass ticket ch
     here ticket is together serves = with_seat ch.seat refl (subst (λ (b : Bool). SeatIsNew b a.seat ch.seat) same prepared.seat_is)
@@ -398,7 +401,7 @@ module _ (L : BookName LedgerFixed) (rest : Rest) (reply : Reply) (child_of : Op
         same = (let x : from.0 ≡ to.0 = eqb-true from.0 to.0 together in let y = ap (λ (p : PlaceId). p.0) from_is in eq-eqb to.0 a.place.0 (sym x ∙ y))
 
         begins : (sp : Pass EventItem) → ch.seat ≡ Some sp → word_of sp ≡ word_of a.seat → view_of sp ≡ split_of (view_of a.seat) → (met : Pass EntryItem) (x : Started) → HasMet ch.pass rest.pass met
-            → StaysWith rest.place live ch.control met (Some sp) x → BeginsAs L x
+            → StaysWith rest.place live ch.control.value met (Some sp) x → BeginsAs L x
         begins sp is_seat word view met (Here hand) h so =
             knows met h together sp is_seat word view
             (λ few. served met h (λ T. MayAskMoving T (fresh_caller new scope (Stays to))) (λ numbers. subst (λ (t : AnyTicket). MayStart (tree_of places now.entries) (Some t)) is (serves numbers)) few) hand so
@@ -412,7 +415,7 @@ module _ (L : BookName LedgerFixed) (rest : Rest) (reply : Reply) (child_of : Op
               at_start = subst (λ (t : AnyTicket). IsAtStart t ch.seat) (sym is) (subst (λ (o : Option (Pass EventItem)). IsAtStart live o) (sym is_seat) tt);
               begins = λ met x h so.
                   begins sp is_seat n.0 n.1 met x h
-                  (subst (λ (o : Option (Pass EventItem)). StaysWith rest.place live ch.control met o x) is_seat (subst (λ (t : AnyTicket). StartsWith rest.place t ch.control met ch.seat x) is so));
+                  (subst (λ (o : Option (Pass EventItem)). StaysWith rest.place live ch.control.value met o x) is_seat (subst (λ (t : AnyTicket). StartsWith rest.place t ch.control.value met ch.seat x) is so));
             }
 
     -- the task knows what it has to

@@ -154,7 +154,7 @@ module _ (L : BookName LedgerFixed) (a : Hand) (q : Pass EntryItem) (k : Knows L
 
   -- and shows what a call of the store has to show, with a stamp between what it knew of and what it knows of
   pub asks_place : (words n : ℕ) (x : List ℕ) (op : CellOp) → (view_of a.pass).reach ≤ n → n ≤ (view_of q).reach → has_bit (view_of q).dead a.place.0 ≡ false → MayAskStore a.place op
-      → ((t : Term) → StandsFor L.fixed.program.script a.control t → CellStep op ≡ next_of (does a.control.vars a.place.0 t)) → ((t : Term) → StandsFor L.fixed.program.script a.control t → begins t ≡ Some x)
+      → ((t : Term) → StandsFor L.fixed.program.script a.control.value t → CellStep op ≡ next_of (does a.control.value.vars a.place.0 t)) → ((t : Term) → StandsFor L.fixed.program.script a.control.value t → begins t ≡ Some x)
       → AsksPlace (fixed_at L a words) (view_of a.seat) (op_of k.who.task n x op q)
   asks_place words n x op above below alive cell next begun =
       record {
@@ -192,7 +192,7 @@ module _ (L : BookName LedgerFixed) (a : Hand) (q : Pass EntryItem) (k : Knows L
       }
 
 -- what the call is for its statement, and the store that may be asked
-pub call_is : (code : Block) (L : BookName LedgerFixed) (a : Hand) (t : TaskId) (s : StandsSo code L a t) (op : CellOp) → TermSinks → CellStep op ≡ next_of (does a.control.vars a.place.0 s.stand.term) → IsCall s.stand.term a.place op (does s.stand.vars a.place.0 s.stand.term)
+pub call_is : (code : Block) (L : BookName LedgerFixed) (a : Hand) (t : TaskId) (s : StandsSo code L a t) (op : CellOp) → TermSinks → CellStep op ≡ next_of (does a.control.value.vars a.place.0 s.stand.term) → IsCall s.stand.term a.place op (does s.stand.vars a.place.0 s.stand.term)
 call_is code L a t s op sink next =
     let p : Player = record { term = s.stand.term; vars = s.stand.vars; batch = [] } in
     let none : Goes 0 0 t a.place p opening_state [] p opening_state [] = goes_none in
@@ -218,15 +218,15 @@ call_begins op (Counts name) b e h = absurd (let f : ⊥ = cc in f)
 call_begins op (Done faults) b e h = absurd (let f : ⊥ = cc in f)
 
 -- In each run of the program in which the activity is known, and calls the store next.
-module _ (p : Checked) (L : BookName LedgerFixed) (a : Hand) (k : Knows L a) (program : L.fixed.program ≡ p) (op : CellOp) (next : (t : Term) → StandsFor p.script a.control t → CellStep op ≡ next_of (does a.control.vars a.place.0 t)) where
+module _ (p : Checked) (L : BookName LedgerFixed) (a : Hand) (k : Knows L a) (program : L.fixed.program ≡ p) (op : CellOp) (next : (t : Term) → StandsFor p.script a.control.value t → CellStep op ≡ next_of (does a.control.value.vars a.place.0 t)) where
   pub of_program : (c : Control) (t : Term) → StandsFor L.fixed.program.script c t → StandsFor p.script c t
   of_program c t s = subst (λ (q : Checked). StandsFor q.script c t) program s
 
   pub of_run : (c : Control) (t : Term) → StandsFor p.script c t → StandsFor L.fixed.program.script c t
   of_run c t s = subst (λ (q : Checked). StandsFor q.script c t) (sym program) s
 
-  pub next_in_run : (t : Term) → StandsFor L.fixed.program.script a.control t → CellStep op ≡ next_of (does a.control.vars a.place.0 t)
-  next_in_run t s = next t (of_program a.control t s)
+  pub next_in_run : (t : Term) → StandsFor L.fixed.program.script a.control.value t → CellStep op ≡ next_of (does a.control.value.vars a.place.0 t)
+  next_in_run t s = next t (of_program a.control.value t s)
 
   -- its place is one of 16
   pub place_small : (code : Block) → Stands p.script code → a.place.0 < 16
@@ -237,14 +237,14 @@ module _ (p : Checked) (L : BookName LedgerFixed) (a : Hand) (k : Knows L a) (pr
       omega (arith, few, low)
 
   -- its control stands for a term, a statement of which begins, and its store may be asked
-  pub call_asked : TermSinks → (code : Block) → Stands p.script code → (t : Term) × (x : List ℕ) × StandsFor p.script a.control t × (begins t ≡ Some x) × MayAskStore a.place op
+  pub call_asked : TermSinks → (code : Block) → Stands p.script code → (t : Term) × (x : List ℕ) × StandsFor p.script a.control.value t × (begins t ≡ Some x) × MayAskStore a.place op
   call_asked sink code stands =
       let s = k.stands code (subst (λ (q : Checked). Stands q.script code) (sym program) stands) in
       let is = call_is code L a k.who.task s op sink (next_in_run s.stand.term s.term) in
-      (s.stand.term, is.begins.0, of_program a.control s.stand.term s.term, is.begins.1, is.may)
+      (s.stand.term, is.begins.0, of_program a.control.value s.stand.term s.term, is.begins.1, is.may)
 
   -- the path of that statement is the one that was told
-  pub call_path : (x : List ℕ) → ((t : Term) (y : List ℕ) → StandsFor p.script a.control t → begins t ≡ Some y → x ≡ y) → (t : Term) → StandsFor L.fixed.program.script a.control t → begins t ≡ Some x
+  pub call_path : (x : List ℕ) → ((t : Term) (y : List ℕ) → StandsFor p.script a.control.value t → begins t ≡ Some y → x ≡ y) → (t : Term) → StandsFor L.fixed.program.script a.control.value t → begins t ≡ Some x
   call_path x told t s =
-      let b = call_begins op (does a.control.vars a.place.0 t) (begins t) (sym (next_in_run t s)) (begins-so a.control.vars a.place.0 t) in
-      b.1 ∙ ap Some (sym (told t b.0 (of_program a.control t s) b.1))
+      let b = call_begins op (does a.control.value.vars a.place.0 t) (begins t) (sym (next_in_run t s)) (begins-so a.control.value.vars a.place.0 t) in
+      b.1 ∙ ap Some (sym (told t b.0 (of_program a.control.value t s) b.1))

@@ -102,12 +102,12 @@ module _ (shape : Shape) (L : BookName LedgerFixed) (rest : Rest) (child : Optio
     next_census : w.next ≡ BookStep WantCensus
     next_census = next_is shape L rest (Counted ticket places) child w program code stands s (Counts asks_it.0) asks_it.1
 
-    stood : StandsFor shape rest.control s.stand.term
+    stood : StandsFor shape rest.control.value s.stand.term
     stood =
-        let e : rest.control ≡ w.hand.control = w.control.same (λ h. let f = sym next_census ∙ h in let g : ⊥ = cc f in g) (λ h. let f = sym next_census ∙ h in let g : ⊥ = cc f in g) in
+        let e : rest.control.value ≡ w.hand.control.value = w.control.same (λ h. let f = sym next_census ∙ h in let g : ⊥ = cc f in g) (λ h. let f = sym next_census ∙ h in let g : ⊥ = cc f in g) in
         subst (λ (c : Control). StandsFor shape c s.stand.term) (sym e) (term_so shape L rest (Counted ticket places) child w program code stands s)
 
-    next_there : next_of (does rest.control.vars w.hand.place.0 s.stand.term) ≡ BookStep WantCensus
+    next_there : next_of (does rest.control.value.vars w.hand.place.0 s.stand.term) ≡ BookStep WantCensus
     next_there =
         ap (λ (v : Vars). next_of (does v w.hand.place.0 s.stand.term)) w.control.vars
         ∙ (sym (w.does_next s.stand.term (term_so shape L rest (Counted ticket places) child w program code stands s)) ∙ next_census)
@@ -131,7 +131,7 @@ module _ (shape : Shape) (L : BookName LedgerFixed) (rest : Rest) (child : Optio
           serves = λ few. (grant.1, goes_on shape L rest (Counted ticket places) child w program code stands s answer (Step answer.answers.who.task act w.op.request.batch ∷ []) answer.answers.entry.added few);
         }
 
-    knew : rest.control.vars.places ≤ places
+    knew : rest.control.value.vars.places ≤ places
     knew =
         let e = ap (λ (v : Vars). v.places) (w.control.vars ∙ s.vars) in
         let k = s.known in

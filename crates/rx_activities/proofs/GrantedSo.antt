@@ -43,20 +43,20 @@ who_is shape L rest reply child w who e = one_caller who w.knows.who (sym e ∙ 
 pub record GrantedSo (shape : Shape) (L : BookName LedgerFixed) (rest : Rest) (reply : Reply) (child : Option Child) (w : WasSent shape L rest reply child) (code : Block) (s : StandsSo code L w.hand w.knows.who.task) (ticket : AnyTicket) (act : Act) : Type 0 where
   pub act_is : OneAct code L w.hand w.knows.who.task s act (view_of rest.pass)
   pub goes : GoneOn code L w.hand w.knows.who.task s act (view_of rest.pass) ticket
-  pub ready : (u : Term) × StandsFor shape rest.control u × ((fs : List Fault) → granted fs u ≡ granted fs s.stand.term)
+  pub ready : (u : Term) × StandsFor shape rest.control.value u × ((fs : List Fault) → granted fs u ≡ granted fs s.stand.term)
   pub told : vars_told (does s.stand.vars w.hand.place.0 s.stand.term) act s.stand.vars ≡ s.stand.vars
 
 module _ (shape : Shape) (L : BookName LedgerFixed) (rest : Rest) (reply : Reply) (child : Option Child) (w : WasSent shape L rest reply child) (program : L.fixed.program.script ≡ shape) where
   module _ (code : Block) (stands : Stands L.fixed.program.script code) (s : StandsSo code L w.hand w.knows.who.task) where
     abbrev pub Ready : Type 0
-    Ready = (u : Term) × StandsFor shape rest.control u × ((fs : List Fault) → granted fs u ≡ granted fs s.stand.term)
+    Ready = (u : Term) × StandsFor shape rest.control.value u × ((fs : List Fault) → granted fs u ≡ granted fs s.stand.term)
 
-    stood : StandsFor shape w.hand.control s.stand.term
+    stood : StandsFor shape w.hand.control.value s.stand.term
     stood = term_so shape L rest reply child w program code stands s
 
     pub ready_same : (n : Next) → w.next ≡ n → (n ≡ BookStep WantWait → ⊥) → (n ≡ EndStep → ⊥) → Ready
     ready_same n is other on =
-        let e : rest.control ≡ w.hand.control = w.control.same (λ h. other (sym is ∙ h)) (λ h. on (sym is ∙ h)) in
+        let e : rest.control.value ≡ w.hand.control.value = w.control.same (λ h. other (sym is ∙ h)) (λ h. on (sym is ∙ h)) in
         (s.stand.term, subst (λ (c : Control). StandsFor shape c s.stand.term) (sym e) stood, λ fs. refl)
 
     pub ready_wait : w.next ≡ BookStep WantWait → Ready

@@ -282,7 +282,7 @@ module _ (L : BookName LedgerFixed) (j : Journey) (comes : Comes L j) (seat : Pa
         (calls.folds_there f there z op replied.answer c j.pass.own applied e lands.entry.added code s.legal legal) now_may lands
         (subst (λ (es : List Entry). HasNumbers (tree_of f.setup.places es)) lines_are (numbers_are_left f.setup.places (entries_at z.seen) few)))
 
-    begins : BeginsSo code L j.control (landing j.ticket.place) w seat ticket
+    begins : BeginsSo code L j.control.value (landing j.ticket.place) w seat ticket
     begins =
         record {
           legal = legal;
@@ -308,9 +308,9 @@ module _ (L : BookName LedgerFixed) (j : Journey) (comes : Comes L j) (seat : Pa
         }
 
   -- the task knows what it has to
-  pub landed_knows : (a : Hand) → IsWith j.control (landing j.ticket.place) w seat (Running ticket) [] a → Knows L a
+  pub landed_knows : (a : Hand) → IsWith j.control.value (landing j.ticket.place) w seat (Running ticket) [] a → Knows L a
   landed_knows a o =
       let n = comes.inside in
       let m = calls.more_places f there z op replied.answer c j.pass.own in
-      knows_at L j.control (landing j.ticket.place) w seat ticket a o place_is (replied_run L j.pass w op (Landed ticket) comes.pass.word word replied)
+      knows_at L j.control.value (landing j.ticket.place) w seat ticket a o place_is (replied_run L j.pass w op (Landed ticket) comes.pass.word word replied)
       (new_seat L (landing j.ticket.place) seat w new.word new.unseen) (omega (arith, n, m)) (λ code stands. begins code stands)

@@ -69,7 +69,7 @@ held_serves T (Held who) h = (refl, h)
 held_serves T Host h = absurd h
 
 module _ (shape : Shape) (L : BookName LedgerFixed) (rest : Rest) (child : Option Child) (program : L.fixed.program.script ≡ shape) (place : PlaceId) (request : Request) (w : WasSent shape L rest (NotYet place request) child)
-    (h : Hand) (is : IsWith rest.control rest.place rest.pass rest.seat request.ticket request.batch h) where
+    (h : Hand) (is : IsWith rest.control.value rest.place rest.pass rest.seat request.ticket request.batch h) where
   abbrev U : Given
   U = given L.fixed.setup
 
@@ -118,7 +118,7 @@ module _ (shape : Shape) (L : BookName LedgerFixed) (rest : Rest) (child : Optio
     unmade : since w.hand ≡ []
     unmade = s.calm waits
 
-    still : rest.control ≡ w.hand.control
+    still : rest.control.value ≡ w.hand.control.value
     still =
         let n : w.next ≡ BookStep WantRelease = next_is shape L rest (NotYet place request) child w program code stands s Releases releases.1 in
         w.control.same (λ e. let f = sym n ∙ e in let x : ⊥ = cc f in x) (λ e. let f = sym n ∙ e in let x : ⊥ = cc f in x)
@@ -150,7 +150,7 @@ module _ (shape : Shape) (L : BookName LedgerFixed) (rest : Rest) (child : Optio
         let both : (m : LegalLedger code U (ledger_items (view_of h.pass).seen)) × (slice_get m.actors w.knows.who.task.0 ≡ Some s.actor) =
         seen_so (λ (x : View EntryItem). (m : LegalLedger code U (ledger_items x.seen)) × (slice_get m.actors w.knows.who.task.0 ≡ Some s.actor))
         ((of_run shape L rest (NotYet place request) child w).lawful.made code stands, there_so ((of_run shape L rest (NotYet place request) child w).lawful.made code stands)) in
-        let ctl : h.control ≡ w.hand.control = is.control ∙ still in
+        let ctl : h.control.value ≡ w.hand.control.value = is.control ∙ still in
         let low = s.in_time in
         let up = reach_up shape L rest (NotYet place request) child w in
         let known = s.known in
@@ -183,5 +183,5 @@ module _ (shape : Shape) (L : BookName LedgerFixed) (rest : Rest) (child : Optio
 
   pub knows_back : Knows L h
   knows_back =
-      knows_with shape L rest (NotYet place request) child w rest.control request.ticket request.batch h is w.knows.who (ap (λ (z : Request). asker z.ticket) same ∙ (ap asker w.ticket ∙ w.knows.asks)) refl refl
+      knows_with shape L rest (NotYet place request) child w rest.control.value request.ticket request.batch h is w.knows.who (ap (λ (z : Request). asker z.ticket) same ∙ (ap asker w.ticket ∙ w.knows.asks)) refl refl
       (λ code stands s. stands_back code stands s)

@@ -112,8 +112,8 @@ module _ (shape : Shape) (L : BookName LedgerFixed) (rest : Rest) (reply : Reply
     abbrev d : Does
     d = does s.stand.vars w.hand.place.0 s.stand.term
 
-    pub term_so : StandsFor shape w.hand.control s.stand.term
-    term_so = subst (λ (x : Shape). StandsFor x w.hand.control s.stand.term) program s.term
+    pub term_so : StandsFor shape w.hand.control.value s.stand.term
+    term_so = subst (λ (x : Shape). StandsFor x w.hand.control.value s.stand.term) program s.term
 
     pub suits_so : SuitsStep (does s.stand.vars w.hand.place.0 s.stand.term) w.op.request.ask
     suits_so = subst (λ (v : Vars). SuitsStep (does v w.hand.place.0 s.stand.term) w.op.request.ask) s.vars (w.asks s.stand.term term_so)

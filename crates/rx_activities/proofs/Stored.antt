@@ -18,6 +18,7 @@ use Rattle.rx_runs.specs.Steps.{TermSinks}
 use Rattle.rx_runs.specs.Segments.{Stand}
 use Rattle.rx_nodes.specs.Shape.{Stands}
 use Rattle.rx_history.specs.Setups.{given}
+use Rattle.std.specs.Global.{Box}
 use Rattle.rx_control.specs.declared.control.Control.{Control}
 use Rattle.rx_control.specs.declared.step.CellOp.{CellOp}
 use Rattle.rx_control.specs.declared.step.Next.TheVariants.{Cell as CellStep}
@@ -74,7 +75,7 @@ use Rattle.rx_activities.proofs.Calling.{fixed_at, op_of, with_pass, walk_up, lo
 use Rattle.rx_activities.proofs.Later.{stands_later, later_stand, entries_more}
 
 -- the activity after the answer
-abbrev pub stored : Hand → Control → List (List ℕ) → Pass EntryItem → Pass EventItem → Hand
+abbrev pub stored : Hand → Box Control → List (List ℕ) → Pass EntryItem → Pass EventItem → Hand
 stored a c batch p seat = record a { control = c; batch = batch; made = true; pass = p; seat = seat }
 
 -- The task of activity a, which looked at the ledger's word, has called the store.
@@ -146,7 +147,7 @@ module _ (L : BookName LedgerFixed) (a : Hand) (k : Knows L a) (q : Pass EntryIt
   lawful = subst (LedgerIsLegal L.fixed) (sym d.came.more.1) d.came.lawful
 
   -- the new events
-  since_now : (c : Control) (batch : List (List ℕ)) → since (stored a c batch p seat) ≡ since a ++ (stamp, d.cell, x) ∷ []
+  since_now : (c : Box Control) (batch : List (List ℕ)) → since (stored a c batch p seat) ≡ since a ++ (stamp, d.cell, x) ∷ []
   since_now c batch =
       let m = length (view_of a.told.value).mine in
       let mine : (view_of seat).mine ≡ v.mine ++ stamped v.number item ∷ [] = called.more ∙ ap (λ (xs : List EventItem). v.mine ++ stamp_all v.number xs) d.one in
@@ -155,7 +156,7 @@ module _ (L : BookName LedgerFixed) (a : Hand) (k : Knows L a) (q : Pass EntryIt
       ∙ (ap (map event_named) (map-append as_named (drop m v.mine) (stamped v.number item ∷ [])) ∙ map-append event_named (map as_named (drop m v.mine)) (as_named (stamped v.number item) ∷ []))
 
   -- What the call is for statements that the script stands for, where s is what the activity knew of the longer history.
-  module _ (code : Block) (stands : Stands L.fixed.program.script code) (s : StandsSo code L (with_pass a p) t) (low : s.stand.low ≤ n) (sink : TermSinks) (next : CellStep op ≡ next_of (does a.control.vars a.place.0 s.stand.term)) (path : begins s.stand.term ≡ Some x) where
+  module _ (code : Block) (stands : Stands L.fixed.program.script code) (s : StandsSo code L (with_pass a p) t) (low : s.stand.low ≤ n) (sink : TermSinks) (next : CellStep op ≡ next_of (does a.control.value.vars a.place.0 s.stand.term)) (path : begins s.stand.term ≡ Some x) where
     abbrev ans : Answer
     ans = answer_of (receives s.stand.term) answer
 
@@ -198,7 +199,7 @@ module _ (L : BookName LedgerFixed) (a : Hand) (k : Knows L a) (q : Pass EntryIt
     told = event-tells code U a.place.0 (made_events log) (ledger_items (view_of p).seen) v.number t n x (does s.stand.vars s.actor.birth.to.0 s.stand.term) event ans call refl refl (omega arith) top tells
 
     -- what is so afterwards
-    pub stored_stands : (c : Control) (batch : List (List ℕ)) → StandsFor L.fixed.program.script c (answered ans s.stand.term) → c.vars ≡ vars_after ans a.control.vars → batch ≡ a.batch ++ x ∷ [] → StandsSo code L (stored a c batch p seat) t
+    pub stored_stands : (c : Box Control) (batch : List (List ℕ)) → StandsFor L.fixed.program.script c.value (answered ans s.stand.term) → c.value.vars ≡ vars_after ans a.control.value.vars → batch ≡ a.batch ++ x ∷ [] → StandsSo code L (stored a c batch p seat) t
     stored_stands c batch term vars made =
         let free : is_held s.stand.term ≡ false = not_held s.stand.vars a.place.0 s.stand.term is.free in
         let waits : HeldInFront (answered ans s.stand.term) × (is_held (answered ans s.stand.term) ≡ false) = answer_waits ans s.stand.term s.held in
@@ -240,10 +241,10 @@ module _ (L : BookName LedgerFixed) (a : Hand) (k : Knows L a) (q : Pass EntryIt
       (then, omega (arith, lows, in_time, above))
 
   -- it knows what it has to
-  pub stored_knows : TermSinks → (c : Control) (batch : List (List ℕ)) → word_of seat ≡ word_of a.seat
-      → ((t : Term) → StandsFor L.fixed.program.script a.control t → CellStep op ≡ next_of (does a.control.vars a.place.0 t))
-      → ((t : Term) → StandsFor L.fixed.program.script a.control t → begins t ≡ Some x)
-      → ((t : Term) (y : List ℕ) → StandsFor L.fixed.program.script a.control t → begins t ≡ Some y → StandsFor L.fixed.program.script c (answered (answer_of (receives t) answer) t) × (c.vars ≡ vars_after (answer_of (receives t) answer) a.control.vars))
+  pub stored_knows : TermSinks → (c : Box Control) (batch : List (List ℕ)) → word_of seat ≡ word_of a.seat
+      → ((t : Term) → StandsFor L.fixed.program.script a.control.value t → CellStep op ≡ next_of (does a.control.value.vars a.place.0 t))
+      → ((t : Term) → StandsFor L.fixed.program.script a.control.value t → begins t ≡ Some x)
+      → ((t : Term) (y : List ℕ) → StandsFor L.fixed.program.script a.control.value t → begins t ≡ Some y → StandsFor L.fixed.program.script c.value (answered (answer_of (receives t) answer) t) × (c.value.vars ≡ vars_after (answer_of (receives t) answer) a.control.value.vars))
       → batch ≡ a.batch ++ x ∷ [] → Knows L (stored a c batch p seat)
   stored_knows sink c batch own next path took made =
       record {

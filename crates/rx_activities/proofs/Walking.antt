@@ -12,6 +12,7 @@ use Rattle.rx_runs.specs.Segments.{Stand}
 use Rattle.rx_runs.proofs.SomeWords.{goes_some}
 use Rattle.rx_runs.proofs.Knowing.{local_knows}
 use Rattle.rx_nodes.specs.Shape.{Stands}
+use Rattle.std.specs.Global.{Box}
 use Rattle.rx_control.specs.declared.control.Control.{Control}
 use Rattle.rx_control.specs.Stands.{StandsFor, Leaves}
 use Rattle.rx_control.specs.declared.step.Next.TheVariants.{Local as LocalStep}
@@ -31,7 +32,7 @@ use Rattle.rx_activities.specs.Turning.{IsKnown, StaysKnown}
 use Rattle.rx_activities.specs.Inside.Stepping.{OnlySteps}
 
 -- the activity with another control and batch
-abbrev pub stepped : Hand → Control → List (List ℕ) → Hand
+abbrev pub stepped : Hand → Box Control → List (List ℕ) → Hand
 stepped a c batch = record a { control = c; batch = batch }
 
 -- where nothing else is changed it is this
@@ -48,7 +49,7 @@ is_stepped a b o = λ i. record {
 }
 
 -- where only these are other, nothing else is changed
-pub steps_only : (a : Hand) (c : Control) (batch : List (List ℕ)) → OnlySteps a (stepped a c batch)
+pub steps_only : (a : Hand) (c : Box Control) (batch : List (List ℕ)) → OnlySteps a (stepped a c batch)
 steps_only a c batch = record { ticket = refl; place = refl; made = refl; pass = refl; seat = refl; told = refl }
 
 -- a walk with one local step more
@@ -58,8 +59,8 @@ walk_local (local h w) e = local h (walk_local w e)
 walk_local (stores a low told b w) e = stores a low told b (walk_local w e)
 
 -- what stands so goes on so
-pub stands_local : (code : Block) (L : BookName LedgerFixed) (a : Hand) (t : TaskId) (s : StandsSo code L a t) (c : Control) (batch : List (List ℕ)) (after : Term) (left : Vars) → does s.stand.vars a.place.0 s.stand.term ≡ Local after left → StandsFor L.fixed.program.script c after
-    → c.vars ≡ left → batch ≡ begun s.stand.term a.batch → StandsSo code L (stepped a c batch) t
+pub stands_local : (code : Block) (L : BookName LedgerFixed) (a : Hand) (t : TaskId) (s : StandsSo code L a t) (c : Box Control) (batch : List (List ℕ)) (after : Term) (left : Vars) → does s.stand.vars a.place.0 s.stand.term ≡ Local after left → StandsFor L.fixed.program.script c.value after
+    → c.value.vars ≡ left → batch ≡ begun s.stand.term a.batch → StandsSo code L (stepped a c batch) t
 stands_local code L a t s c batch after left e term vars made =
     let here = s.actor.birth.to.0 in
     let e' : does s.stand.vars here s.stand.term ≡ Local after left = ap (λ (p : PlaceId). does s.stand.vars p.0 s.stand.term) s.place ∙ e in
@@ -110,30 +111,30 @@ knows_local L a b k o go =
 
 -- a local step was made
 pub made_local : (L : BookName LedgerFixed) (a b : Hand) → Knows L a → OnlySteps a b
-    → ((t : Term) → StandsFor L.fixed.program.script a.control t → LocalStep ≡ next_of (does a.control.vars a.place.0 t))
-    → ((t : Term) → StandsFor L.fixed.program.script a.control t → Leaves L.fixed.program.script b.control (does a.control.vars a.place.0 t) × (b.batch ≡ begun t a.batch)) → Knows L b
+    → ((t : Term) → StandsFor L.fixed.program.script a.control.value t → LocalStep ≡ next_of (does a.control.value.vars a.place.0 t))
+    → ((t : Term) → StandsFor L.fixed.program.script a.control.value t → Leaves L.fixed.program.script b.control.value (does a.control.value.vars a.place.0 t) × (b.batch ≡ begun t a.batch)) → Knows L b
 made_local L a b k o next made =
     knows_local L a b k o (λ code stands t s.
     let n : next_of (does s.stand.vars a.place.0 s.stand.term) ≡ LocalStep = ap (λ (v : Vars). next_of (does v a.place.0 s.stand.term)) (sym s.vars) ∙ sym (next s.stand.term s.term) in
     let l = told_local (does s.stand.vars a.place.0 s.stand.term) n in
     let did = made s.stand.term s.term in
-    let leaves : Leaves L.fixed.program.script b.control (does s.stand.vars a.place.0 s.stand.term) = subst (λ (v : Vars). Leaves L.fixed.program.script b.control (does v a.place.0 s.stand.term)) s.vars did.0 in
-    let left : StandsFor L.fixed.program.script b.control l.0 × (b.control.vars ≡ l.1) = subst (λ (d : Does). Leaves L.fixed.program.script b.control d) l.2 leaves in
+    let leaves : Leaves L.fixed.program.script b.control.value (does s.stand.vars a.place.0 s.stand.term) = subst (λ (v : Vars). Leaves L.fixed.program.script b.control.value (does v a.place.0 s.stand.term)) s.vars did.0 in
+    let left : StandsFor L.fixed.program.script b.control.value l.0 × (b.control.value.vars ≡ l.1) = subst (λ (d : Does). Leaves L.fixed.program.script b.control.value d) l.2 leaves in
     stands_local code L a t s b.control b.batch l.0 l.1 l.2 left.0 left.1 did.1)
 
 -- in each run of the program
 pub stays_known : (p : Checked) (a b : Hand) → OnlySteps a b
-    → ((t : Term) → StandsFor p.script a.control t → LocalStep ≡ next_of (does a.control.vars a.place.0 t))
-    → ((t : Term) → StandsFor p.script a.control t → Leaves p.script b.control (does a.control.vars a.place.0 t) × (b.batch ≡ begun t a.batch)) → StaysKnown p a b
+    → ((t : Term) → StandsFor p.script a.control.value t → LocalStep ≡ next_of (does a.control.value.vars a.place.0 t))
+    → ((t : Term) → StandsFor p.script a.control.value t → Leaves p.script b.control.value (does a.control.value.vars a.place.0 t) × (b.batch ≡ begun t a.batch)) → StaysKnown p a b
 stays_known p a b o next made L program k =
-    made_local L a b k o (λ t s. next t (subst (λ (q : Checked). StandsFor q.script a.control t) program s))
-    (λ t s. let d = made t (subst (λ (q : Checked). StandsFor q.script a.control t) program s) in (subst (λ (q : Checked). Leaves q.script b.control (does a.control.vars a.place.0 t)) (sym program) d.0, d.1))
+    made_local L a b k o (λ t s. next t (subst (λ (q : Checked). StandsFor q.script a.control.value t) program s))
+    (λ t s. let d = made t (subst (λ (q : Checked). StandsFor q.script a.control.value t) program s) in (subst (λ (q : Checked). Leaves q.script b.control.value (does a.control.value.vars a.place.0 t)) (sym program) d.0, d.1))
 
 -- the control of an activity stands for a term
-pub has_term : (p : Checked) (a : Hand) (code : Block) → Stands p.script code → IsKnown p a → (t : Term) × StandsFor p.script a.control t
+pub has_term : (p : Checked) (a : Hand) (code : Block) → Stands p.script code → IsKnown p a → (t : Term) × StandsFor p.script a.control.value t
 has_term p a code stands k =
     let s = k.2.stands code (subst (λ (q : Checked). Stands q.script code) (sym k.1) stands) in
-    (s.stand.term, subst (λ (q : Checked). StandsFor q.script a.control s.stand.term) k.1 s.term)
+    (s.stand.term, subst (λ (q : Checked). StandsFor q.script a.control.value s.stand.term) k.1 s.term)
 
 -- what was known of an activity is known of it when it has gone on
 pub known_on : (p : Checked) (a b : Hand) → StaysKnown p a b → IsKnown p a → IsKnown p b

@@ -98,8 +98,8 @@ pub record StandsSo (code : Block) (L : BookName LedgerFixed) (a : Hand) (t : Ta
   pub stand : Stand
   pub walks : Walks actor.birth.to actor.stand (since a) stand
   pub in_time : stand.low ≤ (view_of a.pass).reach
-  pub term : StandsFor L.fixed.program.script a.control stand.term
-  pub vars : a.control.vars ≡ stand.vars
+  pub term : StandsFor L.fixed.program.script a.control.value stand.term
+  pub vars : a.control.value.vars ≡ stand.vars
   pub batch : a.batch ≡ stand.batch
   pub some : TermMakesSome stand.term
   pub known : stand.vars.places ≤ (tree_seen L.fixed a.pass).places

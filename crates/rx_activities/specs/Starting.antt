@@ -38,8 +38,8 @@ pub record ComesSo (code : Block) (L : BookName LedgerFixed) (j : Journey) : Typ
   pub place : actor.birth.to ≡ landing j.ticket.place
   pub no_batch : actor.stand.batch ≡ []
   pub unnamed : actor.named ≡ []
-  pub term : StandsFor L.fixed.program.script j.control actor.stand.term
-  pub vars : j.control.vars ≡ actor.stand.vars
+  pub term : StandsFor L.fixed.program.script j.control.value actor.stand.term
+  pub vars : j.control.value.vars ≡ actor.stand.vars
   pub some : TermMakesSome actor.stand.term
   pub known : actor.stand.vars.places ≤ (tree_seen L.fixed j.pass).places
   pub unheld : Unheld actor.stand.term

@@ -104,13 +104,13 @@ impl<N: Naming> Activity<N> {
     pub fn main(
         alloc: Global,
         p: &Program,
-        control: Control,
+        control: Box<Control>,
         ticket: Ticket<Live>,
         pass: Pass<EntryItem>,
         seat: Pass<EventItem>,
     ) -> Activity<N>
         requires program { N.ledger.fixed.program ≡ p.now }
-        requires opening { IsOpening N.ledger control ticket pass seat }
+        requires opening { IsOpening N.ledger control.value ticket pass seat }
         ensures { result ≡ record { 0 = 0 } }
     {
         checked(p);

@@ -86,7 +86,8 @@ fn child_of<G: Gate + Sync>(
     let Some(to) = target_of(next) else {
         return Ok(None);
     };
-    let control = control.child(alloc, p)?;
+    let began = control.child(alloc, p)?;
+    let control = Box::new(alloc, began)?;
     let child_pass = ledger.split(pass)?;
     let child_seat = if to == here {
         Some(place_book.split(seat)?)
@@ -201,12 +202,13 @@ impl Hand {
             mut seat,
             told,
         } = self;
-        let Ok(path) = control.path(alloc, p) else {
+        let standing = control.as_ref();
+        let Ok(path) = standing.path(alloc, p) else {
             spend(ticket);
             return Outcome::Failed { pass };
         };
         let prepared = child_of(
-            alloc, p, ledger, place_book, &control, place, next, &mut pass, &mut seat,
+            alloc, p, ledger, place_book, standing, place, next, &mut pass, &mut seat,
         );
         let Ok(child) = prepared else {
             spend(ticket);
@@ -214,7 +216,7 @@ impl Hand {
         };
         let note = note_for(place_book, &mut seat, made);
         let mentions = mentions_of(told, &pass, &seat, &child);
-        let ask_for = ask_of(alloc, &mut control, next);
+        let ask_for = ask_of(alloc, control.as_mut(), next);
         let request = Request {
             ticket,
             ask: ask_for,

@@ -10,7 +10,7 @@ use std::snapshot::Snapshot;
 
 /// What an activity at a place holds.
 pub struct Hand {
-    pub control: Control,
+    pub control: Box<Control>,
     /// The statements that were begun since its entry before.
     pub batch: Batch,
     pub ticket: AnyTicket,
@@ -28,7 +28,7 @@ pub struct Hand {
 /// What an activity holds that is on its way.
 #[derive(Drop)]
 pub struct Journey {
-    pub control: Control,
+    pub control: Box<Control>,
     pub ticket: Ticket<InTransit>,
     pub pass: Pass<EntryItem>,
 }

@@ -22,7 +22,7 @@ use std::snapshot::Snapshot;
 /// What a task holds that is to be started: its pass of the place's book, where it begins at its starter's place.
 #[derive(Drop)]
 pub struct Child {
-    pub control: Control,
+    pub control: Box<Control>,
     pub pass: Pass<EntryItem>,
     pub seat: Option<Pass<EventItem>>,
 }
@@ -30,7 +30,7 @@ pub struct Child {
 /// What an activity holds beside its ticket and its batch.
 #[derive(Drop)]
 pub struct Rest {
-    pub control: Control,
+    pub control: Box<Control>,
     pub place: PlaceId,
     pub pass: Pass<EntryItem>,
     pub seat: Pass<EventItem>,
@@ -47,7 +47,7 @@ fn spend_if(ticket: Option<AnyTicket>) {
 impl Rest {
     // The activity with its ticket and what it has begun, where its entries name all its events.
     pub(crate) fn with(self, ticket: AnyTicket, batch: Batch) -> Hand
-        ensures { IsWith self.control self.place self.pass self.seat ticket batch result }
+        ensures { IsWith self.control.value self.place self.pass self.seat ticket batch result }
     {
         let Rest {
             control,
@@ -83,7 +83,7 @@ impl Rest {
         requires granted { WasGranted p.now.script ledger.now self ticket faults started child }
         ensures { Leaves ledger.now result }
     {
-        if self.control.resume(p, faults).is_err() {
+        if self.control.as_mut().resume(p, faults).is_err() {
             spend(ticket);
             spend_if(started);
             return Outcome::Failed { pass: self.pass };
@@ -109,7 +109,7 @@ impl Rest {
         ensures { Leaves ledger.now result }
     {
         let _ = ledger;
-        if self.control.census_done(p, places).is_err() {
+        if self.control.as_mut().census_done(p, places).is_err() {
             spend(ticket);
             return Outcome::Failed { pass: self.pass };
         }
@@ -259,12 +259,12 @@ fn begin(
     alloc: Global,
     place: PlaceId,
     ticket: AnyTicket,
-    control: Control,
+    control: Box<Control>,
     pass: Pass<EntryItem>,
     seat: Option<Pass<EventItem>>,
 ) -> Started
     requires { IsAtStart ticket seat }
-    ensures { StartsWith place ticket control pass seat result }
+    ensures { StartsWith place ticket control.value pass seat result }
 {
     match (ticket, seat) {
         (AnyTicket::Moving(ticket), _) => Started::Away(Journey {

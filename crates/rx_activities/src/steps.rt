@@ -59,7 +59,7 @@ impl Hand {
         ensures known { OnOk result (StaysKnown p.now self.old self.new) }
     {
         checked(p);
-        local_step(alloc, p, self.place, &mut self.control, &mut self.batch)
+        local_step(alloc, p, self.place, self.control.as_mut(), &mut self.batch)
     }
 
     /// Makes the local steps up to the next call of a book, and tells which that is. It owes no return. A refusal leaves the
@@ -78,7 +78,7 @@ impl Hand {
     {
         checked(p);
         for _step in rt.forever() {
-            match self.control.next(p, self.place) {
+            match self.control.as_ref().next(p, self.place) {
                 Next::Local => self.local(alloc, p)?,
                 next => return Ok(next),
             }

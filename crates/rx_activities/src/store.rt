@@ -123,7 +123,7 @@ impl Hand {
             ticket.lost(place, 0);
             return Outcome::Over { pass };
         };
-        let Ok(path) = begin_call(alloc, p, &control, &mut batch) else {
+        let Ok(path) = begin_call(alloc, p, control.as_ref(), &mut batch) else {
             spend(ticket);
             return Outcome::Failed { pass };
         };
@@ -138,7 +138,7 @@ impl Hand {
             spend(ticket);
             return Outcome::Failed { pass };
         };
-        if control.cell_done(alloc, p, answer).is_err() {
+        if control.as_mut().cell_done(alloc, p, answer).is_err() {
             spend(ticket);
             return Outcome::Failed { pass };
         }

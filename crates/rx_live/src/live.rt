@@ -161,22 +161,23 @@ fn prepare(
     alloc: Global,
     p: &Program,
     setup: &Setup,
-) -> Result<(Control, Vec<BareBook<EventItem>>), NoMemory>
+) -> Result<(Box<Control>, Vec<BareBook<EventItem>>), NoMemory>
     requires few { length setup.now.joins < 2 ^ 32 }
     ensures control { IfOk result (λ t. (code : Block) → Stands p.now.script code
-        → StandsFor p.now.script t.0 (items code [] Empty) × (t.0.vars ≡ no_vars setup.now.places)) }
+        → StandsFor p.now.script t.0.value (items code [] Empty) × (t.0.value.vars ≡ no_vars setup.now.places)) }
     ensures words { IfOk result (λ t. length t.1.items ≡ setup.now.places + length setup.now.joins) }
 {
     let places = setup.places as usize + setup.joins.len();
     let words = open_words(alloc, places)?;
     let control = Control::main(alloc, p, setup.places)?;
-    Ok((control, words))
+    let boxed = Box::new(alloc, control)?;
+    Ok((boxed, words))
 }
 
 // What a run begins with beside the books: the main activity's control, ticket and pass of the ledger's book, and the words of the
 // places' books.
 pub(crate) struct Main {
-    control: Control,
+    control: Box<Control>,
     ticket: Ticket<Live>,
     pass: Pass<EntryItem>,
     words: Vec<BareBook<EventItem>>,
@@ -207,7 +208,7 @@ fn run_named<'a, N: Naming + Send + Sync, G: Gate + Sync, R: Threads + Wait + Sy
     requires proper { Proper (given N.ledger.fixed.setup) }
     requires heap { heap ≡ N.ledger.fixed.setup.heap }
     requires host { MayRelease N.ledger host.old × ((view_of host.old).seen ≡ []) × ((view_of host.old).dead ≡ 0) }
-    requires main { IsMain N.ledger main.control main.ticket main.pass main.words.items }
+    requires main { IsMain N.ledger main.control.value main.ticket main.pass main.words.items }
     ensures own { word_of host.new ≡ N.ledger.word }
     ensures ends { IfSome result (λ e. RunEnds N.ledger host.new e.stores.items) }
     ensures looked { IfSome result (λ e. HaveLooked looker e.looked) }

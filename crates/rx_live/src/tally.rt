@@ -1,5 +1,15 @@
 // What workers tell one another beside the queues. It changes no meaning: no contract speaks of it.
+use std::hint::spin_loop;
+use std::sync::Wait;
 use std::sync::atomic::{AtomicBool, AtomicU64, Ordering};
+use std::time::Duration;
+
+// How often one who finds nothing to do looks again before it naps.
+const LOOKS: u32 = 20;
+
+// The naps that follow, each with a look behind it, in microseconds; the last is taken again and again. They grow, so that those who
+// find nothing seldom read what those who work write.
+const NAPS: [u64; 4] = [20, 40, 80, 160];
 
 /// How many activities there are, and whether memory was refused.
 #[derive(Drop)]
@@ -11,6 +21,8 @@ pub(crate) struct Tally {
     /// Activities that are over.
     over: AtomicU64,
     refused: AtomicBool,
+    /// Where one naps who finds nothing to do. It stays 0.
+    bed: AtomicU64,
 }
 
 impl Tally {
@@ -21,6 +33,7 @@ impl Tally {
             going: AtomicU64::new(1),
             over: AtomicU64::new(0),
             refused: AtomicBool::new(false),
+            bed: AtomicU64::new(0),
         }
     }
 
@@ -44,12 +57,25 @@ impl Tally {
     pub(crate) fn ends(&self) {
         self.over.fetch_add(1, Ordering::SeqCst);
         self.going.fetch_sub(1, Ordering::SeqCst);
-        self.left.fetch_sub(1, Ordering::SeqCst);
+        if self.left.fetch_sub(1, Ordering::SeqCst) == 1 {
+            self.bed.wake_all();
+        }
     }
 
     /// Memory was refused.
     pub(crate) fn refuse(&self) {
         self.refused.store(true, Ordering::SeqCst);
+        self.bed.wake_all();
+    }
+
+    /// Lets some time go by for one who has found nothing to do so many times.
+    pub(crate) fn pause<R: Wait>(&self, rt: &R, times: u32) {
+        if times < LOOKS {
+            spin_loop();
+        } else {
+            let micros = nap_of(times - LOOKS);
+            self.bed.park_timeout(rt, 0, Duration::from_micros(micros));
+        }
     }
 
     /// Whether memory was refused.
@@ -71,4 +97,10 @@ impl Tally {
     pub(crate) fn all_wait(&self) -> bool {
         self.going.load(Ordering::SeqCst) == 0
     }
+}
+
+// How long the nap is that comes after so many others.
+fn nap_of(naps: u32) -> u64 {
+    let at = naps as usize;
+    if at < NAPS.len() { NAPS[at] } else { NAPS[3] }
 }

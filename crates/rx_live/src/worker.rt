@@ -9,7 +9,6 @@ use rx_activities::{Activity, Arrival, Began, LedgerPass, Naming, Traveller, Tur
 use rx_base::Gate;
 use std::alloc::Global;
 use std::sync::Wait;
-use std::thread;
 
 /// A worker: its own keys of each place, and the ledger pass of an activity that is over, which has seen what those of all later ones
 /// have.
@@ -118,14 +117,16 @@ impl<N: Naming> Worker<N> {
         requires keys { self.old.keys.items ≡ hall.now.stations.items }
         ensures { self.new.keys.items ≡ self.old.keys.items }
     {
+        let mut times = 0u32;
         for _look in rt.forever() {
             if hall.tally.is_done() {
                 return None;
             }
             match self.look(rt, hall) {
                 Some(job) => return Some(job),
-                None => thread::yield_now(),
+                None => hall.tally.pause(rt, times),
             }
+            times = times.saturating_add(1);
         }
         unreachable!()
     }

@@ -24,7 +24,7 @@ use Rattle.rx_activities.specs.Starting.{Begins}
 -- the activity has these, and its entries name all its events
 pub record IsWith (c : Control) (place : PlaceId) (pass : Pass EntryItem) (seat : Pass EventItem) (ticket : AnyTicket)
     (batch : List (List ℕ)) (hand : Hand) : Type 0 where
-  pub control : hand.control ≡ c
+  pub control : hand.control.value ≡ c
   pub place_is : hand.place ≡ place
   pub word : word_of hand.pass ≡ word_of pass
   pub view : view_of hand.pass ≡ view_of pass
@@ -45,7 +45,7 @@ IsAtStart Host seat = ⊥
 -- the task as it starts: on its way, or at its starter's place
 abbrev pub TravelsWith : Caller → Control → Pass EntryItem → Started → Type 0
 TravelsWith who c pass (Here hand) = ⊥
-TravelsWith who c pass (Away j) = (j.control ≡ c) × (j.ticket ≡ who) × (j.pass ≡ pass)
+TravelsWith who c pass (Away j) = (j.control.value ≡ c) × (j.ticket ≡ who) × (j.pass ≡ pass)
 
 abbrev pub StaysWith : PlaceId → AnyTicket → Control → Pass EntryItem → Option (Pass EventItem) → Started → Type 0
 StaysWith place ticket c pass None s = ⊥
@@ -70,7 +70,7 @@ pub record IsBorn (L : BookName LedgerFixed) (place : PlaceId) (pass : Pass Entr
     : Type 0 where
   pub word : word_of child.pass ≡ L.word
   pub at_start : IsAtStart ticket child.seat
-  pub begins : (met : Pass EntryItem) (s : Started) → HasMet child.pass pass met → StartsWith place ticket child.control met child.seat s
+  pub begins : (met : Pass EntryItem) (s : Started) → HasMet child.pass pass met → StartsWith place ticket child.control.value met child.seat s
       → Begins L s
 
 abbrev pub IsStarted : BookName LedgerFixed → PlaceId → Pass EntryItem → Option AnyTicket → Option Child → Type 0

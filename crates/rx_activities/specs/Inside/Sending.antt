@@ -94,8 +94,8 @@ SeatIsNew false seat s = s ≡ None
 -- what a task holds that is to be started for a place
 pub record IsPrepared (shape : Shape) (control : Control) (here to : PlaceId) (pass : Pass EntryItem) (seat : Pass EventItem) (c : Child)
     : Type 0 where
-  pub term : (t : Term) → StandsFor shape control t → StandsFor shape c.control (child t)
-  pub vars : c.control.vars ≡ control.vars
+  pub term : (t : Term) → StandsFor shape control t → StandsFor shape c.control.value (child t)
+  pub vars : c.control.value.vars ≡ control.vars
   pub word : word_of c.pass ≡ word_of pass
   pub view : view_of c.pass ≡ born (view_of pass)
   pub seat_is : SeatIsNew (to.0 == here.0) seat c.seat
@@ -144,18 +144,18 @@ pub record WasSent (shape : Shape) (L : BookName LedgerFixed) (rest : Rest) (rep
   pub knows : Knows L hand
   pub next : Next
   pub call : IsCall next
-  pub does_next : (t : Term) → StandsFor shape hand.control t → next ≡ next_of (does hand.control.vars hand.place.0 t)
+  pub does_next : (t : Term) → StandsFor shape hand.control.value t → next ≡ next_of (does hand.control.value.vars hand.place.0 t)
   pub sent : Pass EntryItem
   pub pass : PassIsLeft hand.pass sent
   pub seat : SeatIsLeft hand.seat rest.seat
   pub place : rest.place ≡ hand.place
-  pub control : IsReady shape next hand.control rest.control
-  pub child_is : ChildIs shape hand.control hand.place next hand.pass hand.seat child
+  pub control : IsReady shape next hand.control.value rest.control.value
+  pub child_is : ChildIs shape hand.control.value hand.place next hand.pass hand.seat child
   pub op : LedgerOp
   pub ticket : op.request.ticket ≡ hand.ticket
   pub batch : op.request.batch ≡ hand.batch
-  pub path : (t : Term) → StandsFor shape hand.control t → op.request.path ≡ begins t
-  pub asks : (t : Term) → StandsFor shape hand.control t → SuitsStep (does hand.control.vars hand.place.0 t) op.request.ask
+  pub path : (t : Term) → StandsFor shape hand.control.value t → op.request.path ≡ begins t
+  pub asks : (t : Term) → StandsFor shape hand.control.value t → SuitsStep (does hand.control.value.vars hand.place.0 t) op.request.ask
   pub mentions : MentionsAre hand.told.value rest.seat child op.mentions
   pub word : word_of rest.pass ≡ word_of sent
   pub replied : IsReplied L.fixed (view_of sent) op reply (view_of rest.pass)
@@ -164,28 +164,28 @@ pub record WasSent (shape : Shape) (L : BookName LedgerFixed) (rest : Rest) (rep
 pub record WasGranted (shape : Shape) (L : BookName LedgerFixed) (rest : Rest) (ticket : AnyTicket) (faults : List Fault)
     (started : Option AnyTicket) (child : Option Child) : Type 0 where
   pub term : Term
-  pub stands : StandsFor shape rest.control term
+  pub stands : StandsFor shape rest.control.value term
   pub word : word_of rest.pass ≡ L.word
   pub lawful : LedgerIsLegal L.fixed (view_of rest.pass).seen
-  pub goes : (c : Control) (hand : Hand) → ((t : Term) → StandsFor shape rest.control t → StandsFor shape c (granted faults t))
-      → c.vars ≡ rest.control.vars → IsWith c rest.place rest.pass rest.seat ticket [] hand → Knows L hand
+  pub goes : (c : Control) (hand : Hand) → ((t : Term) → StandsFor shape rest.control.value t → StandsFor shape c (granted faults t))
+      → c.vars ≡ rest.control.value.vars → IsWith c rest.place rest.pass rest.seat ticket [] hand → Knows L hand
   pub begins : IsStarted L rest.place rest.pass started child
 
 -- the census was granted, and tells so many places
 pub record WasCounted (shape : Shape) (L : BookName LedgerFixed) (rest : Rest) (ticket : AnyTicket) (places : ℕ) : Type 0 where
   pub term : Term
   pub here : PlaceId
-  pub stands : StandsFor shape rest.control term
-  pub asks : next_of (does rest.control.vars here.0 term) ≡ BookStep Census
+  pub stands : StandsFor shape rest.control.value term
+  pub asks : next_of (does rest.control.value.vars here.0 term) ≡ BookStep Census
   pub some : 1 ≤ places
   pub few : places ≤ 16
-  pub known : rest.control.vars.places ≤ places
+  pub known : rest.control.value.vars.places ≤ places
   pub word : word_of rest.pass ≡ L.word
   pub lawful : LedgerIsLegal L.fixed (view_of rest.pass).seen
   pub goes : (c : Control) (hand : Hand)
-      → ((t : Term) (here : PlaceId) → StandsFor shape rest.control t → next_of (does rest.control.vars here.0 t) ≡ BookStep Census
+      → ((t : Term) (here : PlaceId) → StandsFor shape rest.control.value t → next_of (does rest.control.value.vars here.0 t) ≡ BookStep Census
       → StandsFor shape c (granted [] t))
-      → ((t : Term) (here : PlaceId) (path : List ℕ) → StandsFor shape rest.control t
-      → next_of (does rest.control.vars here.0 t) ≡ BookStep Census
-      → c.vars ≡ vars_told (does rest.control.vars here.0 t) (CensusAct places path) rest.control.vars)
+      → ((t : Term) (here : PlaceId) (path : List ℕ) → StandsFor shape rest.control.value t
+      → next_of (does rest.control.value.vars here.0 t) ≡ BookStep Census
+      → c.vars ≡ vars_told (does rest.control.value.vars here.0 t) (CensusAct places path) rest.control.value.vars)
       → IsWith c rest.place rest.pass rest.seat ticket [] hand → Knows L hand

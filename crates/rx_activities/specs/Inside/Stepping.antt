@@ -18,4 +18,4 @@ pub record OnlySteps (a b : Hand) : Type 0 where
 
 -- this is the activity's next step
 abbrev pub IsNext : Checked → Hand → Next → Type 0
-IsNext p a next = (t : Term) → StandsFor p.script a.control t → next ≡ next_of (does a.control.vars a.place.0 t)
+IsNext p a next = (t : Term) → StandsFor p.script a.control.value t → next ≡ next_of (does a.control.value.vars a.place.0 t)

@@ -1,5 +1,8 @@
-use Rattle.std.proofs.Common.{◌+◌, Bool, true, Option, Some, sym, ◌∙◌, subst, refl}
+use Rattle.std.proofs.Common.{ap, ◌+◌, Bool, true, Option, Some, sym, ◌∙◌, subst, refl}
 use Rattle.rx_base.specs.declared.ids.PlaceId.{PlaceId}
+use Rattle.rx_rules.specs.Terms.{child}
+use Rattle.rx_control.specs.declared.control.Control.{Control}
+use Rattle.rx_control.specs.Stands.{StandsFor}
 use Rattle.rx_book.specs.declared.passes.Pass.{Pass}
 use Rattle.rx_book.specs.Passes.{view_of}
 use Rattle.rx_parts_book.specs.declared.items.EventItem.{EventItem}
@@ -26,6 +29,12 @@ returns-in_err-control-clause-pass g c = record { word = refl; splits = (view_of
 pub returns-in_err-control-clause-seat : goal.returns-in_err-control-clause-seat
 returns-in_err-control-clause-seat g c = record { word = refl; splits = (view_of c.args.seat.now).splits; view = refl }
 
+pub returns-in_err-began-clause-pass : goal.returns-in_err-began-clause-pass
+returns-in_err-began-clause-pass g c = record { word = refl; splits = (view_of c.args.pass.now).splits; view = refl }
+
+pub returns-in_err-began-clause-seat : goal.returns-in_err-began-clause-seat
+returns-in_err-began-clause-seat g c = record { word = refl; splits = (view_of c.args.seat.now).splits; view = refl }
+
 pub returns-clause-seat : goal.returns-clause-seat
 returns-clause-seat g c =
     elim c.if-eq.branch [
@@ -45,8 +54,8 @@ returns-clause-child g c =
     ChildFor c.args.p.now.script c.args.control.now c.args.here o c.args.pass.now c.args.seat.now (Some (record { control = c.in_ok-control.control; pass = c.in_ok-child_pass.child_pass; seat = c.if-eq.child_seat })))
     c.in-Some.ensures
     (record {
-      term = λ t s. let p = started_path c.args.next c.in-Some.to c.args.control.now.vars c.args.here.0 t (c.requires.next t s) (sym c.in-Some.ensures) in (c.in_ok-control.ensures.stands t s p.0 p.1).0;
-      vars = (let p = started_path c.args.next c.in-Some.to c.args.control.now.vars c.args.here.0 st.0 (c.requires.next st.0 st.1) (sym c.in-Some.ensures) in (c.in_ok-control.ensures.stands st.0 st.1 p.0 p.1).1);
+      term = λ t s. subst (λ (x : Control). StandsFor c.args.p.now.script x (child t)) (sym c.in_ok-control.ensures.ok) (let p = started_path c.args.next c.in-Some.to c.args.control.now.vars c.args.here.0 t (c.requires.next t s) (sym c.in-Some.ensures) in (c.in_ok-began.ensures.stands t s p.0 p.1).0);
+      vars = ap (λ (x : Control). x.vars) c.in_ok-control.ensures.ok ∙ (let p = started_path c.args.next c.in-Some.to c.args.control.now.vars c.args.here.0 st.0 (c.requires.next st.0 st.1) (sym c.in-Some.ensures) in (c.in_ok-began.ensures.stands st.0 st.1 p.0 p.1).1);
       word = c.in_ok-child_pass.ensures.own;
       view = c.in_ok-child_pass.ensures.new;
       seat_is = elim c.if-eq.branch [

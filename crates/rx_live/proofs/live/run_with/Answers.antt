@@ -11,7 +11,7 @@ run_named-done-requires-clause-host g c κs within =
 pub run_named-done-requires-clause-main : goal.run_named-done-requires-clause-main
 run_named-done-requires-clause-main g c κs within =
     let made = c.in_ok-book.ensures in
-    is_main c.in_ok-book.book c.args.setup.now c.args.p.now c.in-Ok.control c.in_ok-book.ticket c.in_ok-book.pass c.split.new.pass c.in-Ok.words.items made.setup made.program made.places made.ticket made.own made.fresh c.split.ensures.same
+    is_main c.in_ok-book.book c.args.setup.now c.args.p.now c.in-Ok.control.value c.in_ok-book.ticket c.in_ok-book.pass c.split.new.pass c.in-Ok.words.items made.setup made.program made.places made.ticket made.own made.fresh c.split.ensures.same
     c.in-Ok.ensures.words c.in-Ok.ensures.control
 
 pub close_stores-requires-clause-most : goal.close_stores-requires-clause-most

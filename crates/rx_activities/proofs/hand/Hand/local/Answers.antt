@@ -1,13 +1,26 @@
+use Rattle.std.proofs.Common.{◌≡◌, sym, subst}
 use Rattle.std.proofs.lemmas.Result.{on_ok_weaker}
+use Rattle.std.specs.Global.{Box}
+use Rattle.rx_rules.specs.Terms.{Term, does}
+use Rattle.rx_rules.specs.Plays.{begun}
+use Rattle.rx_control.specs.declared.control.Control.{Control}
+use Rattle.rx_control.specs.Stands.{StandsFor, Leaves}
 use Rattle.rx_activities.specs.declared.hand.Hand.{Hand}
 use Rattle.rx_activities.proofs.Walking.{stepped, steps_only, stays_known, has_term}
 use Rattle.rx_activities.proofs.hand.Hand.local.Goals as goal
 
 pub local_step-requires : goal.local_step-requires
-local_step-requires c = let b = c.checked.ensures in has_term c.args.p.now c.args.self.now b.0 b.1 c.requires.known
+local_step-requires c =
+    let b = c.checked.ensures in
+    let has = has_term c.args.p.now c.args.self.now b.0 b.1 c.requires.known in
+    (has.0, subst (λ (x : Control). StandsFor c.args.p.now.script x has.0) (sym c.as_mut.ensures.value) has.1)
 
 pub returns-clause-known : goal.returns-clause-known
 returns-clause-known c =
     let a : Hand = c.args.self.now in
-    let b : Hand = stepped a c.local_step.new.control c.local_step.new.batch in
-    on_ok_weaker c.local_step.result (λ made. stays_known c.args.p.now a b (steps_only a c.local_step.new.control c.local_step.new.batch) c.requires.local made) c.local_step.ensures
+    let control : Box Control = record a.control { value = c.local_step.new.control } in
+    let b : Hand = stepped a control c.local_step.new.batch in
+    on_ok_weaker c.local_step.result
+    (λ made. stays_known c.args.p.now a b (steps_only a control c.local_step.new.batch) c.requires.local
+    (subst (λ (x : Control). (t : Term) → StandsFor c.args.p.now.script x t → Leaves c.args.p.now.script c.local_step.new.control (does x.vars a.place.0 t) × (c.local_step.new.batch ≡ begun t a.batch)) c.as_mut.ensures.value made))
+    c.local_step.ensures

@@ -31,5 +31,5 @@ returns-in-Landed g c =
     landed_knows c.args.ledger.now c.args.self c.requires.comes c.args.seat c.requires.seat op
     (λ i. record { ticket = Moving c.args.self.ticket; ask = Arrive; batch = c.open.ensures i; path = None }) (c.of.ensures ∙ sym c.of-2.ensures) c.of-4.ensures c.in-Landed.ticket c.ask.new.pass c.in-Landed.ensures.own
     c.in-Landed.ensures.replied c.with.result
-    (subst (λ (b : List (List ℕ)). IsWith c.args.self.control (landing c.args.self.ticket.place) c.ask.new.pass c.args.seat (Running c.in-Landed.ticket) b c.with.result) c.open-in-Landed.ensures
-    (subst (λ (p : PlaceId). IsWith c.args.self.control p c.ask.new.pass c.args.seat (Running c.in-Landed.ticket) c.open-in-Landed.result c.with.result) c.target-place.ensures c.with.ensures))
+    (subst (λ (b : List (List ℕ)). IsWith c.args.self.control.value (landing c.args.self.ticket.place) c.ask.new.pass c.args.seat (Running c.in-Landed.ticket) b c.with.result) c.open-in-Landed.ensures
+    (subst (λ (p : PlaceId). IsWith c.args.self.control.value p c.ask.new.pass c.args.seat (Running c.in-Landed.ticket) c.open-in-Landed.result c.with.result) c.target-place.ensures c.with.ensures))

@@ -10,7 +10,8 @@ ghost use Rattle.rx_objects.specs.Laws.{AsksLedger};
 ghost use Rattle.rx_activities.specs.Knowing.{Knows, PlaceIs};
 ghost use Rattle.rx_activities.specs.Turning.{Leaves};
 ghost use Rattle.rx_activities.specs.Inside.Stepping.{IsNext};
-ghost use Rattle.rx_activities.specs.Inside.Sending.{IsCall, SuitsStep, IsReady, target, ChildIs, PassIsLeft, SeatIsLeft, NoteIs, MentionsAre, IsReplied};
+ghost use Rattle.rx_activities.specs.Inside.Sending.{IsCall, SuitsStep, IsReady, target, ChildIs};
+ghost use Rattle.rx_activities.specs.Inside.Sending.{PassIsLeft, SeatIsLeft, NoteIs, MentionsAre, IsReplied};
 
 use crate::hand::{Hand, Outcome, spend};
 use crate::replies::{Child, Rest};

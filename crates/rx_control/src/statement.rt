@@ -1,5 +1,6 @@
 // The statement at the front.
-ghost use Rattle.std.specs.Prelude.{◌≡◌, ℕ, pos, ◌+◌, ◌≤◌, List, [], ◌∷◌, ◌++◌, Option, Some, None, Ok, OnOk, OnErr, MatchOption, vec_len, vec_capacity};
+ghost use Rattle.std.specs.Prelude.{◌≡◌, ℕ, pos, ◌+◌, ◌≤◌, List, [], ◌∷◌, ◌++◌};
+ghost use Rattle.std.specs.Prelude.{Option, Some, None, Ok, OnOk, OnErr, MatchOption, vec_len, vec_capacity};
 ghost use Rattle.rx_rules.specs.Code.{Stmt as Tree, Block};
 ghost use Rattle.rx_base.specs.declared.values.Value.TheVariants.{Num as Number};
 ghost use Rattle.rx_rules.specs.Terms.{Term, begins, bound, stmt_receives, vars_after, answer_of};

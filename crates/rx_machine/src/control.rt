@@ -23,7 +23,12 @@ pub(crate) fn next(control: &Box<Control>, p: &Program, here: PlaceId) -> Next
 }
 
 /// Makes the local step that is next.
-pub(crate) fn local(control: &mut Box<Control>, alloc: Global, p: &Program, here: PlaceId) -> Result<(), NoMemory>
+pub(crate) fn local(
+    control: &mut Box<Control>,
+    alloc: Global,
+    p: &Program,
+    here: PlaceId,
+) -> Result<(), NoMemory>
     requires { (t : Term) × StandsFor p.now.script control.old.value t }
     ensures ok { OnOk result ((t : Term) → StandsFor p.now.script control.old.value t
         → Leaves p.now.script control.new.value (does control.old.value.vars here.0 t)) }
@@ -47,7 +52,11 @@ pub(crate) fn cell_done(
 }
 
 /// Takes the answer of the ledger to a census, which is next.
-pub(crate) fn census_done(control: &mut Box<Control>, p: &Program, places: u8) -> Result<(), NoMemory>
+pub(crate) fn census_done(
+    control: &mut Box<Control>,
+    p: &Program,
+    places: u8,
+) -> Result<(), NoMemory>
     requires asks { (t : Term) × (here : PlaceId) × StandsFor p.now.script control.old.value t
         × (next_of (does control.old.value.vars here.0 t) ≡ Next.Book Want.Census) }
     requires some { 1 ≤ places }

@@ -49,7 +49,8 @@ pub(crate) fn path_of(alloc: Global, p: &Program, control: &Box<Control>) -> Res
 /// Lets a control go on whose request was granted, which raises these faults.
 pub(crate) fn go_on(control: &mut Box<Control>, p: &Program, faults: Faults) -> Result<(), NoMemory>
     requires { (t : Term) × StandsFor p.now.script control.old.value t }
-    ensures ok { OnOk result ((t : Term) → StandsFor p.now.script control.old.value t → StandsFor p.now.script control.new.value (granted faults t)) }
+    ensures ok { OnOk result ((t : Term) → StandsFor p.now.script control.old.value t
+        → StandsFor p.now.script control.new.value (granted faults t)) }
     ensures vars { OnOk result (control.new.value.vars ≡ control.old.value.vars) }
 {
     match control.resume(p, faults) {
@@ -59,7 +60,11 @@ pub(crate) fn go_on(control: &mut Box<Control>, p: &Program, faults: Faults) -> 
 }
 
 /// The control of the task that the next step starts.
-pub(crate) fn child_of(alloc: Global, p: &Program, control: &Box<Control>) -> Result<Box<Control>, NoMemory>
+pub(crate) fn child_of(
+    alloc: Global,
+    p: &Program,
+    control: &Box<Control>,
+) -> Result<Box<Control>, NoMemory>
     requires { (t : Term) × (x : List ℕ) × StandsFor p.now.script control.now.value t × (begins t ≡ Some x) }
     ensures stands { IfOk result (λ c. (t : Term) → StandsFor p.now.script control.now.value t → (x : List ℕ) → begins t ≡ Some x
         → StandsFor p.now.script c.value (child t) × (c.value.vars ≡ control.now.value.vars)) }

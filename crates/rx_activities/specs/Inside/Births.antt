@@ -70,8 +70,8 @@ pub record IsBorn (L : BookName LedgerFixed) (place : PlaceId) (pass : Pass Entr
     : Type 0 where
   pub word : word_of child.pass ≡ L.word
   pub at_start : IsAtStart ticket child.seat
-  pub begins : (met : Pass EntryItem) (s : Started) → HasMet child.pass pass met → StartsWith place ticket child.control.value met child.seat s
-      → Begins L s
+  pub begins : (met : Pass EntryItem) (s : Started) → HasMet child.pass pass met
+      → StartsWith place ticket child.control.value met child.seat s → Begins L s
 
 abbrev pub IsStarted : BookName LedgerFixed → PlaceId → Pass EntryItem → Option AnyTicket → Option Child → Type 0
 IsStarted L place pass None child = Unit {0}

@@ -183,8 +183,8 @@ pub record WasCounted (shape : Shape) (L : BookName LedgerFixed) (rest : Rest) (
   pub word : word_of rest.pass ≡ L.word
   pub lawful : LedgerIsLegal L.fixed (view_of rest.pass).seen
   pub goes : (c : Control) (hand : Hand)
-      → ((t : Term) (here : PlaceId) → StandsFor shape rest.control.value t → next_of (does rest.control.value.vars here.0 t) ≡ BookStep Census
-      → StandsFor shape c (granted [] t))
+      → ((t : Term) (here : PlaceId) → StandsFor shape rest.control.value t
+      → next_of (does rest.control.value.vars here.0 t) ≡ BookStep Census → StandsFor shape c (granted [] t))
       → ((t : Term) (here : PlaceId) (path : List ℕ) → StandsFor shape rest.control.value t
       → next_of (does rest.control.value.vars here.0 t) ≡ BookStep Census
       → c.vars ≡ vars_told (does rest.control.value.vars here.0 t) (CensusAct places path) rest.control.value.vars)

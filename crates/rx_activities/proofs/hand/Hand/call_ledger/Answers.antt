@@ -20,9 +20,11 @@ use Rattle.rx_activities.proofs.hand.Hand.call_ledger.Goals as goal
 pub child_of-prepared-requires-clause-stands : goal.child_of-prepared-requires-clause-stands
 child_of-prepared-requires-clause-stands g c κs within =
     let b = c.checked.ensures in
-    let s = c.requires.known.stands b.0 (subst (λ (p : Checked). Stands p.script b.0) (sym c.requires.program) b.1) in
-    (s.stand.term, subst (λ (x : Control). StandsFor c.args.p.now.script x s.stand.term) (sym c.as_ref-standing.ensures)
-      (subst (λ (p : Checked). StandsFor p.script c.args.self.control.value s.stand.term) c.requires.program s.term))
+    let s = c.requires.known.stands b.0 (subst (λ (p : Checked). Stands p.script b.0) (sym c.requires.program) b.1) in (
+      s.stand.term,
+      subst (λ (x : Control). StandsFor c.args.p.now.script x s.stand.term) (sym c.as_ref-standing.ensures)
+          (subst (λ (p : Checked). StandsFor p.script c.args.self.control.value s.stand.term) c.requires.program s.term),
+    )
 
 pub child_of-prepared-requires-clause-next : goal.child_of-prepared-requires-clause-next
 child_of-prepared-requires-clause-next g c κs within =

@@ -8,7 +8,8 @@ ghost use Rattle.rx_history.specs.Events.{events_of};
 ghost use Rattle.rx_history.specs.Setups.{given};
 ghost use Rattle.rx_words.specs.Commands.{source_of};
 ghost use Rattle.rx10.specs.declared.status.Status.TheVariants.{Done};
-ghost use Rattle.rx10.specs.Top.{is_clean as clean, status_by, status_of, work_line, picks_of, IsTrace, IsLiveTrace, IsWatchedTrace, IsLiveText, IsCount};
+ghost use Rattle.rx10.specs.Top.{is_clean as clean, status_by, status_of, work_line, picks_of};
+ghost use Rattle.rx10.specs.Top.{IsTrace, IsLiveTrace, IsWatchedTrace, IsLiveText, IsCount};
 
 use rx_base::{Faults, Gate, NoMemory, PlaceSet, members_make_the_set};
 use rx_check::{Program, checked};

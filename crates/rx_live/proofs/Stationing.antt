@@ -1,5 +1,5 @@
 -- Places in their order.
-use Rattle.std.specs.Prelude.{◌≡◌, ℕ, zero, suc, ◌+◌, ◌<◌, ◌≤◌, List, [], ◌∷◌, ◌++◌, length, take, Option, Some, None, slice_get, slice_set, refl}
+use Rattle.std.specs.Prelude.{◌≡◌, ℕ, zero, suc, ◌+◌, List, [], ◌∷◌, ◌++◌, length, take, Option, Some, slice_get, slice_set, refl}
 use Rattle.std.proofs.Common.{ap, sym, ◌∙◌, subst, arith}
 use Rattle.std.proofs.lemmas.Option.{slice_get_within}
 use mathlib.Core.List.{IsPrefix}
@@ -12,7 +12,7 @@ use Rattle.rx_book.specs.declared.passes.Note.{Note}
 use Rattle.rx_book.specs.History.{items_of}
 use Rattle.rx_book.specs.Calls.{Met}
 use Rattle.rx_book.specs.declared.passes.Pass.{Pass}
-use Rattle.rx_book.specs.Passes.{view_of, word_of, note_view, note_word}
+use Rattle.rx_book.specs.Passes.{view_of, word_of}
 use Rattle.rx_book.specs.Named.{BookName}
 use Rattle.rx_parts_book.specs.declared.items.EntryItem.{EntryItem}
 use Rattle.rx_parts_book.specs.declared.items.EventItem.{EventItem}

@@ -1,10 +1,10 @@
 -- What the items of a watch of a run tell.
-use Rattle.std.specs.Prelude.{◌≡◌, ℕ, ◌+◌, false, List, [], ◌∷◌, ◌++◌, map, length, Some, refl}
-use Rattle.std.proofs.Common.{ap, sym, ◌∙◌, subst, arith}
+use Rattle.std.specs.Prelude.{◌≡◌, ℕ, ◌+◌, false, List, [], ◌∷◌, length, Some, refl}
+use Rattle.std.proofs.Common.{ap, ◌∙◌, subst, arith}
 use Rattle.rx_rules.specs.declared.entries.Entry.{Entry}
 use Rattle.rx_monitor.specs.declared.summary.Summary.{Summary}
 use Rattle.rx_monitor.specs.Boards.{Listing, IsWatched}
-use Rattle.rx_monitor.specs.Sums.{Rises, WatchTells}
+use Rattle.rx_monitor.specs.Sums.{WatchTells}
 use Rattle.rx_objects.specs.Shown.{summary_of, ShowsUpTo, BoardShows}
 use Rattle.rx_live.specs.Watching.{IsWatchOf}
 

@@ -25,7 +25,7 @@ begin_call-requires g c =
     (t.0, t.1, subst (λ (x : Control). StandsFor c.args.p.now.script x t.0) (sym c.as_ref.ensures) t.2, t.3)
 
 pub call-reply-requires-clause-fits : goal.call-reply-requires-clause-fits
-call-reply-requires-clause-fits g c = λ h legal begins.
+call-reply-requires-clause-fits g c = λ h legal before.
     let L = c.args.ledger.now in
     let a = c.args.self in
     let q = c.stamp_for.new.pass in
@@ -39,7 +39,7 @@ call-reply-requires-clause-fits g c = λ h legal begins.
     let op : PlaceOp = op_of c.caller_of.result.task c.in-Some.stamp c.in-Ok.path c.args.op q in
     let asks = asks_place L a q k c.in-Some.ensures.own c.in-Some.ensures.looked place.fixed.words c.in-Some.stamp c.in-Ok.path c.args.op c.in-Some.ensures.above c.in-Some.ensures.below c.in-Some.ensures.alive t.4
     (next_in_run c.args.p.now L a k c.requires.program c.args.op c.requires.next) path in
-    c.place_op_fits.ensures place.fixed _ (view_of a.seat) h op a.seat.own begins legal (subst (λ (f : PlaceFixed). AsksPlace f (view_of a.seat) op) (sym (fixed_is L a place c.requires.place)) asks)
+    c.place_op_fits.ensures place.fixed _ (view_of a.seat) h op a.seat.own before legal (subst (λ (f : PlaceFixed). AsksPlace f (view_of a.seat) op) (sym (fixed_is L a place c.requires.place)) asks)
 
 pub cell_done-requires : goal.cell_done-requires
 cell_done-requires g c =

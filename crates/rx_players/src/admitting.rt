@@ -177,20 +177,18 @@ impl Players {
         rx_sound::fold_is_reached();
         rx_sound::reached_is_sound();
         rx_verdict::seats_ask();
-        let Slot::Here(seat) = &mut self.slots[task.0 as usize] else {
-            unreachable!()
-        };
+        let mut seat = take_seat(&mut self.slots, task);
         if !is_wanted(&want, seat.home, act) {
             return Ok(false);
         }
         if !same_batch(&seat.batch, batch) {
             return Ok(false);
         }
-        let newborn = newborn(&self.table, alloc, p, number, seat, act)?;
-        let has_asked = seat.go_on(alloc, p, number, act)?;
-        if !has_asked {
+        let newborn = newborn(&self.table, alloc, p, number, &seat, act)?;
+        if !seat.go_on(alloc, p, number, act)? {
             return Ok(false);
         }
+        put_back(&mut self.slots, task, seat);
         add(&mut self.slots, newborn)?;
         Ok(true)
     }

@@ -10,8 +10,9 @@ use std::marker::Model;
 use std::sync::Wait;
 use std::time::Duration;
 
-// How often one who finds the value out looks for it again before it naps.
-const LOOKS: u32 = 100;
+// How often one who finds the value out looks for it again before it naps: for some 20 microseconds, in which several others may have
+// used it for less than one each. Who naps while he holds what others wait for keeps them all waiting.
+const LOOKS: u32 = 20_000;
 
 // The naps that follow, each with a look behind it, in microseconds. They grow, so that those who wait seldom take the value from a core
 // that has it near and uses it again and again: bringing it to another core costs more than a short use.

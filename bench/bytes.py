@@ -3,8 +3,8 @@
 
 Run it by hand: python3 bench/bytes.py [--program P] [--least BYTES] [SERIES..]. It needs valgrind, whose massif writes down who had taken the
 memory when most was taken. Each series is run with n and with 2n things; a line is the difference of what one call had taken, for each thing
-more. Calls that took less than --least bytes a thing (1) are summed up as others. Lists grow by doubling, so what a list costs is between
-what its items need and twice that.
+more. Calls that took less than --least bytes a thing (1) are summed up as others. Lists grow by doubling; the sizes are such that those of
+one item for each thing are nearly full, and at other sizes a list costs up to twice as much.
 """
 
 import argparse
@@ -45,7 +45,7 @@ def events(n):
     return ["step", "--heap", "16"], "new r = 4; repeat %d { put r[1] = 7; }" % n
 
 
-SERIES = {"tasks": (tasks, 4096), "scopes": (scopes, 4096), "entries": (entries, 16384), "batches": (batches, 16384), "events": (events, 16384)}
+SERIES = {"tasks": (tasks, 4000), "scopes": (scopes, 4000), "entries": (entries, 16000), "batches": (batches, 16000), "events": (events, 16000)}
 
 NODE = re.compile(r"^( *)n(\d+): (\d+) (.*)$")
 CALL = re.compile(r"^0x[0-9A-F]+: (.*?) \(")

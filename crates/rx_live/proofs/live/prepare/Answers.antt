@@ -8,5 +8,5 @@ use Rattle.rx_control.specs.Stands.{StandsFor}
 use Rattle.rx_live.proofs.live.prepare.Goals as goal
 
 pub returns-clause-control : goal.returns-clause-control
-returns-clause-control g c =
+returns-clause-control c =
     subst (λ (x : Control). (code : Block) → Stands c.args.p.now.script code → StandsFor c.args.p.now.script x (items code [] Empty) × (x.vars ≡ no_vars c.args.setup.now.places)) (sym c.in_ok-boxed.ensures.ok) c.in_ok-control.ensures.stands

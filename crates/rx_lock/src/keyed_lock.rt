@@ -10,8 +10,8 @@ use std::marker::Model;
 use std::sync::Wait;
 use std::time::Duration;
 
-// How often one who finds the value out looks for it again before it naps: for some 20 microseconds, in which several others may have
-// used it for less than one each. Who naps while he holds what others wait for keeps them all waiting.
+// How often one who finds the value out looks for it again before it naps. With the processor's pause in each look that was 0.1
+// milliseconds on one machine. docs/DECISIONS.md says how the number was chosen.
 const LOOKS: u32 = 20_000;
 
 // The naps that follow, each with a look behind it, in microseconds. They grow, so that those who wait seldom take the value from a core

@@ -21,3 +21,6 @@ pub mod Ends
 pub mod Known
 pub mod Digit
 pub mod Same
+pub mod Fronts
+pub mod Naming
+pub mod Told

@@ -40,11 +40,6 @@ abbrev pub first_word : List (List ℕ) → Option (List ℕ × List (List ℕ))
 first_word [] = None
 first_word (w ∷ ws) = Some (w, ws)
 
--- the first word
-abbrev pub next_of : List (List ℕ) → Option (List ℕ)
-next_of [] = None
-next_of (w ∷ ws) = Some w
-
 -- what a reader answers that leaves these words
 abbrev pub answer_left : {A : Type 0} → Option A → List (List ℕ) → Option (A × List (List ℕ))
 answer_left None ws = None

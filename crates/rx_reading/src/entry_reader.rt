@@ -1,7 +1,7 @@
 // The words of an entry.
-ghost use Rattle.std.specs.Prelude.{◌≡◌, ◌≤◌, codes, IfOk};
+ghost use Rattle.std.specs.Prelude.{◌≡◌, ◌≤◌, ◌∷◌, codes, IfOk};
 ghost use Rattle.rx_reading.specs.Words.{answer_left};
-ghost use Rattle.rx_reading.specs.Inside.EntryWords.{act_at, step_at, release_or_root_at, root_at, death_at, join_at, entry_at};
+ghost use Rattle.rx_reading.specs.Inside.EntryWords.{act_at, step_at, acted_at, changed_at, kind_named, release_or_root_at, root_at, death_at, join_at, entry_at};
 
 use crate::acts::{Kind, act};
 use crate::parts::{batch_part, keyword, outcome_part, place_field, task_field};
@@ -11,6 +11,7 @@ use rx_history::Entry;
 use std::alloc::Global;
 
 // The words after the number.
+#[tactic(auto, using(crate::proofs::Naming::entry_by_kind))]
 pub(crate) fn entry(
     alloc: Global,
     words: &mut Words<'_>,
@@ -22,30 +23,66 @@ pub(crate) fn entry(
     let Some(word) = words.next() else {
         return Ok(None);
     };
-    if is_same(word, b"open") {
-        step(alloc, words, places, Kind::Open)
-    } else if is_same(word, b"at") {
-        step(alloc, words, places, Kind::At)
-    } else if is_same(word, b"spawn") {
-        step(alloc, words, places, Kind::Spawn)
+    match kind_of(word) {
+        Some(kind) => acted(alloc, words, places, kind),
+        None => Ok(changed(words, places, word)),
+    }
+}
+
+// The kind of act that a word names.
+fn kind_of(word: &[u8]) -> Option<Kind>
+    ensures { result ≡ kind_named word.now }
+{
+    if is_same(word, b"spawn") {
+        Some(Kind::Spawn)
     } else if is_same(word, b"arrive") {
-        step(alloc, words, places, Kind::Arrive)
-    } else if is_same(word, b"wait") {
-        step(alloc, words, places, Kind::Wait)
-    } else if is_same(word, b"release") {
-        release(alloc, words, places)
+        Some(Kind::Arrive)
     } else if is_same(word, b"end") {
-        step(alloc, words, places, Kind::End)
+        Some(Kind::End)
+    } else if is_same(word, b"open") {
+        Some(Kind::Open)
+    } else if is_same(word, b"at") {
+        Some(Kind::At)
+    } else if is_same(word, b"wait") {
+        Some(Kind::Wait)
+    } else if is_same(word, b"release") {
+        Some(Kind::Release)
     } else if is_same(word, b"print") {
-        step(alloc, words, places, Kind::Print)
+        Some(Kind::Print)
     } else if is_same(word, b"census") {
-        step(alloc, words, places, Kind::Census)
-    } else if is_same(word, b"death") {
-        Ok(death(words, places))
-    } else if is_same(word, b"join") {
-        Ok(join(words, places))
+        Some(Kind::Census)
     } else {
-        Ok(None)
+        None
+    }
+}
+
+// The entry of an act of this kind.
+#[tactic(auto, using(crate::proofs::Naming::other_kinds))]
+fn acted(
+    alloc: Global,
+    words: &mut Words<'_>,
+    places: u8,
+    kind: Kind,
+) -> Result<Option<Entry>, NoMemory>
+    requires { places ≤ 16 }
+    ensures { IfOk result (λ entry. answer_left entry words.new ≡ acted_at places kind words.old) }
+{
+    match kind {
+        Kind::Release => release(alloc, words, places),
+        other => step(alloc, words, places, other),
+    }
+}
+
+// The death or the join that a word names.
+fn changed(words: &mut Words<'_>, places: u8, word: &[u8]) -> Option<Entry>
+    ensures { answer_left result words.new ≡ changed_at places (word.now ∷ words.old) }
+{
+    if is_same(word, b"death") {
+        death(words, places)
+    } else if is_same(word, b"join") {
+        join(words, places)
+    } else {
+        None
     }
 }
 

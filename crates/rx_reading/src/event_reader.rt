@@ -1,13 +1,10 @@
 // The words of an event.
 ghost use Rattle.std.specs.Prelude.{◌≡◌, ◌≤◌, codes, IfOk};
 ghost use Rattle.rx_reading.specs.Words.{answer_left};
-ghost use Rattle.rx_reading.specs.Inside.FieldWords.{task_spelt};
-ghost use Rattle.rx_reading.specs.Inside.PartWords.{item_of};
 ghost use Rattle.rx_reading.specs.Inside.EventWords.{made_at, make_at, got_at, indexed_at, get_at, written_at, put_at, forgotten_at};
 ghost use Rattle.rx_reading.specs.Inside.EventWords.{forget_at, cell_at, done_at, close_at, event_at};
 
-use crate::items::task;
-use crate::parts::{block_field, keyword, natural_field, number_field, path_field};
+use crate::parts::{block_field, keyword, natural_field, next_task, number_field, path_field};
 use crate::words::{Words, is_same};
 use rx_base::{GlobalRef, NoMemory, TaskId};
 use rx_history::{Cell, PlaceEvent};
@@ -25,16 +22,6 @@ pub(crate) fn event(
         Some(task) => done(alloc, words, home, task),
         None => Ok(close(words)),
     }
-}
-
-// Takes the next word where it is a task.
-fn next_task(words: &mut Words<'_>) -> Option<TaskId>
-    ensures { (result, words.new) ≡ item_of task_spelt words.old }
-{
-    let (word, after) = words.first()?;
-    let task = task(word)?;
-    *words = after;
-    Some(task)
 }
 
 // A store call of this task.

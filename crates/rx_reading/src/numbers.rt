@@ -1,5 +1,5 @@
 // Numbers as words, each in its one spelling.
-ghost use Rattle.std.specs.Prelude.{◌≡◌, ◌<◌, ◌≤◌, ◌^◌, ◌∷◌, [], Some, IfSome};
+ghost use Rattle.std.specs.Prelude.{◌≡◌, ◌<◌, ◌^◌, ◌++◌, Some, IfSome};
 ghost use Rattle.std.specs.Str.{bytes_eq};
 ghost use Rattle.rx_text.specs.Numbers.{natural_text};
 ghost use Rattle.rx_reading.specs.Inside.FieldWords.{number_of, natural_of, number_below, count_of, short_of};
@@ -7,24 +7,30 @@ ghost use Rattle.rx_reading.specs.Inside.FieldWords.{number_of, natural_of, numb
 use itoa::Buffer;
 use rx_text::scan_num;
 
-// The number that up to nine digits are, of which the first is not 0. None says nothing of the word.
-#[tactic(auto, using(crate::proofs::Digit::digits_are))]
-fn few_digits(word: &[u8]) -> Option<u32>
-    ensures some { IfSome result (λ n. natural_of word.now ≡ Some n) }
+// The number of at most nine digits that stands in front of these bytes, in its one spelling, and what stands after it. None says
+// nothing of the bytes.
+pub(crate) fn front_number(bytes: &[u8]) -> Option<(u32, &[u8])>
+    ensures some { IfSome result (λ x. bytes.now ≡ natural_text x.0 ++ x.1.now) }
+    ensures low { IfSome result (λ x. x.0 < 2 ^ 32) }
 {
-    if word.len() > 9 || word.len() == 0 || word[0] == b'0' {
-        return None;
-    }
     let mut n: u32 = 0;
     let mut len = 0;
-    'digits: while len < word.len() {
-        if !word[len].is_ascii_digit() {
+    'digits: while len < bytes.len() && bytes[len].is_ascii_digit() {
+        if len == 9 {
             return None;
         }
-        n = n * 10 + u32::from(word[len] - b'0');
+        n = n * 10 + u32::from(bytes[len] - b'0');
         len += 1;
     }
-    Some(n)
+    if len == 0 {
+        return None;
+    }
+    if len > 1 {
+        if bytes[0] == b'0' {
+            return None;
+        }
+    }
+    Some((n, &bytes[len..]))
 }
 
 // The number of 64 bits that a word is.
@@ -35,6 +41,15 @@ pub(crate) fn number(word: &[u8]) -> Option<i64>
         Some(n) => Some(i64::from(n)),
         None => scanned(word),
     }
+}
+
+// The number that a word of up to nine digits is. None says nothing of the word.
+#[tactic(auto, using(crate::proofs::Fronts::all_natural))]
+fn few_digits(word: &[u8]) -> Option<u32>
+    ensures some { IfSome result (λ n. natural_of word.now ≡ Some n) }
+{
+    let (n, rest) = front_number(word)?;
+    if rest.is_empty() { Some(n) } else { None }
 }
 
 // The number of 64 bits that a word of any form is.
@@ -56,36 +71,15 @@ fn short(n: i64) -> Option<u32>
     }
 }
 
-// The number of 32 bits, without a sign, that a word is. Most numbers have one digit.
-#[tactic(auto, using(crate::proofs::Digit::one_byte))]
+// The number of 32 bits, without a sign, that a word is.
+#[tactic(auto, using(crate::proofs::Scanned::natural_by_number))]
 pub(crate) fn natural(word: &[u8]) -> Option<u32>
     ensures { result ≡ natural_of word.now }
 {
-    if word.len() == 1 {
-        digit(word[0])
-    } else {
-        longer(word)
+    match few_digits(word) {
+        Some(n) => Some(n),
+        None => short(scanned(word)?),
     }
-}
-
-// The number that a byte is as a word.
-#[tactic(auto, using(crate::proofs::Digit::is_digit, crate::proofs::Digit::no_digit))]
-fn digit(byte: u8) -> Option<u32>
-    ensures { result ≡ natural_of (byte ∷ []) }
-{
-    if byte.is_ascii_digit() {
-        Some(u32::from(byte - b'0'))
-    } else {
-        None
-    }
-}
-
-// The number of 32 bits, without a sign, that a word of any length is.
-#[tactic(auto, using(crate::proofs::Scanned::natural_by_number))]
-fn longer(word: &[u8]) -> Option<u32>
-    ensures { result ≡ natural_of word.now }
-{
-    short(number(word)?)
 }
 
 // The number below the limit that a word is.

@@ -2,7 +2,7 @@
 ghost use Rattle.std.specs.Prelude.{◌≡◌, ◌≤◌, ◌<◌, ◌^◌, IfOk};
 ghost use Rattle.rx_reading.specs.Words.{answer_left};
 ghost use Rattle.rx_reading.specs.Inside.FieldWords.{natural_at, number_at, place_at, task_at, scope_at, path_at, count_at, block_at};
-ghost use Rattle.rx_reading.specs.Inside.FieldWords.{path_of, place_of, masked_of, fault_of};
+ghost use Rattle.rx_reading.specs.Inside.FieldWords.{path_of, place_of, task_spelt, masked_of, fault_of};
 ghost use Rattle.rx_reading.specs.Inside.PartWords.{set_of, places_at, lost_read, masked_read, thrown_at, batch_at};
 ghost use Rattle.rx_reading.specs.Inside.PartWords.{item_of, key_of, left_of, nested_at, way_at, outcome_at};
 
@@ -17,13 +17,19 @@ use std::alloc::Global;
 pub(crate) fn natural_field(words: &mut Words<'_>) -> Option<u32>
     ensures { answer_left result words.new ≡ natural_at words.old }
 {
-    natural(words.next()?)
+    match words.short_number() {
+        Some(n) => Some(n),
+        None => natural(words.next()?),
+    }
 }
 
 pub(crate) fn number_field(words: &mut Words<'_>) -> Option<i64>
     ensures { answer_left result words.new ≡ number_at words.old }
 {
-    number(words.next()?)
+    match words.short_number() {
+        Some(n) => Some(i64::from(n)),
+        None => number(words.next()?),
+    }
 }
 
 // A number from 1 to a limit.
@@ -37,19 +43,34 @@ pub(crate) fn count_field(words: &mut Words<'_>, most: u32) -> Option<u32>
 pub(crate) fn place_field(words: &mut Words<'_>, places: u8) -> Option<PlaceId>
     ensures { answer_left result words.new ≡ place_at places words.old }
 {
-    place(words.next()?, places)
+    match words.short_number() {
+        Some(n) => {
+            if n < u32::from(places) {
+                Some(PlaceId(n as u8))
+            } else {
+                None
+            }
+        }
+        None => place(words.next()?, places),
+    }
 }
 
 pub(crate) fn task_field(words: &mut Words<'_>) -> Option<TaskId>
     ensures { answer_left result words.new ≡ task_at words.old }
 {
-    task(words.next()?)
+    match words.lettered(b't') {
+        Some(n) => Some(TaskId(n)),
+        None => task(words.next()?),
+    }
 }
 
 pub(crate) fn scope_field(words: &mut Words<'_>) -> Option<ScopeId>
     ensures { answer_left result words.new ≡ scope_at words.old }
 {
-    scope(words.next()?)
+    match words.lettered(b's') {
+        Some(n) => Some(ScopeId(n)),
+        None => scope(words.next()?),
+    }
 }
 
 pub(crate) fn path_field(alloc: Global, words: &mut Words<'_>) -> Result<Option<Path>, NoMemory>
@@ -110,6 +131,21 @@ pub(crate) fn way_field(words: &mut Words<'_>, places: u8) -> Option<(PlaceId, P
     let from = place_field(words, places)?;
     let to = place_field(words, places)?;
     Some((from, to))
+}
+
+// Takes the next word where it is a task.
+pub(crate) fn next_task(words: &mut Words<'_>) -> Option<TaskId>
+    ensures { (result, words.new) ≡ item_of task_spelt words.old }
+{
+    match words.lettered(b't') {
+        Some(n) => Some(TaskId(n)),
+        None => {
+            let (word, after) = words.first()?;
+            let task = task(word)?;
+            *words = after;
+            Some(task)
+        }
+    }
 }
 
 // Takes the next word where it is a place.

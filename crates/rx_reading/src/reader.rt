@@ -13,7 +13,7 @@ ghost use Rattle.rx_reading.specs.Inside.Machine.{Over};
 ghost use Rattle.rx_reading.specs.Inside.Stages.{state_of};
 
 use crate::stage::{Stage, read_next};
-use crate::words::cut;
+use crate::words::first_line;
 use rx_history::{History, Journals};
 use std::alloc::Global;
 
@@ -37,7 +37,7 @@ pub fn read_trace(alloc: Global, bytes: &[u8]) -> Result<(History, Journals), Tr
     let mut stage = Stage::Untitled;
     let mut rest = bytes;
     let mut number: u32 = 1;
-    'lines: while let Some((line, tail)) = cut(rest, b'\n') {
+    'lines: while let Some((line, tail)) = first_line(rest) {
         match read_next(alloc, &mut stage, line) {
             Ok(true) => {}
             Ok(false) => return Err(TraceFault::BadLine { number }),

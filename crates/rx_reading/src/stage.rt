@@ -1,5 +1,5 @@
 // Reading a text line by line.
-ghost use Rattle.std.specs.Prelude.{◌≡◌, ◌≤◌, ◌<◌, ◌&&◌, ◌==◌, nat_lt, ◌++◌, ◌∷◌, [], true, false, Some, None, codes};
+ghost use Rattle.std.specs.Prelude.{◌≡◌, ◌+◌, ◌≤◌, ◌<◌, ◌&&◌, ◌==◌, nat_lt, ◌++◌, ◌∷◌, [], true, false, Some, None, codes};
 ghost use Rattle.std.specs.Prelude.{option_map, IfOk, length, slice_index};
 ghost use Rattle.std.specs.Str.{bytes_eq};
 ghost use Rattle.rx_reading.specs.Words.{answer_left, pieces};
@@ -7,7 +7,9 @@ ghost use Rattle.rx_history.specs.Events.{events_of};
 ghost use Rattle.rx_history.specs.Setups.{given};
 ghost use Rattle.rx_rules.specs.Run.{in_all};
 ghost use Rattle.rx_reading.specs.Inside.Machine.{Untitled, Titled, Sized, Listed, Planned, Entering, Logging, Over};
-ghost use Rattle.rx_reading.specs.Inside.Machine.{begins_journal, entry_of, event_line_of, read_line};
+ghost use Rattle.rx_reading.specs.Inside.Machine.{begins_journal, entry_of, event_line_of, read_line, told_there};
+ghost use Rattle.rx_text.specs.Numbers.{natural_text};
+ghost use Rattle.rx_reading.specs.Inside.Readers.{behind};
 ghost use Rattle.rx_reading.specs.Inside.Stages.{state_of, IsReady};
 
 use crate::entry_reader::entry;
@@ -15,7 +17,7 @@ use crate::event_reader::event;
 use crate::items::strip;
 use crate::numbers::is_number;
 use crate::plan_lines::{read_joins, read_kills, sizes};
-use crate::words::split_words;
+use crate::words::{Words, after_short, split_words};
 use rx_base::NoMemory;
 use rx_history::{Entry, History, Journal, Journals, KillList, PlaceEvent, Setup};
 use std::alloc::Global;
@@ -52,7 +54,24 @@ pub(crate) enum Stage {
     },
 }
 
+// The words behind the number n, with which a line has to begin.
+#[tactic(auto, using(crate::proofs::Fronts::behind_known))]
+fn behind_number(line: &[u8], n: usize) -> Option<Words<'_>>
+    ensures { result ≡ behind (natural_text n) (pieces 32 line.now) }
+{
+    if let Some(words) = after_short(line, n) {
+        return Some(words);
+    }
+    let (number, words) = split_words(line);
+    if is_number(number, n) {
+        Some(words)
+    } else {
+        None
+    }
+}
+
 // The line of an entry of this number.
+#[tactic(auto, using(crate::proofs::Fronts::keyed_behind))]
 fn read_entry(alloc: Global, line: &[u8], n: usize, places: u8) -> Result<Option<Entry>, NoMemory>
     requires { places ≤ 16 }
     ensures { IfOk result (λ entry. entry ≡ entry_of places n line.now) }
@@ -60,10 +79,9 @@ fn read_entry(alloc: Global, line: &[u8], n: usize, places: u8) -> Result<Option
     if n >= 4_294_967_296 {
         return Ok(None);
     }
-    let (number, mut words) = split_words(line);
-    if !is_number(number, n) {
+    let Some(mut words) = behind_number(line, n) else {
         return Ok(None);
-    }
+    };
     match entry(alloc, &mut words, places)? {
         Some(entry) if words.is_empty() => Ok(Some(entry)),
         _ => Ok(None),
@@ -71,6 +89,7 @@ fn read_entry(alloc: Global, line: &[u8], n: usize, places: u8) -> Result<Option
 }
 
 // The line of an event of this number.
+#[tactic(auto, using(crate::proofs::Fronts::keyed_behind))]
 fn read_event(
     alloc: Global,
     line: &[u8],
@@ -79,10 +98,9 @@ fn read_event(
 ) -> Result<Option<PlaceEvent>, NoMemory>
     ensures { IfOk result (λ event. event ≡ event_line_of home n line.now) }
 {
-    let (number, mut words) = split_words(line);
-    if !is_number(number, n) {
+    let Some(mut words) = behind_number(line, n) else {
         return Ok(None);
-    }
+    };
     match event(alloc, &mut words, home)? {
         Some(event) if words.is_empty() => Ok(Some(event)),
         _ => Ok(None),
@@ -120,16 +138,37 @@ pub(crate) fn read_next(alloc: Global, stage: &mut Stage, line: &[u8]) -> Result
     ensures bad { IfOk result (λ good. good ≡ false → read_line (state_of stage.old) line.now ≡ None) }
 {
     // Most lines are entries and events, which are added in place.
-    if added(alloc, stage, line)? {
-        Ok(true)
+    if is_told(stage, line) {
+        added(alloc, stage, line)
     } else {
         changed(alloc, stage, line)
     }
 }
 
+// Whether the line has to be an entry or an event.
+fn is_told(stage: &Stage, line: &[u8]) -> bool
+    requires { IsReady stage.now }
+    ensures { result ≡ told_there (state_of stage.now) line.now }
+{
+    match stage {
+        Stage::Entering { .. } => !is_journal(line, 0),
+        Stage::Logging {
+            history,
+            journals,
+            ..
+        } => {
+            let next = journals.len() + 1;
+            let places = usize::from(places_in_all(&history.setup));
+            !is_next_journal(line, next, places) && !is_end(line, next, places)
+        }
+        _ => false,
+    }
+}
+
 // The stage that a line more makes of this one takes its place; answers whether the line may come next.
 fn changed(alloc: Global, stage: &mut Stage, line: &[u8]) -> Result<bool, NoMemory>
-    requires { IsReady stage.old }
+    requires ready { IsReady stage.old }
+    requires other { told_there (state_of stage.old) line.now ≡ false }
     ensures good { IfOk result (λ good. good ≡ true → read_line (state_of stage.old) line.now ≡ Some (state_of stage.new)) }
     ensures bad { IfOk result (λ good. good ≡ false → read_line (state_of stage.old) line.now ≡ None) }
 {
@@ -143,11 +182,13 @@ fn changed(alloc: Global, stage: &mut Stage, line: &[u8]) -> Result<bool, NoMemo
     }
 }
 
-// Adds the entry or the event that a line is, in place, and answers whether it is one that may come next.
+// Adds the entry or the event that a line has to be, and answers whether it is one.
+#[tactic(auto, using(crate::proofs::Told::no_first_journal, crate::proofs::Told::no_next_journal, crate::proofs::Told::no_end))]
 fn added(alloc: Global, stage: &mut Stage, line: &[u8]) -> Result<bool, NoMemory>
-    requires { IsReady stage.old }
-    ensures added { IfOk result (λ is. is ≡ true → read_line (state_of stage.old) line.now ≡ Some (state_of stage.new)) }
-    ensures not_added { IfOk result (λ is. is ≡ false → stage.new ≡ stage.old) }
+    requires ready { IsReady stage.old }
+    requires told { told_there (state_of stage.old) line.now ≡ true }
+    ensures good { IfOk result (λ good. good ≡ true → read_line (state_of stage.old) line.now ≡ Some (state_of stage.new)) }
+    ensures bad { IfOk result (λ good. good ≡ false → read_line (state_of stage.old) line.now ≡ None) }
 {
     match stage {
         Stage::Entering { history } => entry_added(alloc, history, line),
@@ -162,14 +203,12 @@ fn added(alloc: Global, stage: &mut Stage, line: &[u8]) -> Result<bool, NoMemory
 
 // Adds the entry that a line is.
 fn entry_added(alloc: Global, history: &mut History, line: &[u8]) -> Result<bool, NoMemory>
-    requires { in_all (given history.old.setup) ≤ 16 }
-    ensures added { IfOk result (λ is. is ≡ true → read_line (Entering (given history.old.setup) history.old.entries) line.now
+    requires few { in_all (given history.old.setup) ≤ 16 }
+    requires other { begins_journal 0 line.now ≡ false }
+    ensures good { IfOk result (λ good. good ≡ true → read_line (Entering (given history.old.setup) history.old.entries) line.now
         ≡ Some (Entering (given history.new.setup) history.new.entries)) }
-    ensures not_added { IfOk result (λ is. is ≡ false → history.new ≡ history.old) }
+    ensures bad { IfOk result (λ good. good ≡ false → read_line (Entering (given history.old.setup) history.old.entries) line.now ≡ None) }
 {
-    if is_journal(line, 0) {
-        return Ok(false);
-    }
     match read_entry(alloc, line, history.len(), places_in_all(&history.setup))? {
         Some(entry) => {
             history.reserve(1)?;
@@ -188,19 +227,17 @@ fn event_added(
     journal: &mut Journal,
     line: &[u8],
 ) -> Result<bool, NoMemory>
-    requires few { in_all (given history.now.setup) ≤ 16 }
-    requires below { length journals.now.journals < in_all (given history.now.setup) }
-    ensures added { IfOk result (λ is. is ≡ true → read_line
+    requires below { length journals.now.journals < 16 }
+    requires other { (begins_journal (length (events_of journals.now) + 1) line.now
+        && nat_lt (length (events_of journals.now) + 1) (in_all (given history.now.setup))) ≡ false }
+    requires more { (bytes_eq line.now (codes "done") && length (events_of journals.now) + 1 == in_all (given history.now.setup)) ≡ false }
+    ensures good { IfOk result (λ good. good ≡ true → read_line
         (Logging (given history.now.setup) history.now.entries (events_of journals.now) journal.old.events) line.now
         ≡ Some (Logging (given history.now.setup) history.now.entries (events_of journals.now) journal.new.events)) }
-    ensures not_added { IfOk result (λ is. is ≡ false → journal.new ≡ journal.old) }
+    ensures bad { IfOk result (λ good. good ≡ false → read_line
+        (Logging (given history.now.setup) history.now.entries (events_of journals.now) journal.old.events) line.now ≡ None) }
 {
-    let home = journals.len();
-    let places = usize::from(places_in_all(&history.setup));
-    if is_next_journal(line, home + 1, places) || is_end(line, home + 1, places) {
-        return Ok(false);
-    }
-    match read_event(alloc, line, journal.len(), home as u8)? {
+    match read_event(alloc, line, journal.len(), journals.len() as u8)? {
         Some(event) => {
             journal.reserve(1)?;
             journal.add(event);
@@ -210,9 +247,10 @@ fn event_added(
     }
 }
 
-// The stage after one line more.
+// The stage after a line that is to be no entry and no event.
 fn next_stage(alloc: Global, stage: Stage, line: &[u8]) -> Result<Option<Stage>, NoMemory>
-    requires { IsReady stage }
+    requires ready { IsReady stage }
+    requires other { told_there (state_of stage) line.now ≡ false }
     ensures { IfOk result (λ next. option_map state_of next ≡ read_line (state_of stage) line.now) }
 {
     match stage {
@@ -225,12 +263,16 @@ fn next_stage(alloc: Global, stage: Stage, line: &[u8]) -> Result<Option<Stage>,
             kills,
         } => planned(alloc, places, heap, kills, line),
         Stage::Planned { setup } => Ok(begun(alloc, setup, line)),
-        Stage::Entering { history } => entering(alloc, history, line),
+        Stage::Entering { history } => Ok(Some(Stage::Logging {
+            history,
+            journals: Journals::open(alloc),
+            journal: Journal::open(alloc),
+        })),
         Stage::Logging {
             history,
             journals,
             journal,
-        } => logging(alloc, history, journals, journal, line),
+        } => told(alloc, history, journals, journal, line),
         Stage::Over { .. } => Ok(None),
     }
 }
@@ -307,36 +349,8 @@ fn places_in_all(setup: &Setup) -> u8
     setup.places + setup.joins.len() as u8
 }
 
-// An entry, or the line that begins the first journal.
-fn entering(alloc: Global, history: History, line: &[u8]) -> Result<Option<Stage>, NoMemory>
-    requires { in_all (given history.setup) ≤ 16 }
-    ensures { IfOk result (λ next. option_map state_of next ≡ read_line (Entering (given history.setup) history.entries) line.now) }
-{
-    if is_journal(line, 0) {
-        return Ok(Some(Stage::Logging {
-            history,
-            journals: Journals::open(alloc),
-            journal: Journal::open(alloc),
-        }));
-    }
-    match read_entry(alloc, line, history.len(), places_in_all(&history.setup))? {
-        Some(entry) => entered(history, entry),
-        None => Ok(None),
-    }
-}
-
-// An entry more.
-fn entered(history: History, entry: Entry) -> Result<Option<Stage>, NoMemory>
-    ensures { IfOk result (λ next. option_map state_of next ≡ Some (Entering (given history.setup) (history.entries ++ entry ∷ []))) }
-{
-    let mut history = history;
-    history.reserve(1)?;
-    history.add(entry);
-    Ok(Some(Stage::Entering { history }))
-}
-
-// An event, the line that begins the next journal, or the last line.
-fn logging(
+// The journal is whole: the next one begins, or this was the last line.
+fn told(
     alloc: Global,
     history: History,
     journals: Journals,
@@ -344,21 +358,15 @@ fn logging(
     line: &[u8],
 ) -> Result<Option<Stage>, NoMemory>
     requires few { in_all (given history.setup) ≤ 16 }
-    requires below { length journals.journals < in_all (given history.setup) }
+    requires other { told_there (Logging (given history.setup) history.entries (events_of journals) journal.events) line.now ≡ false }
     ensures { IfOk result (λ next. option_map state_of next ≡ read_line
         (Logging (given history.setup) history.entries (events_of journals) journal.events) line.now) }
 {
-    let home = journals.len();
     let places = usize::from(places_in_all(&history.setup));
-    if is_next_journal(line, home + 1, places) {
-        return next_journal(alloc, history, journals, journal);
-    }
-    if is_end(line, home + 1, places) {
-        return over(history, journals, journal);
-    }
-    match read_event(alloc, line, journal.len(), home as u8)? {
-        Some(event) => logged(history, journals, journal, event),
-        None => Ok(None),
+    if is_next_journal(line, journals.len() + 1, places) {
+        next_journal(alloc, history, journals, journal)
+    } else {
+        over(history, journals, journal)
     }
 }
 
@@ -403,24 +411,4 @@ fn over(history: History, journals: Journals, journal: Journal) -> Result<Option
     let mut journals = journals;
     journals.push(journal)?;
     Ok(Some(Stage::Over { history, journals }))
-}
-
-// An event more.
-fn logged(
-    history: History,
-    journals: Journals,
-    journal: Journal,
-    event: PlaceEvent,
-) -> Result<Option<Stage>, NoMemory>
-    ensures { IfOk result (λ next. option_map state_of next ≡ Some
-        (Logging (given history.setup) history.entries (events_of journals) (journal.events ++ event ∷ []))) }
-{
-    let mut journal = journal;
-    journal.reserve(1)?;
-    journal.add(event);
-    Ok(Some(Stage::Logging {
-        history,
-        journals,
-        journal,
-    }))
 }

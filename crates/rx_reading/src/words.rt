@@ -1,9 +1,13 @@
 // How bytes are cut into lines, and a line into words.
-ghost use Rattle.std.specs.Prelude.{◌≡◌, ◌+◌, ◌<◌, ◌≤◌, ◌++◌, ◌∷◌, ◌==◌, not, length, option_map, IfSome, IfNone};
+ghost use Rattle.std.specs.Prelude.{◌≡◌, ◌≢◌, ◌+◌, ◌<◌, ◌≤◌, ◌^◌, ◌++◌, ◌∷◌, ◌==◌, not, length, option_map, IfSome, IfNone};
 ghost use Rattle.std.specs.List.{prefix_len};
 ghost use Rattle.std.specs.Str.{bytes_eq};
+ghost use Rattle.rx_text.specs.Numbers.{natural_text};
 ghost use Rattle.rx_reading.specs.Words.{Lacks, pieces, words_left, first_word};
+ghost use Rattle.rx_reading.specs.Inside.Readers.{is_word_end};
 
+use crate::numbers::front_number;
+use memchr::memchr;
 use std::marker::Model;
 
 // How many bytes stand before the first `stop`.
@@ -12,6 +16,16 @@ fn run_len(bytes: &[u8], stop: u8) -> usize
     ensures within { result ≤ length bytes.now }
 {
     bytes.iter().take_while(|b| **b != stop).count()
+}
+
+// The first line of these bytes, and what stands after it.
+pub(crate) fn first_line(bytes: &[u8]) -> Option<(&[u8], &[u8])>
+    ensures some { IfSome result (λ x. (bytes.now ≡ x.0.now ++ 10 ∷ x.1.now) × Lacks 10 x.0.now) }
+    ensures none { IfNone result (Lacks 10 bytes.now) }
+    ensures shorter { IfSome result (λ x. length x.1.now < length bytes.now) }
+{
+    let len = memchr(b'\n', bytes)?;
+    Some((&bytes[..len], &bytes[len + 1..]))
 }
 
 // What stands before the first `stop`, and what stands after it.
@@ -65,6 +79,37 @@ impl<'a> Words<'a> {
         Some(word)
     }
 
+    // Takes the next word where it is a number of at most nine digits. None says nothing of the word, and takes none.
+    pub(crate) fn short_number(&mut self) -> Option<u32>
+        ensures some { IfSome result (λ n. self.old ≡ natural_text n ∷ self.new) }
+        ensures low { IfSome result (λ n. n < 2 ^ 32) }
+        ensures none { IfNone result (self.new ≡ self.old) }
+    {
+        let tail = behind(self.rest, b' ')?;
+        let (n, rest) = front_number(tail)?;
+        if !ends_word(rest) {
+            return None;
+        }
+        self.rest = rest;
+        Some(n)
+    }
+
+    // Takes the next word where it is a letter and a number of at most nine digits. None says nothing of the word, and takes none.
+    pub(crate) fn lettered(&mut self, letter: u8) -> Option<u32>
+        requires { letter ≢ 32 }
+        ensures some { IfSome result (λ n. self.old ≡ (letter ∷ natural_text n) ∷ self.new) }
+        ensures low { IfSome result (λ n. n < 2 ^ 32) }
+        ensures none { IfNone result (self.new ≡ self.old) }
+    {
+        let tail = behind(behind(self.rest, b' ')?, letter)?;
+        let (n, rest) = front_number(tail)?;
+        if !ends_word(rest) {
+            return None;
+        }
+        self.rest = rest;
+        Some(n)
+    }
+
     // Whether no word is left.
     pub(crate) fn is_empty(&self) -> bool
         ensures { result ≡ (length self.now == 0) }
@@ -79,6 +124,39 @@ pub(crate) fn split_words(line: &[u8]) -> (&[u8], Words<'_>)
 {
     let len = run_len(line, b' ');
     (&line[..len], Words { rest: &line[len..] })
+}
+
+// What stands behind this byte in front.
+fn behind(bytes: &[u8], first: u8) -> Option<&[u8]>
+    ensures { IfSome result (λ tail. bytes.now ≡ first ∷ tail.now) }
+{
+    match bytes {
+        [b, tail @ ..] => { if *b == first { Some(tail) } else { None } }
+        [] => None,
+    }
+}
+
+// Whether a word that stands before these bytes ends there.
+fn ends_word(rest: &[u8]) -> bool
+    ensures { result ≡ is_word_end rest.now }
+{
+    match rest {
+        [] => true,
+        [b, ..] => *b == b' ',
+    }
+}
+
+// The words after the number n with which a line begins. None says nothing of the line.
+#[tactic(auto, using(crate::proofs::Fronts::line_first))]
+pub(crate) fn after_short(line: &[u8], n: usize) -> Option<Words<'_>>
+    ensures { IfSome result (λ ws. pieces 32 line.now ≡ natural_text n ∷ ws) }
+{
+    let (m, rest) = front_number(line)?;
+    if m as usize == n && ends_word(rest) {
+        Some(Words { rest })
+    } else {
+        None
+    }
 }
 
 // Whether these are the same bytes. They are compared one by one, since words are short.

@@ -1,5 +1,6 @@
 -- The words of entries.
-use Rattle.std.specs.Prelude.{ℕ, codes}
+use Rattle.std.specs.Prelude.{ℕ, List, Option, Some, None, codes, if◌then◌else◌}
+use Rattle.std.specs.Str.{bytes_eq}
 use Rattle.rx_rules.specs.declared.entries.Act.{Act}
 use Rattle.rx_rules.specs.declared.entries.Act.TheVariants.{Open, At, Spawn, Arrive, Wait, Release, End, Print, Census}
 use Rattle.rx_rules.specs.declared.entries.Entry.{Entry}
@@ -68,6 +69,35 @@ join_at places = followed (place_at places) (λ place. done (Join place))
 -- a release by the host or by a task
 abbrev pub release_or_root_at : ℕ → Reader Entry
 release_or_root_at places = either (codes "host") (root_at places) (step_at (release_at places))
+
+-- the kind of act that a word names
+abbrev pub kind_named : List ℕ → Option Kind
+kind_named w =
+    if bytes_eq w (codes "spawn") then Some kinds.Spawn else (
+    if bytes_eq w (codes "arrive") then Some kinds.Arrive else (
+    if bytes_eq w (codes "end") then Some kinds.End else (
+    if bytes_eq w (codes "open") then Some kinds.Open else (
+    if bytes_eq w (codes "at") then Some kinds.At else (
+    if bytes_eq w (codes "wait") then Some kinds.Wait else (
+    if bytes_eq w (codes "release") then Some kinds.Release else (
+    if bytes_eq w (codes "print") then Some kinds.Print else (
+    if bytes_eq w (codes "census") then Some kinds.Census else None))))))))
+
+-- the entry of an act of this kind
+abbrev pub acted_at : ℕ → Kind → Reader Entry
+acted_at places kinds.Open = step_at open_at
+acted_at places kinds.At = step_at (at_at places)
+acted_at places kinds.Spawn = step_at (spawn_at places)
+acted_at places kinds.Arrive = step_at (arrive_at places)
+acted_at places kinds.Wait = step_at (wait_at places)
+acted_at places kinds.Release = release_or_root_at places
+acted_at places kinds.End = step_at (end_at places)
+acted_at places kinds.Print = step_at print_at
+acted_at places kinds.Census = step_at census_at
+
+-- the entry of a death or of a join
+abbrev pub changed_at : ℕ → Reader Entry
+changed_at places = either (codes "death") (death_at places) (keyed (codes "join") (join_at places))
 
 -- the words of an entry after its number
 abbrev pub entry_at : ℕ → Reader Entry

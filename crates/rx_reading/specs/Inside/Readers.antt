@@ -1,6 +1,11 @@
 -- Readers of the words of a line, and how they are put together.
-use Rattle.std.specs.Prelude.{ℕ, List, [], ◌∷◌, Option, Some, None, option_map, if◌then◌else◌}
+use Rattle.std.specs.Prelude.{ℕ, Bool, true, ◌==◌, List, [], ◌∷◌, Option, Some, None, option_map, if◌then◌else◌}
 use Rattle.std.specs.Str.{bytes_eq}
+
+-- whether a word that stands before these bytes ends there: nothing stands there, or a blank
+abbrev pub is_word_end : List ℕ → Bool
+is_word_end [] = true
+is_word_end (b ∷ bs) = b == 32
 
 -- the value and the words that are left after it
 abbrev pub Reader : Type 0 → Type 0
@@ -27,6 +32,11 @@ word of (w ∷ ws) = option_map (λ a. (a, ws)) (of w)
 abbrev pub keyed : {A : Type 0} → List ℕ → Reader A → Reader A
 keyed key r [] = None
 keyed key r (w ∷ ws) = if bytes_eq w key then r ws else None
+
+-- the words behind this one
+abbrev pub behind : List ℕ → List (List ℕ) → Option (List (List ℕ))
+behind key [] = None
+behind key (w ∷ ws) = if bytes_eq w key then Some ws else None
 
 -- the reader after this word, and where it is another word the other reader
 abbrev pub either : {A : Type 0} → List ℕ → Reader A → Reader A → Reader A

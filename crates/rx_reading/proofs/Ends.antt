@@ -15,16 +15,16 @@ use Rattle.rx_rules.specs.declared.entries.Entry.{Entry}
 use Rattle.rx_rules.specs.declared.events.PlaceEvent.{PlaceEvent}
 use Rattle.rx_rules.specs.Run.{Given}
 use Rattle.rx_reading.specs.Limits.{IsWithin}
-use Rattle.rx_reading.specs.Inside.FieldWords.{next, number_below, number_of, number_at}
+use Rattle.rx_fields.specs.Inside.FieldWords.{next, number_below, number_of, number_at}
 use Rattle.rx_history.specs.KillOrder.{is_before}
 use Rattle.rx_reading.specs.Inside.Machine.{ReadingState, Over, may_follow, joins_of, is_there, all_there, read_line}
 use Rattle.rx_reading.specs.Reading.{IsBadLine}
 use Rattle.rx_reading.specs.Inside.Stages.{state_of}
-use Rattle.rx_reading.specs.Words.{Lacks, first_word}
+use Rattle.rx_fields.specs.Words.{Lacks, first_word}
 use Rattle.rx_reading.specs.declared.stage.Stage.{Stage}
 use Rattle.rx_reading.specs.declared.stage.Stage.TheVariants as stages
-use Rattle.rx_reading.proofs.Figures.{number-takes}
-use Rattle.rx_reading.proofs.Joining.{push-through}
+use Rattle.rx_fields.proofs.Figures.{number-takes}
+use Rattle.rx_fields.proofs.Joining.{push-through}
 use Rattle.rx_reading.proofs.Places.{HasRead, IsOpen, ended-more, read-more, read-all, bad-here, bad-end}
 use Rattle.rx_reading.proofs.Plans.{after-is}
 use Rattle.rx_reading.proofs.States.{ended}

@@ -17,15 +17,15 @@ use Rattle.rx_trace.specs.EntryLines.{act_word, act_fields, entry_text}
 use Rattle.rx_trace.specs.Fields.{natural_field, number_field, path_field, place_field, task_field, scope_field, fault_field}
 use Rattle.rx_trace.specs.Parts.{lost_part, masked_part, thrown_part, batch_part}
 use Rattle.rx_reading.specs.Limits.{IsShort, FitsPath, FitsFault, FitsAct, FitsEntry}
-use Rattle.rx_reading.specs.Words.{fields}
-use Rattle.rx_reading.specs.Inside.Readers.{Reader, followed, done, either}
-use Rattle.rx_reading.specs.Inside.FieldWords.{number_below, number_of, place_of, task_spelt, scope_spelt, path_of, fault_of, count_of, number_at, place_at, task_at, scope_at, path_at, count_at}
-use Rattle.rx_reading.specs.Inside.PartWords.{lost_read, masked_read, thrown_at, batch_at, nested_at, way_at, outcome_at}
+use Rattle.rx_fields.specs.Words.{fields}
+use Rattle.rx_fields.specs.Inside.Readers.{Reader, followed, done, either}
+use Rattle.rx_fields.specs.Inside.FieldWords.{number_below, number_of, place_of, task_spelt, scope_spelt, path_of, fault_of, count_of, number_at, place_at, task_at, scope_at, path_at, count_at}
+use Rattle.rx_fields.specs.Inside.PartWords.{lost_read, masked_read, thrown_at, batch_at, nested_at, way_at, outcome_at}
 use Rattle.rx_reading.specs.Inside.EntryWords.{open_at, at_at, spawn_at, arrive_at, wait_at, release_at, end_at, print_at, census_at, step_at, root_at, death_at, join_at, entry_at}
-use Rattle.rx_reading.proofs.Cuts.{Plain, all-map}
+use Rattle.rx_fields.proofs.Cuts.{Plain, all-map}
 use Rattle.rx_reading.proofs.Faults.{plain-word-is, fault-item, fault-takes}
 use Rattle.rx_reading.proofs.Fields.{place-item, place-takes, task-item, task-takes, scope-item, scope-takes, path-item, path-takes, value-item, value-takes, IsCount, count-item, count-takes, one-word, word-again}
-use Rattle.rx_reading.proofs.Figures.{no-number}
+use Rattle.rx_fields.proofs.Figures.{no-number}
 use Rattle.rx_reading.proofs.Losses.{lost-takes, lost-again}
 use Rattle.rx_reading.proofs.Masks.{masked-take, Unmasked, masked-again}
 use Rattle.rx_reading.proofs.Spelt.{Takes, takes-done, takes-followed, takes-keyed, takes-either, takes-part, Again, Any, again-as, again-done, again-keyed, again-kind, again-there, again-followed, before-followed, again-field, NotFirst, Item, AfterPart, Starts, AgainPart, again-part, again-last}

@@ -17,14 +17,14 @@ use Rattle.rx_text.proofs.Digits.{all-digits, digit-first, some-decimal}
 use Rattle.rx_trace.specs.EventLines.{call_text, answer_text, event_text}
 use Rattle.rx_trace.specs.Fields.{natural_field, number_field, path_field, task_field, block_field}
 use Rattle.rx_reading.specs.Limits.{IsShort, FitsPath, FitsBlock, FitsCell, FitsEvent}
-use Rattle.rx_reading.specs.Words.{fields}
-use Rattle.rx_reading.specs.Inside.Readers.{Reader, after, done, keyed}
-use Rattle.rx_reading.specs.Inside.FieldWords.{next, natural_of, task_spelt, natural_at, number_at, path_at, block_at}
+use Rattle.rx_fields.specs.Words.{fields}
+use Rattle.rx_fields.specs.Inside.Readers.{Reader, after, done, keyed}
+use Rattle.rx_fields.specs.Inside.FieldWords.{next, natural_of, task_spelt, natural_at, number_at, path_at, block_at}
 use Rattle.rx_reading.specs.Inside.EventWords.{made_at, make_at, got_at, get_at, written_at, put_at, forgotten_at, forget_at, cell_at, done_at, close_at, event_from, event_at}
-use Rattle.rx_reading.proofs.Cuts.{Plain}
+use Rattle.rx_fields.proofs.Cuts.{Plain}
 use Rattle.rx_reading.proofs.Faults.{plain-word-is}
 use Rattle.rx_reading.proofs.Fields.{natural-item, natural-takes, task-item, task-takes, one-word, word-again}
-use Rattle.rx_reading.proofs.Figures.{natural-plain, below-again}
+use Rattle.rx_fields.proofs.Figures.{natural-plain, below-again}
 use Rattle.rx_reading.proofs.Entries.{Told, path-one, value-one, path-again, value-again}
 use Rattle.rx_reading.proofs.Spelt.{Read, Takes, takes-done, takes-followed, takes-keyed, takes-either, Again, Any, again-as, again-done, again-keyed, again-kind, again-field}
 

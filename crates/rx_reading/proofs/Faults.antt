@@ -10,10 +10,10 @@ use Rattle.rx_base.specs.declared.values.Fault.TheVariants.{Dead, Thrown, Overfl
 use Rattle.rx_text.specs.Numbers.{natural_text, number_text}
 use Rattle.rx_trace.specs.Fields.{fault_field}
 use Rattle.rx_reading.specs.Limits.{FitsFault}
-use Rattle.rx_reading.specs.Words.{stripped}
-use Rattle.rx_reading.specs.Inside.FieldWords.{next, or_else, place_of, number_of, plain_fault, dead_of, fault_spelt, fault_of}
-use Rattle.rx_reading.proofs.Cuts.{IsPlain, Plain, all-append, stripped-is, stripped-again, bytes-same}
-use Rattle.rx_reading.proofs.Figures.{number-takes, number-again, number-plain, natural-plain}
+use Rattle.rx_fields.specs.Words.{stripped}
+use Rattle.rx_fields.specs.Inside.FieldWords.{next, or_else, place_of, number_of, plain_fault, dead_of, fault_spelt, fault_of}
+use Rattle.rx_fields.proofs.Cuts.{IsPlain, Plain, all-append, stripped-is, stripped-again, bytes-same}
+use Rattle.rx_fields.proofs.Figures.{number-takes, number-again, number-plain, natural-plain}
 use Rattle.rx_reading.proofs.Fields.{next-is, map-is, place-again, place-takes}
 use Rattle.rx_reading.proofs.Spelt.{Item}
 

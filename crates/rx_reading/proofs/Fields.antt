@@ -14,13 +14,13 @@ use Rattle.rx_text.specs.Numbers.{natural_text, number_text}
 use Rattle.rx_text.specs.Paths.{path_text, dotted}
 use Rattle.rx_trace.specs.Fields.{natural_field, number_field, path_field, place_field, task_field, scope_field, kill_field}
 use Rattle.rx_reading.specs.Limits.{IsShort, FitsPath}
-use Rattle.rx_reading.specs.Words.{Lacks, pieces, stripped}
-use Rattle.rx_reading.specs.Inside.Readers.{word}
+use Rattle.rx_fields.specs.Words.{Lacks, pieces, stripped}
+use Rattle.rx_fields.specs.Inside.Readers.{word}
 use Rattle.rx_kills.specs.Words.{IsKillWord}
 use Rattle.rx_kills.proofs.Spelling.{spelling}
-use Rattle.rx_reading.specs.Inside.FieldWords.{next, number_below, number_of, natural_of, place_of, task_spelt, scope_spelt, naturals_of, path_of, kill_of, above_zero, count_of, masked_of}
-use Rattle.rx_reading.proofs.Cuts.{IsPlain, Plain, Together, marked, all-append, all-map, pieces-marked, pieces-together, stripped-is, stripped-again}
-use Rattle.rx_reading.proofs.Figures.{IsFigure, below-takes, below-again, number-takes, number-again, number-plain, natural-plain, natural-figures}
+use Rattle.rx_fields.specs.Inside.FieldWords.{next, number_below, number_of, natural_of, place_of, task_spelt, scope_spelt, naturals_of, path_of, kill_of, above_zero, count_of, masked_of}
+use Rattle.rx_fields.proofs.Cuts.{IsPlain, Plain, Together, marked, all-append, all-map, pieces-marked, pieces-together, stripped-is, stripped-again}
+use Rattle.rx_fields.proofs.Figures.{IsFigure, below-takes, below-again, number-takes, number-again, number-plain, natural-plain, natural-figures}
 use Rattle.rx_reading.proofs.Spelt.{Takes, takes-word, Again, Any, again-word, again-as, Item}
 
 -- an answer of two steps

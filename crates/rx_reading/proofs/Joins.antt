@@ -11,13 +11,13 @@ use Rattle.rx_base.proofs.Elements.{get-within, rest-is}
 use Rattle.rx_rules.specs.Run.{Given, in_all, AreKills, AreJoins}
 use Rattle.rx_text.specs.Numbers.{natural_text}
 use Rattle.rx_trace.specs.Fields.{natural_field}
-use Rattle.rx_reading.specs.Words.{Lacks, pieces, fields}
-use Rattle.rx_reading.specs.Inside.FieldWords.{next, number_below}
+use Rattle.rx_fields.specs.Words.{Lacks, pieces, fields}
+use Rattle.rx_fields.specs.Inside.FieldWords.{next, number_below}
 use Rattle.rx_reading.specs.Inside.Machine.{joins_of, has_joined, is_there, all_there, joins_line_of}
-use Rattle.rx_reading.proofs.Cuts.{Plain, bytes-same}
+use Rattle.rx_fields.proofs.Cuts.{Plain, bytes-same}
 use Rattle.rx_reading.proofs.Faults.{plain-word-is}
 use Rattle.rx_reading.proofs.Fields.{next-is, map-is}
-use Rattle.rx_reading.proofs.Figures.{below-takes, below-again, natural-plain}
+use Rattle.rx_fields.proofs.Figures.{below-takes, below-again, natural-plain}
 use Rattle.rx_reading.proofs.Plans.{InTurn}
 use Rattle.rx_reading.proofs.Wholes.{cut-line, fields-lack, LineAgain, words-of-line}
 

@@ -1,6 +1,4 @@
-pub mod Cuts
 pub mod Spelt
-pub mod Figures
 pub mod Fields
 pub mod Faults
 pub mod Losses
@@ -12,15 +10,7 @@ pub mod Plans
 pub mod Joins
 pub mod States
 pub mod Places
-pub mod Taken
-pub mod Scanned
-pub mod Stripped
-pub mod Taking
-pub mod Joining
 pub mod Ends
-pub mod Known
-pub mod Digit
-pub mod Same
-pub mod Fronts
 pub mod Naming
+pub mod Numbered
 pub mod Told

@@ -1,13 +1,10 @@
 -- The places that lost tasks, in ascending order.
-use Rattle.std.proofs.Common.{◌≡◌, ℕ, ◌+◌, ◌-◌, ◌*◌, ◌<◌, ◌≤◌, ◌^◌, Bool, true, false, cond, ◌==◌, ◌||◌, nat_lt, List, [], ◌∷◌, ◌++◌, zero, suc, refl, ap, sym, ◌∙◌, subst, arith, append-nil, append_assoc}
+use Rattle.std.proofs.Common.{◌≡◌, ℕ, ◌+◌, ◌<◌, ◌≤◌, ◌^◌, Bool, true, false, cond, ◌==◌, nat_lt, List, [], ◌∷◌, ◌++◌, zero, suc, refl, ap, sym, ◌∙◌, subst, arith, append-nil, append_assoc}
 use Rattle.std.specs.Prelude.{◌≢◌, Option, Some, None, codes, filter}
-use Rattle.std.specs.Int.{bit_at}
 use Rattle.std.specs.List.{AllByRecursion, flat_map}
 use Rattle.std.specs.Str.{bytes_eq}
-use Rattle.std.proofs.Math.Nat.{pow-le-pow_right}
 use Rattle.std.proofs.lemmas.Bool.{eqb-true, eq-eqb, ltb-true, ltb-false, lt-ltb}
 use Rattle.std.proofs.lemmas.Nat.{pow_pos}
-use Rattle.std.proofs.lemmas.Nat.Bits.{bit_at-suc, bit_at-zero, bit_at_cat_low, bit_at_cat_high, bit_at_above}
 use Rattle.std.proofs.lemmas.Option.{same_Some, none-some}
 use Rattle.rx_base.specs.declared.ids.PlaceId.{PlaceId}
 use Rattle.rx_base.specs.declared.place_set.PlaceSet.{PlaceSet}
@@ -18,67 +15,21 @@ use Rattle.rx_trace.specs.Fields.{natural_field}
 use Rattle.rx_trace.specs.Parts.{lost_part}
 use Rattle.rx_trace.proofs.Lines.{part-some}
 use Rattle.rx_trace.proofs.Places.{some-member}
-use Rattle.rx_reading.specs.Words.{fields}
-use Rattle.rx_reading.specs.Inside.FieldWords.{place_of}
-use Rattle.rx_reading.specs.Inside.Readers.{done}
-use Rattle.rx_reading.specs.Inside.PartWords.{set_of, place_joined, places_at, some_place, lost_read}
-use Rattle.rx_reading.proofs.Cuts.{Plain, bytes-same}
+use Rattle.rx_fields.specs.Words.{fields}
+use Rattle.rx_fields.specs.Inside.FieldWords.{place_of}
+use Rattle.rx_fields.specs.Inside.Readers.{done}
+use Rattle.rx_fields.specs.Inside.PartWords.{set_of, place_joined, places_at, some_place, lost_read}
+use Rattle.rx_fields.proofs.Bits.{pow-le, bit-same, bit-below, bit-above, bit-high, joined-low}
+use Rattle.rx_fields.proofs.Cuts.{Plain, bytes-same}
 use Rattle.rx_reading.proofs.Faults.{plain-word-is}
 use Rattle.rx_reading.proofs.Fields.{place-takes, place-again}
-use Rattle.rx_reading.proofs.Figures.{natural-plain}
+use Rattle.rx_fields.proofs.Figures.{natural-plain}
 use Rattle.rx_reading.proofs.Spelt.{Read, Takes, takes-done, behind, Again, AfterPart, NoItem}
-
-pow-le : (p q : ℕ) → p ≤ q → 2 ^ p ≤ 2 ^ q
-pow-le p q h = pow-le-pow_right {n = 2} (omega arith) h
 
 -- the numbers a, a + 1, .., of which there are k
 abbrev span : ℕ → ℕ → List ℕ
 span a zero = []
 span a (suc k) = a ∷ span (suc a) k
-
--- a bit more
-bit-one : (i : ℕ) → bit_at 1 (suc i) ≡ 0
-bit-one i = bit_at-suc 1 i ∙ bit_at-zero i
-
-power-on : (m p : ℕ) → m + 2 ^ p ≡ 1 * 2 ^ p + m
-power-on m p = omega arith
-
-bit-same : (m p : ℕ) → m < 2 ^ p → has_bit (m + 2 ^ p) p ≡ true
-bit-same m p low =
-    let gap : p - p ≡ 0 = omega arith in
-    let is : bit_at (m + 2 ^ p) p ≡ 1 = ap (λ n. bit_at n p) (power-on m p) ∙ bit_at_cat_high 1 p m p low (omega arith) ∙ ap (bit_at 1) gap in
-    eq-eqb _ 1 is
-
-bit-below : (m p i : ℕ) → i < p → has_bit (m + 2 ^ p) i ≡ has_bit m i
-bit-below m p i below = ap (λ b. b == 1) (ap (λ n. bit_at n i) (power-on m p) ∙ bit_at_cat_low 1 p m i below)
-
-bit-above : (m p i : ℕ) → m < 2 ^ p → p < i → has_bit (m + 2 ^ p) i ≡ false
-bit-above m p i low above =
-    let gap : i - p ≡ suc (i - p - 1) = omega arith in
-    ap (λ b. b == 1) (ap (λ n. bit_at n i) (power-on m p) ∙ bit_at_cat_high 1 p m i low (omega arith) ∙ ap (bit_at 1) gap ∙ bit-one (i - p - 1))
-
-bit-high : (m p i : ℕ) → m < 2 ^ p → p ≤ i → has_bit m i ≡ false
-bit-high m p i low above = ap (λ b. b == 1) (bit_at_above m p i low above)
-
--- each bit of a set that a place above all others joined
-pub joined-bit : (m p i : ℕ) → m < 2 ^ p → has_bit (m + 2 ^ p) i ≡ (has_bit m i || (p == i))
-joined-bit m p i low = by (p == i) refl
-  where
-    or-false : (b : Bool) → b ≡ (b || false)
-    or-false true = refl
-    or-false false = refl
-
-    or-true : (b : Bool) → true ≡ (b || true)
-    or-true true = refl
-    or-true false = refl
-
-    side : (b : Bool) → nat_lt i p ≡ b → (p ≡ i → ⊥) → has_bit (m + 2 ^ p) i ≡ has_bit m i
-    side true h apart = bit-below m p i (ltb-true i p h)
-    side false h apart = let at : p ≤ i = ltb-false i p h in let over : p < i = omega (arith, apart) in bit-above m p i low over ∙ sym (bit-high m p i low at)
-
-    by : (b : Bool) → (p == i) ≡ b → has_bit (m + 2 ^ p) i ≡ (has_bit m i || b)
-    by true e = ap (has_bit (m + 2 ^ p)) (sym (eqb-true p i e)) ∙ bit-same m p low ∙ or-true (has_bit m i)
-    by false e = side (nat_lt i p) refl (λ h. (let t : (p == i) ≡ true = eq-eqb p i h in cc)) ∙ or-false (has_bit m i)
 
 none-pass : (f : ℕ → Bool) (a k : ℕ) → ((i : ℕ) → a ≤ i → f i ≡ false) → filter f (span a k) ≡ []
 none-pass f a zero h = refl
@@ -113,13 +64,6 @@ pub members-joined : (m p : ℕ) → m < 2 ^ p → p < 16 → members (set_of (m
 members-joined m p low few =
     one-more (has_bit m) (has_bit (m + 2 ^ p)) p 0 16 (omega arith) (omega arith) (bit-same m p low)
     (λ i below. bit-below m p i below) (λ i above. bit-above m p i low above) (λ i above. bit-high m p i low above)
-
-pub joined-low : (m p places : ℕ) → m < 2 ^ p → p < places → m + 2 ^ p < 2 ^ places
-joined-low m p places low below = by places below
-  where
-    by : (q : ℕ) → p < q → m + 2 ^ p < 2 ^ q
-    by zero h = absurd (omega arith)
-    by (suc q) h = let least : 2 ^ p ≤ 2 ^ q = pow-le p q (omega arith) in omega arith
 
 flat-push : (xs : List ℕ) (x : ℕ) → flat_map natural_field (xs ++ x ∷ []) ≡ flat_map natural_field xs ++ natural_field x
 flat-push [] x = append-nil (natural_field x)

@@ -7,10 +7,10 @@ use Rattle.rx_base.proofs.Elements.{same-bytes}
 use Rattle.rx_trace.specs.Fields.{natural_field}
 use Rattle.rx_trace.specs.Parts.{masked_part}
 use Rattle.rx_reading.specs.Limits.{IsShort}
-use Rattle.rx_reading.specs.Inside.FieldWords.{masked_of}
-use Rattle.rx_reading.specs.Inside.Readers.{word}
-use Rattle.rx_reading.specs.Inside.PartWords.{masked_read}
-use Rattle.rx_reading.proofs.Cuts.{bytes-same}
+use Rattle.rx_fields.specs.Inside.FieldWords.{masked_of}
+use Rattle.rx_fields.specs.Inside.Readers.{word}
+use Rattle.rx_fields.specs.Inside.PartWords.{masked_read}
+use Rattle.rx_fields.proofs.Cuts.{bytes-same}
 use Rattle.rx_reading.proofs.Faults.{plain-word-is}
 use Rattle.rx_reading.proofs.Fields.{masked-takes, masked-item, word-again}
 use Rattle.rx_reading.proofs.Spelt.{Read, Takes, takes-done, takes-word, behind, AgainPart}

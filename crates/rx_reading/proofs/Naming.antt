@@ -6,9 +6,9 @@ use Rattle.std.proofs.lemmas.Option.{same_Some, none-some}
 use Rattle.rx_rules.specs.declared.entries.Entry.{Entry}
 use Rattle.rx_reading.specs.declared.acts.Kind.{Kind}
 use Rattle.rx_reading.specs.declared.acts.Kind.TheVariants.{Open, At, Spawn, Arrive, Wait, Release, End, Print, Census}
-use Rattle.rx_reading.specs.Words.{first_word}
+use Rattle.rx_fields.specs.Words.{first_word}
 use Rattle.rx_reading.specs.Inside.EntryWords.{act_at, step_at, acted_at, changed_at, kind_named, entry_at}
-use Rattle.rx_reading.proofs.Cuts.{bytes-same}
+use Rattle.rx_fields.proofs.Cuts.{bytes-same}
 
 abbrev pub by_kind : ℕ → Option Kind → List ℕ → List (List ℕ) → Option (Entry × List (List ℕ))
 by_kind places None w ws = changed_at places (w ∷ ws)

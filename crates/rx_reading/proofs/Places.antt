@@ -20,8 +20,8 @@ use Rattle.rx_trace.specs.Text.{trace_text}
 use Rattle.rx_reading.specs.Limits.{FitsEntry, FitsEvent, FitJournals, FitsSetup, IsWithin}
 use Rattle.rx_reading.specs.Inside.Machine.{ReadingState, Untitled, Titled, Sized, Listed, Planned, Entering, Logging, Over, begins_journal, entry_of, event_line_of, state_with_sizes, read_line}
 use Rattle.rx_reading.specs.Reading.{IsText, BeginsText, IsLine, AreLines, IsBadLine, TextsTellThePair, TextsHaveNoBadLine}
-use Rattle.rx_reading.specs.Words.{Lacks}
-use Rattle.rx_reading.proofs.Cuts.{IsPlain, bytes-same, all-append, all-map}
+use Rattle.rx_fields.specs.Words.{Lacks}
+use Rattle.rx_fields.proofs.Cuts.{IsPlain, bytes-same, all-append, all-map}
 use Rattle.rx_reading.proofs.Plans.{sizes_text, sizes-again, kills-line-again}
 use Rattle.rx_reading.proofs.Joins.{joins-line-again, are-kills, in-turn, are-there, at_once, once-many, once-rising, once-early, once-there}
 use Rattle.rx_reading.proofs.States.{state_text, SoFar, FitEntries, ended, stepped, over-is-text, journals-fit-end}

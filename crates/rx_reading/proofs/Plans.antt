@@ -11,13 +11,13 @@ use Rattle.rx_base.proofs.Elements.{flat4, rest-is}
 use Rattle.rx_rules.specs.Run.{ComesAfter, Spares, Ascends}
 use Rattle.rx_rules.proofs.Kills.{further}
 use Rattle.rx_trace.specs.Fields.{natural_field, kill_field}
-use Rattle.rx_reading.specs.Words.{Lacks, pieces, fields}
-use Rattle.rx_reading.specs.Inside.Readers.{all_read}
+use Rattle.rx_fields.specs.Words.{Lacks, pieces, fields}
+use Rattle.rx_fields.specs.Inside.Readers.{all_read}
 use Rattle.rx_history.specs.KillOrder.{is_before}
 use Rattle.rx_history.proofs.InOrder.{before-Decides}
-use Rattle.rx_reading.specs.Inside.FieldWords.{kill_of, count_of, count_at}
+use Rattle.rx_fields.specs.Inside.FieldWords.{kill_of, count_of, count_at}
 use Rattle.rx_reading.specs.Inside.Machine.{sizes_at, may_follow, planned, kills_of, kills_line_of}
-use Rattle.rx_reading.proofs.Cuts.{Plain, bytes-same}
+use Rattle.rx_fields.proofs.Cuts.{Plain, bytes-same}
 use Rattle.rx_reading.proofs.Faults.{plain-word-is}
 use Rattle.rx_reading.proofs.Fields.{IsCount, count-takes, count-item, kill-takes, kill-item, one-word, word-again}
 use Rattle.rx_reading.proofs.Spelt.{Takes, takes-done, takes-followed, takes-keyed, Any, again-as, again-done, again-keyed, again-field}

@@ -6,9 +6,9 @@ use Rattle.std.specs.Str.{bytes_eq}
 use Rattle.std.proofs.lemmas.Option.{same_Some, none-some}
 use Rattle.rx_base.proofs.Elements.{same-bytes}
 use Rattle.rx_trace.specs.Parts.{part_text}
-use Rattle.rx_reading.specs.Words.{fields}
-use Rattle.rx_reading.specs.Inside.Readers.{Reader, after, followed, done, word, keyed, either, gathered, many, one_or_more, part, all_read}
-use Rattle.rx_reading.proofs.Cuts.{Plain, all-append, bytes-same}
+use Rattle.rx_fields.specs.Words.{fields}
+use Rattle.rx_fields.specs.Inside.Readers.{Reader, after, followed, done, word, keyed, either, gathered, many, one_or_more, part, all_read}
+use Rattle.rx_fields.proofs.Cuts.{Plain, all-append, bytes-same}
 
 pub fields-append : (vs ws : List (List ℕ)) → fields (vs ++ ws) ≡ fields vs ++ fields ws
 fields-append [] ws = refl

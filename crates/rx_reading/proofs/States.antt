@@ -15,10 +15,10 @@ use Rattle.rx_trace.specs.EventLines.{event_text, event_line, event_lines, journ
 use Rattle.rx_trace.specs.Fields.{natural_field}
 use Rattle.rx_trace.specs.Text.{sizes_line, kills_line, joins_line, setup_lines, trace_text}
 use Rattle.rx_reading.specs.Limits.{FitsEntry, FitsEvent, FitJournals, FitsSetup, IsWithin}
-use Rattle.rx_reading.specs.Inside.Readers.{all_read}
-use Rattle.rx_reading.specs.Words.{pieces}
+use Rattle.rx_fields.specs.Inside.Readers.{all_read}
+use Rattle.rx_fields.specs.Words.{pieces}
 use Rattle.rx_reading.specs.Inside.Machine.{ReadingState, Untitled, Titled, Sized, Listed, Planned, Entering, Logging, Over, sizes_at, kills_line_of, joins_line_of, entry_of, event_line_of, begins_journal, state_with_sizes, read_line}
-use Rattle.rx_reading.proofs.Cuts.{bytes-same, all-append}
+use Rattle.rx_fields.proofs.Cuts.{bytes-same, all-append}
 use Rattle.rx_reading.proofs.Fields.{IsCount, map-is}
 use Rattle.rx_reading.proofs.Plans.{sizes-take, Moments, InTurn, kills-take}
 use Rattle.rx_reading.proofs.Joins.{JoinsLine, joins-take, are-kills}

@@ -1,11 +1,16 @@
 -- Lines that have to be entries or events.
-use Rattle.std.proofs.Common.{◌≡◌, ℕ, ◌+◌, ◌==◌, Bool, true, false, nat_lt, not, ◌&&◌, List, length, refl}
+use Rattle.std.proofs.Common.{◌≡◌, ℕ, ◌+◌, ◌==◌, Bool, true, false, nat_lt, not, ◌&&◌, List, [], ◌∷◌, ◌++◌, length, slice_index, refl, ap}
 use Rattle.std.specs.Prelude.{codes}
 use Rattle.std.specs.Str.{bytes_eq}
 use Rattle.rx_rules.specs.declared.entries.Entry.{Entry}
 use Rattle.rx_rules.specs.declared.events.PlaceEvent.{PlaceEvent}
 use Rattle.rx_rules.specs.Run.{Given, in_all}
 use Rattle.rx_reading.specs.Inside.Machine.{Entering, Logging, begins_journal, told_there}
+
+-- a line that does not begin with the letter j begins no journal
+pub no_journal : (line text : List ℕ) → (slice_index line 0 == 106) ≡ false → bytes_eq line (codes "journal " ++ text) ≡ false
+no_journal [] text other = refl
+no_journal (b ∷ bs) text other = ap (λ t. t && bytes_eq bs (codes "ournal " ++ text)) other
 
 neither : (a b : Bool) → (not a && not b) ≡ true → (a ≡ false) × (b ≡ false)
 neither true b h = cc

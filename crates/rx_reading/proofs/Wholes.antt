@@ -11,16 +11,16 @@ use Rattle.rx_text.specs.Numbers.{natural_text}
 use Rattle.rx_trace.specs.EntryLines.{entry_text}
 use Rattle.rx_trace.specs.EventLines.{event_text}
 use Rattle.rx_reading.specs.Limits.{FitsEntry, FitsEvent}
-use Rattle.rx_reading.specs.Words.{Lacks, pieces, fields}
-use Rattle.rx_reading.specs.Inside.Readers.{Reader, keyed, all_read}
+use Rattle.rx_fields.specs.Words.{Lacks, pieces, fields}
+use Rattle.rx_fields.specs.Inside.Readers.{Reader, keyed, all_read}
 use Rattle.rx_reading.specs.Inside.EntryWords.{entry_at}
 use Rattle.rx_reading.specs.Inside.EventWords.{event_at}
 use Rattle.rx_reading.specs.Inside.Machine.{entry_of, event_line_of}
 use Rattle.rx_text.proofs.Digits.{digits-all}
-use Rattle.rx_reading.proofs.Cuts.{IsPlain, Plain, all-append, all-map, marked-together, pieces-marked, pieces-together}
+use Rattle.rx_fields.proofs.Cuts.{IsPlain, Plain, all-append, all-map, marked-together, pieces-marked, pieces-together}
 use Rattle.rx_reading.proofs.Entries.{IsEnd, entry-takes, entry-again}
 use Rattle.rx_reading.proofs.Events.{event-takes, event-again}
-use Rattle.rx_reading.proofs.Figures.{digits-plain, IsFigure}
+use Rattle.rx_fields.proofs.Figures.{digits-plain, IsFigure}
 use Rattle.rx_reading.proofs.Spelt.{Takes, takes-keyed, whole-read, Again, Any, again-keyed}
 
 -- a line is its words, each after a blank, but for the first blank

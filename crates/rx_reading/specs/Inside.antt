@@ -1,7 +1,4 @@
 -- What contracts of private functions say; a reader of the public contracts needs none of it.
-pub mod Readers
-pub mod FieldWords
-pub mod PartWords
 pub mod EntryWords
 pub mod EventWords
 pub mod Machine

@@ -5,7 +5,7 @@ use Rattle.rx_rules.specs.declared.events.PlaceEvent.{PlaceEvent}
 use Rattle.rx_rules.specs.Run.{Given}
 use Rattle.rx_trace.specs.Text.{trace_text}
 use Rattle.rx_reading.specs.Limits.{IsWithin}
-use Rattle.rx_reading.specs.Words.{Lacks}
+use Rattle.rx_fields.specs.Words.{Lacks}
 
 -- the bytes are the text of some pair within the limits
 abbrev pub IsText : List ℕ → Type 0

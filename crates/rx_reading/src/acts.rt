@@ -1,15 +1,14 @@
 // What an entry of a task tells of it, after the task.
 ghost use Rattle.std.specs.Prelude.{◌≡◌, ◌≤◌, codes, IfOk};
-ghost use Rattle.rx_reading.specs.Words.{answer_left};
+ghost use Rattle.rx_fields.specs.Words.{answer_left};
 ghost use Rattle.rx_reading.specs.Inside.EntryWords.{open_at, at_at, spawn_at, wait_at, release_at, print_at};
 ghost use Rattle.rx_reading.specs.Inside.EntryWords.{census_at, act_at};
 
-use crate::parts::{
-    count_field, keyword, nested_scope, number_field, outcome_part, path_field, place_field,
+use rx_base::NoMemory;
+use rx_fields::{
+    Words, count_field, keyword, nested_scope, number_field, outcome_part, path_field, place_field,
     scope_field, task_field, thrown_part, way_field,
 };
-use crate::words::Words;
-use rx_base::NoMemory;
 use rx_history::Act;
 use std::alloc::Global;
 

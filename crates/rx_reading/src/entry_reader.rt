@@ -1,12 +1,12 @@
 // The words of an entry.
 ghost use Rattle.std.specs.Prelude.{◌≡◌, ◌≤◌, ◌∷◌, codes, IfOk};
-ghost use Rattle.rx_reading.specs.Words.{answer_left};
-ghost use Rattle.rx_reading.specs.Inside.EntryWords.{act_at, step_at, acted_at, changed_at, kind_named, release_or_root_at, root_at, death_at, join_at, entry_at};
+ghost use Rattle.rx_fields.specs.Words.{answer_left};
+ghost use Rattle.rx_reading.specs.Inside.EntryWords.{act_at, step_at, acted_at, changed_at, kind_named};
+ghost use Rattle.rx_reading.specs.Inside.EntryWords.{release_or_root_at, root_at, death_at, join_at, entry_at};
 
 use crate::acts::{Kind, act};
-use crate::parts::{batch_part, keyword, outcome_part, place_field, task_field};
-use crate::words::{Words, is_same};
 use rx_base::NoMemory;
+use rx_fields::{Words, batch_part, is_same, keyword, outcome_part, place_field, task_field};
 use rx_history::Entry;
 use std::alloc::Global;
 

@@ -1,12 +1,13 @@
 // The words of an event.
 ghost use Rattle.std.specs.Prelude.{◌≡◌, ◌≤◌, codes, IfOk};
-ghost use Rattle.rx_reading.specs.Words.{answer_left};
+ghost use Rattle.rx_fields.specs.Words.{answer_left};
 ghost use Rattle.rx_reading.specs.Inside.EventWords.{made_at, make_at, got_at, indexed_at, get_at, written_at, put_at, forgotten_at};
 ghost use Rattle.rx_reading.specs.Inside.EventWords.{forget_at, cell_at, done_at, close_at, event_at};
 
-use crate::parts::{block_field, keyword, natural_field, next_task, number_field, path_field};
-use crate::words::{Words, is_same};
 use rx_base::{GlobalRef, NoMemory, TaskId};
+use rx_fields::{
+    Words, block_field, is_same, keyword, natural_field, next_task, number_field, path_field,
+};
 use rx_history::{Cell, PlaceEvent};
 use std::alloc::Global;
 

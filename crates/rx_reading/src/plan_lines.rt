@@ -1,16 +1,13 @@
 // The lines of the setup.
 ghost use Rattle.std.specs.Prelude.{◌≡◌, ◌<◌, ◌≤◌, ◌==◌, ◌&&◌, not, IfOk};
 ghost use Rattle.rx_history.specs.KillOrder.{ComesLast};
-ghost use Rattle.rx_reading.specs.Words.{pieces};
-ghost use Rattle.rx_reading.specs.Inside.Readers.{all_read};
+ghost use Rattle.rx_fields.specs.Words.{pieces};
+ghost use Rattle.rx_fields.specs.Inside.Readers.{all_read};
 ghost use Rattle.rx_history.specs.KillOrder.{is_before};
 ghost use Rattle.rx_reading.specs.Inside.Machine.{sizes_at, may_follow, kills_line_of, joins_of, is_there, all_there, joins_line_of};
 
-use crate::items::kill;
-use crate::numbers::below;
-use crate::parts::{count_field, keyword};
-use crate::words::{Words, split_words};
 use rx_base::{Kill, NoMemory};
+use rx_fields::{Words, below, count_field, keyword, kill, split_words};
 use rx_history::{JoinList, KillList};
 use std::alloc::Global;
 

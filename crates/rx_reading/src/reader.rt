@@ -13,7 +13,7 @@ ghost use Rattle.rx_reading.specs.Inside.Machine.{Over};
 ghost use Rattle.rx_reading.specs.Inside.Stages.{state_of};
 
 use crate::stage::{Stage, read_next};
-use crate::words::first_line;
+use rx_fields::first_line;
 use rx_history::{History, Journals};
 use std::alloc::Global;
 

@@ -2,23 +2,21 @@
 ghost use Rattle.std.specs.Prelude.{◌≡◌, ◌+◌, ◌≤◌, ◌<◌, ◌&&◌, ◌==◌, nat_lt, ◌++◌, ◌∷◌, [], true, false, Some, None, codes};
 ghost use Rattle.std.specs.Prelude.{option_map, IfOk, length, slice_index};
 ghost use Rattle.std.specs.Str.{bytes_eq};
-ghost use Rattle.rx_reading.specs.Words.{answer_left, pieces};
+ghost use Rattle.rx_fields.specs.Words.{answer_left, pieces};
 ghost use Rattle.rx_history.specs.Events.{events_of};
 ghost use Rattle.rx_history.specs.Setups.{given};
 ghost use Rattle.rx_rules.specs.Run.{in_all};
 ghost use Rattle.rx_reading.specs.Inside.Machine.{Untitled, Titled, Sized, Listed, Planned, Entering, Logging, Over};
 ghost use Rattle.rx_reading.specs.Inside.Machine.{begins_journal, entry_of, event_line_of, read_line, told_there};
 ghost use Rattle.rx_text.specs.Numbers.{natural_text};
-ghost use Rattle.rx_reading.specs.Inside.Readers.{behind};
+ghost use Rattle.rx_fields.specs.Inside.Readers.{behind};
 ghost use Rattle.rx_reading.specs.Inside.Stages.{state_of, IsReady};
 
 use crate::entry_reader::entry;
 use crate::event_reader::event;
-use crate::items::strip;
-use crate::numbers::is_number;
 use crate::plan_lines::{read_joins, read_kills, sizes};
-use crate::words::{Words, after_short, split_words};
 use rx_base::NoMemory;
+use rx_fields::{Words, after_short, is_number, split_words, strip};
 use rx_history::{Entry, History, Journal, Journals, KillList, PlaceEvent, Setup};
 use std::alloc::Global;
 use std::mem;
@@ -55,7 +53,7 @@ pub(crate) enum Stage {
 }
 
 // The words behind the number n, with which a line has to begin.
-#[tactic(auto, using(crate::proofs::Fronts::behind_known))]
+#[tactic(auto, using(crate::proofs::Numbered::behind_known))]
 fn behind_number(line: &[u8], n: usize) -> Option<Words<'_>>
     ensures { result ≡ behind (natural_text n) (pieces 32 line.now) }
 {
@@ -71,7 +69,7 @@ fn behind_number(line: &[u8], n: usize) -> Option<Words<'_>>
 }
 
 // The line of an entry of this number.
-#[tactic(auto, using(crate::proofs::Fronts::keyed_behind))]
+#[tactic(auto, using(crate::proofs::Numbered::keyed_behind))]
 fn read_entry(alloc: Global, line: &[u8], n: usize, places: u8) -> Result<Option<Entry>, NoMemory>
     requires { places ≤ 16 }
     ensures { IfOk result (λ entry. entry ≡ entry_of places n line.now) }
@@ -89,7 +87,7 @@ fn read_entry(alloc: Global, line: &[u8], n: usize, places: u8) -> Result<Option
 }
 
 // The line of an event of this number.
-#[tactic(auto, using(crate::proofs::Fronts::keyed_behind))]
+#[tactic(auto, using(crate::proofs::Numbered::keyed_behind))]
 fn read_event(
     alloc: Global,
     line: &[u8],
@@ -108,7 +106,7 @@ fn read_event(
 }
 
 // Whether the line begins the journal of a place.
-#[tactic(auto, using(crate::proofs::Known::no_journal))]
+#[tactic(auto, using(crate::proofs::Told::no_journal))]
 fn is_journal(line: &[u8], place: usize) -> bool
     ensures { result ≡ begins_journal place line.now }
 {

@@ -7,9 +7,9 @@ use Rattle.rx_rules.specs.declared.entries.Entry.{Entry}
 use Rattle.rx_rules.specs.declared.entries.Entry.TheVariants.{Step, Root, Death, Join}
 use Rattle.rx_reading.specs.declared.acts.Kind.{Kind}
 use Rattle.rx_reading.specs.declared.acts.Kind.TheVariants as kinds
-use Rattle.rx_reading.specs.Inside.FieldWords.{number_at, place_at, task_at, scope_at, path_at, count_at}
-use Rattle.rx_reading.specs.Inside.PartWords.{thrown_at, batch_at, nested_at, way_at, outcome_at}
-use Rattle.rx_reading.specs.Inside.Readers.{Reader, followed, done, keyed, either}
+use Rattle.rx_fields.specs.Inside.FieldWords.{number_at, place_at, task_at, scope_at, path_at, count_at}
+use Rattle.rx_fields.specs.Inside.PartWords.{thrown_at, batch_at, nested_at, way_at, outcome_at}
+use Rattle.rx_fields.specs.Inside.Readers.{Reader, followed, done, keyed, either}
 
 abbrev pub open_at : Reader Act
 open_at = followed nested_at (λ n. followed path_at (λ path. done (Open n.0 n.1 path)))

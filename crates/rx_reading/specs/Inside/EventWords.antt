@@ -6,8 +6,8 @@ use Rattle.rx_rules.specs.declared.events.Cell.{Cell}
 use Rattle.rx_rules.specs.declared.events.Cell.TheVariants.{Make, MakeFull, Get, Put, Forget, GetRefused, PutRefused, ForgetStale}
 use Rattle.rx_rules.specs.declared.events.PlaceEvent.{PlaceEvent}
 use Rattle.rx_rules.specs.declared.events.PlaceEvent.TheVariants.{Done, Close}
-use Rattle.rx_reading.specs.Inside.FieldWords.{natural_at, number_at, task_spelt, path_at, block_at}
-use Rattle.rx_reading.specs.Inside.Readers.{Reader, followed, done, keyed, either}
+use Rattle.rx_fields.specs.Inside.FieldWords.{natural_at, number_at, task_spelt, path_at, block_at}
+use Rattle.rx_fields.specs.Inside.Readers.{Reader, followed, done, keyed, either}
 
 -- whether a block was made, and where
 abbrev pub made_at : ℕ → Reader Cell

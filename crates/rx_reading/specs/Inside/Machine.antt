@@ -7,10 +7,10 @@ use Rattle.rx_rules.specs.declared.entries.Entry.{Entry}
 use Rattle.rx_rules.specs.declared.events.PlaceEvent.{PlaceEvent}
 use Rattle.rx_rules.specs.Run.{Given, in_all}
 use Rattle.rx_text.specs.Numbers.{natural_text}
-use Rattle.rx_reading.specs.Words.{pieces}
-use Rattle.rx_reading.specs.Inside.Readers.{Reader, followed, done, keyed, all_read}
+use Rattle.rx_fields.specs.Words.{pieces}
+use Rattle.rx_fields.specs.Inside.Readers.{Reader, followed, done, keyed, all_read}
 use Rattle.rx_history.specs.KillOrder.{is_before}
-use Rattle.rx_reading.specs.Inside.FieldWords.{next, number_below, kill_of, count_at}
+use Rattle.rx_fields.specs.Inside.FieldWords.{next, number_below, kill_of, count_at}
 use Rattle.rx_reading.specs.Inside.EntryWords.{entry_at}
 use Rattle.rx_reading.specs.Inside.EventWords.{event_at}
 

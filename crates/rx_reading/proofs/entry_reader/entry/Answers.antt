@@ -1,6 +1,6 @@
 use Rattle.std.proofs.Common.{◌≡◌, subst}
 use Rattle.std.specs.Prelude.{IfOk}
-use Rattle.rx_reading.specs.Words.{answer_left}
+use Rattle.rx_fields.specs.Words.{answer_left}
 use Rattle.rx_reading.proofs.Naming.{named_entry}
 use Rattle.rx_reading.proofs.entry_reader.entry.Goals as goal
 

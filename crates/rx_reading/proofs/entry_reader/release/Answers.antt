@@ -1,8 +1,8 @@
 use Rattle.std.proofs.Common.{◌≡◌, refl, subst}
 use Rattle.std.specs.Prelude.{codes, IfOk}
-use Rattle.rx_reading.specs.Words.{answer_left}
+use Rattle.rx_fields.specs.Words.{answer_left}
 use Rattle.rx_reading.specs.Inside.EntryWords.{release_at, step_at, root_at}
-use Rattle.rx_reading.proofs.Taking.{other-word}
+use Rattle.rx_fields.proofs.Taking.{other-word}
 use Rattle.rx_reading.proofs.entry_reader.release.Goals as goal
 
 pub returns-else-keyword : goal.returns-else-keyword

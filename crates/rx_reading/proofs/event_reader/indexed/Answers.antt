@@ -1,8 +1,8 @@
 use Rattle.std.proofs.Common.{sym, ap, ◌∙◌}
 use Rattle.std.specs.Int.{w64}
 use Rattle.std.proofs.lemmas.Int.{to_z-of_z}
-use Rattle.rx_reading.specs.Words.{answer_left}
-use Rattle.rx_reading.specs.Inside.Readers.{after}
+use Rattle.rx_fields.specs.Words.{answer_left}
+use Rattle.rx_fields.specs.Inside.Readers.{after}
 use Rattle.rx_reading.specs.Inside.EventWords.{got_at}
 use Rattle.rx_reading.proofs.Ends.{number-fits}
 use Rattle.rx_reading.proofs.event_reader.indexed.Goals as goal

@@ -1,8 +1,8 @@
 use Rattle.std.proofs.Common.{ap, sym, ◌∙◌}
 use Rattle.rx_text.specs.Numbers.{natural_text}
-use Rattle.rx_reading.specs.Words.{answer_left, pieces}
+use Rattle.rx_fields.specs.Words.{answer_left, pieces}
 use Rattle.rx_reading.specs.Inside.EventWords.{event_at}
-use Rattle.rx_reading.proofs.Fronts.{read_behind}
+use Rattle.rx_reading.proofs.Numbered.{read_behind}
 use Rattle.rx_reading.proofs.stage.read_event.Goals as goal
 
 pub returns-in-Some-2 : goal.returns-in-Some-2

@@ -1,0 +1,12 @@
+pub mod Cuts
+pub mod Figures
+pub mod Taken
+pub mod Scanned
+pub mod Stripped
+pub mod Bits
+pub mod Taking
+pub mod Joining
+pub mod Known
+pub mod Digit
+pub mod Same
+pub mod Fronts

@@ -1,5 +1,0 @@
-use Rattle.rx_reading.proofs.Scanned.{stored_number}
-use Rattle.rx_reading.proofs.numbers.number.Goals as goal
-
-pub returns-in-Some : goal.returns-in-Some
-returns-in-Some c = stored_number c.args.word.now c.in-Some.n c.from.result c.in-Some.ensures.some c.from.ensures

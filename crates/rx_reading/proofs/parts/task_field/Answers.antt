@@ -1,6 +1,0 @@
-use Rattle.std.proofs.Common.{sym}
-use Rattle.rx_reading.proofs.Fronts.{task_known}
-use Rattle.rx_reading.proofs.parts.task_field.Goals as goal
-
-pub returns-in-Some : goal.returns-in-Some
-returns-in-Some c = sym (task_known c.args.words.now c.lettered.new.self c.in-Some.n c.in-Some.ensures.low c.in-Some.ensures.some)

@@ -5,3 +5,4 @@ pub mod Moments
 pub mod Onward
 pub mod Parts
 pub mod Proper
+pub mod Values

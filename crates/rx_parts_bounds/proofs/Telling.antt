@@ -1,5 +1,5 @@
 -- A whole run is told item by item: each entry names the events that its task made since its entry before.
-use Rattle.std.specs.Prelude.{◌≡◌, ◌≢◌, ◌⊎◌, ℕ, zero, suc, ◌+◌, ◌<◌, ◌≤◌, Bool, true, false, cond, not, ◌==◌, List, [], ◌∷◌, ◌++◌, length, slice_get, slice_set, Option, Some, None, All, refl}
+use Rattle.std.specs.Prelude.{◌≡◌, ◌≢◌, ◌⊎◌, ℕ, suc, ◌+◌, ◌<◌, ◌≤◌, Bool, true, false, cond, not, ◌==◌, List, [], ◌∷◌, ◌++◌, length, slice_get, slice_set, Option, Some, None, All, refl}
 use Rattle.std.specs.List.{cons_option}
 use Rattle.std.proofs.Common.{arith, ap, sym, ◌∙◌, subst, inl, inr, append_assoc, length-set}
 use Rattle.std.proofs.lemmas.Bool.{eqb-true, eq-eqb, ne_eqb, true≢false}
@@ -7,6 +7,7 @@ use Rattle.std.proofs.lemmas.List.Sums.{sum_by-cons}
 use Rattle.rx_base.specs.declared.ids.PlaceId.{PlaceId}
 use Rattle.rx_base.specs.declared.ids.TaskId.{TaskId}
 use Rattle.rx_base.specs.declared.values.Fault.{Fault}
+use Rattle.rx_base.proofs.Elements.{get-within}
 use Rattle.rx_rules.specs.declared.entries.Act.{Act}
 use Rattle.rx_rules.specs.declared.entries.Act.TheVariants.{At as Calls, Spawn, Arrive, End}
 use Rattle.rx_rules.specs.declared.entries.Entry.{Entry}
@@ -29,11 +30,6 @@ use Rattle.rx_parts.specs.Ledger.{LedgerItem, Actor, Away, Present, Over, Walks,
 use Rattle.rx_parts.proofs.Lists.{one_item, not_none, inside, outside, got_set, got_left}
 use Rattle.rx_parts.proofs.Changes.{Change, same, lands, goes_on, leaves, changed, came, came_act, sized}
 use Rattle.rx_parts.proofs.Along.{Numbered, numbered, birth_none, size_next}
-
-got_in : {X : Type 0} (xs : List X) (k : ℕ) → k < length xs → (x : X) × (slice_get xs k ≡ Some x)
-got_in [] k h = absurd (omega arith)
-got_in (x ∷ xs) zero h = (x, refl)
-got_in (x ∷ xs) (suc k) h = got_in xs k (omega arith)
 
 -- The next entry of a task.
 
@@ -239,7 +235,7 @@ point_now starts n whole T actors left es a size all now =
     record {
       going = λ k b got. (left k, moves_from n es k, now.going k b got);
       unborn = λ k le lt.
-          let s = got_in starts k lt in
+          let s = get-within starts k lt in
           let u = now.unborn k le in
           let low : suc n ≤ (birth_from n es k).low = birth_ahead n k T es a (omega (arith, size, le)) (omega (arith, size, all, lt)) in
           subst (FromOn (suc n)) u.1 (begins_from starts (birth_from n es k).to (travels (birth_from n es k)) n (birth_from n es k).low s.0.1 s.0.0 (left k) (moves_from n es k) low (moves_after n es k) (u.0 s.0 s.1));
@@ -464,7 +460,7 @@ step_of starts n whole T actors left t act batch es a num got g (over e none h) 
 
 step_task : (starts : Starts) (n : ℕ) (whole : ℕ → Cells) (T : Tree) (actors : List Actor) (left : ℕ → Cells) (t : TaskId) (act : Act) (batch : List (List ℕ)) (es : List Entry) → Numbered (length actors) (Step t act batch) → t.0 < length actors → Now starts n whole actors left (Step t act batch ∷ es) → Stepped starts n whole actors (Step t act batch) es
 step_task starts n whole T actors left t act batch es num old now =
-    let a = got_in actors t.0 old in let g = now.going t.0 a.0 a.1 in step_of starts n whole T actors left t act batch es a.0 num a.1 g g.rest now
+    let a = get-within actors t.0 old in let g = now.going t.0 a.0 a.1 in step_of starts n whole T actors left t act batch es a.0 num a.1 g g.rest now
 
 -- an entry of the host
 now_host : (starts : Starts) (n : ℕ) (whole : ℕ → Cells) (actors : List Actor) (left : ℕ → Cells) (e : Entry) (es : List Entry) → IsHostEntry e → Now starts n whole actors left (e ∷ es) → Now starts (suc n) whole actors left es

@@ -17,7 +17,7 @@ use Rattle.rx_rules.specs.declared.events.Cell.{Cell}
 use Rattle.rx_rules.specs.declared.events.PlaceEvent.{PlaceEvent}
 use Rattle.rx_rules.specs.declared.events.PlaceEvent.TheVariants.{Done as Did, Close}
 use Rattle.rx_rules.specs.Code.{Block}
-use Rattle.rx_rules.specs.Terms.{Term, Vars, Answer, answered, vars_after, begins, Does, Local, Makes, Gets, Puts, Forgets, Opens, Calls, Spawns, Waits, Releases, Prints, Counts, Done, does}
+use Rattle.rx_rules.specs.Terms.{Term, Vars, Answer, answered, vars_after, begins, Local, does}
 use Rattle.rx_rules.specs.Tree.{Tree, task_of}
 use Rattle.rx_rules.specs.Store.{State, after_cell}
 use Rattle.rx_rules.specs.Plays.{Tells, begun, journal_at}
@@ -26,7 +26,7 @@ use Rattle.rx_rules.specs.Run.{Given, Proper, NoRoot}
 use Rattle.rx_rules.specs.Picked.{Game, Player, Turn, due, arrives, moves, ends, root, Comes, Goes, stays, local, stores, enabled, tree_in}
 use Rattle.rx_rules.proofs.Kills.{due-not}
 use Rattle.rx_runs.specs.Coming.{GoesOn}
-use Rattle.rx_runs.proofs.Walks.{IsLast, fits_last}
+use Rattle.rx_runs.proofs.Walks.{IsLast, fits_last, tells_not}
 use Rattle.rx_runs.proofs.Telling.{tell_once}
 use Rattle.rx_store.specs.Kept.{Kept}
 use Rattle.rx_store.specs.declared.calls.Mark.{Mark}
@@ -53,21 +53,6 @@ goes-more : {heap n : ℕ} {t : TaskId} {here : PlaceId} {p q : Player} {S Z : S
 goes-more {j = j} stays = ([], append-nil j)
 goes-more (local e g) = goes-more g
 goes-more {n = n} {t = t} {j = j} (stores cell x a told b may g) = let r = goes-more g in (Did t n cell x ∷ r.0, sym (append_assoc j (Did t n cell x ∷ []) r.0) ∙ r.1)
-
-tells_not : (d : Does) (here : PlaceId) (c : Cell) (a : Answer) → Tells d here c a → IsLast d → ⊥
-tells_not (Local left vars) here c a h l = h
-tells_not (Makes name words) here c a h l = l
-tells_not (Gets name target index) here c a h l = l
-tells_not (Puts target index value) here c a h l = l
-tells_not (Forgets target) here c a h l = l
-tells_not Opens here c a h l = h
-tells_not (Calls place) here c a h l = h
-tells_not (Spawns place) here c a h l = h
-tells_not (Waits faults) here c a h l = h
-tells_not Releases here c a h l = h
-tells_not (Prints value) here c a h l = h
-tells_not (Counts name) here c a h l = h
-tells_not (Done faults) here c a h l = h
 
 -- the events of a part of a walk begin those of the whole walk
 goes-part : {heap n : ℕ} {t : TaskId} {here : PlaceId} {p q r : Player} {S Z W : State} {j k l : List PlaceEvent} → Goes heap n t here p S j q Z k → Goes heap n t here p S j r W l → IsLast (does r.vars here.0 r.term) → IsPrefix k l

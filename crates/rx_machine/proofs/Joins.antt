@@ -3,7 +3,7 @@ use Rattle.std.specs.Prelude.{◌≡◌, ℕ, suc, ◌-◌, ◌≤◌, false, Li
 use Rattle.std.proofs.Common.{ap, ◌∙◌, sym, subst, arith}
 use Rattle.rx_base.specs.declared.ids.PlaceId.{PlaceId}
 use Rattle.rx_rules.specs.declared.entries.Entry.{Entry}
-use Rattle.rx_rules.specs.declared.entries.Entry.TheVariants.{Step, Root, Death, Join}
+use Rattle.rx_rules.specs.declared.entries.Entry.TheVariants.{Join}
 use Rattle.rx_rules.specs.Code.{Block}
 use Rattle.rx_rules.specs.Tree.{Tree}
 use Rattle.rx_rules.specs.Entries.{widened}
@@ -12,6 +12,7 @@ use Rattle.rx_rules.specs.Picked.{Game, Turn, due as due_turn, turns, tree_in}
 use Rattle.rx_rules.proofs.Append.{no_root-push, tree-push}
 use Rattle.rx_runs.specs.Coming.{CameTo, GamesCome}
 use Rattle.rx_runs.specs.Ties.{MayBe, MayCome, places_after}
+use Rattle.rx_runs.proofs.Planned.{come_within}
 use Rattle.rx_finish.specs.Callers.{MayJoin}
 use Rattle.rx_history.specs.Setups.{given, to_join}
 use Rattle.rx_nodes.specs.Shape.{Shape}
@@ -25,24 +26,13 @@ use Rattle.rx_machine.proofs.Own.{slot-on}
 
 -- What the join that is due says of its place.
 
--- the places that are there never become fewer
-no-fewer : (all here : ℕ) (es : List Entry) (xs : List Event) → MayCome all here es xs → here ≤ all
-no-fewer all here es [] h = let same : here ≡ all = h in omega (arith, same)
-no-fewer all here es (x ∷ xs) h = let more : places_after x.entry here ≤ all = no-fewer all (places_after x.entry here) es xs h.1 in let grows : here ≤ places_after x.entry here = after x.entry here in omega (arith, more, grows)
-  where
-    after : (e : Entry) (n : ℕ) → n ≤ places_after e n
-    after (Step t act batch) n = omega arith
-    after (Root lost masked thrown) n = omega arith
-    after (Death d) n = omega arith
-    after (Join p) n = omega arith
-
 -- the place that joins is the next one, and has its room
 join-so : (all here n : ℕ) (es : List Entry) (p : PlaceId) (xs : List Event) → IsDue n (Join p) xs → MayCome all here es xs → (p.0 ≡ here) × (suc here ≤ all)
 join-so all here n es p [] due h = absurd due
 join-so all here n es p (x ∷ xs) due h =
     let may : MayBe here es xs (Join p) = subst (λ (e : Entry). MayBe here es xs e) due.0 h.0 in
     let rest : MayCome all (suc here) es xs = subst (λ (e : Entry). MayCome all (places_after e here) es xs) due.0 h.1 in
-    (may, no-fewer all (suc here) es xs rest)
+    (may, come_within all (suc here) es xs rest)
 
 -- what a join leaves of a machine
 pub record Joined {L : Type 0} (stands : L → ℕ → Tree → Type 0) (m m' : Machine L) (p : PlaceId) (room : ℕ) (T : Tree) : Type 0 where

@@ -1,16 +1,17 @@
 // The turns that start a task.
-ghost use Rattle.std.specs.Prelude.{◌≡◌, ◌<◌, [], None, is_none, IfSome, OnOk, OnErr};
-ghost use Rattle.rx_rules.specs.Terms.{Spawns, Calls};
+ghost use Rattle.std.specs.Prelude.{◌≡◌, ◌+◌, ◌<◌, ◌≤◌, ℕ, List, [], Some, None, is_none, IfSome, IfOk, OnOk, OnErr, vec_len, vec_capacity};
+ghost use Rattle.rx_rules.specs.Terms.{Term, Spawns, Calls, child, begins};
 ghost use Rattle.rx_rules.specs.Tree.{Tree, death_of};
 ghost use Rattle.rx_rules.specs.Entries.{born};
+ghost use Rattle.rx_control.specs.Stands.{StandsFor};
 ghost use Rattle.rx_machine.specs.Refusals.{NothingTold};
 ghost use Rattle.rx_machine.specs.Inside.Games.{SomeDoing};
 ghost use Rattle.rx_machine.specs.Inside.Acts.{HasDone};
 
-use crate::entry::{child_of, go_on, no_memory, path_of};
+use crate::entry::{go_on, no_memory, path_of};
 use crate::machine::Machine;
 use crate::seat::Seat;
-use rx_base::{Batch, Faults, NoMemory, PlaceId};
+use rx_base::{Batch, Faults, NoMemory, Path, PlaceId};
 use rx_check::Program;
 use rx_control::Control;
 use rx_finish::{Born, FinishLedger};
@@ -36,9 +37,7 @@ impl<L: FinishLedger> Machine<L> {
         rx_sound::reached_is_sound();
         rx_runs::known_places_are_there();
         rx_runs::going_tells_no_places();
-        let path = path_of(self.alloc, p, &seat.control)?;
-        let control = child_of(self.alloc, p, &seat.control)?;
-        self.seats.reserve(1)?;
+        let (path, control) = prepare(self.alloc, p, &seat.control, &mut self.seats)?;
         let who = seat.caller();
         let born = match self.ledger.spawn(who, to) {
             Ok(born) => born,
@@ -79,9 +78,7 @@ impl<L: FinishLedger> Machine<L> {
         rx_sound::reached_is_sound();
         rx_runs::known_places_are_there();
         rx_runs::going_tells_no_places();
-        let path = path_of(self.alloc, p, &seat.control)?;
-        let control = child_of(self.alloc, p, &seat.control)?;
-        self.seats.reserve(1)?;
+        let (path, control) = prepare(self.alloc, p, &seat.control, &mut self.seats)?;
         seat.scopes.reserve(1)?;
         let who = seat.caller();
         let born = match self.ledger.open_at(who, to) {
@@ -107,6 +104,27 @@ impl<L: FinishLedger> Machine<L> {
         );
         Ok(())
     }
+}
+
+/// What a turn has ready when it asks the ledger for a task: the path of the statement, the control of the task, and room for its seat.
+fn prepare(
+    alloc: Global,
+    p: &Program,
+    control: &Box<Control>,
+    seats: &mut Vec<Option<Seat>>,
+) -> Result<(Path, Box<Control>), NoMemory>
+    requires { (t : Term) × (x : List ℕ) × StandsFor p.now.script control.now.value t × (begins t ≡ Some x) }
+    ensures path { IfOk result (λ r. (t : Term) (x : List ℕ) → StandsFor p.now.script control.now.value t → begins t ≡ Some x → r.0 ≡ x) }
+    ensures stands { IfOk result (λ r. (t : Term) → StandsFor p.now.script control.now.value t → (x : List ℕ) → begins t ≡ Some x
+        → StandsFor p.now.script r.1.value (child t) × (r.1.value.vars ≡ control.now.value.vars)) }
+    ensures items { seats.new.items ≡ seats.old.items }
+    ensures room { OnOk result (vec_len seats.new + 1 ≤ vec_capacity seats.new) }
+{
+    let path = path_of(alloc, p, control)?;
+    let began = control.child(alloc, p)?;
+    let own = Box::new(alloc, began)?;
+    seats.reserve(1)?;
+    Ok((path, own))
 }
 
 /// The seat of a task that was just started; none where it is born struck.

@@ -2,7 +2,7 @@
 ghost use Rattle.std.specs.Prelude.{◌≡◌, ◌<◌, ℕ, List, length, Some, OnOk, IfOk};
 ghost use Rattle.rx_base.specs.declared.ids.PlaceId.{PlaceId};
 ghost use Rattle.rx_base.specs.declared.values.Fault.{Fault};
-ghost use Rattle.rx_rules.specs.Terms.{Term, Empty, Waits, child, does, begins, granted, replaced};
+ghost use Rattle.rx_rules.specs.Terms.{Term, Empty, Waits, does, begins, granted, replaced};
 ghost use Rattle.rx_nodes.specs.Shape.{Shape};
 ghost use Rattle.rx_control.specs.Next.{carried};
 ghost use Rattle.rx_finish.specs.declared.ledger.LedgerFault.{LedgerFault};
@@ -57,20 +57,6 @@ pub(crate) fn go_on(control: &mut Box<Control>, p: &Program, faults: Faults) -> 
         Ok(()) => Ok(()),
         Err(_) => Err(NoMemory),
     }
-}
-
-/// The control of the task that the next step starts.
-pub(crate) fn child_of(
-    alloc: Global,
-    p: &Program,
-    control: &Box<Control>,
-) -> Result<Box<Control>, NoMemory>
-    requires { (t : Term) × (x : List ℕ) × StandsFor p.now.script control.now.value t × (begins t ≡ Some x) }
-    ensures stands { IfOk result (λ c. (t : Term) → StandsFor p.now.script control.now.value t → (x : List ℕ) → begins t ≡ Some x
-        → StandsFor p.now.script c.value (child t) × (c.value.vars ≡ control.now.value.vars)) }
-{
-    let child = control.child(alloc, p)?;
-    Ok(Box::new(alloc, child)?)
 }
 
 /// The faults that a wait or the end carries, which the control has no longer.

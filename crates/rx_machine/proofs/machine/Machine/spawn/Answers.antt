@@ -19,13 +19,8 @@ use Rattle.rx_machine.proofs.Knowing.{known-there}
 use Rattle.rx_machine.proofs.Spawned.{spawn-begins, spawn-free, spawn-target, spawn-did, spawn-refused, spawned}
 use Rattle.rx_machine.proofs.machine.Machine.spawn.Goals as goal
 
-pub path_of-requires : goal.path_of-requires
-path_of-requires g c =
-    let game = c.requires.game in
-    let b = spawn-begins game.3 c.args.here.0 c.args.to.0 game.6 in (game.3.term, b.0, game.5.gone.seat_is.term, b.1)
-
-pub child_of-requires : goal.child_of-requires
-child_of-requires g c =
+pub prepare-requires : goal.prepare-requires
+prepare-requires g c =
     let game = c.requires.game in
     let b = spawn-begins game.3 c.args.here.0 c.args.to.0 game.6 in (game.3.term, b.0, game.5.gone.seat_is.term, b.1)
 
@@ -55,7 +50,7 @@ go_on-requires g c = let game = c.requires.game in (game.3.term, game.5.gone.sea
 pub close_turn-requires-clause-inside : goal.close_turn-requires-clause-inside
 close_turn-requires-clause-inside g c =
     let inside : c.args.i < length c.args.self.now.seats.items = c.requires.game.5.inside in
-    let more : length c.push_reserved.new.self.items ≡ length c.args.self.now.seats.items + 1 = ap (λ v. length v) (c.push_reserved.ensures.items ∙ ap (λ v. v ++ c.new_seat-slot.result ∷ []) c.reserve.ensures.items) ∙ length-append c.args.self.now.seats.items (c.new_seat-slot.result ∷ []) in
+    let more : length c.push_reserved.new.self.items ≡ length c.args.self.now.seats.items + 1 = ap (λ v. length v) (c.push_reserved.ensures.items ∙ ap (λ v. v ++ c.new_seat-slot.result ∷ []) c.prepare.ensures.items) ∙ length-append c.args.self.now.seats.items (c.new_seat-slot.result ∷ []) in
     omega (arith, inside, more)
 
 pub returns-clause-made : goal.returns-clause-made
@@ -65,18 +60,18 @@ returns-clause-made g c = λ code U k q G a asks.
     let b = spawn-begins q c.args.here.0 c.args.to.0 asks in
     let who : c.caller-who.result ≡ caller c.args.seat.row c.args.seat.scopes.items = c.caller-who.ensures in
     let may : MayAskTo T c.caller-who.result c.args.to = record { asks = subst (λ (w : Caller). MayAsk T w IsMoving) (sym who) (seat_asks c.args.p.now.script T c.args.i q c.args.seat IsMoving s a.numbers (moving c.args.p.now.script T c.args.i q c.args.seat c.args.here s a.gone.is_at (spawn-free q c.args.here.0 c.args.to.0 asks))); target = spawn-target T q c.args.here c.args.to.0 a.place (known-there g.L.FinishLedger.stands c.args.p.now.script code U c.args.self.now k c.args.i c.args.here q c.args.seat G c.known_places_are_there.ensures c.going_tells_no_places.ensures a) asks } in
-    let path = c.in_ok-path.ensures q.term b.0 s.term b.1 in
+    let path = c.in_ok-path.ensures.path q.term b.0 s.term b.1 in
     let at : begins q.term ≡ Some c.in_ok-path.path = b.1 ∙ ap (λ v. Some v) (sym path) in
     let did = spawn-did T c.args.seat.row c.args.seat.scopes.items c.args.here c.args.to c.in-Ok.born (g.L.FinishLedger.stands c.spawn.new.self (to_join U T)) a.gone.is_at (subst (λ (w : Caller). SpawnReply T w c.args.to (Ok c.in-Ok.born) (g.L.FinishLedger.stands c.spawn.new.self (to_join U T))) who (c.in-Ok.ensures _ T a.but.shares.ledger may)) in
     let term = subst (λ (fs : List Fault). StandsFor c.args.p.now.script c.go_on.new.control.value (granted fs q.term)) c.open.ensures (c.in_ok-go_on.ensures.ok q.term s.term) in
-    let born = c.in_ok-control.ensures.stands q.term s.term b.0 b.1 in
+    let born = c.in_ok-path.ensures.stands q.term s.term b.0 b.1 in
     let slot = c.new_seat-slot.result in
     let after : Seat = record { row = c.args.seat.row; scopes = c.args.seat.scopes; control = c.go_on.new.control; batch = [] } in
     let back : c.close_turn.new.self.seats.items ≡ slice_set c.args.self.now.seats.items c.args.i (Some after) ++ slot ∷ [] =
-    c.close_turn.ensures.seats ∙ (ap (λ v. slice_set v c.args.i (Some after)) (c.push_reserved.ensures.items ∙ ap (λ v. v ++ slot ∷ []) c.reserve.ensures.items)
+    c.close_turn.ensures.seats ∙ (ap (λ v. slice_set v c.args.i (Some after)) (c.push_reserved.ensures.items ∙ ap (λ v. v ++ slot ∷ []) c.prepare.ensures.items)
     ∙ set_before c.args.self.now.seats.items slot c.args.i (Some after) a.inside) in
     let act = Spawn c.in-Ok.born.child c.in-Ok.born.scope c.args.here c.args.to c.in_ok-path.path in
     let went = closed g.L.FinishLedger.stands c.args.self.now _ _ c.args.i _ act _ (made_act T c.args.seat.row.number act) refl c.close_turn.ensures did.1 in
-    spawned g.L.FinishLedger.stands c.args.p.now.script code U c.args.self.now _ k c.args.i c.args.here c.args.to q c.args.seat after slot c.in_ok-control.control.value G c.in-Ok.born.child c.in-Ok.born.scope c.in_ok-path.path a (c.reached_is_sound.ensures T a.reached) asks at did.0 term c.in_ok-go_on.ensures.vars refl refl refl born.0 born.1
+    spawned g.L.FinishLedger.stands c.args.p.now.script code U c.args.self.now _ k c.args.i c.args.here c.args.to q c.args.seat after slot c.in_ok-path.control.value G c.in-Ok.born.child c.in-Ok.born.scope c.in_ok-path.path a (c.reached_is_sound.ensures T a.reached) asks at did.0 term c.in_ok-go_on.ensures.vars refl refl refl born.0 born.1
     (record { lost = c.new_seat-slot.ensures.lost ∙ did.2; row = c.new_seat-slot.ensures.row; rest = c.new_seat-slot.ensures.seat })
     went back

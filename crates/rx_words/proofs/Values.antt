@@ -5,7 +5,8 @@ use Rattle.rx_words.specs.declared.said.Said.{Said}
 use Rattle.rx_words.specs.declared.taking.Took.{Took}
 use Rattle.rx_words.specs.declared.taking.Took.TheVariants.{NotAnOption, BadValue, Good}
 use Rattle.rx_words.specs.Words.{Wants, good}
-use Rattle.rx_words.specs.Commands.{wants_of, IsInRange, IsTaken, NumberIsTaken}
+use Rattle.rx_words.specs.Commands.{wants_of, IsInRange, IsTaken}
+use Rattle.rx_words.specs.Inside.Taking.{NumberIsTaken}
 
 -- `said` gives what all options have said, by what this one says
 pub number-taken : (took : Took) (spelled new : Option ℕ) (said : Option ℕ → Said) (wants : ℕ → Wants) → ((n : ℕ) → wants n ≡ wants_of (said (Some n)))

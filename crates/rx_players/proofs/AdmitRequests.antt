@@ -1,5 +1,5 @@
 -- What a request asks of an act, in parts.
-use Rattle.std.specs.Prelude.{◌≡◌, ℕ, ℤ, Bool, true, false, ◌&&◌, ◌==◌, ◌≤◌, suc, List, [], drop, Option, Some, refl}
+use Rattle.std.specs.Prelude.{◌≡◌, ℕ, ℤ, Bool, true, false, ◌&&◌, ◌==◌, ◌≤◌, suc, List, [], drop, Option, Some, slice_set, refl}
 use Rattle.std.specs.List.{filter_map}
 use Rattle.std.proofs.Common.{ap, sym, subst, ◌∙◌, arith}
 use Rattle.std.proofs.lemmas.Bool.{true≢false, and_parts, eqb-true, eq-eqb}
@@ -25,10 +25,12 @@ use Rattle.rx_control.specs.declared.step.Want.{Want}
 use Rattle.rx_control.specs.declared.step.Want.TheVariants as want
 use Rattle.rx_control.specs.declared.step.Next.TheVariants.{Book}
 use Rattle.rx_control.specs.Next.{next_of, carried}
+use Rattle.rx_players.specs.declared.players.Slot.{Slot}
+use Rattle.rx_players.specs.declared.players.Slot.TheVariants.{Here}
 use Rattle.rx_players.specs.declared.seat.Seat.{Seat}
 use Rattle.rx_players.specs.Events.{IsFirst}
 use Rattle.rx_players.specs.Stood.{Stood}
-use Rattle.rx_players.specs.Inside.Requests.{wanted, FitsRest, IsAsked, IsGranted, AfterPath, AfterWait, AfterAct, AfterRequest}
+use Rattle.rx_players.specs.Inside.Requests.{wanted, FitsRest, IsAsked, IsGranted, AfterPath, AfterWait, AfterAct, AfterRequest, GoesOn}
 use Rattle.rx_terms.specs.Steps.{Begins}
 
 -- An act fits exactly where it is of the kind that is wanted and its rest is right.
@@ -205,3 +207,10 @@ told_wait here d act s thrown is a =
 pub told_census : (here : PlaceId) (d : Does) (act : Act) (n : ℕ) (x : List ℕ) → act ≡ Census n x → IsAsked here d act → next_of d ≡ Book want.Census
 told_census here d act n x is a =
     a.1 ∙ ap (λ (v : Want). Book v) (wants_census a.0 here n x (ap (λ (v : Act). wanted a.0 here v) (sym is) ∙ a.2))
+
+-- a task has gone on in its slot as its seat has
+pub goes_on : (shape : Shape) (old new : List Slot) (number : ℕ) (task : TaskId) (seat found on : Seat) (act : Act) (b : Bool) → found ≡ seat → new ≡ slice_set old task.0 (Here on)
+    → ((js : List (List PlaceEvent)) (z : Player) (left : Cells) → Stood shape js found z left → IsAsked found.home (next_does found.home z) act → AfterRequest shape js found on number z left act b)
+    → GoesOn shape old new number task seat act b
+goes_on shape old new number task seat found on act b same set after =
+    (on, set, subst (λ (v : Seat). (js : List (List PlaceEvent)) (z : Player) (left : Cells) → Stood shape js v z left → IsAsked v.home (next_does v.home z) act → AfterRequest shape js v on number z left act b) same after)

@@ -16,7 +16,7 @@ ghost use Rattle.rx_players.specs.declared.seat.Stop.TheVariants.{Asks, Ends};
 ghost use Rattle.rx_players.specs.Players.{Awaits, IsMade};
 ghost use Rattle.rx_players.specs.Stood.{Stood};
 ghost use Rattle.rx_players.specs.Inside.Admitted.{Stopped, AfterEntry};
-ghost use Rattle.rx_players.specs.Inside.Requests.{IsAsked, IsChild, IsNewborn, slot_for};
+ghost use Rattle.rx_players.specs.Inside.Requests.{CountsMore, GoesOn, IsAsked, IsChild, IsNewborn, slot_for};
 
 use crate::compare::{same_batch, same_faults};
 use crate::players::{Players, Slot};
@@ -177,21 +177,44 @@ impl Players {
         rx_sound::fold_is_reached();
         rx_sound::reached_is_sound();
         rx_verdict::seats_ask();
-        let mut seat = take_seat(&mut self.slots, task);
+        let Slot::Here(seat) = &self.slots[task.0 as usize] else {
+            unreachable!()
+        };
         if !is_wanted(&want, seat.home, act) {
             return Ok(false);
         }
         if !same_batch(&seat.batch, batch) {
             return Ok(false);
         }
-        let newborn = newborn(&self.table, alloc, p, number, &seat, act)?;
-        if !seat.go_on(alloc, p, number, act)? {
+        let newborn = newborn(&self.table, alloc, p, number, seat, act)?;
+        if !go_on_at(&mut self.slots, alloc, p, number, task, act)? {
             return Ok(false);
         }
-        put_back(&mut self.slots, task, seat);
         add(&mut self.slots, newborn)?;
         Ok(true)
     }
+}
+
+/// Lets a task that is at its place go on after its request, in its slot, where the act, with the number of its entry, is that.
+fn go_on_at(
+    slots: &mut Vec<Slot>,
+    alloc: Global,
+    p: &Program,
+    number: u32,
+    task: TaskId,
+    act: &Act,
+) -> Result<bool, NoMemory>
+    requires less { number + 1 < 2 ^ 32 }
+    requires asks { (seat : Seat) × (js : List (List PlaceEvent)) × (z : Player) × (left : Cells)
+        × (slice_get slots.old.items task.0 ≡ Some (Here seat)) × Stood p.now.script js seat z left
+        × IsAsked seat.home (next_does seat.home z) act.now × CountsMore seat.control.vars.places act.now }
+    ensures { IfOk result (λ b. (seat : Seat) → slice_get slots.old.items task.0 ≡ Some (Here seat)
+        → GoesOn p.now.script slots.old.items slots.new.items number task seat act.now b) }
+{
+    let Slot::Here(seat) = &mut slots[task.0 as usize] else {
+        unreachable!()
+    };
+    seat.go_on(alloc, p, number, act)
 }
 
 /// The slot of the task that the act starts which the seat's task asks, or none.

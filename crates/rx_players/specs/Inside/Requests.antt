@@ -1,5 +1,5 @@
 -- What a request to the ledger asks of an act, and how its task goes on.
-use Rattle.std.specs.Prelude.{◌≡◌, ℕ, suc, ◌<◌, ◌≤◌, Bool, true, false, cond, ◌&&◌, ◌==◌, List, [], Option, Some, None}
+use Rattle.std.specs.Prelude.{◌≡◌, ℕ, suc, ◌<◌, ◌≤◌, Bool, true, false, cond, ◌&&◌, ◌==◌, List, [], Option, Some, None, slice_set}
 use Rattle.std.specs.Ordering.{int_eq}
 use Rattle.rx_base.specs.declared.ids.PlaceId.{PlaceId}
 use Rattle.rx_base.specs.declared.ids.TaskId.{TaskId}
@@ -95,6 +95,13 @@ abbrev pub AfterRequest : Shape → List (List PlaceEvent) → Seat → Seat →
 AfterRequest shape js old new number z left act true =
     Fits old.home z.term (next_does old.home z) act × GoneOn shape js old new number (acted old.home z act) left
 AfterRequest shape js old new number z left act false = Fits old.home z.term (next_does old.home z) act → ⊥
+
+-- a task has gone on in its slot after a request, or the act is not its request
+abbrev pub GoesOn : Shape → List Slot → List Slot → ℕ → TaskId → Seat → Act → Bool → Type 0
+GoesOn shape old new number task seat act b =
+    (on : Seat) × (new ≡ slice_set old task.0 (Here on))
+    × ((js : List (List PlaceEvent)) (z : Player) (left : Cells) → Stood shape js seat z left
+    → IsAsked seat.home (next_does seat.home z) act → AfterRequest shape js seat on number z left act b)
 
 -- the seat of a task that the player z starts by its entry with this number, for a place
 pub record IsChild (shape : Shape) (table : EventTable) (number : ℕ) (z : Player) (c : TaskId) (to : PlaceId) (seat : Seat)

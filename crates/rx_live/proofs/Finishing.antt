@@ -25,7 +25,8 @@ use Rattle.rx_objects.specs.declared.ledger.LedgerFixed.{LedgerFixed}
 use Rattle.rx_objects.specs.Ledger.{LedgerIsLegal}
 use Rattle.rx_objects.specs.Ending.{entries_at, IsHeard, PlaceEnds, EachEnds, StampsBeforeDeath}
 use Rattle.rx_objects.proofs.Staying.{entries_same}
-use Rattle.rx_live.specs.Inside.Ending.{SeesEnd, StaysAt, IsClosed, HaveWords, ShutsAt, MayBeShut}
+use Rattle.rx_stations.specs.Closed.{IsClosed}
+use Rattle.rx_live.specs.Inside.Ending.{SeesEnd, StaysAt, HaveWords, ShutsAt, MayBeShut}
 
 no_items : (h : List (Stamped EntryItem)) → ledger_items h ≡ [] → h ≡ []
 no_items [] e = refl

@@ -1,4 +1,4 @@
-mod Stationing
+mod Seats
 mod Finishing
 mod Opened
 mod Whole

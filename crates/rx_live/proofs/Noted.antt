@@ -18,9 +18,10 @@ use Rattle.rx_objects.specs.declared.place.PlaceFixed.{PlaceFixed}
 use Rattle.rx_objects.specs.Noted.{Notes, IsOfPlace, AreOfPlaces}
 use Rattle.rx_objects.specs.Ending.{IsMet, MeetingShows}
 use Rattle.rx_activities.specs.Knowing.{PlaceIs}
-use Rattle.rx_live.specs.Inside.Stations.{PostName, AreFrom}
+use Rattle.rx_stations.specs.Stations.{PostName, AreFrom}
 use Rattle.rx_live.specs.Inside.Ending.{SeatsFrom, MeetsAt, none_dies, views_of}
-use Rattle.rx_live.proofs.Stationing.{post_at, seat_at, seats_set}
+use Rattle.rx_stations.proofs.Stationing.{post_at}
+use Rattle.rx_live.proofs.Seats.{seat_at, seats_set}
 
 pub viewed : (ss : List (Pass EventItem)) (i : ℕ) (s : Pass EventItem) → slice_get ss i ≡ Some s → slice_get (views_of ss) i ≡ Some (view_of s)
 viewed [] i s h = absurd (let w = slice_get_within {A = Pass EventItem} [] i s h in omega (arith, w))

@@ -17,7 +17,7 @@ use Rattle.rx_objects.specs.declared.ledger.LedgerFixed.{LedgerFixed}
 use Rattle.rx_objects.specs.Ledger.{LedgerIsLegal}
 use Rattle.rx_objects.proofs.Ending.{objects_open}
 use Rattle.rx_activities.specs.Knowing.{IsNewSeat}
-use Rattle.rx_live.specs.Inside.Stations.{PostName, AreFrom}
+use Rattle.rx_stations.specs.Stations.{PostName, AreFrom}
 use Rattle.rx_live.specs.Inside.Ending.{SeatsFrom, IsFirst}
 
 -- a setup has 1 to 16 places at first

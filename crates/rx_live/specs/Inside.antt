@@ -1,4 +1,3 @@
 -- What contracts of private functions say; a reader of the public contracts needs none of it.
-pub mod Stations
 pub mod Ending
 pub mod Looking

@@ -13,13 +13,11 @@ ghost use Rattle.rx_objects.specs.Ledger.{LedgerIsLegal};
 ghost use Rattle.rx_objects.specs.Noted.{AreOfPlaces};
 ghost use Rattle.rx_objects.specs.Shown.{board_of, BoardShows};
 ghost use Rattle.rx_objects.specs.Ending.{entries_at, IsHost, IsMet, IsHeard, IsShut, EachShut};
-ghost use Rattle.rx_live.specs.Inside.Stations.{AreFrom};
+ghost use Rattle.rx_stations.specs.Stations.{AreFrom};
 ghost use Rattle.rx_live.specs.Inside.Ending.{SeatsFrom, views_of, IsAnswered, IsReleased, MeetsAt, SeesEnd};
 ghost use Rattle.rx_live.specs.Inside.Ending.{StaysAt, HasSeen, HaveWords, PlacesEnded, ShutsAt, MayBeShut};
 
-use crate::hall::abandon_all;
 use crate::opening::end_board;
-use crate::station::Station;
 use rx_activities::{LedgerPass, Naming};
 use rx_base::{Batch, Gate, NoMemory, PlaceId};
 use rx_book::{Book, Note, Pass};
@@ -34,6 +32,7 @@ use rx_objects::{
     ledger_op_fits,
 };
 use rx_parts_book::{EntryItem, EventItem};
+use rx_stations::{Station, abandon_all};
 use rx_store::Store;
 use rx_ticket::AnyTicket;
 use rx_timely::deaths_of;

@@ -13,18 +13,15 @@ ghost use Rattle.rx_objects.specs.Shown.{board_of, BoardShows};
 ghost use Rattle.rx_history.specs.Events.{events_of};
 ghost use Rattle.rx_history.specs.Setups.{given, to_join};
 ghost use Rattle.rx_live.specs.Inside.Looking.{HaveLooked};
-ghost use Rattle.rx_live.specs.Inside.Stations.{IsHall};
+ghost use Rattle.rx_stations.specs.Stations.{IsHall};
 ghost use Rattle.rx_live.specs.Inside.Ending.{IsMain, MayRelease, RunEnds, SeatsFrom, SeesEnd};
 
 use crate::ending::{
     Closed, Released, close_ledger, close_places, close_stores, meet_notes, meet_worker,
     meet_workers, release,
 };
-use crate::hall::Hall;
 use crate::opening::{Places, end_board, open_ledger, open_words};
-use crate::tally::Tally;
 use crate::watching::{Looked, Looker, beside};
-use crate::worker::Worker;
 use rx_activities::{Activity, LedgerPass, Naming};
 use rx_base::{Gate, NoGate, NoMemory, PlaceId};
 use rx_book::{BareBook, Book, Note, Pass};
@@ -36,6 +33,7 @@ use rx_history::{History, Journals, Setup};
 use rx_monitor::BoardWriter;
 use rx_objects::LedgerObject;
 use rx_parts_book::{EntryItem, EventItem};
+use rx_stations::{Hall, Worker, work};
 use rx_store::Store;
 use rx_ticket::{Live, Ticket};
 use std::alloc::{AllocError, Global};
@@ -231,12 +229,7 @@ fn run_named<'a, N: Naming + Send + Sync, G: Gate + Sync, R: Threads + Wait + Sy
     } = places;
     let Some(first) = first else { unreachable!() };
     let activity = Activity::<N>::main(alloc, p, control, ticket, pass, first);
-    let hall = Hall {
-        program: p,
-        ledger,
-        stations,
-        tally: Tally::of_one(),
-    };
+    let hall = Hall::open(p, ledger, stations);
     hall.begin(rt, activity);
     run_all(rt, alloc, hall, gate, workers, host, seats, looker)
 }
@@ -331,26 +324,6 @@ pub(crate) fn spread<'a, N: Naming + Send + Sync, G: Gate + Sync, R: Threads + W
     )
 }
 
-// One worker from its opening to its end, and what it has kept.
-fn work<'a, N: Naming, G: Gate + Sync, R: Wait>(
-    rt: &R,
-    alloc: Global,
-    hall: &Hall<'a, N, G>,
-    gate: &G,
-    number: u32,
-) -> Option<LedgerPass<N>>
-    requires hall { IsHall N.ledger hall.now.ledger.now hall.now.program.now hall.now.stations.items }
-    requires some { 0 < length hall.now.stations.items }
-{
-    let Some(mut worker) = Worker::open(rt, alloc, hall, number) else {
-        gate.turn(number, 0);
-        hall.tally.refuse();
-        return None;
-    };
-    worker.work(rt, alloc, hall, gate);
-    worker.into_kept()
-}
-
 // What the last request leaves: the notes that came with the root's release, and what the caller has kept as a worker.
 #[derive(Drop)]
 struct Ended<N: Naming> {
@@ -376,7 +349,7 @@ fn go_on_alone<'a, N: Naming, G: Gate + Sync, R: Wait>(
     let mut worker = Worker::open(rt, alloc, hall, 0)?;
     for _request in rt.forever() {
         worker.work(rt, alloc, hall, &NoGate);
-        if hall.tally.is_refused() {
+        if hall.is_refused() {
             return None;
         }
         match release(rt, alloc, hall.program, hall.ledger, host, &seats[0]) {

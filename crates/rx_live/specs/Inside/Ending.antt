@@ -16,7 +16,6 @@ use Rattle.rx_store.specs.Kept.{Kept, ends_closed, last_stamp}
 use Rattle.rx_book.specs.declared.views.Stamped.{Stamped}
 use Rattle.rx_book.specs.declared.views.View.{View}
 use Rattle.rx_book.specs.declared.passes.Pass.{Pass}
-use Rattle.rx_book.specs.declared.passes.Note.{Note}
 use Rattle.rx_book.specs.History.{items_of}
 use Rattle.rx_book.specs.Passes.{view_of, word_of}
 use Rattle.rx_book.specs.Named.{BookName}
@@ -28,9 +27,8 @@ use Rattle.rx_parts_book.specs.declared.items.EventItem.{EventItem}
 use Rattle.rx_objects.specs.declared.ledger.LedgerFixed.{LedgerFixed}
 use Rattle.rx_objects.specs.Ledger.{LedgerIsLegal, is_root_done}
 use Rattle.rx_objects.specs.Noted.{Notes, AllNoted}
-use Rattle.rx_objects.specs.Place.{PlaceIsLegal, PlaceKeeps}
 use Rattle.rx_objects.specs.Ending.{entries_at, IsHost, RootIsTold, IsMet, EachEnds}
-use Rattle.rx_live.specs.Inside.Stations.{PostName}
+use Rattle.rx_stations.specs.Stations.{PostName}
 use Rattle.rx_live.specs.declared.ending.Released.{Released}
 use Rattle.rx_live.specs.declared.ending.Released.TheVariants.{Done, NotYet, NoMemory}
 
@@ -86,15 +84,6 @@ pub record MeetsAt (seats : List (Pass EventItem)) (at : ℕ) (n : View EventIte
   pub word : word_of after ≡ word_of before
   pub met : Met none_dies (view_of before) n (view_of after)
   pub stands : seats' ≡ slice_set seats at after
-
--- the book of place p was closed by a pass that had seen this: its history, the store and the note that it kept
-pub record IsClosed (L : BookName LedgerFixed) (p : ℕ) (seen : List (Stamped EventItem)) (s : Kept) (note : Option (Note EntryItem))
-    : Type 0 where
-  pub history : List (Stamped EventItem)
-  pub lawful : PlaceIsLegal (record { place = record { 0 = p }; words = L.fixed.setup.heap; ledger = L }) history
-  pub begins : IsPrefix seen history
-  pub kept : PlaceKeeps (record { 0 = p }) s L note (items_of history)
-  pub words : s.words ≡ L.fixed.setup.heap
 
 -- the stores have so many words each
 abbrev pub HaveWords : ℕ → List Kept → Type 0

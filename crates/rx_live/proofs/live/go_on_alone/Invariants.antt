@@ -6,5 +6,5 @@ abbrev pub invariant-loop-request : goal.invariant-loop-request
 invariant-loop-request g l =
     (goal.iterator-loop-request g).can_next l._request-iterator
     × (goal.iterator-loop-request g).is_finite l._request-iterator
-    × (l.worker.keys.items ≡ l.fn.hall.stations.items)
+    × (l.worker ≡ l.fn.hall.stations.items)
     × MayRelease g.N.Naming.ledger l.host

@@ -1,5 +1,0 @@
-use Rattle.std.proofs.Common.{length}
-use Rattle.rx_live.proofs.queue.give_up_all.Given as goal
-
-abbrev pub decreases-rest : goal.decreases-rest
-decreases-rest g l = length l.activities.items

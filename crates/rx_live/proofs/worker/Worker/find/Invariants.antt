@@ -1,8 +1,0 @@
-use Rattle.std.proofs.Common.{◌≡◌}
-use Rattle.rx_live.proofs.worker.Worker.find.Given as goal
-
-abbrev pub invariant-loop-look : goal.invariant-loop-look
-invariant-loop-look g l =
-    (goal.iterator-loop-look g).can_next l._look-iterator
-    × (goal.iterator-loop-look g).is_finite l._look-iterator
-    × (l.self.keys.items ≡ l.initial.self.keys.items)

@@ -1,0 +1,2 @@
+pub mod Stationing
+pub mod Crosses

@@ -1,0 +1,279 @@
+// A place, as the workers share it.
+ghost use Rattle.std.specs.Prelude.{◌≡◌, Some, IfOk, IfSome, slice_get};
+ghost use Rattle.rx_book.specs.Passes.{view_of, word_of};
+ghost use Rattle.rx_activities.specs.Knowing.{PlaceIs, IsNewSeat};
+ghost use Rattle.rx_stations.specs.Stations.{IsPlaceBook};
+ghost use Rattle.rx_stations.specs.Closed.{IsClosed};
+
+use crate::keys::{Keys, Letter};
+use crate::queue::Queue;
+use rx_activities::{Activity, Naming, Traveller};
+use rx_base::{Gate, NoMemory, PlaceId};
+use rx_book::{Book, Note, Pass};
+use rx_lock::{Fact, Lock};
+use rx_mail::Mail;
+use rx_objects::PlaceObject;
+use rx_parts_book::{EntryItem, EventItem};
+use rx_store::Store;
+use std::alloc::Global;
+use std::marker::Model;
+use std::snapshot::Snapshot;
+use std::sync::atomic::{AtomicU64, Ordering};
+use std::sync::{Mutex, Wait};
+
+// The keys under the lock are those of the place and the mailbox for which the lock was made.
+pub(crate) struct AreOf;
+
+impl<N: Naming> Fact<Keys<N>, Snapshot<Keys<N>>> for AreOf {
+    ghost use Rattle.std.specs.Prelude.{◌≡◌};
+
+    ghost holds = { λ first keys. keys ≡ first.value };
+}
+
+/// A place with its book, the activities that are there, and the mailbox of those that are on their way to it. Contracts see the
+/// place and the mailbox. It can't be dropped.
+pub struct Station<'a, N: Naming, G: Gate + Sync> {
+    place: PlaceId,
+    book: Book<PlaceObject<'a, G>>,
+    mail: Mail<Letter<N>>,
+    // The first keys. Those of the workers are made from them.
+    keys: Lock<Keys<N>, Snapshot<Keys<N>>, AreOf>,
+    queue: Mutex<Queue<N>>,
+    // How many activities may go on here or arrive. Where there is none, no lock is taken to see it.
+    stock: AtomicU64,
+    // How many wait here.
+    waiting: AtomicU64,
+}
+
+impl<'a, N: Naming, G: Gate + Sync> Model for Station<'a, N, G> {
+    ghost use Rattle.std.specs.Prelude.{◌≡◌};
+    ghost use Rattle.rx_stations.specs.Stations.{PostName, IsPlaceBook};
+
+    ghost Value = { PostName };
+
+    ghost view = { λ s. record { place = s.place; mail = s.mail } };
+
+    ghost invariant = { λ s. IsPlaceBook N.ledger s.place s.book × (s.keys.key.value ≡ record { place = s.place; mail = s.mail }) };
+}
+
+/// How many turns a worker makes of one activity before it puts it back behind the others.
+pub(crate) const TURNS: u32 = 32;
+
+/// An activity in a worker's hand.
+pub(crate) struct Held<N: Naming> {
+    pub(crate) activity: Activity<N>,
+    /// How many turns are left before it is put back.
+    pub(crate) turns: u32,
+    /// Whether it waited before.
+    pub(crate) waited: bool,
+}
+
+/// What a worker may do.
+pub(crate) enum Job<N: Naming> {
+    /// A turn of an activity.
+    Move(Held<N>),
+    /// The arrival of one.
+    Land(Letter<N>),
+}
+
+impl<'a, N: Naming, G: Gate + Sync> Station<'a, N, G> {
+    /// A place without activities, by a first pass of its book that has seen nothing. `Err` is want of memory, and hands the book
+    /// back.
+    pub fn open(
+        alloc: Global,
+        place: PlaceId,
+        book: Book<PlaceObject<'a, G>>,
+        seat: Pass<EventItem>,
+    ) -> Result<Station<'a, N, G>, Book<PlaceObject<'a, G>>>
+        requires place { IsPlaceBook N.ledger place book }
+        requires seat { IsNewSeat N.ledger place seat }
+        ensures { IfOk result (λ s. s.place ≡ place) }
+    {
+        let Ok((mail, pass)) = Mail::open(alloc) else {
+            return Err(book);
+        };
+        let first = Keys {
+            place,
+            seat,
+            mail: pass,
+        };
+        let key = Snapshot::of(&first);
+        let made: Result<Lock<_, _, AreOf>, _> = Lock::new(alloc, first, &key);
+        let Ok(keys) = made else {
+            mail.end();
+            return Err(book);
+        };
+        Ok(Station {
+            place,
+            book,
+            mail,
+            keys,
+            queue: Mutex::new(Queue::new(alloc)),
+            stock: AtomicU64::new(0),
+            waiting: AtomicU64::new(0),
+        })
+    }
+
+    /// Its book.
+    pub fn book(&self) -> &Book<PlaceObject<'a, G>>
+        ensures { PlaceIs N.ledger self.now.place result.now }
+    {
+        &self.book
+    }
+
+    /// Keys of its own for a worker. `None` is want of memory.
+    pub(crate) fn new_keys<R: Wait>(&self, rt: &R) -> Option<Keys<N>>
+        ensures { IfSome result (λ k. k ≡ self.now) }
+    {
+        let (mut first, turn) = self.keys.lock(rt);
+        let made = self.split_keys(&mut first);
+        self.keys.unlock(turn, first);
+        made
+    }
+
+    // Keys from other keys of this place.
+    fn split_keys(&self, first: &mut Keys<N>) -> Option<Keys<N>>
+        requires { first.old ≡ self.now }
+        ensures same { first.new ≡ first.old }
+        ensures made { IfSome result (λ k. k ≡ self.now) }
+    {
+        let seat = self.new_seat(first);
+        let Ok(mail) = self.mail.split(&mut first.mail) else {
+            return None;
+        };
+        Some(Keys {
+            place: self.place,
+            seat,
+            mail,
+        })
+    }
+
+    /// A pass of the place's book for an activity that arrives.
+    pub(crate) fn new_seat(&self, keys: &mut Keys<N>) -> Pass<EventItem>
+        requires { keys.old ≡ self.now }
+        ensures same { keys.new ≡ keys.old }
+        ensures seat { IsNewSeat N.ledger self.now.place result }
+    {
+        match self.book.split(&mut keys.seat) {
+            Ok(seat) => seat,
+            Err(_) => unreachable!(),
+        }
+    }
+
+    /// Sends an activity to this place. False is want of memory, and then it is gone.
+    pub(crate) fn send<R: Wait>(&self, rt: &R, keys: &mut Keys<N>, traveller: Traveller<N>) -> bool
+        requires { keys.old ≡ self.now }
+        ensures { keys.new ≡ keys.old }
+    {
+        let sent = self.mail.send_as(rt, &mut keys.mail, Letter { traveller });
+        if sent.is_ok() {
+            self.stock.fetch_add(1, Ordering::SeqCst);
+        }
+        sent.is_ok()
+    }
+
+    /// Puts an activity that may go on behind the others here. A refusal is want of memory, and hands it back.
+    pub(crate) fn put<R: Wait>(&self, rt: &R, a: Activity<N>) -> Result<(), Activity<N>> {
+        let put = self.queue.lock(rt).put(a);
+        if put.is_ok() {
+            self.stock.fetch_add(1, Ordering::SeqCst);
+        }
+        put
+    }
+
+    /// Puts an activity that waits behind the others here. A refusal is want of memory, and hands it back.
+    pub(crate) fn rest<R: Wait>(
+        &self,
+        rt: &R,
+        a: Activity<N>,
+        looked_at: bool,
+    ) -> Result<(), Activity<N>> {
+        let put = self.queue.lock(rt).rest(a, looked_at);
+        if put.is_ok() {
+            self.waiting.fetch_add(1, Ordering::SeqCst);
+        }
+        put
+    }
+
+    /// What may be made here next, where there is something.
+    pub(crate) fn next_job<R: Wait>(&self, rt: &R, keys: &mut Keys<N>) -> Option<Job<N>>
+        requires { keys.old ≡ self.now }
+        ensures { keys.new ≡ keys.old }
+    {
+        if self.stock.load(Ordering::SeqCst) == 0 {
+            return None;
+        }
+        let job = match self.mail.take_as(rt, &mut keys.mail) {
+            Some(letter) => Some(Job::Land(letter)),
+            None => match self.queue.lock(rt).next() {
+                Some(activity) => Some(Job::Move(Held {
+                    activity,
+                    turns: TURNS,
+                    waited: false,
+                })),
+                None => None,
+            },
+        };
+        if job.is_some() {
+            self.stock.fetch_sub(1, Ordering::SeqCst);
+        }
+        job
+    }
+
+    /// The next of those that wait here, where it was not looked at since so many were over, or where each is to be looked at again.
+    pub(crate) fn next_waiting<R: Wait>(
+        &self,
+        rt: &R,
+        over: u64,
+        again: bool,
+    ) -> Option<Activity<N>> {
+        if self.waiting.load(Ordering::SeqCst) == 0 {
+            return None;
+        }
+        let next = self.queue.lock(rt).next_waiting(over, again);
+        if next.is_some() {
+            self.waiting.fetch_sub(1, Ordering::SeqCst);
+        }
+        next
+    }
+
+    // The book alone. What else is here is given up.
+    fn into_book<R: Wait>(self, rt: &R) -> Book<PlaceObject<'a, G>>
+        ensures { IsPlaceBook N.ledger self.entry.place result }
+    {
+        let Station {
+            place: _,
+            book,
+            mail,
+            keys,
+            queue,
+            stock: _,
+            waiting: _,
+        } = self;
+        queue.into_inner().end();
+        mail.end();
+        let (_first, turn) = keys.lock(rt);
+        keys.close(turn);
+        book
+    }
+
+    /// Gives up what is here.
+    pub fn abandon<R: Wait>(self, rt: &R) {
+        let _object = self.into_book(rt).abandon(rt);
+    }
+
+    /// Closes the book by the host's pass, and gives the store and the note that the place kept.
+    pub fn close<R: Wait>(self, rt: &R, seat: Pass<EventItem>) -> (Store, Option<Note<EntryItem>>)
+        requires { slice_get N.ledger.fixed.places self.place.0 ≡ Some (word_of seat) }
+        ensures { IsClosed N.ledger self.entry.place.0 (view_of seat).seen result.0 result.1 }
+    {
+        let book = self.into_book(rt);
+        match book.close(rt, seat) {
+            Ok(object) => object.into_parts(),
+            Err(refused) => {
+                let (_book, _pass, _) = refused;
+                unreachable!()
+            }
+        }
+    }
+}

@@ -1,23 +1,21 @@
 -- The places that are dead in the tree to which a history folds are those whose deaths stand in it.
-use Rattle.std.specs.Prelude.{◌≡◌, ℕ, zero, suc, ◌+◌, ◌*◌, ◌/◌, ◌%◌, ◌^◌, ◌<◌, ◌==◌, ◌||◌, cond, Bool, true, false, length, List, [], ◌∷◌, ◌++◌, not, filter, replicate, slice_index_or, slice_set, Option, Some, None, is_some, refl}
+use Rattle.std.specs.Prelude.{◌≡◌, ℕ, zero, suc, ◌+◌, ◌*◌, ◌/◌, ◌%◌, ◌^◌, ◌<◌, ◌==◌, ◌||◌, cond, Bool, true, false, length, List, [], ◌∷◌, slice_index_or, slice_set, Option, Some, None, is_some, refl}
 use Rattle.std.proofs.Common.{sym, ap, ◌∙◌, arith}
 use Rattle.std.specs.Int.{bit_at}
+use Rattle.std.proofs.Math.Bool.{or-true}
 use Rattle.std.proofs.lemmas.Bool.{eqb-true, eqb-false}
 use Rattle.std.proofs.lemmas.List.{get_or-set_same, get_or-set_other, length-set}
 use Rattle.std.proofs.lemmas.Nat.Bits.{bit_at-zero, bit_at-suc, bit_at_lowest}
 use Rattle.rx_base.specs.Sets.{has_bit}
-use Rattle.rx_base.specs.declared.ids.TaskId.{TaskId}
-use Rattle.rx_base.specs.declared.values.Fault.{Fault}
-use Rattle.rx_rules.specs.declared.entries.Act.TheVariants.{Open, At as Calls, Spawn, Arrive, Wait, Release, End, Print, Census}
+use Rattle.rx_base.proofs.Bools.{same-or-false}
 use Rattle.rx_rules.specs.declared.entries.Entry.{Entry}
 use Rattle.rx_rules.specs.declared.entries.Entry.TheVariants.{Step, Root, Death, Join}
-use Rattle.rx_rules.specs.declared.entries.Act.{Act}
-use Rattle.rx_rules.specs.Tree.{Tree, is_task, task_of}
-use Rattle.rx_rules.specs.Entries.{made, made_act, after_end, change_scope}
+use Rattle.rx_rules.specs.Tree.{Tree}
+use Rattle.rx_rules.specs.Entries.{made, made_act}
 use Rattle.rx_rules.specs.Fold.{opening, fold_from, tree_of}
 use Rattle.rx_ledger.specs.Told.{dies_in}
 use Rattle.rx_objects.specs.Shown.{dead_bits}
-use Rattle.rx_sound.proofs.Histories.{no_dead}
+use Rattle.rx_sound.proofs.Histories.{no_dead, dead-act}
 
 -- The number of the dead.
 
@@ -44,30 +42,8 @@ few_bits (d ∷ ds) = twice d (dead_bits ds) (length ds) (few_bits ds)
 
 -- The dead of a tree.
 
-dead_end : (T : Tree) (t : TaskId) (thrown : List Fault) → (after_end T t thrown).dead ≡ T.dead
-dead_end T t thrown =
-    elim (task_of T t) as
-    (λ o. (elim o as (λ _. Tree) [
-      | Some x ↦ change_scope (λ g. record g { ends = g.ends ++ thrown }) x.under (record T { tasks = filter (λ y. not (is_task t y)) T.tasks })
-      | None ↦ T
-    ]).dead ≡ T.dead) [
-      | Some x ↦ refl
-      | None ↦ refl
-    ]
-
-dead_act : (T : Tree) (t : TaskId) (act : Act) → (made_act T t act).dead ≡ T.dead
-dead_act T t (Open s r path) = refl
-dead_act T t (Calls s r callee from to path) = refl
-dead_act T t (Spawn child s from to path) = refl
-dead_act T t (Arrive p) = refl
-dead_act T t (Wait s thrown) = refl
-dead_act T t (Release s lost masked thrown) = refl
-dead_act T t (End thrown) = dead_end T t thrown
-dead_act T t (Print value path) = refl
-dead_act T t (Census places path) = refl
-
 length_now : (n : ℕ) (T : Tree) (e : Entry) → length (made n T e).dead ≡ length T.dead
-length_now n T (Step t act batch) = ap length (dead_act T t act)
+length_now n T (Step t act batch) = ap length (dead-act T t act)
 length_now n T (Root lost masked thrown) = refl
 length_now n T (Death d) = length-set T.dead d.0 (Some n)
 length_now n T (Join p) = refl
@@ -76,27 +52,19 @@ length_from : (n : ℕ) (T : Tree) (es : List Entry) → length (fold_from n T e
 length_from n T [] = refl
 length_from n T (e ∷ es) = length_from (suc n) (made n T e) es ∙ length_now n T e
 
-or_true : (b : Bool) → (b || true) ≡ true
-or_true true = refl
-or_true false = refl
-
 struck : (ds : List (Option ℕ)) (n d p : ℕ) (later : Bool) → p < length ds → (b : Bool) → (d == p) ≡ b
     → (is_some (slice_index_or (slice_set ds d (Some n)) p None) || later) ≡ (is_some (slice_index_or ds p None) || (b || later))
 struck ds n d p later low true e =
     let same : d ≡ p = eqb-true d p e in
-    ap (λ (o : Option ℕ). is_some o || later) (ap (λ (k : ℕ). slice_index_or (slice_set ds k (Some n)) p None) same ∙ get_or-set_same ds p (Some n) None low) ∙ sym (or_true (is_some (slice_index_or ds p None)))
+    ap (λ (o : Option ℕ). is_some o || later) (ap (λ (k : ℕ). slice_index_or (slice_set ds k (Some n)) p None) same ∙ get_or-set_same ds p (Some n) None low) ∙ sym (or-true (is_some (slice_index_or ds p None)))
 struck ds n d p later low false e = ap (λ (o : Option ℕ). is_some o || later) (get_or-set_other ds d p (Some n) None (λ v. eqb-false d p e (sym v)))
-
-or_false : (b : Bool) → b ≡ (b || false)
-or_false true = refl
-or_false false = refl
 
 dead_from : (n : ℕ) (T : Tree) (es : List Entry) (p : ℕ) → p < length T.dead
     → is_some (slice_index_or (fold_from n T es).dead p None) ≡ (is_some (slice_index_or T.dead p None) || dies_in p es)
-dead_from n T [] p low = or_false (is_some (slice_index_or T.dead p None))
+dead_from n T [] p low = same-or-false (is_some (slice_index_or T.dead p None))
 dead_from n T (Step t act batch ∷ es) p low =
     dead_from (suc n) (made_act T t act) es p (let e = length_now n T (Step t act batch) in omega (arith, low, e))
-    ∙ ap (λ (ds : List (Option ℕ)). is_some (slice_index_or ds p None) || dies_in p es) (dead_act T t act)
+    ∙ ap (λ (ds : List (Option ℕ)). is_some (slice_index_or ds p None) || dies_in p es) (dead-act T t act)
 dead_from n T (Root lost masked thrown ∷ es) p low = dead_from (suc n) (made n T (Root lost masked thrown)) es p low
 dead_from n T (Join q ∷ es) p low = dead_from (suc n) (made n T (Join q)) es p low
 dead_from n T (Death d ∷ es) p low =

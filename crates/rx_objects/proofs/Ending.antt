@@ -33,8 +33,8 @@ use Rattle.rx_parts.proofs.Reading.{root-ends}
 use Rattle.rx_parts.proofs.Closing.{parts-run}
 use Rattle.rx_parts_book.specs.declared.items.EntryItem.{EntryItem}
 use Rattle.rx_parts_book.specs.declared.items.EventItem.{EventItem}
-use Rattle.rx_parts_book.specs.Histories.{ledger_item, ledger_items, made_event, made_events}
-use Rattle.rx_parts_book.proofs.Closes.{closes-fit}
+use Rattle.rx_parts_book.specs.Histories.{ledger_item, ledger_items, made_events}
+use Rattle.rx_parts_book.proofs.Closes.{closes-fit, prefixes-stay}
 use Rattle.rx_objects.specs.declared.ledger.LedgerFixed.{LedgerFixed}
 use Rattle.rx_objects.specs.Noted.{Notes}
 use Rattle.rx_objects.specs.Ledger.{LedgerIsLegal}
@@ -148,9 +148,6 @@ at_place ledger h n views p (suc i) (s ∷ ss) (k ∷ ks) lt e =
     let same : suc p + i ≡ p + suc i = omega arith in
     record { store = g.store; history = g.history; got = g.got; ends = subst (λ (z : ℕ). PlaceEnds ledger h n views z g.store g.history) same g.ends }
 
-map_prefix : {X Y : Type 0} (f : X → Y) (xs ys : List X) → IsPrefix xs ys → IsPrefix (map f xs) (map f ys)
-map_prefix f xs ys h = (map f h.0, sym (map-append f xs h.0) ∙ ap (map f) h.1)
-
 -- notes that were met begin the places' histories
 notes_begin : (ledger : BookName LedgerFixed) (h : List (Stamped EntryItem)) (n : ℕ) (views : List (View EventItem)) (ss : List Kept) (ks : List (List (Stamped EventItem))) (notes : Notes)
     → EachEnds ledger h n views 0 ss ks → length views ≡ length ks → All (IsMet views) notes → NotesBegin (map made_events ks) notes
@@ -164,7 +161,7 @@ notes_begin ledger h n views ss ks notes e all met = All-weaker (IsMet views) (H
         let one : u ≡ g.ends.view = one_item (slice_get views m.0.0) u g.ends.view there pass in (
           made_events g.history,
           got_map made_events ks m.0.0 g.history g.got,
-          map_prefix made_event (note_view m.1).seen g.history
+          prefixes-stay.1 (note_view m.1).seen g.history
               (prefix_trans (note_view m.1).seen u.seen g.history front (subst (λ (x : View EventItem). IsPrefix x.seen g.history) (sym one) g.ends.begins)),
         )
 

@@ -148,7 +148,7 @@ none_named : (t : ℕ) (more : List (Stamped EntryItem)) → NoneOf t (ledger_it
 none_named t [] h = refl
 none_named t (x ∷ more) h = λ i. at_other t x.item.entry (map event_named x.item.events) h.0 i ++ none_named t more h.1 i
 
-items_append : (g more : List (Stamped EntryItem)) → items_of (g ++ more) ≡ items_of g ++ items_of more
+pub items_append : (g more : List (Stamped EntryItem)) → items_of (g ++ more) ≡ items_of g ++ items_of more
 items_append g more = map-append (λ (x : Stamped EntryItem). x.item) g more
 
 module _ (f : LedgerFixed) (place : EntryItem → Option ℕ) (v : View EntryItem) (log : List (Stamped EntryItem)) (op : LedgerOp) (own : v.mine ≡ entries_by v.number v.seen) (begins : Begins place v log) where

@@ -28,6 +28,7 @@ use Rattle.rx_objects.specs.Mentioned.{entries_in}
 use Rattle.rx_objects.specs.Asking.{host_number}
 use Rattle.rx_objects.specs.Ledger.{IsHosts, HostReleases, LedgerIsLegal, LedgerDoes, HandsOut, frees, is_root_done}
 use Rattle.rx_objects.specs.Ending.{entries_at, IsHost, RootIsTold, HostIsTold}
+use Rattle.rx_objects.proofs.Fitting.{items_append}
 use Rattle.rx_objects.proofs.Staying.{cancel}
 use Rattle.rx_objects.proofs.Leaving.{entries_mapped}
 
@@ -111,12 +112,9 @@ new_goes k k' q r new is n false a =
     subst NoRoot (cancel k.entries (due_entries a.due ++ g.0) new (sym (append_assoc k.entries (due_entries a.due) g.0) ∙ (sym g.1 ∙ is)))
     (no_root_both (due_entries a.due) g.0 (no_root_due a.due) g.2)
 
-items_stamped : (c : List ℕ) (xs : List EntryItem) → items_of (stamp_all c xs) ≡ xs
+pub items_stamped : (c : List ℕ) (xs : List EntryItem) → items_of (stamp_all c xs) ≡ xs
 items_stamped c [] = refl
 items_stamped c (x ∷ xs) = ap (λ (l : List EntryItem). x ∷ l) (items_stamped c xs)
-
-items_both : (xs ys : List (Stamped EntryItem)) → items_of (xs ++ ys) ≡ items_of xs ++ items_of ys
-items_both xs ys = map-append (λ (x : Stamped EntryItem). x.item) xs ys
 
 entries_both : (xs ys : List EntryItem) → entries_in (xs ++ ys) ≡ entries_in xs ++ entries_in ys
 entries_both xs ys = map-append (λ (x : EntryItem). x.entry) xs ys
@@ -132,7 +130,7 @@ module _ (f : LedgerFixed) (place : EntryItem → Option ℕ) (v w : View EntryI
   lines = entries_at before
 
   whole : items_of before ++ c.added ≡ items_of w.seen
-  whole = ap (λ (l : List EntryItem). items_of before ++ l) (sym (items_stamped v.number c.added)) ∙ (sym (items_both before (stamp_all v.number c.added)) ∙ ap items_of (sym c.whole))
+  whole = ap (λ (l : List EntryItem). items_of before ++ l) (sym (items_stamped v.number c.added)) ∙ (sym (items_append before (stamp_all v.number c.added)) ∙ ap items_of (sym c.whole))
 
   new_lines : entries_in c.added ≡ does.new
   new_lines = ap entries_in does.items ∙ entries_mapped op.mentions does.new
@@ -182,7 +180,7 @@ module _ (f : LedgerFixed) (place : EntryItem → Option ℕ) (v w : View EntryI
         own = c.own ∙ ap (λ (d : List ℕ). entries_by d w.seen) (sym c.same.0);
         unreleased = (let mine : entries_at w.mine ≡ entries_at v.mine ++ does.new =
             ap entries_at c.more
-            ∙ (ap entries_in (items_both v.mine (stamp_all v.number c.added) ∙ ap (λ (l : List EntryItem). items_of v.mine ++ l) (items_stamped v.number c.added))
+            ∙ (ap entries_in (items_append v.mine (stamp_all v.number c.added) ∙ ap (λ (l : List EntryItem). items_of v.mine ++ l) (items_stamped v.number c.added))
             ∙ (entries_both (items_of v.mine) c.added ∙ ap (λ (l : List Entry). entries_at v.mine ++ l) new_lines)) in
             subst NoRoot (sym mine) (no_root_both (entries_at v.mine) does.new host.unreleased (new_goes old new op.request r.reply does.new refl other (is_refusal r.reply) does.applied)));
       }

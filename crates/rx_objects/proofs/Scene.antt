@@ -1,6 +1,7 @@
 -- What the main activity may ask before its first entry.
 use Rattle.std.specs.Prelude.{◌≡◌, ℕ, ◌≤◌, List, [], ◌∷◌, map, Option, Some, None, slice_get, refl}
 use Rattle.std.proofs.Common.{ap, sym, ◌∙◌, subst, arith}
+use Rattle.std.proofs.lemmas.Option.{same_Some}
 use Rattle.rx_base.specs.declared.ids.TaskId.{TaskId}
 use Rattle.rx_rules.specs.Code.{Block}
 use Rattle.rx_rules.specs.Terms.{Empty, items, no_vars, does, begins, Does, Local, Makes, Gets, Puts, Forgets, Opens, Calls, Spawns, Waits, Releases, Prints, Counts, Done}
@@ -101,9 +102,6 @@ next_opens (Prints value) h = absurd (let f : ⊥ = cc h in f)
 next_opens (Counts name) h = absurd (let f : ⊥ = cc h in f)
 next_opens (Done faults) h = absurd (let f : ⊥ = cc h in f)
 
-same_caller : (a b : Caller) → Some a ≡ Some b → a ≡ b
-same_caller a b h = cc h
-
 pub main_opens : (code : Block) (f : LedgerFixed) (v : View EntryItem) (op : LedgerOp) (path : List ℕ) → 1 ≤ f.setup.places → f.setup.places ≤ 16 → v.number ≡ [] → v.seen ≡ []
     → op.request ≡ record { ticket = Running main_caller; ask = AskOpen; batch = []; path = Some path } → op.mentions.before.value ≡ op.mentions.now.value → op.note ≡ None
     → next_of (does (no_vars f.setup.places) 0 (items code [] Empty)) ≡ BookStep WantOpen → begins (items code [] Empty) ≡ Some path → AsksLedger code f v op
@@ -113,7 +111,7 @@ main_opens code f v op path some few number none asks same no_note next begun =
       may = λ low. subst (MayApply (tree_of f.setup.places (entries_in (items_of v.seen)))) (sym asks)
           (main_begins f.setup.places (entries_in (items_of v.seen)) main_caller (ap (λ (l : List (Stamped EntryItem)). entries_in (items_of l)) none) refl, tt);
       holds = λ who is.
-          let it : main_caller ≡ who = same_caller main_caller who (ap (λ (q : Request). asker q.ticket) (sym asks) ∙ is) in
+          let it : main_caller ≡ who = same_Some main_caller who (ap (λ (q : Request). asker q.ticket) (sym asks) ∙ is) in
           (main_actor code f.setup.places, ap (λ (w : Caller). slice_get (main_actor code f.setup.places ∷ []) w.task.0) (sym it), sym number);
       asks = subst (λ (q : Request). RequestIsMade (main_actor code f.setup.places ∷ []) v.reach v.number (map event_named (events_new op.mentions)) q) (sym asks) made;
       note = subst (λ (o : Option (Note EventItem)). NoteSuits f.places (items_of v.seen) op.request.ticket (map event_named (events_new op.mentions)) o) (sym no_note) nothing;

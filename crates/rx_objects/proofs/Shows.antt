@@ -1,65 +1,37 @@
 -- The board of the ledger's object.
-use Rattle.std.specs.Prelude.{◌≡◌, ℕ, zero, suc, ◌<◌, ◌≤◌, ◌==◌, Bool, true, false, ◌||◌, not, cond, List, [], ◌∷◌, ◌++◌, map, filter, take, length, Option, Some, MatchBool, refl}
+use Rattle.std.specs.Prelude.{◌≡◌, ℕ, zero, suc, ◌<◌, ◌≤◌, ◌==◌, Bool, true, false, ◌||◌, not, List, [], ◌∷◌, ◌++◌, map, take, length, Option, Some, MatchBool, refl}
 use Rattle.std.proofs.Common.{sym, subst, ap, ◌∙◌, arith, length-append}
-use Rattle.std.specs.List.{AllByRecursion}
-use Rattle.std.proofs.lemmas.List.{append-nil}
+use Rattle.std.proofs.Math.Bool.{or-true}
+use Rattle.std.proofs.Math.Seq.{take-length, take-append_seam}
+use Rattle.std.proofs.lemmas.List.{append-nil, length-take-le, take-take}
 use Rattle.rx_base.specs.Sets.{has_bit, all_places, MembersMakeTheSet}
 use Rattle.rx_base.specs.declared.place_set.PlaceSet.{PlaceSet}
+use Rattle.rx_base.proofs.Bools.{same-or-false}
 use Rattle.rx_rules.specs.declared.entries.Entry.{Entry}
 use Rattle.rx_rules.specs.declared.entries.Entry.TheVariants.{Step, Root, Death, Join}
 use Rattle.rx_rules.specs.Fold.{tree_of}
+use Rattle.rx_sound.proofs.Changes.{each_more}
 use Rattle.rx_history.specs.declared.setup.Setup.{Setup}
 use Rattle.rx_finish.specs.declared.totals.Totals.{Totals}
 use Rattle.rx_finish.specs.Totals.{totals_of}
+use Rattle.rx_counts.proofs.Hindering.{filter_same, places_low}
 use Rattle.rx_ledger.specs.Keeping.{HasDead}
 use Rattle.rx_ledger.specs.declared.asks.Request.{Request}
 use Rattle.rx_ledger.specs.declared.asks.Reply.{Reply}
 use Rattle.rx_ledger.specs.Kept.{Kept, is_refusal, Applied, AppliedIf}
 use Rattle.rx_ledger.specs.Told.{dies_in}
+use Rattle.rx_ledger.proofs.Granted.{map_snoc}
 use Rattle.rx_monitor.specs.declared.summary.Summary.{Summary}
 use Rattle.rx_monitor.specs.Boards.{Listing, EndsWith, MayFollow}
 use Rattle.rx_monitor.specs.Sums.{Rises}
 use Rattle.rx_objects.specs.Shown.{dead_bits, summary_at, summary_of, whole_of, ShowsUpTo, BoardShows}
 use Rattle.rx_objects.proofs.Dying.{dead_as_told, dead_few}
 
--- Beginnings.
-
-take_all : {X : Type 0} (xs : List X) → take (length xs) xs ≡ xs
-take_all [] = refl
-take_all (x ∷ xs) = ap (λ l. x ∷ l) (take_all xs)
-
-take_take : {X : Type 0} (m n : ℕ) (xs : List X) → m ≤ n → take m (take n xs) ≡ take m xs
-take_take zero n xs le = refl
-take_take (suc m) zero xs le = absurd (omega arith)
-take_take (suc m) (suc n) [] le = refl
-take_take (suc m) (suc n) (x ∷ xs) le = ap (λ l. x ∷ l) (take_take m n xs (omega arith))
-
-take_length : {X : Type 0} (n : ℕ) (xs : List X) → n ≤ length xs → length (take n xs) ≡ n
-take_length zero xs le = refl
-take_length (suc n) [] le = absurd (omega arith)
-take_length (suc n) (x ∷ xs) le = ap suc (take_length n xs (omega arith))
-
-pub take_front : {X : Type 0} (xs ys : List X) → take (length xs) (xs ++ ys) ≡ xs
-take_front [] ys = refl
-take_front (x ∷ xs) ys = ap (λ l. x ∷ l) (take_front xs ys)
-
 -- The summary of all entries.
-
-same_filter : (f g : ℕ → Bool) (xs : List ℕ) → AllByRecursion (λ p. f p ≡ g p) xs → filter f xs ≡ filter g xs
-same_filter f g [] all = refl
-same_filter f g (x ∷ xs) all =
-    ap (λ b. cond b (x ∷ filter f xs) (filter f xs)) all.0 ∙ ap (λ ys. cond (g x) (x ∷ ys) ys) (same_filter f g xs all.1)
-
-places_low : AllByRecursion (λ p. p < 16) all_places
-places_low = (omega arith, (omega arith, (omega arith, (omega arith, (omega arith, (omega arith, (omega arith, (omega arith, (omega arith, (omega arith, (omega arith, (omega arith, (omega arith, (omega arith, (omega arith, (omega arith, tt))))))))))))))))
-
-at_all : (P : ℕ → Type 0) → ((p : ℕ) → p < 16 → P p) → (ps : List ℕ) → AllByRecursion (λ p. p < 16) ps → AllByRecursion P ps
-at_all P h [] low = tt
-at_all P h (p ∷ ps) low = (h p low.0, at_all P h ps low.1)
 
 same_set : MembersMakeTheSet → (a b : PlaceSet) → a.0 < 65536 → b.0 < 65536 → ((p : ℕ) → p < 16 → has_bit a.0 p ≡ has_bit b.0 p) → a ≡ b
 same_set law a b la lb same =
-    law a b la lb (same_filter (has_bit a.0) (has_bit b.0) all_places (at_all (λ p. has_bit a.0 p ≡ has_bit b.0 p) same all_places places_low))
+    law a b la lb (filter_same (has_bit a.0) (has_bit b.0) all_places (each_more (λ (p : ℕ). p < 16) (λ p. has_bit a.0 p ≡ has_bit b.0 p) same all_places places_low))
 
 abbrev pub told : ℕ → Totals → PlaceSet → Summary
 told n t d = record { len = n; scopes = t.scopes; live = t.live; travel = t.travel; dead = d }
@@ -72,7 +44,7 @@ summary_is law k n t d len all none dead few =
     let totals : t ≡ totals_of (tree_of places es) = all ∙ ap (λ (l : List Entry). totals_of (tree_of places l)) (ap (λ (l : List Entry). es ++ l) none ∙ append-nil es) in
     let dead_is : d ≡ record { 0 = dead_bits (tree_of places es).dead } =
     same_set law d (record { 0 = dead_bits (tree_of places es).dead }) few (dead_few places es) (λ p low. dead p low ∙ sym (dead_as_told places es p low)) in
-    subst (λ (l : List Entry). told n t d ≡ summary_at (length es) (tree_of places l)) (sym (take_all es)) (λ i. told (len i) (totals i) (dead_is i))
+    subst (λ (l : List Entry). told n t d ≡ summary_at (length es) (tree_of places l)) (sym (take-length es)) (λ i. told (len i) (totals i) (dead_is i))
 
 -- What is shown stays.
 
@@ -87,13 +59,13 @@ map_same f g low (m ∷ ms) last r h = λ i. h m (last_low m ms last r.1) i ∷ 
 
 stays : (places : ℕ) (es : List Entry) (before last : ℕ) (shown : List Summary) → before ≤ length es → ShowsUpTo places (take before es) last shown → ShowsUpTo places es last shown
 stays places es before last shown le s =
-    let low : last ≤ before = (let w = s.within in let l = take_length before es le in omega (arith, w, l)) in
+    let low : last ≤ before = (let w = s.within in let l = length-take-le before es le in omega (arith, w, l)) in
     record {
       earlier = s.earlier;
       rises = s.rises;
       within = omega (arith, low, le);
       shown_are = s.shown_are ∙ map_same (summary_of places (take before es)) (summary_of places es) 0 s.earlier last s.rises
-          (λ m m_le. let same : take m (take before es) ≡ take m es = take_take m before es (omega (arith, m_le, low)) in
+          (λ m m_le. let same : take m (take before es) ≡ take m es = take-take m before es (omega (arith, m_le, low)) in
           ap (λ (l : List Entry). summary_at m (tree_of places l)) same);
     }
 
@@ -102,10 +74,6 @@ stays places es before last shown le s =
 rises_more : (low : ℕ) (ms : List ℕ) (n m : ℕ) → n ≤ m → Rises low (ms ++ n ∷ []) → Rises low ((ms ++ n ∷ []) ++ m ∷ [])
 rises_more low [] n m l r = (r.0, (l, tt))
 rises_more low (k ∷ ms) n m l r = (r.0, rises_more k ms n m l r.1)
-
-map_snoc : {A B : Type 0} (f : A → B) (xs : List A) (a : A) → map f (xs ++ a ∷ []) ≡ map f xs ++ f a ∷ []
-map_snoc f [] a = refl
-map_snoc f (x ∷ xs) a = ap (λ l. f x ∷ l) (map_snoc f xs a)
 
 one_more : (places : ℕ) (es : List Entry) (last : ℕ) (old new : List Summary) → ShowsUpTo places es last old → new ≡ old ++ summary_of places es (length es) ∷ [] → ShowsUpTo places es (length es) new
 one_more places es last old new s is =
@@ -148,24 +116,16 @@ may_show k last shown s x ends =
     snoc_last (map (summary_of places es) s.earlier) ends.0 (summary_of places es last) x (sym (map_snoc (summary_of places es) s.earlier last) ∙ (sym s.shown_are ∙ ends.1)) in
     subst (λ (y : Summary). MayFollow y (whole_of k)) is (
       s.within,
-      λ p low set. dead_as_told places (take (length es) es) p low ∙ (ap (dies_in p) (take_all es) ∙ dies_later p last es (sym (dead_as_told places (take last es) p low) ∙ set)),
+      λ p low set. dead_as_told places (take (length es) es) p low ∙ (ap (dies_in p) (take-length es) ∙ dies_later p last es (sym (dead_as_told places (take last es) p low) ∙ set)),
     )
 
 -- A call.
 
-or_false : (b : Bool) → b ≡ (b || false)
-or_false true = refl
-or_false false = refl
-
-or_true : (b : Bool) → (b || true) ≡ true
-or_true true = refl
-or_true false = refl
-
 pub same_shows : (k : Kept) (before : ℕ) (late : Bool) (board : Option Listing) → before ≡ length k.entries → BoardShows k.setup.places (take before k.entries) late board
     → BoardShows k.setup.places k.entries (late || not true) board
 same_shows k before late board is h =
-    subst (λ (b : Bool). BoardShows k.setup.places k.entries b board) (or_false late)
-    (subst (λ (es : List Entry). BoardShows k.setup.places es late board) (ap (λ (n : ℕ). take n k.entries) is ∙ take_all k.entries) h)
+    subst (λ (b : Bool). BoardShows k.setup.places k.entries b board) (same-or-false late)
+    (subst (λ (es : List Entry). BoardShows k.setup.places es late board) (ap (λ (n : ℕ). take n k.entries) is ∙ take-length k.entries) h)
 
 pub may_follow : (k : Kept) (before : ℕ) (late : Bool) (l : Listing) → before ≤ length k.entries → BoardShows k.setup.places (take before k.entries) late (Some l)
     → (x : Summary) → EndsWith l.list x → MayFollow x (whole_of k)
@@ -176,14 +136,14 @@ pub shows_more : (k : Kept) (before : ℕ) (late : Bool) (old new : Listing) (b 
 shows_more k before late old new true le h is =
     (length k.entries, one_more k.setup.places k.entries h.0 old.list new.list (stays k.setup.places k.entries before h.0 old.list le h.1) is, λ e. refl)
 shows_more k before late old new false le h is =
-    (h.0, subst (ShowsUpTo k.setup.places k.entries h.0) (sym is) (stays k.setup.places k.entries before h.0 old.list le h.1), λ e. absurd (let t : true ≡ false = sym (or_true late) ∙ e in let f : ⊥ = cc t in f))
+    (h.0, subst (ShowsUpTo k.setup.places k.entries h.0) (sym is) (stays k.setup.places k.entries before h.0 old.list le h.1), λ e. absurd (let t : true ≡ false = sym (or-true late) ∙ e in let f : ⊥ = cc t in f))
 
 -- what was shown of the entries before a step is shown of those first entries after it
 pub begins : (k k' : Kept) (new : List Entry) (before : ℕ) (late : Bool) (board : Option Listing) → before ≡ length k.entries → k'.entries ≡ k.entries ++ new → k'.setup ≡ k.setup
     → BoardShows k.setup.places k.entries late board → (before ≤ length k'.entries) × BoardShows k'.setup.places (take before k'.entries) late board
 begins k k' new before late board is entries setup h = (
   let l = ap length entries ∙ length-append k.entries new in omega (arith, l, is),
-  let firsts : take before k'.entries ≡ k.entries = (λ i. take (is i) (entries i)) ∙ take_front k.entries new in
+  let firsts : take before k'.entries ≡ k.entries = (λ i. take (is i) (entries i)) ∙ take-append_seam k.entries new in
       subst (λ (places : ℕ). BoardShows places (take before k'.entries) late board) (ap (λ (s : Setup). s.places) (sym setup))
       (subst (λ (es : List Entry). BoardShows k.setup.places es late board) (sym firsts) h),
 )

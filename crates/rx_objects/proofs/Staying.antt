@@ -2,6 +2,7 @@
 use Rattle.std.specs.Prelude.{◌≡◌, ℕ, suc, Bool, true, false, List, [], ◌∷◌, ◌++◌, map, length, Some, refl}
 use Rattle.std.proofs.Common.{ap, sym, ◌∙◌, subst, append_assoc, inl, inr}
 use Rattle.std.proofs.lemmas.List.{append-nil, map-append}
+use Rattle.std.proofs.lemmas.Option.{same_Some}
 use Rattle.rx_base.specs.declared.ids.PlaceId.{PlaceId}
 use Rattle.rx_rules.specs.declared.tasks.Where.TheVariants.{At as Stays}
 use Rattle.rx_rules.specs.declared.entries.Act.{Act}
@@ -49,7 +50,7 @@ abbrev pub item_by : List ℕ → Mentions → Entry → LedgerItem
 item_by c m e =
     record { by = c; entry = e; events = map event_named (events_new m); holder = (view_of m.child.value).number; seat = (view_of m.seat.value).number }
 
-items_stamped : (c : List ℕ) (m : Mentions) (es : List Entry) → ledger_items (stamp_all c (map (item_for m) es)) ≡ map (item_by c m) es
+pub items_stamped : (c : List ℕ) (m : Mentions) (es : List Entry) → ledger_items (stamp_all c (map (item_for m) es)) ≡ map (item_by c m) es
 items_stamped c m [] = refl
 items_stamped c m (e ∷ es) = ap (λ (l : List LedgerItem). item_by c m e ∷ l) (items_stamped c m es)
 
@@ -69,7 +70,7 @@ host_item : (c : List ℕ) (m : Mentions) (d : Due) (rest : List LedgerItem) →
 host_item c m (Joins p) rest h = (tt, h)
 host_item c m (Dies p) rest h = (tt, h)
 
-all_hosts : (c : List ℕ) (m : Mentions) (ds : List Due) → AllHostItems (map (item_by c m) (due_entries ds))
+pub all_hosts : (c : List ℕ) (m : Mentions) (ds : List Due) → AllHostItems (map (item_by c m) (due_entries ds))
 all_hosts c m [] = tt
 all_hosts c m (d ∷ ds) = host_item c m d (map (item_by c m) (due_entries ds)) (all_hosts c m ds)
 
@@ -81,9 +82,6 @@ pub cancel : {X : Type 0} (xs ys zs : List X) → xs ++ ys ≡ xs ++ zs → ys �
 cancel [] ys zs h = h
 cancel (x ∷ xs) ys zs h = let e : xs ++ ys ≡ xs ++ zs = cc h in cancel xs ys zs e
 
-same_some : (v w : Caller) → Some v ≡ Some w → v ≡ w
-same_some v w h = cc h
-
 -- what a caller with this ticket asks
 record Asked (actors : List Actor) (n : ℕ) (c : List ℕ) (ev : Cells) (batch : List (List ℕ)) (who : Caller) (suits : Term → Does → Type 0) : Type 0 where
   pub does : Does
@@ -94,7 +92,7 @@ record Asked (actors : List Actor) (n : ℕ) (c : List ℕ) (ev : Cells) (batch 
 asked_of : (actors : List Actor) (n : ℕ) (c : List ℕ) (ev : Cells) (batch : List (List ℕ)) (who : Caller) (suits : Term → Does → Type 0)
     → Requests actors n c ev batch (Some who) suits → Asked actors n c ev batch who suits
 asked_of actors n c ev batch who suits r =
-    subst (λ (w : Caller). Asked actors n c ev batch w suits) (sym (same_some who r.who r.asks)) (record { does = r.does; may = r.may; place = r.place; suited = r.suited })
+    subst (λ (w : Caller). Asked actors n c ev batch w suits) (sym (same_Some who r.who r.asks)) (record { does = r.does; may = r.may; place = r.place; suited = r.suited })
 
 module _ (code : Block) (U : Given) (h : List LedgerItem) (legal : LegalLedger code U h) (c : List ℕ) (m : Mentions) (ds : List Due) where
   abbrev events : Cells
@@ -142,7 +140,7 @@ module _ (code : Block) (U : Given) (h : List LedgerItem) (legal : LegalLedger c
       (λ here t d place s. inl (subst (λ (e : Does). Fits here t e act) (sym s.0) (refl, ap place_number place, s.1)))
   answer_stays T es q (Landed ticket) es' f a =
       let k : Comes legal.actors c events q.batch (Some a.who) = subst IsMade a.asked f in
-      let who : a.who ≡ k.who = same_some a.who k.who k.asks in (
+      let who : a.who ≡ k.who = same_Some a.who k.who k.asks in (
         Step a.who.task (Arrive (landing a.who.place)) q.batch ∷ [],
         a.entry.added,
         (λ folds last.

@@ -18,6 +18,7 @@ use Rattle.rx_ledger.specs.Told.{due_entries}
 use Rattle.rx_ledger.specs.Answering.{Answers}
 use Rattle.rx_ledger.specs.Keeping.{Ending}
 use Rattle.rx_ledger.specs.Kept.{Kept, is_refusal, Applied, AppliedIf, Answered, IsHistory}
+use Rattle.rx_runs.proofs.RootLast.{root_last-ends}
 use Rattle.rx_parts.specs.Ledger.{RootIsLast}
 use Rattle.rx_objects.specs.Ledger.{is_root_done, has_some, frees}
 use Rattle.rx_objects.specs.Inside.Stepping.{Stepped}
@@ -50,15 +51,8 @@ no_root_last (Root lost masked thrown ∷ es) h = absurd h
 no_root_last (Death d ∷ es) h = no_root_last es h
 no_root_last (Join d ∷ es) h = no_root_last es h
 
-ends_last : (es : List Entry) → EndsWithRoot es → RootIsLast es
-ends_last [] h = tt
-ends_last (Step t act batch ∷ es) h = ends_last es h
-ends_last (Root lost masked thrown ∷ es) h = h
-ends_last (Death d ∷ es) h = ends_last es h
-ends_last (Join d ∷ es) h = ends_last es h
-
 root_last : (e : Bool) (es : List Entry) → Ending e es → RootIsLast es
-root_last true es h = ends_last es h
+root_last true es h = root_last-ends es h
 root_last false es h = no_root_last es h
 
 -- a longer history has something new

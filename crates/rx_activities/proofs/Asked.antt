@@ -2,6 +2,7 @@
 use Rattle.std.specs.Prelude.{◌≡◌, ◌+◌, ◌<◌, ◌^◌, ℕ, Bool, true, false, List, [], ◌∷◌, ◌++◌, length, map, reverse, Option, Some, None, slice_get, refl}
 use Rattle.std.proofs.Common.{ap, sym, ◌∙◌, subst}
 use Rattle.std.proofs.lemmas.List.{reverse-append, reverse-reverse}
+use Rattle.std.proofs.lemmas.Option.{same_Some}
 use Rattle.rx_base.specs.declared.ids.PlaceId.{PlaceId}
 use Rattle.rx_base.specs.declared.ids.ScopeId.{ScopeId}
 use Rattle.rx_base.specs.declared.values.Fault.{Fault}
@@ -53,7 +54,6 @@ use Rattle.rx_objects.proofs.Staying.{entries_same}
 use Rattle.rx_activities.specs.declared.hand.Hand.{Hand}
 use Rattle.rx_activities.specs.Knowing.{StandsSo, Knows, Serves, since, entries_seen, tree_seen, kinds_told}
 use Rattle.rx_activities.specs.Inside.Sending.{SuitsStep}
-use Rattle.rx_activities.proofs.BelowOwned.{one_caller}
 use Rattle.rx_terms.proofs.Silent.{silent_so}
 use Rattle.rx_terms.specs.Steps.{Silent}
 
@@ -75,9 +75,9 @@ serves_held T Host s = absurd s
 
 -- where its task is
 at_place : (ticket : AnyTicket) (who : Caller) → asker ticket ≡ Some who → asked_place ticket ≡ place_number who.place
-at_place (Moving v) who e = ap (λ (w : Caller). place_number w.place) (one_caller v who e)
-at_place (Running v) who e = ap (λ (w : Caller). place_number w.place) (one_caller v who e)
-at_place (Held v) who e = ap (λ (w : Caller). place_number w.place) (one_caller v who e)
+at_place (Moving v) who e = ap (λ (w : Caller). place_number w.place) (same_Some v who e)
+at_place (Running v) who e = ap (λ (w : Caller). place_number w.place) (same_Some v who e)
+at_place (Held v) who e = ap (λ (w : Caller). place_number w.place) (same_Some v who e)
 at_place Host who e = absurd (let g : ⊥ = cc e in g)
 
 -- Paths.
@@ -156,12 +156,12 @@ module _ (code : Block) (L : BookName LedgerFixed) (a : Hand) (k : Knows L a) (s
   may_wait thrown h who is m =
       let spine : GrantsSpine ks (Waits thrown) (granted [] t) = subst (λ (z : Does). GrantsSpine ks z (granted [] t)) h (spine-grant ks s.stand.vars a.place.0 [] t s.spine) in
       let new = newest (own_told es k.who.task) spine.1.0 OfFinish spine.1.1 in
-      may_wait_next U es who new.0 new.1 folds (ap (λ (w : Caller). own_told es w.task) (sym (one_caller k.who who (sym k.asks ∙ is))) ∙ new.2) m
+      may_wait_next U es who new.0 new.1 folds (ap (λ (w : Caller). own_told es w.task) (sym (same_Some k.who who (sym k.asks ∙ is))) ∙ new.2) m
 
   may_end : (thrown : List Fault) → d ≡ Done thrown → (who : Caller) → asker a.ticket ≡ Some who → MayAskMoving T who → MayAskEnd T who
   may_end thrown h who is m =
       let none : ks ≡ [] = subst (λ (z : Does). EmptyWhereDone ks z) h (spine-done ks s.stand.vars a.place.0 t s.spine) in
-      may_end_next U es who folds (ap (λ (w : Caller). own_told es w.task) (sym (one_caller k.who who (sym k.asks ∙ is))) ∙ none_own (own_told es k.who.task) none) m
+      may_end_next U es who folds (ap (λ (w : Caller). own_told es w.task) (sym (same_Some k.who who (sym k.asks ∙ is))) ∙ none_own (own_told es k.who.task) none) m
 
   -- the ledger may be asked
   pub may_for : (ask : Ask) → SuitsStep d ask → length es + 1 < 2 ^ 31 → MayAskFor T a.ticket (begins t) ask
@@ -192,7 +192,7 @@ module _ (code : Block) (L : BookName LedgerFixed) (a : Hand) (k : Knows L a) (s
 
     pub holds : HoldsTicket s.legal.actors (view_of a.pass).number op.request.ticket
     holds who is =
-        let same : k.who ≡ who = one_caller k.who who (sym k.asks ∙ (ap asker (sym ticket) ∙ is)) in
+        let same : k.who ≡ who = same_Some k.who who (sym k.asks ∙ (ap asker (sym ticket) ∙ is)) in
         (s.actor, ap (λ (w : Caller). slice_get s.legal.actors w.task.0) (sym same) ∙ s.stands, s.holder)
 
     module _ (batch : op.request.batch ≡ a.batch) (events : map event_named (events_new op.mentions) ≡ since a) where
@@ -240,7 +240,7 @@ module _ (code : Block) (L : BookName LedgerFixed) (a : Hand) (k : Knows L a) (s
       note_suits (Some n) none some = (
         ap (λ (p : PlaceId). slice_get L.fixed.places p.0) (at_place a.ticket k.who k.asks ∙ ap place_number k.is_at) ∙ (k.seat.word ∙ ap Some (sym (some n refl).word)),
         (λ who is.
-            subst (λ (w : Caller). cells_in w.task.0 (note_view n).seen ≡ cells_named w.task.0 (items_of (view_of a.pass).seen) ++ cells) (one_caller k.who who (sym k.asks ∙ is))
+            subst (λ (w : Caller). cells_in w.task.0 (note_view n).seen ≡ cells_named w.task.0 (items_of (view_of a.pass).seen) ++ cells) (same_Some k.who who (sym k.asks ∙ is))
             (ap (cells_in k.who.task.0) (some n refl).seen ∙ (s.events ∙ (ap (λ (l : Cells). l ++ since a) named ∙ ap (λ (l : Cells). cells_named k.who.task.0 (items_of (view_of a.pass).seen) ++ l) (sym events))))),
       )
 

@@ -1,6 +1,7 @@
 -- What a task that was started has, by the answers that start one.
 use Rattle.std.specs.Prelude.{◌≡◌, ◌≤◌, ◌<◌, ◌==◌, ℕ, Bool, true, false, cond, List, [], ◌∷◌, ◌++◌, Option, Some, None, is_some, refl}
 use Rattle.std.proofs.Common.{ap, sym, ◌∙◌, subst, arith}
+use Rattle.std.proofs.lemmas.Option.{same_Some}
 use Rattle.rx_base.specs.declared.ids.PlaceId.{PlaceId}
 use Rattle.rx_base.specs.declared.ids.TaskId.{TaskId}
 use Rattle.rx_base.specs.declared.ids.ScopeId.{ScopeId}
@@ -51,7 +52,6 @@ use Rattle.rx_activities.specs.declared.replies.Rest.{Rest}
 use Rattle.rx_activities.specs.Knowing.{StandsSo}
 use Rattle.rx_activities.specs.Inside.Births.{IsBorn, IsStarted}
 use Rattle.rx_activities.specs.Inside.Sending.{WasSent, SuitsStep, target, ChildFor, ChildMentioned, IsPrepared}
-use Rattle.rx_activities.proofs.Born.{same_caller}
 use Rattle.rx_activities.proofs.Born as born
 use Rattle.rx_activities.proofs.BornCalls as calls
 
@@ -120,7 +120,7 @@ module _ (L : BookName LedgerFixed) (rest : Rest) (reply : Reply) (child : Optio
         → (let s : StandsSo c L w.hand w.knows.who.task = w.knows.stands c is in Fits s.actor.birth.to s.stand.term (does s.stand.vars s.actor.birth.to.0 s.stand.term) act)
     says c is =
         let s : StandsSo c L w.hand w.knows.who.task = w.knows.stands c is in
-        let same : who ≡ w.knows.who = same_caller who w.knows.who (sym asks ∙ (ap asker w.ticket ∙ w.knows.asks)) in
+        let same : who ≡ w.knows.who = same_Some who w.knows.who (sym asks ∙ (ap asker w.ticket ∙ w.knows.asks)) in
         let from : place_number who.place ≡ s.actor.birth.to = ap (λ (x : Caller). place_number x.place) same ∙ (ap place_number w.knows.is_at ∙ sym s.place) in
         let is_d : does s.stand.vars s.actor.birth.to.0 s.stand.term ≡ d = (λ i. does (sym s.vars i) (s.place i).0 s.stand.term) ∙ did s.stand.term s.term in
         subst (λ (x : Does). Fits s.actor.birth.to s.stand.term x act) (sym is_d) (fits s.actor.birth.to s.stand.term from (sym (w.path s.stand.term s.term) ∙ path_is))

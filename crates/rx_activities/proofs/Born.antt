@@ -3,6 +3,7 @@ use Rattle.std.specs.Prelude.{◌≡◌, ◌≢◌, ◌+◌, ◌<◌, ◌≤◌,
 use Rattle.std.proofs.Common.{ap, sym, ◌∙◌, subst, arith}
 use Rattle.std.specs.Global.{Box}
 use Rattle.std.proofs.lemmas.Bool.{eqb-true, eq-eqb, ne_eqb}
+use Rattle.std.proofs.lemmas.Option.{same_Some}
 use mathlib.Core.List.{IsPrefix}
 use Rattle.rx_base.specs.declared.ids.PlaceId.{PlaceId}
 use Rattle.rx_base.specs.declared.ids.TaskId.{TaskId}
@@ -76,9 +77,6 @@ use Rattle.rx_activities.specs.Inside.Sending.{WasSent, IsPrepared, SeatIsNew}
 use Rattle.rx_activities.proofs.BeganAt.{BeginsSo, knows_at}
 use Rattle.rx_runs.proofs.SomeWords.{some-child}
 use Rattle.rx_activities.proofs.BornCalls as calls
-
-pub same_caller : (v w : Caller) → Some v ≡ Some w → v ≡ w
-same_caller v w e = ap (λ (o : Option Caller). elim o as (λ _. Caller) [ Some x ↦ x | None ↦ v ]) e
 
 -- what a pass without entries had seen before all entries
 abbrev unseen : View EventItem → View EventItem
@@ -173,7 +171,7 @@ module _ (L : BookName LedgerFixed) (rest : Rest) (reply : Reply) (child_of : Op
     n = length (ledger_items v.seen ++ (between ++ hosts))
 
     who_is : who ≡ k.who
-    who_is = same_caller who k.who (sym asks ∙ (ap asker w.ticket ∙ k.asks))
+    who_is = same_Some who k.who (sym asks ∙ (ap asker w.ticket ∙ k.asks))
 
     from_is : from ≡ a.place
     from_is = ap (λ (x : Caller). place_number x.place) who_is ∙ ap place_number k.is_at

@@ -1,5 +1,5 @@
 -- A call of the ledger's book that appended what was due and then one entry.
-use Rattle.std.specs.Prelude.{◌≡◌, ℕ, suc, ◌+◌, ◌<◌, ◌≤◌, ◌^◌, List, [], ◌∷◌, ◌++◌, map, length, Some, slice_get, refl}
+use Rattle.std.specs.Prelude.{◌≡◌, ℕ, suc, ◌+◌, ◌<◌, ◌≤◌, ◌^◌, List, [], ◌∷◌, ◌++◌, map, length, Some, slice_get}
 use Rattle.std.proofs.Common.{ap, sym, ◌∙◌, subst, append_assoc, arith, length-append}
 use Rattle.std.proofs.lemmas.List.{map-append}
 use Rattle.rx_rules.specs.declared.entries.Entry.{Entry}
@@ -14,7 +14,7 @@ use Rattle.rx_kills.specs.declared.schedule.Due.{Due}
 use Rattle.rx_kills.specs.declared.schedule.Due.TheVariants.{Join as Joins, Death as Dies}
 use Rattle.rx_book.specs.declared.views.Stamped.{Stamped}
 use Rattle.rx_book.specs.declared.views.View.{View}
-use Rattle.rx_book.specs.History.{items_of, stamped, stamp_all, entries_by}
+use Rattle.rx_book.specs.History.{stamped, stamp_all, entries_by}
 use Rattle.rx_book.specs.Calls.{Called}
 use Rattle.rx_ledger.specs.Told.{due_entries}
 use Rattle.rx_ledger.specs.Asking.{MayApply}
@@ -42,16 +42,10 @@ use Rattle.rx_objects.specs.Laws.{HoldsTicket}
 use Rattle.rx_objects.specs.Ledger.{LedgerDoes, LedgerIsLegal}
 use Rattle.rx_objects.specs.Place.{shown}
 use Rattle.rx_objects.proofs.Fitting.{others_spare}
+use Rattle.rx_objects.proofs.Host.{items_stamped}
 use Rattle.rx_objects.proofs.Staying.{cancel, entries_same, items_length}
 use Rattle.rx_objects.proofs.Leaving.{entries_mapped}
-
-items_stamped : (c : List ℕ) (xs : List EntryItem) → items_of (stamp_all c xs) ≡ xs
-items_stamped c [] = refl
-items_stamped c (x ∷ xs) = ap (λ (l : List EntryItem). x ∷ l) (items_stamped c xs)
-
-pub entries_front : (xs ys : List (Stamped EntryItem)) → entries_at (xs ++ ys) ≡ entries_at xs ++ entries_at ys
-entries_front [] ys = refl
-entries_front (x ∷ xs) ys = ap (λ (l : List Entry). x.item.entry ∷ l) (entries_front xs ys)
+use Rattle.rx_activities.proofs.Later.{entries_more}
 
 hosts_due : (c : List ℕ) (m : Mentions) (ds : List Due) → AllHostItems (ledger_items (stamp_all c (map (item_for m) (due_entries ds))))
 hosts_due c m [] = tt
@@ -85,7 +79,7 @@ module _ (f : LedgerFixed) (v z : View EntryItem) (op : LedgerOp) (r : LedgerRep
   new_lines = ap entries_in (items_stamped v.number c.added ∙ c.replied.items) ∙ entries_mapped op.mentions c.replied.new
 
   pub seen_lines : entries_at z.seen ≡ lines ++ c.replied.new
-  seen_lines = ap entries_at c.whole ∙ (entries_front before (stamp_all v.number c.added) ∙ ap (λ (l : List Entry). lines ++ l) new_lines)
+  seen_lines = ap entries_at c.whole ∙ (entries_more before (stamp_all v.number c.added) ∙ ap (λ (l : List Entry). lines ++ l) new_lines)
 
   -- what the pass had seen begins what it has seen
   abbrev pub more : List (Stamped EntryItem)
@@ -99,14 +93,14 @@ module _ (f : LedgerFixed) (v z : View EntryItem) (op : LedgerOp) (r : LedgerRep
 
   pub fewer : length (entries_at v.seen) ≤ length (entries_at z.seen)
   fewer =
-      (let e = ap length (sym (entries_front v.seen more) ∙ ap entries_at grew) in
+      (let e = ap length (sym (entries_more v.seen more) ∙ ap entries_at grew) in
       let n = length-append (entries_at v.seen) (entries_at more) in
       omega (arith, e, n))
 
   pub more_places : (tree_of f.setup.places (entries_at v.seen)).places ≤ (tree_of f.setup.places (entries_at z.seen)).places
   more_places =
       subst (λ (es : List Entry). (tree_of f.setup.places (entries_at v.seen)).places ≤ (tree_of f.setup.places es).places)
-      (sym (entries_front v.seen more) ∙ ap entries_at grew) (places_more f.setup.places (entries_at v.seen) (entries_at more))
+      (sym (entries_more v.seen more) ∙ ap entries_at grew) (places_more f.setup.places (entries_at v.seen) (entries_at more))
 
   module _ (a : Answered was op.request r.reply now) (e : Entry) (added : lines ++ c.replied.new ≡ (lines ++ due_entries a.due) ++ e ∷ []) where
     -- the history with what was due
@@ -208,7 +202,7 @@ module _ (f : LedgerFixed) (v z : View EntryItem) (op : LedgerOp) (r : LedgerRep
       -- so what may be asked by what was seen may be asked where the call is made
       pub may_there : HoldsTicket short.actors v.number op.request.ticket → length (entries_at z.seen) + 1 < 2 ^ 31 → MayApply (tree_of f.setup.places (entries_at v.seen)) op.request → MayApply (tree_of f.setup.places there) op.request
       may_there holds few may =
-          let parts_of : lines ≡ entries_at v.seen ++ entries_at c.between = entries_front v.seen c.between in
+          let parts_of : lines ≡ entries_at v.seen ++ entries_at c.between = entries_more v.seen c.between in
           let n = ap length ends in
           let x = length-append there (e ∷ []) in
           let y = length-append lines (due_entries a.due) in

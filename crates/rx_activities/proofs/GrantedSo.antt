@@ -1,6 +1,7 @@
 -- A granted request: the activity knows what it has to, once its control has gone on.
 use Rattle.std.specs.Prelude.{◌≡◌, ◌≤◌, List, [], reverse, Option, Some, refl}
 use Rattle.std.proofs.Common.{ap, sym, ◌∙◌, subst, arith}
+use Rattle.std.proofs.lemmas.Option.{same_Some}
 use Rattle.rx_base.specs.declared.values.Fault.{Fault}
 use Rattle.rx_rules.specs.declared.entries.Act.{Act}
 use Rattle.rx_rules.specs.Code.{Block}
@@ -31,13 +32,12 @@ use Rattle.rx_activities.specs.Inside.Births.{IsStarted}
 use Rattle.rx_activities.specs.Inside.Sending.{WasSent, WasGranted}
 use Rattle.rx_activities.proofs.Asked.{kinds_of}
 use Rattle.rx_activities.proofs.Granted.{OneAct, GoneOn, stands_granted}
-use Rattle.rx_activities.proofs.BelowOwned.{one_caller}
 use Rattle.rx_activities.proofs.Sent.{of_run}
 use Rattle.rx_activities.proofs.SentSo.{rise, term_so, knows_with}
 
 -- who asked is the activity's task
 pub who_is : (shape : Shape) (L : BookName LedgerFixed) (rest : Rest) (reply : Reply) (child : Option Child) (w : WasSent shape L rest reply child) (who : Caller) → asker w.op.request.ticket ≡ Some who → who ≡ w.knows.who
-who_is shape L rest reply child w who e = one_caller who w.knows.who (sym e ∙ (ap asker w.ticket ∙ w.knows.asks))
+who_is shape L rest reply child w who e = same_Some who w.knows.who (sym e ∙ (ap asker w.ticket ∙ w.knows.asks))
 
 -- what is granted, for given statements: the act, what the activity's term and ticket are after it, and for what its control stands
 pub record GrantedSo (shape : Shape) (L : BookName LedgerFixed) (rest : Rest) (reply : Reply) (child : Option Child) (w : WasSent shape L rest reply child) (code : Block) (s : StandsSo code L w.hand w.knows.who.task) (ticket : AnyTicket) (act : Act) : Type 0 where

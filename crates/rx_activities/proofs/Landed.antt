@@ -1,6 +1,7 @@
 -- The arrival of a task: what it shows for it, what is answered, and what it knows then.
 use Rattle.std.specs.Prelude.{◌≡◌, ◌+◌, ◌<◌, ◌^◌, Bool, List, [], ◌∷◌, ◌++◌, length, map, Option, Some, None, slice_get, refl}
 use Rattle.std.proofs.Common.{ap, sym, ◌∙◌, subst, arith}
+use Rattle.std.proofs.lemmas.Option.{same_Some}
 use Rattle.rx_base.specs.declared.ids.PlaceId.{PlaceId}
 use Rattle.rx_base.specs.declared.ids.TaskId.{TaskId}
 use Rattle.rx_rules.specs.declared.entries.Act.TheVariants.{Arrive}
@@ -61,7 +62,7 @@ use Rattle.rx_activities.specs.Knowing.{IsOfRun, IsNewSeat, Knows}
 use Rattle.rx_activities.specs.Starting.{ComesSo, Comes}
 use Rattle.rx_activities.specs.Inside.Births.{IsWith}
 use Rattle.rx_activities.specs.Inside.Sending.{IsReplied}
-use Rattle.rx_activities.proofs.Later.{told_stays}
+use Rattle.rx_activities.proofs.Later.{entries_more, told_stays}
 use Rattle.rx_activities.proofs.BeganAt.{BeginsSo, knows_at}
 use Rattle.rx_activities.proofs.BeganMain.{new_seat}
 use Rattle.rx_activities.proofs.BornCalls as calls
@@ -69,9 +70,6 @@ use Rattle.rx_activities.proofs.BornCalls as calls
 -- the request of an arrival
 abbrev pub arrival : Caller → Request
 arrival who = record { ticket = Moving who; ask = AskArrive; batch = []; path = None }
-
-same_some : (v w : Caller) → Some v ≡ Some w → v ≡ w
-same_some v w e = ap (λ (o : Option Caller). elim o as (λ _. Caller) [ Some x ↦ x | None ↦ v ]) e
 
 module _ (L : BookName LedgerFixed) (j : Journey) (op : LedgerOp) (is : op.request ≡ arrival j.ticket) (same : op.mentions.before.value ≡ op.mentions.now.value) where
   abbrev v : View EntryItem
@@ -86,7 +84,7 @@ module _ (L : BookName LedgerFixed) (j : Journey) (op : LedgerOp) (is : op.reque
 
   holds : (code : Block) (s : ComesSo code L j) → HoldsTicket s.legal.actors v.number op.request.ticket
   holds code s who asks =
-      let it : j.ticket ≡ who = same_some j.ticket who (ap (λ (q : Request). asker q.ticket) (sym is) ∙ asks) in
+      let it : j.ticket ≡ who = same_Some j.ticket who (ap (λ (q : Request). asker q.ticket) (sym is) ∙ asks) in
       (s.actor, ap (λ (w : Caller). slice_get s.legal.actors w.task.0) (sym it) ∙ s.stands, s.holder)
 
   -- what it shows
@@ -209,7 +207,7 @@ module _ (L : BookName LedgerFixed) (j : Journey) (comes : Comes L j) (seat : Pa
   lands = subst (λ (r : Reply). Answers (tree_of f.setup.places lines) lines op.request r now.entries) replied.is applied.answers
 
   who_is : lands.who ≡ j.ticket
-  who_is = same_some lands.who j.ticket (ap (λ (q : Request). asker q.ticket) (sym lands.asked ∙ is))
+  who_is = same_Some lands.who j.ticket (ap (λ (q : Request). asker q.ticket) (sym lands.asked ∙ is))
 
   abbrev e : Entry
   e = Step lands.who.task (Arrive (landing lands.who.place)) op.request.batch
@@ -261,7 +259,7 @@ module _ (L : BookName LedgerFixed) (j : Journey) (comes : Comes L j) (seat : Pa
         ∙ (ap (λ (es : List Entry). own_told es lands.who.task) (calls.seen_lines f there z op replied.answer c j.pass.own)
         ∙ (calls_own was now op.request replied.answer.reply lands.who (ap (λ (q : Request). asker q.ticket) lands.asked) c.replied.applied
         ∙ (ap (λ (r : Reply). owned_by r (own_told was.entries lands.who.task)) replied.is
-        ∙ (ap (λ (es : List Entry). own_told es lands.who.task) (calls.entries_front there.seen c.between)
+        ∙ (ap (λ (es : List Entry). own_told es lands.who.task) (entries_more there.seen c.between)
         ∙ (told_stays lands.who.task (entries_at there.seen) (entries_at c.between) (apart lands.who (entries_at c.between) others)
         ∙ (ap (λ (x : Caller). own_told (entries_at there.seen) x.task) who_is ∙ s.bare))))))
       where

@@ -2,6 +2,7 @@
 use Rattle.std.specs.Prelude.{◌≡◌, ◌+◌, ◌<◌, ◌≤◌, ◌^◌, ◌==◌, ℕ, Bool, true, false, cond, List, [], ◌∷◌, ◌++◌, length, map, reverse, Option, Some, None, slice_get, refl}
 use Rattle.std.proofs.Common.{ap, sym, ◌∙◌, subst, arith, length-append}
 use Rattle.std.proofs.lemmas.Bool.{eqb-true}
+use Rattle.std.proofs.lemmas.Option.{same_Some}
 use Rattle.rx_base.specs.declared.ids.TaskId.{TaskId}
 use Rattle.rx_rules.specs.declared.entries.Entry.{Entry}
 use Rattle.rx_rules.specs.declared.entries.Entry.TheVariants.{Step, Root, Death, Join}
@@ -17,6 +18,7 @@ use Rattle.rx_ticket.specs.declared.tickets.AnyTicket.TheVariants.{Moving, Runni
 use Rattle.rx_ledger.specs.Answering.{asker}
 use Rattle.rx_ledger.specs.Owned.{Owned, own_after, own_from, own_told, NumbersAreLeft}
 use Rattle.rx_ledger.specs.Staying.{NotBy, NotOf}
+use Rattle.rx_ledger.proofs.Called.{own_append}
 use Rattle.rx_ledger.proofs.StaysGood.{tickets_stay_good, places_more}
 use Rattle.rx_book.specs.declared.views.Stamped.{Stamped}
 use Rattle.rx_book.specs.declared.passes.Pass.{Pass}
@@ -51,16 +53,9 @@ own_stays t own (Root lost masked thrown ∷ es) h = own_stays t own es h.1
 own_stays t own (Death d ∷ es) h = own_stays t own es h.1
 own_stays t own (Join d ∷ es) h = own_stays t own es h.1
 
-pub own_more : (t : TaskId) (own : Owned) (es fs : List Entry) → own_from t own (es ++ fs) ≡ own_from t (own_from t own es) fs
-own_more t own [] fs = refl
-own_more t own (Step u act batch ∷ es) fs = own_more t (cond (u.0 == t.0) (own_after act own) own) es fs
-own_more t own (Root lost masked thrown ∷ es) fs = own_more t own es fs
-own_more t own (Death d ∷ es) fs = own_more t own es fs
-own_more t own (Join d ∷ es) fs = own_more t own es fs
-
 -- what the entries of others leave
 pub told_stays : (t : TaskId) (es more : List Entry) → Each (NotBy t) more → own_told (es ++ more) t ≡ own_told es t
-told_stays t es more h = own_more t [] es more ∙ own_stays t (own_told es t) more h
+told_stays t es more h = own_append t [] es more ∙ own_stays t (own_told es t) more h
 
 -- a ticket serves as before where its task has appended nothing
 pub serves_later : (U : Given) (es more : List Entry) (waits : Bool) (ticket : AnyTicket) → Folds U (es ++ more) → Each (NotOf ticket) more → length (es ++ more) + 1 < 2 ^ 31 → NumbersAreLeft → Serves (tree_of U.places es) waits ticket → Serves (tree_of U.places (es ++ more)) waits ticket
@@ -70,9 +65,6 @@ serves_later U es more waits (Running who) folds none short left s =
 serves_later U es more waits (Held who) folds none short left s =
     (s.0, (tickets_stay_good U es more (record { ticket = Held who; ask = AskRelease; batch = []; path = None }) folds none (left U.places (es ++ more) short) (s.1, tt)).0)
 serves_later U es more waits Host folds none short left s = absurd s
-
-some_is : (v w : Caller) → Some v ≡ Some w → v ≡ w
-some_is v w e = ap (λ (o : Option Caller). elim o as (λ _. Caller) [ Some x ↦ x | None ↦ v ]) e
 
 -- Histories as lists.
 
@@ -113,9 +105,9 @@ module _ (code : Block) (L : BookName LedgerFixed) (a : Hand) (t : TaskId) (s : 
       same w e = ap (λ (o : Option Caller). elim o as (λ _. TaskId) [ Some x ↦ x.task | None ↦ w.task ]) (sym e ∙ asks) ∙ own
 
   by_others : (ticket : AnyTicket) → asker ticket ≡ Some who → (es : List Entry) → Each (NotOf ticket) es → Each (NotBy who.task) es
-  by_others (Moving w) e es h = subst (λ (x : Caller). Each (NotBy x.task) es) (some_is w who e) h
-  by_others (Running w) e es h = subst (λ (x : Caller). Each (NotBy x.task) es) (some_is w who e) h
-  by_others (Held w) e es h = subst (λ (x : Caller). Each (NotBy x.task) es) (some_is w who e) h
+  by_others (Moving w) e es h = subst (λ (x : Caller). Each (NotBy x.task) es) (same_Some w who e) h
+  by_others (Running w) e es h = subst (λ (x : Caller). Each (NotBy x.task) es) (same_Some w who e) h
+  by_others (Held w) e es h = subst (λ (x : Caller). Each (NotBy x.task) es) (same_Some w who e) h
   by_others Host e es h = absurd (let f : ⊥ = cc in f)
 
   folds : Folds U (entries_at g ++ entries_at more)

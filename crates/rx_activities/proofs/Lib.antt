@@ -2,8 +2,6 @@ pub mod Walking
 pub mod Calling
 pub mod Later
 pub mod BelowFew
-pub mod BelowItems
-pub mod BelowOwned
 pub mod AskedSteps
 pub mod Asked
 pub mod AskedNote

@@ -32,25 +32,20 @@ use Rattle.rx_parts_book.proofs.Called.{others-between}
 use Rattle.rx_parts_book.proofs.Fitting.{none_by}
 use Rattle.rx_objects.specs.declared.ledger.LedgerFixed.{LedgerFixed}
 use Rattle.rx_objects.specs.Ledger.{LedgerDoes, LedgerIsLegal}
-use Rattle.rx_objects.specs.declared.mentions.Mentions.{Mentions}
-use Rattle.rx_objects.specs.Mentioned.{as_named, item_for, events_new, entries_in}
+use Rattle.rx_objects.specs.Mentioned.{as_named, events_new, entries_in}
 use Rattle.rx_objects.specs.Place.{shown}
 use Rattle.rx_objects.specs.Ending.{entries_at}
-use Rattle.rx_objects.proofs.Staying.{item_by, items_length, entries_same, cancel}
+use Rattle.rx_objects.proofs.Leaving.{entries_mapped}
+use Rattle.rx_objects.proofs.Staying.{item_by, items_stamped, all_hosts, items_length, entries_same, cancel}
 use Rattle.rx_activities.specs.declared.replies.Child.{Child}
 use Rattle.rx_activities.specs.declared.replies.Rest.{Rest}
 use Rattle.rx_activities.specs.Knowing.{IsOfRun, since, entries_seen}
 use Rattle.rx_activities.specs.Inside.Sending.{WasSent}
-use Rattle.rx_activities.proofs.BelowOwned.{entries_both}
-use Rattle.rx_activities.proofs.BelowItems.{items_stamped, all_hosts}
+use Rattle.rx_activities.proofs.Later.{entries_more}
 
 entries_stamped : (c : List ℕ) (items : List EntryItem) → entries_at (stamp_all c items) ≡ entries_in items
 entries_stamped c [] = refl
 entries_stamped c (x ∷ items) = ap (λ (l : List Entry). x.entry ∷ l) (entries_stamped c items)
-
-entries_for : (m : Mentions) (es : List Entry) → entries_in (map (item_for m) es) ≡ es
-entries_for m [] = refl
-entries_for m (e ∷ es) = ap (λ (l : List Entry). e ∷ l) (entries_for m es)
 
 module _ (shape : Shape) (L : BookName LedgerFixed) (rest : Rest) (reply : Reply) (child : Option Child) (w : WasSent shape L rest reply child) where
   abbrev c : List ℕ
@@ -99,11 +94,11 @@ module _ (shape : Shape) (L : BookName LedgerFixed) (rest : Rest) (reply : Reply
   pub entries_now : entries_at (view_of rest.pass).seen ≡ lines ++ called.replied.new
   entries_now =
       ap entries_at called.whole
-      ∙ (entries_both (g ++ called.between) (stamp_all c called.added)
-      ∙ ap (λ (l : List Entry). lines ++ l) (entries_stamped c called.added ∙ (ap entries_in called.replied.items ∙ entries_for w.op.mentions called.replied.new)))
+      ∙ (entries_more (g ++ called.between) (stamp_all c called.added)
+      ∙ ap (λ (l : List Entry). lines ++ l) (entries_stamped c called.added ∙ (ap entries_in called.replied.items ∙ entries_mapped w.op.mentions called.replied.new)))
 
   pub lines_are : lines ≡ entries_seen w.hand.pass ++ entries_at called.between
-  lines_are = entries_both g called.between
+  lines_are = entries_more g called.between
 
   pub items_now : ledger_items (view_of rest.pass).seen ≡ ledger_items g ++ (ledger_items called.between ++ map (item_by c w.op.mentions) called.replied.new)
   items_now =

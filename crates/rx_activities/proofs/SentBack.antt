@@ -34,28 +34,37 @@ use Rattle.rx_ledger.specs.Owned.{own_told}
 use Rattle.rx_terms.specs.Held.{is_held}
 use Rattle.rx_terms.specs.Spine.{Spine}
 use Rattle.rx_terms.proofs.Granting.{release_held}
-use Rattle.rx_parts.specs.Ledger.{LedgerItem, Actor, Walks, LegalLedger}
+use Rattle.rx_parts.specs.Ledger.{LedgerItem, Actor, Walks, LegalLedger, main_actor}
 use Rattle.rx_parts.specs.Growing.{NoneBy}
-use Rattle.rx_parts.proofs.Growing.{task-stays}
+use Rattle.rx_parts.specs.Calling.{AllHostItems}
+use Rattle.rx_parts.proofs.Determined.{leads_once, leads_split}
+use Rattle.rx_parts.proofs.Growing.{task-stays, hosts_lead}
 use Rattle.rx_parts.proofs.Prefixes.{prefix-legal}
 use Rattle.rx_parts_book.specs.declared.items.EntryItem.{EntryItem}
 use Rattle.rx_parts_book.specs.declared.items.EventItem.{EventItem}
 use Rattle.rx_parts_book.specs.Histories.{ledger_items, cells_in}
 use Rattle.rx_objects.specs.declared.ledger.LedgerFixed.{LedgerFixed}
 use Rattle.rx_objects.specs.Ending.{entries_at}
-use Rattle.rx_objects.proofs.Staying.{item_by, cancel}
+use Rattle.rx_objects.proofs.Staying.{item_by, all_hosts, cancel}
 use Rattle.rx_activities.specs.declared.hand.Hand.{Hand}
 use Rattle.rx_activities.specs.declared.replies.Child.{Child}
 use Rattle.rx_activities.specs.declared.replies.Rest.{Rest}
 use Rattle.rx_activities.specs.Knowing.{StandsSo, Knows, Serves, since, entries_seen, kinds_told}
 use Rattle.rx_activities.specs.Inside.Births.{IsWith}
 use Rattle.rx_activities.specs.Inside.Sending.{SuitsStep, WasSent}
-use Rattle.rx_activities.proofs.BelowItems.{all_hosts, hosts_leave}
 use Rattle.rx_activities.proofs.Granted.{none_since}
 use Rattle.rx_activities.proofs.GrantedReplies.{next_is}
 use Rattle.rx_activities.proofs.GrantedSo.{kinds_now}
 use Rattle.rx_activities.proofs.Sent.{called, between, lines, before, behind, applied, of_run, alone, items_now, reach_up}
 use Rattle.rx_activities.proofs.SentSo.{rise, suits_so, own_now, goes_on, knows_with}
+
+-- entries of the host leave what a history says of its tasks
+hosts_leave : (code : Block) (U : Given) (h due : List LedgerItem) (short : LegalLedger code U h) (long : LegalLedger code U (h ++ due)) → AllHostItems due → long.actors ≡ short.actors
+hosts_leave code U h due short long hosts =
+    let cut = leads_split 0 (main_actor code U.places ∷ []) h due long.actors long.made in
+    let same : cut.0 ≡ short.actors = leads_once 0 (main_actor code U.places ∷ []) h cut.0 short.actors cut.1 short.made in
+    let still : cut.0 ≡ long.actors = leads_once (0 + length h) cut.0 due cut.0 long.actors (hosts_lead (0 + length h) cut.0 due hosts) cut.2 in
+    sym still ∙ same
 
 -- who is not answered yet asked for a release
 asks_release : (d : Does) (T : Tree) (place : PlaceId) (q : Request) → MustWait T place q → SuitsStep d q.ask → (q.ask ≡ AskRelease) × (d ≡ Releases)

@@ -1,6 +1,7 @@
 -- The same for given statements: what the task may ask where the call was made, and what its scopes and its ticket are after it.
 use Rattle.std.specs.Prelude.{◌≡◌, ◌+◌, ◌<◌, ◌≤◌, ◌^◌, ℕ, List, [], ◌∷◌, ◌++◌, length, map, Option, Some, slice_get, refl}
 use Rattle.std.proofs.Common.{ap, sym, ◌∙◌, subst, arith, append_assoc, length-append}
+use Rattle.std.proofs.lemmas.Option.{same_Some}
 use mathlib.Core.List.{IsPrefix}
 use Rattle.rx_base.specs.declared.ids.PlaceId.{PlaceId}
 use Rattle.rx_base.specs.declared.ids.TaskId.{TaskId}
@@ -63,14 +64,14 @@ use Rattle.rx_activities.specs.Inside.Births.{IsWith}
 use Rattle.rx_activities.specs.Inside.Sending.{SuitsStep, WasSent}
 use Rattle.rx_activities.proofs.Asked.{may_apply, holds}
 use Rattle.rx_activities.proofs.Granted.{OneAct, none_since}
-use Rattle.rx_activities.proofs.BelowOwned.{entries_both, own_left, one_caller}
+use Rattle.rx_activities.proofs.Later.{entries_more, told_stays}
 use Rattle.rx_activities.proofs.Sent.{called, between, lines, before, behind, applied, of_run, alone, more, longer, entries_now, lines_are, items_now, late, folds_so, events_are, due_items, item, hosts, whole, reach_now}
 
 -- entries that are not of the ticket's task
 by_others : (ticket : AnyTicket) (who : Caller) → asker ticket ≡ Some who → (es : List Entry) → Each (NotOf ticket) es → Each (NotBy who.task) es
-by_others (Moving v) who e es h = subst (λ (x : Caller). Each (NotBy x.task) es) (one_caller v who e) h
-by_others (Running v) who e es h = subst (λ (x : Caller). Each (NotBy x.task) es) (one_caller v who e) h
-by_others (Held v) who e es h = subst (λ (x : Caller). Each (NotBy x.task) es) (one_caller v who e) h
+by_others (Moving v) who e es h = subst (λ (x : Caller). Each (NotBy x.task) es) (same_Some v who e) h
+by_others (Running v) who e es h = subst (λ (x : Caller). Each (NotBy x.task) es) (same_Some v who e) h
+by_others (Held v) who e es h = subst (λ (x : Caller). Each (NotBy x.task) es) (same_Some v who e) h
 by_others Host who e es h = absurd (let f : ⊥ = cc e in f)
 
 module _ (shape : Shape) (L : BookName LedgerFixed) (rest : Rest) (reply : Reply) (child : Option Child) (w : WasSent shape L rest reply child) where
@@ -102,7 +103,7 @@ module _ (shape : Shape) (L : BookName LedgerFixed) (rest : Rest) (reply : Reply
   pub rise : (tree_seen L.fixed w.hand.pass).places ≤ (tree_of L.fixed.setup.places (entries_at (view_of rest.pass).seen)).places
   rise =
       subst (λ (l : List Entry). (tree_of L.fixed.setup.places (entries_seen w.hand.pass)).places ≤ (tree_of L.fixed.setup.places l).places)
-      (sym (entries_both g (more shape L rest reply child w)) ∙ ap entries_at (longer shape L rest reply child w))
+      (sym (entries_more g (more shape L rest reply child w)) ∙ ap entries_at (longer shape L rest reply child w))
       (places_more L.fixed.setup.places (entries_seen w.hand.pass) (entries_at (more shape L rest reply child w)))
 
   module _ (program : L.fixed.program.script ≡ shape) (code : Block) (stands : Stands L.fixed.program.script code) (s : StandsSo code L w.hand w.knows.who.task) where
@@ -152,7 +153,7 @@ module _ (shape : Shape) (L : BookName LedgerFixed) (rest : Rest) (reply : Reply
         let asks = ap asker w.ticket ∙ w.knows.asks in
         ap (λ (l : List Entry). own_told l t) (entries_now shape L rest reply child w)
         ∙ (calls_own (before shape L rest reply child w) (behind shape L rest reply child w) w.op.request reply w.knows.who asks (applied shape L rest reply child w)
-        ∙ ap (owned_by reply) (ap (λ (l : List Entry). own_told l t) (lines_are shape L rest reply child w) ∙ own_left t es (entries_at mid) (by_others w.op.request.ticket w.knows.who asks (entries_at mid) spared)))
+        ∙ ap (owned_by reply) (ap (λ (l : List Entry). own_told l t) (lines_are shape L rest reply child w) ∙ told_stays t es (entries_at mid) (by_others w.op.request.ticket w.knows.who asks (entries_at mid) spared)))
 
     -- the tickets of the answer, which appended what was due and then this
     pub goes_on : (a : Answered (before shape L rest reply child w) w.op.request reply (behind shape L rest reply child w)) (tail : List Entry) → ls ++ new ≡ (ls ++ due_entries a.due) ++ tail

@@ -1,4 +1,5 @@
 pub mod Live
 pub mod Top
 pub mod Outcomes
+pub mod Refusals
 pub mod Inside

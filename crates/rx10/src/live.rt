@@ -1,22 +1,15 @@
 // The program with threads, over any source, sink and gate.
-ghost use Rattle.std.specs.Prelude.{◌≡◌, ◌⊎◌, ◌+◌, ◌<◌, ◌≤◌, ℕ, true, false, List, Option, length, take, Some, IfOk, IfErr, IsErrOf};
-ghost use Rattle.std.specs.Io.KnownBytes.{Consumes, Appends};
+ghost use Rattle.std.specs.Prelude.{◌≡◌, ◌⊎◌, ◌<◌, ◌≤◌, ℕ, true, false, List, Option, length, take, Some, IfOk, IfErr, IsErrOf};
+ghost use Rattle.std.specs.Io.KnownBytes.{Appends};
 ghost use Rattle.rx_base.specs.Outside.{Rose};
-ghost use Rattle.rx_rules.specs.Code.{Block};
-ghost use Rattle.rx_nodes.specs.Grammar.{IsScript};
-ghost use Rattle.rx_script.specs.Faults.{IsFaultAt};
-ghost use Rattle.rx_check.specs.Rules.{verdict};
-ghost use Rattle.rx_check.specs.Checked.{Meets};
-ghost use Rattle.rx_reading.specs.Reading.{IsBadLine};
-ghost use Rattle.rx_answers.specs.Faults.{IsNoPair};
 ghost use Rattle.rx_rules.specs.Run.{Given};
 ghost use Rattle.rx_words.specs.Words.{Asked, Gen, asked_any, told_number, BadWord};
 ghost use Rattle.rx_words.specs.Commands.{IsLiveCommand};
 ghost use Rattle.rx10.specs.declared.status.Status.{Status as Told};
 ghost use Rattle.rx10.specs.declared.status.Status.TheVariants.{Usage, Syntax, Bad, TooLong, ReadFault, WriteFault, NoMemory as NoRoom};
 ghost use Rattle.rx10.specs.declared.status.Status.TheVariants.{Pair, BadTrace};
-ghost use Rattle.rx10.specs.Top.{takes_pair, most_bytes, WasRead, WasPair, GaveScript};
-ghost use Rattle.rx10.specs.Top.{IsOutcome, CanDo, IsUnmade, IsOver, status_by};
+ghost use Rattle.rx10.specs.Top.{takes_pair, IsOutcome, CanDo, IsUnmade, IsOver, status_by};
+ghost use Rattle.rx10.specs.Refusals.{GaveNoScript, GaveBadScript, GaveNoPair, GaveBadTrace, GaveTooMuch, TookNoMore};
 
 use crate::run::make_live;
 use crate::source::read_program;
@@ -51,25 +44,14 @@ pub fn rx10<S: Source, K: Sink, G: Gate + Sync, R: Threads + Wait + Sync>(
         × IsOutcome (asked_any words.now) (S.left input.old) (S.left input.new) text result
         × Appends (K.written out.old) (K.written out.new) text }
     // The causes of the refusals.
-    ensures syntax { (at : ℕ) → result ≡ Syntax at → (script : List ℕ)
-        × GaveScript (takes_pair (asked_any words.now)) (S.left input.old) (S.left input.new) script
-        × IsFaultAt script at
-        × ((code : Block) → IsScript script code → ⊥) }
-    ensures bad { (rule node : ℕ) → result ≡ Bad rule node → (script : List ℕ) × (code : Block)
-        × GaveScript (takes_pair (asked_any words.now)) (S.left input.old) (S.left input.new) script
-        × IsScript script code
-        × (verdict code ≡ Some (rule, node)) }
-    ensures pair { result ≡ Pair → (takes_pair (asked_any words.now) ≡ true) × ((bytes : List ℕ)
-        × WasRead 16777216 (S.left input.old) (S.left input.new) bytes
-        × IsNoPair bytes) }
+    ensures syntax { (at : ℕ) → result ≡ Syntax at →
+        GaveNoScript (takes_pair (asked_any words.now)) (S.left input.old) (S.left input.new) at }
+    ensures bad { (rule node : ℕ) → result ≡ Bad rule node →
+        GaveBadScript (takes_pair (asked_any words.now)) (S.left input.old) (S.left input.new) rule node }
+    ensures pair { result ≡ Pair → (takes_pair (asked_any words.now) ≡ true) × GaveNoPair (S.left input.old) (S.left input.new) }
     ensures bad_trace { (number : ℕ) → result ≡ BadTrace number → (takes_pair (asked_any words.now) ≡ true)
-        × ((script : List ℕ) × (trace : List ℕ)
-        × WasPair (S.left input.old) (S.left input.new) script trace
-        × ((code : Block) × IsScript script code × Meets code)
-        × IsBadLine trace number) }
-    ensures too_long { result ≡ TooLong → (bytes : List ℕ)
-        × Consumes (S.left input.old) (S.left input.new) bytes
-        × (length bytes ≡ most_bytes (takes_pair (asked_any words.now)) + 1) }
+        × GaveBadTrace (S.left input.old) (S.left input.new) number }
+    ensures too_long { result ≡ TooLong → GaveTooMuch (takes_pair (asked_any words.now)) (S.left input.old) (S.left input.new) }
     ensures read_fault { result ≡ ReadFault → Rose (S.faults input.old) (S.faults input.new) }
     ensures write_fault { result ≡ WriteFault → Rose (K.faults out.old) (K.faults out.new) }
     // What a fault of the sink leaves, and that no other refusal touches the sink.
@@ -78,8 +60,7 @@ pub fn rx10<S: Source, K: Sink, G: Gate + Sync, R: Threads + Wait + Sync>(
         × (n < length text)
         × Appends (K.written out.old) (K.written out.new) (take n text) }
     ensures untouched { (IsOver result → ⊥) → (result ≡ WriteFault → ⊥) → out.new ≡ out.old }
-    ensures taken { (bytes : List ℕ) × Consumes (S.left input.old) (S.left input.new) bytes
-        × (length bytes ≤ most_bytes (takes_pair (asked_any words.now)) + 1) }
+    ensures taken { TookNoMore (takes_pair (asked_any words.now)) (S.left input.old) (S.left input.new) }
     // What can be done, and is read and written without a fault, is done, but for want of memory.
     ensures complete { CanDo (asked_any words.now) (S.left input.old) →
         (Rose (S.faults input.old) (S.faults input.new) → ⊥) → (Rose (K.faults out.old) (K.faults out.new) → ⊥) →
@@ -113,19 +94,11 @@ fn live_text<S: Source, G: Gate + Sync, R: Threads + Wait + Sync>(
     ensures kind { IfErr result IsUnmade }
     ensures no_pair { IsErrOf result Pair → ⊥ }
     ensures no_bad_trace { (number : ℕ) → IsErrOf result (BadTrace number) → ⊥ }
-    ensures syntax { (at : ℕ) → IsErrOf result (Syntax at) → (script : List ℕ)
-        × GaveScript false (S.left input.old) (S.left input.new) script
-        × IsFaultAt script at
-        × ((code : Block) → IsScript script code → ⊥) }
-    ensures bad { (rule node : ℕ) → IsErrOf result (Bad rule node) → (script : List ℕ) × (code : Block)
-        × GaveScript false (S.left input.old) (S.left input.new) script
-        × IsScript script code
-        × (verdict code ≡ Some (rule, node)) }
-    ensures too_long { IsErrOf result TooLong → (bytes : List ℕ)
-        × Consumes (S.left input.old) (S.left input.new) bytes × (length bytes ≡ most_bytes false + 1) }
+    ensures syntax { (at : ℕ) → IsErrOf result (Syntax at) → GaveNoScript false (S.left input.old) (S.left input.new) at }
+    ensures bad { (rule node : ℕ) → IsErrOf result (Bad rule node) → GaveBadScript false (S.left input.old) (S.left input.new) rule node }
+    ensures too_long { IsErrOf result TooLong → GaveTooMuch false (S.left input.old) (S.left input.new) }
     ensures read_fault { IsErrOf result ReadFault → Rose (S.faults input.old) (S.faults input.new) }
-    ensures taken { (bytes : List ℕ) × Consumes (S.left input.old) (S.left input.new) bytes
-        × (length bytes ≤ most_bytes false + 1) }
+    ensures taken { TookNoMore false (S.left input.old) (S.left input.new) }
     ensures complete { (asked : Asked) → IsLiveCommand live.now asked → CanDo asked (S.left input.old) →
         (Rose (S.faults input.old) (S.faults input.new) → ⊥) → IfErr result (λ status. status ≡ NoRoom) }
     ensures later { S.faults input.old ≤ S.faults input.new }

@@ -4,11 +4,9 @@ ghost use Rattle.std.specs.Io.KnownBytes.{Consumes};
 ghost use Rattle.rx_base.specs.Outside.{Rose};
 ghost use Rattle.rx_rules.specs.Code.{Block};
 ghost use Rattle.rx_nodes.specs.Shape.{Stands};
-ghost use Rattle.rx_nodes.specs.Grammar.{IsScript};
-ghost use Rattle.rx_script.specs.Faults.{IsFaultAt};
-ghost use Rattle.rx_check.specs.Rules.{verdict};
 ghost use Rattle.rx10.specs.declared.status.Status.TheVariants.{Syntax, Bad, Pair, BadTrace, TooLong, ReadFault, NoMemory as NoRoom};
-ghost use Rattle.rx10.specs.Top.{most_bytes, WasRead, WasScript, GaveScript, IsGood, IsUnmade};
+ghost use Rattle.rx10.specs.Top.{WasRead, WasScript, IsGood, IsUnmade};
+ghost use Rattle.rx10.specs.Refusals.{GaveNoScript, GaveBadScript, GaveTooMuch, TookNoMore};
 
 use crate::outside::{ReadStop, read_all};
 use crate::status::Status;
@@ -49,19 +47,11 @@ pub(crate) fn read_program<S: Source>(alloc: Global, input: &mut S) -> Result<Pr
     ensures kind { IfErr result IsUnmade }
     ensures no_pair { IsErrOf result Pair → ⊥ }
     ensures no_bad_trace { (number : ℕ) → IsErrOf result (BadTrace number) → ⊥ }
-    ensures syntax { (at : ℕ) → IsErrOf result (Syntax at) → (script : List ℕ)
-        × GaveScript false (S.left input.old) (S.left input.new) script
-        × IsFaultAt script at
-        × ((code : Block) → IsScript script code → ⊥) }
-    ensures bad { (rule node : ℕ) → IsErrOf result (Bad rule node) → (script : List ℕ) × (code : Block)
-        × GaveScript false (S.left input.old) (S.left input.new) script
-        × IsScript script code
-        × (verdict code ≡ Some (rule, node)) }
-    ensures too_long { IsErrOf result TooLong → (bytes : List ℕ)
-        × Consumes (S.left input.old) (S.left input.new) bytes × (length bytes ≡ most_bytes false + 1) }
+    ensures syntax { (at : ℕ) → IsErrOf result (Syntax at) → GaveNoScript false (S.left input.old) (S.left input.new) at }
+    ensures bad { (rule node : ℕ) → IsErrOf result (Bad rule node) → GaveBadScript false (S.left input.old) (S.left input.new) rule node }
+    ensures too_long { IsErrOf result TooLong → GaveTooMuch false (S.left input.old) (S.left input.new) }
     ensures read_fault { IsErrOf result ReadFault → Rose (S.faults input.old) (S.faults input.new) }
-    ensures taken { (bytes : List ℕ) × Consumes (S.left input.old) (S.left input.new) bytes
-        × (length bytes ≤ most_bytes false + 1) }
+    ensures taken { TookNoMore false (S.left input.old) (S.left input.new) }
     ensures complete { (bytes : List ℕ) → S.left input.old ≡ Some bytes → IsGood bytes
         → (Rose (S.faults input.old) (S.faults input.new) → ⊥) → IfErr result (λ status. status ≡ NoRoom) }
     ensures later { S.faults input.old ≤ S.faults input.new }

@@ -1,8 +1,6 @@
 // The path of the statement at the front.
-ghost use Rattle.std.specs.Prelude.{◌≡◌, ◌≢◌, ◌≤◌, ◌+◌, ◌↔◌, ℕ, List, []};
-ghost use Rattle.std.specs.Prelude.{◌∷◌, ◌++◌, IsTrue, IfOk, IfSome, MatchOption, length, option_to_list};
-ghost use Rattle.std.specs.Prelude.{vec_len, vec_capacity};
-ghost use Rattle.std.specs.List.{flat_map};
+ghost use Rattle.std.specs.Prelude.{◌≡◌, ◌≢◌, ◌↔◌, ℕ, List, []};
+ghost use Rattle.std.specs.Prelude.{◌∷◌, ◌++◌, IsTrue, IfOk, OnOk, MatchOption, option_to_list};
 ghost use Rattle.rx_rules.specs.Terms.{at};
 ghost use Rattle.rx_control.specs.declared.frame.Frame.{Frame};
 ghost use Rattle.rx_control.specs.Stands.{numbers, path_of};
@@ -26,9 +24,9 @@ pub(crate) fn front_path(
     if n == 0 {
         return Ok(Path::open(alloc));
     }
-    let mut path = path_along(alloc, base.numbers(), &frames[..n - 1])?;
-    add(&mut path, part, next);
-    Ok(Path::from_vec(path))
+    let mut path = path_along(alloc, base, &frames[..n - 1])?;
+    add(&mut path, part, next)?;
+    Ok(path)
 }
 
 /// Whether a path is that of a statement in the block of the innermost frame. No memory is taken.
@@ -118,64 +116,33 @@ fn behind_number(path: &[u32], number: u32) -> Option<&[u32]>
     }
 }
 
-// The base and what each frame adds, with room for a statement in the block of the next frame.
-fn path_along(alloc: Global, base: &[u32], frames: &[Frame]) -> Result<Vec<u32>, NoMemory>
-    ensures items { IfOk result (λ path. path.items ≡ path_of base.now frames.now) }
-    ensures room { IfOk result (λ path. vec_len path + 2 ≤ vec_capacity path) }
+// The base and what each frame adds.
+fn path_along(alloc: Global, base: &Path, frames: &[Frame]) -> Result<Path, NoMemory>
+    ensures { IfOk result (λ path. path ≡ path_of base.now frames.now) }
 {
-    let Some(room) = room(base, frames) else {
-        return Err(NoMemory);
-    };
-    let mut path = Vec::with_capacity(alloc, room)?;
-    path.extend_from_slice(base)?;
+    let mut path = base.copy(alloc)?;
     for frame in frames {
-        add_numbers(&mut path, frame);
+        add_numbers(&mut path, frame)?;
     }
     Ok(path)
 }
 
-// How many numbers such a path has at most, and None where no list has so many.
-fn room(base: &[u32], frames: &[Frame]) -> Option<usize>
-    ensures { IfSome result (λ room. room ≡ length base.now + 2 + length (flat_map numbers frames.now)) }
-{
-    let mut room = base.len().checked_add(2)?;
-    for frame in frames {
-        room = room.checked_add(count(frame))?;
-    }
-    Some(room)
-}
-
-// How many numbers a frame adds to the paths of those above it.
-fn count(frame: &Frame) -> usize
-    ensures { result ≡ length (numbers frame.now) }
-{
-    match frame {
-        Frame::Seq { part: Some(_), .. } => 2,
-        Frame::Seq { part: None, .. } => 1,
-        Frame::Turns { .. } | Frame::Try { .. } | Frame::Body | Frame::Held => 0,
-    }
-}
-
 // Adds what a frame adds to the paths of those above it.
-fn add_numbers(path: &mut Vec<u32>, frame: &Frame)
-    requires room { vec_len path.old + 2 ≤ vec_capacity path.old }
-    ensures items { path.new.items ≡ path.old.items ++ numbers frame.now }
-    ensures capacity { vec_capacity path.new ≡ vec_capacity path.old }
+fn add_numbers(path: &mut Path, frame: &Frame) -> Result<(), NoMemory>
+    ensures { OnOk result (path.new ≡ path.old ++ numbers frame.now) }
 {
     match frame {
         Frame::Seq { next, part, .. } => add(path, *part, next.saturating_sub(1)),
-        Frame::Turns { .. } | Frame::Try { .. } | Frame::Body | Frame::Held => {}
+        Frame::Turns { .. } | Frame::Try { .. } | Frame::Body | Frame::Held => Ok(()),
     }
 }
 
 // Adds the number between the path of a statement and the positions in its block, where there is one, and a position.
-fn add(path: &mut Vec<u32>, part: Option<u32>, position: u32)
-    requires room { vec_len path.old + 2 ≤ vec_capacity path.old }
-    ensures items { path.new.items ≡ path.old.items ++ option_to_list part ++ position ∷ [] }
-    ensures capacity { vec_capacity path.new ≡ vec_capacity path.old }
+fn add(path: &mut Path, part: Option<u32>, position: u32) -> Result<(), NoMemory>
+    ensures { OnOk result (path.new ≡ path.old ++ option_to_list part ++ position ∷ []) }
 {
     if let Some(number) = part {
-        path.push_reserved(number);
+        path.push(number)?;
     }
-    path.push_reserved(position);
+    path.push(position)
 }

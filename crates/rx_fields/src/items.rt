@@ -57,7 +57,7 @@ fn dotted(bytes: &[u8]) -> Option<(u32, &[u8])>
 pub(crate) fn path(alloc: Global, word: &[u8]) -> Result<Option<Path>, NoMemory>
     ensures { IfOk result (λ path. path ≡ path_of word.now) }
 {
-    let mut numbers = Vec::with_capacity(alloc, word.len() / 2 + 1)?;
+    let mut numbers = Path::open(alloc);
     let mut rest = word;
     // Most numbers have few digits.
     'short: while let Some((n, tail)) = dotted(rest) {
@@ -78,7 +78,7 @@ pub(crate) fn path(alloc: Global, word: &[u8]) -> Result<Option<Path>, NoMemory>
     if numbers.len() > 65 {
         return Ok(None);
     }
-    Ok(Some(Path::from_vec(numbers)))
+    Ok(Some(numbers))
 }
 
 pub(crate) fn fault(word: &[u8], places: u8) -> Option<Fault>

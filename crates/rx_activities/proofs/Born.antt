@@ -39,7 +39,7 @@ use Rattle.rx_book.specs.Passes.{view_of, word_of, note_view}
 use Rattle.rx_book.specs.Named.{BookName}
 use Rattle.rx_book.specs.Kept.{born as split_of}
 use Rattle.rx_book.specs.Calls.{Called}
-use Rattle.rx_book.proofs.Fronts.{prefix_whole, prefix_trans}
+use Rattle.rx_base.proofs.Prefixes.{prefix-whole, prefix-trans}
 use Rattle.rx_ledger.specs.declared.asks.Reply.{Reply}
 use Rattle.rx_ledger.specs.Told.{due_entries}
 use Rattle.rx_ledger.specs.Answering.{fresh_caller, asker}
@@ -246,7 +246,7 @@ module _ (L : BookName LedgerFixed) (rest : Rest) (reply : Reply) (child_of : Op
           let t = ap length h.noted.seen in
           let l = h.meets.longer in
           let g = calls.longer f v z w.op w.replied.answer c w.sent.own in
-          sym (prefix_whole (note_view h.note).seen m.seen h.meets.theirs (omega (arith, o, t, l, g))) ∙ h.noted.seen
+          sym (prefix-whole (note_view h.note).seen m.seen h.meets.theirs (omega (arith, o, t, l, g))) ∙ h.noted.seen
 
       met_number : (view_of w.op.mentions.child.value).number ≡ m.number
       met_number = ap (λ (p : Pass EntryItem). (view_of p).number) child_is ∙ sym h.meets.same.0
@@ -327,7 +327,7 @@ module _ (L : BookName LedgerFixed) (rest : Rest) (reply : Reply) (child_of : Op
               lawful = subst (λ (p : PlaceId). PlaceIsLegal (record { place = p; words = L.fixed.setup.heap; ledger = L }) (view_of sp).seen) (sym w.place)
                   (subst (λ (x : View EventItem). PlaceIsLegal (record { place = a.place; words = L.fixed.setup.heap; ledger = L }) x.seen) (sym view) k.seat.lawful);
               carried = subst (λ (x : View EventItem). IsPrefix (last_carried (items_of x.seen)) m.seen) (sym view)
-                  (prefix_trans (last_carried (items_of (view_of a.seat).seen)) (view_of ch.pass).seen m.seen
+                  (prefix-trans (last_carried (items_of (view_of a.seat).seen)) (view_of ch.pass).seen m.seen
                   (subst (λ (x : View EntryItem). IsPrefix (last_carried (items_of (view_of a.seat).seen)) x.seen) (sym prepared.view) k.seat.carried) h.meets.ours);
             }
 

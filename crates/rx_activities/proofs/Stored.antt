@@ -33,7 +33,7 @@ use Rattle.rx_book.specs.Passes.{view_of, word_of}
 use Rattle.rx_book.specs.Named.{BookName}
 use Rattle.rx_book.specs.Calls.{Begins, Called, Looked}
 use Rattle.rx_book.proofs.History.{entries_by-append}
-use Rattle.rx_book.proofs.Fronts.{prefix_self}
+use Rattle.rx_base.proofs.Prefixes.{prefix-self}
 use Rattle.rx_ledger.proofs.StaysGood.{places_more}
 use Rattle.rx_terms.specs.Held.{is_held, HeldInFront}
 use Rattle.rx_stores.proofs.StoreCalls.{IsCall}
@@ -255,7 +255,7 @@ module _ (L : BookName LedgerFixed) (a : Hand) (k : Knows L a) (q : Pass EntryIt
         seat = record {
           word = k.seat.word ∙ ap Some (sym own);
           lawful = called.lawful;
-          carried = subst (λ (h : List (Stamped EntryItem)). IsPrefix h (view_of p).seen) (sym last_now) (prefix_self (view_of p).seen);
+          carried = subst (λ (h : List (Stamped EntryItem)). IsPrefix h (view_of p).seen) (sym last_now) (prefix-self (view_of p).seen);
         };
         inside = wider;
         older = (let e = ap length called.more ∙ length-append v.mine (stamp_all v.number called.added) in let old = k.older in omega (arith, e, old));

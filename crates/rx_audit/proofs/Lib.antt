@@ -1,4 +1,3 @@
-pub mod Same
 pub mod Agreeing
 pub mod Staying
 pub mod Asked

@@ -3,7 +3,7 @@ ghost use Rattle.std.specs.Prelude.{◌≡◌, ◌↔◌, ◌<◌, ◌^◌, IsTr
 ghost use Rattle.rx_rules.specs.declared.entries.Act.TheVariants.{Open, At, Spawn, Arrive, Wait, Release, End, Print, Census};
 ghost use Rattle.rx_audit.specs.Inside.Grants.{SomeAsks, Grants, IsRefusal};
 
-use rx_base::{Fault, Faults, NoMemory, PlaceId, PlaceSet, ScopeId, TaskId};
+use rx_base::{Faults, NoMemory, PlaceId, PlaceSet, ScopeId, TaskId, same_faults};
 use rx_finish::{Caller, FinishLedger, LedgerFault, Outcome, landing_of, place_of};
 use rx_rules::Act;
 use std::alloc::Global;
@@ -112,28 +112,6 @@ fn waits<L: FinishLedger>(
         Ok(()) => Ok(who.inner == scope),
         Err(both) => refused(fault_of(both)),
     }
-}
-
-/// Whether two faults are the same.
-fn same_fault(a: Fault, b: Fault) -> bool
-    ensures { IsTrue result ↔ (a ≡ b) }
-{
-    a == b
-}
-
-/// Whether two lists of faults are the same.
-fn same_faults(a: &Faults, b: &Faults) -> bool
-    ensures { IsTrue result ↔ (a.now ≡ b.now) }
-{
-    if a.len() != b.len() {
-        return false;
-    }
-    for i in 0..a.len() {
-        if !same_fault(a.item(i), b.item(i)) {
-            return false;
-        }
-    }
-    true
 }
 
 /// A law: a set is a number of 16 bits.

@@ -1,5 +1,5 @@
 -- Lists and their elements by position.
-use Rattle.std.specs.Prelude.{◌≡◌, ℕ, zero, suc, ◌+◌, ◌<◌, Bool, true, false, cond, List, [], ◌∷◌, ◌++◌, length, drop, set, slice_get, slice_set, Option, Some, refl}
+use Rattle.std.specs.Prelude.{◌≡◌, ℕ, zero, suc, ◌+◌, ◌<◌, Bool, true, false, cond, List, [], ◌∷◌, ◌++◌, length, drop, set, slice_get, slice_index, slice_set, Option, Some, refl}
 use Rattle.std.specs.List.{find}
 use Rattle.std.specs.Str.{bytes_eq}
 use Rattle.std.proofs.Common.{ap, sym, ◌∙◌, subst, arith, append_assoc, append-nil}
@@ -29,6 +29,15 @@ empty-from (x ∷ xs) h = absurd (omega arith)
 
 pub flat4 : {A : Type 0} (a b c d : List A) → a ++ (b ++ (c ++ (d ++ []))) ≡ ((a ++ b) ++ c) ++ d
 flat4 a b c d = simp (append_assoc, append-nil)
+
+-- what stands at the end of equal lists is equal
+pub last-is : {A : Type 0} (xs ys : List A) (a b : A) → xs ++ a ∷ [] ≡ ys ++ b ∷ [] → a ≡ b
+last-is [] [] a b h = cc h
+last-is [] (y ∷ []) a b h = absurd (cc h)
+last-is [] (y ∷ z ∷ ys) a b h = absurd (cc h)
+last-is (x ∷ []) [] a b h = absurd (cc h)
+last-is (x ∷ w ∷ xs) [] a b h = absurd (cc h)
+last-is (x ∷ xs) (y ∷ ys) a b h = last-is xs ys a b (cc h)
 
 -- Elements by position.
 
@@ -62,6 +71,17 @@ get-set [] k x low = absurd (omega arith)
 get-set (y ∷ xs) zero x low = refl
 get-set (y ∷ xs) (suc k) x low = get-set xs k x (omega arith)
 
+-- lists of one word
+
+pub one-word : (ws : List ℕ) (a : ℕ) → ws ≡ a ∷ [] → slice_index ws 0 ≡ a
+one-word ws a is = ap (λ (l : List ℕ). slice_index l 0) is
+
+pub set-one : (ws : List ℕ) (a b : ℕ) → ws ≡ a ∷ [] → slice_set ws 0 b ≡ b ∷ []
+set-one ws a b is = ap (λ (l : List ℕ). slice_set l 0 b) is
+
+pub set-one-again : (ws : List ℕ) (a : ℕ) → ws ≡ a ∷ [] → slice_set ws 0 (slice_index ws 0) ≡ ws
+set-one-again ws a is = ap (λ (l : List ℕ). slice_set l 0 (slice_index l 0)) is ∙ sym is
+
 pub drop-suc : {A : Type 0} (xs : List A) (i : ℕ) (x : A) → slice_get xs i ≡ Some x → drop i xs ≡ x ∷ drop (suc i) xs
 drop-suc [] i x h = cc
 drop-suc (y ∷ ys) zero x h = let e : y ≡ x = cc in ap (λ z. z ∷ ys) e
@@ -79,6 +99,16 @@ pub length-set : {A : Type 0} (l : List A) (i : ℕ) (a : A) → length (set l i
 length-set [] i a = refl
 length-set (x ∷ xs) zero a = refl
 length-set (x ∷ xs) (suc i) a = ap suc (length-set xs i a)
+
+-- two lists with the same items at the same places
+pub same-items : {A : Type 0} (xs ys : List A) → length xs ≡ length ys → ((k : ℕ) → k < length xs → slice_get xs k ≡ slice_get ys k) → xs ≡ ys
+same-items [] [] size each = refl
+same-items [] (y ∷ ys) size each = absurd (omega (arith, size))
+same-items (x ∷ xs) [] size each = absurd (omega (arith, size))
+same-items (x ∷ xs) (y ∷ ys) size each =
+    let first : Some x ≡ Some y = each 0 (omega arith) in
+    let rest : xs ≡ ys = same-items xs ys (omega (arith, size)) (λ k h. each (suc k) (omega (arith, h))) in
+    cc
 
 -- Tests on the elements.
 

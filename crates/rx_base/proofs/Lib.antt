@@ -4,5 +4,6 @@ pub mod Elements
 pub mod Members
 pub mod Numbers
 pub mod Options
+pub mod Prefixes
 pub mod Results
 pub mod SameIds

@@ -98,3 +98,10 @@ same-sets a b low_a low_b same =
     let bits : a.0 ≡ b.0 = from-bits 16 a.0 b.0 low_a low_b (λ i below. bit-is a.0 b.0 i (same-bits a b same i below)) in
     let set : ℕ → PlaceSet = λ n. record { 0 = n } in
     ap set bits
+
+-- a set whose number is not 0 has a member
+pub some-member : (set : PlaceSet) → set.0 < 2 ^ 16 → (set.0 ≡ 0 → ⊥) → members set ≡ [] → ⊥
+some-member set small not_zero none =
+    let empty : PlaceSet = record { 0 = 0 } in
+    let same : set ≡ empty = same-sets set empty small (omega arith) none in
+    not_zero (ap (λ s. s.0) same)

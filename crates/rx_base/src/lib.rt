@@ -4,6 +4,7 @@
 //! never fall) and see `Faults`, `Path`, `Batch` and `PlaceSet` as lists and sets.
 #![tactic(auto)]
 
+mod compare;
 mod failures;
 mod gate;
 mod ids;
@@ -17,6 +18,7 @@ mod tests;
 mod values;
 mod word;
 
+pub use compare::{same_batch, same_faults};
 pub use failures::{Failed, NoMemory};
 pub use gate::{CellGate, Gate, MeetGate, NoGate};
 pub use ids::{GlobalRef, Kill, PlaceId, ScopeId, TaskId};

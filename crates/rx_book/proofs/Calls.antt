@@ -12,7 +12,7 @@ use Rattle.rx_book.specs.Calls.{Begins, Called, Looked, Met}
 use Rattle.rx_book.specs.Replay.{Replays}
 use Rattle.rx_book.proofs.Replay.{follows_more}
 use Rattle.rx_book.proofs.History.{entries_by-append, entries_by-same}
-use Rattle.rx_book.proofs.Fronts.{longer_right}
+use Rattle.rx_base.proofs.Prefixes.{prefix-in-longer}
 use Rattle.rx_book.proofs.Or.{has_bit_more}
 
 -- what a load found comes after what was seen before
@@ -92,7 +92,7 @@ module _ {I : Type 0} (place : I → Option ℕ) where
   met v n own (log, now, first, second, all, whole, mine) =
       let seen : List (Stamped I) = (both v n).seen in record {
         ours = (drop (length v.seen) n.seen, refl);
-        theirs = longer_right v.seen n.seen log first.prefix second.prefix;
+        theirs = prefix-in-longer v.seen n.seen log first.prefix second.prefix;
         longer = omega (arith, length-append v.seen (drop (length v.seen) n.seen), length-drop (length v.seen) n.seen);
         greater = refl;
         our_deaths = λ low. front_deaths log seen v.reach v.dead now.prefix first.deaths low;

@@ -16,7 +16,7 @@ use Rattle.rx_book.specs.Numbers.{child}
 use Rattle.rx_book.specs.History.{stamped, stamp_all, entries_by, deaths_of}
 use Rattle.rx_book.specs.declared.views.Past.{Past}
 use Rattle.rx_book.specs.Kept.{no_past, past_of, blank, opening_view, Born, Stands, Tells, Fits, Kept, looked, Looks, grown, Grows, parent_left, born, noted, unmarked, mark_only, both}
-use Rattle.rx_book.proofs.Fronts.{prefix_trans, prefix_shorter, prefix_length, longer_of}
+use Rattle.rx_base.proofs.Prefixes.{prefix-trans, prefix-shorter, prefix-length, prefix-longer}
 use Rattle.rx_book.proofs.Numbers.{nothing_ends, child_from, changed, changed-same, changed-other, changed-more}
 use Rattle.rx_book.proofs.History.{entries_by-append, entries_by-same, entries_by-other, deaths_of-front, entries_by-between, entries_by-front_none, deaths_of-max}
 
@@ -51,7 +51,7 @@ module _ {I : Type 0} (place : I → Option ℕ) where
 
   stands_longer : (log new : List (Stamped I)) (p : Past I) → Stands place log p → Stands place (log ++ new) p
   stands_longer log new p s = record {
-    prefix = prefix_trans p.seen log (log ++ new) s.prefix (new, refl);
+    prefix = prefix-trans p.seen log (log ++ new) s.prefix (new, refl);
     low = s.low;
     high = (let h = s.high in omega (arith, length-append log new));
     deaths = s.deaths ∙ ap (deaths_of place) (sym (take-append-le p.reach log new s.high));
@@ -236,7 +236,7 @@ module _ {I : Type 0} (place : I → Option ℕ) where
       → ((both v w).marked ≡ true → (id ≡ holder') × ((both v w).seen ≡ log)) → Fits place log holder' owner births id (both v w)
   joined_fits log holder holder' owner births id other v w f g mark =
       let all : List (Stamped I) = v.seen ++ drop (length v.seen) w.seen in
-      let whole : IsPrefix all log = longer_of v.seen w.seen log f.now.prefix g.now.prefix in
+      let whole : IsPrefix all log = prefix-longer v.seen w.seen log f.now.prefix g.now.prefix in
       let mine : IsPrefix v.seen all = (drop (length v.seen) w.seen, refl) in
       record {
         now = record {
@@ -282,7 +282,7 @@ module _ {I : Type 0} (place : I → Option ℕ) where
                 (λ _. joined_fits r.log r.holder id r.owner r.births id other v w f g
                 (λ _. (
                   refl,
-                  (let p = prefix_shorter v.seen w.seen r.log f.now.prefix g.now.prefix (let h = prefix_length v.seen r.log f.now.prefix in omega (arith, ap length (g.mark is).1)) in
+                  (let p = prefix-shorter v.seen w.seen r.log f.now.prefix g.now.prefix (let h = prefix-length v.seen r.log f.now.prefix in omega (arith, ap length (g.mark is).1)) in
                       ap (λ (l : List (Stamped I)). v.seen ++ drop (length v.seen) l) (sym p.1) ∙ (ap (λ (l : List (Stamped I)). v.seen ++ l) (drop-append_seam v.seen p.0) ∙ (p.1 ∙ (g.mark is).1))),
                 ))) j u e far)
                 (blank_fits r.log id r.owner r.births other);
@@ -304,7 +304,7 @@ module _ {I : Type 0} (place : I → Option ℕ) where
                 (joined_fits r.log r.holder r.holder r.owner r.births id other v w f g
                 (λ m. let m' : v.marked ≡ true = only_left v.marked w.marked m is in (
                   (f.mark m').0,
-                  (let h = prefix_length w.seen r.log g.now.prefix in
+                  (let h = prefix-length w.seen r.log g.now.prefix in
                       ap (λ (l : List (Stamped I)). v.seen ++ l) (drop_of_length-le w.seen (omega (arith, ap length (f.mark m').1))) ∙ (append-nil v.seen ∙ (f.mark m').1)),
                 ))) j u e)
                 (blank_fits r.log r.holder r.owner r.births other);

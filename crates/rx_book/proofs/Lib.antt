@@ -1,6 +1,5 @@
 pub mod Masks
 pub mod Or
-pub mod Fronts
 pub mod Numbers
 pub mod History
 pub mod Replay

@@ -4,6 +4,7 @@ use mathlib.Core.Option.{none, some, some-ne-none}
 use prog.Atomic.{either}
 use lib.ListN.{get_elem?}
 use Rattle.std.specs.Prelude.{slice_set}
+use Rattle.rx_base.proofs.Elements.{one-word, set-one, set-one-again}
 use Rattle.atomic_table.specs.Table.{State, Act, keeps, takes, gives, step, stepped, carried_after, Valid, Allows, Enters}
 use Rattle.atomic_table.proofs.Lists.{at_set, at_snoc, at_longer, set_here, set_again, exchanged}
 use Rattle.rx_lock.specs.declared.steps.Hand.{Hand}
@@ -14,21 +15,12 @@ set_at [] i a b e = absurd (some-ne-none b (sym e))
 set_at (x ∷ xs) zero a b e = refl
 set_at (x ∷ xs) (suc i) a b e = set_at xs i a b e
 
-word_of : (ws : List ℕ) (a : ℕ) → ws ≡ a ∷ [] → slice_index ws 0 ≡ a
-word_of ws a p = ap (λ (l : List ℕ). slice_index l 0) p
-
-written : (ws : List ℕ) (a b : ℕ) → ws ≡ a ∷ [] → slice_set ws 0 b ≡ b ∷ []
-written ws a b p = ap (λ (l : List ℕ). slice_set l 0 b) p
-
-kept : (ws : List ℕ) (a : ℕ) → ws ≡ a ∷ [] → slice_set ws 0 (slice_index ws 0) ≡ ws
-kept ws a p = ap (λ (l : List ℕ). slice_set l 0 (slice_index l 0)) p ∙ sym p
-
 out_written : (ws : List ℕ) (b : ℕ) → SaysOut ws → slice_set ws 0 b ≡ b ∷ []
-out_written ws b o = ⊎_elim (written ws 1 b) (written ws 2 b) o
+out_written ws b o = ⊎_elim (set-one ws 1 b) (set-one ws 2 b) o
 
 -- the word of a value that is out is 1 or 2
 no_other : (ws : List ℕ) (a : ℕ) → SaysOut ws → ws ≡ a ∷ [] → (a ≢ 1) → (a ≢ 2) → ⊥
-no_other ws a o p n1 n2 = ⊎_elim (λ (q : ws ≡ 1 ∷ []). n1 (sym (word_of ws a p) ∙ word_of ws 1 q)) (λ (q : ws ≡ 2 ∷ []). n2 (sym (word_of ws a p) ∙ word_of ws 2 q)) o
+no_other ws a o p n1 n2 = ⊎_elim (λ (q : ws ≡ 1 ∷ []). n1 (sym (one-word ws a p) ∙ one-word ws 1 q)) (λ (q : ws ≡ 2 ∷ []). n2 (sym (one-word ws a p) ∙ one-word ws 2 q)) o
 
 module _ {T K : Type 0} (holds : K → T → Type 0) where
   abbrev St : Type 0
@@ -55,21 +47,21 @@ module _ {T K : Type 0} (holds : K → T → Type 0) where
   at_rest : (k : K) (s : St) → Latched holds k s → slice_index s.words 0 ≡ 0 → AtHome holds k s
   at_rest k s r e =
       let w = alone k s r in
-      let p : s.words ≡ 0 ∷ [] = w.1 ∙ ap (λ (n : ℕ). n ∷ []) (sym (word_of s.words w.0 w.1) ∙ e) in
+      let p : s.words ≡ 0 ∷ [] = w.1 ∙ ap (λ (n : ℕ). n ∷ []) (sym (one-word s.words w.0 w.1) ∙ e) in
       ⊎_elim (λ h. h) (λ t. absurd (⊎_elim (λ (o : IsOut k r.0 s). not_home s.words o.0 p) (λ (c : Emptied s). cc (sym c.0 ∙ p)) t)) r.1
 
   -- where the word is 1 the value is out
   is_out : (k : K) (s : St) (r : Latched holds k s) → slice_index s.words 0 ≡ 1 → (s.words ≡ 1 ∷ []) × IsOut k r.0 s
   is_out k s r e =
       let w = alone k s r in
-      let p : s.words ≡ 1 ∷ [] = w.1 ∙ ap (λ (n : ℕ). n ∷ []) (sym (word_of s.words w.0 w.1) ∙ e) in
+      let p : s.words ≡ 1 ∷ [] = w.1 ∙ ap (λ (n : ℕ). n ∷ []) (sym (one-word s.words w.0 w.1) ∙ e) in
       (p, ⊎_elim (λ (h : AtHome holds k s). absurd (cc (sym h.0 ∙ p))) (λ t. ⊎_elim (λ o. o) (λ (c : Emptied s). absurd (cc (sym c.0 ∙ p))) t) r.1)
 
   -- a step that changes nothing
   stays : (k : K) (id : ℕ) (s : St) → Latched holds k s → get_elem? s.views id ≡ some (idle k) → Latched holds k (stepped s 0 (slice_index s.words 0) id [] (idle k) keeps)
   stays k id s r at =
       let w = alone k s r in
-      let same = kept s.words w.0 w.1 in
+      let same = set-one-again s.words w.0 w.1 in
       let still : set s.views id (idle k) ≡ s.views = set_again s.views id (idle k) at in
       subst (Latched holds k) (λ i. record { words = sym same i; homes = s.homes; views = sym still i }) r
 
@@ -83,7 +75,7 @@ module _ {T K : Type 0} (holds : K → T → Type 0) where
       hit e =
           let h = at_rest k s r e in
           let x : T = h.1.0 in
-          let now : SaysOut (slice_set s.words 0 b) = subst SaysOut (sym (written s.words 0 b h.0)) out in (
+          let now : SaysOut (slice_set s.words 0 b) = subst SaysOut (sym (set-one s.words 0 b h.0)) out in (
             holding k,
             takes 0 (Some x),
             h.1.2,
@@ -110,7 +102,7 @@ module _ {T K : Type 0} (holds : K → T → Type 0) where
       hit : slice_index s.words 0 ≡ 1 → Goal 2
       hit e =
           let o = is_out k s r e in
-          let now : SaysOut (slice_set s.words 0 2) = inr (written s.words 1 2 o.0) in
+          let now : SaysOut (slice_set s.words 0 2) = inr (set-one s.words 1 2 o.0) in
           let still : set s.views id (idle k) ≡ s.views = set_again s.views id (idle k) at in (
             idle k,
             keeps,

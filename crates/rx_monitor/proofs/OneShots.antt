@@ -4,6 +4,7 @@ use mathlib.Core.Option.{none, some, some-injective, some-ne-none}
 use prog.Atomic.{either}
 use lib.ListN.{get_elem?}
 use Rattle.std.specs.Prelude.{slice_set}
+use Rattle.rx_base.proofs.Elements.{one-word, set-one, set-one-again}
 use Rattle.atomic_table.specs.Table.{State, Act, keeps, takes, gives, step, stepped, carried_after, Valid, Allows, Enters, opening}
 use Rattle.atomic_table.proofs.Lists.{at_set, at_snoc, set_here, set_again, exchanged}
 use Rattle.rx_monitor.specs.declared.one_shot.Hand.{Hand}
@@ -20,15 +21,6 @@ module _ {T K : Type 0} (holds : K → T → Type 0) where
       → (j : ℕ) (u : Hand K) → get_elem? (set views id w) j ≡ some u → P j u
   each_set P views id w old new j u e = ⊎_elim (λ (t : (j ≡ id) × (w ≡ u)). subst (λ (z : ℕ × Hand K). P z.0 z.1) (λ k. (sym t.0 k, t.1 k)) new)
       (λ (t : (j ≢ id) × (get_elem? views j ≡ some u)). old j u t.0 t.1) (at_set views id j w u e)
-
-  word_of : (ws : List ℕ) (a : ℕ) → ws ≡ a ∷ [] → slice_index ws 0 ≡ a
-  word_of ws a p = ap (λ (l : List ℕ). slice_index l 0) p
-
-  written : (ws : List ℕ) (a b : ℕ) → ws ≡ a ∷ [] → slice_set ws 0 b ≡ b ∷ []
-  written ws a b p = ap (λ (l : List ℕ). slice_set l 0 b) p
-
-  again : (ws : List ℕ) (a : ℕ) → ws ≡ a ∷ [] → slice_set ws 0 (slice_index ws 0) ≡ ws
-  again ws a p = ap (λ (l : List ℕ). slice_set l 0 (slice_index l 0)) p ∙ sym p
 
   pub opens : (k : K) → OneShotKept holds k (opening (0 ∷ []) (replicate 1 None) (fresh k))
   opens k = record { word = 0; is = refl; full = λ e. absurd (cc e); each = alone }
@@ -60,7 +52,7 @@ module _ {T K : Type 0} (holds : K → T → Type 0) where
         own.2,
         record {
           word = r.word;
-          is = again s.words r.word r.is ∙ r.is;
+          is = set-one-again s.words r.word r.is ∙ r.is;
           full = λ e. absurd (cc (sym own.1 ∙ e));
           each = each_set (λ j u. HandKnows k r.word j s' u) s.views id (reaching k)
               (λ j u apart e. let o = r.each j u e in record { key = o.key; fresh = λ f. absurd (apart ((o.fresh f).0 ∙ sym own.0)); reaching = o.reaching })
@@ -78,7 +70,7 @@ module _ {T K : Type 0} (holds : K → T → Type 0) where
         tt,
         record {
           word = 1;
-          is = written s.words r.word 1 r.is;
+          is = set-one s.words r.word 1 r.is;
           full = λ _. (x, fits, set_here s.homes 0 (some (Some x)) (omega (arith, count)));
           each = each_set (λ j u. HandKnows k 1 j s' u) s.views id (idle k)
               (λ j u apart e. let o = r.each j u e in record { key = o.key; fresh = λ f. absurd (apart ((o.fresh f).0 ∙ sym own.0)); reaching = λ f. absurd (apart ((o.reaching f).0 ∙ sym own.0)) })
@@ -95,7 +87,7 @@ module _ {T K : Type 0} (holds : K → T → Type 0) where
 
       hit : slice_index s.words 0 ≡ 1 → Goal 2
       hit e =
-          let one : r.word ≡ 1 = sym (word_of s.words r.word r.is) ∙ e in
+          let one : r.word ≡ 1 = sym (one-word s.words r.word r.is) ∙ e in
           let f = r.full one in
           let s' : St = stepped s 0 2 id [] (idle k) (takes 0 (Some f.0)) in (
             idle k,
@@ -103,7 +95,7 @@ module _ {T K : Type 0} (holds : K → T → Type 0) where
             f.2,
             record {
               word = 2;
-              is = written s.words r.word 2 r.is;
+              is = set-one s.words r.word 2 r.is;
               full = λ e. absurd (cc e);
               each = each_set (λ j u. HandKnows k 2 j s' u) s.views id (idle k)
                   (λ j u apart e. let o = r.each j u e in record { key = o.key; fresh = λ f. absurd (cc (sym one ∙ (o.fresh f).1)); reaching = λ f. absurd (cc (sym one ∙ (o.reaching f).1)) })
@@ -114,7 +106,7 @@ module _ {T K : Type 0} (holds : K → T → Type 0) where
 
       miss : slice_index s.words 0 ≢ 1 → Goal (slice_index s.words 0)
       miss ne =
-          let same : slice_set s.words 0 (slice_index s.words 0) ≡ s.words = again s.words r.word r.is in
+          let same : slice_set s.words 0 (slice_index s.words 0) ≡ s.words = set-one-again s.words r.word r.is in
           let still : set s.views id (idle k) ≡ s.views = set_again s.views id (idle k) at in (
             idle k,
             keeps,

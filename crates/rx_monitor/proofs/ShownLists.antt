@@ -10,7 +10,8 @@ use Rattle.rx_monitor.specs.declared.summary.Summary.{Summary}
 use Rattle.rx_monitor.specs.declared.shown_list.View.{View}
 use Rattle.rx_monitor.specs.Boards.{longer}
 use Rattle.rx_monitor.specs.Inside.ShownLists.{opening_view, blank, noted, met, settled, grown, SeatFits, ListKept, Grows, Settles}
-use Rattle.rx_monitor.proofs.Beginnings.{begins_trans, begins_length, longer_begins, begins_longer, longer-first}
+use Rattle.rx_base.proofs.Prefixes.{prefix-trans, prefix-length, prefix-longer, prefix-in-longer}
+use Rattle.rx_monitor.proofs.Beginnings.{longer-first}
 
 blank_fits : (log : List Summary) (holder id : ℕ) → SeatFits log holder id blank
 blank_fits log holder id = record { prefix = (log, refl); also = (log, refl); mark = λ e. absurd (cc e) }
@@ -60,13 +61,13 @@ settles slots id me s r _ at _ =
     let P = SeatFits r.log r.holder in
     let v : View = me.0 in
     let f = r.each id v at in
-    let whole : v.marked ≡ true → longer v.seen v.also ≡ v.seen = λ m. longer-first v.seen v.also (let h = begins_length v.also r.log f.also in omega (arith, ap length (f.mark m).1)) in
-    let fits : P id (settled v) = record { prefix = longer_begins v.seen v.also r.log f.prefix f.also; also = (r.log, refl); mark = λ m. ((f.mark m).0, whole m ∙ (f.mark m).1) } in (
+    let whole : v.marked ≡ true → longer v.seen v.also ≡ v.seen = λ m. longer-first v.seen v.also (let h = prefix-length v.also r.log f.also in omega (arith, ap length (f.mark m).1)) in
+    let fits : P id (settled v) = record { prefix = prefix-longer v.seen v.also r.log f.prefix f.also; also = (r.log, refl); mark = λ m. ((f.mark m).0, whole m ∙ (f.mark m).1) } in (
       settled v,
       keeps,
       tt,
       record { log = r.log; holder = r.holder; each = each_set P s.views id (settled v) (λ j u _ e. r.each j u e) fits },
-      (refl, (drop (length v.seen) v.also, refl), begins_longer v.seen v.also r.log f.prefix f.also, whole),
+      (refl, (drop (length v.seen) v.also, refl), prefix-in-longer v.seen v.also r.log f.prefix f.also, whole),
     )
 
 pub grows : (slots id : ℕ) (me : Me Summary View) (x : Summary) → me.0.marked ≡ true → Allows ListKept slots id me 0 (λ n. either (eqb n 0) 0 n) (Grows (step slots 0 0 0 (some x)) me)
@@ -77,7 +78,7 @@ grows slots id me x has s r _ at _ =
     let log : List Summary = r.log ++ x ∷ [] in
     let P = SeatFits log r.holder in
     let more : IsPrefix r.log log = (x ∷ [], refl) in
-    let fits : P id (grown v x) = record { prefix = ([], (ap (λ l. (l ++ x ∷ []) ++ []) is.1 ∙ nil log)); also = begins_trans v.also r.log log f.also more; mark = λ _. (is.0, ap (λ l. l ++ x ∷ []) is.1) } in (
+    let fits : P id (grown v x) = record { prefix = ([], (ap (λ l. (l ++ x ∷ []) ++ []) is.1 ∙ nil log)); also = prefix-trans v.also r.log log f.also more; mark = λ _. (is.0, ap (λ l. l ++ x ∷ []) is.1) } in (
       grown v x,
       keeps,
       tt,
@@ -85,7 +86,7 @@ grows slots id me x has s r _ at _ =
         log = log;
         holder = r.holder;
         each = each_set P s.views id (grown v x)
-            (λ j u apart e. let o = r.each j u e in record { prefix = begins_trans u.seen r.log log o.prefix more; also = begins_trans u.also r.log log o.also more; mark = λ m. absurd (apart ((o.mark m).0 ∙ sym is.0)) })
+            (λ j u apart e. let o = r.each j u e in record { prefix = prefix-trans u.seen r.log log o.prefix more; also = prefix-trans u.also r.log log o.also more; mark = λ m. absurd (apart ((o.mark m).0 ∙ sym is.0)) })
             fits;
       },
       (λ y e. ap (λ (z : Summary). (grown v z, me.1)) (some-injective x y e)),

@@ -21,7 +21,7 @@ use Rattle.rx_book.specs.declared.passes.Note.{Note}
 use Rattle.rx_book.specs.History.{items_of}
 use Rattle.rx_book.specs.Passes.{note_view}
 use Rattle.rx_book.specs.Named.{BookName}
-use Rattle.rx_book.proofs.Fronts.{prefix_trans}
+use Rattle.rx_base.proofs.Prefixes.{prefix-trans}
 use Rattle.rx_parts.specs.Ledger.{LedgerItem, LegalLedger, entries_of}
 use Rattle.rx_parts.specs.Places.{MadeEvent, journal_of, seen_by}
 use Rattle.rx_parts.specs.Parts.{EachPlace, AreParts}
@@ -63,7 +63,7 @@ meeting_shows place views p v w n got met = ((w, got_set views p.0 v w got, met.
               let one : u ≡ v = one_item (slice_get views m.0.0) u v there (subst (λ (k : ℕ). slice_get views k ≡ Some v) e.1 got) in (
                 w,
                 subst (λ (k : ℕ). slice_get (slice_set views p.0 w) k ≡ Some w) e.1 (got_set views p.0 v w got),
-                prefix_trans (note_view m.1).seen v.seen w.seen (subst (λ (x : View EventItem). IsPrefix (note_view m.1).seen x.seen) one front) met.ours,
+                prefix-trans (note_view m.1).seen v.seen w.seen (subst (λ (x : View EventItem). IsPrefix (note_view m.1).seen x.seen) one front) met.ours,
               )
           | inr o ↦ (u, got_other views p.0 m.0.0 w o.1 ∙ there, front)
         ]
@@ -162,7 +162,7 @@ notes_begin ledger h n views ss ks notes e all met = All-weaker (IsMet views) (H
           made_events g.history,
           got_map made_events ks m.0.0 g.history g.got,
           prefixes-stay.1 (note_view m.1).seen g.history
-              (prefix_trans (note_view m.1).seen u.seen g.history front (subst (λ (x : View EventItem). IsPrefix x.seen g.history) (sym one) g.ends.begins)),
+              (prefix-trans (note_view m.1).seen u.seen g.history front (subst (λ (x : View EventItem). IsPrefix x.seen g.history) (sym one) g.ends.begins)),
         )
 
 module _ (code : Block) (ledger : BookName LedgerFixed) (h : List (Stamped EntryItem)) (n : ℕ) (views : List (View EventItem)) (stands : Stands ledger.fixed.program.script code) (long : n ≤ length h) where
@@ -179,7 +179,7 @@ module _ (code : Block) (ledger : BookName LedgerFixed) (h : List (Stamped Entry
         subst (λ (l : List LedgerItem). IsPrefix l (ledger_items h)) (sym (carried_same [] k))
         (prefix_items (last_carried (items_of k)) h
         (subst (λ (l : List (Stamped EntryItem)). IsPrefix (last_carried (items_of k)) l) e.heard.whole
-        (prefix_trans (last_carried (items_of k)) (note_view e.note).seen e.heard.after.seen keeps.last e.heard.met.theirs)))
+        (prefix-trans (last_carried (items_of k)) (note_view e.note).seen e.heard.after.seen keeps.last e.heard.met.theirs)))
 
     stamped : StampedTo (note_view e.note).reach (made_events k)
     stamped =

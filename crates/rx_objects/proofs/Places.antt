@@ -25,7 +25,7 @@ use Rattle.rx_book.specs.declared.passes.Pass.{Pass}
 use Rattle.rx_book.specs.Calls.{Met}
 use Rattle.rx_book.specs.History.{items_of, stamp_all, has_death}
 use Rattle.rx_book.specs.Passes.{view_of, word_of, note_view, note_word, IsAsSeen}
-use Rattle.rx_book.proofs.Fronts.{prefix_whole, prefix_self, prefix_trans}
+use Rattle.rx_base.proofs.Prefixes.{prefix-whole, prefix-self, prefix-trans}
 use Rattle.rx_parts.specs.Ledger.{LedgerItem}
 use Rattle.rx_parts.specs.Places.{MadeEvent, MayMake, LegalPlace, last_carried as last_seen, journal_of}
 use Rattle.rx_parts.specs.Calling.{top_stamp}
@@ -135,8 +135,8 @@ pub met_one : (Q : List (Stamped EntryItem) → Type 0) (v n w : View EntryItem)
 met_one Q v n w met ours theirs =
     let e = met.longer in
     elim (cases_lt (length n.seen) (length v.seen)) [
-      | inl less ↦ subst Q (prefix_whole v.seen w.seen met.ours (omega (arith, e))) ours
-      | inr le ↦ subst Q (prefix_whole n.seen w.seen met.theirs (omega (arith, e))) theirs
+      | inl less ↦ subst Q (prefix-whole v.seen w.seen met.ours (omega (arith, e))) ours
+      | inr le ↦ subst Q (prefix-whole n.seen w.seen met.theirs (omega (arith, e))) theirs
     ]
 
 -- the deaths that it knows are those that the one or the other knew
@@ -156,7 +156,7 @@ stayed f log caller op fits =
       number = refl;
       splits = refl;
       mine = refl;
-      more = prefix_self (view_of op.pass).seen;
+      more = prefix-self (view_of op.pass).seen;
       alone = refl;
       lawful = fits.lawful;
       reach = omega arith;
@@ -218,7 +218,7 @@ module _ (f : PlaceFixed) (log : List (Stamped EventItem)) (caller : List ℕ) (
           noted = record {
             word = own;
             lawful = subst (LedgerIsLegal f.ledger.fixed) (sym seen.seen) came_back.lawful;
-            last = subst (λ (l : List (Stamped EntryItem)). IsPrefix l (note_view n').seen) (sym (carried_push [] items item ∙ sym seen.seen)) (prefix_self (note_view n').seen);
+            last = subst (λ (l : List (Stamped EntryItem)). IsPrefix l (note_view n').seen) (sym (carried_push [] items item ∙ sym seen.seen)) (prefix-self (note_view n').seen);
             stamped = (let e : last_stamp (events_in (items ++ item ∷ [])) ≡ stamp_now = ap last_stamp (events_push items item) ∙ stamp_done 0 (events_in items) op.mark.task stamp_now did.cell op.mark.path in
                 let r = seen.reach in
                 let low = stamp_low in omega (arith, e, r, low));
@@ -232,7 +232,7 @@ module _ (f : PlaceFixed) (log : List (Stamped EventItem)) (caller : List ℕ) (
           cell = did.cell;
           told = subst (λ (p : PlaceId). CallIsTold p op.op answer did.cell) (ap (λ (s : Kept). s.place) same ∙ kept.home) did.told;
           one = refl;
-          last = prefix_trans (last_carried items) (note_view n).seen (view_of w).seen keeps.last met.theirs;
+          last = prefix-trans (last_carried items) (note_view n).seen (view_of w).seen keeps.last met.theirs;
           came = came_back;
           stamped = stamp_low;
         }

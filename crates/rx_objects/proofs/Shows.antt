@@ -7,6 +7,7 @@ use Rattle.std.proofs.lemmas.List.{append-nil, length-take-le, take-take}
 use Rattle.rx_base.specs.Sets.{has_bit, all_places, MembersMakeTheSet}
 use Rattle.rx_base.specs.declared.place_set.PlaceSet.{PlaceSet}
 use Rattle.rx_base.proofs.Bools.{same-or-false}
+use Rattle.rx_base.proofs.Elements.{last-is}
 use Rattle.rx_rules.specs.declared.entries.Entry.{Entry}
 use Rattle.rx_rules.specs.declared.entries.Entry.TheVariants.{Step, Root, Death, Join}
 use Rattle.rx_rules.specs.Fold.{tree_of}
@@ -84,14 +85,6 @@ one_more places es last old new s is =
       shown_are = is ∙ (ap (λ (l : List Summary). l ++ summary_of places es (length es) ∷ []) s.shown_are ∙ sym (map_snoc (summary_of places es) (s.earlier ++ last ∷ []) (length es)));
     }
 
-snoc_last : {A : Type 0} (xs ys : List A) (a b : A) → xs ++ a ∷ [] ≡ ys ++ b ∷ [] → a ≡ b
-snoc_last [] [] a b h = cc h
-snoc_last [] (y ∷ []) a b h = absurd (cc h)
-snoc_last [] (y ∷ z ∷ ys) a b h = absurd (cc h)
-snoc_last (x ∷ []) [] a b h = absurd (cc h)
-snoc_last (x ∷ w ∷ xs) [] a b h = absurd (cc h)
-snoc_last (x ∷ xs) (y ∷ ys) a b h = snoc_last xs ys a b (cc h)
-
 or_there : (a b : Bool) → b ≡ true → (a || b) ≡ true
 or_there true b e = refl
 or_there false b e = e
@@ -113,7 +106,7 @@ may_show k last shown s x ends =
     let es = k.entries in
     let places = k.setup.places in
     let is : summary_of places es last ≡ x =
-    snoc_last (map (summary_of places es) s.earlier) ends.0 (summary_of places es last) x (sym (map_snoc (summary_of places es) s.earlier last) ∙ (sym s.shown_are ∙ ends.1)) in
+    last-is (map (summary_of places es) s.earlier) ends.0 (summary_of places es last) x (sym (map_snoc (summary_of places es) s.earlier last) ∙ (sym s.shown_are ∙ ends.1)) in
     subst (λ (y : Summary). MayFollow y (whole_of k)) is (
       s.within,
       λ p low set. dead_as_told places (take (length es) es) p low ∙ (ap (dies_in p) (take-length es) ∙ dies_later p last es (sym (dead_as_told places (take last es) p low) ∙ set)),

@@ -1,5 +1,4 @@
 pub mod Telling
-pub mod Same
 pub mod Using
 pub mod Answered
 pub mod Following

@@ -18,12 +18,11 @@ ghost use Rattle.rx_players.specs.Stood.{Stood};
 ghost use Rattle.rx_players.specs.Inside.Admitted.{Stopped, AfterEntry};
 ghost use Rattle.rx_players.specs.Inside.Requests.{CountsMore, GoesOn, IsAsked, IsChild, IsNewborn, slot_for};
 
-use crate::compare::{same_batch, same_faults};
 use crate::players::{Players, Slot};
 use crate::requests::is_wanted;
 use crate::seat::{Seat, Stop};
 use crate::table::EventTable;
-use rx_base::{Batch, NoMemory, PlaceId, TaskId};
+use rx_base::{Batch, NoMemory, PlaceId, TaskId, same_batch, same_faults};
 use rx_check::Program;
 use rx_control::Want;
 use rx_history::{Entry, Journals};

@@ -6,7 +6,6 @@
 
 mod admitting;
 mod answering;
-mod compare;
 pub mod laws;
 mod marking;
 mod players;

@@ -15,9 +15,8 @@ ghost use Rattle.rx_verdict.specs.Walks.{next_does};
 ghost use Rattle.rx_players.specs.Stood.{Stood};
 ghost use Rattle.rx_players.specs.Inside.Requests.{wanted, IsAsked, CountsMore, IsGranted, AfterPath, AfterWait, AfterAct, AfterRequest};
 
-use crate::compare::same_faults;
 use crate::seat::Seat;
-use rx_base::{Batch, Faults, NoMemory, Path, PlaceId, PlaceSet};
+use rx_base::{Batch, Faults, NoMemory, Path, PlaceId, PlaceSet, same_faults};
 use rx_check::Program;
 use rx_control::{Control, Want, faults_raised};
 use rx_rules::Act;

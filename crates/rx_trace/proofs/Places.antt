@@ -4,7 +4,7 @@ use Rattle.std.specs.Prelude.{filter, codes}
 use Rattle.std.specs.List.{flat_map}
 use Rattle.rx_base.specs.declared.place_set.PlaceSet.{PlaceSet}
 use Rattle.rx_base.specs.Sets.{all_places, has_bit, members}
-use Rattle.rx_base.proofs.Members.{same-sets, place-at}
+use Rattle.rx_base.proofs.Members.{some-member, place-at}
 use Rattle.rx_text.proofs.Lists.{left-more}
 use Rattle.rx_trace.specs.Fields.{natural_field}
 use Rattle.rx_trace.specs.Parts.{lost_part}
@@ -22,13 +22,6 @@ places-more set old out next p below whole is =
     ap (λ o. o ++ F (drop (p + 1) all_places)) is
     ∙ append_assoc out (F (p ∷ [])) (F (drop (p + 1) all_places))
     ∙ ap (λ r. out ++ r) (sym (left-more F all_places p p (place-at p below) ∙ one (has_bit set p) p (filter (has_bit set) (drop (p + 1) all_places)))) ∙ whole
-
--- a set whose number is not 0 has a member
-pub some-member : (set : PlaceSet) → set.0 < 2 ^ 16 → (set.0 ≡ 0 → ⊥) → members set ≡ [] → ⊥
-some-member set small not_zero none =
-    let empty : PlaceSet = record { 0 = 0 } in
-    let same : set ≡ empty = same-sets set empty small (omega arith) none in
-    not_zero (ap (λ s. s.0) same)
 
 -- the part of a set that has a member
 pub lost-text : (set : PlaceSet) (old out next : List ℕ) → set.0 < 2 ^ 16 → (set.0 ≡ 0 → ⊥) → out ≡ old ++ codes " lost" → next ≡ out ++ flat_map natural_field (members set) → next ≡ old ++ lost_part set

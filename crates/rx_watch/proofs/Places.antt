@@ -4,7 +4,7 @@ use Rattle.std.specs.Prelude.{filter, slice_get, codes}
 use Rattle.std.specs.List.{flat_map}
 use Rattle.rx_base.specs.declared.place_set.PlaceSet.{PlaceSet}
 use Rattle.rx_base.specs.Sets.{all_places, has_bit, members}
-use Rattle.rx_base.proofs.Members.{same-sets, place-at}
+use Rattle.rx_base.proofs.Members.{some-member, place-at}
 use Rattle.rx_text.proofs.Lists.{left-more}
 use Rattle.rx_monitor.specs.declared.summary.Summary.{Summary}
 use Rattle.rx_watch.specs.Text.{field, places_part, dead_part, line}
@@ -28,13 +28,6 @@ places-more set old out next p below whole is =
     ap (λ o. o ++ F (drop (p + 1) all_places)) is
     ∙ append_assoc out (F (p ∷ [])) (F (drop (p + 1) all_places))
     ∙ ap (λ r. out ++ r) (sym (left-more F all_places p p (place-at p below) ∙ one (has_bit set p) p (filter (has_bit set) (drop (p + 1) all_places)))) ∙ whole
-
--- a set whose number is not 0 has a member
-some-member : (set : PlaceSet) → set.0 < 2 ^ 16 → (set.0 ≡ 0 → ⊥) → members set ≡ [] → ⊥
-some-member set small not_zero none =
-    let empty : PlaceSet = record { 0 = 0 } in
-    let same : set ≡ empty = same-sets set empty small (omega arith) none in
-    not_zero (ap (λ s. s.0) same)
 
 part-some : (ps : List ℕ) → (ps ≡ [] → ⊥) → places_part ps ≡ codes " dead" ++ flat_map field ps
 part-some [] some = absurd (some refl)

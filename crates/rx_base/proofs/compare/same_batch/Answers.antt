@@ -1,6 +1,6 @@
 use Rattle.std.proofs.Common.{◌≡◌, ◌∙◌, sym, arith, length, refl}
-use Rattle.rx_players.proofs.Same.{same_items}
-use Rattle.rx_players.proofs.compare.same_batch.Goals as goal
+use Rattle.rx_base.proofs.Elements.{same-items}
+use Rattle.rx_base.proofs.compare.same_batch.Goals as goal
 
 pub returns : goal.returns
 returns c =
@@ -8,5 +8,5 @@ returns c =
     let done = c.loop-i-test.false in
     let end = c.len-i-end.ensures in
     let at = c.loop-i.invariant in
-    let all = same_items c.args.a.now c.args.b.now size (λ k h. at k (omega (arith, h, done, end))) in
+    let all = same-items c.args.a.now c.args.b.now size (λ k h. at k (omega (arith, h, done, end))) in
     (λ t. all, λ e. refl)

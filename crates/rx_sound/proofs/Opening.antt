@@ -26,7 +26,8 @@ pub record OwnChain (gs : List Scope) (t : TaskId) (h : ScopeId) (u : ScopeId) :
   pub hangs : (s : ScopeId) → meets s gs (Some u) ≡ true → meets s gs (Some h) ≡ true
   pub above : (s : ScopeId) → meets s gs (Some h) ≡ true → list_any (λ k. is_scope s k && opened_by t k) gs ≡ false → meets s gs (Some u) ≡ true
 
-met_head : (s : ScopeId) (g : Scope) (gs : List Scope) → meets s (g ∷ gs) (Some g.number) ≡ (is_scope s g || meets s gs g.parent)
+-- at a scope, s is met from the scope itself or from its parent
+pub met_head : (s : ScopeId) (g : Scope) (gs : List Scope) → meets s (g ∷ gs) (Some g.number) ≡ (is_scope s g || meets s gs g.parent)
 met_head s g gs = rw (eq-eqb g.number.0 g.number.0 refl)
 
 own_here : (ts : List Task) (g : Scope) (gs : List Scope) (t : TaskId) (x : Task) (o : Option TaskId) → g.opener ≡ o → opened_by t g ≡ true → find (is_task t) ts ≡ Some x → HasOpener ts g gs o → OwnChain (g ∷ gs) t g.number x.under

@@ -28,7 +28,7 @@ use Rattle.rx_sound.proofs.Changes.{each_more, each_found}
 use Rattle.rx_sound.proofs.Chains.{met_start, meets_skips}
 use Rattle.rx_sound.proofs.Stay.{faulted, meets_faulted, fall_filter}
 use Rattle.rx_sound.proofs.Reach.{task_below}
-use Rattle.rx_sound.proofs.Opening.{inner_fits, governs_rooted}
+use Rattle.rx_sound.proofs.Opening.{inner_fits, governs_rooted, met_head}
 use Rattle.rx_sound.proofs.Releasing.{meets_filter, passes_marks, each_none, drops, leaves, on_meets, each_below, stayer_free, each_all, none_is_not}
 use Rattle.rx_sound.proofs.Reached.{sound, stays_at_release}
 use Rattle.rx_sound.proofs.Below.{one_opener, free_of}
@@ -146,7 +146,7 @@ governs_meets s n (g ∷ gs) want f k m a =
     (elim (wants want g) as (λ c. cond c (is_scope the_root g || meets the_root gs g.parent) (meets the_root gs want) ≡ true → meets s (g ∷ gs) (Some (elim (find (λ g. is_finish g.kind) (cond c (g ∷ chain_in gs g.parent) (chain_in gs want))) as (λ _. ScopeId) [ Some h ↦ h.number | None ↦ the_root ])) ≡ true → cond c (is_scope s g || meets s gs g.parent) (meets s gs want) ≡ true) [
       | true ↦ λ m2.
           (elim (is_finish g.kind) as (λ b. is_finish g.kind ≡ b → meets s (g ∷ gs) (Some (elim (cond b (Some g) (find (λ g. is_finish g.kind) (chain_in gs g.parent))) as (λ _. ScopeId) [ Some h ↦ h.number | None ↦ the_root ])) ≡ true → (is_scope s g || meets s gs g.parent) ≡ true) [
-            | true ↦ λ q a2. sym (head_meets g gs) ∙ a2
+            | true ↦ λ q a2. sym (met_head s g gs) ∙ a2
             | false ↦ λ q a2.
                 let apart : is_scope the_root g ≡ false = sym (and-true (is_scope the_root g)) ∙ sym (ap (λ b. is_scope the_root g && not b) q) ∙ parts.0 in
                 let m3 : meets the_root gs g.parent ≡ true = sym (ap (λ b. b || meets the_root gs g.parent) apart) ∙ m2 in
@@ -159,9 +159,6 @@ governs_meets s n (g ∷ gs) want f k m a =
           let low = met_start the_root g.number.0 gs (governing_in gs want) f.1 r in
           governs_meets s g.number.0 gs want f.1 parts.1 m2 (sym (meets_skips s g gs (governing_in gs want) low) ∙ a2)
     ]) m a
-  where
-    head_meets : (g : Scope) (gs : List Scope) → meets s (g ∷ gs) (Some g.number) ≡ (is_scope s g || meets s gs g.parent)
-    head_meets g gs = rw (eq-eqb g.number.0 g.number.0 refl) refl
 
 -- a newer scope changes nothing for the tasks that there are
 newer : (T : Tree) (g : Scope) (s : ScopeId) → Sound T → g.number.0 ≡ T.next_scope → busy (g ∷ T.scopes) T.tasks s ≡ busy T.scopes T.tasks s

@@ -18,6 +18,7 @@ use Rattle.rx_rules.specs.Plays.{Begins, Birth, EachPlays, birth_from, birth_of,
 use Rattle.rx_rules.specs.Order.{OrderKept, JournalsInOrder}
 use Rattle.rx_rules.specs.Store.{IsStoreRun, State, after_cell, opening_state}
 use Rattle.rx_rules.specs.Run.{AtHome, Given, IsRun, AllJournals, JournalOk, death_number, close_in, ClosesAt}
+use Rattle.rx_sound.proofs.Births.{StartsOther, from-other}
 use Rattle.rx_laws.proofs.Paths.{Comes, comes-kept}
 use Rattle.rx_laws.proofs.TermOrder.{Todo}
 use Rattle.rx_laws.proofs.Ties.{Tied}
@@ -32,7 +33,6 @@ use Rattle.rx_laws.proofs.Kept.{Kept, kept-start}
 use Rattle.rx_laws.proofs.HistoryOrder.{keeps-open, kept-covers, history-order}
 use Rattle.rx_laws.proofs.Events.{due-from}
 use Rattle.rx_laws.proofs.Here.{stays_here}
-use Rattle.rx_laws.proofs.Newborn.{StartsOther, from-other}
 use Rattle.rx_laws.proofs.JournalPairs.{paths, ClosesLast, closes-late, not_first, Homed, Events, Tale, Ahead, Behind, behind, born-due, now, tale-step, tale-birth, tale-root, tale-death, tale-join}
 
 closes-done : (o : Option ℕ) (u : TaskId) (stamp : ℕ) (cell : Cell) (x : List ℕ) (j : List PlaceEvent) → ClosesAt o (Done u stamp cell x ∷ j) → ClosesAt o j

@@ -27,6 +27,7 @@ use Rattle.rx_rules.specs.Order.{event_path}
 use Rattle.rx_rules.specs.Run.{NotFalling, death_number, close_in, ClosesAt}
 use Rattle.rx_rules.specs.Laws.{born_so_far}
 use Rattle.rx_rules.proofs.Lookups.{number-of}
+use Rattle.rx_sound.proofs.Births.{StartsOther, from-other, from-here, births-left}
 use Rattle.rx_laws.proofs.Paths.{Comes}
 use Rattle.rx_laws.proofs.TermOrder.{Todo}
 use Rattle.rx_laws.proofs.Lies.{Moves}
@@ -39,7 +40,7 @@ use Rattle.rx_laws.proofs.Story.{Shape, set_at, set_case, moves_own, moves_other
 use Rattle.rx_laws.proofs.ToldPairs.{is_alive}
 use Rattle.rx_laws.proofs.Events.{EventFrom, IsDue, NextEvent, next-event, none-due, none-before}
 use Rattle.rx_laws.proofs.Here.{stays_here, here-alive, here-act, here-without, here-death, here-lands}
-use Rattle.rx_laws.proofs.Newborn.{to-same, StartsOther, from-other, from-here, newborn, births-left, birth-low}
+use Rattle.rx_laws.proofs.Newborn.{to-same, newborn, birth-low}
 
 abbrev pub Cells : Type 0
 Cells = List (ℕ × Cell × List ℕ)

@@ -27,17 +27,14 @@ use Rattle.rx_sound.specs.Chains.{meets, HasOpener, Opened, Falls}
 use Rattle.rx_sound.specs.Sound.{Each, Inside, Sound}
 use Rattle.rx_sound.proofs.Changes.{each_found, each_more}
 use Rattle.rx_sound.proofs.Chains.{met_below, meets_skips}
-use Rattle.rx_sound.proofs.Releasing.{each_below, each_none, on_meets}
+use Rattle.rx_sound.proofs.Opening.{met_head}
+use Rattle.rx_sound.proofs.Releasing.{each_below, each_both, each_none, on_meets}
 use Rattle.rx_sound.proofs.Reach.{fits_of}
 use Rattle.rx_sound.proofs.Reached.{sound}
 use Rattle.rx_sound.proofs.Below.{missed_later, one_opener, free_of}
 use Rattle.rx_sound.proofs.Histories.{dead-now, reached_now, none_yet}
 
 -- Of the scopes that stand, where no opener that is at its place is under s, s alone is below s.
-
--- at a scope, s is met from the scope itself or from its parent
-abbrev met_at : (s : ScopeId) (g : Scope) (gs : List Scope) → meets s (g ∷ gs) (Some g.number) ≡ (is_scope s g || meets s gs g.parent)
-met_at s g gs = rw (eq-eqb g.number.0 g.number.0 refl)
 
 -- no opener that is at its place is under s
 abbrev NoneUnder : List Task → List Scope → ScopeId → Type 0
@@ -62,9 +59,9 @@ head_alone ts n g gs s (Some o) e f h free own m = by_shared (list_any (λ k. is
 alone : (ts : List Task) (n : ℕ) (gs : List Scope) (s : ScopeId) → Falls n gs → Opened ts gs → NoneUnder ts gs s → NoneAfter gs s → Each (λ g. meets s gs (Some g.number) ≡ true → is_scope s g ≡ true) gs
 alone ts n [] s f h free own = tt
 alone ts n (g ∷ gs) s f h free own = (
-  λ m. by_head (is_scope s g) refl (sym (met_at s g gs) ∙ m),
+  λ m. by_head (is_scope s g) refl (sym (met_head s g gs) ∙ m),
   each_more (λ k. (k.number.0 < g.number.0) × (meets s gs (Some k.number) ≡ true → is_scope s k ≡ true)) (λ k. meets s (g ∷ gs) (Some k.number) ≡ true → is_scope s k ≡ true) (λ k b m. b.1 (sym (meets_skips s g gs k.number b.0) ∙ m)) gs
-      (each_two (λ k. k.number.0 < g.number.0) (λ k. meets s gs (Some k.number) ≡ true → is_scope s k ≡ true) gs (each_below g.number.0 gs f.1)
+      (each_both (λ k. k.number.0 < g.number.0) (λ k. meets s gs (Some k.number) ≡ true → is_scope s k ≡ true) gs (each_below g.number.0 gs f.1)
       (alone ts g.number.0 gs s f.1 h.1
       (λ o x p found at. missed_later s n g gs x.under f (free o x p found at))
       (λ o a. (own o (or_right (is_scope s g && opened_by o g) (list_any (λ k. is_scope s k && opened_by o k) gs) a)).1))),
@@ -73,10 +70,6 @@ alone ts n (g ∷ gs) s f h free own = (
     by_head : (b : Bool) → is_scope s g ≡ b → (b || meets s gs g.parent) ≡ true → is_scope s g ≡ true
     by_head true e m = e
     by_head false e m = absurd (head_alone ts n g gs s g.opener refl f h.0 free own m)
-
-    each_two : {X : Type 0} (P Q : X → Type 0) (xs : List X) → Each P xs → Each Q xs → Each (λ x. P x × Q x) xs
-    each_two P Q [] h k = tt
-    each_two P Q (x ∷ xs) h k = ((h.0, k.0), each_two P Q xs h.1 k.1)
 
 -- Where nothing is lost under a quiet scope, nobody is under it.
 

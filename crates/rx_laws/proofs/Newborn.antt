@@ -1,8 +1,7 @@
 -- The births of a history, by the number of the entry.
-use Rattle.std.specs.Prelude.{◌≡◌, ℕ, suc, ◌+◌, ◌<◌, ◌≤◌, true, ◌==◌, List, [], ◌∷◌, Option, Some, None, refl}
+use Rattle.std.specs.Prelude.{◌≡◌, ℕ, suc, ◌+◌, ◌<◌, ◌≤◌, true, ◌==◌, List, [], ◌∷◌, Some, None, refl}
 use Rattle.std.proofs.Common.{ap, sym, subst, ◌∙◌, arith, inl, inr}
 use Rattle.std.proofs.lemmas.Bool.{eq-eqb, ne_eqb, cases_eq}
-use Rattle.std.proofs.lemmas.List.Sums.{sum_by-cons}
 use Rattle.rx_base.specs.declared.ids.PlaceId.{PlaceId}
 use Rattle.rx_base.specs.declared.ids.TaskId.{TaskId}
 use Rattle.rx_rules.specs.declared.entries.Act.{Act}
@@ -11,10 +10,10 @@ use Rattle.rx_rules.specs.declared.entries.Entry.{Entry}
 use Rattle.rx_rules.specs.declared.entries.Entry.TheVariants.{Step, Root, Death, Join}
 use Rattle.rx_rules.specs.Tree.{Tree, death_of}
 use Rattle.rx_rules.specs.Entries.{AllowedAct, made, made_act}
-use Rattle.rx_rules.specs.Fold.{AllAllowed, births, births_of}
+use Rattle.rx_rules.specs.Fold.{AllAllowed, births}
 use Rattle.rx_rules.specs.Plays.{Birth, birth_in, birth_from, started_by}
 use Rattle.rx_rules.specs.Laws.{born_so_far}
-use Rattle.rx_rules.proofs.Numbers.{next-made}
+use Rattle.rx_sound.proofs.Births.{StartsOther, from-other, from-here, births-left}
 use Rattle.rx_laws.proofs.Rows.{to_in}
 use Rattle.rx_laws.proofs.ToldPairs.{Starting, starts_none, starts_one, starting}
 use Rattle.rx_laws.proofs.Here.{stays_here, here-called, here-spawned}
@@ -29,24 +28,6 @@ to-same past T t (Release s lost masked thrown) batch a c h = refl
 to-same past T t (End thrown) batch a c h = refl
 to-same past T t (Printed value x) batch a c h = refl
 to-same past T t (Counted places x) batch a c h = refl
-
--- an entry that starts no task, or another
-abbrev pub StartsOther : Act → ℕ → Type 0
-StartsOther act c = (d : TaskId) → started_by act ≡ Some d → d.0 ≡ c → ⊥
-
-pub birth-other : (n c : ℕ) (t : TaskId) (act : Act) (batch : List (List ℕ)) → StartsOther act c → birth_in n c (Step t act batch) ≡ None
-birth-other n c t (Open s r x) batch o = refl
-birth-other n c t (Calling s r d from to x) batch o = rw (ne_eqb d.0 c (o d refl))
-birth-other n c t (Spawn d s from to x) batch o = rw (ne_eqb d.0 c (o d refl))
-birth-other n c t (Arrive p) batch o = refl
-birth-other n c t (Wait s thrown) batch o = refl
-birth-other n c t (Release s lost masked thrown) batch o = refl
-birth-other n c t (End thrown) batch o = refl
-birth-other n c t (Printed value x) batch o = refl
-birth-other n c t (Counted places x) batch o = refl
-
-pub from-other : (n c : ℕ) (t : TaskId) (act : Act) (batch : List (List ℕ)) (es : List Entry) → StartsOther act c → birth_from n (Step t act batch ∷ es) c ≡ birth_from (suc n) es c
-from-other n c t act batch es o = ap (λ (v : Option Birth). elim v as (λ _. Birth) [ Some b ↦ b | None ↦ birth_from (suc n) es c ]) (birth-other n c t act batch o)
 
 -- the task that an entry starts
 pub record Newborn (n : ℕ) (past : List Entry) (T : Tree) (t : TaskId) (act : Act) (batch : List (List ℕ)) (d : TaskId) : Type 0 where
@@ -73,16 +54,6 @@ newborn n past T t (Release s lost masked thrown) batch a d e = cc
 newborn n past T t (End thrown) batch a d e = cc
 newborn n past T t (Printed value x) batch a d e = cc
 newborn n past T t (Counted places x) batch a d e = cc
-
-pub from-here : (n : ℕ) (t : TaskId) (act : Act) (batch : List (List ℕ)) (es : List Entry) (c : ℕ) (b : Birth) → birth_in n c (Step t act batch) ≡ Some b → birth_from n (Step t act batch ∷ es) c ≡ b
-from-here n t act batch es c b e = ap (λ (v : Option Birth). elim v as (λ _. Birth) [ Some b ↦ b | None ↦ birth_from (suc n) es c ]) e
-
--- births add up
-pub births-left : (n : ℕ) (T : Tree) (e : Entry) (es : List Entry) → T.next_task + births (e ∷ es) ≡ (made n T e).next_task + births es
-births-left n T e es =
-    let sum : births (e ∷ es) ≡ births_of e + births es = sum_by-cons births_of e es in
-    let next : (made n T e).next_task ≡ T.next_task + births_of e = next-made n T e in
-    omega (arith, sum, next)
 
 -- a task that is yet to be born begins after entry n
 pub birth-low : (n : ℕ) (T : Tree) (es : List Entry) → AllAllowed n T es → (c : ℕ) → T.next_task ≤ c → c < T.next_task + births es → suc n ≤ (birth_from n es c).low

@@ -1,7 +1,6 @@
 -- The births, homes and entries of tasks, and the places, after one entry more.
 use Rattle.std.specs.Prelude.{◌≡◌, ◌≢◌, ◌⊎◌, ℕ, suc, ◌+◌, ◌<◌, ◌≤◌, List, [], ◌∷◌, ◌++◌, length, Option, Some, None, refl}
 use Rattle.std.proofs.Common.{ap, sym, subst, ◌∙◌, arith, ⊎_elim}
-use Rattle.std.proofs.lemmas.List.{append-nil}
 use Rattle.std.proofs.lemmas.List.Sums.{sum_by-cons}
 use Rattle.rx_base.specs.declared.ids.TaskId.{TaskId}
 use Rattle.rx_base.proofs.Elements.{get-within}
@@ -19,8 +18,9 @@ use Rattle.rx_rules.specs.Tree.{Tree}
 use Rattle.rx_rules.proofs.Append.{act-places, tree-push}
 use Rattle.rx_rules.proofs.Numbers.{next-tree}
 use Rattle.rx_sound.specs.Histories.{FoldReached}
+use Rattle.rx_sound.proofs.Births.{birth-other, births-left}
 use Rattle.rx_runs.specs.Ties.{birth_among}
-use Rattle.rx_runs.proofs.Pushes.{birth-push, moves-push}
+use Rattle.rx_runs.proofs.Pushes.{birth-push}
 use Rattle.rx_runs.proofs.Told.{StartsAt, Told, told, birth-new}
 use Rattle.rx_verdict.specs.Events.{after}
 use Rattle.rx_verdict.specs.Marks.{home_of, low_of}
@@ -28,7 +28,8 @@ use Rattle.rx_verdict.specs.Parts.{IsQuiet}
 use Rattle.rx_verdict.specs.Passes.{Stage}
 use Rattle.rx_verdict.specs.Seats as pass
 use Rattle.rx_verdict.specs.Seats.{Seated}
-use Rattle.rx_verdict.proofs.Births.{actor_below, birth_other, births-left, other_none, other_some, starts}
+use Rattle.rx_verdict.proofs.Births.{actor_below, other_none, other_some, starts}
+use Rattle.rx_verdict.proofs.Parting.{no_birth, no_moves}
 use Rattle.rx_verdict.proofs.Passing.{newborn_none}
 
 -- After more entries a task has the home and the last entry that it had, and no place has gone.
@@ -50,18 +51,6 @@ places_stay places es e = subst (λ (T : Tree). (tree_of places es).places ≤ T
 
 -- An entry of no task.
 
-quiet_birth : (n u : ℕ) (e : Entry) → IsQuiet e → birth_in n u e ≡ None
-quiet_birth n u (Step t act batch) q = absurd q
-quiet_birth n u (Root lost masked thrown) q = refl
-quiet_birth n u (Death d) q = refl
-quiet_birth n u (Join d) q = refl
-
-quiet_moves : (es : List Entry) (e : Entry) → IsQuiet e → (u : ℕ) → moves_from 0 (es ++ e ∷ []) u ≡ moves_from 0 es u
-quiet_moves es (Step t act batch) q u = absurd q
-quiet_moves es (Root lost masked thrown) q u = moves-push 0 es (Root lost masked thrown) u ∙ append-nil (moves_from 0 es u)
-quiet_moves es (Death d) q u = moves-push 0 es (Death d) u ∙ append-nil (moves_from 0 es u)
-quiet_moves es (Join d) q u = moves-push 0 es (Join d) u ∙ append-nil (moves_from 0 es u)
-
 -- of one birth and entries, one home and one last entry
 same_read : (places : ℕ) (es : List Entry) (e : Entry) (u : ℕ) → birth_of (es ++ e ∷ []) u ≡ birth_of es u → moves_from 0 (es ++ e ∷ []) u ≡ moves_from 0 es u → Keeps places es (es ++ e ∷ []) u
 same_read places es e u birth moves =
@@ -73,7 +62,7 @@ same_read places es e u birth moves =
 
 pub quiet_keeps : (places : ℕ) (es : List Entry) (e : Entry) → IsQuiet e → (u : ℕ) → Keeps places es (es ++ e ∷ []) u
 quiet_keeps places es e q u =
-    same_read places es e u (birth-push 0 es e u (quiet_birth (0 + length es) u e q)) (quiet_moves es e q u)
+    same_read places es e u (birth-push 0 es e u (no_birth (0 + length es) u e q)) (no_moves es e q u)
 
 -- An act of a task.
 
@@ -96,8 +85,8 @@ unborn n T (Step t act batch ∷ es) a c le =
     let none : birth_in n c (Step t act batch) ≡ None =
     ⊎_elim
     (λ (s : (d : TaskId) × (started_by act ≡ Some d) × (d.0 ≡ T.next_task) × (births_of (Step t act batch) ≡ 1)).
-    birth_other n c t act batch (other_some act c s.0 s.1 (λ e. let d = s.2 in let k = s.3 in omega (arith, d, k, e, all, le))))
-    (λ (s : (started_by act ≡ None) × (births_of (Step t act batch) ≡ 0)). birth_other n c t act batch (other_none act c s.0))
+    birth-other n c t act batch (other_some act c s.0 s.1 (λ e. let d = s.2 in let k = s.3 in omega (arith, d, k, e, all, le))))
+    (λ (s : (started_by act ≡ None) × (births_of (Step t act batch) ≡ 0)). birth-other n c t act batch (other_none act c s.0))
     (starts T t act batch a.0) in
     ap (λ (o : Option Birth). elim o as (λ _. Option Birth) [ Some b ↦ Some b | None ↦ birth_among (suc n) es c ]) none
     ∙ unborn (suc n) (made_act T t act) es a.1 c (omega (arith, sum, le))

@@ -1,5 +1,5 @@
 -- Which events a walk has used, and that each of them has its cause exactly where its stamp lies between the entries of its task.
-use Rattle.std.specs.Prelude.{◌≡◌, ℕ, zero, suc, ◌<◌, ◌≤◌, ◌==◌, Bool, true, false, cond, List, [], ◌∷◌, length, take, drop, Option, Some, None, slice_get, refl}
+use Rattle.std.specs.Prelude.{◌≡◌, ℕ, zero, suc, ◌<◌, ◌≤◌, ◌==◌, Bool, true, false, cond, List, [], ◌∷◌, length, take, drop, Some, None, slice_get, refl}
 use Rattle.std.specs.List.{filter_map, cons_option}
 use Rattle.std.proofs.Common.{ap, ◌∙◌, sym, subst, arith, inl, inr}
 use Rattle.std.proofs.lemmas.Bool.{eq-eqb, eqb-true, true≢false}
@@ -21,7 +21,7 @@ use Rattle.rx_verdict.specs.Marks.{low_of, home_of, StandsAt, WholePass}
 use Rattle.rx_verdict.specs.Verdicts.{HasCause}
 use Rattle.rx_verdict.specs.Walks.{Walks, stays, local, stores, asks}
 use Rattle.rx_verdict.proofs.Deciding.{seat_walks}
-use Rattle.rx_verdict.proofs.Marking.{used_event}
+use Rattle.rx_verdict.proofs.Marking.{later, used_event}
 
 -- Events of a task in a journal.
 
@@ -89,21 +89,6 @@ first_event t (Done u s d x ∷ j) zero c cells h = by (λ k. first_event t j 0 
   by tail_first false w k = one_later t (Done u s d x) j c cells (tail_first k) (λ stamp cell path e. other stamp cell path w e)
 
 -- Numbers of events.
-
-more_with : (o : Option (ℕ × Cell × List ℕ)) (n : ℕ) (m : Cells) → n ≤ length m → n ≤ length (cons_option o m)
-more_with None n m le = le
-more_with (Some c) n m le = omega (arith, le)
-
-fewer : (t : ℕ) (j : List PlaceEvent) (d : ℕ) → length (filter_map (cell_of t) (drop d j)) ≤ length (filter_map (cell_of t) j)
-fewer t j zero = omega arith
-fewer t [] (suc d) = omega arith
-fewer t (x ∷ j) (suc d) = more_with (cell_of t x) (length (filter_map (cell_of t) (drop d j))) (filter_map (cell_of t) j) (fewer t j d)
-
-pub later : (t : ℕ) (j : List PlaceEvent) (q e : ℕ) → q ≤ e → length (filter_map (cell_of t) (drop e j)) ≤ length (filter_map (cell_of t) (drop q j))
-later t j zero e le = fewer t j e
-later t [] (suc q) e le = fewer t [] e
-later t (x ∷ j) (suc q) zero le = absurd (omega arith)
-later t (x ∷ j) (suc q) (suc e) le = later t j q e (omega arith)
 
 pub from_here : (t : ℕ) (j : List PlaceEvent) (e stamp : ℕ) (cell : Cell) (x : List ℕ) → IsTold t j e stamp cell x → filter_map (cell_of t) (drop e j) ≡ (stamp, cell, x) ∷ filter_map (cell_of t) (drop (suc e) j)
 from_here t [] e stamp cell x h = absurd (let f : ⊥ = cc in f)

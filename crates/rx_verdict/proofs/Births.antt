@@ -1,5 +1,5 @@
 -- Births in a history: the entries of a task come after its birth, and each task but the first has a starter with a lesser number.
-use Rattle.std.specs.Prelude.{◌≡◌, ◌⊎◌, ℕ, suc, ◌+◌, ◌<◌, ◌≤◌, ◌==◌, Bool, true, false, cond, List, [], ◌∷◌, Option, Some, None, All, refl}
+use Rattle.std.specs.Prelude.{◌≡◌, ◌⊎◌, ℕ, suc, ◌+◌, ◌<◌, ◌≤◌, ◌==◌, Bool, true, false, cond, List, [], ◌∷◌, Some, None, All, refl}
 use Rattle.std.specs.List.{cons_option}
 use Rattle.std.proofs.Common.{ap, sym, subst, ◌∙◌, arith, inl, inr, ⊎_elim}
 use Rattle.std.proofs.lemmas.Bool.{eq-eqb, ne_eqb, cases_eq, cases_lt}
@@ -14,11 +14,11 @@ use Rattle.rx_rules.specs.Entries.{AllowedAct, made, made_act}
 use Rattle.rx_rules.specs.Fold.{AllAllowed, births, births_of}
 use Rattle.rx_rules.specs.Reached.{Reached, IsOlder}
 use Rattle.rx_rules.specs.Plays.{Moves, Birth, birth_in, birth_from, moves_from, started_by}
+use Rattle.rx_sound.proofs.Births.{StartsOther, from-other, from-here, births-left}
 use Rattle.rx_sound.proofs.Reached.{sound}
 use Rattle.rx_sound.proofs.Reach.{task_below}
 use Rattle.rx_sound.proofs.Histories.{reached_now, dead-now}
 use Rattle.rx_rules.proofs.Numbers.{next-made}
-use Rattle.std.proofs.lemmas.List.Sums.{sum_by-cons}
 use Rattle.rx_verdict.specs.Replays.{Rises}
 
 -- the task that acts was born
@@ -27,27 +27,6 @@ below T t x r e = task_below T.next_task T.tasks t x (sound r).tasks_fall e
 
 pub actor_below : (T : Tree) (t : TaskId) (act : Act) → Reached T → AllowedAct T t act → t.0 < T.next_task
 actor_below T t act h a = below T t a.task h a.stands
-
--- an entry that starts no task, or another
-abbrev pub StartsOther : Act → ℕ → Type 0
-StartsOther act c = (d : TaskId) → started_by act ≡ Some d → d.0 ≡ c → ⊥
-
-pub birth_other : (n c : ℕ) (t : TaskId) (act : Act) (batch : List (List ℕ)) → StartsOther act c → birth_in n c (Step t act batch) ≡ None
-birth_other n c t (Open s r x) batch o = refl
-birth_other n c t (Calls s r d from to x) batch o = rw (ne_eqb d.0 c (o d refl))
-birth_other n c t (Spawn d s from to x) batch o = rw (ne_eqb d.0 c (o d refl))
-birth_other n c t (Arrive p) batch o = refl
-birth_other n c t (Wait s thrown) batch o = refl
-birth_other n c t (Release s lost masked thrown) batch o = refl
-birth_other n c t (End thrown) batch o = refl
-birth_other n c t (Print value x) batch o = refl
-birth_other n c t (Census count x) batch o = refl
-
-pub from-other : (n c : ℕ) (t : TaskId) (act : Act) (batch : List (List ℕ)) (es : List Entry) → StartsOther act c → birth_from n (Step t act batch ∷ es) c ≡ birth_from (suc n) es c
-from-other n c t act batch es o = ap (λ (v : Option Birth). elim v as (λ _. Birth) [ Some b ↦ b | None ↦ birth_from (suc n) es c ]) (birth_other n c t act batch o)
-
-pub from-here : (n : ℕ) (t : TaskId) (act : Act) (batch : List (List ℕ)) (es : List Entry) (c : ℕ) (b : Birth) → birth_in n c (Step t act batch) ≡ Some b → birth_from n (Step t act batch ∷ es) c ≡ b
-from-here n t act batch es c b e = ap (λ (v : Option Birth). elim v as (λ _. Birth) [ Some b ↦ b | None ↦ birth_from (suc n) es c ]) e
 
 -- the birth that an entry tells
 pub newborn : (n : ℕ) (t : TaskId) (act : Act) (batch : List (List ℕ)) (d : TaskId) → started_by act ≡ Some d → (b : Birth) × (birth_in n d.0 (Step t act batch) ≡ Some b) × (b.low ≡ suc n)
@@ -66,13 +45,6 @@ newborn n t (Release s lost masked thrown) batch d e = absurd (let f : ⊥ = cc 
 newborn n t (End thrown) batch d e = absurd (let f : ⊥ = cc in f)
 newborn n t (Print value x) batch d e = absurd (let f : ⊥ = cc in f)
 newborn n t (Census count x) batch d e = absurd (let f : ⊥ = cc in f)
-
--- births add up
-pub births-left : (n : ℕ) (T : Tree) (e : Entry) (es : List Entry) → T.next_task + births (e ∷ es) ≡ (made n T e).next_task + births es
-births-left n T e es =
-    let sum : births (e ∷ es) ≡ births_of e + births es = sum_by-cons births_of e es in
-    let next : (made n T e).next_task ≡ T.next_task + births_of e = next-made n T e in
-    omega (arith, sum, next)
 
 -- an act starts no task, or the next
 abbrev pub StartsNext : Tree → Act → ℕ → Type 0

@@ -50,7 +50,7 @@ fewer t [] (suc d) = omega arith
 fewer t (x ∷ j) (suc d) = more_with (cell_of t x) (length (filter_map (cell_of t) (drop d j))) (filter_map (cell_of t) j) (fewer t j d)
 
 -- there are no more of a task's events from a later number on
-later : (t : ℕ) (j : List PlaceEvent) (q e : ℕ) → q ≤ e → length (filter_map (cell_of t) (drop e j)) ≤ length (filter_map (cell_of t) (drop q j))
+pub later : (t : ℕ) (j : List PlaceEvent) (q e : ℕ) → q ≤ e → length (filter_map (cell_of t) (drop e j)) ≤ length (filter_map (cell_of t) (drop q j))
 later t j zero e le = fewer t j e
 later t [] (suc q) e le = fewer t [] e
 later t (x ∷ j) (suc q) zero le = absurd (omega arith)

@@ -129,7 +129,7 @@ part_begins code U es js = (none code U es js, λ m n le h. fewer code U es js m
 
 -- An entry of no task.
 
-no_birth : (n u : ℕ) (e : Entry) → IsQuiet e → birth_in n u e ≡ None
+pub no_birth : (n u : ℕ) (e : Entry) → IsQuiet e → birth_in n u e ≡ None
 no_birth n u (Step t act batch) q = absurd q
 no_birth n u (Root lost masked thrown) q = refl
 no_birth n u (Death d) q = refl
@@ -141,7 +141,7 @@ no_births (Root lost masked thrown) q = refl
 no_births (Death d) q = refl
 no_births (Join d) q = refl
 
-no_moves : (es : List Entry) (e : Entry) → IsQuiet e → (u : ℕ) → moves_from 0 (es ++ e ∷ []) u ≡ moves_from 0 es u
+pub no_moves : (es : List Entry) (e : Entry) → IsQuiet e → (u : ℕ) → moves_from 0 (es ++ e ∷ []) u ≡ moves_from 0 es u
 no_moves es (Step t act batch) q u = absurd q
 no_moves es (Root lost masked thrown) q u = moves-push 0 es (Root lost masked thrown) u ∙ append-nil (moves_from 0 es u)
 no_moves es (Death d) q u = moves-push 0 es (Death d) u ∙ append-nil (moves_from 0 es u)

@@ -23,6 +23,7 @@ use Rattle.rx_rules.specs.Reached.{Reached, IsOlder, opens}
 use Rattle.rx_rules.specs.Picked.{Player, acted}
 use Rattle.rx_runs.specs.Games.{fresh}
 use Rattle.rx_rules.specs.Plays.{Cells, Moves, Starts, Birth, birth_of, moves_from, travels, started_by, cell_of, journal_at}
+use Rattle.rx_sound.proofs.Births.{birth-other, births-left}
 use Rattle.rx_sound.proofs.Histories.{reached_now, dead-now, none_yet}
 use Rattle.rx_rules.proofs.Numbers.{next-tree}
 use Rattle.rx_runs.proofs.Append.{allowed-push}
@@ -32,7 +33,7 @@ use Rattle.rx_verdict.specs.Makes.{Makes, Landing, Made, TaskMakes, cells_of}
 use Rattle.rx_verdict.specs.Walks as walks
 use Rattle.rx_verdict.specs.Walks.{Walks, MakesFrom, IsAsked}
 use Rattle.rx_verdict.specs.Passes.{IsAt, IsAway, HasEnded, Grown, Stage, EntryIsMade, PlayerMakes, PlayerOnly, AwayOnly, AwayArrives, PlayerGoesOn, PlayerEnds, EndedNever, OthersStay, NewbornStands}
-use Rattle.rx_verdict.proofs.Births.{birth_other, actor_below, starts, other_none, other_some, births-left}
+use Rattle.rx_verdict.proofs.Births.{actor_below, starts, other_none, other_some}
 use Rattle.rx_verdict.proofs.Once.{landing_map, made_at, made_once}
 use Rattle.rx_verdict.proofs.Shown.{each_makes, made_first, get_take}
 use Rattle.rx_verdict.proofs.Walking.{join, cut, walk_on, none_after}
@@ -134,7 +135,7 @@ module _ (code : Block) (places : ℕ) (es : List Entry) (js : List (List PlaceE
   birth c low =
       let is = next in
       birth-push 0 es (Step t act batch) c
-      (birth_other (0 + length es) c t act batch
+      (birth-other (0 + length es) c t act batch
       (⊎_elim (λ (k : (d : TaskId) × (started_by act ≡ Some d) × (d.0 ≡ (tree_of places es).next_task) × (births_of (Step t act batch) ≡ 1)). other_some act c k.0 k.1 (λ e. let d = k.2 in omega (arith, is, d, e)))
       (λ (k : (started_by act ≡ None) × (births_of (Step t act batch) ≡ 0)). other_none act c k.0) (starts (tree_of places es) t act batch g.next)))
 

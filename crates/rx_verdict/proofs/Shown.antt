@@ -21,6 +21,7 @@ use Rattle.rx_rules.specs.Plays.{Cells, Moves, Starts, Plays, Begins, EachPlays,
 use Rattle.rx_rules.specs.Store.{opening_state}
 use Rattle.rx_rules.specs.Run.{Given, in_all, Event, plan_of, PlanKept, rest_of, EndsWithRoot, JournalOk, death_number, IsRun}
 use Rattle.rx_rules.proofs.Numbers.{next-made}
+use Rattle.rx_sound.proofs.Births.{from-other, from-here, births-left}
 use Rattle.rx_runs.specs.Rooted.{RootIsLast}
 use Rattle.rx_runs.proofs.RootLast.{root_last-ends}
 use Rattle.rx_verdict.specs.declared.verdict.Verdict.TheVariants.{Run}
@@ -29,7 +30,7 @@ use Rattle.rx_verdict.specs.Makes.{Makes, MakesEvent, AnyStamp, Between, Landing
 use Rattle.rx_verdict.specs.Verdicts.{Part, IsGood, CauseOf, HasCause, AllGood, IsVerdict, RunIsVerdict, events_before}
 use Rattle.rx_verdict.proofs.Stamps.{cause_any}
 use Rattle.rx_verdict.proofs.Replays.{plays_make, plays_event}
-use Rattle.rx_verdict.proofs.Births.{Has, StartsTask, starts, other_none, other_some, born_before, from-other, from-here, newborn, births-left}
+use Rattle.rx_verdict.proofs.Births.{Has, StartsTask, starts, other_none, other_some, born_before, newborn}
 use Rattle.rx_verdict.proofs.Once.{landing_map, made_at}
 use Rattle.rx_verdict.proofs.Journals.{store_take, rising_take, home_at, count_below, shut_of, close_is, journal_is, journals_at}
 use Rattle.std.proofs.lemmas.Option.{slice_get_past, slice_get_within}

@@ -1,27 +1,15 @@
 -- A legal history begins with legal ones.
-use Rattle.std.specs.Prelude.{◌≡◌, ℕ, suc, List, [], ◌∷◌, ◌++◌, refl}
+use Rattle.std.specs.Prelude.{◌≡◌, List, [], ◌∷◌, ◌++◌, refl}
 use Rattle.std.proofs.Common.{subst}
 use Rattle.std.proofs.lemmas.List.{map-append}
 use Rattle.rx_rules.specs.declared.entries.Entry.{Entry}
 use Rattle.rx_rules.specs.declared.entries.Entry.TheVariants.{Step, Root, Death, Join}
-use Rattle.rx_rules.specs.Tree.{Tree}
-use Rattle.rx_rules.specs.Entries.{made}
 use Rattle.rx_rules.specs.Fold.{AllAllowed, opening}
-use Rattle.rx_rules.specs.Run.{Event, PlanKept, rest_of, plan_of}
+use Rattle.rx_rules.specs.Run.{PlanKept, plan_of}
+use Rattle.rx_runs.proofs.Append.{allowed-first, plan-first}
 use Rattle.rx_parts.specs.Ledger.{LedgerItem, main_actor, RootIsLast, entries_of}
 use Rattle.rx_parts.specs.Growing.{PrefixLegal}
 use Rattle.rx_parts.proofs.Determined.{leads_split}
-
-allowed_first : (n : ℕ) (T : Tree) (es fs : List Entry) → AllAllowed n T (es ++ fs) → AllAllowed n T es
-allowed_first n T [] fs h = tt
-allowed_first n T (e ∷ es) fs h = (h.0, allowed_first (suc n) (made n T e) es fs h.1)
-
-plan_first : (n : ℕ) (xs : List Event) (es fs : List Entry) → PlanKept n xs (es ++ fs) → PlanKept n xs es
-plan_first n xs [] fs h = tt
-plan_first n xs (Step t act batch ∷ es) fs h = (h.0, plan_first (suc n) xs es fs h.1)
-plan_first n xs (Root lost masked thrown ∷ es) fs h = (h.0, plan_first (suc n) xs es fs h.1)
-plan_first n xs (Death d ∷ es) fs h = (h.0, plan_first (suc n) (rest_of xs) es fs h.1)
-plan_first n xs (Join p ∷ es) fs h = (h.0, plan_first (suc n) (rest_of xs) es fs h.1)
 
 none_first : {X : Type 0} (xs ys : List X) → xs ++ ys ≡ [] → xs ≡ []
 none_first [] ys h = refl
@@ -42,8 +30,8 @@ prefix-legal code U g h legal =
       folds = record {
         some = legal.folds.some;
         few = legal.folds.few;
-        allowed = allowed_first 0 (opening U.places) (entries_of g) (entries_of h) (subst (AllAllowed 0 (opening U.places)) e legal.folds.allowed);
-        plan = plan_first 0 (plan_of U) (entries_of g) (entries_of h) (subst (PlanKept 0 (plan_of U)) e legal.folds.plan);
+        allowed = allowed-first 0 (opening U.places) (entries_of g) (entries_of h) (subst (AllAllowed 0 (opening U.places)) e legal.folds.allowed);
+        plan = plan-first 0 (plan_of U) (entries_of g) (entries_of h) (subst (PlanKept 0 (plan_of U)) e legal.folds.plan);
       };
       last = root_first (entries_of g) (entries_of h) (subst RootIsLast e legal.last);
       actors = s.0;

@@ -115,11 +115,18 @@ pub record LastEvent (code : Block) (U : Given) (p t : ℕ) (journal : List Plac
   pub rising : NoneAbove event.stamp before
   pub within : IsPrefix event.carried seen
 
+-- the task's events before it
+pub earlier_of : {code : Block} {U : Given} {p t : ℕ} {journal : List PlaceEvent} {seen : List LedgerItem} (l : LastEvent code U p t journal seen) → filter_map (cell_of t) l.before ≡ l.may.actor.named ++ l.may.since
+earlier_of l = subst (λ (v : ℕ). filter_map (cell_of v) l.before ≡ l.may.actor.named ++ l.may.since) l.is_of l.may.earlier
+
+-- all of the task's events
+pub cells_of : {code : Block} {U : Given} {p t : ℕ} {journal : List PlaceEvent} {seen : List LedgerItem} (l : LastEvent code U p t journal seen) → filter_map (cell_of t) journal ≡ l.may.actor.named ++ (l.may.since ++ (l.event.stamp, l.event.cell, l.event.path) ∷ [])
+cells_of l = l.cells ∙ ap (λ v. v ++ (l.event.stamp, l.event.cell, l.event.path) ∷ []) (earlier_of l) ∙ append_assoc l.may.actor.named l.may.since ((l.event.stamp, l.event.cell, l.event.path) ∷ [])
+
 -- its term's events before are stamped no later
 pub low_of : {code : Block} {U : Given} {p t : ℕ} {journal : List PlaceEvent} {seen : List LedgerItem} (l : LastEvent code U p t journal seen) → l.may.stand.low ≤ l.event.stamp
 low_of {t = t} l =
-    let earlier : filter_map (cell_of t) l.before ≡ l.may.actor.named ++ l.may.since = subst (λ (v : ℕ). filter_map (cell_of v) l.before ≡ l.may.actor.named ++ l.may.since) l.is_of l.may.earlier in
-    walk_low l.may.walks l.event.stamp l.may.above (up_second l.event.stamp l.may.actor.named l.may.since (subst (UpTo l.event.stamp) earlier (cells_up l.event.stamp t l.before l.rising)))
+    walk_low l.may.walks l.event.stamp l.may.above (up_second l.event.stamp l.may.actor.named l.may.since (subst (UpTo l.event.stamp) (earlier_of l) (cells_up l.event.stamp t l.before l.rising)))
 
 last_as : {code : Block} {U : Given} {p t : ℕ} {journal other : List PlaceEvent} {seen : List LedgerItem} → journal ≡ other → LastEvent code U p t journal seen → LastEvent code U p t other seen
 last_as {code = code} {U = U} {p = p} {t = t} {seen = seen} e h = subst (λ (v : List PlaceEvent). LastEvent code U p t v seen) e h
@@ -194,12 +201,6 @@ by_last starts code U h legal p t a journal seen agree got within named l = by_o
   now = let w = later (length l.event.carried) l.may.legal.actors longer.0 legal.actors on t l.may.actor at_t in
       subst (λ (v : Actor). Later l.may.actor v) (one_item (slice_get legal.actors t) w.0 a w.1 got) w.2
 
-  earlier : filter_map (cell_of t) l.before ≡ l.may.actor.named ++ l.may.since
-  earlier = subst (λ (v : ℕ). filter_map (cell_of v) l.before ≡ l.may.actor.named ++ l.may.since) l.is_of l.may.earlier
-
-  cells : filter_map (cell_of t) journal ≡ l.may.actor.named ++ (l.may.since ++ (l.event.stamp, l.event.cell, l.event.path) ∷ [])
-  cells = l.cells ∙ ap (λ v. v ++ (l.event.stamp, l.event.cell, l.event.path) ∷ []) earlier ∙ append_assoc l.may.actor.named l.may.since ((l.event.stamp, l.event.cell, l.event.path) ∷ [])
-
   in_full : PlaysHere starts a a.named
   in_full = begins_of (legal_ok starts code U h legal agree t a got)
 
@@ -208,7 +209,7 @@ by_last starts code U h legal p t a journal seen agree got within named l = by_o
       let event : StandGoes starts l.may.actor.birth.to l.may.stand ((l.event.stamp, l.event.cell, l.event.path) ∷ []) [] _ = segments.stores l.may.answer (low_of l) l.may.tells l.may.begins segments.stays in
       let all = joined g (walk_goes l.may.walks event) in
       let place_says : Plays starts l.may.actor.birth.to first l.may.actor.start.1 l.may.actor.start.0 [] (filter_map (cell_of t) journal) rest =
-      subst (λ (v : Cells). Plays starts l.may.actor.birth.to first l.may.actor.start.1 l.may.actor.start.0 [] v rest) (sym cells)
+      subst (λ (v : Cells). Plays starts l.may.actor.birth.to first l.may.actor.start.1 l.may.actor.start.0 [] v rest) (sym (cells_of l))
       (subst (λ (v : Moves). Plays starts l.may.actor.birth.to first l.may.actor.start.1 l.may.actor.start.0 [] (l.may.actor.named ++ (l.may.since ++ (l.event.stamp, l.event.cell, l.event.path) ∷ [])) v) (append-nil rest) (stopped all)) in
       merge_task starts l.may.actor a first rest (filter_map (cell_of t) journal) now landed place_says in_full named
 

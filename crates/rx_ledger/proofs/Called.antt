@@ -1,17 +1,16 @@
 -- What a call leaves to its caller and to the other tasks.
-use Rattle.std.specs.Prelude.{◌≡◌, ◌≢◌, ℕ, suc, ◌==◌, Bool, true, false, cond, List, [], ◌∷◌, ◌++◌, Some, None, refl}
+use Rattle.std.specs.Prelude.{◌≡◌, ◌≢◌, ℕ, ◌==◌, Bool, true, false, cond, List, [], ◌∷◌, ◌++◌, Some, None, refl}
 use Rattle.std.proofs.Common.{ap, ◌∙◌, sym, subst, append_assoc, append-nil, inl, inr}
 use Rattle.std.proofs.lemmas.Bool.{eq-eqb, ne_eqb}
 use Rattle.rx_base.specs.declared.ids.TaskId.{TaskId}
-use Rattle.rx_rules.specs.Run.{Event}
 use Rattle.rx_rules.specs.declared.entries.Act.{Act}
 use Rattle.rx_rules.specs.declared.entries.Entry.{Entry}
 use Rattle.rx_rules.specs.declared.entries.Entry.TheVariants.{Step, Root, Death, Join}
 use Rattle.rx_rules.specs.Tree.{Tree}
-use Rattle.rx_rules.specs.Entries.{made}
-use Rattle.rx_rules.specs.Fold.{AllAllowed, opening, tree_of}
-use Rattle.rx_rules.specs.Run.{Given, Folds, PlanKept, plan_of, rest_of}
+use Rattle.rx_rules.specs.Fold.{opening, tree_of}
+use Rattle.rx_rules.specs.Run.{Given, Folds, plan_of}
 use Rattle.rx_sound.specs.Sound.{Each}
+use Rattle.rx_runs.proofs.Append.{allowed-first, plan-first}
 use Rattle.rx_history.specs.Setups.{given}
 use Rattle.rx_history.specs.declared.setup.Setup.{Setup}
 use Rattle.rx_finish.specs.declared.ledger.Caller.{Caller}
@@ -39,21 +38,10 @@ use Rattle.rx_ledger.proofs.StaysGood.{tickets_stay_good}
 
 -- Fronts.
 
-front_allowed : (n : ℕ) (T : Tree) (es fs : List Entry) → AllAllowed n T (es ++ fs) → AllAllowed n T es
-front_allowed n T [] fs h = tt
-front_allowed n T (e ∷ es) fs h = (h.0, front_allowed (suc n) (made n T e) es fs h.1)
-
-front_plan : (n : ℕ) (ks : List Event) (es fs : List Entry) → PlanKept n ks (es ++ fs) → PlanKept n ks es
-front_plan n ks [] fs h = tt
-front_plan n ks (Death d ∷ es) fs h = (h.0, front_plan (suc n) (rest_of ks) es fs h.1)
-front_plan n ks (Join d ∷ es) fs h = (h.0, front_plan (suc n) (rest_of ks) es fs h.1)
-front_plan n ks (Step t act batch ∷ es) fs h = (h.0, front_plan (suc n) ks es fs h.1)
-front_plan n ks (Root lost masked thrown ∷ es) fs h = (h.0, front_plan (suc n) ks es fs h.1)
-
 -- what begins a history is one
 pub front_folds : (U : Given) (es fs : List Entry) → Folds U (es ++ fs) → Folds U es
 front_folds U es fs h =
-    record { some = h.some; few = h.few; allowed = front_allowed 0 (opening U.places) es fs h.allowed; plan = front_plan 0 (plan_of U) es fs h.plan }
+    record { some = h.some; few = h.few; allowed = allowed-first 0 (opening U.places) es fs h.allowed; plan = plan-first 0 (plan_of U) es fs h.plan }
 
 -- What an answer appends.
 

@@ -2,7 +2,7 @@
 -- and the tasks' own store calls are bounded along the history of the ledger.
 use Rattle.std.specs.Prelude.{◌≡◌, ◌≢◌, ℕ, zero, suc, ◌+◌, ◌*◌, ◌<◌, ◌≤◌, Bool, true, false, ◌==◌, List, [], ◌∷◌, ◌++◌, length, slice_get, slice_set, sum_by, Some, refl}
 use Rattle.std.specs.List.{filter_map}
-use Rattle.std.proofs.Common.{arith, ap, sym, ◌∙◌, subst, inl, inr, append_assoc}
+use Rattle.std.proofs.Common.{arith, ap, sym, ◌∙◌, subst, inl, inr}
 use Rattle.std.proofs.Math.Nat.{suc-mul}
 use Rattle.std.proofs.lemmas.Bool.{eqb-true, eq-eqb, ne_eqb, true≢false}
 use Rattle.std.proofs.lemmas.List.{append-nil}
@@ -24,7 +24,7 @@ use Rattle.rx_parts.specs.Ledger.{LedgerItem, Actor, Away, Present, Over, Walks,
 use Rattle.rx_parts.specs.Places.{MadeEvent, event_of, journal_of, LegalFrom, LegalPlace, last_carried, seen_by}
 use Rattle.rx_parts.proofs.Lists.{one_item, inside, prefix_on}
 use Rattle.rx_parts.proofs.Tasks.{later, ActorOk, away, here, over, walk_goes}
-use Rattle.rx_parts.proofs.Whole.{starts_of, agrees, legal_ok, legal_later, seen_from, LastEvent, LastOrNone, last_from, low_of}
+use Rattle.rx_parts.proofs.Whole.{starts_of, agrees, legal_ok, legal_later, seen_from, LastEvent, LastOrNone, last_from, cells_of, low_of}
 use Rattle.rx_parts_bounds.specs.Nesting.{nest}
 use Rattle.rx_parts_bounds.specs.Bounds.{EventsBounded}
 use Rattle.rx_parts_bounds.proofs.Weights.{load, load_items, Leaves, does_leaves, front, answered_down, starts, granted_down}
@@ -139,17 +139,11 @@ by_task code U p t journal seen legal a got l = by_ok (legal_ok (starts_of l.may
       let w = later (length l.event.carried) l.may.legal.actors l.within.0 legal.actors on t l.may.actor (subst (λ (v : ℕ). slice_get l.may.legal.actors v ≡ Some l.may.actor) l.is_of l.may.stands) in
       ap (λ (v : Actor). v.start) (one_item (slice_get legal.actors t) a w.0 got w.1) ∙ w.2.start
 
-  earlier : filter_map (cell_of t) l.before ≡ l.may.actor.named ++ l.may.since
-  earlier = subst (λ (v : ℕ). filter_map (cell_of v) l.before ≡ l.may.actor.named ++ l.may.since) l.is_of l.may.earlier
-
-  cells : filter_map (cell_of t) journal ≡ l.may.actor.named ++ (l.may.since ++ (l.event.stamp, l.event.cell, l.event.path) ∷ [])
-  cells = l.cells ∙ ap (λ v. v ++ (l.event.stamp, l.event.cell, l.event.path) ∷ []) earlier ∙ append_assoc l.may.actor.named l.may.since ((l.event.stamp, l.event.cell, l.event.path) ∷ [])
-
   by_here : (first : ℕ) (rest : Moves) → StandGoes (starts_of l.may.legal.actors) l.may.actor.birth.to (first_stand first l.may.actor.start) l.may.actor.named rest l.may.actor.stand → length (filter_map (cell_of t) journal) ≤ owns a.start.0
   by_here first rest g =
       let event : StandGoes (starts_of l.may.legal.actors) l.may.actor.birth.to l.may.stand ((l.event.stamp, l.event.cell, l.event.path) ∷ []) [] _ = segments.stores l.may.answer (low_of l) l.may.tells l.may.begins segments.stays in
       let n = counted (joined g (walk_goes l.may.walks event)) in
-      let size : length (filter_map (cell_of t) journal) ≡ length (l.may.actor.named ++ (l.may.since ++ (l.event.stamp, l.event.cell, l.event.path) ∷ [])) = ap length cells in
+      let size : length (filter_map (cell_of t) journal) ≡ length (l.may.actor.named ++ (l.may.since ++ (l.event.stamp, l.event.cell, l.event.path) ∷ [])) = ap length (cells_of l) in
       let start : owns a.start.0 ≡ owns l.may.actor.start.0 = ap (λ (v : Term × Vars). owns v.0) same_start in
       omega (arith, n, size, start)
 

@@ -8,10 +8,11 @@ use Rattle.std.proofs.lemmas.List.Sorted.{Contains-permutation, sum_by-IsPermuta
 use Rattle.std.proofs.lemmas.List.Sums.{sum_by-cons}
 use Rattle.rx_rules.specs.Code.{Block}
 use Rattle.rx_laws.specs.Once.{IsNone, AllDiffer}
+use Rattle.rx_laws.proofs.Paths.{comes-trans, comes-other}
 use Rattle.rx_span.specs.Paths.{IsPath, ArePaths, Comes}
 use Rattle.rx_span.specs.Chains.{In, AllIn}
 use Rattle.rx_span.specs.Inside.Sorting.{comes, Below, Descends, next_of, backwards}
-use Rattle.rx_span.proofs.Sharing.{comes-true, true-comes, comes-trans, comes-other, comes-either}
+use Rattle.rx_span.proofs.Sharing.{comes-true, true-comes, comes-either}
 
 -- In and Contains.
 

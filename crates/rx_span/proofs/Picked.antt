@@ -5,12 +5,12 @@ use Rattle.std.proofs.lemmas.Bool.{ltb-true, ltb-false, true≢false}
 use Rattle.std.specs.List.Sorted.{IsPermutation}
 use Rattle.std.proofs.lemmas.List.Sorted.{length_permutation, IsPermutation-sym}
 use Rattle.rx_rules.specs.Code.{Block}
+use Rattle.rx_laws.proofs.Paths.{comes-trans, comes-other}
 use Rattle.rx_span.specs.Inside.Sorting.{Descends, backwards}
 use Rattle.rx_span.specs.Paths.{Comes, NotAfter}
 use Rattle.rx_span.specs.Chains.{In, AllIn, IsChain, IsSpan}
 use Rattle.rx_span.specs.Inside.Best.{may_lead, pick, best_chains}
 use Rattle.rx_span.proofs.Before.{before-comes}
-use Rattle.rx_span.proofs.Sharing.{comes-trans, comes-other}
 use Rattle.rx_span.proofs.Lists.{Ascends, all-member, ascends-back, back-in, in-back, in-permutation}
 
 -- x is one of these

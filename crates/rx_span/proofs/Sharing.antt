@@ -17,22 +17,6 @@ use Rattle.rx_span.proofs.Forks.{Fork, fork-before_in}
 
 -- Paths in order.
 
-pub comes-trans : (x y z : List ℕ) → Comes x y → Comes y z → Comes x z
-comes-trans [] [] z h k = absurd h
-comes-trans [] (j ∷ y) [] h k = absurd k
-comes-trans [] (j ∷ y) (l ∷ z) h k = tt
-comes-trans (i ∷ x) [] z h k = absurd h
-comes-trans (i ∷ x) (j ∷ y) [] h k = absurd k
-comes-trans (i ∷ x) (j ∷ y) (l ∷ z) (inl h) (inl k) = inl (omega arith)
-comes-trans (i ∷ x) (j ∷ y) (l ∷ z) (inl h) (inr k) = inl (let e = k.0 in omega arith)
-comes-trans (i ∷ x) (j ∷ y) (l ∷ z) (inr h) (inl k) = inl (let e = h.0 in omega arith)
-comes-trans (i ∷ x) (j ∷ y) (l ∷ z) (inr h) (inr k) = inr (h.0 ∙ k.0, comes-trans x y z h.1 k.1)
-
-pub comes-other : (x : List ℕ) → Comes x x → ⊥
-comes-other [] h = h
-comes-other (i ∷ x) (inl h) = omega arith
-comes-other (i ∷ x) (inr h) = comes-other x h.1
-
 -- the test
 pub comes-true : (x y : List ℕ) → comes x y ≡ true → Comes x y
 comes-true [] [] h = absurd (true≢false (sym h))

@@ -70,7 +70,7 @@ meeting_shows place views p v w n got met = ((w, got_set views p.0 v w got, met.
 
 -- Notes that places kept.
 
-no_items : (h : List (Stamped EntryItem)) → ledger_items h ≡ [] → h ≡ []
+pub no_items : (h : List (Stamped EntryItem)) → ledger_items h ≡ [] → h ≡ []
 no_items [] e = refl
 no_items (x ∷ h) e = absurd (let f : ⊥ = cc e in f)
 
@@ -108,7 +108,8 @@ later ledger h n m views p s k le e =
       heard = record { before = e.heard.before; after = e.heard.after; met = e.heard.met; whole = e.heard.whole; within = (let w = e.heard.within in omega (arith, w, le)) };
     }
 
-all_later : (ledger : BookName LedgerFixed) (h : List (Stamped EntryItem)) (n m : ℕ) (views : List (View EventItem)) → n ≤ m → (p : ℕ) (ss : List Kept) (ks : List (List (Stamped EventItem)))
+-- where more is heard, they have ended all the same
+pub all_later : (ledger : BookName LedgerFixed) (h : List (Stamped EntryItem)) (n m : ℕ) (views : List (View EventItem)) → n ≤ m → (p : ℕ) (ss : List Kept) (ks : List (List (Stamped EventItem)))
     → EachEnds ledger h n views p ss ks → EachEnds ledger h m views p ss ks
 all_later ledger h n m views le p [] [] e = tt
 all_later ledger h n m views le p (s ∷ ss) (k ∷ ks) e = (later ledger h n m views p s k le e.0, all_later ledger h n m views le (suc p) ss ks e.1)

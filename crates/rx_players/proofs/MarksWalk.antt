@@ -27,6 +27,7 @@ use Rattle.rx_verdict.specs.Seats as pass
 use Rattle.rx_verdict.specs.Seats.{Seated, SeatIs, SeatsTell, SeatsWalk}
 use Rattle.rx_verdict.specs.Verdicts.{HasCause}
 use Rattle.rx_verdict.specs.Walks.{Walks}
+use Rattle.rx_verdict.proofs.Marking.{later}
 use Rattle.rx_verdict.proofs.Telling.{event_from_player}
 use Rattle.rx_replay.specs.Marks.{marked}
 use Rattle.rx_players.specs.declared.seat.Seat.{Seat}

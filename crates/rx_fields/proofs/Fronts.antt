@@ -17,7 +17,7 @@ use Rattle.rx_fields.proofs.Figures.{IsFigure, natural-figures, below-again}
 use Rattle.rx_fields.proofs.Scanned.{stored_number, below_by_natural}
 
 -- the text of a number has no blank
-no-blank : (n : ℕ) → n < 2 ^ 32 → Lacks 32 (natural_text n)
+pub no-blank : (n : ℕ) → n < 2 ^ 32 → Lacks 32 (natural_text n)
 no-blank n low = all-map IsFigure (λ b. b ≢ 32) (λ b f. f.0) (natural_text n) (natural-figures n (omega arith))
 
 -- nor has it a dot
@@ -25,7 +25,7 @@ pub no_dot : (n : ℕ) → n < 2 ^ 32 → Lacks 46 (natural_text n)
 no_dot n low = all-map IsFigure (λ b. b ≢ 46) (λ b f. f.2) (natural_text n) (natural-figures n (omega arith))
 
 -- a word that ends there is the first piece
-word-then : (w rest : List ℕ) → Lacks 32 w → is_word_end rest ≡ true → pieces 32 (w ++ rest) ≡ w ∷ words_left rest
+pub word-then : (w rest : List ℕ) → Lacks 32 w → is_word_end rest ≡ true → pieces 32 (w ++ rest) ≡ w ∷ words_left rest
 word-then w [] lacks end = ap (pieces 32) (append-nil w) ∙ pieces-one 32 w lacks
 word-then w (b ∷ bs) lacks end =
     let blank : b ≡ 32 = eqb-true b 32 end in

@@ -10,3 +10,4 @@ pub mod Known
 pub mod Digit
 pub mod Same
 pub mod Fronts
+pub mod Dotted

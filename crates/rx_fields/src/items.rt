@@ -1,12 +1,11 @@
 // What a word is as a field of a line.
-ghost use Rattle.std.specs.Prelude.{◌≡◌, ◌<◌, ◌≤◌, ◌^◌, ◌++◌, ◌∷◌, option_map, IfOk, IfSome};
-ghost use Rattle.rx_text.specs.Numbers.{natural_text};
+ghost use Rattle.std.specs.Prelude.{◌≡◌, option_map, IfOk};
 ghost use Rattle.rx_fields.specs.Words.{stripped};
 ghost use Rattle.rx_fields.specs.Inside.FieldWords.{place_of, task_spelt, scope_spelt, path_of, plain_fault, dead_of, fault_spelt};
 ghost use Rattle.rx_fields.specs.Inside.FieldWords.{fault_of};
 ghost use Rattle.rx_fields.specs.Inside.FieldWords.{kill_of};
 
-use crate::numbers::{below, front_number, natural, number};
+use crate::numbers::{below, natural, number};
 use crate::words::cut;
 use rx_base::{Fault, Kill, NoMemory, Path, PlaceId, ScopeId, TaskId};
 use rx_kills::read_kill;
@@ -41,29 +40,12 @@ pub(crate) fn scope(word: &[u8]) -> Option<ScopeId>
     Some(ScopeId(n))
 }
 
-// The number of at most nine digits that stands before a dot, and what stands after it. None says nothing of the bytes.
-fn dotted(bytes: &[u8]) -> Option<(u32, &[u8])>
-    ensures some { IfSome result (λ x. bytes.now ≡ natural_text x.0 ++ 46 ∷ x.1.now) }
-    ensures low { IfSome result (λ x. x.0 < 2 ^ 32) }
-{
-    let (n, rest) = front_number(bytes)?;
-    match rest {
-        [b'.', tail @ ..] => Some((n, tail)),
-        _ => None,
-    }
-}
-
 // One to 65 numbers, joined by dots.
 pub(crate) fn path(alloc: Global, word: &[u8]) -> Result<Option<Path>, NoMemory>
     ensures { IfOk result (λ path. path ≡ path_of word.now) }
 {
     let mut numbers = Path::open(alloc);
     let mut rest = word;
-    // Most numbers have few digits.
-    'short: while let Some((n, tail)) = dotted(rest) {
-        numbers.push(n)?;
-        rest = tail;
-    }
     'numbers: while let Some((front, tail)) = cut(rest, b'.') {
         let Some(n) = natural(front) else {
             return Ok(None);

@@ -84,6 +84,9 @@ pub fn scope_field(words: &mut Words<'_>) -> Option<ScopeId>
 pub fn path_field(alloc: Global, words: &mut Words<'_>) -> Result<Option<Path>, NoMemory>
     ensures { IfOk result (λ path. answer_left path words.new ≡ path_at words.old) }
 {
+    if let Some(path) = words.short_path(alloc)? {
+        return Ok(Some(path));
+    }
     match words.next() {
         Some(word) => path(alloc, word),
         None => Ok(None),
@@ -180,6 +183,9 @@ fn next_fault(words: &mut Words<'_>, places: u8) -> Option<Fault>
 fn next_path(alloc: Global, words: &mut Words<'_>) -> Result<Option<Path>, NoMemory>
     ensures { IfOk result (λ path. (path, words.new) ≡ item_of path_of words.old) }
 {
+    if let Some(path) = words.short_path(alloc)? {
+        return Ok(Some(path));
+    }
     match words.first() {
         Some((word, after)) => match path(alloc, word) {
             Ok(Some(path)) => {

@@ -1,13 +1,16 @@
 // How bytes are cut into lines, and a line into words.
-ghost use Rattle.std.specs.Prelude.{◌≡◌, ◌≢◌, ◌+◌, ◌<◌, ◌≤◌, ◌^◌, ◌++◌, ◌∷◌, ◌==◌, not, length, option_map, IfSome, IfNone};
+ghost use Rattle.std.specs.Prelude.{◌≡◌, ◌≢◌, ◌+◌, ◌<◌, ◌≤◌, ◌^◌, ◌++◌, ◌∷◌, ◌==◌, not, length, take, option_map, Some, IfOk, IfSome, IfNone};
 ghost use Rattle.std.specs.List.{prefix_len};
 ghost use Rattle.std.specs.Str.{bytes_eq};
 ghost use Rattle.rx_text.specs.Numbers.{natural_text};
 ghost use Rattle.rx_fields.specs.Words.{Lacks, pieces, words_left, first_word};
+ghost use Rattle.rx_fields.specs.Inside.FieldWords.{path_at};
 ghost use Rattle.rx_fields.specs.Inside.Readers.{is_word_end};
 
 use crate::numbers::front_number;
 use memchr::memchr;
+use rx_base::{NoMemory, Path};
+use std::alloc::Global;
 use std::marker::Model;
 
 // How many bytes stand before the first `stop`.
@@ -113,6 +116,24 @@ impl<'a> Words<'a> {
         Some(n)
     }
 
+    // Takes the next word where it is a path of at most eight numbers, each of at most nine digits. None says nothing of the word, and
+    // takes none.
+    pub(crate) fn short_path(&mut self, alloc: Global) -> Result<Option<Path>, NoMemory>
+        ensures some { IfOk result (λ o. IfSome o (λ path. path_at self.old ≡ Some (path, self.new))) }
+        ensures none { IfOk result (λ o. IfNone o (self.new ≡ self.old)) }
+    {
+        let Some(tail) = behind(self.rest, b' ') else {
+            return Ok(None);
+        };
+        let mut few = [0; 8];
+        let Some((len, rest)) = front_path(&mut few, tail) else {
+            return Ok(None);
+        };
+        let path = Path::from_slice(alloc, &few[..len])?;
+        self.rest = rest;
+        Ok(Some(path))
+    }
+
     /// Whether no word is left.
     pub fn is_empty(&self) -> bool
         ensures { result ≡ (length self.now == 0) }
@@ -137,6 +158,28 @@ fn behind(bytes: &[u8], first: u8) -> Option<&[u8]>
         [b, tail @ ..] => { if *b == first { Some(tail) } else { None } }
         [] => None,
     }
+}
+
+// How many numbers the path has that is the first word of these bytes, and what stands after it; the numbers are put in front of the
+// list. None says nothing of the bytes; it comes also where there are more than eight numbers, or one of more than nine digits.
+fn front_path<'a>(few: &mut [u32; 8], bytes: &'a [u8]) -> Option<(usize, &'a [u8])>
+    ensures within { IfSome result (λ x. x.0 ≤ 8) }
+    ensures some { IfSome result (λ x. path_at (pieces 32 bytes.now) ≡ Some (take x.0 few.new, words_left x.1.now)) }
+{
+    let mut len = 0;
+    let mut rest = bytes;
+    'numbers: while let Some((n, tail)) = front_number(rest) {
+        few[len] = n;
+        len += 1;
+        if ends_word(tail) {
+            return Some((len, tail));
+        }
+        if len == 8 {
+            return None;
+        }
+        rest = behind(tail, b'.')?;
+    }
+    None
 }
 
 // Whether a word that stands before these bytes ends there.

@@ -5,13 +5,6 @@ use Rattle.rx_fields.specs.Inside.FieldWords.{naturals_of}
 use Rattle.rx_fields.proofs.items.path.Given as goal
 
 -- the numbers so far and those of what is left are all
-abbrev pub invariant-short : goal.invariant-short
-invariant-short l = option_map (λ ns. l.numbers ++ ns) (naturals_of (pieces 46 l.rest)) ≡ naturals_of (pieces 46 l.word)
-
-abbrev pub decreases-short : goal.decreases-short
-decreases-short l = length l.rest
-
--- so it is while longer numbers are read
 abbrev pub invariant-numbers : goal.invariant-numbers
 invariant-numbers l = option_map (λ ns. l.numbers ++ ns) (naturals_of (pieces 46 l.rest)) ≡ naturals_of (pieces 46 l.word)
 

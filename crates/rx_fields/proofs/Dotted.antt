@@ -7,7 +7,7 @@ use Rattle.std.proofs.lemmas.Option.{same_Some}
 use Rattle.std.proofs.lemmas.List.{length-take}
 use Rattle.rx_text.specs.Numbers.{natural_text}
 use Rattle.rx_fields.specs.Words.{Lacks, pieces, words_left}
-use Rattle.rx_fields.specs.Inside.FieldWords.{next, natural_of, naturals_of, path_of, path_at}
+use Rattle.rx_fields.specs.Inside.FieldWords.{next, naturals_of, path_of, path_at}
 use Rattle.rx_fields.specs.Inside.PartWords.{item_of, left_of}
 use Rattle.rx_fields.specs.Inside.Readers.{is_word_end}
 use Rattle.rx_fields.proofs.Cuts.{all-append, pieces-cut, pieces-one}

@@ -3,8 +3,8 @@ ghost use Rattle.std.specs.Prelude.{◌≡◌, ◌≤◌, ◌<◌, ◌^◌, IfOk
 ghost use Rattle.rx_fields.specs.Words.{answer_left};
 ghost use Rattle.rx_fields.specs.Inside.FieldWords.{natural_at, number_at, place_at, task_at, scope_at, path_at, count_at, block_at};
 ghost use Rattle.rx_fields.specs.Inside.FieldWords.{path_of, place_of, task_spelt, masked_of, fault_of};
-ghost use Rattle.rx_fields.specs.Inside.PartWords.{set_of, places_at, lost_read, masked_read, thrown_at, batch_at};
-ghost use Rattle.rx_fields.specs.Inside.PartWords.{item_of, key_of, left_of, nested_at, way_at, outcome_at};
+ghost use Rattle.rx_fields.specs.Inside.PartWords.{places_at, lost_read, masked_read, thrown_at, batch_at};
+ghost use Rattle.rx_fields.specs.Inside.PartWords.{item_of, key_of, nested_at, way_at, outcome_at};
 
 use crate::items::{fault, path, place, scope, task};
 use crate::numbers::{count, natural, number};

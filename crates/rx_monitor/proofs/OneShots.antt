@@ -1,5 +1,5 @@
 -- Each step on a one-shot keeps its rule.
-use Rattle.std.proofs.Common.{◌≡◌, ◌≢◌, ℕ, zero, suc, ◌<◌, eqb, Option, Some, None, List, [], ◌∷◌, set, slice_index, replicate, refl, ap, sym, ◌∙◌, arith, subst, ⊎_elim}
+use Rattle.std.proofs.Common.{◌≡◌, ◌≢◌, ℕ, zero, suc, ◌<◌, eqb, Option, Some, None, List, [], ◌∷◌, set, slice_index, replicate, refl, sym, ◌∙◌, arith, subst, ⊎_elim}
 use mathlib.Core.Option.{none, some, some-injective, some-ne-none}
 use prog.Atomic.{either}
 use lib.ListN.{get_elem?}

@@ -1,4 +1,4 @@
-use Rattle.std.proofs.Common.{◌+◌, sym, ◌∙◌, arith, length, take, slice_set}
+use Rattle.std.proofs.Common.{◌+◌, sym, ◌∙◌, arith, take, slice_set}
 use Rattle.rx_fields.proofs.Dotted.{read-more, read-path, take-more, few-long, set-keeps}
 use Rattle.rx_fields.proofs.words.front_path.Goals as goal
 

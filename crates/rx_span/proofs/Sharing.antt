@@ -1,11 +1,10 @@
 -- How far paths go together, where they come one after the other.
-use Rattle.std.specs.Prelude.{◌≡◌, ◌⊎◌, ℕ, zero, suc, ◌+◌, ◌<◌, ◌≤◌, min, true, cond, ◌==◌, nat_lt, List, [], ◌∷◌, length, drop, Some, slice_get, refl}
+use Rattle.std.specs.Prelude.{◌≡◌, ◌⊎◌, ℕ, zero, suc, ◌+◌, ◌<◌, ◌≤◌, min, true, cond, ◌==◌, nat_lt, List, [], ◌∷◌, length, drop, Some, slice_get, slice_index, refl}
 use Rattle.std.proofs.Common.{ap, sym, subst, ◌∙◌, arith, inl, inr, ⊎_elim}
 use Rattle.std.proofs.lemmas.Bool.{eq-eqb, ne_eqb, ltb-true, lt-ltb, le-ltb, cases_eq, cond_both, true≢false, false_from_ne_true, cases_order}
 use Rattle.std.proofs.lemmas.Bool.Decides.{nat_tests}
 use Rattle.std.proofs.lemmas.List.{drop_all}
 use Rattle.std.proofs.lemmas.Option.{same_Some}
-use Rattle.rx_base.proofs.Elements.{drop-next}
 use Rattle.rx_rules.specs.Code.{Block, Stmt, Async, AtAsync, At, Finish, If, Repeat, Try, Nothing, Then}
 use Rattle.rx_rules.specs.Order.{comes_before}
 use Rattle.rx_laws.proofs.Paths.{Starts, comes_before-below, starts-not_below}
@@ -49,6 +48,12 @@ comes-either (i ∷ x) (j ∷ y) = by_order (cases_order i j) (comes-either x y)
     by_order (inl e) (inr (inr f)) = inr (inr (inr (sym e, f)))
     by_order (inr (inl l)) k = inr (inl (inl l))
     by_order (inr (inr l)) k = inr (inr (inl l))
+
+-- the number at a place of the list
+pub at-index : (x : List ℕ) (k : ℕ) → k < length x → slice_get x k ≡ Some (slice_index x k)
+at-index [] k low = absurd (omega arith)
+at-index (i ∷ x) zero low = refl
+at-index (i ∷ x) (suc k) low = at-index x k (omega arith)
 
 -- How far they go together.
 
@@ -177,23 +182,9 @@ order-end (k ∷ x) (l ∷ y) h = by_order (order-end x y) (cases_eq k l) h
 
 -- The loop that counts the numbers from the front.
 
-pub shared-stop : (x y : List ℕ) (at i j : ℕ) → slice_get x at ≡ Some i → slice_get y at ≡ Some j → (i ≡ j → ⊥) → shared x y ≡ at + shared (drop at x) (drop at y) → at ≡ shared x y
-shared-stop x y at i j e f n h =
-    let g : shared (drop at x) (drop at y) ≡ 0 = rw (drop-next x at i e, drop-next y at j f) (shared-none i j (drop (at + 1) x) (drop (at + 1) y) n) in
-    omega arith
-
-pub shared-step : (x y : List ℕ) (at i j : ℕ) → slice_get x at ≡ Some i → slice_get y at ≡ Some j → i ≡ j → shared x y ≡ at + shared (drop at x) (drop at y) → shared x y ≡ at + 1 + shared (drop (at + 1) x) (drop (at + 1) y)
-shared-step x y at i j e f n h =
-    let g : shared (drop at x) (drop at y) ≡ suc (shared (drop (at + 1) x) (drop (at + 1) y)) = rw (drop-next x at i e, drop-next y at j f) (shared-more i j (drop (at + 1) x) (drop (at + 1) y) n) in
-    omega arith
-
 shared-nil : (x : List ℕ) → shared x [] ≡ 0
 shared-nil [] = refl
 shared-nil (i ∷ x) = refl
-
-pub shared-over_left : (x y : List ℕ) (at : ℕ) → length x ≤ at → shared x y ≡ at + shared (drop at x) (drop at y) → at ≡ shared x y
-shared-over_left x y at l h =
-    let g : shared (drop at x) (drop at y) ≡ 0 = ap (λ z. shared z (drop at y)) (drop_all at x l) in omega arith
 
 pub shared-over_right : (x y : List ℕ) (at : ℕ) → length y ≤ at → shared x y ≡ at + shared (drop at x) (drop at y) → at ≡ shared x y
 shared-over_right x y at l h =

@@ -50,12 +50,19 @@ fn statements(alloc: Global, history: &History) -> Result<Vec<&Path>, NoMemory>
 pub(crate) fn order(x: &Path, y: &Path) -> Ordering
     ensures { is_lt result ≡ comes x.now y.now }
 {
-    let at = shared(x, y);
+    order_numbers(x.numbers(), y.numbers())
+}
+
+// The order of two lists of numbers.
+fn order_numbers(x: &[u32], y: &[u32]) -> Ordering
+    ensures { is_lt result ≡ comes x.now y.now }
+{
+    let at = together(x, y);
     if at >= x.len() || at >= y.len() {
         return x.len().cmp(&y.len());
     }
-    let i = x.item(at);
-    let j = y.item(at);
+    let i = x[at];
+    let j = y[at];
     i.cmp(&j)
 }
 
@@ -74,9 +81,16 @@ pub(crate) fn sorted(alloc: Global, history: &History) -> Result<Vec<&Path>, NoM
 pub(crate) fn shared(x: &Path, y: &Path) -> usize
     ensures { result ≡ shared x.now y.now }
 {
+    together(x.numbers(), y.numbers())
+}
+
+// How many numbers from the front are the same.
+fn together(x: &[u32], y: &[u32]) -> usize
+    ensures { result ≡ shared x.now y.now }
+{
     let mut at = 0;
     while at < x.len() && at < y.len() {
-        if x.item(at) != y.item(at) {
+        if x[at] != y[at] {
             return at;
         }
         at += 1;

@@ -9,12 +9,11 @@ use Rattle.std.proofs.lemmas.Option.{same_Some, none-some}
 use Rattle.rx_base.specs.declared.ids.PlaceId.{PlaceId}
 use Rattle.rx_base.specs.declared.place_set.PlaceSet.{PlaceSet}
 use Rattle.rx_base.specs.Sets.{has_bit, members}
-use Rattle.rx_base.proofs.Members.{same-sets}
+use Rattle.rx_base.proofs.Members.{same-sets, some-member}
 use Rattle.rx_text.specs.Numbers.{natural_text}
 use Rattle.rx_trace.specs.Fields.{natural_field}
 use Rattle.rx_trace.specs.Parts.{lost_part}
 use Rattle.rx_trace.proofs.Lines.{part-some}
-use Rattle.rx_trace.proofs.Places.{some-member}
 use Rattle.rx_fields.specs.Words.{fields}
 use Rattle.rx_fields.specs.Inside.FieldWords.{place_of}
 use Rattle.rx_fields.specs.Inside.Readers.{done}

@@ -44,7 +44,6 @@ use Rattle.rx_players.specs.Table.{TableIs}
 use Rattle.rx_players.proofs.Positions.{at_most_length}
 use Rattle.rx_players.proofs.MarksOn.{IsEvent, Of, of_task, of_all, get_other, left_events}
 use Rattle.rx_players.proofs.Using.{IsExact, from_here, used_exactly}
-use Rattle.rx_verdict.proofs.Marking.{later}
 
 -- How many tasks there are.
 

@@ -24,13 +24,10 @@ use Rattle.rx_parts_book.specs.Histories.{ledger_item, ledger_items}
 use Rattle.rx_objects.specs.declared.ledger.LedgerFixed.{LedgerFixed}
 use Rattle.rx_objects.specs.Ledger.{LedgerIsLegal}
 use Rattle.rx_objects.specs.Ending.{entries_at, IsHeard, PlaceEnds, EachEnds, StampsBeforeDeath}
+use Rattle.rx_objects.proofs.Ending.{no_items, all_later}
 use Rattle.rx_objects.proofs.Staying.{entries_same}
 use Rattle.rx_stations.specs.Closed.{IsClosed}
 use Rattle.rx_live.specs.Inside.Ending.{SeesEnd, StaysAt, HaveWords, ShutsAt, MayBeShut}
-
-no_items : (h : List (Stamped EntryItem)) → ledger_items h ≡ [] → h ≡ []
-no_items [] e = refl
-no_items (x ∷ h) e = absurd (let f : ⊥ = cc e in f)
 
 -- nothing stands behind the root's release
 pub whole_is : (code : Block) (f : LedgerFixed) (s h : List (Stamped EntryItem)) → Stands f.program.script code → EndsWithRoot (entries_at s) → LedgerIsLegal f h → IsPrefix s h → h ≡ s
@@ -76,26 +73,6 @@ stays_trans a b c s t =
     }
 
 -- Places that have ended.
-
-later : (L : BookName LedgerFixed) (h : List (Stamped EntryItem)) (n m : ℕ) (views : List (View EventItem)) (p : ℕ) (s : Kept) (k : List (Stamped EventItem)) → n ≤ m
-    → PlaceEnds L h n views p s k → PlaceEnds L h m views p s k
-later L h n m views p s k le e =
-    record {
-      lawful = e.lawful;
-      view = e.view;
-      pass = e.pass;
-      begins = e.begins;
-      note = e.note;
-      kept = e.kept;
-      heard = record { before = e.heard.before; after = e.heard.after; met = e.heard.met; whole = e.heard.whole; within = (let w = e.heard.within in omega (arith, w, le)) };
-    }
-
-pub all_later : (L : BookName LedgerFixed) (h : List (Stamped EntryItem)) (n m : ℕ) (views : List (View EventItem)) → n ≤ m → (p : ℕ) (ss : List Kept) (ks : List (List (Stamped EventItem)))
-    → EachEnds L h n views p ss ks → EachEnds L h m views p ss ks
-all_later L h n m views le p [] [] e = tt
-all_later L h n m views le p (s ∷ ss) (k ∷ ks) e = (later L h n m views p s k le e.0, all_later L h n m views le (suc p) ss ks e.1)
-all_later L h n m views le p [] (k ∷ ks) e = absurd e
-all_later L h n m views le p (s ∷ ss) [] e = absurd e
 
 -- a place that was closed, and whose note was heard, has ended
 pub ends_so : (L : BookName LedgerFixed) (h : List (Stamped EntryItem)) (n : ℕ) (views : List (View EventItem)) (p : ℕ) (v : View EventItem) (s : Kept) (note : Note EntryItem)

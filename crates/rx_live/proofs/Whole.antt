@@ -33,8 +33,9 @@ use Rattle.rx_parts_book.specs.declared.items.EventItem.{EventItem}
 use Rattle.rx_objects.specs.declared.ledger.LedgerFixed.{LedgerFixed}
 use Rattle.rx_objects.specs.Noted.{Notes, AllNoted}
 use Rattle.rx_objects.specs.Ending.{entries_at, IsMet, EachEnds, EachShut, RootIsTold, StampsBeforeDeath, BooksMakeRun}
+use Rattle.rx_objects.proofs.Ending.{all_later}
 use Rattle.rx_live.specs.Inside.Ending.{IsMain, MayRelease, MayBeShut, HaveWords, PlacesEnded, RunEnds, SeesEnd, StaysAt, views_of}
-use Rattle.rx_live.proofs.Finishing.{all_later, as_many, may_shut}
+use Rattle.rx_live.proofs.Finishing.{as_many, may_shut}
 use Rattle.rx_live.proofs.Opened.{unseen_legal}
 
 -- The beginning.

@@ -1,9 +1,5 @@
-// When workers stop, which no contract says, and that they may share a hall.
-use crate::Hall;
+// When workers stop, which no contract says.
 use crate::tally::Tally;
-use rx_activities::Naming;
-use rx_base::{Gate, NoGate};
-use std::marker::Brand;
 use std::test::Fail;
 
 #[test]
@@ -32,17 +28,4 @@ fn refused_memory_stops_all(rt: HostRuntime) -> Result<(), Fail> {
     assert!(rt; tally.is_refused());
     assert!(rt; tally.is_done());
     Ok(())
-}
-
-// Values of the type may be shared between threads.
-fn may_share<T: Sync>() {}
-
-fn halls_are_shared<'a, N: Naming + Send, G: Gate + Sync>(_gate: &'a G) {
-    may_share::<Hall<'a, N, G>>();
-}
-
-/// The workers of a run may share its hall, whatever the gate.
-#[test]
-fn a_hall_is_shared(_rt: HostRuntime) {
-    halls_are_shared::<Brand, NoGate>(&NoGate);
 }

@@ -4,3 +4,5 @@ pub mod Holding
 pub mod Steps
 pub mod Changing
 pub mod Lookups
+pub mod Telling
+pub mod Answering

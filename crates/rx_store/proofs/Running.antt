@@ -69,8 +69,3 @@ pub made_from : (S : State) (es : List PlaceEvent) → (state_from S es).made �
 made_from S [] = omega arith
 made_from S (Done t s c p ∷ es) = let one = made_cell S c in omega (arith, made_from (after_cell S c) es)
 made_from S (Close s ∷ es) = omega (arith, made_from S es)
-
-pub state_close : (S : State) (es : List PlaceEvent) (stamp : ℕ) → state_from S (es ++ Close stamp ∷ []) ≡ state_from S es
-state_close S [] stamp = refl
-state_close S (Done t s c p ∷ es) stamp = state_close (after_cell S c) es stamp
-state_close S (Close s ∷ es) stamp = state_close S es stamp

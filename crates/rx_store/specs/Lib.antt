@@ -1,3 +1,4 @@
 pub mod Kept
 pub mod Answers
 pub mod Table
+pub mod Asks

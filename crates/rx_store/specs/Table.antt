@@ -1,11 +1,12 @@
 -- How the table of live blocks and the heap stand for the blocks of the store's law.
-use Rattle.std.specs.Prelude.{◌≡◌, ℕ, ◌+◌, ◌<◌, ◌⊎◌, ℤ, pos, int_le, int_lt, ◌&&◌, Bool, true, false, List, [], ◌∷◌, length}
+use Rattle.std.specs.Prelude.{◌≡◌, ℕ, ◌+◌, ◌-◌, ◌<◌, ◌⊎◌, ℤ, pos, int_le, int_lt, ◌&&◌, Bool, true, false, List, [], ◌∷◌, length}
 use Rattle.std.specs.Prelude.{slice_index, slice_index_or, Option}
 use Rattle.std.specs.Prelude.{Some, None}
 use Rattle.rx_base.specs.declared.ids.GlobalRef.{GlobalRef}
 use Rattle.rx_heap.specs.Region.{Region, Extent, IsLiveExtent, IsLaid}
+use Rattle.rx_rules.specs.declared.events.Cell.{Cell}
 use Rattle.rx_rules.specs.declared.events.PlaceEvent.{PlaceEvent}
-use Rattle.rx_rules.specs.Store.{Live, opening_state, IsStoreRun}
+use Rattle.rx_rules.specs.Store.{Live, State, opening_state, MayCell, after_cell, IsStoreRun}
 use Rattle.rx_store.specs.declared.table.Held.{Held}
 use Rattle.rx_store.specs.Kept.{state_of, ends_closed, last_stamp}
 
@@ -60,15 +61,38 @@ IsUnlocated slots r i false =
     (h : Held) × (slot_at slots r.start ≡ Some h) × (h.generation ≡ r.generation)
     × ((int_le (pos 0) i && int_lt i (pos h.block.len)) ≡ false)
 
--- what a store keeps: its journal is a run, its numbers are those of the journal, and while it is open its table and heap stand
--- for the blocks that the journal leaves and there is room for the close; once it is closed every block was given back
-pub record IsSteady (R : Region) (slots : List (Option Held)) (made : ℕ) (events : List PlaceEvent) (spare last : ℕ)
-    (closed : Bool) : Type 0 where
-  pub run : IsStoreRun (length R.words) opening_state events
-  pub closed_is : closed ≡ ends_closed events
+-- what contracts see of the blocks of a place: the heap, the table, and how many blocks were made
+pub record Table : Type 0 where
+  pub region : Region
+  pub slots : List (Option Held)
+  pub made : ℕ
+
+-- they are those of this state of the law, in a heap of w words
+pub record Stands (w : ℕ) (T : Table) (S : State) : Type 0 where
+  pub words : length T.region.words ≡ w
+  pub made_is : T.made ≡ S.made
+  pub holds : TableHolds T.region T.slots S.blocks
+
+-- they are those of a state
+abbrev pub IsTable : Table → Type 0
+IsTable T = (w : ℕ) × (S : State) × Stands w T S
+
+-- the law allows the event in the state that they stood for, and they stand for the state after it
+abbrev pub Tells : Table → Table → Cell → Type 0
+Tells old new cell = (w : ℕ) (S : State) → Stands w old S → MayCell w S cell × Stands w new (after_cell S cell)
+
+-- while a store is open its blocks are those that the journal leaves and there is room for the close; then it has none
+abbrev pub KeepsBlocks : ℕ → Option Table → List PlaceEvent → ℕ → Type 0
+KeepsBlocks w None events spare = ends_closed events ≡ true
+KeepsBlocks w (Some T) events spare = (ends_closed events ≡ false) × Stands w T (state_of events) × (0 < spare)
+
+-- for how many more calls there is room: while a store is open one event is for the close
+abbrev pub room_of : Option Table → ℕ → ℕ
+room_of None spare = spare
+room_of (Some T) spare = spare - 1
+
+-- what a store keeps: its journal is a run, and its numbers and its blocks are those of the journal
+pub record IsSteady (w : ℕ) (blocks : Option Table) (events : List PlaceEvent) (spare last : ℕ) : Type 0 where
+  pub run : IsStoreRun w opening_state events
   pub last_is : last ≡ last_stamp events
-  pub made_is : made ≡ (state_of events).made
-  pub live : AllLive R slots
-  pub room : closed ≡ false → 0 < spare
-  pub holds : closed ≡ false → TableHolds R slots (state_of events).blocks
-  pub none_left : closed ≡ true → slots ≡ []
+  pub blocks_are : KeepsBlocks w blocks events spare

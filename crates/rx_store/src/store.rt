@@ -6,45 +6,39 @@ ghost use Rattle.rx_store.specs.Kept.{ends_closed, last_stamp};
 ghost use Rattle.rx_store.specs.Answers.{MakeAnswers, GetAnswers, PutAnswers, ForgetAnswers};
 
 use crate::calls::{tell, unlocated};
-use crate::table::{Held, empty_table, give_all, keep, located, take_out};
-use crate::{Mark, StoreFault};
+use crate::{Blocks, Mark, StoreFault};
 use rx_base::{GlobalRef, NoMemory, PlaceId};
-use rx_heap::{Full, Heap};
 use rx_history::Journal;
 use rx_rules::{Cell, PlaceEvent};
 use std::alloc::Global;
 use std::marker::Model;
 
 /// The blocks of a place, and the journal of what was asked of them. It may be dropped: its blocks go back to its heap.
+#[derive(Drop)]
 pub struct Store {
     place: PlaceId,
-    heap: Heap,
-    // For each word of the heap the live block that begins there; empty once the store is closed.
-    slots: Vec<Option<Held>>,
-    // How many blocks were made.
-    made: u32,
+    words: u32,
+    // None once the store is closed.
+    blocks: Option<Blocks>,
     journal: Journal,
     // The stamp of the journal's last event.
     last: u32,
-    closed: bool,
 }
 
 impl Model for Store {
-    ghost use Rattle.std.specs.Prelude.{length, ◌-◌, if◌then◌else◌};
     ghost use Rattle.rx_store.specs.Kept.{Kept};
+    ghost use Rattle.rx_store.specs.Table.{IsSteady, room_of};
 
     ghost Value = { Kept };
 
     ghost view = { λ s. record {
       place = s.place;
-      words = length s.heap.words;
+      words = s.words;
       events = s.journal.events;
-      spare = (if s.closed then s.journal.spare else s.journal.spare - 1);
+      spare = room_of s.blocks s.journal.spare;
     } };
 
-    ghost use Rattle.rx_store.specs.Table.{IsSteady};
-
-    ghost invariant = { λ s. IsSteady s.heap s.slots.items s.made s.journal.events s.journal.spare s.last s.closed };
+    ghost invariant = { λ s. IsSteady s.words s.blocks s.journal.events s.journal.spare s.last };
 }
 
 impl Store {
@@ -54,18 +48,14 @@ impl Store {
         requires most { words ≤ 4096 }
         ensures { IfOk result (λ s. s ≡ record { place = place; words = words; events = []; spare = s.spare }) }
     {
-        let heap = Heap::open(alloc, words)?;
         let mut journal = Journal::open(alloc);
         journal.reserve(1)?;
-        let slots = empty_table(alloc, words as usize)?;
         Ok(Store {
             place,
-            heap,
-            slots,
-            made: 0,
+            words,
+            blocks: Some(Blocks::open(alloc, words)?),
             journal,
             last: 0,
-            closed: false,
         })
     }
 
@@ -87,10 +77,9 @@ impl Store {
     pub fn spare(&self) -> u32
         ensures { result ≡ self.now.spare }
     {
-        if self.closed {
-            self.journal.spare()
-        } else {
-            self.journal.spare() - 1
+        match &self.blocks {
+            Some(_) => self.journal.spare() - 1,
+            None => self.journal.spare(),
         }
     }
 
@@ -103,40 +92,23 @@ impl Store {
         ensures answer { MakeAnswers self.old self.new m n result }
         ensures run { IsStoreRun self.new.words opening_state self.new.events }
     {
-        if self.closed {
+        let Some(blocks) = &mut self.blocks else {
             return Err(StoreFault::Closed);
-        }
-        match self.heap.take(n) {
-            Ok(block) => {
-                let start = block.start();
-                let generation = self.made + 1;
-                self.made = generation;
-                keep(&mut self.slots, Held { generation, block });
-                tell(
-                    &mut self.journal,
-                    &mut self.last,
-                    m,
-                    Cell::Make {
-                        words: n,
-                        start,
-                        generation,
-                    },
-                );
-                Ok(GlobalRef {
-                    home: self.place,
-                    start,
-                    generation,
-                })
-            }
-            Err(Full) => {
-                tell(
-                    &mut self.journal,
-                    &mut self.last,
-                    m,
-                    Cell::MakeFull { words: n },
-                );
-                Err(StoreFault::Full)
-            }
+        };
+        let cell = blocks.make(n);
+        tell(&mut self.journal, &mut self.last, m, cell);
+        match cell {
+            Cell::Make {
+                start,
+                generation,
+                ..
+            } => Ok(GlobalRef {
+                home: self.place,
+                start,
+                generation,
+            }),
+            Cell::MakeFull { .. } => Err(StoreFault::Full),
+            _ => unreachable!(),
         }
     }
 
@@ -148,37 +120,15 @@ impl Store {
         ensures answer { GetAnswers self.old self.new m r i result }
         ensures run { IsStoreRun self.new.words opening_state self.new.events }
     {
-        if self.closed {
+        let Some(blocks) = &mut self.blocks else {
             return Err(StoreFault::Closed);
-        }
-        match located(&self.slots, r, i) {
-            Ok((held, at)) => {
-                let value = self.heap.read(&held.block, at);
-                tell(
-                    &mut self.journal,
-                    &mut self.last,
-                    m,
-                    Cell::Get {
-                        target: r,
-                        index: i,
-                        value,
-                    },
-                );
-                Ok(value)
-            }
-            Err(stale) => {
-                tell(
-                    &mut self.journal,
-                    &mut self.last,
-                    m,
-                    Cell::GetRefused {
-                        target: r,
-                        index: i,
-                        stale,
-                    },
-                );
-                Err(unlocated(stale))
-            }
+        };
+        let cell = blocks.get(r, i);
+        tell(&mut self.journal, &mut self.last, m, cell);
+        match cell {
+            Cell::Get { value, .. } => Ok(value),
+            Cell::GetRefused { stale, .. } => Err(unlocated(stale)),
+            _ => unreachable!(),
         }
     }
 
@@ -190,38 +140,15 @@ impl Store {
         ensures answer { PutAnswers self.old self.new m r i v result }
         ensures run { IsStoreRun self.new.words opening_state self.new.events }
     {
-        if self.closed {
+        let Some(blocks) = &mut self.blocks else {
             return Err(StoreFault::Closed);
-        }
-        match located(&self.slots, r, i) {
-            Ok((held, word)) => {
-                self.heap.write(&held.block, word, v);
-                tell(
-                    &mut self.journal,
-                    &mut self.last,
-                    m,
-                    Cell::Put {
-                        target: r,
-                        index: i,
-                        value: v,
-                    },
-                );
-                Ok(())
-            }
-            Err(stale) => {
-                tell(
-                    &mut self.journal,
-                    &mut self.last,
-                    m,
-                    Cell::PutRefused {
-                        target: r,
-                        index: i,
-                        value: v,
-                        stale,
-                    },
-                );
-                Err(unlocated(stale))
-            }
+        };
+        let cell = blocks.put(r, i, v);
+        tell(&mut self.journal, &mut self.last, m, cell);
+        match cell {
+            Cell::Put { .. } => Ok(()),
+            Cell::PutRefused { stale, .. } => Err(unlocated(stale)),
+            _ => unreachable!(),
         }
     }
 
@@ -233,30 +160,16 @@ impl Store {
         ensures answer { ForgetAnswers self.old self.new m r result }
         ensures run { IsStoreRun self.new.words opening_state self.new.events }
     {
-        if self.closed {
+        let Some(blocks) = &mut self.blocks else {
             return Err(StoreFault::Closed);
-        }
-        let Some(held) = take_out(&mut self.slots, r) else {
-            tell(
-                &mut self.journal,
-                &mut self.last,
-                m,
-                Cell::ForgetStale { target: r },
-            );
-            return Err(StoreFault::Stale);
         };
-        let Held {
-            generation: _,
-            block,
-        } = held;
-        self.heap.give(block);
-        tell(
-            &mut self.journal,
-            &mut self.last,
-            m,
-            Cell::Forget { target: r },
-        );
-        Ok(())
+        let cell = blocks.forget(r);
+        tell(&mut self.journal, &mut self.last, m, cell);
+        match cell {
+            Cell::Forget { .. } => Ok(()),
+            Cell::ForgetStale { .. } => Err(StoreFault::Stale),
+            _ => unreachable!(),
+        }
     }
 
     /// Closes the store of a place that died at this entry, and gives every block back. It takes no memory.
@@ -267,10 +180,9 @@ impl Store {
         ensures same { self.new ≡ record self.old { events = self.new.events } }
         ensures run { IsStoreRun self.new.words opening_state self.new.events }
     {
-        give_all(&mut self.heap, &mut self.slots);
+        self.blocks = None;
         self.journal.add(PlaceEvent::Close { stamp: at });
         self.last = at;
-        self.closed = true;
     }
 
     /// The journal.
@@ -286,33 +198,6 @@ impl Store {
         ensures events { result.events ≡ self.events }
         ensures run { IsStoreRun self.words opening_state self.events }
     {
-        let Store {
-            place: _,
-            mut heap,
-            mut slots,
-            made: _,
-            journal,
-            last: _,
-            closed: _,
-        } = self;
-        give_all(&mut heap, &mut slots);
-        slots.destroy_empty();
-        journal
-    }
-}
-
-impl Drop for Store {
-    fn drop(self) {
-        let Store {
-            place: _,
-            mut heap,
-            mut slots,
-            made: _,
-            journal: _,
-            last: _,
-            closed: _,
-        } = self;
-        give_all(&mut heap, &mut slots);
-        slots.destroy_empty();
+        self.journal
     }
 }

@@ -5,7 +5,8 @@ use Rattle.std.proofs.lemmas.Bool.{true≢false}
 use Rattle.rx_base.specs.declared.ids.GlobalRef.{GlobalRef}
 use Rattle.rx_rules.specs.declared.events.Cell.TheVariants.{Make, MakeFull, Get, Put, Forget, GetRefused, PutRefused, ForgetStale}
 use Rattle.rx_rules.specs.Store.{State, Live, MayCell, IsLeastFree, Reads, Refuses, fits, block_of, word_at, is_index}
-use Rattle.rx_replay.specs.Asks.{makes, OneAnswer}
+use Rattle.rx_store.specs.Asks.{makes}
+use Rattle.rx_replay.specs.Asks.{OneAnswer}
 use Rattle.rx_verdict.proofs.Single.{order}
 
 least_once : (w : ℕ) (S : State) (n a b : ℕ) → IsLeastFree w S n a → IsLeastFree w S n b → a ≡ b

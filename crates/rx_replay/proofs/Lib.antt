@@ -1,5 +1,4 @@
 pub mod Answered
-pub mod Homes
 pub mod Counts
 pub mod Following
 pub mod Same

@@ -6,7 +6,7 @@ use Rattle.std.proofs.lemmas.Bool.{and_parts, eqb-true, eq-eqb, true≢false}
 use Rattle.std.proofs.lemmas.Bool.Decides.{Decides-int_eq}
 use Rattle.rx_rules.specs.declared.events.Cell.{Cell}
 use Rattle.rx_rules.specs.declared.events.Cell.TheVariants.{Make, MakeFull, Get, Put, Forget, GetRefused, PutRefused, ForgetStale}
-use Rattle.rx_replay.specs.Asks.{ask_of}
+use Rattle.rx_store.specs.Asks.{ask_of}
 use Rattle.rx_replay.specs.Inside.Same.{same_answer}
 
 same_bool : (a b : Bool) → cond a b (not b) ≡ true → a ≡ b

@@ -1,4 +1,3 @@
-pub mod Home
 pub mod Next
 pub mod Same
 pub mod Replayed

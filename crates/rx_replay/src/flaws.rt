@@ -20,8 +20,8 @@ pub struct EventAt {
 }
 
 /// The first event, by place and then by position, that is not sound: up to it the journal is to be lawful, and it is to be marked,
-/// or a close with the number of its place's death. None comes exactly where all events are sound. It takes memory and time in
-/// proportion to the history and the journals.
+/// or a close with the number of its place's death. None comes exactly where all events are sound. It takes time in proportion to the
+/// history and the journals, and memory in proportion to the heap.
 pub fn first_flaw(
     alloc: Global,
     history: &History,
@@ -69,7 +69,7 @@ fn first_in(
     requires shape { length (row_at marks.now place.0) ≡ length journal.now.events }
     ensures { IfOk result (IsFirstIn heap death journal.now.events (row_at marks.now place.0)) }
 {
-    let lawful = lawful_events(alloc, place, heap, journal)?;
+    let lawful = lawful_events(alloc, heap, journal)?;
     for number in 0..lawful {
         let event = journal.item(number as usize);
         if !has_cause(death, marks.is_marked(place, number as usize), event) {

@@ -11,8 +11,8 @@ use rx_verdict::Verdict;
 use std::alloc::Global;
 
 /// The verdict where all entries are a part of a run and the last is a release of the root: `Event` with the first event that is
-/// not sound, or else `Open` with the least place that died and was not closed, or else `Run`. It takes memory and time in
-/// proportion to the history and the journals.
+/// not sound, or else `Open` with the least place that died and was not closed, or else `Run`. It takes time in proportion to the
+/// history and the journals, and memory in proportion to the heap.
 pub fn judge_events(
     alloc: Global,
     history: &History,

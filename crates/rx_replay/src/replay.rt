@@ -1,87 +1,57 @@
-// A journal, replayed on a store.
-ghost use Rattle.std.specs.Prelude.{◌≡◌, ◌↔◌, ◌<◌, ◌≤◌, ◌^◌, false, length, IsTrue, IfOk};
+// A journal, replayed on blocks.
+ghost use Rattle.std.specs.Prelude.{◌≡◌, ◌↔◌, ◌-◌, ◌<◌, ◌≤◌, ◌^◌, IsTrue, IfOk};
 ghost use Rattle.rx_rules.specs.Run.{stamp_of};
-ghost use Rattle.rx_store.specs.Kept.{state_of, last_stamp, ends_closed};
 ghost use Rattle.rx_replay.specs.Lawful.{AsksSome, IsLawfulCount};
-ghost use Rattle.rx_replay.specs.Inside.Next.{MayFollow, Followed, is_close};
+ghost use Rattle.rx_replay.specs.Inside.Next.{Follows, is_close};
 
-use crate::asking::{ask, at_home, is_answer};
-use rx_base::{NoMemory, Path, PlaceId};
+use crate::asking::{ask, is_answer};
+use rx_base::NoMemory;
 use rx_history::Journal;
 use rx_rules::{Cell, PlaceEvent};
-use rx_store::{Mark, Store};
+use rx_store::Blocks;
 use std::alloc::Global;
 
 /// How many of the first events of a journal are those of a store of so many words: the law of stores allows each, no stamp falls,
 /// and none asks for a block of no words, as no statement does. Where there are more events, this fails with the next one. Of a
-/// reference its start and its generation are looked at, and not its place. It takes memory and time in proportion to the journal;
-/// for 2^31 events and more there is never enough.
-pub fn lawful_events(
-    alloc: Global,
-    place: PlaceId,
-    heap: u32,
-    journal: &Journal,
-) -> Result<u32, NoMemory>
+/// reference its start and its generation are looked at, and not its place. It takes time in proportion to the journal, and memory
+/// in proportion to the heap; 2^32 events and more it answers as want of memory.
+pub fn lawful_events(alloc: Global, heap: u32, journal: &Journal) -> Result<u32, NoMemory>
     requires some { 0 < heap }
     requires most { heap ≤ 4096 }
     ensures { IfOk result (IsLawfulCount heap journal.now.events) }
 {
-    let count = journal.len();
-    if count >= 2_147_483_648 {
+    let Ok(count) = u32::try_from(journal.len()) else {
         return Err(NoMemory);
-    }
-    let mut store = Store::open(alloc, place, heap)?;
-    store.reserve(count as u32)?;
+    };
+    let mut blocks = Blocks::open(alloc, heap)?;
     let mut last = 0;
     let mut closed = false;
     for i in 0..count {
-        let event = journal.item(i);
+        let event = journal.item(i as usize);
         if closed {
-            return Ok(i as u32);
+            return Ok(i);
         }
-        if !follows(alloc, &mut store, place, last, event) {
-            return Ok(i as u32);
+        if !follows(&mut blocks, last, event) {
+            return Ok(i);
         }
         last = stamp_of(event);
         closed = is_close(event);
     }
-    Ok(count as u32)
+    Ok(count)
 }
 
-// Whether the event may stand next. If so, the store has been asked what it tells, and answered so.
-fn follows(alloc: Global, store: &mut Store, place: PlaceId, last: u32, event: &PlaceEvent) -> bool
-    requires open { ends_closed store.old.events ≡ false }
-    requires home { place ≡ store.old.place }
-    requires last { last ≡ last_stamp store.old.events }
-    requires room { 0 < store.old.spare }
-    requires events { length store.old.events < 2 ^ 31 }
-    ensures may { IsTrue result ↔ MayFollow store.old.words (state_of store.old.events) last event.now }
-    ensures told { IsTrue result → Followed store.old store.new event.now }
+// Whether the event may stand next. If so, the blocks have done what it tells.
+fn follows(blocks: &mut Blocks, last: u32, event: &PlaceEvent) -> bool
+    requires few { blocks.old.made < 2 ^ 32 - 1 }
+    ensures { Follows blocks.old blocks.new last event.now result }
 {
     match event {
-        PlaceEvent::Close { stamp } => {
-            if *stamp < last {
-                return false;
-            }
-            store.close(*stamp);
-            true
-        }
-        PlaceEvent::Done {
-            task,
-            stamp,
-            cell,
-            path: _,
-        } => {
+        PlaceEvent::Close { stamp } => last <= *stamp,
+        PlaceEvent::Done { stamp, cell, .. } => {
             if *stamp < last || !asks_some(*cell) {
                 return false;
             }
-            let mark = Mark {
-                task: *task,
-                stamp: *stamp,
-                path: Path::open(alloc),
-            };
-            let told = at_home(place, *cell);
-            is_answer(ask(store, mark, told), told)
+            is_answer(ask(blocks, *cell), *cell)
         }
     }
 }

@@ -7,8 +7,6 @@ use rx_verdict::Verdict;
 use std::alloc::Global;
 use std::test::Fail;
 
-const HERE: PlaceId = PlaceId(0);
-
 fn told(rt: &HostRuntime, stamp: u32, cell: Cell) -> PlaceEvent {
     PlaceEvent::Done {
         task: TaskId(0),
@@ -77,22 +75,10 @@ fn journal(rt: &HostRuntime, value: i64, home: u8) -> Result<Journal, NoMemory> 
 
 #[test]
 fn answers_are_compared(rt: HostRuntime) -> Result<(), Fail> {
-    assert_eq!(rt;
-        lawful_events(rt.alloc(), HERE, 8, &journal(&rt, 7, 0)?)?,
-        6
-    );
-    assert_eq!(rt;
-        lawful_events(rt.alloc(), HERE, 8, &journal(&rt, 7, 3)?)?,
-        6
-    );
-    assert_eq!(rt;
-        lawful_events(rt.alloc(), HERE, 8, &journal(&rt, 8, 0)?)?,
-        2
-    );
-    assert_eq!(rt;
-        lawful_events(rt.alloc(), HERE, 1, &journal(&rt, 7, 0)?)?,
-        0
-    );
+    assert_eq!(rt; lawful_events(rt.alloc(), 8, &journal(&rt, 7, 0)?)?, 6);
+    assert_eq!(rt; lawful_events(rt.alloc(), 8, &journal(&rt, 7, 3)?)?, 6);
+    assert_eq!(rt; lawful_events(rt.alloc(), 8, &journal(&rt, 8, 0)?)?, 2);
+    assert_eq!(rt; lawful_events(rt.alloc(), 1, &journal(&rt, 7, 0)?)?, 0);
     Ok(())
 }
 

@@ -1,10 +1,9 @@
--- What may stand next in a journal, and what a store has done then.
-use Rattle.std.specs.Prelude.{◌≡◌, ℕ, suc, ◌≤◌, Bool, true, false, length}
+-- What may stand next in a journal, and what blocks have done then.
+use Rattle.std.specs.Prelude.{◌↔◌, ℕ, ◌≤◌, Bool, true, false, IsTrue}
 use Rattle.rx_rules.specs.declared.events.PlaceEvent.{PlaceEvent}
 use Rattle.rx_rules.specs.declared.events.PlaceEvent.TheVariants.{Done, Close}
 use Rattle.rx_rules.specs.Store.{State, MayCell, after_cell}
-use Rattle.rx_rules.specs.Run.{stamp_of}
-use Rattle.rx_store.specs.Kept.{Kept, state_of, last_stamp, ends_closed}
+use Rattle.rx_store.specs.Table.{Table, Stands}
 use Rattle.rx_replay.specs.Lawful.{AsksSome}
 
 -- the event may stand next in the journal of a store of w words that has these blocks, that is not closed, and whose last stamp
@@ -23,12 +22,7 @@ abbrev pub is_close : PlaceEvent → Bool
 is_close (Done task stamp cell path) = false
 is_close (Close stamp) = true
 
--- the store has done what the event tells
-pub record Followed (old new : Kept) (e : PlaceEvent) : Type 0 where
-  pub place : new.place ≡ old.place
-  pub words : new.words ≡ old.words
-  pub room : old.spare ≤ suc new.spare
-  pub one : length new.events ≡ suc (length old.events)
-  pub state : state_of new.events ≡ state_after (state_of old.events) e
-  pub last : last_stamp new.events ≡ stamp_of e
-  pub closed : ends_closed new.events ≡ is_close e
+-- in the state that the blocks stood for the event may stand next, exactly where it is so told, and then they have done what it tells
+abbrev pub Follows : Table → Table → ℕ → PlaceEvent → Bool → Type 0
+Follows old new last e b =
+    (w : ℕ) (S : State) → Stands w old S → (IsTrue b ↔ MayFollow w S last e) × (IsTrue b → Stands w new (state_after S e))

@@ -1,41 +1,23 @@
-use Rattle.std.proofs.Common.{◌≤◌, IsTrue, sym, subst, arith}
-use Rattle.rx_rules.specs.declared.events.PlaceEvent.{PlaceEvent}
-use Rattle.rx_rules.specs.declared.events.PlaceEvent.TheVariants.{Done}
-use Rattle.rx_store.specs.declared.calls.Mark.{Mark}
-use Rattle.rx_store.specs.Kept.{state_of, last_stamp}
-use Rattle.rx_replay.specs.Lawful.{AsksSome}
-use Rattle.rx_replay.specs.Inside.Next.{MayFollow, Followed}
-use Rattle.rx_replay.specs.Inside.Same.{same_answer}
-use Rattle.rx_replay.proofs.Following.{follows-close, may-follow, follows-done}
+use Rattle.std.proofs.Common.{sym, ◌∙◌, arith}
+use Rattle.std.proofs.lemmas.Bool.{true≢false, leb-true, le-leb}
+use Rattle.rx_replay.proofs.Following.{follows-close, follows-not, follows-done}
 use Rattle.rx_replay.proofs.Same.{answers-same}
 use Rattle.rx_replay.proofs.replay.follows.Goals as goal
+use Rattle.rx_replay.proofs.replay.follows.Goals.{then-stamp-last-via-then-stamp-last, then-stamp-last-via-else-stamp-last+then-not-asks_some}
 
-pub returns-else-stamp-last-clause-told : goal.returns-else-stamp-last-clause-told
-returns-else-stamp-last-clause-told c = λ t. follows-close c.args.store.now c.close.new.self c.args.event.now c.in-Close.stamp c.in-Close.is c.close.ensures.event c.close.ensures.same
+pub returns-in-Close : goal.returns-in-Close
+returns-in-Close c = follows-close c.args.blocks.now c.args.last c.in-Close.stamp c.args.event.now _ c.in-Close.is (λ t. leb-true _ _ t, λ l. le-leb _ _ l)
 
-pub returns-else-not-asks_some-clause-may : goal.returns-else-not-asks_some-clause-may
-returns-else-not-asks_some-clause-may c =
-    let old = c.args.store.now in
-    let m : Mark = record { task = c.in-Done.task; stamp = c.in-Done.stamp; path = c.open.result } in
-    let low : last_stamp old.events ≤ m.stamp = omega arith in
-    let some : AsksSome c.in-Done.cell = c.asks_some.ensures.0 c.if-not-asks_some.false in
-    let same = answers-same c.ask.result c.at_home-told.result c.ask.ensures.asked in
-    let it = may-follow old c.ask.new.store m c.args.place c.in-Done.path c.in-Done.cell c.at_home-told.result c.ask.result low c.at_home-told.ensures.same c.ask.ensures.told some c.ask.ensures.asked (same_answer c.ask.result c.at_home-told.result) same in (
-      λ t.
-          subst (λ (e : PlaceEvent). MayFollow old.words (state_of old.events) c.args.last e) (sym c.in-Done.is)
-          (subst (λ n. MayFollow old.words (state_of old.events) n (Done m.task m.stamp c.in-Done.cell c.in-Done.path)) (sym c.requires.last) (it.0 (subst IsTrue c.is_answer.ensures t))),
-      λ h.
-          subst IsTrue (sym c.is_answer.ensures)
-          (it.1
-          (subst (λ n. MayFollow old.words (state_of old.events) n (Done m.task m.stamp c.in-Done.cell c.in-Done.path)) c.requires.last
-          (subst (λ (e : PlaceEvent). MayFollow old.words (state_of old.events) c.args.last e) c.in-Done.is h))),
-    )
+pub returns-then-stamp-last : goal.returns-then-stamp-last
+returns-then-stamp-last c =
+    follows-not c.args.blocks.now c.args.last c.in-Done.stamp c.in-Done.task c.in-Done.path c.in-Done.cell c.args.event.now c.in-Done.is
+    (elim c.then-stamp-last.branch [
+      | then-stamp-last-via-then-stamp-last w ↦ λ low some. let less = w.if-stamp-last.true in omega arith
+      | then-stamp-last-via-else-stamp-last+then-not-asks_some w ↦ λ low some. true≢false (sym (w.asks_some.ensures.1 some) ∙ w.if-not-asks_some.true)
+    ])
 
-pub returns-else-not-asks_some-clause-told : goal.returns-else-not-asks_some-clause-told
-returns-else-not-asks_some-clause-told c =
-    λ t.
-    let old = c.args.store.now in
-    let m : Mark = record { task = c.in-Done.task; stamp = c.in-Done.stamp; path = c.open.result } in
-    let low : last_stamp old.events ≤ m.stamp = omega arith in
-    let same = answers-same c.ask.result c.at_home-told.result c.ask.ensures.asked in
-    subst (Followed old c.ask.new.store) (sym c.in-Done.is) (follows-done old c.ask.new.store m c.args.place c.in-Done.path c.in-Done.cell c.at_home-told.result c.ask.result low c.at_home-told.ensures.same c.ask.ensures.told (same.0 (subst IsTrue c.is_answer.ensures t)))
+pub returns-else-not-asks_some : goal.returns-else-not-asks_some
+returns-else-not-asks_some c =
+    let same = answers-same c.ask.result c.in-Done.cell c.ask.ensures.asked in
+    follows-done c.args.blocks.now c.ask.new.blocks c.args.last c.in-Done.stamp c.in-Done.task c.in-Done.path c.in-Done.cell c.ask.result c.args.event.now c.is_answer.result c.in-Done.is (omega arith) (c.asks_some.ensures.0 c.if-not-asks_some.false) c.ask.ensures.asked c.ask.ensures.told
+    (λ t. same.0 (sym c.is_answer.ensures ∙ t), λ e. c.is_answer.ensures ∙ same.1 e)

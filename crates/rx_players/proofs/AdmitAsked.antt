@@ -1,5 +1,6 @@
 -- The players after a request.
 use Rattle.std.specs.Prelude.{◌≡◌, ◌⊎◌, ℕ, suc, ◌+◌, ◌<◌, ◌≤◌, ◌==◌, not, cond, Bool, true, false, List, [], ◌∷◌, ◌++◌, length, take, drop, Option, Some, None, option_to_list, slice_set, refl}
+use Rattle.std.specs.Global.{Box}
 use Rattle.std.specs.List.{filter_map}
 use Rattle.std.proofs.Common.{ap, sym, subst, ◌∙◌, arith, inl, inr, ⊎_elim}
 use Rattle.std.proofs.lemmas.Bool.{eq-eqb}
@@ -75,11 +76,11 @@ pub record Starts (shape : Shape) (table : EventTable) (number : ℕ) (z : Playe
   pub task : TaskId
   pub from : PlaceId
   pub to : PlaceId
-  pub seat : Seat
+  pub seat : Box Seat
   pub starts : started_by act ≡ Some task
   pub birth : (n : ℕ) (t : TaskId) (batch : List (List ℕ)) → birth_in n task.0 (Step t act batch) ≡ Some (record { from = from; to = to; low = suc n })
   pub slot : o ≡ Some (slot_for from to seat)
-  pub is : IsChild shape table number z task to seat
+  pub is : IsChild shape table number z task to seat.value
 
 whom : (shape : Shape) (table : EventTable) (number : ℕ) (z : Player) (act : Act) (o : Option Slot) → IsNewborn shape table number z act o → Starts shape table number z act o ⊎ ((started_by act ≡ None) × (o ≡ None))
 whom shape table number z (Called s r c from to x) o h =
@@ -96,7 +97,7 @@ module _ (shape : Shape) (code : Block) (U : Given) (es : List Entry) (js : List
   z = h.stops.player
 
   abbrev seat : Seat
-  seat = h.stops.seat
+  seat = h.stops.seat.value
 
   abbrev left : Cells
   left = h.stops.left
@@ -111,10 +112,10 @@ module _ (shape : Shape) (code : Block) (U : Given) (es : List Entry) (js : List
   y = acted seat.home z act
 
   pub seated : IsSeat shape U.places before js task.0 seat z left
-  seated = a.players.each task.0 (Here seat) (pass.Stands z left) h.stops.slot h.stops.stands
+  seated = a.players.each task.0 (Here h.stops.seat) (pass.Stands z left) h.stops.slot h.stops.stands
 
   inside : task.0 < length ps.slots.items
-  inside = slice_get_within ps.slots.items task.0 (Here seat) h.stops.slot
+  inside = slice_get_within ps.slots.items task.0 (Here h.stops.seat) h.stops.slot
 
   asks_there : AsksLedger (next_does (home_of before task.0) z)
   asks_there = subst (λ (p : PlaceId). AsksLedger (next_does p z)) seated.home (asks_ledger (next_does seat.home z) want h.stops.stops)
@@ -150,7 +151,7 @@ module _ (shape : Shape) (code : Block) (U : Given) (es : List Entry) (js : List
 
   -- Its slot after the entry.
 
-  own : (new : Seat) → GoneOn shape js seat new i y left → SlotIs shape U.places later js task.0 (Here new) (pass.Stands y left)
+  own : (new : Box Seat) → GoneOn shape js seat new.value i y left → SlotIs shape U.places later js task.0 (Here new) (pass.Stands y left)
   own new g =
       let known = told_known (tree_of U.places before) task (next_does seat.home z) act z.vars seated.known a.follows.allowed in
       let wider = more_places shape code U es js i ps task act batch a in
@@ -162,13 +163,13 @@ module _ (shape : Shape) (code : Block) (U : Given) (es : List Entry) (js : List
         stood = g.stood;
       }
 
-  own_marks : (new : Seat) → GoneOn shape js seat new i y left → MarksAre code U es js (slice_set ps.slots.items task.0 (Here new)) ps.marks
-  own_marks new g = marks_stay code U es js ps.marks ps.slots.items task.0 seat new h.stops.slot g.home g.position a.players.marks
+  own_marks : (new : Box Seat) → GoneOn shape js seat new.value i y left → MarksAre code U es js (slice_set ps.slots.items task.0 (Here new)) ps.marks
+  own_marks new g = marks_stay code U es js ps.marks ps.slots.items task.0 h.stops.seat new h.stops.slot g.home g.position a.players.marks
 
-  own_each : (new : Seat) → GoneOn shape js seat new i y left → Each (SlotIs shape U.places later js) (slice_set ps.slots.items task.0 (Here new)) (slice_set a.players.seats task.0 (pass.Stands y left))
+  own_each : (new : Box Seat) → GoneOn shape js seat new.value i y left → Each (SlotIs shape U.places later js) (slice_set ps.slots.items task.0 (Here new)) (slice_set a.players.seats task.0 (pass.Stands y left))
   own_each new g = one_changed shape code U es js i ps task act batch a (Here new) (pass.Stands y left) inside (own new g)
 
-  own_size : (new : Seat) → length (slice_set ps.slots.items task.0 (Here new)) ≡ length (slice_set a.players.seats task.0 (pass.Stands y left))
+  own_size : (new : Box Seat) → length (slice_set ps.slots.items task.0 (Here new)) ≡ length (slice_set a.players.seats task.0 (pass.Stands y left))
   own_size new = changed_size shape code U es js i ps task act batch a (Here new) (pass.Stands y left)
 
   -- The seats of the pass after it.
@@ -225,10 +226,10 @@ module _ (shape : Shape) (code : Block) (U : Given) (es : List Entry) (js : List
         let l = slice_get_within es i (Step task act batch) a.follows.here in
         omega (arith, at, few, k, l)
 
-    first : IsFirst c (journal_at js s.to.0) 0 s.seat.position
+    first : IsFirst c (journal_at js s.to.0) 0 s.seat.value.position
     first = s.is.first js (suc (length es)) a.players.table few_tasks
 
-    child_stood : Stood shape js s.seat (fresh r) (cells_of later js c)
+    child_stood : Stood shape js s.seat.value (fresh r) (cells_of later js c)
     child_stood =
         let less = s.is.fewer in
         let few = seated.stood.few in
@@ -237,13 +238,13 @@ module _ (shape : Shape) (code : Block) (U : Given) (es : List Entry) (js : List
           term = s.is.term;
           vars = s.is.vars;
           batch = s.is.batch;
-          events = (λ j. filter_map (cell_of (s.is.task j).0) (drop s.seat.position (journal_at js (s.is.home j).0))) ∙ (first.same ∙ ap (λ (p : PlaceId). filter_map (cell_of c) (journal_at js p.0)) home);
-          first = subst (λ (v : TaskId × PlaceId). IsFirst v.0.0 (journal_at js v.1.0) s.seat.position s.seat.position) {x = (s.task, s.to)} {y = (s.seat.task, s.seat.home)} (λ j. (sym s.is.task j, sym s.is.home j))
+          events = (λ j. filter_map (cell_of (s.is.task j).0) (drop s.seat.value.position (journal_at js (s.is.home j).0))) ∙ (first.same ∙ ap (λ (p : PlaceId). filter_map (cell_of c) (journal_at js p.0)) home);
+          first = subst (λ (v : TaskId × PlaceId). IsFirst v.0.0 (journal_at js v.1.0) s.seat.value.position s.seat.value.position) {x = (s.task, s.to)} {y = (s.seat.value.task, s.seat.value.home)} (λ j. (sym s.is.task j, sym s.is.home j))
               (record { here = first.here; same = refl });
           few = omega (arith, less, few);
         }
 
-    child_is : IsSeat shape U.places later js c s.seat (fresh r) (cells_of later js c)
+    child_is : IsSeat shape U.places later js c s.seat.value (fresh r) (cells_of later js c)
     child_is =
         let known = seated.known in
         let wider = more_places shape code U es js i ps task act batch a in
@@ -262,7 +263,7 @@ module _ (shape : Shape) (code : Block) (U : Given) (es : List Entry) (js : List
       by_place false w e = subst (λ (v : Bool). SlotIs shape U.places later js c (Away s.seat) (cond v (pass.Away r) (pass.Stands (fresh r) (cells_of later js c)))) (sym e) child_is
 
     -- it comes after the others
-    is_last : (new : Seat) → length (slice_set ps.slots.items task.0 (Here new)) ≡ c
+    is_last : (new : Box Seat) → length (slice_set ps.slots.items task.0 (Here new)) ≡ c
     is_last new =
         let all = many shape code U es js i ps task act batch a in
         let size = a.players.size in
@@ -270,16 +271,16 @@ module _ (shape : Shape) (code : Block) (U : Given) (es : List Entry) (js : List
         let k = length-set ps.slots.items task.0 (Here new) in
         omega (arith, all, size, at, k)
 
-    child_marks : (new : Seat) → GoneOn shape js seat new i y left → MarksAre code U es js (slice_set ps.slots.items task.0 (Here new) ++ slot_for s.from s.to s.seat ∷ []) ps.marks
+    child_marks : (new : Box Seat) → GoneOn shape js seat new.value i y left → MarksAre code U es js (slice_set ps.slots.items task.0 (Here new) ++ slot_for s.from s.to s.seat ∷ []) ps.marks
     child_marks new g = by_place (s.from.0 == s.to.0) where
       by_place : (at : Bool) → MarksAre code U es js (slice_set ps.slots.items task.0 (Here new) ++ cond at (Here s.seat) (Away s.seat) ∷ []) ps.marks
       by_place true =
           marks_born_here code U es js ps.marks (slice_set ps.slots.items task.0 (Here new)) s.seat
-          (subst (λ (v : ℕ × PlaceId). IsFirst v.0 (journal_at js v.1.0) 0 s.seat.position) {x = (c, s.to)} {y = (length (slice_set ps.slots.items task.0 (Here new)), s.seat.home)} (λ j. (sym (is_last new) j, sym s.is.home j)) first)
+          (subst (λ (v : ℕ × PlaceId). IsFirst v.0 (journal_at js v.1.0) 0 s.seat.value.position) {x = (c, s.to)} {y = (length (slice_set ps.slots.items task.0 (Here new)), s.seat.value.home)} (λ j. (sym (is_last new) j, sym s.is.home j)) first)
           (own_marks new g)
       by_place false = marks_born_away code U es js ps.marks (slice_set ps.slots.items task.0 (Here new)) s.seat (own_marks new g)
 
-    child_each : (new : Seat) → GoneOn shape js seat new i y left → Each (SlotIs shape U.places later js) (slice_set ps.slots.items task.0 (Here new) ++ slot_for s.from s.to s.seat ∷ []) (slice_set a.players.seats task.0 (pass.Stands y left) ++ newborn_seat later js c r ∷ [])
+    child_each : (new : Box Seat) → GoneOn shape js seat new.value i y left → Each (SlotIs shape U.places later js) (slice_set ps.slots.items task.0 (Here new) ++ slot_for s.from s.to s.seat ∷ []) (slice_set a.players.seats task.0 (pass.Stands y left) ++ newborn_seat later js c r ∷ [])
     child_each new g =
         each_push (SlotIs shape U.places later js) (slice_set ps.slots.items task.0 (Here new)) (slice_set a.players.seats task.0 (pass.Stands y left)) (slot_for s.from s.to s.seat) (newborn_seat later js c r) (own_size new)
         (subst (λ (n : ℕ). SlotIs shape U.places later js n (slot_for s.from s.to s.seat) (newborn_seat later js c r)) (sym (is_last new)) child_slot)
@@ -287,7 +288,7 @@ module _ (shape : Shape) (code : Block) (U : Given) (es : List Entry) (js : List
 
   -- The players after the request.
 
-  pub asked : (new : Players) (on : Seat) (o : Option Slot) → SeatAsks → batch ≡ seat.batch → Fits seat.home z.term (next_does seat.home z) act → GoneOn shape js seat on i y left → IsNewborn shape ps.table i z act o → new.slots.items ≡ slice_set ps.slots.items task.0 (Here on) ++ option_to_list o → new.table ≡ ps.table → new.marks ≡ ps.marks → PlayersAre shape code U es js (suc i) new
+  pub asked : (new : Players) (on : Box Seat) (o : Option Slot) → SeatAsks → batch ≡ seat.batch → Fits seat.home z.term (next_does seat.home z) act → GoneOn shape js seat on.value i y left → IsNewborn shape ps.table i z act o → new.slots.items ≡ slice_set ps.slots.items task.0 (Here on) ++ option_to_list o → new.table ≡ ps.table → new.marks ≡ ps.marks → PlayersAre shape code U es js (suc i) new
   asked new on o law same fits g born slots table marks = ⊎_elim one none (whom shape ps.table i z act o born) where
     -- with these slots and seats
     over : (all : List Slot) (seats : List pass.Seat) → pass.Seated code U later js seats → length all ≡ length seats → Each (SlotIs shape U.places later js) all seats → MarksAre code U es js all ps.marks → new.slots.items ≡ all → PlayersAre shape code U es js (suc i) new

@@ -54,8 +54,8 @@ module _ (shape : Shape) (code : Block) (U : Given) (es : List Entry) (js : List
   halted new law w k =
       let s = w.1 in
       let p = w.0 in
-      let is : IsSeat shape U.places (take i es) js task.0 s.seat s.player s.left = p.each task.0 (Here s.seat) (pass.Stands s.player s.left) s.slot s.stands in
-      let store = asks_store (next_does s.seat.home s.player) s.stops.0.0 s.stops.0.1 in
+      let is : IsSeat shape U.places (take i es) js task.0 s.seat.value s.player s.left = p.each task.0 (Here s.seat) (pass.Stands s.player s.left) s.slot s.stands in
+      let store = asks_store (next_does s.seat.value.home s.player) s.stops.0.0 s.stops.0.1 in
       (law code U es js i p.seats task act batch p.seated a.follows).0 s.player s.left s.stands
       (subst (λ (q : PlaceId). AsksStore (next_does q s.player)) is.home store)
       (subst (λ (q : PlaceId). Halts q s.player s.left) is.home s.stops.1) k

@@ -1,5 +1,6 @@
 -- The players after an entry that needs no request, and after a no.
 use Rattle.std.specs.Prelude.{◌≡◌, ◌≢◌, ◌⊎◌, ◌↔◌, IsTrue, true, false, ℕ, suc, ◌+◌, ◌<◌, ◌≤◌, Bool, List, [], ◌∷◌, ◌++◌, length, take, drop, Some, slice_get, slice_set, refl}
+use Rattle.std.specs.Global.{Box}
 use Rattle.std.specs.List.{filter_map}
 use Rattle.std.proofs.Common.{ap, sym, subst, ◌∙◌, arith, inl}
 use Rattle.std.proofs.lemmas.Bool.{true≢false}
@@ -148,12 +149,12 @@ module _ (shape : Shape) (code : Block) (U : Given) (es : List Entry) (js : List
 
   -- Who travels.
 
-  pub record Travels (seat : Seat) : Type 0 where
+  pub record Travels (seat : Box Seat) : Type 0 where
     pub start : Term × Vars
     pub away : slice_get a.players.seats task.0 ≡ Some (pass.Away start)
-    pub is : IsSeat shape U.places before js task.0 seat (fresh start) (cells_of before js task.0)
+    pub is : IsSeat shape U.places before js task.0 seat.value (fresh start) (cells_of before js task.0)
 
-  pub travels_so : (seat : Seat) → slice_get ps.slots.items task.0 ≡ Some (Away seat) → Travels seat
+  pub travels_so : (seat : Box Seat) → slice_get ps.slots.items task.0 ≡ Some (Away seat) → Travels seat
   travels_so seat at =
       let l = slice_get_within ps.slots.items task.0 (Away seat) at in
       let size = a.players.size in
@@ -165,12 +166,12 @@ module _ (shape : Shape) (code : Block) (U : Given) (es : List Entry) (js : List
       by_seat (pass.Stands z left) on is = absurd is
       by_seat pass.Over on is = absurd is
 
-  pub lands_only : (seat : Seat) → SeatArrives → slice_get ps.slots.items task.0 ≡ Some (Away seat) → Part code U es js (suc i) → (p : PlaceId) × (act ≡ Arrive p) × (batch ≡ [])
+  pub lands_only : (seat : Box Seat) → SeatArrives → slice_get ps.slots.items task.0 ≡ Some (Away seat) → Part code U es js (suc i) → (p : PlaceId) × (act ≡ Arrive p) × (batch ≡ [])
   lands_only seat law at h =
       let x = travels_so seat at in
       (law code U es js i a.players.seats task act batch x.start a.players.seated a.follows x.away).1 h
 
-  pub landed : (new : Players) (seat landing : Seat) (p : PlaceId) (low : ℕ) → SeatArrives → slice_get ps.slots.items task.0 ≡ Some (Away seat) → act ≡ Arrive p → batch ≡ [] → landing ≡ record seat { low = low } → low ≡ suc i → new.slots.items ≡ slice_set ps.slots.items task.0 (Here landing) → new.table ≡ ps.table → new.marks ≡ ps.marks → PlayersAre shape code U es js (suc i) new
+  pub landed : (new : Players) (seat landing : Box Seat) (p : PlaceId) (low : ℕ) → SeatArrives → slice_get ps.slots.items task.0 ≡ Some (Away seat) → act ≡ Arrive p → batch ≡ [] → landing.value ≡ record seat.value { low = low } → low ≡ suc i → new.slots.items ≡ slice_set ps.slots.items task.0 (Here landing) → new.table ≡ ps.table → new.marks ≡ ps.marks → PlayersAre shape code U es js (suc i) new
   landed new seat landing p low law at arrives none is number slots table marks =
       let x = travels_so seat at in
       let s = x.is in
@@ -178,7 +179,7 @@ module _ (shape : Shape) (code : Block) (U : Given) (es : List Entry) (js : List
       let known = s.known in
       let wider = more_places in
       let all = pass.Stands (fresh x.start) (cells_of before js task.0) in
-      let own : IsSeat shape U.places later js task.0 (record seat { low = low }) (fresh x.start) (cells_of before js task.0) =
+      let own : IsSeat shape U.places later js task.0 (record seat.value { low = low }) (fresh x.start) (cells_of before js task.0) =
       record {
         number = s.number;
         home = s.home ∙ sym (home_stays inside);
@@ -186,15 +187,15 @@ module _ (shape : Shape) (code : Block) (U : Given) (es : List Entry) (js : List
         known = omega (arith, known, wider);
         stood = record { term = s.stood.term; vars = s.stood.vars; batch = s.stood.batch; events = s.stood.events; first = s.stood.first; few = s.stood.few };
       } in
-      let j : List PlaceEvent = journal_at js seat.home.0 in
-      let first : IsFirst task.0 j 0 seat.position =
+      let j : List PlaceEvent = journal_at js seat.value.home.0 in
+      let first : IsFirst task.0 j 0 seat.value.position =
       record {
-        here = subst (λ (n : ℕ). (seat.position ≡ length j) ⊎ IsOf n j seat.position) s.number s.stood.first.here;
-        same = ap (λ (n : ℕ). filter_map (cell_of n) (drop seat.position j)) (sym s.number) ∙ (s.stood.events ∙ ap (λ (q : PlaceId). filter_map (cell_of task.0) (journal_at js q.0)) (sym s.home));
+        here = subst (λ (n : ℕ). (seat.value.position ≡ length j) ⊎ IsOf n j seat.value.position) s.number s.stood.first.here;
+        same = ap (λ (n : ℕ). filter_map (cell_of n) (drop seat.value.position j)) (sym s.number) ∙ (s.stood.events ∙ ap (λ (q : PlaceId). filter_map (cell_of task.0) (journal_at js q.0)) (sym s.home));
       } in
       players_changed new (Here landing) all inside
       ((law code U es js i a.players.seats task act batch x.start a.players.seated a.follows x.away).0 p arrives none)
-      (subst (λ (v : Seat). SlotIs shape U.places later js task.0 (Here v) all) (sym is) own) slots table marks
+      (subst (λ (v : Seat). IsSeat shape U.places later js task.0 v (fresh x.start) (cells_of before js task.0)) (sym is) own) slots table marks
       (marks_arrive code U es js ps.marks ps.slots.items task.0 seat landing at (subst (λ (v : Seat). IsFirst task.0 (journal_at js v.home.0) 0 v.position) (sym is) first) a.players.marks)
 
 -- A task that has come to its end.
@@ -206,22 +207,22 @@ module _ (shape : Shape) (code : Block) (U : Given) (es : List Entry) (js : List
   abbrev z : Player
   z = h.stops.player
 
-  pub stopped : IsSeat shape U.places (take i es) js task.0 h.stops.seat z h.stops.left
+  pub stopped : IsSeat shape U.places (take i es) js task.0 h.stops.seat.value z h.stops.left
   stopped = a.players.each task.0 (Here h.stops.seat) (pass.Stands z h.stops.left) h.stops.slot h.stops.stands
 
   -- its faults
-  pub ends_with : (faults : List Fault) × (next_does h.stops.seat.home z ≡ Done faults)
-  ends_with = is_done (next_does h.stops.seat.home z) h.stops.stops
+  pub ends_with : (faults : List Fault) × (next_does h.stops.seat.value.home z ≡ Done faults)
+  ends_with = is_done (next_does h.stops.seat.value.home z) h.stops.stops
 
   ends_there : next_does (home_of (take i es) task.0) z ≡ Done ends_with.0
   ends_there = ap (λ (p : PlaceId). next_does p z) (sym stopped.home) ∙ ends_with.1
 
-  pub ends_only : SeatEnds → Part code U es js (suc i) → (batch ≡ h.stops.seat.batch) × (act ≡ End ends_with.0)
+  pub ends_only : SeatEnds → Part code U es js (suc i) → (batch ≡ h.stops.seat.value.batch) × (act ≡ End ends_with.0)
   ends_only law k =
       let r = (law code U es js i a.players.seats task act batch z h.stops.left ends_with.0 a.players.seated a.follows h.stops.stands ends_there).1 k in
       (r.0 ∙ sym stopped.stood.batch, r.1)
 
-  pub ended : (new : Players) → SeatsTell → SeatEnds → batch ≡ h.stops.seat.batch → act ≡ End ends_with.0 → new.slots.items ≡ slice_set ps.slots.items task.0 Over → new.table ≡ ps.table → new.marks ≡ ps.marks → PlayersAre shape code U es js (suc i) new
+  pub ended : (new : Players) → SeatsTell → SeatEnds → batch ≡ h.stops.seat.value.batch → act ≡ End ends_with.0 → new.slots.items ≡ slice_set ps.slots.items task.0 Over → new.table ≡ ps.table → new.marks ≡ ps.marks → PlayersAre shape code U es js (suc i) new
   ended new tell law same is slots table marks =
       players_changed shape code U es js i ps task act batch a new Over pass.Over (slice_get_within ps.slots.items task.0 (Here h.stops.seat) h.stops.slot)
       ((law code U es js i a.players.seats task act batch z h.stops.left ends_with.0 a.players.seated a.follows h.stops.stands ends_there).0 (same ∙ stopped.stood.batch, is))
@@ -230,11 +231,11 @@ module _ (shape : Shape) (code : Block) (U : Given) (es : List Entry) (js : List
       (inl (ends_with.0, ends_there)) ps.slots.items ps.marks h.stops.slot a.players.marks)
 
   -- the control carries them
-  pub carries : (seat : Seat) → seat ≡ h.stops.seat → StandsFor shape seat.control z.term × (carried (does seat.control.vars h.stops.seat.home.0 z.term) ≡ Some ends_with.0)
+  pub carries : (seat : Seat) → seat ≡ h.stops.seat.value → StandsFor shape seat.control z.term × (carried (does seat.control.vars h.stops.seat.value.home.0 z.term) ≡ Some ends_with.0)
   carries seat e = (
     subst (λ (v : Seat). StandsFor shape v.control z.term) (sym e) stopped.stood.term,
-    ap (λ (v : Seat). carried (does v.control.vars h.stops.seat.home.0 z.term)) e
-        ∙ (ap (λ (v : Vars). carried (does v h.stops.seat.home.0 z.term)) stopped.stood.vars ∙ ap carried ends_with.1),
+    ap (λ (v : Seat). carried (does v.control.vars h.stops.seat.value.home.0 z.term)) e
+        ∙ (ap (λ (v : Vars). carried (does v h.stops.seat.value.home.0 z.term)) stopped.stood.vars ∙ ap carried ends_with.1),
   )
 
 -- where a call tells whether a fact holds on which the entry hangs

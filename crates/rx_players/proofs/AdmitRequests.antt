@@ -1,5 +1,6 @@
 -- What a request asks of an act, in parts.
 use Rattle.std.specs.Prelude.{◌≡◌, ℕ, ℤ, Bool, true, false, ◌&&◌, ◌==◌, ◌≤◌, suc, List, [], drop, Option, Some, slice_set, refl}
+use Rattle.std.specs.Global.{Box}
 use Rattle.std.specs.List.{filter_map}
 use Rattle.std.proofs.Common.{ap, sym, subst, ◌∙◌, arith}
 use Rattle.std.proofs.lemmas.Bool.{true≢false, and_parts, eqb-true, eq-eqb}
@@ -209,8 +210,8 @@ told_census here d act n x is a =
     a.1 ∙ ap (λ (v : Want). Book v) (wants_census a.0 here n x (ap (λ (v : Act). wanted a.0 here v) (sym is) ∙ a.2))
 
 -- a task has gone on in its slot as its seat has
-pub goes_on : (shape : Shape) (old new : List Slot) (number : ℕ) (task : TaskId) (seat found on : Seat) (act : Act) (b : Bool) → found ≡ seat → new ≡ slice_set old task.0 (Here on)
-    → ((js : List (List PlaceEvent)) (z : Player) (left : Cells) → Stood shape js found z left → IsAsked found.home (next_does found.home z) act → AfterRequest shape js found on number z left act b)
+pub goes_on : (shape : Shape) (old new : List Slot) (number : ℕ) (task : TaskId) (seat found : Seat) (on : Box Seat) (act : Act) (b : Bool) → found ≡ seat → new ≡ slice_set old task.0 (Here on)
+    → ((js : List (List PlaceEvent)) (z : Player) (left : Cells) → Stood shape js found z left → IsAsked found.home (next_does found.home z) act → AfterRequest shape js found on.value number z left act b)
     → GoesOn shape old new number task seat act b
 goes_on shape old new number task seat found on act b same set after =
-    (on, set, subst (λ (v : Seat). (js : List (List PlaceEvent)) (z : Player) (left : Cells) → Stood shape js v z left → IsAsked v.home (next_does v.home z) act → AfterRequest shape js v on number z left act b) same after)
+    (on, set, subst (λ (v : Seat). (js : List (List PlaceEvent)) (z : Player) (left : Cells) → Stood shape js v z left → IsAsked v.home (next_does v.home z) act → AfterRequest shape js v on.value number z left act b) same after)

@@ -1,5 +1,6 @@
 -- Slots and the seats of the pass, where one changes or one is added.
 use Rattle.std.specs.Prelude.{◌≡◌, ◌≢◌, ℕ, zero, suc, ◌<◌, ◌≤◌, List, [], ◌∷◌, ◌++◌, length, Some, get_or, slice_get, slice_set, refl}
+use Rattle.std.specs.Global.{Box}
 use Rattle.std.specs.List.{filter_map}
 use Rattle.std.proofs.Common.{ap, sym, subst, ◌∙◌, arith, ⊎_elim}
 use Rattle.std.proofs.lemmas.Bool.{cases_eq, cases_lt}
@@ -62,7 +63,7 @@ set_twice (z ∷ xs) (suc k) x y = ap (λ (l : List _). z ∷ l) (set_twice xs k
 
 -- The seat that was found in a slot.
 
-pub same_seat : (slots : List Slot) (t : ℕ) (x : Slot) (seat was : Seat) → x ≡ get_or slots t x → x ≡ Here seat → slice_get slots t ≡ Some (Here was) → seat ≡ was
+pub same_seat : (slots : List Slot) (t : ℕ) (x : Slot) (seat was : Box Seat) → x ≡ get_or slots t x → x ≡ Here seat → slice_get slots t ≡ Some (Here was) → seat ≡ was
 same_seat slots t x seat was value is at =
     let g = slice_get_read slots (length slots) t x refl (slice_get_within slots t (Here was) at) value in
     let e : Some (Here seat) ≡ Some (Here was) = ap (λ (s : Slot). Some s) (sym is) ∙ (sym g ∙ at) in cc e
@@ -77,9 +78,9 @@ seat_keeps shape places es later js u seat z left k s =
 
 pub slot_keeps : (shape : Shape) (places : ℕ) (es later : List Entry) (js : List (List PlaceEvent)) (u : ℕ) → Keeps places es later u → (slot : Slot) (x : pass.Seat) → SlotIs shape places es js u slot x → SlotIs shape places later js u slot x
 slot_keeps shape places es later js u k (Away seat) (pass.Away r) h =
-    subst (λ (left : Cells). IsSeat shape places later js u seat (fresh r) left) (ap (λ (p : PlaceId). filter_map (cell_of u) (journal_at js p.0)) (sym k.home))
-    (seat_keeps shape places es later js u seat (fresh r) (cells_of es js u) k h)
-slot_keeps shape places es later js u k (Here seat) (pass.Stands z left) h = seat_keeps shape places es later js u seat z left k h
+    subst (λ (left : Cells). IsSeat shape places later js u seat.value (fresh r) left) (ap (λ (p : PlaceId). filter_map (cell_of u) (journal_at js p.0)) (sym k.home))
+    (seat_keeps shape places es later js u seat.value (fresh r) (cells_of es js u) k h)
+slot_keeps shape places es later js u k (Here seat) (pass.Stands z left) h = seat_keeps shape places es later js u seat.value z left k h
 slot_keeps shape places es later js u k Over pass.Over h = tt
 slot_keeps shape places es later js u k (Away seat) (pass.Stands z left) h = absurd h
 slot_keeps shape places es later js u k (Away seat) pass.Over h = absurd h

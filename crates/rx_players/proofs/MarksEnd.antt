@@ -1,5 +1,6 @@
 -- The marks after all entries.
 use Rattle.std.specs.Prelude.{◌≡◌, ◌≢◌, ◌↔◌, ℕ, suc, ◌<◌, true, false, List, [], length, take, drop, Option, Some, None, slice_get, refl}
+use Rattle.std.specs.Global.{Box}
 use Rattle.std.proofs.Common.{ap, sym, subst, ◌∙◌, arith, inl, inr}
 use Rattle.std.proofs.lemmas.Bool.{cases_eq, true≢false}
 use Rattle.std.proofs.lemmas.List.{take_all}
@@ -96,7 +97,7 @@ stuck_at Halted seat es i t y rest home none s =
     inr (inl (subst (λ (p : PlaceId). AsksStore (next_does p y)) home (asks_store (next_does seat.home y) s.0.0 s.0.1), subst (λ (p : PlaceId). Halts p y rest) home s.1))
 
 -- the pass's seat of a task that travels
-away_seat : (shape : Shape) (places : ℕ) (es : List Entry) (js : List (List PlaceEvent)) (t : ℕ) (seat : Seat) (x : pass.Seat) → SlotIs shape places es js t (Away seat) x → (start : Term × Vars) × (x ≡ pass.Away start)
+away_seat : (shape : Shape) (places : ℕ) (es : List Entry) (js : List (List PlaceEvent)) (t : ℕ) (seat : Box Seat) (x : pass.Seat) → SlotIs shape places es js t (Away seat) x → (start : Term × Vars) × (x ≡ pass.Away start)
 away_seat shape places es js t seat (pass.Away r) is = (r, refl)
 away_seat shape places es js t seat (pass.Stands z left) is = absurd is
 away_seat shape places es js t seat pass.Over is = absurd is
@@ -115,20 +116,20 @@ module _ (shape : Shape) (code : Block) (U : Given) (es : List Entry) (js : List
             let both : Some (pass.Stands z left) ≡ Some (pass.Stands s.player s.left) = sym at ∙ (ap (λ (n : ℕ). slice_get after.seats n) same ∙ s.stands) in
             let player : s.player ≡ z = cc in
             let cells : s.left ≡ left = cc in
-            let is : IsSeat shape U.places (take i es) js t s.seat s.player s.left = after.each t (Here s.seat) (pass.Stands s.player s.left) s.slot s.stands in
+            let is : IsSeat shape U.places (take i es) js t s.seat.value s.player s.left = after.each t (Here s.seat) (pass.Stands s.player s.left) s.slot s.stands in
             subst (λ (n : ℕ). IsStuck es i n z left) (sym same)
-            (subst (λ (y : Player). IsStuck es i t y left) player (subst (λ (l : Cells). IsStuck es i t s.player l) cells (stuck_at stop s.seat es i t s.player s.left is.home none s.stops)))
+            (subst (λ (y : Player). IsStuck es i t y left) player (subst (λ (l : Cells). IsStuck es i t s.player l) cells (stuck_at stop s.seat.value es i t s.player s.left is.home none s.stops)))
       ]
 
   -- one more that is not at its place
-  pub none_stuck : (slot : Slot) → slice_get old.slots.items t ≡ Some slot → ((seat : Seat) → slot ≡ Here seat → ⊥) → StuckBelow es i P.seats (suc t)
+  pub none_stuck : (slot : Slot) → slice_get old.slots.items t ≡ Some slot → ((seat : Box Seat) → slot ≡ Here seat → ⊥) → StuckBelow es i P.seats (suc t)
   none_stuck slot here other u z left lt at =
       elim (cases_eq u t) as (λ _. IsStuck es i u z left) [
         | inr ne ↦ stuck u z left (omega (arith, lt, ne)) at
         | inl same ↦ absurd (no_stand slot other (P.each t slot (pass.Stands z left) here (ap (λ (n : ℕ). slice_get P.seats n) (sym same) ∙ at)))
       ]
     where
-      no_stand : (x : Slot) → ((seat : Seat) → x ≡ Here seat → ⊥) → SlotIs shape U.places (take i es) js t x (pass.Stands z left) → ⊥
+      no_stand : (x : Slot) → ((seat : Box Seat) → x ≡ Here seat → ⊥) → SlotIs shape U.places (take i es) js t x (pass.Stands z left) → ⊥
       no_stand (Away seat) o is = is
       no_stand (Here seat) o is = o seat refl
       no_stand Over o is = is

@@ -1,5 +1,6 @@
 -- The marks where a slot changes and no event is used.
 use Rattle.std.specs.Prelude.{◌≡◌, ◌↔◌, ℕ, zero, suc, ◌+◌, ◌<◌, ◌≤◌, Bool, true, false, List, [], ◌∷◌, ◌++◌, length, take, drop, Option, Some, None, slice_get, slice_set, refl}
+use Rattle.std.specs.Global.{Box}
 use Rattle.std.specs.List.{filter_map}
 use Rattle.std.proofs.Common.{ap, sym, subst, ◌∙◌, arith, inl, inr}
 use Rattle.std.proofs.lemmas.Bool.{cases_eq, true≢false}
@@ -113,7 +114,7 @@ module _ (code : Block) (U : Given) (es : List Entry) (js : List (List PlaceEven
         ]
 
   -- a task whose seat changes and stays where it is in its journal
-  pub marks_stay : (slots : List Slot) (t : ℕ) (seat new : Seat) → slice_get slots t ≡ Some (Here seat) → new.home ≡ seat.home → new.position ≡ seat.position → MarksAre code U es js slots ms → MarksAre code U es js (slice_set slots t (Here new)) ms
+  pub marks_stay : (slots : List Slot) (t : ℕ) (seat new : Box Seat) → slice_get slots t ≡ Some (Here seat) → new.value.home ≡ seat.value.home → new.value.position ≡ seat.value.position → MarksAre code U es js slots ms → MarksAre code U es js (slice_set slots t (Here new)) ms
   marks_stay slots t seat new at home position m =
       one_set slots t (Here seat) (Here new) at m
       (as_left t (Some (Here seat)) (Some (Here new))
@@ -130,27 +131,27 @@ module _ (code : Block) (U : Given) (es : List Entry) (js : List (List PlaceEven
       ]
 
   -- a task that arrives where its events begin
-  pub marks_arrive : (slots : List Slot) (t : ℕ) (seat new : Seat) → slice_get slots t ≡ Some (Away seat) → IsFirst t (journal_at js new.home.0) 0 new.position → MarksAre code U es js slots ms → MarksAre code U es js (slice_set slots t (Here new)) ms
+  pub marks_arrive : (slots : List Slot) (t : ℕ) (seat new : Box Seat) → slice_get slots t ≡ Some (Away seat) → IsFirst t (journal_at js new.value.home.0) 0 new.value.position → MarksAre code U es js slots ms → MarksAre code U es js (slice_set slots t (Here new)) ms
   marks_arrive slots t seat new at first m =
       one_set slots t (Away seat) (Here new) at m
       (as_left t (Some (Away seat)) (Some (Here new))
-      (λ p e stamp cell path told l here. from_first t new.position new.home.0 e stamp cell path first (subst (λ (q : ℕ). IsEvent js q e (record { 0 = t }) stamp cell path) here told))
+      (λ p e stamp cell path told l here. from_first t new.value.position new.value.home.0 e stamp cell path first (subst (λ (q : ℕ). IsEvent js q e (record { 0 = t }) stamp cell path) here told))
       (λ p e stamp cell path told l. tt)
       (subst (λ (s : Option Slot). Of t s) at (of_task slots t m)))
 
   -- a newborn task that travels
-  pub marks_born_away : (slots : List Slot) (seat : Seat) → MarksAre code U es js slots ms → MarksAre code U es js (slots ++ Away seat ∷ []) ms
+  pub marks_born_away : (slots : List Slot) (seat : Box Seat) → MarksAre code U es js slots ms → MarksAre code U es js (slots ++ Away seat ∷ []) ms
   marks_born_away slots seat m =
       one_more slots (Away seat) m
       (as_left (length slots) None (Some (Away seat)) (λ p e stamp cell path told l. tt) (λ p e stamp cell path told l. tt)
       (subst (λ (s : Option Slot). Of (length slots) s) (slice_get_past slots (length slots) (omega arith)) (of_task slots (length slots) m)))
 
   -- and one at its place, where its events begin
-  pub marks_born_here : (slots : List Slot) (seat : Seat) → IsFirst (length slots) (journal_at js seat.home.0) 0 seat.position → MarksAre code U es js slots ms → MarksAre code U es js (slots ++ Here seat ∷ []) ms
+  pub marks_born_here : (slots : List Slot) (seat : Box Seat) → IsFirst (length slots) (journal_at js seat.value.home.0) 0 seat.value.position → MarksAre code U es js slots ms → MarksAre code U es js (slots ++ Here seat ∷ []) ms
   marks_born_here slots seat first m =
       one_more slots (Here seat) m
       (as_left (length slots) None (Some (Here seat))
-      (λ p e stamp cell path told l here. from_first (length slots) seat.position seat.home.0 e stamp cell path first (subst (λ (q : ℕ). IsEvent js q e (record { 0 = length slots }) stamp cell path) here told))
+      (λ p e stamp cell path told l here. from_first (length slots) seat.value.position seat.value.home.0 e stamp cell path first (subst (λ (q : ℕ). IsEvent js q e (record { 0 = length slots }) stamp cell path) here told))
       (λ p e stamp cell path told l. tt)
       (subst (λ (s : Option Slot). Of (length slots) s) (slice_get_past slots (length slots) (omega arith)) (of_task slots (length slots) m)))
 
@@ -161,7 +162,7 @@ left_events shape places es js t seat z left s =
     ∙ (ap (λ (n : ℕ). filter_map (cell_of n) (drop seat.position (journal_at js seat.home.0))) (sym s.number) ∙ s.stood.events)
 
 -- Where a task goes on no more, no event that is left has its cause.
-module _ (shape : Shape) (code : Block) (U : Given) (es : List Entry) (js : List (List PlaceEvent)) (i t : ℕ) (seat : Seat) (z : Player) (left : Cells) (s : IsSeat shape U.places (take i es) js t seat z left) (g : StandsAt code U.places es js i t z left) (stuck : IsStuck es i t z left) where
+module _ (shape : Shape) (code : Block) (U : Given) (es : List Entry) (js : List (List PlaceEvent)) (i t : ℕ) (seat : Box Seat) (z : Player) (left : Cells) (s : IsSeat shape U.places (take i es) js t seat.value z left) (g : StandsAt code U.places es js i t z left) (stuck : IsStuck es i t z left) where
   born : t < 1 + births (take i es)
   born =
       let low = slice_get_within g.starts t g.start g.begins in
@@ -172,16 +173,16 @@ module _ (shape : Shape) (code : Block) (U : Given) (es : List Entry) (js : List
   no_cause p e stamp cell path w told l h =
       let m : IsMade Between code U es js p t (events_before t (journal_at js p) e) = subst (λ (o : Option PlaceEvent). CauseOf Between code U es js p e o) told h in
       let birth : birth_of (take i es) t ≡ birth_of es t = birth_take 0 (opening U.places) es i w.allowed t born in
-      let here : p ≡ seat.home.0 = sym m.home ∙ (ap (λ (b : Birth). b.to.0) (sym birth) ∙ ap (λ (q : PlaceId). q.0) (sym s.home)) in
-      left_event Between code U es js i t p seat.position e stamp z cell path left w g stuck (left_events shape U.places (take i es) js t seat z left s) (l here) told h
+      let here : p ≡ seat.value.home.0 = sym m.home ∙ (ap (λ (b : Birth). b.to.0) (sym birth) ∙ ap (λ (q : PlaceId). q.0) (sym s.home)) in
+      left_event Between code U es js i t p seat.value.position e stamp z cell path left w g stuck (left_events shape U.places (take i es) js t seat.value z left s) (l here) told h
 
   -- so each of its events is marked exactly where it has its cause
   pub all_used : (ms : List (List Bool)) → Of code U es js ms t (Some (Here seat)) → (p e stamp : ℕ) (cell : Cell) (path : List ℕ) → IsEvent js p e (record { 0 = t }) stamp cell path → WholePass code U es js → HasCause Between code U es js p e ↔ (marked ms p e ≡ true)
   all_used ms was p e stamp cell path told w =
-      elim (cases_eq p seat.home.0) [
+      elim (cases_eq p seat.value.home.0) [
         | inr ne ↦ unused (λ here. absurd (ne here))
         | inl here ↦
-            elim (leb_tells seat.position e) [
+            elim (leb_tells seat.value.position e) [
               | inl le ↦ unused (λ _. le.1)
               | inr lt ↦ was.used p e stamp cell path told (λ l. let le = l here in let gt = lt.1 in absurd (omega (arith, le, gt))) w
             ]

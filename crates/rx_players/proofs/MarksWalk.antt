@@ -1,5 +1,6 @@
 -- The marks and the players after a walk of one task.
 use Rattle.std.specs.Prelude.{◌≡◌, ◌≢◌, ◌↔◌, ℕ, suc, ◌+◌, ◌<◌, ◌≤◌, Bool, true, false, List, [], ◌∷◌, length, take, drop, Option, Some, None, slice_get, slice_set, refl}
+use Rattle.std.specs.Global.{Box}
 use Rattle.std.proofs.Common.{ap, sym, subst, ◌∙◌, arith, inl, inr}
 use Rattle.std.proofs.lemmas.Bool.{cases_eq}
 use Rattle.std.proofs.lemmas.Bool.Decides.{leb_tells}
@@ -78,18 +79,18 @@ same_size shape code U es js i old ps P Q = Q.size ∙ (seats-many code U (take 
 
 -- The seat of a task at its place.
 
-pub record Sits (shape : Shape) (places : ℕ) (es : List Entry) (js : List (List PlaceEvent)) (seats : List pass.Seat) (t : ℕ) (seat : Seat) : Type 0 where
+pub record Sits (shape : Shape) (places : ℕ) (es : List Entry) (js : List (List PlaceEvent)) (seats : List pass.Seat) (t : ℕ) (seat : Box Seat) : Type 0 where
   pub player : Player
   pub left : Cells
   pub stands : slice_get seats t ≡ Some (pass.Stands player left)
-  pub is : IsSeat shape places es js t seat player left
+  pub is : IsSeat shape places es js t seat.value player left
 
-here_sits : (shape : Shape) (places : ℕ) (es : List Entry) (js : List (List PlaceEvent)) (seats : List pass.Seat) (t : ℕ) (seat : Seat) (x : pass.Seat) → slice_get seats t ≡ Some x → SlotIs shape places es js t (Here seat) x → Sits shape places es js seats t seat
+here_sits : (shape : Shape) (places : ℕ) (es : List Entry) (js : List (List PlaceEvent)) (seats : List pass.Seat) (t : ℕ) (seat : Box Seat) (x : pass.Seat) → slice_get seats t ≡ Some x → SlotIs shape places es js t (Here seat) x → Sits shape places es js seats t seat
 here_sits shape places es js seats t seat (pass.Away r) at is = absurd is
 here_sits shape places es js seats t seat (pass.Stands z left) at is = record { player = z; left = left; stands = at; is = is }
 here_sits shape places es js seats t seat pass.Over at is = absurd is
 
-module _ (shape : Shape) (code : Block) (U : Given) (es : List Entry) (js : List (List PlaceEvent)) (i : ℕ) (old : Players) (P : PlayersAre shape code U es js i old) (t : ℕ) (seat : Seat) (at : slice_get old.slots.items t ≡ Some (Here seat)) where
+module _ (shape : Shape) (code : Block) (U : Given) (es : List Entry) (js : List (List PlaceEvent)) (i : ℕ) (old : Players) (P : PlayersAre shape code U es js i old) (t : ℕ) (seat : Box Seat) (at : slice_get old.slots.items t ≡ Some (Here seat)) where
   inside : t < length P.seats
   inside =
       let l = slice_get_within old.slots.items t (Here seat) at in
@@ -101,7 +102,7 @@ module _ (shape : Shape) (code : Block) (U : Given) (es : List Entry) (js : List
       let x = get-within P.seats t inside in
       here_sits shape U.places (take i es) js P.seats t seat x.0 x.1 (P.each t (Here seat) x.0 at x.1)
 
-  pub numbered : seat.task.0 < suc (length es)
+  pub numbered : seat.value.task.0 < suc (length es)
   numbered =
       let l = inside in
       let number = sits.is.number in
@@ -117,14 +118,14 @@ in_reach : (low stamp : ℕ) (last : Option ℕ) (moves : Moves) → IsNextOf la
 in_reach low stamp None moves none = subst (λ (m : Moves). KeepsRule Between low stamp m ↔ InReach low None stamp) (sym none) (λ k. k.0, λ k. (k, tt))
 in_reach low stamp (Some n) moves next = subst (λ (m : Moves). KeepsRule Between low stamp m ↔ InReach low (Some n) stamp) (sym next.3) (λ k. k, λ k. k)
 
-module _ (shape : Shape) (code : Block) (U : Given) (es : List Entry) (js : List (List PlaceEvent)) (i t : ℕ) (seat new : Seat) (z y : Player) (left rest : Cells) (s : IsSeat shape U.places (take i es) js t seat z left) (w : Walked shape js seat new z left y rest) where
+module _ (shape : Shape) (code : Block) (U : Given) (es : List Entry) (js : List (List PlaceEvent)) (i t : ℕ) (seat new : Box Seat) (z y : Player) (left rest : Cells) (s : IsSeat shape U.places (take i es) js t seat.value z left) (w : Walked shape js seat.value new.value z left y rest) where
   abbrev home : PlaceId
   home = home_of (take i es) t
 
   abbrev journal : List PlaceEvent
   journal = journal_at js home.0
 
-  pub new_seat : IsSeat shape U.places (take i es) js t new y rest
+  pub new_seat : IsSeat shape U.places (take i es) js t new.value y rest
   new_seat =
       record {
         number = ap (λ (q : TaskId). q.0) w.task ∙ s.number;
@@ -143,31 +144,31 @@ module _ (shape : Shape) (code : Block) (U : Given) (es : List Entry) (js : List
       subst (λ (n : ℕ). IsFirst n journal x.position x.position) is.number (subst (λ (q : PlaceId). IsFirst x.task.0 (journal_at js q.0) x.position x.position) is.home is.stood.first)
 
   -- the walk goes on in the journal
-  pub onward : seat.position ≤ new.position
+  pub onward : seat.value.position ≤ new.value.position
   onward =
-      elim (first_at new y rest new_seat).here [
-        | inl end ↦ (let all = at_most_length t journal seat.position seat.position (first_at seat z left s) in omega (arith, end, all))
+      elim (first_at new.value y rest new_seat).here [
+        | inl end ↦ (let all = at_most_length t journal seat.value.position seat.value.position (first_at seat.value z left s) in omega (arith, end, all))
         | inr own ↦
-            elim (leb_tells seat.position new.position) [
+            elim (leb_tells seat.value.position new.value.position) [
               | inl le ↦ le.1
               | inr lt ↦
                   let back = lt.1 in
                   let fewer = (event_from_player Between [] home 0 z y left rest [] walk_at).1 in
-                  let from_old = ap (λ (k : Cells). length k) (left_events shape U.places (take i es) js t seat z left s) in
-                  let from_new = ap (λ (k : Cells). length k) (left_events shape U.places (take i es) js t new y rest new_seat) in
-                  let one = ap (λ (k : Cells). length k) (from_here t journal new.position own.0 own.1 own.2 own.3) in
-                  let more = later t journal (suc new.position) seat.position (omega (arith, back)) in
+                  let from_old = ap (λ (k : Cells). length k) (left_events shape U.places (take i es) js t seat.value z left s) in
+                  let from_new = ap (λ (k : Cells). length k) (left_events shape U.places (take i es) js t new.value y rest new_seat) in
+                  let one = ap (λ (k : Cells). length k) (from_here t journal new.value.position own.0 own.1 own.2 own.3) in
+                  let more = later t journal (suc new.value.position) seat.value.position (omega (arith, back)) in
                   absurd (omega (arith, fewer, from_old, from_new, one, more))
             ]
       ]
 
   -- the marks after the walk
-  module _ (slots : List Slot) (ms after : List (List Bool)) (last : Option ℕ) (at : slice_get slots t ≡ Some (Here seat)) (g : StandsAt code U.places es js i t z left) (m : MarksAre code U es js slots ms) (used : MarksUsed js ms after new.home.0 new.task.0 seat.position new.position new.low last) (next : IsNextOf last (moves_from i (drop i es) t)) where
+  module _ (slots : List Slot) (ms after : List (List Bool)) (last : Option ℕ) (at : slice_get slots t ≡ Some (Here seat)) (g : StandsAt code U.places es js i t z left) (m : MarksAre code U es js slots ms) (used : MarksUsed js ms after new.value.home.0 new.value.task.0 seat.value.position new.value.position new.value.low last) (next : IsNextOf last (moves_from i (drop i es) t)) where
     was : Of code U es js ms t (Some (Here seat))
     was = subst (λ (x : Option Slot). Of code U es js ms t x) at (of_task code U es js ms slots t m)
 
     -- where nothing was marked
-    same_mark : (p e : ℕ) (task : TaskId) (stamp : ℕ) (cell : Cell) (path : List ℕ) → IsEvent js p e task stamp cell path → (p ≡ new.home.0 → task.0 ≡ new.task.0 → seat.position ≤ e → e < new.position → ⊥) → marked after p e ≡ marked ms p e
+    same_mark : (p e : ℕ) (task : TaskId) (stamp : ℕ) (cell : Cell) (path : List ℕ) → IsEvent js p e task stamp cell path → (p ≡ new.value.home.0 → task.0 ≡ new.value.task.0 → seat.value.position ≤ e → e < new.value.position → ⊥) → marked after p e ≡ marked ms p e
     same_mark = used.others
 
     left_is : (p e stamp : ℕ) (cell : Cell) (path : List ℕ) → IsEvent js p e (record { 0 = t }) stamp cell path → IsLeft (Some (Here new)) p e → marked after p e ≡ false
@@ -175,29 +176,29 @@ module _ (shape : Shape) (code : Block) (U : Given) (es : List Entry) (js : List
         same_mark p e (record { 0 = t }) stamp cell path told (λ here x le lt. let on = l here in absurd (omega (arith, on, lt)))
         ∙ was.left p e stamp cell path told (λ here. let on = l (here ∙ ap (λ (q : PlaceId). q.0) (sym w.home)) in let go = onward in omega (arith, on, go))
 
-    exact : (e stamp : ℕ) (cell : Cell) (path : List ℕ) → IsEvent js new.home.0 e (record { 0 = t }) stamp cell path → seat.position ≤ e → e < new.position → WholePass code U es js → HasCause Between code U es js new.home.0 e ↔ (marked after new.home.0 e ≡ true)
+    exact : (e stamp : ℕ) (cell : Cell) (path : List ℕ) → IsEvent js new.value.home.0 e (record { 0 = t }) stamp cell path → seat.value.position ≤ e → e < new.value.position → WholePass code U es js → HasCause Between code U es js new.value.home.0 e ↔ (marked after new.value.home.0 e ≡ true)
     exact e stamp cell path told le lt all =
-        let here : new.home ≡ home = new_seat.home in
+        let here : new.value.home ≡ home = new_seat.home in
         let there : IsEvent js home.0 e (record { 0 = t }) stamp cell path = subst (λ (q : PlaceId). IsEvent js q.0 e (record { 0 = t }) stamp cell path) here told in
-        let is : IsExact code U es js i t all e stamp = used_exactly code U es js i t all z y left rest seat.position new.position e stamp cell path walk_at g
-        (left_events shape U.places (take i es) js t seat z left s) (left_events shape U.places (take i es) js t new y rest new_seat) le lt there in
-        let so : (KeepsRule Between new.low stamp (moves_from i (drop i es) t) → HasCause Between code U es js new.home.0 e) × (HasCause Between code U es js new.home.0 e → KeepsRule Between new.low stamp (moves_from i (drop i es) t)) =
-        subst (λ (n : ℕ). (KeepsRule Between n stamp (moves_from i (drop i es) t) → HasCause Between code U es js new.home.0 e) × (HasCause Between code U es js new.home.0 e → KeepsRule Between n stamp (moves_from i (drop i es) t))) (sym new_seat.low)
+        let is : IsExact code U es js i t all e stamp = used_exactly code U es js i t all z y left rest seat.value.position new.value.position e stamp cell path walk_at g
+        (left_events shape U.places (take i es) js t seat.value z left s) (left_events shape U.places (take i es) js t new.value y rest new_seat) le lt there in
+        let so : (KeepsRule Between new.value.low stamp (moves_from i (drop i es) t) → HasCause Between code U es js new.value.home.0 e) × (HasCause Between code U es js new.value.home.0 e → KeepsRule Between new.value.low stamp (moves_from i (drop i es) t)) =
+        subst (λ (n : ℕ). (KeepsRule Between n stamp (moves_from i (drop i es) t) → HasCause Between code U es js new.value.home.0 e) × (HasCause Between code U es js new.value.home.0 e → KeepsRule Between n stamp (moves_from i (drop i es) t))) (sym new_seat.low)
         (subst (λ (q : PlaceId). (KeepsRule Between (low_of (take i es) t) stamp (moves_from i (drop i es) t) → HasCause Between code U es js q.0 e) × (HasCause Between code U es js q.0 e → KeepsRule Between (low_of (take i es) t) stamp (moves_from i (drop i es) t))) (sym here) is) in
-        let reach = in_reach new.low stamp last (moves_from i (drop i es) t) next in
-        let unmarked : marked ms new.home.0 e ≡ false = was.left new.home.0 e stamp cell path told (λ _. le) in
-        let mark = used.mine e stamp cell path le lt (subst (λ (n : ℕ). IsEvent js new.home.0 e (record { 0 = n }) stamp cell path) (sym new_seat.number) told) unmarked in
+        let reach = in_reach new.value.low stamp last (moves_from i (drop i es) t) next in
+        let unmarked : marked ms new.value.home.0 e ≡ false = was.left new.value.home.0 e stamp cell path told (λ _. le) in
+        let mark = used.mine e stamp cell path le lt (subst (λ (n : ℕ). IsEvent js new.value.home.0 e (record { 0 = n }) stamp cell path) (sym new_seat.number) told) unmarked in
         (λ h. mark.0 (reach.0 (so.1 h)), λ k. so.0 (reach.1 (mark.1 k)))
 
     used_is : (p e stamp : ℕ) (cell : Cell) (path : List ℕ) → IsEvent js p e (record { 0 = t }) stamp cell path → (IsLeft (Some (Here new)) p e → ⊥) → WholePass code U es js → HasCause Between code U es js p e ↔ (marked after p e ≡ true)
     used_is p e stamp cell path told n all =
-        elim (cases_eq p new.home.0) [
+        elim (cases_eq p new.value.home.0) [
           | inr ne ↦ absurd (n (λ here. absurd (ne here)))
           | inl here ↦
-              elim (leb_tells new.position e) [
+              elim (leb_tells new.value.position e) [
                 | inl on ↦ absurd (n (λ _. on.1))
                 | inr lt ↦
-                    elim (leb_tells seat.position e) [
+                    elim (leb_tells seat.value.position e) [
                       | inl le ↦
                           subst (λ (q : ℕ). HasCause Between code U es js q e ↔ (marked after q e ≡ true)) (sym here)
                           (exact e stamp cell path (subst (λ (q : ℕ). IsEvent js q e (record { 0 = t }) stamp cell path) here told) le.1 lt.1 all)
@@ -232,15 +233,15 @@ module _ (shape : Shape) (code : Block) (U : Given) (es : List Entry) (js : List
           ]
 
 -- The players after it.
-module _ (shape : Shape) (code : Block) (U : Given) (es : List Entry) (js : List (List PlaceEvent)) (i : ℕ) (old ps : Players) (P : PlayersAre shape code U es js i old) (t : ℕ) (seat new : Seat) (last : Option ℕ) (at : slice_get old.slots.items t ≡ Some (Here seat)) (tell : SeatsTell) (walk : SeatsWalk) where
+module _ (shape : Shape) (code : Block) (U : Given) (es : List Entry) (js : List (List PlaceEvent)) (i : ℕ) (old ps : Players) (P : PlayersAre shape code U es js i old) (t : ℕ) (seat new : Box Seat) (last : Option ℕ) (at : slice_get old.slots.items t ≡ Some (Here seat)) (tell : SeatsTell) (walk : SeatsWalk) where
   abbrev at_seat : Sits shape U.places (take i es) js P.seats t seat
   at_seat = sits shape code U es js i old P t seat at
 
-  module _ (y : Player) (rest : Cells) (w : Walked shape js seat new at_seat.player at_seat.left y rest) (slots : ps.slots.items ≡ slice_set old.slots.items t (Here new)) (table : ps.table ≡ old.table) (used : MarksUsed js old.marks ps.marks new.home.0 new.task.0 seat.position new.position new.low last) (next : IsNextOf last (moves_from i (drop i es) t)) where
+  module _ (y : Player) (rest : Cells) (w : Walked shape js seat.value new.value at_seat.player at_seat.left y rest) (slots : ps.slots.items ≡ slice_set old.slots.items t (Here new)) (table : ps.table ≡ old.table) (used : MarksUsed js old.marks ps.marks new.value.home.0 new.value.task.0 seat.value.position new.value.position new.value.low last) (next : IsNextOf last (moves_from i (drop i es) t)) where
     abbrev seats : List pass.Seat
     seats = slice_set P.seats t (pass.Stands y rest)
 
-    is_new : IsSeat shape U.places (take i es) js t new y rest
+    is_new : IsSeat shape U.places (take i es) js t new.value y rest
     is_new = new_seat shape code U es js i t seat new at_seat.player y at_seat.left rest at_seat.is w
 
     each : (u : ℕ) (slot : Slot) (x : pass.Seat) → slice_get ps.slots.items u ≡ Some slot → slice_get seats u ≡ Some x → SlotIs shape U.places (take i es) js u slot x
@@ -254,7 +255,7 @@ module _ (shape : Shape) (code : Block) (U : Given) (es : List Entry) (js : List
               let d : x ≡ pass.Stands y rest = cc in
               subst (λ (k : Slot). SlotIs shape U.places (take i es) js u k x) (sym c)
               (subst (λ (k : pass.Seat). SlotIs shape U.places (take i es) js u (Here new) k) (sym d)
-              (subst (λ (n : ℕ). IsSeat shape U.places (take i es) js n new y rest) (sym same) is_new))
+              (subst (λ (n : ℕ). IsSeat shape U.places (take i es) js n new.value y rest) (sym same) is_new))
           | inr ne ↦
               P.each u slot x (sym (get_other old.slots.items t u (Here new) ne) ∙ found) (sym (get_other P.seats t u (pass.Stands y rest) ne) ∙ there)
         ]
@@ -272,7 +273,7 @@ module _ (shape : Shape) (code : Block) (U : Given) (es : List Entry) (js : List
               ((tell code U es js).2 i P.seats t at_seat.player at_seat.left P.seated at_seat.stands) P.marks used next);
         }
 
-    pub walked : (stop : Stop) → Stops stop new y rest → (after : PlayersAre shape code U es js i ps) × StopsAt shape U es js i t ps stop after.seats × ((u : ℕ) → u ≢ t → slice_get after.seats u ≡ slice_get P.seats u)
+    pub walked : (stop : Stop) → Stops stop new.value y rest → (after : PlayersAre shape code U es js i ps) × StopsAt shape U es js i t ps stop after.seats × ((u : ℕ) → u ≢ t → slice_get after.seats u ≡ slice_get P.seats u)
     unfolding players_walked
     walked stop stops = (
       players_walked,

@@ -1,5 +1,6 @@
 -- The players before the first entry.
 use Rattle.std.specs.Prelude.{◌≡◌, ℕ, zero, suc, ◌*◌, ◌≤◌, Bool, List, [], ◌∷◌, ◌++◌, length, drop, Some, slice_get}
+use Rattle.std.specs.Global.{Box}
 use Rattle.std.specs.List.{filter_map}
 use Rattle.std.proofs.Common.{ap, sym, subst, ◌∙◌, arith}
 use Rattle.rx_base.specs.declared.ids.PlaceId.{PlaceId}
@@ -33,7 +34,7 @@ use Rattle.rx_players.proofs.MarksOn.{marks_born_here}
 pub one_slot : (some all : List Slot) (slot : Slot) → all ≡ some ++ slot ∷ [] → some ≡ [] → all ≡ slot ∷ []
 one_slot some all slot e h = e ∙ ap (λ (l : List Slot). l ++ slot ∷ []) h
 
-at_first : (shape : Shape) (code : Block) (U : Given) (js : List (List PlaceEvent)) (seat : Seat) → IsSeat shape U.places [] js 0 seat (fresh (main_start code U.places)) (cells_of [] js 0) → (t : ℕ) (slot : Slot) (x : pass.Seat) → slice_get (Here seat ∷ []) t ≡ Some slot → slice_get (opening_seats code U js) t ≡ Some x → SlotIs shape U.places [] js t slot x
+at_first : (shape : Shape) (code : Block) (U : Given) (js : List (List PlaceEvent)) (seat : Box Seat) → IsSeat shape U.places [] js 0 seat.value (fresh (main_start code U.places)) (cells_of [] js 0) → (t : ℕ) (slot : Slot) (x : pass.Seat) → slice_get (Here seat ∷ []) t ≡ Some slot → slice_get (opening_seats code U js) t ≡ Some x → SlotIs shape U.places [] js t slot x
 at_first shape code U js seat here zero slot x at is =
     let a : Here seat ≡ slot = cc in
     let b : pass.Stands (fresh (main_start code U.places)) (cells_of [] js 0) ≡ x = cc in
@@ -50,18 +51,18 @@ no_events_used code U es js none =
       used = λ p e task stamp cell path at used whole. absurd (used tt);
     }
 
-pub opened : (shape : Shape) (code : Block) (U : Given) (es : List Entry) (js : List (List PlaceEvent)) (seat : Seat) (ps : Players) → SeatsTell → NoMarks → 1 ≤ U.places → U.places ≤ 16 → work code ≤ 100000 → steps (items code [] Empty) ≡ 3 * work code → StandsFor shape seat.control (items code [] Empty) → seat.control.vars ≡ no_vars U.places → seat.batch ≡ [] → seat.task ≡ record { 0 = 0 } → seat.home ≡ record { 0 = 0 } → IsFirst 0 (journal_at js 0) 0 seat.position → seat.low ≡ 0 → ps.slots.items ≡ Here seat ∷ [] → TableIs js (suc (length es)) ps.table → ps.marks ≡ no_marks js → PlayersAre shape code U es js 0 ps
-opened shape code U es js seat ps tell none some few small size stands vars batch task home position low slots table marks =
+pub opened : (shape : Shape) (code : Block) (U : Given) (es : List Entry) (js : List (List PlaceEvent)) (seat : Box Seat) (own : Seat) (ps : Players) → seat.value ≡ own → SeatsTell → NoMarks → 1 ≤ U.places → U.places ≤ 16 → work code ≤ 100000 → steps (items code [] Empty) ≡ 3 * work code → StandsFor shape own.control (items code [] Empty) → own.control.vars ≡ no_vars U.places → own.batch ≡ [] → own.task ≡ record { 0 = 0 } → own.home ≡ record { 0 = 0 } → IsFirst 0 (journal_at js 0) 0 own.position → own.low ≡ 0 → ps.slots.items ≡ Here seat ∷ [] → TableIs js (suc (length es)) ps.table → ps.marks ≡ no_marks js → PlayersAre shape code U es js 0 ps
+opened shape code U es js seat own ps is tell none some few small size stands vars batch task home position low slots table marks =
     let known : U.places ≤ U.places = omega arith in
     let fits : steps (items code [] Empty) ≤ 300000 = omega (arith, small, size) in
-    let first : IsFirst seat.task.0 (journal_at js seat.home.0) 0 seat.position =
-    subst (λ (t : TaskId). IsFirst t.0 (journal_at js seat.home.0) 0 seat.position) (sym task)
-    (subst (λ (p : PlaceId). IsFirst 0 (journal_at js p.0) 0 seat.position) (sym home) position) in
-    let events : filter_map (cell_of seat.task.0) (drop seat.position (journal_at js seat.home.0)) ≡ cells_of [] js 0 =
+    let first : IsFirst own.task.0 (journal_at js own.home.0) 0 own.position =
+    subst (λ (t : TaskId). IsFirst t.0 (journal_at js own.home.0) 0 own.position) (sym task)
+    (subst (λ (p : PlaceId). IsFirst 0 (journal_at js p.0) 0 own.position) (sym home) position) in
+    let events : filter_map (cell_of own.task.0) (drop own.position (journal_at js own.home.0)) ≡ cells_of [] js 0 =
     first.same
-    ∙ (ap (λ (t : TaskId). filter_map (cell_of t.0) (journal_at js seat.home.0)) task
+    ∙ (ap (λ (t : TaskId). filter_map (cell_of t.0) (journal_at js own.home.0)) task
     ∙ ap (λ (p : PlaceId). filter_map (cell_of 0) (journal_at js p.0)) home) in
-    let here : IsSeat shape U.places [] js 0 seat (fresh (main_start code U.places)) (cells_of [] js 0) =
+    let here : IsSeat shape U.places [] js 0 own (fresh (main_start code U.places)) (cells_of [] js 0) =
     record {
       number = ap (λ (t : TaskId). t.0) task;
       home = home;
@@ -72,17 +73,21 @@ opened shape code U es js seat ps tell none some few small size stands vars batc
         vars = vars;
         batch = batch;
         events = events;
-        first = first_again seat.task.0 (journal_at js seat.home.0) 0 seat.position first;
+        first = first_again own.task.0 (journal_at js own.home.0) 0 own.position first;
         few = fits;
       };
     } in
-    let born : IsFirst 0 (journal_at js seat.home.0) 0 seat.position = subst (λ (p : PlaceId). IsFirst 0 (journal_at js p.0) 0 seat.position) (sym home) position in
+    let in_box : IsSeat shape U.places [] js 0 seat.value (fresh (main_start code U.places)) (cells_of [] js 0) =
+    subst (λ (v : Seat). IsSeat shape U.places [] js 0 v (fresh (main_start code U.places)) (cells_of [] js 0)) (sym is) here in
+    let born : IsFirst 0 (journal_at js seat.value.home.0) 0 seat.value.position =
+    subst (λ (v : Seat). IsFirst 0 (journal_at js v.home.0) 0 v.position) (sym is)
+    (subst (λ (p : PlaceId). IsFirst 0 (journal_at js p.0) 0 own.position) (sym home) position) in
     let used : MarksAre code U es js (Here seat ∷ []) (no_marks js) = marks_born_here code U es js (no_marks js) [] seat born (no_events_used code U es js none) in
     record {
       seats = opening_seats code U js;
       seated = (tell code U [] js).0 some few;
       size = ap length slots;
-      each = λ t slot x at is. at_first shape code U js seat here t slot x (ap (λ (l : List Slot). slice_get l t) (sym slots) ∙ at) is;
+      each = λ t slot x at on. at_first shape code U js seat in_box t slot x (ap (λ (l : List Slot). slice_get l t) (sym slots) ∙ at) on;
       table = table;
       marks = subst (λ (l : List Slot). MarksAre code U es js l ps.marks) (sym slots) (subst (λ (ms : List (List Bool)). MarksAre code U es js (Here seat ∷ []) ms) (sym marks) used);
     }

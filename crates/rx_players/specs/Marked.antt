@@ -21,7 +21,7 @@ use Rattle.rx_players.specs.declared.players.Slot.TheVariants.{Away, Here, Over}
 abbrev pub IsLeft : Option Slot → ℕ → ℕ → Type 0
 IsLeft None p e = Unit {0}
 IsLeft (Some (Away seat)) p e = Unit {0}
-IsLeft (Some (Here seat)) p e = p ≡ seat.home.0 → seat.position ≤ e
+IsLeft (Some (Here seat)) p e = p ≡ seat.value.home.0 → seat.value.position ≤ e
 IsLeft (Some Over) p e = ⊥
 
 -- Events that are left are not marked. One that is not left is marked exactly where it has its cause, with its stamp between the

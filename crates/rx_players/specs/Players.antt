@@ -1,5 +1,6 @@
 -- What players keep of the tasks of a history, and what an entry makes of it.
 use Rattle.std.specs.Prelude.{◌≡◌, ℕ, suc, ◌≤◌, Bool, true, false, List, length, take, Some, slice_get}
+use Rattle.std.specs.Global.{Box}
 use Rattle.rx_rules.specs.declared.entries.Entry.{Entry}
 use Rattle.rx_rules.specs.declared.events.PlaceEvent.{PlaceEvent}
 use Rattle.rx_rules.specs.Code.{Block}
@@ -35,8 +36,8 @@ pub record IsSeat (shape : Shape) (places : ℕ) (es : List Entry) (js : List (L
 
 -- the slot of task t holds what the pass keeps of it: it travels, or has come to a player, or has ended
 abbrev pub SlotIs : Shape → ℕ → List Entry → List (List PlaceEvent) → ℕ → Slot → pass.Seat → Type 0
-SlotIs shape places es js t (Away seat) (pass.Away r) = IsSeat shape places es js t seat (fresh r) (cells_of es js t)
-SlotIs shape places es js t (Here seat) (pass.Stands z left) = IsSeat shape places es js t seat z left
+SlotIs shape places es js t (Away seat) (pass.Away r) = IsSeat shape places es js t seat.value (fresh r) (cells_of es js t)
+SlotIs shape places es js t (Here seat) (pass.Stands z left) = IsSeat shape places es js t seat.value z left
 SlotIs shape places es js t Over pass.Over = Unit {0}
 SlotIs shape places es js t slot seat = ⊥
 
@@ -54,12 +55,12 @@ pub record PlayersAre (shape : Shape) (code : Block) (U : Given) (es : List Entr
 -- task t has come to the player z, where it stops, with these events left
 pub record StopsAt (shape : Shape) (U : Given) (es : List Entry) (js : List (List PlaceEvent)) (i t : ℕ) (ps : Players) (stop : Stop)
     (seats : List pass.Seat) : Type 0 where
-  pub seat : Seat
+  pub seat : Box Seat
   pub slot : slice_get ps.slots.items t ≡ Some (Here seat)
   pub player : Player
   pub left : Cells
   pub stands : slice_get seats t ≡ Some (pass.Stands player left)
-  pub stops : Stops stop seat player left
+  pub stops : Stops stop seat.value player left
 
 -- before entry i: the players stand for the tasks, and the entry may follow
 pub record Awaits (shape : Shape) (code : Block) (U : Given) (es : List Entry) (js : List (List PlaceEvent)) (i : ℕ) (ps : Players)

@@ -1,5 +1,6 @@
 // Whether an entry is what its task makes.
 ghost use Rattle.std.specs.Prelude.{◌≡◌, ◌+◌, ◌<◌, ◌^◌, ◌⊎◌, ◌++◌, ℕ, List, Some, IfOk, OnOk, length, option_to_list, slice_get, slice_set};
+ghost use Rattle.std.specs.Global.{Box};
 ghost use Rattle.rx_rules.specs.declared.entries.Entry.{Entry};
 ghost use Rattle.rx_rules.specs.declared.entries.Entry.TheVariants.{Step};
 ghost use Rattle.rx_rules.specs.declared.events.PlaceEvent.{PlaceEvent};
@@ -84,10 +85,10 @@ impl Players {
     // Whether the entry of a task that travels is its arrival; it is at its place then.
     fn land(&mut self, number: u32, task: TaskId, act: &Act, batch: &Batch) -> bool
         requires less { number + 1 < 2 ^ 32 }
-        requires awaits { (shape : Shape) × (code : Block) × (U : Given) × (es : List Entry) × (js : List (List PlaceEvent)) × (seat : Seat)
-            × Awaits shape code U es js number self.old (Step task act.now batch.now)
+        requires awaits { (shape : Shape) × (code : Block) × (U : Given) × (es : List Entry) × (js : List (List PlaceEvent))
+            × (seat : Box Seat) × Awaits shape code U es js number self.old (Step task act.now batch.now)
             × (slice_get self.old.slots.items task.0 ≡ Some (Away seat)) }
-        ensures { (shape : Shape) (code : Block) (U : Given) (es : List Entry) (js : List (List PlaceEvent)) (seat : Seat)
+        ensures { (shape : Shape) (code : Block) (U : Given) (es : List Entry) (js : List (List PlaceEvent)) (seat : Box Seat)
             → Awaits shape code U es js number self.old (Step task act.now batch.now)
             → slice_get self.old.slots.items task.0 ≡ Some (Away seat) → AfterEntry shape code U es js number self.new result }
     {
@@ -116,7 +117,7 @@ impl Players {
         batch: &Batch,
     ) -> Result<bool, NoMemory>
         requires less { number + 1 < 2 ^ 32 }
-        requires awaits { (code : Block) × (U : Given) × (es : List Entry) × (seat : Seat)
+        requires awaits { (code : Block) × (U : Given) × (es : List Entry) × (seat : Box Seat)
             × Awaits p.now.script code U es (events_of journals.now) number self.old (Step task act.now batch.now)
             × (slice_get self.old.slots.items task.0 ≡ Some (Here seat)) }
         ensures { IfOk result (IsMade p.now.script (events_of journals.now) number self.old self.new (Step task act.now batch.now)) }
@@ -142,6 +143,7 @@ impl Players {
         let Slot::Here(seat) = &mut self.slots[task.0 as usize] else {
             unreachable!()
         };
+        let seat = &mut **seat;
         let Act::End { thrown } = act else {
             return false;
         };
@@ -179,6 +181,7 @@ impl Players {
         let Slot::Here(seat) = &self.slots[task.0 as usize] else {
             unreachable!()
         };
+        let seat = &**seat;
         if !is_wanted(&want, seat.home, act) {
             return Ok(false);
         }
@@ -204,15 +207,16 @@ fn go_on_at(
     act: &Act,
 ) -> Result<bool, NoMemory>
     requires less { number + 1 < 2 ^ 32 }
-    requires asks { (seat : Seat) × (js : List (List PlaceEvent)) × (z : Player) × (left : Cells)
-        × (slice_get slots.old.items task.0 ≡ Some (Here seat)) × Stood p.now.script js seat z left
-        × IsAsked seat.home (next_does seat.home z) act.now × CountsMore seat.control.vars.places act.now }
-    ensures { IfOk result (λ b. (seat : Seat) → slice_get slots.old.items task.0 ≡ Some (Here seat)
-        → GoesOn p.now.script slots.old.items slots.new.items number task seat act.now b) }
+    requires asks { (seat : Box Seat) × (js : List (List PlaceEvent)) × (z : Player) × (left : Cells)
+        × (slice_get slots.old.items task.0 ≡ Some (Here seat)) × Stood p.now.script js seat.value z left
+        × IsAsked seat.value.home (next_does seat.value.home z) act.now × CountsMore seat.value.control.vars.places act.now }
+    ensures { IfOk result (λ b. (seat : Box Seat) → slice_get slots.old.items task.0 ≡ Some (Here seat)
+        → GoesOn p.now.script slots.old.items slots.new.items number task seat.value act.now b) }
 {
     let Slot::Here(seat) = &mut slots[task.0 as usize] else {
         unreachable!()
     };
+    let seat = &mut **seat;
     seat.go_on(alloc, p, number, act)
 }
 
@@ -263,26 +267,27 @@ fn child_of(
     seat: &Seat,
     task: TaskId,
     to: PlaceId,
-) -> Result<Seat, NoMemory>
+) -> Result<Box<Seat>, NoMemory>
     requires less { number + 1 < 2 ^ 32 }
     requires begins { (js : List (List PlaceEvent)) × (z : Player) × (left : Cells) × (x : List ℕ) × Stood p.now.script js seat.now z left
         × (begins z.term ≡ Some x) }
     ensures { IfOk result (λ child. (js : List (List PlaceEvent)) (z : Player) (left : Cells) (x : List ℕ)
         → Stood p.now.script js seat.now z left → begins z.term ≡ Some x
-        → IsChild p.now.script table.now number z task to child) }
+        → IsChild p.now.script table.now number z task to child.value) }
 {
-    Ok(Seat {
+    let child = Seat {
         task,
         home: to,
         control: seat.control.child(alloc, p)?,
         batch: Batch::open(alloc),
         position: table.first(to, task),
         low: number + 1,
-    })
+    };
+    Ok(Box::new(alloc, child)?)
 }
 
 /// The slot of a task that is started at one place for another, or for the same.
-fn born_slot(from: PlaceId, to: PlaceId, seat: Seat) -> Slot
+fn born_slot(from: PlaceId, to: PlaceId, seat: Box<Seat>) -> Slot
     ensures { result ≡ slot_for from to seat }
 {
     if from == to {
@@ -293,11 +298,11 @@ fn born_slot(from: PlaceId, to: PlaceId, seat: Seat) -> Slot
 }
 
 /// Takes the seat of a task that has not ended out of its slot, which is over then.
-fn take_seat(slots: &mut Vec<Slot>, task: TaskId) -> Seat
-    requires { (seat : Seat)
+fn take_seat(slots: &mut Vec<Slot>, task: TaskId) -> Box<Seat>
+    requires { (seat : Box Seat)
         × ((slice_get slots.old.items task.0 ≡ Some (Away seat)) ⊎ (slice_get slots.old.items task.0 ≡ Some (Here seat))) }
-    ensures away { (seat : Seat) → slice_get slots.old.items task.0 ≡ Some (Away seat) → result ≡ seat }
-    ensures here { (seat : Seat) → slice_get slots.old.items task.0 ≡ Some (Here seat) → result ≡ seat }
+    ensures away { (seat : Box Seat) → slice_get slots.old.items task.0 ≡ Some (Away seat) → result ≡ seat }
+    ensures here { (seat : Box Seat) → slice_get slots.old.items task.0 ≡ Some (Here seat) → result ≡ seat }
     ensures left { slots.new.items ≡ slice_set slots.old.items task.0 Over }
 {
     match std::mem::replace(&mut slots[task.0 as usize], Slot::Over) {
@@ -308,7 +313,7 @@ fn take_seat(slots: &mut Vec<Slot>, task: TaskId) -> Seat
 }
 
 /// Puts the seat of a task that is at its place into its slot.
-fn put_back(slots: &mut Vec<Slot>, task: TaskId, seat: Seat)
+fn put_back(slots: &mut Vec<Slot>, task: TaskId, seat: Box<Seat>)
     requires { task.0 < length slots.old.items }
     ensures { slots.new.items ≡ slice_set slots.old.items task.0 (Here seat) }
 {

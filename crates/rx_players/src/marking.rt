@@ -1,5 +1,6 @@
 // Walks of tasks, with the marks on the events that they use.
 ghost use Rattle.std.specs.Prelude.{◌≡◌, ◌≢◌, ◌↔◌, ◌+◌, ◌<◌, ◌≤◌, ℕ, List, Option, Some, drop, length, slice_get, IsTrue, IfOk};
+ghost use Rattle.std.specs.Global.{Box};
 ghost use Rattle.rx_rules.specs.declared.entries.Entry.{Entry};
 ghost use Rattle.rx_rules.specs.Code.{Block};
 ghost use Rattle.rx_rules.specs.Plays.{journal_at, moves_from};
@@ -36,7 +37,7 @@ impl Players {
         t: usize,
         last: Option<u32>,
     ) -> Result<Stop, NoMemory>
-        requires { (code : Block) × (U : Given) × (es : List Entry) × (i : ℕ) × (seat : Seat) × Stands p.now.script code
+        requires { (code : Block) × (U : Given) × (es : List Entry) × (i : ℕ) × (seat : Box Seat) × Stands p.now.script code
             × PlayersAre p.now.script code U es (events_of journals.now) i self.old
             × (slice_get self.old.slots.items t ≡ Some (Here seat)) }
         ensures { IfOk result (λ stop. (code : Block) (U : Given) (es : List Entry) (i : ℕ) → Stands p.now.script code
@@ -51,6 +52,7 @@ impl Players {
         let Slot::Here(seat) = &mut self.slots[t] else {
             unreachable!()
         };
+        let seat = &mut **seat;
         let from = seat.position;
         let stop = seat.advance(alloc, p, journals, &self.table)?;
         mark_used(&mut self.marks, journals, &self.table, seat, from, last);

@@ -16,13 +16,13 @@ use rx_history::Journals;
 use rx_replay::Marks;
 use std::alloc::Global;
 
-/// What is kept of one task.
+/// What is kept of one task. A seat lies by itself in memory, which is given back when its task ends.
 #[derive(Drop)]
 pub enum Slot {
     /// It travels to its place, and has its start still to run.
-    Away(Seat),
+    Away(Box<Seat>),
     /// It is at its place.
-    Here(Seat),
+    Here(Box<Seat>),
     /// It has ended.
     Over,
 }
@@ -65,7 +65,7 @@ impl Players {
             low: 0,
         };
         let mut slots = Vec::new(alloc);
-        slots.push(Slot::Here(seat))?;
+        slots.push(Slot::Here(Box::new(alloc, seat)?))?;
         Ok(Players {
             slots,
             table,

@@ -1,5 +1,6 @@
 -- What a request to the ledger asks of an act, and how its task goes on.
 use Rattle.std.specs.Prelude.{◌≡◌, ℕ, suc, ◌<◌, ◌≤◌, Bool, true, false, cond, ◌&&◌, ◌==◌, List, [], Option, Some, None, slice_set}
+use Rattle.std.specs.Global.{Box}
 use Rattle.std.specs.Ordering.{int_eq}
 use Rattle.rx_base.specs.declared.ids.PlaceId.{PlaceId}
 use Rattle.rx_base.specs.declared.ids.TaskId.{TaskId}
@@ -99,9 +100,9 @@ AfterRequest shape js old new number z left act false = Fits old.home z.term (ne
 -- a task has gone on in its slot after a request, or the act is not its request
 abbrev pub GoesOn : Shape → List Slot → List Slot → ℕ → TaskId → Seat → Act → Bool → Type 0
 GoesOn shape old new number task seat act b =
-    (on : Seat) × (new ≡ slice_set old task.0 (Here on))
+    (on : Box Seat) × (new ≡ slice_set old task.0 (Here on))
     × ((js : List (List PlaceEvent)) (z : Player) (left : Cells) → Stood shape js seat z left
-    → IsAsked seat.home (next_does seat.home z) act → AfterRequest shape js seat on number z left act b)
+    → IsAsked seat.home (next_does seat.home z) act → AfterRequest shape js seat on.value number z left act b)
 
 -- the seat of a task that the player z starts by its entry with this number, for a place
 pub record IsChild (shape : Shape) (table : EventTable) (number : ℕ) (z : Player) (c : TaskId) (to : PlaceId) (seat : Seat)
@@ -117,13 +118,13 @@ pub record IsChild (shape : Shape) (table : EventTable) (number : ℕ) (z : Play
       → IsFirst c.0 (journal_at js to.0) 0 seat.position
 
 -- its slot: it is at its place, or travels to it
-abbrev pub slot_for : PlaceId → PlaceId → Seat → Slot
+abbrev pub slot_for : PlaceId → PlaceId → Box Seat → Slot
 slot_for from to seat = cond (from.0 == to.0) (Here seat) (Away seat)
 
 -- the slot of the task that an act of the player starts, or none
 abbrev pub IsNewborn : Shape → EventTable → ℕ → Player → Act → Option Slot → Type 0
 IsNewborn shape table number z (Calls s r c from to x) o =
-    (seat : Seat) × (o ≡ Some (slot_for from to seat)) × IsChild shape table number z c to seat
+    (seat : Box Seat) × (o ≡ Some (slot_for from to seat)) × IsChild shape table number z c to seat.value
 IsNewborn shape table number z (Spawn c s from to x) o =
-    (seat : Seat) × (o ≡ Some (slot_for from to seat)) × IsChild shape table number z c to seat
+    (seat : Box Seat) × (o ≡ Some (slot_for from to seat)) × IsChild shape table number z c to seat.value
 IsNewborn shape table number z act o = o ≡ None

@@ -1,4 +1,5 @@
 use Rattle.std.proofs.Common.{◌≡◌, ℕ, ◌<◌, List, refl, ap, sym, subst, ◌∙◌}
+use Rattle.std.specs.Global.{Box}
 use Rattle.std.proofs.lemmas.Bool.{true≢false}
 use Rattle.std.proofs.lemmas.List.{length-set}
 use Rattle.std.proofs.lemmas.Option.{slice_get_within}
@@ -16,7 +17,7 @@ returns-in_default-act c = λ shape code U es js i h k.
 
 pub returns-then-not-same_batch : goal.returns-then-not-same_batch
 returns-then-not-same_batch c = λ shape code U es js i h k.
-    let e = same_seat c.args.self.now.slots.items c.args.task.0 c.index_mut.result.now c.in-Here.seat h.stops.seat c.index_mut.ensures.value c.in-Here.is h.stops.slot in
+    let e = c.deref_mut-seat.ensures.value ∙ ap (λ (v : Box Seat). v.value) (same_seat c.args.self.now.slots.items c.args.task.0 c.index_mut.result.now c.in-Here.seat h.stops.seat c.index_mut.ensures.value c.in-Here.is h.stops.slot) in
     let same = (ends_only shape code U es js i c.args.self.now c.args.task c.args.act.now c.args.batch.now h c.seats_end.ensures k).0 in
     true≢false (sym (c.same_batch.ensures.1 (ap (λ (v : Seat). v.batch) e ∙ sym same)) ∙ c.if-not-same_batch.true)
 
@@ -28,10 +29,10 @@ close-requires c =
 
 pub returns-then-not-same_faults : goal.returns-then-not-same_faults
 returns-then-not-same_faults c = λ shape code U es js i h k.
-    let e = same_seat c.args.self.now.slots.items c.args.task.0 c.index_mut.result.now c.in-Here.seat h.stops.seat c.index_mut.ensures.value c.in-Here.is h.stops.slot in
+    let e = c.deref_mut-seat.ensures.value ∙ ap (λ (v : Box Seat). v.value) (same_seat c.args.self.now.slots.items c.args.task.0 c.index_mut.result.now c.in-Here.seat h.stops.seat c.index_mut.ensures.value c.in-Here.is h.stops.slot) in
     let with_it = ends_with shape code U es js i c.args.self.now c.args.task c.args.act.now c.args.batch.now h in
-    let carry = carries shape code U es js i c.args.self.now c.args.task c.args.act.now c.args.batch.now h c.in-Here.seat e in
-    let list = c.take_faults.ensures.list shape h.stops.player.term h.stops.seat.home with_it.0 carry.0 carry.1 in
+    let carry = carries shape code U es js i c.args.self.now c.args.task c.args.act.now c.args.batch.now h c.deref_mut-seat.result.now e in
+    let list = c.take_faults.ensures.list shape h.stops.player.term h.stops.seat.value.home with_it.0 carry.0 carry.1 in
     let is = (ends_only shape code U es js i c.args.self.now c.args.task c.args.act.now c.args.batch.now h c.seats_end.ensures k).1 in
     let both : End c.in-End.thrown ≡ End with_it.0 = sym c.in-End.is ∙ is in
     let f : c.in-End.thrown ≡ with_it.0 = cc both in
@@ -39,11 +40,10 @@ returns-then-not-same_faults c = λ shape code U es js i h k.
 
 pub returns : goal.returns
 returns c = λ shape code U es js i h.
-    let seat = c.in-Here.seat in
-    let e = same_seat c.args.self.now.slots.items c.args.task.0 c.index_mut.result.now seat h.stops.seat c.index_mut.ensures.value c.in-Here.is h.stops.slot in
+    let e = c.deref_mut-seat.ensures.value ∙ ap (λ (v : Box Seat). v.value) (same_seat c.args.self.now.slots.items c.args.task.0 c.index_mut.result.now c.in-Here.seat h.stops.seat c.index_mut.ensures.value c.in-Here.is h.stops.slot) in
     let with_it = ends_with shape code U es js i c.args.self.now c.args.task c.args.act.now c.args.batch.now h in
-    let carry = carries shape code U es js i c.args.self.now c.args.task c.args.act.now c.args.batch.now h seat e in
-    let list = c.take_faults.ensures.list shape h.stops.player.term h.stops.seat.home with_it.0 carry.0 carry.1 in
+    let carry = carries shape code U es js i c.args.self.now c.args.task c.args.act.now c.args.batch.now h c.deref_mut-seat.result.now e in
+    let list = c.take_faults.ensures.list shape h.stops.player.term h.stops.seat.value.home with_it.0 carry.0 carry.1 in
     let same = c.same_batch.ensures.0 c.if-not-same_batch.false in
     let faults = c.same_faults-2.ensures.0 c.if-not-same_faults.false in
     ended shape code U es js i c.args.self.now c.args.task c.args.act.now c.args.batch.now h _ c.seats_tell.ensures c.seats_end.ensures

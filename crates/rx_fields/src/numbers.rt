@@ -9,6 +9,7 @@ use rx_text::scan_num;
 
 // The number of at most nine digits that stands in front of these bytes, in its one spelling, and what stands after it. None says
 // nothing of the bytes.
+#[inline(always)]
 pub(crate) fn front_number(bytes: &[u8]) -> Option<(u32, &[u8])>
     ensures some { IfSome result (λ x. bytes.now ≡ natural_text x.0 ++ x.1.now) }
     ensures low { IfSome result (λ x. x.0 < 2 ^ 32) }

@@ -85,6 +85,7 @@ impl<'a> Words<'a> {
 
     /// Takes the next word where it is a number of at most nine digits in its one spelling. None says nothing of the word, and takes
     /// none.
+    #[inline(always)]
     pub fn short_number(&mut self) -> Option<u32>
         ensures some { IfSome result (λ n. self.old ≡ natural_text n ∷ self.new) }
         ensures low { IfSome result (λ n. n < 2 ^ 32) }
@@ -101,6 +102,7 @@ impl<'a> Words<'a> {
 
     /// Takes the next word where it is this letter and a number of at most nine digits in its one spelling. None says nothing of the
     /// word, and takes none. The condition is that the letter is no blank.
+    #[inline(always)]
     pub fn lettered(&mut self, letter: u8) -> Option<u32>
         requires { letter ≢ 32 }
         ensures some { IfSome result (λ n. self.old ≡ (letter ∷ natural_text n) ∷ self.new) }
@@ -195,6 +197,7 @@ fn ends_word(rest: &[u8]) -> bool
 /// The words after the number n with which a line begins. None says nothing of the line; it comes also where n has more than nine
 /// digits.
 #[tactic(auto, using(crate::proofs::Fronts::line_first))]
+#[inline(always)]
 pub fn after_short(line: &[u8], n: usize) -> Option<Words<'_>>
     ensures { IfSome result (λ ws. pieces 32 line.now ≡ natural_text n ∷ ws) }
 {

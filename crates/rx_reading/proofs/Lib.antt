@@ -14,3 +14,4 @@ pub mod Ends
 pub mod Naming
 pub mod Numbered
 pub mod Told
+pub mod Adding

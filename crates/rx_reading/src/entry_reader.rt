@@ -1,31 +1,33 @@
-// The words of an entry.
+// The words of an entry. What reads an entry adds it, so that it is written once.
 ghost use Rattle.std.specs.Prelude.{◌≡◌, ◌≤◌, ◌∷◌, codes, IfOk};
-ghost use Rattle.rx_fields.specs.Words.{answer_left};
 ghost use Rattle.rx_reading.specs.Inside.EntryWords.{act_at, step_at, acted_at, changed_at, kind_named};
-ghost use Rattle.rx_reading.specs.Inside.EntryWords.{release_or_root_at, root_at, death_at, join_at, entry_at};
+ghost use Rattle.rx_reading.specs.Inside.EntryWords.{release_or_root_at, root_at, death_at, join_at, entry_at, entered, if_good};
 
-use crate::acts::{Kind, act};
+use crate::acts::{Kind, act, is_end};
 use rx_base::NoMemory;
-use rx_fields::{Words, batch_part, is_same, keyword, outcome_part, place_field, task_field};
-use rx_history::Entry;
+use rx_fields::{Words, is_same, keyword, outcome_part, place_field, task_field};
+use rx_history::{Entry, History};
 use std::alloc::Global;
 
-// The words after the number.
+// Adds the entry that the words after its number are; answers whether they are one.
 #[tactic(auto, using(crate::proofs::Naming::entry_by_kind))]
 pub(crate) fn entry(
     alloc: Global,
     words: &mut Words<'_>,
     places: u8,
-) -> Result<Option<Entry>, NoMemory>
+    history: &mut History,
+) -> Result<bool, NoMemory>
     requires { places ≤ 16 }
-    ensures { IfOk result (λ entry. answer_left entry words.new ≡ entry_at places words.old) }
+    ensures read { IfOk result (λ good. if_good good history.new.entries
+        ≡ entered history.old.entries (entry_at places words.old)) }
+    ensures same { history.new.setup ≡ history.old.setup }
 {
     let Some(word) = words.next() else {
-        return Ok(None);
+        return Ok(false);
     };
     match kind_of(word) {
-        Some(kind) => acted(alloc, words, places, kind),
-        None => Ok(changed(words, places, word)),
+        Some(kind) => acted(alloc, words, places, kind, history),
+        None => changed(words, places, word, history),
     }
 }
 
@@ -63,26 +65,36 @@ fn acted(
     words: &mut Words<'_>,
     places: u8,
     kind: Kind,
-) -> Result<Option<Entry>, NoMemory>
+    history: &mut History,
+) -> Result<bool, NoMemory>
     requires { places ≤ 16 }
-    ensures { IfOk result (λ entry. answer_left entry words.new ≡ acted_at places kind words.old) }
+    ensures read { IfOk result (λ good. if_good good history.new.entries
+        ≡ entered history.old.entries (acted_at places kind words.old)) }
+    ensures same { history.new.setup ≡ history.old.setup }
 {
     match kind {
-        Kind::Release => release(alloc, words, places),
-        other => step(alloc, words, places, other),
+        Kind::Release => release(alloc, words, places, history),
+        other => step(alloc, words, places, other, history),
     }
 }
 
 // The death or the join that a word names.
-fn changed(words: &mut Words<'_>, places: u8, word: &[u8]) -> Option<Entry>
-    ensures { answer_left result words.new ≡ changed_at places (word.now ∷ words.old) }
+fn changed(
+    words: &mut Words<'_>,
+    places: u8,
+    word: &[u8],
+    history: &mut History,
+) -> Result<bool, NoMemory>
+    ensures read { IfOk result (λ good. if_good good history.new.entries
+        ≡ entered history.old.entries (changed_at places (word.now ∷ words.old))) }
+    ensures same { history.new.setup ≡ history.old.setup }
 {
     if is_same(word, b"death") {
-        death(words, places)
+        death(words, places, history)
     } else if is_same(word, b"join") {
-        join(words, places)
+        join(words, places, history)
     } else {
-        None
+        Ok(false)
     }
 }
 
@@ -92,62 +104,95 @@ fn step(
     words: &mut Words<'_>,
     places: u8,
     kind: Kind,
-) -> Result<Option<Entry>, NoMemory>
+    history: &mut History,
+) -> Result<bool, NoMemory>
     requires { places ≤ 16 }
-    ensures { IfOk result (λ entry. answer_left entry words.new ≡ step_at (act_at places kind) words.old) }
+    ensures read { IfOk result (λ good. if_good good history.new.entries
+        ≡ entered history.old.entries (step_at (act_at places kind) words.old)) }
+    ensures same { history.new.setup ≡ history.old.setup }
 {
-    let Some(task) = task_field(words) else {
-        return Ok(None);
-    };
-    let Some(act) = act(alloc, words, places, kind)? else {
-        return Ok(None);
-    };
-    let Some(batch) = batch_part(alloc, words)? else {
-        return Ok(None);
-    };
-    Ok(Some(Entry::Step { task, act, batch }))
+    match task_field(words) {
+        Some(task) => act(alloc, words, places, kind, task, history),
+        None => Ok(false),
+    }
 }
 
 // A release by the host or by a task.
-fn release(alloc: Global, words: &mut Words<'_>, places: u8) -> Result<Option<Entry>, NoMemory>
+fn release(
+    alloc: Global,
+    words: &mut Words<'_>,
+    places: u8,
+    history: &mut History,
+) -> Result<bool, NoMemory>
     requires { places ≤ 16 }
-    ensures { IfOk result (λ entry. answer_left entry words.new ≡ release_or_root_at places words.old) }
+    ensures read { IfOk result (λ good. if_good good history.new.entries
+        ≡ entered history.old.entries (release_or_root_at places words.old)) }
+    ensures same { history.new.setup ≡ history.old.setup }
 {
     if keyword(words, b"host") {
-        root(alloc, words, places)
+        root(alloc, words, places, history)
     } else {
-        step(alloc, words, places, Kind::Release)
+        step(alloc, words, places, Kind::Release, history)
     }
 }
 
 // The host's release of the root.
-fn root(alloc: Global, words: &mut Words<'_>, places: u8) -> Result<Option<Entry>, NoMemory>
+fn root(
+    alloc: Global,
+    words: &mut Words<'_>,
+    places: u8,
+    history: &mut History,
+) -> Result<bool, NoMemory>
     requires { places ≤ 16 }
-    ensures { IfOk result (λ entry. answer_left entry words.new ≡ root_at places words.old) }
+    ensures read { IfOk result (λ good. if_good good history.new.entries
+        ≡ entered history.old.entries (root_at places words.old)) }
+    ensures same { history.new.setup ≡ history.old.setup }
 {
     if !keyword(words, b"s0") {
-        return Ok(None);
+        return Ok(false);
     }
     let Some((lost, masked, thrown)) = outcome_part(alloc, words, places)? else {
-        return Ok(None);
+        return Ok(false);
     };
-    Ok(Some(Entry::Root {
+    if !is_end(words, history)? {
+        return Ok(false);
+    }
+    history.add(Entry::Root {
         lost,
         masked,
         thrown,
-    }))
+    });
+    Ok(true)
 }
 
-fn death(words: &mut Words<'_>, places: u8) -> Option<Entry>
-    ensures { answer_left result words.new ≡ death_at places words.old }
+#[tactic(auto, using(crate::proofs::Adding::whole_read, crate::proofs::Adding::part_read))]
+fn death(words: &mut Words<'_>, places: u8, history: &mut History) -> Result<bool, NoMemory>
+    ensures read { IfOk result (λ good. if_good good history.new.entries
+        ≡ entered history.old.entries (death_at places words.old)) }
+    ensures same { history.new.setup ≡ history.old.setup }
 {
-    let place = place_field(words, places)?;
-    Some(Entry::Death { place })
+    let Some(place) = place_field(words, places) else {
+        return Ok(false);
+    };
+    if !is_end(words, history)? {
+        return Ok(false);
+    }
+    history.add(Entry::Death { place });
+    Ok(true)
 }
 
-fn join(words: &mut Words<'_>, places: u8) -> Option<Entry>
-    ensures { answer_left result words.new ≡ join_at places words.old }
+#[tactic(auto, using(crate::proofs::Adding::whole_read, crate::proofs::Adding::part_read))]
+fn join(words: &mut Words<'_>, places: u8, history: &mut History) -> Result<bool, NoMemory>
+    ensures read { IfOk result (λ good. if_good good history.new.entries
+        ≡ entered history.old.entries (join_at places words.old)) }
+    ensures same { history.new.setup ≡ history.old.setup }
 {
-    let place = place_field(words, places)?;
-    Some(Entry::Join { place })
+    let Some(place) = place_field(words, places) else {
+        return Ok(false);
+    };
+    if !is_end(words, history)? {
+        return Ok(false);
+    }
+    history.add(Entry::Join { place });
+    Ok(true)
 }

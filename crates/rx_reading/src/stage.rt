@@ -7,7 +7,7 @@ ghost use Rattle.rx_history.specs.Events.{events_of};
 ghost use Rattle.rx_history.specs.Setups.{given};
 ghost use Rattle.rx_rules.specs.Run.{in_all};
 ghost use Rattle.rx_reading.specs.Inside.Machine.{Untitled, Titled, Sized, Listed, Planned, Entering, Logging, Over};
-ghost use Rattle.rx_reading.specs.Inside.Machine.{begins_journal, entry_of, event_line_of, read_line, told_there};
+ghost use Rattle.rx_reading.specs.Inside.Machine.{begins_journal, event_line_of, read_line, told_there};
 ghost use Rattle.rx_text.specs.Numbers.{natural_text};
 ghost use Rattle.rx_fields.specs.Inside.Readers.{behind};
 ghost use Rattle.rx_reading.specs.Inside.Stages.{state_of, IsReady};
@@ -17,7 +17,7 @@ use crate::event_reader::event;
 use crate::plan_lines::{read_joins, read_kills, sizes};
 use rx_base::NoMemory;
 use rx_fields::{Words, after_short, is_number, split_words, strip};
-use rx_history::{Entry, History, Journal, Journals, KillList, PlaceEvent, Setup};
+use rx_history::{History, Journal, Journals, KillList, PlaceEvent, Setup};
 use std::alloc::Global;
 use std::mem;
 
@@ -54,6 +54,7 @@ pub(crate) enum Stage {
 
 // The words behind the number n, with which a line has to begin.
 #[tactic(auto, using(crate::proofs::Numbered::behind_known))]
+#[inline(always)]
 fn behind_number(line: &[u8], n: usize) -> Option<Words<'_>>
     ensures { result ≡ behind (natural_text n) (pieces 32 line.now) }
 {
@@ -65,24 +66,6 @@ fn behind_number(line: &[u8], n: usize) -> Option<Words<'_>>
         Some(words)
     } else {
         None
-    }
-}
-
-// The line of an entry of this number.
-#[tactic(auto, using(crate::proofs::Numbered::keyed_behind))]
-fn read_entry(alloc: Global, line: &[u8], n: usize, places: u8) -> Result<Option<Entry>, NoMemory>
-    requires { places ≤ 16 }
-    ensures { IfOk result (λ entry. entry ≡ entry_of places n line.now) }
-{
-    if n >= 4_294_967_296 {
-        return Ok(None);
-    }
-    let Some(mut words) = behind_number(line, n) else {
-        return Ok(None);
-    };
-    match entry(alloc, &mut words, places)? {
-        Some(entry) if words.is_empty() => Ok(Some(entry)),
-        _ => Ok(None),
     }
 }
 
@@ -207,12 +190,13 @@ fn entry_added(alloc: Global, history: &mut History, line: &[u8]) -> Result<bool
         ≡ Some (Entering (given history.new.setup) history.new.entries)) }
     ensures bad { IfOk result (λ good. good ≡ false → read_line (Entering (given history.old.setup) history.old.entries) line.now ≡ None) }
 {
-    match read_entry(alloc, line, history.len(), places_in_all(&history.setup))? {
-        Some(entry) => {
-            history.reserve(1)?;
-            history.add(entry);
-            Ok(true)
-        }
+    let n = history.len();
+    if n >= 4_294_967_296 {
+        return Ok(false);
+    }
+    let places = places_in_all(&history.setup);
+    match behind_number(line, n) {
+        Some(mut words) => entry(alloc, &mut words, places, history),
         None => Ok(false),
     }
 }

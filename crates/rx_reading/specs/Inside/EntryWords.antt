@@ -1,15 +1,16 @@
 -- The words of entries.
-use Rattle.std.specs.Prelude.{ℕ, List, Option, Some, None, codes, if◌then◌else◌}
+use Rattle.std.specs.Prelude.{ℕ, Bool, true, false, List, [], ◌∷◌, ◌++◌, Option, Some, None, option_map, codes, if◌then◌else◌}
 use Rattle.std.specs.Str.{bytes_eq}
 use Rattle.rx_rules.specs.declared.entries.Act.{Act}
 use Rattle.rx_rules.specs.declared.entries.Act.TheVariants.{Open, At, Spawn, Arrive, Wait, Release, End, Print, Census}
 use Rattle.rx_rules.specs.declared.entries.Entry.{Entry}
 use Rattle.rx_rules.specs.declared.entries.Entry.TheVariants.{Step, Root, Death, Join}
+use Rattle.rx_base.specs.declared.ids.TaskId.{TaskId}
 use Rattle.rx_reading.specs.declared.acts.Kind.{Kind}
 use Rattle.rx_reading.specs.declared.acts.Kind.TheVariants as kinds
 use Rattle.rx_fields.specs.Inside.FieldWords.{number_at, place_at, task_at, scope_at, path_at, count_at}
 use Rattle.rx_fields.specs.Inside.PartWords.{thrown_at, batch_at, nested_at, way_at, outcome_at}
-use Rattle.rx_fields.specs.Inside.Readers.{Reader, followed, done, keyed, either}
+use Rattle.rx_fields.specs.Inside.Readers.{Reader, followed, done, keyed, either, all_read}
 
 abbrev pub open_at : Reader Act
 open_at = followed nested_at (λ n. followed path_at (λ path. done (Open n.0 n.1 path)))
@@ -52,9 +53,13 @@ act_at places kinds.End = end_at places
 act_at places kinds.Print = print_at
 act_at places kinds.Census = census_at
 
+-- the entry of what a task did, with its batch
+abbrev pub stepped : TaskId → Act → Reader Entry
+stepped task act = followed batch_at (λ batch. done (Step task act batch))
+
 -- a task, what it did, and its batch
 abbrev pub step_at : Reader Act → Reader Entry
-step_at act_at = followed task_at (λ task. followed act_at (λ act. followed batch_at (λ batch. done (Step task act batch))))
+step_at act_at = followed task_at (λ task. followed act_at (stepped task))
 
 -- the host's release of the root
 abbrev pub root_at : ℕ → Reader Entry
@@ -113,3 +118,12 @@ entry_at places =
     either (codes "census") (step_at census_at) (
     either (codes "death") (death_at places) (
     keyed (codes "join") (join_at places)))))))))))
+
+-- the entries and the one that all these words are
+abbrev pub entered : List Entry → Option (Entry × List (List ℕ)) → Option (List Entry)
+entered entries read = option_map (λ e. entries ++ e ∷ []) (all_read read)
+
+-- what is there, where the answer is yes
+abbrev pub if_good : {A : Type 0} → Bool → A → Option A
+if_good true a = Some a
+if_good false a = None

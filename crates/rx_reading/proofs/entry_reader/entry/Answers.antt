@@ -1,11 +1,11 @@
 use Rattle.std.proofs.Common.{◌≡◌, subst}
 use Rattle.std.specs.Prelude.{IfOk}
-use Rattle.rx_fields.specs.Words.{answer_left}
+use Rattle.rx_reading.specs.Inside.EntryWords.{entered, if_good}
 use Rattle.rx_reading.proofs.Naming.{named_entry}
 use Rattle.rx_reading.proofs.entry_reader.entry.Goals as goal
 
-pub returns-in-Some-kind_of : goal.returns-in-Some-kind_of
-returns-in-Some-kind_of c =
-    subst (λ o. IfOk c.acted.result (λ e. answer_left e c.acted.new.words ≡ o))
+pub returns-in-Some-kind_of-clause-read : goal.returns-in-Some-kind_of-clause-read
+returns-in-Some-kind_of-clause-read c =
+    subst (λ o. IfOk c.acted.result (λ good. if_good good c.acted.new.history.entries ≡ entered c.args.history.now.entries o))
     (named_entry c.args.places c.args.words.now c.next.new.self c.in-Some.word.now c.in-Some-kind_of.kind c.in-Some.ensures c.in-Some-kind_of.ensures)
-    c.acted.ensures
+    c.acted.ensures.read

@@ -1,12 +1,11 @@
 use Rattle.std.proofs.Common.{◌≡◌, refl, subst}
 use Rattle.std.specs.Prelude.{codes, IfOk}
-use Rattle.rx_fields.specs.Words.{answer_left}
-use Rattle.rx_reading.specs.Inside.EntryWords.{release_at, step_at, root_at}
+use Rattle.rx_reading.specs.Inside.EntryWords.{release_at, step_at, root_at, entered, if_good}
 use Rattle.rx_fields.proofs.Taking.{other-word}
 use Rattle.rx_reading.proofs.entry_reader.release.Goals as goal
 
-pub returns-else-keyword : goal.returns-else-keyword
-returns-else-keyword c =
-    subst (λ o. IfOk c.step.result (λ e. answer_left e c.step.new.words ≡ o))
+pub returns-else-keyword-clause-read : goal.returns-else-keyword-clause-read
+returns-else-keyword-clause-read c =
+    subst (λ o. IfOk c.step.result (λ good. if_good good c.step.new.history.entries ≡ entered c.args.history.now.entries o))
     (other-word (codes "host") (root_at c.args.places) (step_at (release_at c.args.places)) c.args.words.now c.keyword.new.words c.keyword.result c.keyword.ensures c.if-keyword.false refl)
-    c.step.ensures
+    c.step.ensures.read

@@ -1,5 +1,5 @@
 -- The census at the front, and the name that it gives the number of places.
-use Rattle.std.proofs.Common.{◌≡◌, ℕ, ℤ, suc, List, [], ◌∷◌, ◌++◌, Option, Some, None, Bool, true, false, cond, ◌==◌, refl, ap, sym, ◌∙◌}
+use Rattle.std.proofs.Common.{◌≡◌, ℕ, ℤ, suc, List, [], ◌∷◌, ◌++◌, Option, Some, None, Bool, true, false, cond, ◌==◌, refl, ap, sym, ◌∙◌, subst}
 use Rattle.std.specs.Prelude.{Result, Ok, Err, option_to_list}
 use Rattle.std.proofs.lemmas.Option.{same_Some, none-some}
 use Rattle.rx_base.specs.declared.values.Fault.{Fault}
@@ -8,7 +8,10 @@ use Rattle.rx_base.specs.declared.values.Fault.TheVariants.{Thrown, WrongPlace}
 use Rattle.rx_rules.specs.Code.{Stmt, SetTo, New, Get, Put, Forget, Census, Print, Throw, Async, AtAsync, At, Finish, If, Repeat, Try}
 use Rattle.rx_rules.specs.Terms.{Vars, Term, Empty, Run, Raise, Turns, Trying, Body, Held, Does, Local, Makes, Gets, Puts, Forgets, Opens, Calls, Spawns, Waits, Releases, Prints, Counts, Done, does, stmt_does, begins, within, with_number, with_place, eval, target_of, ref_in, value_of, raise, at, bound, items, is_zero}
 use Rattle.rx_nodes.specs.declared.nodes.BlockId.{BlockId}
-use Rattle.rx_nodes.specs.Shape.{Shape}
+use Rattle.rx_nodes.specs.declared.nodes.NameId.{NameId}
+use Rattle.rx_nodes.specs.declared.nodes.Stmt.{Stmt as Node}
+use Rattle.rx_nodes.specs.declared.nodes.Stmt.TheVariants.{Census as CensusNode}
+use Rattle.rx_nodes.specs.Shape.{Shape, StmtIs}
 use Rattle.rx_control.specs.Next.{next_of}
 use Rattle.rx_control.specs.Levels.{Level, More, seq}
 use Rattle.rx_control.specs.declared.step.Next.TheVariants.{Book}
@@ -17,10 +20,14 @@ use Rattle.rx_control.specs.declared.frame.Frame.{Frame}
 use Rattle.rx_control.specs.declared.control.Control.{Control}
 use Rattle.rx_control.specs.Stands.{path_of}
 use Rattle.rx_control.specs.Inside.Front.{lifted, levels_opened, AtStatement}
-use Rattle.rx_control.specs.Inside.Plans.{stmt_counts}
 use Rattle.rx_control.proofs.Front.{next-lifted}
 use Rattle.rx_control.proofs.NextIs.{stmt-does}
 use Rattle.rx_control.proofs.Told.{told_census}
+
+-- the name to which a census gives the number of places
+abbrev stmt_counts : Stmt → Option ℕ
+stmt_counts (Census name) = Some name
+stmt_counts _ = None
 
 abbrev counts_in : Does → Option ℕ
 counts_in (Counts name) = Some name
@@ -84,14 +91,27 @@ is-census (Census n) name e = ap (λ m. Census m) (same_Some n name e)
 is-census _ name e = absurd (none-some name e)
 
 -- a census opens nothing
-pub opens-nothing : (stmt : Stmt) (name : ℕ) (x : List ℕ) (gs : List Level) → stmt_counts stmt ≡ Some name → levels_opened stmt x gs ≡ gs
-opens-nothing stmt name x gs e = ap (λ s. levels_opened s x gs) (is-census stmt name e)
+pub opens-nothing : (stmt : Stmt) (name : ℕ) (x : List ℕ) (gs : List Level) → stmt ≡ Census name → levels_opened stmt x gs ≡ gs
+opens-nothing stmt name x gs e = ap (λ s. levels_opened s x gs) e
+
+a-census : (s : Shape) (node : Node) (name : ℕ) → StmtIs s node (Census name) → (k : NameId) × (node ≡ CensusNode k)
+a-census s (CensusNode k) name h = (k, refl)
+a-census s _ name h = absurd h
+
+-- a node that stands for a census is one, of the same name
+pub census-node : (s : Shape) (node : Node) (stmt : Stmt) (name : ℕ) → stmt ≡ Census name → StmtIs s node stmt → (k : NameId) × (node ≡ CensusNode k)
+census-node s node stmt name e h = let P : Stmt → Type 0 = λ t. StmtIs s node t in a-census s node name (subst P e h)
+
+pub census-name : (s : Shape) (node : Node) (k : NameId) (stmt : Stmt) (name : ℕ) → node ≡ CensusNode k → stmt ≡ Census name → StmtIs s node stmt → name ≡ k.0
+census-name s node k stmt name e f h =
+    let P : Node → Type 0 = λ n. StmtIs s n stmt in
+    let Q : Stmt → Type 0 = λ t. StmtIs s (CensusNode k) t in subst Q f (subst P e h)
 
 -- the census at the front
 pub record IsCensus (vars : Vars) (here : ℕ) (t : Term) (stmt : Stmt) : Type 0 where
   pub name : ℕ
   pub is : does vars here t ≡ Counts name
-  pub counts : stmt_counts stmt ≡ Some name
+  pub stmt_is : stmt ≡ Census name
 
 pub census-front : (s : Shape) (c : Control) (t : Term) (below : List Frame) (block : BlockId) (next : ℕ) (part : Option ℕ) (a : AtStatement s c t below block next part) (vars : Vars) (here : ℕ) → next_of (does vars here t) ≡ Book CensusWanted → IsCensus vars here t a.stmt
 census-front s c t below block next part a vars here h =
@@ -100,7 +120,7 @@ census-front s c t below block next part a vars here h =
     let d = stmt_does vars here a.stmt x rest in
     let e : does vars here t ≡ lifted a.others d = stmt-does s c t below block next part a vars here in
     let k = told_census d (sym (next-lifted a.others d) ∙ sym (ap next_of e) ∙ h) in
-    record { name = k.0; is = e ∙ ap (lifted a.others) k.1; counts = sym (stmt-counted vars here a.stmt x rest) ∙ ap counts_in k.1 }
+    record { name = k.0; is = e ∙ ap (lifted a.others) k.1; stmt_is = is-census a.stmt k.0 (sym (stmt-counted vars here a.stmt x rest) ∙ ap counts_in k.1) }
 
 -- where no statement is begun there is none
 silent : (vars : Vars) (here : ℕ) (t : Term) → begins t ≡ None → counts_in (does vars here t) ≡ None

@@ -5,7 +5,7 @@ ghost use Rattle.rx_rules.specs.Terms.{Empty, items, stmt_child};
 ghost use Rattle.rx_nodes.specs.Shape.{Shape, StmtIs, BlockStands};
 ghost use Rattle.rx_control.specs.Stands.{StandsFor};
 
-use crate::frame::{Frame, settle};
+use crate::frame::{enter, settle};
 use crate::{Control, Variables};
 use rx_base::{NoMemory, Path};
 use rx_script::{BlockId, Script, Stmt};
@@ -24,16 +24,8 @@ pub(crate) fn start(
         × (c.vars ≡ vars)) }
 {
     let mut frames = Vec::new(alloc);
-    if frames
-        .push(Frame::Seq {
-            block,
-            next: 0,
-            part: None,
-        })
-        .is_err()
-    {
-        return Err(NoMemory);
-    }
+    frames.reserve(1)?;
+    enter(&mut frames, block, None);
     settle(script, &mut frames);
     Ok(Control {
         base,

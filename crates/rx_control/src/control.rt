@@ -19,16 +19,14 @@ ghost use Rattle.rx_control.specs.Inside.Plans.{Due};
 
 use crate::birth::{born, start};
 use crate::faults::{is_caught, one_fault};
-use crate::frame::{Frame, drop_top, go_on, settle, top, unwind};
+use crate::frame::{Frame, drop_top, enter, go_on, settle, top, unwind};
 use crate::path::{front_path, is_front_path};
 use crate::plan::{Plan, make_plan, tell};
-use crate::statement::{
-    at_hand, counted, following, learn, open_after, receive, receiver, statement_of,
-};
+use crate::statement::{at_hand, following, learn, open_after, receive, receiver, statement_of};
 use crate::{Next, Variables, Want};
 use rx_base::{Fault, Faults, NoMemory, Path, PlaceId, Value};
 use rx_check::Program;
-use rx_script::{BlockId, Script};
+use rx_script::{BlockId, Script, Stmt};
 use std::alloc::Global;
 
 /// What one activity has still to run, with its variables. It stands for terms of the rules, and the program passed to its calls
@@ -169,9 +167,7 @@ impl Control {
         ensures err { OnErr result (IsSame self.new self.old) }
         ensures steps { (t : Term) → StepFalls (steps t) (does self.old.vars here.0 t) }
     {
-        if self.frames.reserve(2).is_err() {
-            return Err(NoMemory);
-        }
+        self.frames.reserve(2)?;
         self.step(alloc, p.script(), here)
     }
 
@@ -239,11 +235,7 @@ impl Control {
                 part: number,
             } => {
                 go_on(&mut self.frames, block, after, part);
-                self.frames.push_reserved(Frame::Seq {
-                    block: inner,
-                    next: 0,
-                    part: Some(number),
-                });
+                enter(&mut self.frames, inner, Some(number));
                 settle(script, &mut self.frames);
             }
             Plan::Loop { body, times } => {
@@ -261,11 +253,7 @@ impl Control {
             } => {
                 go_on(&mut self.frames, block, after, part);
                 self.frames.push_reserved(Frame::Try { dead_only, handler });
-                self.frames.push_reserved(Frame::Seq {
-                    block: body,
-                    next: 0,
-                    part: Some(0),
-                });
+                enter(&mut self.frames, body, Some(0));
                 settle(script, &mut self.frames);
             }
             Plan::Ask(_) => {}
@@ -291,11 +279,7 @@ impl Control {
                 turn: turn + 1,
                 times,
             });
-            self.frames.push_reserved(Frame::Seq {
-                block: body,
-                next: 0,
-                part: Some(turn),
-            });
+            enter(&mut self.frames, body, Some(turn));
             settle(script, &mut self.frames);
         }
     }
@@ -314,11 +298,7 @@ impl Control {
             None => settle(script, &mut self.frames),
             Some(faults) => {
                 if is_caught(dead_only, &faults) {
-                    self.frames.push_reserved(Frame::Seq {
-                        block: handler,
-                        next: 0,
-                        part: Some(1),
-                    });
+                    enter(&mut self.frames, handler, Some(1));
                     settle(script, &mut self.frames);
                 } else {
                     unwind(&mut self.frames);
@@ -414,9 +394,11 @@ impl Control {
     {
         match self.front() {
             Some((block, next, part)) => {
-                let stmt = at_hand(script, block, next);
+                let Stmt::Census { name } = at_hand(script, block, next) else {
+                    unreachable!()
+                };
                 let after = following(script, block, next);
-                learn(&mut self.vars, counted(stmt), places)?;
+                learn(&mut self.vars, name, places)?;
                 go_on(&mut self.frames, block, after, part);
                 settle(script, &mut self.frames);
                 Ok(())

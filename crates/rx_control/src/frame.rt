@@ -56,6 +56,18 @@ pub(crate) fn drop_top(frames: &mut Vec<Frame>)
     let _ = frames.pop();
 }
 
+/// Puts on a block, at its first statement.
+pub(crate) fn enter(frames: &mut Vec<Frame>, block: BlockId, part: Option<u32>)
+    requires { vec_len frames.old < vec_capacity frames.old }
+    ensures { frames.new.items ≡ frames.old.items ++ Frame.Seq block 0 part ∷ [] }
+{
+    frames.push_reserved(Frame::Seq {
+        block,
+        next: 0,
+        part,
+    });
+}
+
 /// Puts the block of the innermost frame behind the statement at hand.
 pub(crate) fn go_on(frames: &mut Vec<Frame>, block: BlockId, next: u32, part: Option<u32>)
     requires room { vec_len frames.old ≤ vec_capacity frames.old }

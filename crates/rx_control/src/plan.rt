@@ -98,12 +98,7 @@ fn reference(v: Option<Value>) -> GlobalRef
 {
     match v {
         Some(Value::Ref(r)) => r,
-        Some(Value::Num(_)) => GlobalRef {
-            home: PlaceId(0),
-            start: 0,
-            generation: 0,
-        },
-        None => GlobalRef {
+        Some(Value::Num(_)) | None => GlobalRef {
             home: PlaceId(0),
             start: 0,
             generation: 0,

@@ -1,6 +1,6 @@
 // The statement at the front.
 ghost use Rattle.std.specs.Prelude.{◌≡◌, ℕ, pos, ◌+◌, ◌≤◌, List, [], ◌∷◌, ◌++◌};
-ghost use Rattle.std.specs.Prelude.{Option, Some, None, Ok, OnOk, OnErr, MatchOption, vec_len, vec_capacity};
+ghost use Rattle.std.specs.Prelude.{Option, None, Ok, OnOk, OnErr, MatchOption, vec_len, vec_capacity};
 ghost use Rattle.rx_rules.specs.Code.{Stmt as Tree, Block};
 ghost use Rattle.rx_base.specs.declared.values.Value.TheVariants.{Num as Number};
 ghost use Rattle.rx_rules.specs.Terms.{Term, begins, bound, stmt_receives, vars_after, answer_of};
@@ -10,10 +10,10 @@ ghost use Rattle.rx_control.specs.declared.control.Control.{Control};
 ghost use Rattle.rx_control.specs.Levels.{Level};
 ghost use Rattle.rx_control.specs.Stands.{StandsFor, FramesStand, path_of};
 ghost use Rattle.rx_control.specs.Inside.Front.{Awaits, SettlesTo, levels_opened};
-ghost use Rattle.rx_control.specs.Inside.Plans.{name_in, stmt_counts};
+ghost use Rattle.rx_control.specs.Inside.Plans.{name_in};
 
 use crate::Variables;
-use crate::frame::{Frame, settle};
+use crate::frame::{Frame, enter, settle};
 use rx_base::{NoMemory, Value};
 use rx_script::{BlockId, NameId, Script, Stmt};
 
@@ -89,43 +89,14 @@ pub(crate) fn receive(
     }
 }
 
-/// The name to which a census gives the number of places.
-pub(crate) fn counted(stmt: Stmt) -> Option<NameId>
-    ensures { (s : Shape) (t : Tree) → StmtIs s stmt t → stmt_counts t ≡ name_in result }
-{
-    match stmt {
-        Stmt::Census { name } => Some(name),
-        Stmt::Set { .. } => None,
-        Stmt::New { .. } => None,
-        Stmt::Get { .. } => None,
-        Stmt::Put { .. } => None,
-        Stmt::Forget { .. } => None,
-        Stmt::Print { .. } => None,
-        Stmt::Throw { .. } => None,
-        Stmt::Async { .. } => None,
-        Stmt::AtAsync { .. } => None,
-        Stmt::At { .. } => None,
-        Stmt::Finish { .. } => None,
-        Stmt::If { .. } => None,
-        Stmt::Repeat { .. } => None,
-        Stmt::Try { .. } => None,
-    }
-}
-
-/// The name gets the number of places, which is known from now on, where there is a name.
-pub(crate) fn learn(vars: &mut Variables, name: Option<NameId>, places: u8) -> Result<(), NoMemory>
-    ensures ok { OnOk result ((n : ℕ) → name_in name ≡ Some n
-        → vars.new ≡ record (bound n (Number (pos places)) vars.old) { places = places }) }
+/// The name gets the number of places, which is known from now on.
+pub(crate) fn learn(vars: &mut Variables, name: NameId, places: u8) -> Result<(), NoMemory>
+    ensures ok { OnOk result (vars.new ≡ record (bound name.0 (Number (pos places)) vars.old) { places = places }) }
     ensures err { OnErr result (vars.new ≡ vars.old) }
 {
-    match name {
-        Some(name) => {
-            vars.set(name, Value::Num(i64::from(places)))?;
-            vars.tell(places);
-            Ok(())
-        }
-        None => Ok(()),
-    }
+    vars.set(name, Value::Num(i64::from(places)))?;
+    vars.tell(places);
+    Ok(())
 }
 
 /// Puts on what a granted statement opens.
@@ -140,11 +111,7 @@ pub(crate) fn open_after(script: &Script, frames: &mut Vec<Frame>, stmt: Stmt)
     match stmt {
         Stmt::Finish { body } => {
             frames.push_reserved(Frame::Body);
-            frames.push_reserved(Frame::Seq {
-                block: body,
-                next: 0,
-                part: None,
-            });
+            enter(frames, body, None);
             settle(script, frames);
         }
         Stmt::At { .. } => frames.push_reserved(Frame::Held),

@@ -3,7 +3,7 @@ use Rattle.std.specs.Prelude.{◌≡◌, ◌≢◌, ℕ, suc, ◌++◌, option_t
 use Rattle.rx_base.specs.declared.ids.PlaceId.{PlaceId}
 use Rattle.rx_base.specs.declared.values.Value.TheVariants.{Num as Number}
 use Rattle.rx_base.specs.declared.values.Fault.{Fault}
-use Rattle.rx_rules.specs.Code.{Block, Stmt, Census}
+use Rattle.rx_rules.specs.Code.{Block, Stmt}
 use Rattle.rx_rules.specs.Terms.{Vars, Term, Empty, Turns, Trying, Does, Local, raise, bound, items, at, stmt_does}
 use Rattle.rx_nodes.specs.declared.nodes.BlockId.{BlockId}
 use Rattle.rx_nodes.specs.declared.nodes.NameId.{NameId}
@@ -46,11 +46,6 @@ pub record Due (s : Shape) (c : Control) (t : Term) (below : List Frame) (block 
   pub act : Does
   pub is : IsPlan s plan c.vars (at (path_of c.base below ++ option_to_list part) next)
       (seq (More front.more (path_of c.base below ++ option_to_list part) (suc next) ∷ front.others)) act
-
--- the name to which a census gives the number of places
-abbrev pub stmt_counts : Stmt → Option ℕ
-stmt_counts (Census name) = Some name
-stmt_counts _ = None
 
 -- the number of a name
 abbrev pub name_in : Option NameId → Option ℕ

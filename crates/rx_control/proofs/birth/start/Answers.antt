@@ -7,10 +7,10 @@ use Rattle.rx_control.proofs.birth.start.Goals as goal
 
 pub settle-requires : goal.settle-requires
 settle-requires c =
-    let e : c.push.new.self.items ≡ Seq c.args.block 0 None ∷ [] = search rules in
-    (c.args.base, More c.requires.0 (path_of c.args.base [] ++ []) 0 ∷ [], first-frame c.args.script.now c.args.base c.push.new.self.items c.args.block c.requires.0 e c.requires.1)
+    let e : c.enter.new.frames.items ≡ Seq c.args.block 0 None ∷ [] = search rules in
+    (c.args.base, More c.requires.0 (path_of c.args.base [] ++ []) 0 ∷ [], first-frame c.args.script.now c.args.base c.enter.new.frames.items c.args.block c.requires.0 e c.requires.1)
 
 pub returns : goal.returns
 returns c b h =
-    let e : c.push.new.self.items ≡ Seq c.args.block 0 None ∷ [] = search rules in
-    (started c.args.script.now _ b refl (c.settle.ensures c.args.base (More b (path_of c.args.base [] ++ []) 0 ∷ []) (first-frame c.args.script.now c.args.base c.push.new.self.items c.args.block b e h)), refl)
+    let e : c.enter.new.frames.items ≡ Seq c.args.block 0 None ∷ [] = search rules in
+    (started c.args.script.now _ b refl (c.settle.ensures c.args.base (More b (path_of c.args.base [] ++ []) 0 ∷ []) (first-frame c.args.script.now c.args.base c.enter.new.frames.items c.args.block b e h)), refl)

@@ -15,7 +15,7 @@ settle-requires c =
     let e = c.push_reserved.ensures.items in
     let q : FramesStand c.args.script.now c.requires.stands.0 c.push_reserved.new.self.items (Inside ∷ c.requires.stands.1) = (Body, c.args.frames.now.items, e, refl, c.requires.stands.2) in
     let y = same-path c.requires.stands.0 c.args.frames.now.items c.push_reserved.new.self.items Body (path_of c.requires.stands.0 c.args.frames.now.items) e (path-body c.requires.stands.0 c.args.frames.now.items) refl in
-    let z = entered-body c.args.script.now c.requires.stands.0 c.push_reserved.new.self.items c.push_reserved-in-Finish.new.self.items c.in-Finish.body k.0 (path_of c.requires.stands.0 c.args.frames.now.items) (Inside ∷ c.requires.stands.1) c.push_reserved-in-Finish.ensures.items y k.2 q in
+    let z = entered-body c.args.script.now c.requires.stands.0 c.push_reserved.new.self.items c.enter.new.frames.items c.in-Finish.body k.0 (path_of c.requires.stands.0 c.args.frames.now.items) (Inside ∷ c.requires.stands.1) c.enter.ensures y k.2 q in
     (c.requires.stands.0, More k.0 (path_of c.requires.stands.0 c.args.frames.now.items) 0 ∷ Inside ∷ c.requires.stands.1, z)
 
 pub returns-in-Finish : goal.returns-in-Finish
@@ -24,7 +24,7 @@ returns-in-Finish c base levels t fs h =
     let e = c.push_reserved.ensures.items in
     let q : FramesStand c.args.script.now base c.push_reserved.new.self.items (Inside ∷ levels) = (Body, c.args.frames.now.items, e, refl, fs) in
     let y = same-path base c.args.frames.now.items c.push_reserved.new.self.items Body (path_of base c.args.frames.now.items) e (path-body base c.args.frames.now.items) refl in
-    let z = entered-body c.args.script.now base c.push_reserved.new.self.items c.push_reserved-in-Finish.new.self.items c.in-Finish.body k.0 (path_of base c.args.frames.now.items) (Inside ∷ levels) c.push_reserved-in-Finish.ensures.items y k.2 q in
+    let z = entered-body c.args.script.now base c.push_reserved.new.self.items c.enter.new.frames.items c.in-Finish.body k.0 (path_of base c.args.frames.now.items) (Inside ∷ levels) c.enter.ensures y k.2 q in
     let P : Stmt → Type 0 = λ t. SettlesTo c.args.script.now base c.settle.new.frames.items None (levels_opened t (path_of base c.args.frames.now.items) levels) in
     subst P (sym k.1) (c.settle.ensures base (More k.0 (path_of base c.args.frames.now.items) 0 ∷ Inside ∷ levels) z)
 

@@ -41,7 +41,7 @@ settle-requires-else-times-turn c =
     let ls = Again a.stands.0 x (c.args.turn + 1) c.args.times ∷ a.others in
     let w = looped c.args.script.now c.args.self.now.base c.drop_top.new.frames.items c.push_reserved.new.self.items c.args.body a.stands.0 x (c.args.turn + 1) c.args.times a.others e1 (ap (path_of c.args.self.now.base) f) a.stands.2 (subst P (sym f) a.rest) in
     let y = same-path c.args.self.now.base c.drop_top.new.frames.items c.push_reserved.new.self.items (Turns c.args.body (c.args.turn + 1) c.args.times) x e1 (path-turns c.args.self.now.base c.drop_top.new.frames.items c.args.body (c.args.turn + 1) c.args.times) (ap (path_of c.args.self.now.base) f) in
-    let z = entered c.args.script.now c.args.self.now.base c.push_reserved.new.self.items c.push_reserved-else-times-turn.new.self.items c.args.body a.stands.0 x c.args.turn ls c.push_reserved-else-times-turn.ensures.items y a.stands.2 w in
+    let z = entered c.args.script.now c.args.self.now.base c.push_reserved.new.self.items c.enter.new.frames.items c.args.body a.stands.0 x c.args.turn ls c.enter.ensures y a.stands.2 w in
     (c.args.self.now.base, More a.stands.0 (at x c.args.turn) 0 ∷ ls, z)
 
 pub returns-else-times-turn : goal.returns-else-times-turn
@@ -56,7 +56,7 @@ returns-else-times-turn c here t below h e =
     let ls = Again a.stands.0 x (c.args.turn + 1) c.args.times ∷ a.others in
     let w = looped c.args.script.now c.args.self.now.base c.drop_top.new.frames.items c.push_reserved.new.self.items c.args.body a.stands.0 x (c.args.turn + 1) c.args.times a.others e1 (ap (path_of c.args.self.now.base) f) a.stands.2 (subst P (sym f) a.rest) in
     let y = same-path c.args.self.now.base c.drop_top.new.frames.items c.push_reserved.new.self.items (Turns c.args.body (c.args.turn + 1) c.args.times) x e1 (path-turns c.args.self.now.base c.drop_top.new.frames.items c.args.body (c.args.turn + 1) c.args.times) (ap (path_of c.args.self.now.base) f) in
-    let z = entered c.args.script.now c.args.self.now.base c.push_reserved.new.self.items c.push_reserved-else-times-turn.new.self.items c.args.body a.stands.0 x c.args.turn ls c.push_reserved-else-times-turn.ensures.items y a.stands.2 w in
+    let z = entered c.args.script.now c.args.self.now.base c.push_reserved.new.self.items c.enter.new.frames.items c.args.body a.stands.0 x c.args.turn ls c.enter.ensures y a.stands.2 w in
     let r = calm-turns c.args.script.now c.args.self.now t below c.args.body c.args.turn c.args.times a in
     let d : Control = record { base = c.args.self.now.base; frames = c.settle-else-times-turn.new.frames; raised = c.args.self.now.raised; vars = c.args.self.now.vars } in
     step-leaves c.args.script.now d _ _ c.args.self.now.vars (More a.stands.0 (at x c.args.turn) 0 ∷ ls) None (turns-does c.args.script.now c.args.self.now t below c.args.body c.args.turn c.args.times r a c.args.self.now.vars here.0) r

@@ -1,34 +1,30 @@
 -- The store call of a task.
-use Rattle.std.specs.Prelude.{◌≡◌, ℕ, zero, suc, ℤ, ◌+◌, ◌*◌, ◌^◌, ◌<◌, ◌≤◌, ◌==◌, max, Bool, true, false, cond, List, [], ◌∷◌, ◌++◌, reverse, length, Option, Some, None, Result, Ok, Err, slice_get, slice_set, refl}
+use Rattle.std.specs.Prelude.{◌≡◌, ℕ, zero, suc, ◌+◌, ◌*◌, ◌^◌, ◌<◌, ◌≤◌, max, false, List, [], ◌∷◌, ◌++◌, reverse, length, Option, Some, None, Result, slice_get, slice_set, refl}
 use Rattle.std.proofs.Common.{ap, ◌∙◌, sym, subst, arith}
-use Rattle.std.proofs.lemmas.Bool.{eqb-true}
 use Rattle.rx_base.specs.declared.ids.PlaceId.{PlaceId}
 use Rattle.rx_base.specs.declared.ids.TaskId.{TaskId}
 use Rattle.rx_base.specs.declared.values.Value.{Value}
-use Rattle.rx_base.specs.declared.values.Value.TheVariants.{Num as Number}
 use Rattle.rx_base.specs.declared.values.Fault.{Fault}
-use Rattle.rx_base.specs.declared.values.Fault.TheVariants.{Thrown, WrongPlace}
 use Rattle.rx_base.proofs.SameIds.{place-is}
 use Rattle.rx_base.proofs.Elements.{get-set}
 use Rattle.rx_rules.specs.declared.tasks.Task.{Task}
 use Rattle.rx_rules.specs.declared.tasks.Where.TheVariants.{At as IsAt}
-use Rattle.rx_rules.specs.declared.tasks.Kind.{Kind}
 use Rattle.rx_rules.specs.declared.events.Cell.{Cell}
 use Rattle.rx_rules.specs.declared.events.PlaceEvent.{PlaceEvent}
 use Rattle.rx_rules.specs.declared.events.PlaceEvent.TheVariants.{Done as Did, Close}
-use Rattle.rx_rules.specs.Code.{Block, work, Stmt, SetTo, New, Get, Put, Forget, Print, Census, Throw, Async, AtAsync, At, Finish, If, Repeat, Try}
-use Rattle.rx_rules.specs.Terms.{Vars, Term, Empty, Run, Raise, Turns, Trying, Body, Held, items, at, Answer, Gives, Fine, Fails, answered, vars_after, answer_of, Does, Local, Makes, Gets, Puts, Forgets, Opens, Calls, Spawns, Waits, Releases, Prints, Counts, Done, raise, bound, value_of, ref_in, eval, target_of, is_zero, with_number, with_place, stmt_does, within, does, begins, after_it, receives, stmt_receives}
+use Rattle.rx_rules.specs.Code.{Block, work}
+use Rattle.rx_rules.specs.Terms.{items, at, Answer, answered, vars_after, answer_of, Releases, does, begins, receives}
 use Rattle.rx_rules.specs.Tree.{Tree}
 use Rattle.rx_rules.specs.Store.{State, opening_state, MayCell, after_cell}
 use Rattle.rx_rules.specs.Plays.{Tells, begun, journal_at}
 use Rattle.rx_rules.specs.Run.{Given, in_all, Proper, death_number}
 use Rattle.rx_rules.specs.Picked.{Game, Player, Goes, stays, local, stores, tree_in}
-use Rattle.rx_runs.specs.Steps.{steps, Sinks, TermSinks}
+use Rattle.rx_runs.specs.Steps.{steps, TermSinks}
 use Rattle.rx_runs.specs.Games.{Leads, rests, steps as more, NotAbove, JournalSo, GameOk}
 use Rattle.rx_runs.specs.Ties.{RowSo}
 use Rattle.rx_runs.specs.Coming.{CameTo, GamesCome}
 use Rattle.rx_runs.specs.Events.{FewEvents, GoingTells}
-use Rattle.rx_runs.specs.SomeWords.{MakesSome, TermMakesSome, AsksSome, ComesSome, GoesSome}
+use Rattle.rx_runs.specs.SomeWords.{MakesSome, TermMakesSome, ComesSome, GoesSome}
 use Rattle.rx_runs.proofs.Pairs.{pairs-get}
 use Rattle.rx_runs.proofs.Rows.{row-found}
 use Rattle.rx_nodes.specs.Shape.{Shape}
@@ -37,27 +33,24 @@ use Rattle.rx_store.specs.Answers.{event_told}
 use Rattle.rx_store.specs.declared.calls.Mark.{Mark}
 use Rattle.rx_store.proofs.Running.{state_done, closed_done, stamp_done}
 use Rattle.rx_control.specs.declared.step.CellOp.{CellOp}
-use Rattle.rx_control.specs.declared.step.CellOp.TheVariants.{Make, Get as GetWord, Put as PutWord, Forget as ForgetBlock}
 use Rattle.rx_control.specs.declared.step.Next.TheVariants.{Cell as CellStep}
 use Rattle.rx_control.specs.Next.{next_of}
 use Rattle.rx_control.specs.Stands.{StandsFor}
 use Rattle.rx_machine.specs.declared.machine.Machine.{Machine}
 use Rattle.rx_machine.specs.declared.seat.Seat.{Seat}
 use Rattle.rx_terms.specs.Held.{is_held, HeldInFront}
-use Rattle.rx_terms.specs.Spine.{NoScopeOpen, Spine}
 use Rattle.rx_machine.specs.Slots.{IsSeat, live_task, own_kinds}
 use Rattle.rx_stores.specs.Kepts.{StoresAre}
 use Rattle.rx_machine.specs.Holds.{Acting}
 use Rattle.rx_machine.specs.Inside.Requests.{OnlyStores, AfterStep}
-use Rattle.rx_stores.specs.Asked.{MayAskStore, Receives, Asked}
+use Rattle.rx_stores.specs.Asked.{Asked}
 use Rattle.rx_machine.proofs.Live.{live_stands}
-use Rattle.rx_terms.proofs.Beginning.{begins-so}
+use Rattle.rx_terms.proofs.Beginning.{begins-so, begun_one}
 use Rattle.rx_terms.proofs.Receiving.{call-so}
 use Rattle.rx_stores.proofs.StoreCalls.{IsCall, is_call}
-use Rattle.rx_terms.proofs.Granting.{after-answer, unheld-after}
-use Rattle.rx_terms.proofs.SpineGrants.{IsBegun, spine-answer, begun_is, flat-after}
+use Rattle.rx_terms.proofs.SpineGrants.{answer_spine, begun_is}
 use Rattle.rx_machine.proofs.Stepping.{goes-stores, acting-on}
-use Rattle.rx_terms.proofs.Granting.{not_held}
+use Rattle.rx_terms.proofs.Granting.{answer_waits, not_held}
 
 -- Stores by their places.
 
@@ -176,30 +169,17 @@ module _ {L : Type 0} (stands : L → ℕ → Tree → Type 0) (shape : Shape) (
 answered-seat : (shape : Shape) (T : Tree) (i : ℕ) (here : PlaceId) (q : Player) (seat seat' : Seat) (x : List ℕ) (ans : Answer) → IsSeat shape T i q seat → begins q.term ≡ Some x → (does q.vars here.0 q.term ≡ Releases → ⊥) → StandsFor shape seat'.control.value (answered ans q.term) → seat'.control.value.vars ≡ vars_after ans seat.control.value.vars → seat'.batch ≡ seat.batch ++ x ∷ [] → seat'.row ≡ seat.row → seat'.scopes ≡ seat.scopes → IsSeat shape T i (record { term = answered ans q.term; vars = vars_after ans q.vars; batch = begun q.term q.batch }) seat'
 answered-seat shape T i here q seat seat' x ans s b free term vars batch row scopes =
     let away : is_held q.term ≡ false = not_held q.vars here.0 q.term free in
-    let waits : HeldInFront (answered ans q.term) × (is_held (answered ans q.term) ≡ false) = answer-waits ans q.term s.held in
+    let waits : HeldInFront (answered ans q.term) × (is_held (answered ans q.term) ≡ false) = answer_waits ans q.term s.held in
     record {
       row = s.row ∙ ap (λ (y : Task). Some y) (sym row);
       scopes = s.scopes ∙ ap (λ ss. reverse ss.items) (sym scopes);
       term = term;
       vars = vars ∙ ap (vars_after ans) s.vars;
-      batch = batch ∙ (ap (λ (l : List (List ℕ)). l ++ x ∷ []) s.batch ∙ sym (begun-one q.term q.batch x b));
+      batch = batch ∙ (ap (λ (l : List (List ℕ)). l ++ x ∷ []) s.batch ∙ sym (begun_one q.term q.batch x b));
       waits = ap (λ (y : Task). y.waits) row ∙ (s.waits ∙ (away ∙ sym waits.1));
       held = waits.0;
-      spine = answer-spine ans q.term (reverse (own_kinds T i)) s.spine (begun_is q.term x b);
+      spine = answer_spine ans q.term (reverse (own_kinds T i)) s.spine (begun_is q.term x b);
     }
-  where
-    begun-one : (t : Term) (batch : List (List ℕ)) (x : List ℕ) → begins t ≡ Some x → begun t batch ≡ batch ++ x ∷ []
-    begun-one t batch x e = ap (λ (o : Option (List ℕ)). elim o as (λ _. List (List ℕ)) [ Some y ↦ batch ++ y ∷ [] | None ↦ batch ]) e
-
-    answer-waits : (ans : Answer) (t : Term) → HeldInFront t → HeldInFront (answered ans t) × (is_held (answered ans t) ≡ false)
-    answer-waits (Gives name value) t h = after-answer t (after_it t) h (unheld-after t h)
-    answer-waits Fine t h = after-answer t (after_it t) h (unheld-after t h)
-    answer-waits (Fails fault) t h = after-answer t (Raise (fault ∷ [])) h tt
-
-    answer-spine : (ans : Answer) (t : Term) (ks : List Kind) → Spine t ks → IsBegun t → Spine (answered ans t) ks
-    answer-spine (Gives name value) t ks h b = spine-answer ks t (after_it t) h (flat-after t ks h) b
-    answer-spine Fine t ks h b = spine-answer ks t (after_it t) h (flat-after t ks h) b
-    answer-spine (Fails fault) t ks h b = spine-answer ks t (Raise (fault ∷ [])) h tt b
 
 -- the mark's event
 event-is : (n : ℕ) (t : TaskId) (x : List ℕ) (es : List PlaceEvent) (mark : Mark) (cell : Cell) → mark.task ≡ t → mark.stamp ≡ n → mark.path ≡ x → last_stamp es ≤ n → event_told es mark cell ≡ Did t n cell x

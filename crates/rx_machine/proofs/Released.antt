@@ -33,7 +33,6 @@ use Rattle.rx_machine.specs.declared.seat.Seat.{Seat}
 use Rattle.rx_machine.specs.Inside.Callers.{caller}
 use Rattle.rx_machine.specs.Slots.{IsSeat, live_task, own_scopes, own_kinds}
 use Rattle.rx_terms.specs.Spine.{Spine}
-use Rattle.rx_terms.specs.Held.{is_held}
 use Rattle.rx_machine.specs.Holds.{Seated, Acting, IsPick, LeadsTo}
 use Rattle.rx_machine.proofs.Live.{live_number, live_stands, change-other, change-same, release-live}
 use Rattle.rx_machine.proofs.Own.{release-own}

@@ -1,5 +1,5 @@
 -- One step more of a task that makes its turn.
-use Rattle.std.specs.Prelude.{◌≡◌, ℕ, ◌+◌, ◌*◌, ◌≤◌, true, false, List, [], ◌∷◌, ◌++◌, reverse, length, Some, None, slice_set, refl}
+use Rattle.std.specs.Prelude.{◌≡◌, ℕ, ◌+◌, ◌*◌, ◌≤◌, false, List, [], ◌∷◌, ◌++◌, reverse, length, Some, None, slice_set, refl}
 use Rattle.std.proofs.Common.{ap, ◌∙◌, sym, subst, arith}
 use Rattle.rx_base.specs.declared.ids.PlaceId.{PlaceId}
 use Rattle.rx_base.specs.declared.ids.TaskId.{TaskId}
@@ -32,7 +32,7 @@ use Rattle.rx_stores.specs.Kepts.{StoresAre}
 use Rattle.rx_machine.specs.Holds.{Shares, Acting}
 use Rattle.rx_machine.specs.Inside.Requests.{IsAsked, OnlyStores, AfterStep}
 use Rattle.rx_terms.proofs.Holding.{AfterLocal, after-local}
-use Rattle.rx_terms.proofs.Granting.{held-releases, not_held}
+use Rattle.rx_terms.proofs.Granting.{not_held}
 use Rattle.rx_terms.proofs.Spines.{LeavesSpine, spine-local}
 
 -- Steps at the end.

@@ -1,10 +1,9 @@
 // The turn of a census.
 ghost use Rattle.std.specs.Prelude.{◌≡◌, ◌<◌, ℕ, OnOk, OnErr};
-ghost use Rattle.rx_base.specs.declared.ids.PlaceId.{PlaceId};
 ghost use Rattle.rx_rules.specs.Terms.{Counts};
 ghost use Rattle.rx_machine.specs.Refusals.{NothingTold};
-ghost use Rattle.rx_machine.specs.Inside.Games.{SomeDoing};
-ghost use Rattle.rx_machine.specs.Inside.Acts.{HasDone};
+ghost use Rattle.rx_machine.specs.Inside.Games.{SomeAsking};
+ghost use Rattle.rx_machine.specs.Inside.Acts.{HasAsked};
 
 use crate::control;
 use crate::entry::path_of;
@@ -19,10 +18,8 @@ impl<L: FinishLedger> Machine<L> {
     /// Ends a turn by a census: the task is told the number of places.
     pub(crate) fn census(&mut self, p: &Program, i: usize, mut seat: Seat) -> Result<(), NoMemory>
         requires room { 0 < self.old.history.spare }
-        requires game { (here : PlaceId)
-            × SomeDoing L.stands p.now.script self.old i here seat (λ d. (name : ℕ) × (d ≡ Counts name)) }
-        ensures made { OnOk result ((here : PlaceId)
-            → HasDone L.stands p.now.script self.old self.new i here seat (λ d. (name : ℕ) × (d ≡ Counts name))) }
+        requires game { SomeAsking L.stands p.now.script self.old i seat (λ d. (name : ℕ) × (d ≡ Counts name)) }
+        ensures made { OnOk result (HasAsked L.stands p.now.script self.old self.new i seat (λ d. (name : ℕ) × (d ≡ Counts name))) }
         ensures refused { OnErr result (NothingTold self.old self.new) }
         ensures ready { self.new.ready ≡ self.old.ready }
     {

@@ -9,7 +9,7 @@ ghost use Rattle.rx_sound.specs.Enabling.{nearest_opener as nearest};
 ghost use Rattle.rx_nodes.specs.Shape.{Shape};
 ghost use Rattle.rx_machine.specs.Slots.{seat_at};
 ghost use Rattle.rx_machine.specs.Holds.{Holds, CanTurn, Finished};
-ghost use Rattle.rx_machine.specs.Inside.Games.{SomeTurning, EachTurning, SomeMoved, EachMoved};
+ghost use Rattle.rx_machine.specs.Inside.Games.{SomeTurning, EachTurning, SomeMoved, EachMoved, SomeNoting, EachNoted};
 ghost use Rattle.rx_machine.specs.Refusals.{HasFailed};
 ghost use Rattle.rx_machine.specs.Picking.{slot_able, is_listed, IsReady};
 ghost use Rattle.rx_origins.specs.Origins.{TellsOrigins};
@@ -39,12 +39,7 @@ impl<L: FinishLedger> Machine<L> {
         rx_sound::waiter_has_scope();
         match &self.seats[i] {
             None => false,
-            Some(seat) => {
-                if !seat.row.waits {
-                    return true;
-                }
-                self.ledger.ready(seat.caller())
-            }
+            Some(seat) => !seat.row.waits || self.ledger.ready(seat.caller()),
         }
     }
 
@@ -101,12 +96,10 @@ impl<L: FinishLedger> Machine<L> {
     fn note_tasks(&mut self, i: usize, under: ScopeId, before: usize)
         requires room { length self.old.seats.items ≤ self.old.ready.tasks.room }
         requires inside { i < length self.old.seats.items }
-        requires game { SomeMoved L.stands self.old i under before (λ U G H.
-            TellsOrigins (tree_in U H) self.old.ready.origins.items) }
+        requires game { SomeNoting L.stands self.old i under before }
         ensures same { self.new ≡ record self.old { ready = self.new.ready } }
         ensures origins { self.new.ready.origins ≡ self.old.ready.origins }
-        ensures ready { EachMoved L.stands self.old i under before (λ U G H.
-            TellsOrigins (tree_in U H) self.old.ready.origins.items → IsReady (tree_in U H) self.new.ready.tasks.members) }
+        ensures ready { EachNoted L.stands self.old self.new i under before }
     {
         rx_sound::reached_is_sound();
         rx_sound::others_stay_enabled();
@@ -126,12 +119,10 @@ impl<L: FinishLedger> Machine<L> {
         requires room { length self.old.seats.items ≤ self.old.ready.tasks.room }
         requires inside { i < length self.old.seats.items }
         requires ended { seat_at self.old.seats.items i ≡ None }
-        requires game { (before : ℕ) × SomeMoved L.stands self.old i under before (λ U G H.
-            TellsOrigins (tree_in U H) self.old.ready.origins.items) }
+        requires game { (before : ℕ) × SomeNoting L.stands self.old i under before }
         ensures same { self.new ≡ record self.old { ready = self.new.ready } }
         ensures origins { self.new.ready.origins ≡ self.old.ready.origins }
-        ensures ready { (before : ℕ) → EachMoved L.stands self.old i under before (λ U G H.
-            TellsOrigins (tree_in U H) self.old.ready.origins.items → IsReady (tree_in U H) self.new.ready.tasks.members) }
+        ensures ready { (before : ℕ) → EachNoted L.stands self.old self.new i under before }
     {
         rx_sound::reached_is_sound();
         rx_sound::end_frees_one();

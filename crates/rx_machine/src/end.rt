@@ -1,12 +1,11 @@
 // The turn in which a task ends.
 ghost use Rattle.std.specs.Prelude.{◌≡◌, ◌<◌, ℕ, List, OnOk, OnErr};
-ghost use Rattle.rx_base.specs.declared.ids.PlaceId.{PlaceId};
 ghost use Rattle.rx_base.specs.declared.values.Fault.{Fault};
 ghost use Rattle.rx_rules.specs.Terms.{Done};
 ghost use Rattle.rx_nodes.specs.Shape.{Shape};
 ghost use Rattle.rx_machine.specs.Refusals.{NothingTold};
-ghost use Rattle.rx_machine.specs.Inside.Games.{SomeDoing};
-ghost use Rattle.rx_machine.specs.Inside.Acts.{HasDone};
+ghost use Rattle.rx_machine.specs.Inside.Games.{SomeAsking};
+ghost use Rattle.rx_machine.specs.Inside.Acts.{HasAsked};
 
 use crate::entry::{faults_of, no_memory};
 use crate::machine::Machine;
@@ -19,10 +18,10 @@ impl<L: FinishLedger> Machine<L> {
     /// Ends a turn by the end of the task, whose slot stays empty.
     pub(crate) fn end(&mut self, mut seat: Seat) -> Result<(), NoMemory>
         requires room { 0 < self.old.history.spare }
-        requires game { (shape : Shape) × (i : ℕ) × (here : PlaceId)
-            × SomeDoing L.stands shape self.old i here seat (λ d. (faults : List Fault) × (d ≡ Done faults)) }
-        ensures made { OnOk result ((shape : Shape) (i : ℕ) (here : PlaceId)
-            → HasDone L.stands shape self.old self.new i here seat (λ d. (faults : List Fault) × (d ≡ Done faults))) }
+        requires game { (shape : Shape) × (i : ℕ)
+            × SomeAsking L.stands shape self.old i seat (λ d. (faults : List Fault) × (d ≡ Done faults)) }
+        ensures made { OnOk result ((shape : Shape) (i : ℕ)
+            → HasAsked L.stands shape self.old self.new i seat (λ d. (faults : List Fault) × (d ≡ Done faults))) }
         ensures refused { OnErr result (NothingTold self.old self.new) }
         ensures ready { self.new.ready ≡ self.old.ready }
     {

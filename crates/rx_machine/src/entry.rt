@@ -40,10 +40,7 @@ pub(crate) fn path_of(alloc: Global, p: &Program, control: &Box<Control>) -> Res
     requires { (t : Term) × (x : List ℕ) × StandsFor p.now.script control.now.value t × (begins t ≡ Some x) }
     ensures { IfOk result (λ path. (t : Term) (x : List ℕ) → StandsFor p.now.script control.now.value t → begins t ≡ Some x → path ≡ x) }
 {
-    match control.path(alloc, p)? {
-        Some(path) => Ok(path),
-        None => unreachable!(),
-    }
+    Ok(control.path(alloc, p)?.unwrap())
 }
 
 /// Lets a control go on whose request was granted, which raises these faults.

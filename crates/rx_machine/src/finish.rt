@@ -1,11 +1,10 @@
 // The turns in which a finish is begun, and in which it is waited for.
 ghost use Rattle.std.specs.Prelude.{◌≡◌, ◌<◌, List, OnOk, OnErr};
-ghost use Rattle.rx_base.specs.declared.ids.PlaceId.{PlaceId};
 ghost use Rattle.rx_base.specs.declared.values.Fault.{Fault};
 ghost use Rattle.rx_rules.specs.Terms.{Opens, Waits};
 ghost use Rattle.rx_machine.specs.Refusals.{NothingTold};
-ghost use Rattle.rx_machine.specs.Inside.Games.{SomeDoing};
-ghost use Rattle.rx_machine.specs.Inside.Acts.{HasDone};
+ghost use Rattle.rx_machine.specs.Inside.Games.{SomeAsking};
+ghost use Rattle.rx_machine.specs.Inside.Acts.{HasAsked};
 
 use crate::entry::{faults_of, go_on, no_memory, path_of};
 use crate::machine::Machine;
@@ -24,8 +23,8 @@ impl<L: FinishLedger> Machine<L> {
         mut seat: Seat,
     ) -> Result<(), NoMemory>
         requires room { 0 < self.old.history.spare }
-        requires game { (here : PlaceId) × SomeDoing L.stands p.now.script self.old i here seat (λ d. d ≡ Opens) }
-        ensures made { OnOk result ((here : PlaceId) → HasDone L.stands p.now.script self.old self.new i here seat (λ d. d ≡ Opens)) }
+        requires game { SomeAsking L.stands p.now.script self.old i seat (λ d. d ≡ Opens) }
+        ensures made { OnOk result (HasAsked L.stands p.now.script self.old self.new i seat (λ d. d ≡ Opens)) }
         ensures refused { OnErr result (NothingTold self.old self.new) }
         ensures ready { self.new.ready ≡ self.old.ready }
     {
@@ -54,10 +53,8 @@ impl<L: FinishLedger> Machine<L> {
     /// Ends a turn by the wait for a finish whose body has ended.
     pub(crate) fn wait(&mut self, p: &Program, i: usize, mut seat: Seat) -> Result<(), NoMemory>
         requires room { 0 < self.old.history.spare }
-        requires game { (here : PlaceId)
-            × SomeDoing L.stands p.now.script self.old i here seat (λ d. (faults : List Fault) × (d ≡ Waits faults)) }
-        ensures made { OnOk result ((here : PlaceId)
-            → HasDone L.stands p.now.script self.old self.new i here seat (λ d. (faults : List Fault) × (d ≡ Waits faults))) }
+        requires game { SomeAsking L.stands p.now.script self.old i seat (λ d. (faults : List Fault) × (d ≡ Waits faults)) }
+        ensures made { OnOk result (HasAsked L.stands p.now.script self.old self.new i seat (λ d. (faults : List Fault) × (d ≡ Waits faults))) }
         ensures refused { OnErr result (NothingTold self.old self.new) }
         ensures ready { self.new.ready ≡ self.old.ready }
     {

@@ -2,7 +2,7 @@
 ghost use Rattle.std.specs.Prelude.{◌≡◌, ◌<◌, OnOk, OnErr};
 ghost use Rattle.rx_machine.specs.Refusals.{HasTold};
 ghost use Rattle.rx_machine.specs.Runs.{AfterTurn};
-ghost use Rattle.rx_machine.specs.Inside.Games.{SomeTaken, EachTaken, SomeActing, EachActing};
+ghost use Rattle.rx_machine.specs.Inside.Games.{SomeTaken, EachTaken, SomeActing, EachActing, EachTold};
 
 use crate::machine::Machine;
 use crate::seat::{Seat, take_seat};
@@ -43,8 +43,7 @@ impl<L: FinishLedger> Machine<L> {
         requires game { SomeActing L.stands p.now.script self.old i here seat }
         ensures made { OnOk result (EachActing L.stands p.now.script self.old i here seat (λ code U k q G.
             AfterTurn L.stands p.now.script code U self.new k G)) }
-        ensures refused { OnErr result (EachActing L.stands p.now.script self.old i here seat (λ code U k q G.
-            HasTold U k G self.new.stores.items)) }
+        ensures refused { OnErr result (EachTold L.stands p.now.script self.old self.new i here seat) }
         ensures history { OnErr result (self.new.history ≡ self.old.history) }
         ensures ready { self.new.ready ≡ self.old.ready }
     {

@@ -1,10 +1,9 @@
 // The turn of a print.
 ghost use Rattle.std.specs.Prelude.{◌≡◌, ◌<◌, OnOk, OnErr};
-ghost use Rattle.rx_base.specs.declared.ids.PlaceId.{PlaceId};
 ghost use Rattle.rx_rules.specs.Terms.{Prints};
 ghost use Rattle.rx_machine.specs.Refusals.{NothingTold};
-ghost use Rattle.rx_machine.specs.Inside.Games.{SomeDoing};
-ghost use Rattle.rx_machine.specs.Inside.Acts.{HasDone};
+ghost use Rattle.rx_machine.specs.Inside.Games.{SomeAsking};
+ghost use Rattle.rx_machine.specs.Inside.Acts.{HasAsked};
 
 use crate::entry::{go_on, path_of};
 use crate::machine::Machine;
@@ -24,9 +23,8 @@ impl<L: FinishLedger> Machine<L> {
         value: i64,
     ) -> Result<(), NoMemory>
         requires room { 0 < self.old.history.spare }
-        requires game { (here : PlaceId) × SomeDoing L.stands p.now.script self.old i here seat (λ d. d ≡ Prints value) }
-        ensures made { OnOk result ((here : PlaceId)
-            → HasDone L.stands p.now.script self.old self.new i here seat (λ d. d ≡ Prints value)) }
+        requires game { SomeAsking L.stands p.now.script self.old i seat (λ d. d ≡ Prints value) }
+        ensures made { OnOk result (HasAsked L.stands p.now.script self.old self.new i seat (λ d. d ≡ Prints value)) }
         ensures refused { OnErr result (NothingTold self.old self.new) }
         ensures ready { self.new.ready ≡ self.old.ready }
     {

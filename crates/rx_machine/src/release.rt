@@ -5,13 +5,13 @@ ghost use Rattle.rx_rules.specs.Terms.{Releases};
 ghost use Rattle.rx_rules.specs.Picked.{Turn};
 ghost use Rattle.rx_machine.specs.Refusals.{NothingTold};
 ghost use Rattle.rx_machine.specs.Holds.{Finished, LeadsTo};
-ghost use Rattle.rx_machine.specs.Inside.Games.{SomeDoing, SomeReleasing, EachReleasing};
-ghost use Rattle.rx_machine.specs.Inside.Acts.{HasDone};
+ghost use Rattle.rx_machine.specs.Inside.Games.{SomeAsking, SomeReleasing, EachReleasing};
+ghost use Rattle.rx_machine.specs.Inside.Acts.{HasAsked};
 
 use crate::entry::{go_on, no_memory};
 use crate::machine::Machine;
 use crate::seat::Seat;
-use rx_base::{NoMemory, PlaceId, ScopeId};
+use rx_base::{NoMemory, ScopeId};
 use rx_check::Program;
 use rx_control::faults_raised;
 use rx_finish::FinishLedger;
@@ -21,8 +21,8 @@ impl<L: FinishLedger> Machine<L> {
     /// Ends a turn by the release of the scope at which the task waits.
     pub(crate) fn release(&mut self, p: &Program, i: usize, mut seat: Seat) -> Result<(), NoMemory>
         requires room { 0 < self.old.history.spare }
-        requires game { (here : PlaceId) × SomeDoing L.stands p.now.script self.old i here seat (λ d. d ≡ Releases) }
-        ensures made { OnOk result ((here : PlaceId) → HasDone L.stands p.now.script self.old self.new i here seat (λ d. d ≡ Releases)) }
+        requires game { SomeAsking L.stands p.now.script self.old i seat (λ d. d ≡ Releases) }
+        ensures made { OnOk result (HasAsked L.stands p.now.script self.old self.new i seat (λ d. d ≡ Releases)) }
         ensures refused { OnErr result (NothingTold self.old self.new) }
         ensures ready { self.new.ready ≡ self.old.ready }
     {

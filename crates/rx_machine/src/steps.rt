@@ -9,7 +9,7 @@ ghost use Rattle.rx_control.specs.Next.{next_of};
 ghost use Rattle.rx_machine.specs.Holds.{Acting};
 ghost use Rattle.rx_machine.specs.Refusals.{HasTold};
 ghost use Rattle.rx_machine.specs.Inside.Requests.{IsRequest, OnlyStores, AfterStep};
-ghost use Rattle.rx_machine.specs.Inside.Games.{SomeActing, SomeDoing, EachActing};
+ghost use Rattle.rx_machine.specs.Inside.Games.{SomeActing, SomeDoing, EachActing, EachTold};
 
 use crate::control;
 use crate::entry::path_of;
@@ -39,8 +39,7 @@ impl<L: FinishLedger> Machine<L> {
         ensures next { IfOk result (λ next. EachActing L.stands p.now.script self.old i here seat.old (λ code U k q G.
             (r : Player) × Acting L.stands p.now.script code U self.new k i here r seat.new G
             × IsRequest next (does r.vars here.0 r.term))) }
-        ensures refused { OnErr result (EachActing L.stands p.now.script self.old i here seat.old (λ code U k q G.
-            HasTold U k G self.new.stores.items)) }
+        ensures refused { OnErr result (EachTold L.stands p.now.script self.old self.new i here seat.old) }
     {
         rx_runs::few_steps_are_left();
         rx_runs::going_sinks();
@@ -65,8 +64,7 @@ impl<L: FinishLedger> Machine<L> {
         ensures same { OnlyStores self.old self.new }
         ensures next { IfOk result (λ next. EachActing L.stands p.now.script self.old i here seat.old (λ code U k q G.
             AfterStep L.stands p.now.script code U self.new k i here q seat.new G next)) }
-        ensures refused { OnErr result (EachActing L.stands p.now.script self.old i here seat.old (λ code U k q G.
-            HasTold U k G self.new.stores.items)) }
+        ensures refused { OnErr result (EachTold L.stands p.now.script self.old self.new i here seat.old) }
     {
         rx_runs::terms_sink();
         match control::next(&seat.control, p, here) {
@@ -135,13 +133,10 @@ fn begin(alloc: Global, p: &Program, seat: &mut Seat) -> Result<(), NoMemory>
     ensures { OnOk result ((t : Term) → StandsFor p.now.script seat.old.control.value t
         → seat.new ≡ record seat.old { batch = begun t seat.old.batch }) }
 {
-    match seat.control.path(alloc, p)? {
-        Some(path) => {
-            seat.batch.push(path)?;
-            Ok(())
-        }
-        None => Ok(()),
+    if let Some(path) = seat.control.path(alloc, p)? {
+        seat.batch.push(path)?;
     }
+    Ok(())
 }
 
 // Notes the statement that the next step begins, and gives its path.

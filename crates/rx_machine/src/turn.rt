@@ -2,16 +2,11 @@
 ghost use Rattle.std.specs.Prelude.{◌≡◌, ◌<◌, ◌^◌, ◌%◌, ℕ, suc, length, map, slice_get, Some, Ok, OnOk, OnErr, true, false};
 ghost use Rattle.std.specs.Prelude.{vec_len, vec_capacity};
 ghost use Rattle.rx_rules.specs.declared.entries.Entry.TheVariants.{Death};
-ghost use Rattle.rx_rules.specs.Code.{Block};
-ghost use Rattle.rx_rules.specs.Run.{Given};
-ghost use Rattle.rx_rules.specs.Picked.{Game, Turn as MadeTurn, tree_in};
-ghost use Rattle.rx_nodes.specs.Shape.{Shape};
-ghost use Rattle.rx_machine.specs.Picking.{IsReady};
-ghost use Rattle.rx_origins.specs.Origins.{TellsOrigins};
+ghost use Rattle.rx_rules.specs.Picked.{Turn as MadeTurn};
 ghost use Rattle.rx_machine.specs.Holds.{Finished, LeadsTo};
 ghost use Rattle.rx_machine.specs.Refusals.{HasBegun};
-ghost use Rattle.rx_machine.specs.Runs.{Falling, WentOn, CanRun, HasGoneOn, HasEnded, WasRefused};
-ghost use Rattle.rx_machine.specs.Inside.Games.{EachFalling, SomeCalm, EachCalm};
+ghost use Rattle.rx_machine.specs.Runs.{WentOn, CanRun, HasGoneOn, HasEnded, WasRefused};
+ghost use Rattle.rx_machine.specs.Inside.Games.{SomeDue, EachDue, SomeCalm, EachCalm};
 
 use crate::machine::Machine;
 use crate::seat::under_of;
@@ -114,11 +109,8 @@ impl<L: FinishLedger> Machine<L> {
     fn make_death(&mut self, place: PlaceId)
         requires room { 0 < self.old.history.spare }
         requires slots { length self.old.seats.items < self.old.ready.tasks.room }
-        requires game { (shape : Shape) × (code : Block) × (U : Given) × (G : Game) × Falling L.stands shape code U self.old (Death place) G
-            × IsReady (tree_in U G) self.old.ready.tasks.members × TellsOrigins (tree_in U G) self.old.ready.origins.items }
-        ensures { EachFalling L.stands self.old (Death place) (λ shape code U G. (k : ℕ)
-            → IsReady (tree_in U G) self.old.ready.tasks.members
-            → TellsOrigins (tree_in U G) self.old.ready.origins.items → WentOn L.stands shape code U self.new k false G) }
+        requires game { SomeDue L.stands self.old (Death place) }
+        ensures { EachDue L.stands self.old (Death place) (λ shape code U k G. WentOn L.stands shape code U self.new k false G) }
     {
         rx_runs::games_come();
         rx_sound::fold_is_reached();

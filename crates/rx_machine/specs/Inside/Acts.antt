@@ -20,6 +20,10 @@ HasDone stands shape m m' i here seat IsNext =
     (code : Block) (U : Given) (k : ℕ) (q : Player) (G : Game) → Acting stands shape code U m k i here q seat G
     → IsNext (does q.vars here.0 q.term) → AfterTurn stands shape code U m' k G
 
+-- the same wherever it acts
+abbrev pub HasAsked : {L : Type 0} → (L → ℕ → Tree → Type 0) → Shape → Machine L → Machine L → ℕ → Seat → (Does → Type 0) → Type 0
+HasAsked stands shape m m' i seat IsNext = (here : PlaceId) → HasDone stands shape m m' i here seat IsNext
+
 -- the act of the seat's task was appended with the statements that it had begun, and the seat has gone back into slot i
 pub record HasClosed {L : Type 0} (m m' : Machine L) (i : ℕ) (seat : Seat) (act : Act) : Type 0 where
   pub same : m' ≡ record m { history = m'.history; seats = m'.seats }

@@ -7,11 +7,14 @@ use Rattle.rx_rules.specs.Code.{Block}
 use Rattle.rx_rules.specs.Terms.{Does, does}
 use Rattle.rx_rules.specs.Tree.{Tree}
 use Rattle.rx_rules.specs.Run.{Given}
-use Rattle.rx_rules.specs.Picked.{Game, Player}
+use Rattle.rx_rules.specs.Picked.{Game, Player, tree_in}
 use Rattle.rx_nodes.specs.Shape.{Shape}
 use Rattle.rx_machine.specs.declared.machine.Machine.{Machine}
 use Rattle.rx_machine.specs.declared.seat.Seat.{Seat}
 use Rattle.rx_machine.specs.Holds.{Acting, Landing, Releasing, CanTurn}
+use Rattle.rx_machine.specs.Picking.{IsReady}
+use Rattle.rx_origins.specs.Origins.{TellsOrigins}
+use Rattle.rx_machine.specs.Refusals.{HasTold}
 use Rattle.rx_machine.specs.Runs.{Calm, Falling, Taken, HasMoved}
 
 -- in some game a turn can be made
@@ -38,6 +41,17 @@ SomeFalling stands m e = (shape : Shape) × (code : Block) × (U : Given) × (G 
 abbrev pub EachFalling : {L : Type 0} → (L → ℕ → Tree → Type 0) → Machine L → Entry → (Shape → Block → Given → Game → Type 0) → Type 0
 EachFalling stands m e IsSo =
     (shape : Shape) (code : Block) (U : Given) (G : Game) → Falling stands shape code U m e G → IsSo shape code U G
+
+-- in some game it is due, and it is told which tasks are enabled
+abbrev pub SomeDue : {L : Type 0} → (L → ℕ → Tree → Type 0) → Machine L → Entry → Type 0
+SomeDue stands m e =
+    (shape : Shape) × (code : Block) × (U : Given) × (G : Game) × Falling stands shape code U m e G
+    × IsReady (tree_in U G) m.ready.tasks.members × TellsOrigins (tree_in U G) m.ready.origins.items
+
+-- so it is, whatever the pick, in each game in which it is due and this is told
+abbrev pub EachDue : {L : Type 0} → (L → ℕ → Tree → Type 0) → Machine L → Entry → (Shape → Block → Given → ℕ → Game → Type 0) → Type 0
+EachDue stands m e IsSo = EachFalling stands m e (λ shape code U G. (k : ℕ)
+    → IsReady (tree_in U G) m.ready.tasks.members → TellsOrigins (tree_in U G) m.ready.origins.items → IsSo shape code U k G)
 
 -- in some game no task is enabled, and the root may be released
 abbrev pub SomeReleasing : {L : Type 0} → (L → ℕ → Tree → Type 0) → Machine L → Type 0
@@ -77,11 +91,19 @@ abbrev pub EachActing : {L : Type 0} → (L → ℕ → Tree → Type 0) → Sha
 EachActing stands shape m i here seat IsSo =
     (code : Block) (U : Given) (k : ℕ) (q : Player) (G : Game) → Acting stands shape code U m k i here q seat G → IsSo code U k q G
 
+-- in each game in which it acts there, the stores of a machine have the events of a part of its walk
+abbrev pub EachTold : {L : Type 0} → (L → ℕ → Tree → Type 0) → Shape → Machine L → Machine L → ℕ → PlaceId → Seat → Type 0
+EachTold stands shape m m' i here seat = EachActing stands shape m i here seat (λ code U k q G. HasTold U k G m'.stores.items)
+
 -- in some game it acts there, and what it does next is so
 abbrev pub SomeDoing : {L : Type 0} → (L → ℕ → Tree → Type 0) → Shape → Machine L → ℕ → PlaceId → Seat → (Does → Type 0) → Type 0
 SomeDoing stands shape m i here seat IsNext =
     (code : Block) × (U : Given) × (k : ℕ) × (q : Player) × (G : Game) × Acting stands shape code U m k i here q seat G
     × IsNext (does q.vars here.0 q.term)
+
+-- in some game it acts at some place, and what it does next is so
+abbrev pub SomeAsking : {L : Type 0} → (L → ℕ → Tree → Type 0) → Shape → Machine L → ℕ → Seat → (Does → Type 0) → Type 0
+SomeAsking stands shape m i seat IsNext = (here : PlaceId) × SomeDoing stands shape m i here seat IsNext
 
 -- from some game to another the task of slot i has moved
 abbrev pub SomeMoved : {L : Type 0} → (L → ℕ → Tree → Type 0) → Machine L → ℕ → ScopeId → ℕ → (Given → Game → Game → Type 0) → Type 0
@@ -93,3 +115,12 @@ SomeMoved stands m i under before IsSo =
 abbrev pub EachMoved : {L : Type 0} → (L → ℕ → Tree → Type 0) → Machine L → ℕ → ScopeId → ℕ → (Given → Game → Game → Type 0) → Type 0
 EachMoved stands m i under before IsSo =
     (shape : Shape) (code : Block) (U : Given) (k : ℕ) (G H : Game) → HasMoved stands shape code U m k i under before G H → IsSo U G H
+
+-- from some game to another it has moved, and it is told who opened the scopes of the other
+abbrev pub SomeNoting : {L : Type 0} → (L → ℕ → Tree → Type 0) → Machine L → ℕ → ScopeId → ℕ → Type 0
+SomeNoting stands m i under before = SomeMoved stands m i under before (λ U G H. TellsOrigins (tree_in U H) m.ready.origins.items)
+
+-- wherever it has moved and this is told, a machine tells which tasks are enabled in the other
+abbrev pub EachNoted : {L : Type 0} → (L → ℕ → Tree → Type 0) → Machine L → Machine L → ℕ → ScopeId → ℕ → Type 0
+EachNoted stands m m' i under before = EachMoved stands m i under before (λ U G H.
+    TellsOrigins (tree_in U H) m.ready.origins.items → IsReady (tree_in U H) m'.ready.tasks.members)

@@ -52,7 +52,7 @@ pub end-requires-clause-game : goal.end-requires-clause-game
 end-requires-clause-game g c =
     let w = c.requires.game in
     let r = c.in_ok-next.ensures.next w.0 w.1 w.2 w.3 w.4 w.5 in
-    (c.args.p.now.script, c.args.i, c.args.here, (w.0, w.1, w.2, r.0, w.4, r.1, told_end _ _ r.2 c.in-Done.is))
+    (c.args.p.now.script, c.args.i, (c.args.here, (w.0, w.1, w.2, r.0, w.4, r.1, told_end _ _ r.2 c.in-Done.is)))
 
 pub unreachable-requires : goal.unreachable-requires
 unreachable-requires g c =

@@ -19,8 +19,8 @@ pub end-requires : goal.end-requires
 end-requires g c =
     let shape = c.requires.game.0 in
     let i = c.requires.game.1 in
-    let here = c.requires.game.2 in
-    let game = c.requires.game.3 in
+    let here = c.requires.game.2.0 in
+    let game = c.requires.game.2.1 in
     let T = tree_in game.1 game.4 in
     let a = game.5 in
     (to_join game.1 T, T, a.but.shares.ledger, subst (λ (w : Caller). MayAskEnd T w) (sym c.caller-who.ensures) (end-asks shape T i game.3 c.args.seat here game.6.0 a.gone.seat_is a.numbers a.gone.is_at game.6.1))
@@ -29,8 +29,8 @@ pub no_memory-requires : goal.no_memory-requires
 no_memory-requires g c =
     let shape = c.requires.game.0 in
     let i = c.requires.game.1 in
-    let here = c.requires.game.2 in
-    let game = c.requires.game.3 in
+    let here = c.requires.game.2.0 in
+    let game = c.requires.game.2.1 in
     let T = tree_in game.1 game.4 in
     let a = game.5 in
     let may = subst (λ (w : Caller). MayAskEnd T w) (sym c.caller-who.ensures) (end-asks shape T i game.3 c.args.seat here game.6.0 a.gone.seat_is a.numbers a.gone.is_at game.6.1) in

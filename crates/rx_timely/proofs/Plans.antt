@@ -1,6 +1,6 @@
 -- Plans, entry by entry.
 use Rattle.std.specs.Prelude.{◌≡◌, ℕ, suc, ◌+◌, true, List, [], ◌∷◌, ◌++◌, length, Option, Some, None, IfSome, IfNone, refl}
-use Rattle.std.proofs.Common.{sym, subst, ◌∙◌, arith}
+use Rattle.std.proofs.Common.{sym, subst, arith}
 use Rattle.std.proofs.lemmas.Bool.{eqb-true, eq-eqb, true≢false}
 use Rattle.rx_base.specs.declared.ids.PlaceId.{PlaceId}
 use Rattle.rx_rules.specs.declared.entries.Entry.{Entry}
@@ -9,6 +9,7 @@ use Rattle.rx_rules.specs.Run.{Event, PlanKept, IsDue, NoneDue, rest_of}
 use Rattle.rx_rules.proofs.Kills.{due-not}
 use Rattle.rx_runs.specs.Segments.{plan_left, InTime}
 use Rattle.rx_runs.proofs.Pushes.{plan-push}
+use Rattle.rx_runs.proofs.Single.{due_once}
 use Rattle.rx_kills.specs.declared.schedule.Due.{Due}
 use Rattle.rx_kills.specs.declared.schedule.Due.TheVariants.{Join as Joins, Death as Dies}
 use Rattle.rx_kills.specs.Least.{entry_of}
@@ -48,10 +49,6 @@ left_goes_on plan (Root lost masked thrown ∷ es) e = left_goes_on plan es e
 -- what is known of a plan where this is due
 abbrev pub Told : ℕ → List Event → Option Due → Type 0
 Told n xs due = IfSome due (λ x. IsDue n (entry_of x) xs) × IfNone due (NoneDue n xs)
-
-due_once : (n : ℕ) (e f : Entry) (xs : List Event) → IsDue n e xs → IsDue n f xs → e ≡ f
-due_once n e f [] h k = absurd h
-due_once n e f (x ∷ xs) h k = sym h.0 ∙ k.0
 
 same_place : (d p : PlaceId) → d.0 ≡ p.0 → d ≡ p
 same_place d p e = λ i. record { 0 = e i }

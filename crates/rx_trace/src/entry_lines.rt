@@ -1,7 +1,7 @@
 // The lines of entries.
 ghost use Rattle.std.specs.Prelude.{◌≡◌, ◌+◌, ◌≤◌, ◌++◌, codes, length, OnOk, vec_len, vec_capacity};
-ghost use Rattle.rx_trace.specs.EntryLines.{scope_in, way, act_word, act_fields, entry_text, entry_line, entry_lines};
-ghost use Rattle.rx_trace.specs.Fields.{scope_field, task_field};
+ghost use Rattle.rx_trace.specs.EntryLines.{way, act_word, act_fields, entry_text, entry_line, entry_lines};
+ghost use Rattle.rx_trace.specs.Fields.{scope_field};
 
 use crate::fields::{
     push_natural_field, push_number_field, push_place_field, push_scope_field, push_task_field,
@@ -9,7 +9,7 @@ use crate::fields::{
 };
 use crate::parts::{put_batch, put_release_parts, put_thrown};
 use crate::{Act, Entry, History};
-use rx_base::{NoMemory, Path, PlaceId, ScopeId, TaskId};
+use rx_base::{NoMemory, Path, PlaceId, ScopeId};
 use rx_text::{push_bytes, push_natural};
 
 // The lines of all entries.
@@ -95,7 +95,8 @@ fn put_act_fields(out: &mut Vec<u8>, act: &Act) -> Result<(), NoMemory>
             parent,
             path,
         } => {
-            push_scope_in(out, *scope, *parent);
+            push_scope_field(out, *scope);
+            push_in(out, *parent);
             put_path_field(out, path)
         }
         Act::At {
@@ -106,7 +107,8 @@ fn put_act_fields(out: &mut Vec<u8>, act: &Act) -> Result<(), NoMemory>
             to,
             path,
         } => {
-            push_scope_in(out, *scope, *parent);
+            push_scope_field(out, *scope);
+            push_in(out, *parent);
             push_task_field(out, *callee);
             push_way(out, *from, *to);
             put_path_field(out, path)
@@ -118,7 +120,8 @@ fn put_act_fields(out: &mut Vec<u8>, act: &Act) -> Result<(), NoMemory>
             to,
             path,
         } => {
-            push_child(out, *child, *scope);
+            push_task_field(out, *child);
+            push_in(out, *scope);
             push_way(out, *from, *to);
             put_path_field(out, path)
         }
@@ -148,28 +151,14 @@ fn put_act_fields(out: &mut Vec<u8>, act: &Act) -> Result<(), NoMemory>
     }
 }
 
-// A scope in its parent.
+// The scope in which another scope or a task stands.
 #[tactic(auto, using(std::proofs::Common::append_assoc))]
-fn push_scope_in(out: &mut Vec<u8>, scope: ScopeId, parent: ScopeId)
-    requires room { vec_len out.old + 31 ≤ vec_capacity out.old }
-    ensures items { out.new.items ≡ out.old.items ++ scope_in scope parent }
-    ensures len { vec_len out.new ≤ vec_len out.old + 31 }
+fn push_in(out: &mut Vec<u8>, scope: ScopeId)
+    requires room { vec_len out.old + 17 ≤ vec_capacity out.old }
+    ensures items { out.new.items ≡ out.old.items ++ (codes " in" ++ scope_field scope) }
+    ensures len { vec_len out.new ≤ vec_len out.old + 17 }
     ensures capacity { vec_capacity out.new ≡ vec_capacity out.old }
 {
-    push_scope_field(out, scope);
-    push_bytes(out, b" in s");
-    push_natural(out, parent.0);
-}
-
-// A new task in the scope that it hangs under.
-#[tactic(auto, using(std::proofs::Common::append_assoc))]
-fn push_child(out: &mut Vec<u8>, child: TaskId, scope: ScopeId)
-    requires room { vec_len out.old + 31 ≤ vec_capacity out.old }
-    ensures items { out.new.items ≡ out.old.items ++ (task_field child ++ codes " in" ++ scope_field scope) }
-    ensures len { vec_len out.new ≤ vec_len out.old + 31 }
-    ensures capacity { vec_capacity out.new ≡ vec_capacity out.old }
-{
-    push_task_field(out, child);
     push_bytes(out, b" in s");
     push_natural(out, scope.0);
 }

@@ -4,6 +4,8 @@ ghost use Rattle.rx_rules.specs.Code.{Block};
 ghost use Rattle.rx_rules.specs.Terms.{Empty, items, no_vars};
 ghost use Rattle.rx_finish.specs.Calls.{landing};
 ghost use Rattle.rx_nodes.specs.Shape.{Stands};
+ghost use Rattle.rx_check.specs.Checked.{Checked};
+ghost use Rattle.rx_control.specs.declared.step.Next.{Next as Step};
 ghost use Rattle.rx_control.specs.Stands.{StandsFor};
 ghost use Rattle.rx_book.specs.Calls.{IsFresh};
 ghost use Rattle.rx_book.specs.Passes.{view_of, word_of};
@@ -11,6 +13,8 @@ ghost use Rattle.rx_ledger.specs.Answering.{main_caller};
 ghost use Rattle.rx_activities.specs.Knowing.{PlaceIs, IsNewSeat, IsOfRun, Knows};
 ghost use Rattle.rx_activities.specs.Starting.{IsOpening, Begins};
 ghost use Rattle.rx_activities.specs.Turning.{Leaves};
+ghost use Rattle.rx_activities.specs.Inside.Stepping.{IsNext};
+ghost use Rattle.rx_activities.specs.Inside.Sending.{IsCall};
 
 use crate::hand::{Hand, Journey, Outcome, Started};
 use crate::landing::Landing;
@@ -33,6 +37,8 @@ pub struct Activity<N: Naming> {
     hand: Hand,
     // The number of entries of which it knew before it asked for a release that was not yet allowed.
     polled: Option<u32>,
+    // The number of entries of which it knew right before its last request, where it goes on behind one.
+    asked: Option<u32>,
     of: PhantomData<N>,
 }
 
@@ -128,6 +134,7 @@ impl<N: Naming> Activity<N> {
                 told,
             },
             polled: None,
+            asked: None,
             of: PhantomData,
         }
     }
@@ -144,9 +151,22 @@ impl<N: Naming> Activity<N> {
         let Activity {
             hand,
             polled: _,
+            asked: _,
             of: _,
         } = self;
         LedgerPass::of(hand.give_up())
+    }
+
+    /// Whether the history has grown by more than an entry since right before its last request, where it goes on behind one: then others
+    /// make requests too, and it may have waited for them. One load.
+    pub fn has_met_others(&mut self, ledger: &Book<LedgerObject>) -> bool
+        requires { ledger.now ≡ N.ledger }
+        ensures { self.new ≡ self.old }
+    {
+        match self.asked {
+            Some(asked) => self.hand.look(ledger) > asked.saturating_add(1),
+            None => false,
+        }
     }
 
     /// Makes the local steps up to the next call of a book, and that call: of the place's book or of the ledger's. An activity that
@@ -166,11 +186,17 @@ impl<N: Naming> Activity<N> {
         let Activity {
             mut hand,
             polled,
+            asked: _,
             of,
         } = self;
         let seen = hand.look(ledger);
         if polled == Some(seen) {
-            return Turn::Waits(Activity { hand, polled, of });
+            return Turn::Waits(Activity {
+                hand,
+                polled,
+                asked: None,
+                of,
+            });
         }
         let next = match hand.run_on(rt, alloc, p) {
             Ok(next) => next,
@@ -178,11 +204,16 @@ impl<N: Naming> Activity<N> {
                 return Turn::Failed(LedgerPass::of(hand.give_up()));
             }
         };
-        let outcome = match next {
-            Next::Cell(op) => hand.call_store(rt, alloc, p, ledger, place_book, op),
-            other => hand.call_ledger(rt, alloc, p, ledger, place_book, other),
-        };
-        turn_of(outcome, seen)
+        match next {
+            Next::Cell(op) => {
+                let outcome = hand.call_store(rt, alloc, p, ledger, place_book, op);
+                turn_of(outcome, seen, None)
+            }
+            other => {
+                let (outcome, asked) = hand.ask_now(rt, alloc, p, ledger, place_book, other);
+                turn_of(outcome, seen, Some(asked))
+            }
+        }
     }
 }
 
@@ -192,19 +223,43 @@ impl Hand {
         requires { Knows ledger.now self.old }
         ensures known { Knows ledger.now self.new }
         ensures place { self.new.place ≡ self.old.place }
+        ensures next { (p : Checked) (next : Step) → IsNext p self.old next → IsNext p self.new next }
     {
         ledger.seen_len(&mut self.pass)
+    }
+
+    // Asks the ledger for what is next, and goes on by its answer. Beside it stands the number of entries of which it knew right before.
+    fn ask_now<G: Gate + Sync, R: Wait>(
+        mut self,
+        rt: &R,
+        alloc: Global,
+        p: &Program,
+        ledger: &Book<LedgerObject>,
+        place_book: &Book<PlaceObject<'_, G>>,
+        next: Next,
+    ) -> (Outcome, u32)
+        requires program { ledger.now.fixed.program ≡ p.now }
+        requires place { PlaceIs ledger.now self.place place_book.now }
+        requires known { Knows ledger.now self }
+        requires next { IsNext p.now self next }
+        requires calls { IsCall next }
+        ensures { Leaves ledger.now result.0 }
+    {
+        let asked = self.look(ledger);
+        let outcome = self.call_ledger(rt, alloc, p, ledger, place_book, next);
+        (outcome, asked)
     }
 }
 
 // The activity of a hand.
-fn activity_of<N: Naming>(hand: Hand, polled: Option<u32>) -> Activity<N>
+fn activity_of<N: Naming>(hand: Hand, polled: Option<u32>, asked: Option<u32>) -> Activity<N>
     requires { Knows N.ledger hand }
     ensures { result ≡ hand.place }
 {
     Activity {
         hand,
         polled,
+        asked,
         of: PhantomData,
     }
 }
@@ -214,7 +269,7 @@ fn began_of<N: Naming>(started: Started) -> Began<N>
     requires { Begins N.ledger started }
 {
     match started {
-        Started::Here(hand) => Began::Here(activity_of(hand, None)),
+        Started::Here(hand) => Began::Here(activity_of(hand, None, None)),
         Started::Away(journey) => Began::Away(Traveller {
             journey,
             of: PhantomData,
@@ -224,18 +279,18 @@ fn began_of<N: Naming>(started: Started) -> Began<N>
 
 // What a turn leaves, as it may be kept. One that waits asks again once the history has more entries than these, of which it knew
 // before its request: what others append after the answer is then not missed.
-fn turn_of<N: Naming>(outcome: Outcome, seen: u32) -> Turn<N>
+fn turn_of<N: Naming>(outcome: Outcome, seen: u32, asked: Option<u32>) -> Turn<N>
     requires { Leaves N.ledger outcome }
 {
     match outcome {
         Outcome::Goes { hand, started } => Turn::Goes {
-            activity: activity_of(hand, None),
+            activity: activity_of(hand, None, asked),
             began: match started {
                 Some(started) => Some(began_of(started)),
                 None => None,
             },
         },
-        Outcome::Waits { hand } => Turn::Waits(activity_of(hand, Some(seen))),
+        Outcome::Waits { hand } => Turn::Waits(activity_of(hand, Some(seen), None)),
         Outcome::Over { pass } => Turn::Over(LedgerPass::of(pass)),
         Outcome::Failed { pass } => Turn::Failed(LedgerPass::of(pass)),
     }
@@ -269,7 +324,7 @@ impl<N: Naming> Traveller<N> {
     {
         let Traveller { journey, of: _ } = self;
         match journey.land(rt, alloc, p, ledger, seat) {
-            Landing::Landed { hand } => Arrival::Landed(activity_of(hand, None)),
+            Landing::Landed { hand } => Arrival::Landed(activity_of(hand, None, None)),
             Landing::Lost { pass } => Arrival::Lost(LedgerPass::of(pass)),
             Landing::Failed { pass } => Arrival::Failed(LedgerPass::of(pass)),
         }

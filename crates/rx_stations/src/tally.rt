@@ -11,6 +11,10 @@ const LOOKS: u32 = 20;
 // find nothing seldom read what those who work write.
 const NAPS: [u64; 4] = [20, 40, 80, 160];
 
+// How long a worker rests that meets others at the ledger, the first time and later, in microseconds; the last is taken again and
+// again. Each rest is long beside the few turns that are made between two, so most of the time those who work have the ledger near.
+const RESTS: [u64; 4] = [1000, 2000, 4000, 8000];
+
 /// How many activities there are, and whether memory was refused.
 #[derive(Drop)]
 pub(crate) struct Tally {
@@ -21,6 +25,8 @@ pub(crate) struct Tally {
     /// Activities that are over.
     over: AtomicU64,
     refused: AtomicBool,
+    /// Workers that make turns or look for something to do, and do not rest.
+    at_work: AtomicU64,
     /// Where one naps who finds nothing to do. It stays 0.
     bed: AtomicU64,
 }
@@ -33,6 +39,7 @@ impl Tally {
             going: AtomicU64::new(1),
             over: AtomicU64::new(0),
             refused: AtomicBool::new(false),
+            at_work: AtomicU64::new(0),
             bed: AtomicU64::new(0),
         }
     }
@@ -78,6 +85,35 @@ impl Tally {
         }
     }
 
+    /// A worker begins.
+    pub(crate) fn begins_work(&self) {
+        self.at_work.fetch_add(1, Ordering::SeqCst);
+    }
+
+    /// A worker ends.
+    pub(crate) fn ends_work(&self) {
+        self.at_work.fetch_sub(1, Ordering::SeqCst);
+    }
+
+    /// Whether a worker goes to rest, since another is at work. Then one less is. False too where another has just come or gone.
+    pub(crate) fn goes_to_rest(&self) -> bool {
+        let workers = self.at_work.load(Ordering::SeqCst);
+        workers > 1
+            && self
+                .at_work
+                .compare_exchange(workers, workers - 1, Ordering::SeqCst, Ordering::SeqCst)
+                .is_ok()
+    }
+
+    /// The rest of a worker that may rest, and has done so so many times. It ends early with the last activity.
+    pub(crate) fn rest<R: Wait>(&self, rt: &R, times: u32) {
+        if !self.is_done() {
+            let micros = rest_of(times);
+            self.bed.park_timeout(rt, 0, Duration::from_micros(micros));
+        }
+        self.begins_work();
+    }
+
     /// Whether memory was refused.
     pub(crate) fn is_refused(&self) -> bool {
         self.refused.load(Ordering::SeqCst)
@@ -103,4 +139,14 @@ impl Tally {
 fn nap_of(naps: u32) -> u64 {
     let at = naps as usize;
     if at < NAPS.len() { NAPS[at] } else { NAPS[3] }
+}
+
+// How long the rest is that comes after so many others.
+fn rest_of(rests: u32) -> u64 {
+    let at = rests as usize;
+    if at < RESTS.len() {
+        RESTS[at]
+    } else {
+        RESTS[3]
+    }
 }

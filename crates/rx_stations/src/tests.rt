@@ -1,4 +1,4 @@
-// When workers stop, which no contract says.
+// When workers stop, and when they may rest, which no contract says.
 use crate::tally::Tally;
 use std::test::Fail;
 
@@ -27,5 +27,21 @@ fn refused_memory_stops_all(rt: HostRuntime) -> Result<(), Fail> {
     tally.refuse();
     assert!(rt; tally.is_refused());
     assert!(rt; tally.is_done());
+    Ok(())
+}
+
+#[test]
+fn one_rests_only_where_another_works(rt: HostRuntime) -> Result<(), Fail> {
+    let tally = Tally::of_one();
+    tally.begins_work();
+    assert!(rt; !tally.goes_to_rest());
+    tally.begins_work();
+    assert!(rt; tally.goes_to_rest());
+    assert!(rt; !tally.goes_to_rest());
+    tally.rest(&rt, 0);
+    assert!(rt; tally.goes_to_rest());
+    tally.rest(&rt, 9);
+    tally.ends_work();
+    assert!(rt; !tally.goes_to_rest());
     Ok(())
 }

@@ -20,7 +20,15 @@ pub struct Worker<N: Naming> {
     /// The place where it looks first for what waits. It goes round, so that each is looked at.
     round: usize,
     kept: Option<LedgerPass<N>>,
+    /// How many more of its turns have met others at the ledger than have not, of late.
+    crowd: u32,
+    /// How often it has rested since it last met nobody for a while.
+    rests: u32,
 }
+
+// How many more of its turns a worker has to meet others at the ledger than not, before it rests: so many of the first worker, as many
+// more of each further one. So those who meet one another rest one after the other, and not all at once.
+const CROWD: u32 = 16;
 
 impl<N: Naming> Model for Worker<N> {
     ghost use Rattle.std.specs.Prelude.{List};
@@ -51,6 +59,8 @@ impl<N: Naming> Worker<N> {
             keys,
             round: 0,
             kept: None,
+            crowd: 0,
+            rests: 0,
         })
     }
 
@@ -69,10 +79,12 @@ impl<N: Naming> Worker<N> {
     {
         let mut held = None;
         let mut n = 0u64;
+        hall.tally.begins_work();
         for _turn in rt.forever() {
             gate.turn(self.number, n);
             n = n.saturating_add(1);
             let Some(job) = self.next_job(rt, hall, held) else {
+                hall.tally.ends_work();
                 return;
             };
             held = self.make(rt, alloc, hall, job);
@@ -260,18 +272,24 @@ impl<N: Naming> Worker<N> {
         }
     }
 
-    // Goes on with an activity, or puts it back behind the others of its place.
+    // Goes on with an activity, or puts it back behind the others of its place. Where it rests, others can take the activity meanwhile.
     fn hold<'a, G: Gate + Sync, R: Wait>(
         &mut self,
         rt: &R,
         hall: &Hall<'a, N, G>,
         station: &Station<'a, N, G>,
-        activity: Activity<N>,
+        mut activity: Activity<N>,
         turns: u32,
     ) -> Option<Held<N>>
         requires { hall.now.ledger.now ≡ N.ledger }
         ensures { self.new ≡ self.old }
     {
+        self.feel(activity.has_met_others(hall.ledger));
+        if self.is_crowded() && hall.tally.goes_to_rest() {
+            self.put(rt, hall, station, activity);
+            self.step_back(rt, hall);
+            return None;
+        }
         if turns > 0 {
             return Some(Held {
                 activity,
@@ -281,6 +299,34 @@ impl<N: Naming> Worker<N> {
         }
         self.put(rt, hall, station, activity);
         None
+    }
+
+    // Notes whether a turn has met others at the ledger.
+    fn feel(&mut self, met: bool)
+        ensures { self.new ≡ self.old }
+    {
+        if met {
+            self.crowd = self.crowd.saturating_add(1);
+            return;
+        }
+        self.crowd = self.crowd.saturating_sub(1);
+        if self.crowd == 0 {
+            self.rests = 0;
+        }
+    }
+
+    // Whether it has met others so often that it rests, if another is at work.
+    fn is_crowded(&self) -> bool {
+        self.crowd >= CROWD.saturating_mul(self.number.saturating_add(1))
+    }
+
+    // Rests with nothing in hand. It rests again once it has met others a few times more.
+    fn step_back<'a, G: Gate + Sync, R: Wait>(&mut self, rt: &R, hall: &Hall<'a, N, G>)
+        ensures { self.new ≡ self.old }
+    {
+        hall.tally.rest(rt, self.rests);
+        self.rests = self.rests.saturating_add(1);
+        self.crowd = self.crowd.saturating_sub(CROWD / 2);
     }
 
     // Puts an activity that may go on behind the others of its place.

@@ -12,8 +12,6 @@ mod naming;
 mod replies;
 mod steps;
 mod store;
-#[cfg(test)]
-mod tests;
 
 pub use activity::{Activity, Arrival, Began, Traveller, Turn};
 pub use naming::{LedgerPass, Naming};

@@ -9,8 +9,6 @@ mod case;
 pub mod laws;
 mod lines;
 mod program;
-#[cfg(test)]
-mod tests;
 
 pub use answers::{Question, answer};
 pub use case::CaseFault;

@@ -9,7 +9,5 @@ mod audit;
 mod granting;
 mod noting;
 mod row;
-#[cfg(test)]
-mod tests;
 
 pub use audit::Audit;

@@ -13,8 +13,6 @@ mod memory;
 mod outside;
 mod place_set;
 mod standard;
-#[cfg(test)]
-mod tests;
 mod values;
 mod word;
 

@@ -8,8 +8,6 @@
 mod books;
 mod objects;
 mod passes;
-#[cfg(test)]
-mod tests;
 mod views;
 mod word;
 

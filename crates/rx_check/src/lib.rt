@@ -14,5 +14,3 @@ pub use checker::{CheckCause, CheckFault, check};
 pub use laws::{names_are_few, steps_are_defined};
 pub use program::{Program, checked};
 
-#[cfg(test)]
-mod tests;

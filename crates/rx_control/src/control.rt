@@ -40,6 +40,13 @@ pub struct Control {
 }
 
 impl Control {
+    /// How many places the task knows of.
+    pub fn places(&self) -> u8
+        ensures { result ≡ self.now.vars.places }
+    {
+        self.vars.places()
+    }
+
     /// Tells the next step, at a place. A step that raises before the store or the ledger is asked is local. It takes no memory.
     pub fn next(&self, p: &Program, here: PlaceId) -> Next
         requires { (t : Term) × StandsFor p.now.script self.now t }

@@ -13,8 +13,6 @@ mod path;
 mod plan;
 mod statement;
 mod step;
-#[cfg(test)]
-mod tests;
 mod variables;
 
 pub use control::Control;

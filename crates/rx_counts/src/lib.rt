@@ -14,8 +14,6 @@ mod places;
 mod record;
 mod removal;
 mod table;
-#[cfg(test)]
-mod tests;
 mod totals;
 
 pub use ledger::{CountLedger, counts_stand};

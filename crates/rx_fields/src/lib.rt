@@ -8,8 +8,6 @@
 mod items;
 mod numbers;
 mod parts;
-#[cfg(test)]
-mod tests;
 mod words;
 
 pub use items::{kill, strip};

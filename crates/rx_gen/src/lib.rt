@@ -5,8 +5,6 @@
 mod counting;
 mod generator;
 mod numbers;
-#[cfg(test)]
-mod tests;
 
 pub use counting::{counts, put_counts};
 pub use generator::generate;

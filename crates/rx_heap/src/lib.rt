@@ -10,5 +10,3 @@ mod holes;
 pub use block::{Block, Full, Hole};
 pub use heap::Heap;
 
-#[cfg(test)]
-mod tests;

@@ -6,8 +6,6 @@
 
 pub mod laws;
 mod schedule;
-#[cfg(test)]
-mod tests;
 mod word;
 
 pub use schedule::{Due, Kills, left_ascend};

@@ -15,8 +15,6 @@ mod opening;
 mod parts;
 mod refusing;
 mod releasing;
-#[cfg(test)]
-mod tests;
 mod waiting;
 #[cfg(test)]
 mod worked;

@@ -6,8 +6,6 @@
 
 mod keyed_lock;
 mod steps;
-#[cfg(test)]
-mod tests;
 
 pub use keyed_lock::{Lock, Turn};
 pub use steps::{Fact, Hand};

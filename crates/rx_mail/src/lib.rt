@@ -7,8 +7,6 @@
 pub mod laws;
 mod letters;
 mod mailbox;
-#[cfg(test)]
-mod tests;
 
 pub use letters::{Letters, Posted, Taken};
 pub use mailbox::{Carried, Mail, MailPass};

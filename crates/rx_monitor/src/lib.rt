@@ -14,8 +14,6 @@ mod one_shot;
 mod page;
 mod shown_list;
 mod summary;
-#[cfg(test)]
-mod tests;
 
 pub use board::{Board, BoardReader, BoardWriter, Receipt, finish};
 pub use laws::watch_tells;

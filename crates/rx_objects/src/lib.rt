@@ -11,8 +11,6 @@ mod ledger;
 mod mentions;
 mod place;
 mod showing;
-#[cfg(test)]
-mod tests;
 mod trail;
 #[cfg(test)]
 mod worked;

@@ -16,8 +16,6 @@ mod kept;
 mod marks;
 mod order;
 mod parts;
-#[cfg(test)]
-mod tests;
 
 pub use marks::{Mark, mark_numbers};
 pub use order::before;

@@ -5,8 +5,6 @@
 
 mod laws;
 mod pair;
-#[cfg(test)]
-mod tests;
 
 pub use laws::{parts_are_one, worked_pair_is_one};
 pub use pair::split_pair;

@@ -5,8 +5,6 @@
 
 mod picks;
 mod seeds;
-#[cfg(test)]
-mod tests;
 
 pub use picks::{ListPicks, Picks};
 pub use seeds::SeedPicks;

@@ -23,5 +23,3 @@ pub use table::EventTable;
 mod admitting_tests;
 #[cfg(test)]
 mod marking_tests;
-#[cfg(test)]
-mod tests;

@@ -8,5 +8,3 @@ mod ranks;
 
 pub use ranks::Ranks;
 
-#[cfg(test)]
-mod tests;

@@ -11,7 +11,5 @@ pub mod laws;
 mod plan_lines;
 mod reader;
 mod stage;
-#[cfg(test)]
-mod tests;
 
 pub use reader::{TraceFault, read_trace};

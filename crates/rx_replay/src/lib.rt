@@ -18,5 +18,3 @@ pub use judging::judge_events;
 pub use marks::Marks;
 pub use replay::lawful_events;
 
-#[cfg(test)]
-mod tests;

@@ -7,8 +7,6 @@ mod exprs;
 mod items;
 mod laws;
 mod reader;
-#[cfg(test)]
-mod tests;
 mod writer;
 
 pub use laws::{

@@ -13,5 +13,3 @@ pub use blocks::Blocks;
 pub use calls::{Mark, StoreFault};
 pub use store::Store;
 
-#[cfg(test)]
-mod tests;

@@ -8,8 +8,6 @@ mod laws;
 mod numbers;
 mod paths;
 mod scan;
-#[cfg(test)]
-mod tests;
 
 pub use laws::{
     naturals_have_one_text, numbers_have_one_text, paths_have_one_text, written_numbers_stand,

@@ -6,8 +6,6 @@
 #![tactic(auto)]
 
 mod states;
-#[cfg(test)]
-mod tests;
 mod tickets;
 
 pub use states::{InTransit, Live, State, Waiting};

@@ -11,5 +11,3 @@ mod plan;
 pub use deaths::deaths_of;
 pub use plan::keeps_plan;
 
-#[cfg(test)]
-mod tests;

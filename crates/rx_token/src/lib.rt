@@ -7,8 +7,6 @@
 mod lexer;
 mod names;
 mod scanner;
-#[cfg(test)]
-mod tests;
 mod text;
 mod token;
 

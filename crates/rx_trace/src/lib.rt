@@ -7,8 +7,6 @@ mod event_lines;
 mod fields;
 pub mod laws;
 mod parts;
-#[cfg(test)]
-mod tests;
 mod text;
 
 pub use rx_history::{

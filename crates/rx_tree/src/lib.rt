@@ -7,8 +7,6 @@ mod changes;
 mod lookups;
 mod plain;
 mod removal;
-#[cfg(test)]
-mod tests;
 
 pub use plain::TreeLedger;
 pub use rx_finish::{Born, Caller, FinishLedger, LedgerFault, Outcome, Where};

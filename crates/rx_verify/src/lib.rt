@@ -11,5 +11,3 @@ mod verifying;
 pub use rx_verdict::Verdict;
 pub use verifying::verify;
 
-#[cfg(test)]
-mod tests;

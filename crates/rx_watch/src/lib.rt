@@ -2,8 +2,6 @@
 //! writes. docs/commands.md states the lines. The layer above uses that `put_watch` appends exactly `watch_text`.
 #![tactic(auto)]
 
-#[cfg(test)]
-mod tests;
 mod text;
 
 pub use text::put_watch;

@@ -15,8 +15,6 @@ mod reader;
 mod said;
 mod settled;
 mod taking;
-#[cfg(test)]
-mod tests;
 
 pub use command::{Command, LiveWords, PickWords, WordFault};
 pub use reader::{read_live, read_words};

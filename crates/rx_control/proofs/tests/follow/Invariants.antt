@@ -1,6 +1,0 @@
-use Rattle.rx_rules.specs.Terms.{Term}
-use Rattle.rx_control.specs.Stands.{StandsFor}
-use Rattle.rx_control.proofs.tests.follow.Given as goal
-
-abbrev pub invariant-loop-next : goal.invariant-loop-next
-invariant-loop-next g l = (t : Term) × StandsFor l.fn.p.script l.task t

@@ -1,4 +1,0 @@
-use Rattle.rx_control.proofs.tests.ledger_grants.Goals as goal
-
-pub returns-in-Ok : goal.returns-in-Ok
-returns-in-Ok c = (_, c.in-Ok.ensures.ok c.requires.0 c.requires.1)

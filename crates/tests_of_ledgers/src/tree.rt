@@ -1,0 +1,465 @@
+// Worked histories, call by call, through the bound of the trait. And that ledgers may be moved between threads.
+ghost use Rattle.std.specs.Prelude.{◌<◌, ℕ, pos, [], ◌∷◌, OnOk};
+ghost use Rattle.rx_base.specs.declared.values.Fault.TheVariants.{Thrown};
+ghost use Rattle.rx_rules.specs.declared.entries.Act.TheVariants.{Open, Spawn, Wait, End};
+ghost use Rattle.rx_rules.specs.Tree.{Tree};
+ghost use Rattle.rx_rules.specs.Entries.{made_act};
+ghost use Rattle.rx_rules.specs.Fold.{opening};
+ghost use Rattle.rx_finish.specs.Callers.{MayAskEnd};
+ghost use Rattle.rx_tree.specs.Inside.Worked.{two_deep};
+
+use rx_base::{Fault, Faults, PlaceId, PlaceSet, ScopeId, TaskId};
+use rx_tree::{Born, Caller, FinishLedger, LedgerFault, Outcome, TreeLedger, Where};
+use std::alloc::Global;
+use std::test::Fail;
+
+/// Ends a task without faults.
+fn ends<L: FinishLedger>(ledger: &mut L, who: Caller, alloc: Global) -> Result<(), LedgerFault>
+    requires { (room : ℕ) × (T : Tree) × L.stands ledger.old room T × MayAskEnd T who }
+    ensures { (room : ℕ) (T : Tree) → L.stands ledger.old room T → MayAskEnd T who
+        → OnOk result (L.stands ledger.new room (made_act T who.task (End []))) }
+{
+    if let Err(refused) = ledger.end(who, Faults::open(alloc)) {
+        return Err(refused.0);
+    }
+    Ok(())
+}
+
+/// Task 0 opens a finish, starts task 1 for place 1, and waits.
+fn begins<L: FinishLedger>(
+    ledger: &mut L,
+    alloc: Global,
+    places: u8,
+) -> Result<(ScopeId, Born), LedgerFault>
+    requires fresh { L.stands ledger.old 0 (opening places) }
+    requires enough { 1 < places }
+    ensures { OnOk result (L.stands ledger.new 0 (made_act (made_act (made_act (opening places) (record { 0 = 0 })
+        (Open (record { 0 = 1 }) (record { 0 = 0 }) [])) (record { 0 = 0 })
+        (Spawn (record { 0 = 1 }) (record { 0 = 1 }) (record { 0 = 0 }) (record { 0 = 1 }) [])) (record { 0 = 0 })
+        (Wait (record { 0 = 1 }) []))) }
+{
+    let main = Caller {
+        task: TaskId(0),
+        scope: ScopeId(0),
+        inner: ScopeId(0),
+        place: Where::At(PlaceId(0)),
+    };
+    let inside = Caller {
+        task: TaskId(0),
+        scope: ScopeId(0),
+        inner: ScopeId(1),
+        place: Where::At(PlaceId(0)),
+    };
+    let scope = ledger.open_finish(main)?;
+    let born = ledger.spawn(inside, PlaceId(1))?;
+    if let Err(refused) = ledger.wait(inside, Faults::open(alloc)) {
+        return Err(refused.0);
+    }
+    Ok((scope, born))
+}
+
+/// Task 1 arrives, prints and ends; task 0 releases the finish and ends; the host releases the root.
+fn first_path<L: FinishLedger>(
+    ledger: &mut L,
+    alloc: Global,
+) -> Result<(bool, Outcome, Outcome), LedgerFault>
+    requires { L.stands ledger.old 0 (opening 2) }
+{
+    let main = Caller {
+        task: TaskId(0),
+        scope: ScopeId(0),
+        inner: ScopeId(0),
+        place: Where::At(PlaceId(0)),
+    };
+    let inside = Caller {
+        task: TaskId(0),
+        scope: ScopeId(0),
+        inner: ScopeId(1),
+        place: Where::At(PlaceId(0)),
+    };
+    let message = Caller {
+        task: TaskId(1),
+        scope: ScopeId(1),
+        inner: ScopeId(1),
+        place: Where::Travel {
+            from: PlaceId(0),
+            to: PlaceId(1),
+        },
+    };
+    let there = Caller {
+        task: TaskId(1),
+        scope: ScopeId(1),
+        inner: ScopeId(1),
+        place: Where::At(PlaceId(1)),
+    };
+    let _begun = begins(ledger, alloc, 2)?;
+    ledger.arrive(message)?;
+    ledger.print(there)?;
+    ends(ledger, there, alloc)?;
+    let ready = ledger.ready(inside);
+    let outcome = ledger.release(inside)?;
+    ends(ledger, main, alloc)?;
+    let root = ledger.release_root()?;
+    Ok((ready, outcome, root))
+}
+
+/// Task 0 asks to release while task 1 travels.
+fn early<L: FinishLedger>(
+    ledger: &mut L,
+    alloc: Global,
+) -> Result<Result<Outcome, LedgerFault>, LedgerFault>
+    requires { L.stands ledger.old 0 (opening 2) }
+{
+    let inside = Caller {
+        task: TaskId(0),
+        scope: ScopeId(0),
+        inner: ScopeId(1),
+        place: Where::At(PlaceId(0)),
+    };
+    let _begun = begins(ledger, alloc, 2)?;
+    Ok(ledger.release(inside))
+}
+
+/// Place 1 dies while task 1 travels there.
+fn transit<L: FinishLedger>(
+    ledger: &mut L,
+    alloc: Global,
+) -> Result<(bool, Result<(), LedgerFault>), LedgerFault>
+    requires { L.stands ledger.old 0 (opening 2) }
+{
+    let inside = Caller {
+        task: TaskId(0),
+        scope: ScopeId(0),
+        inner: ScopeId(1),
+        place: Where::At(PlaceId(0)),
+    };
+    let message = Caller {
+        task: TaskId(1),
+        scope: ScopeId(1),
+        inner: ScopeId(1),
+        place: Where::Travel {
+            from: PlaceId(0),
+            to: PlaceId(1),
+        },
+    };
+    let _begun = begins(ledger, alloc, 2)?;
+    ledger.death(PlaceId(1), 3);
+    let ready = ledger.ready(inside);
+    Ok((ready, ledger.arrive(message)))
+}
+
+/// Place 1 dies while task 2 travels from there.
+fn source<L: FinishLedger>(
+    ledger: &mut L,
+    alloc: Global,
+) -> Result<Result<(), LedgerFault>, LedgerFault>
+    requires { L.stands ledger.old 0 (opening 3) }
+{
+    let message = Caller {
+        task: TaskId(1),
+        scope: ScopeId(1),
+        inner: ScopeId(1),
+        place: Where::Travel {
+            from: PlaceId(0),
+            to: PlaceId(1),
+        },
+    };
+    let there = Caller {
+        task: TaskId(1),
+        scope: ScopeId(1),
+        inner: ScopeId(1),
+        place: Where::At(PlaceId(1)),
+    };
+    let second = Caller {
+        task: TaskId(2),
+        scope: ScopeId(1),
+        inner: ScopeId(1),
+        place: Where::Travel {
+            from: PlaceId(1),
+            to: PlaceId(2),
+        },
+    };
+    let _begun = begins(ledger, alloc, 3)?;
+    ledger.arrive(message)?;
+    let _born = ledger.spawn(there, PlaceId(2))?;
+    ends(ledger, there, alloc)?;
+    ledger.death(PlaceId(1), 6);
+    Ok(ledger.arrive(second))
+}
+
+/// Task 0 calls place 1, and the callee arrives.
+fn call<L: FinishLedger>(ledger: &mut L) -> Result<Born, LedgerFault>
+    requires { L.stands ledger.old 0 (opening 3) }
+{
+    let main = Caller {
+        task: TaskId(0),
+        scope: ScopeId(0),
+        inner: ScopeId(0),
+        place: Where::At(PlaceId(0)),
+    };
+    let message = Caller {
+        task: TaskId(1),
+        scope: ScopeId(1),
+        inner: ScopeId(1),
+        place: Where::Travel {
+            from: PlaceId(0),
+            to: PlaceId(1),
+        },
+    };
+    let born = ledger.open_at(main, PlaceId(1))?;
+    ledger.arrive(message)?;
+    Ok(born)
+}
+
+/// Task 1 runs at place 1 inside the finish of task 0, and waits there for task 2, which is at place 2.
+fn nests<L: FinishLedger>(ledger: &mut L, alloc: Global) -> Result<(), LedgerFault>
+    requires { L.stands ledger.old 0 (opening 3) }
+    ensures { OnOk result (L.stands ledger.new 0 two_deep) }
+{
+    let there = Caller {
+        task: TaskId(1),
+        scope: ScopeId(1),
+        inner: ScopeId(1),
+        place: Where::At(PlaceId(1)),
+    };
+    let inside = Caller {
+        task: TaskId(1),
+        scope: ScopeId(1),
+        inner: ScopeId(2),
+        place: Where::At(PlaceId(1)),
+    };
+    let _begun = begins(ledger, alloc, 3)?;
+    ledger.arrive(Caller {
+        task: TaskId(1),
+        scope: ScopeId(1),
+        inner: ScopeId(1),
+        place: Where::Travel {
+            from: PlaceId(0),
+            to: PlaceId(1),
+        },
+    })?;
+    let _scope = ledger.open_finish(there)?;
+    let _born = ledger.spawn(inside, PlaceId(2))?;
+    if let Err(refused) = ledger.wait(inside, Faults::open(alloc)) {
+        return Err(refused.0);
+    }
+    ledger.arrive(Caller {
+        task: TaskId(2),
+        scope: ScopeId(2),
+        inner: ScopeId(2),
+        place: Where::Travel {
+            from: PlaceId(1),
+            to: PlaceId(2),
+        },
+    })
+}
+
+/// Ends a task with one fault.
+fn throws<L: FinishLedger>(ledger: &mut L, who: Caller, alloc: Global) -> Result<(), LedgerFault>
+    requires { (room : ℕ) × (T : Tree) × L.stands ledger.old room T × MayAskEnd T who }
+    ensures { (room : ℕ) (T : Tree) → L.stands ledger.old room T → MayAskEnd T who
+        → OnOk result (L.stands ledger.new room (made_act T who.task (End (Thrown (pos 5) ∷ [])))) }
+{
+    let mut thrown = Faults::open(alloc);
+    if thrown.push(Fault::Thrown(5)).is_err() {
+        return Err(LedgerFault::NoMemory);
+    }
+    if let Err(refused) = ledger.end(who, thrown) {
+        return Err(refused.0);
+    }
+    Ok(())
+}
+
+/// Place 1 dies, and then task 2 ends with a fault; task 0 releases its finish and ends, and the host releases the root.
+fn dropped<L: FinishLedger>(
+    ledger: &mut L,
+    alloc: Global,
+) -> Result<(Outcome, Outcome), LedgerFault>
+    requires { L.stands ledger.old 0 (opening 3) }
+{
+    let main = Caller {
+        task: TaskId(0),
+        scope: ScopeId(0),
+        inner: ScopeId(0),
+        place: Where::At(PlaceId(0)),
+    };
+    let inside = Caller {
+        task: TaskId(0),
+        scope: ScopeId(0),
+        inner: ScopeId(1),
+        place: Where::At(PlaceId(0)),
+    };
+    let last = Caller {
+        task: TaskId(2),
+        scope: ScopeId(2),
+        inner: ScopeId(2),
+        place: Where::At(PlaceId(2)),
+    };
+    nests(ledger, alloc)?;
+    ledger.death(PlaceId(1), 8);
+    throws(ledger, last, alloc)?;
+    let outcome = ledger.release(inside)?;
+    ends(ledger, main, alloc)?;
+    let root = ledger.release_root()?;
+    Ok((outcome, root))
+}
+
+/// The same where task 2 ends before place 1 dies, so that its scope holds the fault at the death.
+fn held<L: FinishLedger>(ledger: &mut L, alloc: Global) -> Result<Outcome, LedgerFault>
+    requires { L.stands ledger.old 0 (opening 3) }
+{
+    let inside = Caller {
+        task: TaskId(0),
+        scope: ScopeId(0),
+        inner: ScopeId(1),
+        place: Where::At(PlaceId(0)),
+    };
+    let last = Caller {
+        task: TaskId(2),
+        scope: ScopeId(2),
+        inner: ScopeId(2),
+        place: Where::At(PlaceId(2)),
+    };
+    nests(ledger, alloc)?;
+    throws(ledger, last, alloc)?;
+    ledger.death(PlaceId(1), 9);
+    ledger.release(inside)
+}
+
+/// A place joins, and task 0 asks for the number of places, before the new one dies and after that.
+fn joins<L: FinishLedger>(ledger: &mut L) -> Result<(u8, u8), LedgerFault>
+    requires { L.stands ledger.old 1 (opening 1) }
+{
+    let main = Caller {
+        task: TaskId(0),
+        scope: ScopeId(0),
+        inner: ScopeId(0),
+        place: Where::At(PlaceId(0)),
+    };
+    ledger.join(PlaceId(1));
+    ledger.print(main)?;
+    let places = ledger.census(main)?;
+    ledger.death(PlaceId(1), 3);
+    Ok((places, ledger.census(main)?))
+}
+
+#[test]
+fn ordinary_case(rt: HostRuntime) -> Result<(), Fail> {
+    let mut ledger = TreeLedger::open(rt.alloc(), 2)?;
+    let (ready, outcome, root) = first_path(&mut ledger, rt.alloc())?;
+    assert!(rt; ready);
+    assert_eq!(rt; outcome.lost, PlaceSet(0));
+    assert_eq!(rt; outcome.masked, 0);
+    assert_eq!(rt; outcome.thrown.len(), 0);
+    assert_eq!(rt; root.lost, PlaceSet(0));
+    assert_eq!(rt; root.masked, 0);
+    assert_eq!(rt; root.thrown.len(), 0);
+    Ok(())
+}
+
+#[test]
+fn begins_by_number(rt: HostRuntime) -> Result<(), Fail> {
+    let mut ledger = TreeLedger::open(rt.alloc(), 2)?;
+    let (scope, born) = begins(&mut ledger, rt.alloc(), 2)?;
+    assert_eq!(rt; scope, ScopeId(1));
+    assert_eq!(rt;
+        born,
+        Born {
+            child: TaskId(1),
+            scope: ScopeId(1),
+            lost: false
+        }
+    );
+    Ok(())
+}
+
+#[test]
+fn not_yet_while_one_travels(rt: HostRuntime) -> Result<(), Fail> {
+    let mut ledger = TreeLedger::open(rt.alloc(), 2)?;
+    let early = early(&mut ledger, rt.alloc())?;
+    assert!(rt; matches!(early, Err(LedgerFault::NotYet { place: PlaceId(1) })));
+    Ok(())
+}
+
+#[test]
+fn loss_in_transit(rt: HostRuntime) -> Result<(), Fail> {
+    let mut ledger = TreeLedger::open(rt.alloc(), 2)?;
+    let (ready, arrived) = transit(&mut ledger, rt.alloc())?;
+    assert!(rt; ready);
+    assert_eq!(rt;
+        arrived,
+        Err(LedgerFault::Lost {
+            place: PlaceId(1),
+            at: 3
+        })
+    );
+    Ok(())
+}
+
+#[test]
+fn source_dies(rt: HostRuntime) -> Result<(), Fail> {
+    let mut ledger = TreeLedger::open(rt.alloc(), 3)?;
+    let arrived = source(&mut ledger, rt.alloc())?;
+    assert_eq!(rt;
+        arrived,
+        Err(LedgerFault::Lost {
+            place: PlaceId(1),
+            at: 6
+        })
+    );
+    Ok(())
+}
+
+#[test]
+fn at_calls_a_place(rt: HostRuntime) -> Result<(), Fail> {
+    let mut ledger = TreeLedger::open(rt.alloc(), 3)?;
+    let born = call(&mut ledger)?;
+    assert_eq!(rt;
+        born,
+        Born {
+            child: TaskId(1),
+            scope: ScopeId(1),
+            lost: false
+        }
+    );
+    Ok(())
+}
+
+#[test]
+fn dropped_fault_is_counted(rt: HostRuntime) -> Result<(), Fail> {
+    let mut ledger = TreeLedger::open(rt.alloc(), 3)?;
+    let (outcome, root) = dropped(&mut ledger, rt.alloc())?;
+    assert_eq!(rt; outcome.lost, PlaceSet(2));
+    assert_eq!(rt; outcome.masked, 1);
+    assert_eq!(rt; outcome.thrown.len(), 0);
+    assert_eq!(rt; root.lost, PlaceSet(0));
+    assert_eq!(rt; root.masked, 0);
+    assert_eq!(rt; root.thrown.len(), 0);
+    Ok(())
+}
+
+#[test]
+fn held_fault_is_counted(rt: HostRuntime) -> Result<(), Fail> {
+    let mut ledger = TreeLedger::open(rt.alloc(), 3)?;
+    let outcome = held(&mut ledger, rt.alloc())?;
+    assert_eq!(rt; outcome.lost, PlaceSet(2));
+    assert_eq!(rt; outcome.masked, 1);
+    assert_eq!(rt; outcome.thrown.len(), 0);
+    Ok(())
+}
+
+#[test]
+fn joining_place_is_counted(rt: HostRuntime) -> Result<(), Fail> {
+    let mut ledger = TreeLedger::open(rt.alloc(), 1)?;
+    assert_eq!(rt; joins(&mut ledger)?, (2, 2));
+    Ok(())
+}
+
+// Values of the type may be moved to another thread.
+fn may_move<T: Send>() {}
+
+/// A ledger may be moved.
+#[test]
+fn ledgers_may_be_moved(_rt: HostRuntime) {
+    may_move::<TreeLedger>();
+}

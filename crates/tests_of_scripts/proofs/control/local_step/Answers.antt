@@ -1,0 +1,11 @@
+use Rattle.std.proofs.Common.{subst}
+use Rattle.rx_rules.specs.Terms.{Does, does}
+use Rattle.rx_control.specs.Stands.{Leaves}
+use Rattle.rx_control.proofs.Told.{told_local}
+use Rattle.tests_of_scripts.proofs.control.local_step.Goals as goal
+
+pub returns : goal.returns
+returns c =
+    let t = c.requires.0 in
+    let told = told_local (does c.args.task.now.vars c.args.here.0 t) c.requires.2 in
+    (told.0, (subst (λ (d : Does). Leaves c.args.p.now.script c.local.new.self d) told.2 (c.in_ok-local.ensures.ok t c.requires.1)).0)

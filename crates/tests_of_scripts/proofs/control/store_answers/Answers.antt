@@ -1,0 +1,6 @@
+use Rattle.std.proofs.Common.{◌∙◌, sym}
+use Rattle.tests_of_scripts.proofs.control.store_answers.Goals as goal
+
+pub returns : goal.returns
+returns g c =
+    (_, (c.in_ok-cell_done.ensures.ok c.requires.0 c.in-Some.field-0 c.requires.1 (sym (c.in_ok-path.ensures c.requires.0 c.requires.1) ∙ c.in-Some.is)).0)

@@ -16,8 +16,6 @@ mod longest;
 mod paths;
 mod spans;
 mod steps;
-#[cfg(test)]
-mod tests;
 
 pub use longest::{span, span_counted};
 pub use spans::Span;

@@ -9,9 +9,7 @@ mod hall;
 mod keys;
 mod queue;
 mod station;
-mod tally;
-#[cfg(test)]
-mod tests;
+pub mod tally;
 mod worker;
 
 pub use hall::{Hall, abandon_all};

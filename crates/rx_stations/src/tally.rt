@@ -1,4 +1,4 @@
-// What workers tell one another beside the queues. It changes no meaning: no contract speaks of it.
+//! What workers tell one another beside the queues. It changes no meaning: no contract speaks of it.
 use std::hint::spin_loop;
 use std::sync::Wait;
 use std::sync::atomic::{AtomicBool, AtomicU64, Ordering};
@@ -17,7 +17,7 @@ const RESTS: [u64; 4] = [1000, 2000, 4000, 8000];
 
 /// How many activities there are, and whether memory was refused.
 #[derive(Drop)]
-pub(crate) struct Tally {
+pub struct Tally {
     /// Activities that are not over, those on their way among them.
     left: AtomicU64,
     /// Those of them that do not wait.
@@ -33,7 +33,7 @@ pub(crate) struct Tally {
 
 impl Tally {
     /// Of one activity.
-    pub(crate) fn of_one() -> Tally {
+    pub fn of_one() -> Tally {
         Tally {
             left: AtomicU64::new(1),
             going: AtomicU64::new(1),
@@ -45,23 +45,23 @@ impl Tally {
     }
 
     /// One more is started.
-    pub(crate) fn starts(&self) {
+    pub fn starts(&self) {
         self.left.fetch_add(1, Ordering::SeqCst);
         self.going.fetch_add(1, Ordering::SeqCst);
     }
 
     /// One waits.
-    pub(crate) fn waits(&self) {
+    pub fn waits(&self) {
         self.going.fetch_sub(1, Ordering::SeqCst);
     }
 
     /// One that waited is looked at again.
-    pub(crate) fn wakes(&self) {
+    pub fn wakes(&self) {
         self.going.fetch_add(1, Ordering::SeqCst);
     }
 
     /// One is over.
-    pub(crate) fn ends(&self) {
+    pub fn ends(&self) {
         self.over.fetch_add(1, Ordering::SeqCst);
         self.going.fetch_sub(1, Ordering::SeqCst);
         if self.left.fetch_sub(1, Ordering::SeqCst) == 1 {
@@ -70,13 +70,13 @@ impl Tally {
     }
 
     /// Memory was refused.
-    pub(crate) fn refuse(&self) {
+    pub fn refuse(&self) {
         self.refused.store(true, Ordering::SeqCst);
         self.bed.wake_all();
     }
 
     /// Lets some time go by for one who has found nothing to do so many times.
-    pub(crate) fn pause<R: Wait>(&self, rt: &R, times: u32) {
+    pub fn pause<R: Wait>(&self, rt: &R, times: u32) {
         if times < LOOKS {
             spin_loop();
         } else {
@@ -86,17 +86,17 @@ impl Tally {
     }
 
     /// A worker begins.
-    pub(crate) fn begins_work(&self) {
+    pub fn begins_work(&self) {
         self.at_work.fetch_add(1, Ordering::SeqCst);
     }
 
     /// A worker ends.
-    pub(crate) fn ends_work(&self) {
+    pub fn ends_work(&self) {
         self.at_work.fetch_sub(1, Ordering::SeqCst);
     }
 
     /// Whether a worker goes to rest, since another is at work. Then one less is. False too where another has just come or gone.
-    pub(crate) fn goes_to_rest(&self) -> bool {
+    pub fn goes_to_rest(&self) -> bool {
         let workers = self.at_work.load(Ordering::SeqCst);
         workers > 1
             && self
@@ -106,7 +106,7 @@ impl Tally {
     }
 
     /// The rest of a worker that may rest, and has done so so many times. It ends early with the last activity.
-    pub(crate) fn rest<R: Wait>(&self, rt: &R, times: u32) {
+    pub fn rest<R: Wait>(&self, rt: &R, times: u32) {
         if !self.is_done() {
             let micros = rest_of(times);
             self.bed.park_timeout(rt, 0, Duration::from_micros(micros));
@@ -115,22 +115,22 @@ impl Tally {
     }
 
     /// Whether memory was refused.
-    pub(crate) fn is_refused(&self) -> bool {
+    pub fn is_refused(&self) -> bool {
         self.refused.load(Ordering::SeqCst)
     }
 
     /// Whether no activity is left, or memory was refused.
-    pub(crate) fn is_done(&self) -> bool {
+    pub fn is_done(&self) -> bool {
         self.left.load(Ordering::SeqCst) == 0 || self.is_refused()
     }
 
     /// How many activities are over. A scope may be released only behind one more of them, or where none goes.
-    pub(crate) fn over(&self) -> u64 {
+    pub fn over(&self) -> u64 {
         self.over.load(Ordering::SeqCst)
     }
 
     /// Whether each that is left waits.
-    pub(crate) fn all_wait(&self) -> bool {
+    pub fn all_wait(&self) -> bool {
         self.going.load(Ordering::SeqCst) == 0
     }
 }

@@ -17,6 +17,8 @@ mod players;
 #[cfg(test)]
 mod replay;
 #[cfg(test)]
+mod stations;
+#[cfg(test)]
 mod store;
 #[cfg(test)]
 mod watch;

@@ -7,6 +7,8 @@ mod answers;
 #[cfg(test)]
 mod reading;
 #[cfg(test)]
+mod span;
+#[cfg(test)]
 mod timely;
 #[cfg(test)]
 mod trace;

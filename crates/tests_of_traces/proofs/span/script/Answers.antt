@@ -7,7 +7,7 @@ use Rattle.rx_nodes.specs.declared.nodes.Stmt.{Stmt as Node}
 use Rattle.rx_nodes.specs.declared.nodes.Stmt.TheVariants.{Print as PrintNode}
 use Rattle.rx_nodes.specs.Shape.{Shape, IsSmall}
 use Rattle.rx_nodes.specs.Whole.{IsWhole}
-use Rattle.rx_span.proofs.tests.script.Goals as goal
+use Rattle.tests_of_traces.proofs.span.script.Goals as goal
 
 -- print 1; print 2;
 abbrev two : Block

@@ -1,5 +1,5 @@
 // When workers stop, and when they may rest, which no contract says.
-use crate::tally::Tally;
+use rx_stations::tally::Tally;
 use std::test::Fail;
 
 #[test]

@@ -5,41 +5,15 @@ ghost use Rattle.rx_rules.specs.Order.{told, told_in};
 ghost use Rattle.rx_nodes.specs.Shape.{Stands};
 ghost use Rattle.rx_span.specs.Paths.{ArePaths};
 
-use crate::paths::{order, shared};
-use crate::{Steps, span, span_counted};
 use rx_base::{Batch, NoMemory, Path, TaskId};
 use rx_check::{Program, check};
 use rx_history::{Act, Entry, History, JoinList, KillList, Setup};
 use rx_nodes::{BlockId, Expr, ExprId, Script, Stmt, StmtId};
+use rx_span::{Steps, span, span_counted};
 use std::alloc::Global;
-use std::cmp::Ordering;
 use std::marker::Brand;
 use std::sync::ledger::{Blank, Ledger};
 use std::test::Fail;
-
-fn path(alloc: Global, numbers: &[u32]) -> Result<Path, NoMemory> {
-    let mut path = Path::open(alloc);
-    for number in numbers {
-        path.push(*number)?;
-    }
-    Ok(path)
-}
-
-#[test]
-fn paths_number_by_number(rt: HostRuntime) -> Result<(), Fail> {
-    for (x, y, want, together) in [
-        ([0].as_slice(), [0, 0].as_slice(), Ordering::Less, 1),
-        (&[0, 1], &[0, 0, 5], Ordering::Greater, 1),
-        (&[2, 7], &[2, 7], Ordering::Equal, 2),
-        (&[], &[3], Ordering::Less, 0),
-    ] {
-        let x = path(rt.alloc(), x)?;
-        let y = path(rt.alloc(), y)?;
-        assert_eq!(rt; order(&x, &y), want);
-        assert_eq!(rt; shared(&x, &y), together);
-    }
-    Ok(())
-}
 
 // The script of `print 1; print 2;`.
 fn script(alloc: Global) -> Result<Program, NoMemory>

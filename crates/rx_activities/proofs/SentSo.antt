@@ -5,6 +5,7 @@ use Rattle.std.proofs.lemmas.Option.{same_Some}
 use mathlib.Core.List.{IsPrefix}
 use Rattle.rx_base.specs.declared.ids.PlaceId.{PlaceId}
 use Rattle.rx_base.specs.declared.ids.TaskId.{TaskId}
+use Rattle.rx_base.proofs.Prefixes.{prefix-trans}
 use Rattle.rx_rules.specs.declared.entries.Act.{Act}
 use Rattle.rx_rules.specs.declared.entries.Entry.{Entry}
 use Rattle.rx_rules.specs.declared.entries.Entry.TheVariants.{Step}
@@ -45,7 +46,6 @@ use Rattle.rx_ledger.proofs.Keepers.{asks_after}
 use Rattle.rx_ledger.proofs.OwnTold.{numbers_are_left}
 use Rattle.rx_ledger.proofs.StaysGood.{tickets_stay_good, places_more}
 use Rattle.rx_parts.specs.Ledger.{LegalLedger}
-use Rattle.rx_parts.proofs.Lists.{prefix_on}
 use Rattle.rx_parts.proofs.Prefixes.{prefix-legal}
 use Rattle.rx_parts_book.specs.declared.items.EntryItem.{EntryItem}
 use Rattle.rx_parts_book.specs.declared.items.EventItem.{EventItem}
@@ -210,7 +210,7 @@ module _ (shape : Shape) (L : BookName LedgerFixed) (rest : Rest) (reply : Reply
               (subst (λ (l : List (Stamped EventItem)). PlaceIsLegal (record { place = w.hand.place; words = L.fixed.setup.heap; ledger = L }) l) (sym seat_seen) w.knows.seat.lawful);
           carried = subst (λ (l : List (Stamped EventItem)). IsPrefix (last_carried (items_of l)) (view_of h.pass).seen) (sym seat_seen)
               (subst (λ (x : View EntryItem). IsPrefix (last_carried (items_of (view_of w.hand.seat).seen)) x.seen) (sym is.view)
-              (prefix_on (last_carried (items_of (view_of w.hand.seat).seen)) g (view_of rest.pass).seen w.knows.seat.carried (more shape L rest reply child w, longer shape L rest reply child w)));
+              (prefix-trans (last_carried (items_of (view_of w.hand.seat).seen)) g (view_of rest.pass).seen w.knows.seat.carried (more shape L rest reply child w, longer shape L rest reply child w)));
         }
 
     pub knows_with : (who : Caller) → asker ticket ≡ Some who → who.task ≡ w.knows.who.task → who.place ≡ w.knows.who.place

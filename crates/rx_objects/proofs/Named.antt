@@ -6,6 +6,7 @@ use Rattle.std.proofs.lemmas.List.{map-append}
 use Rattle.std.proofs.lemmas.List.Elements.{All-contains, filter_map-append}
 use mathlib.Core.List.{IsPrefix}
 use Rattle.rx_base.specs.declared.ids.PlaceId.{PlaceId}
+use Rattle.rx_base.proofs.Prefixes.{prefix-trans}
 use Rattle.rx_rules.specs.declared.entries.Entry.{Entry}
 use Rattle.rx_rules.specs.declared.entries.Entry.TheVariants.{Step, Root, Death, Join}
 use Rattle.rx_rules.specs.Code.{Block}
@@ -20,7 +21,7 @@ use Rattle.rx_parts.specs.Ledger.{Actor, LegalLedger}
 use Rattle.rx_parts.specs.Places.{MadeEvent, LegalPlace, event_of, journal_of, seen_by}
 use Rattle.rx_parts.specs.Parts.{EachPlace, journals_of}
 use Rattle.rx_parts.specs.Reading.{is_of, named_by}
-use Rattle.rx_parts.proofs.Lists.{one_item, got_map, prefix_on}
+use Rattle.rx_parts.proofs.Lists.{one_item, got_map}
 use Rattle.rx_parts.proofs.Tasks.{Later, later}
 use Rattle.rx_parts.proofs.Reading.{actors-say}
 use Rattle.rx_parts.proofs.Whole.{legal_later, LastEvent, LastOrNone, last_from, AtPlace, at_place}
@@ -58,7 +59,7 @@ module _ (code : Block) (U : Given) (h : List (Stamped EntryItem)) (ks : List (L
   -- a task is at the place where it made an event
   at_home : (p : ℕ) (k : List MadeEvent) → IsPrefix (seen_by k) (ledger_items h) → LastEvent code U p n (journal_of k) (seen_by k) → a.birth.to.0 ≡ p
   at_home p k within l =
-      let longer : IsPrefix l.event.carried (ledger_items h) = prefix_on l.event.carried (seen_by k) (ledger_items h) l.within within in
+      let longer : IsPrefix l.event.carried (ledger_items h) = prefix-trans l.event.carried (seen_by k) (ledger_items h) l.within within in
       let on = legal_later code U l.event.carried (ledger_items h) l.may.legal legal longer in
       let stands : slice_get l.may.legal.actors n ≡ Some l.may.actor = subst (λ (v : ℕ). slice_get l.may.legal.actors v ≡ Some l.may.actor) l.is_of l.may.stands in
       let w = later (length l.event.carried) l.may.legal.actors longer.0 legal.actors on n l.may.actor stands in

@@ -17,7 +17,7 @@ use Rattle.rx_runs.proofs.Keeping.{no_arrival}
 use Rattle.rx_rules.proofs.Inverting.{asks_no_end}
 use Rattle.rx_parts.specs.Ledger.{LedgerItem, Actor, Walks, stays, local, stores, actor_arrived, actor_granted, actor_ended, actors_born, IsHostEntry, ItemMakes, hosts, arrives, asks, ends, AllMake}
 use Rattle.rx_parts.proofs.Lists.{one_item}
-use Rattle.rx_parts.proofs.Once.{answer_once, local_not_store}
+use Rattle.rx_runs.proofs.NextSteps.{told_once, not_local_told}
 
 pub done_last : (d : Does) (faults : List Fault) → d ≡ Done faults → IsLast d
 done_last d faults e = subst IsLast (sym e) tt
@@ -35,15 +35,15 @@ walk_once {here = here} {a = a} {y = y} {others = others} (local {after = u} {le
     walk_once w
     (subst (λ (i : Vars). Walks here (record { low = a.low; vars = i; term = u; batch = begun a.term a.batch }) others y) (sym vars)
     (subst (λ (i : Term). Walks here (record { low = a.low; vars = t; term = i; batch = begun a.term a.batch }) others y) (sym term) x)) e l m
-walk_once {here = here} (local f w) (stores {cell = c} b le tells g x) e l m = absurd (local_not_store _ here c b _ _ f tells)
+walk_once {here = here} (local f w) (stores {cell = c} b le tells g x) e l m = absurd (not_local_told _ here c b _ _ f tells)
 walk_once (stores c le tells b w) stays e l m = absurd (let f : ⊥ = cc in f)
-walk_once {here = here} (stores {cell = c} b le tells g w) (local f x) e l m = absurd (local_not_store _ here c b _ _ f tells)
+walk_once {here = here} (stores {cell = c} b le tells g w) (local f x) e l m = absurd (not_local_told _ here c b _ _ f tells)
 walk_once {here = here} {a = a} {y = y} (stores {cells = cells} {stamp = stamp} {cell = c} {x = x} b le tells g w) (stores {cells = others} {stamp = stamp2} {cell = c2} {x = x2} b2 le2 tells2 g2 w2) e l m =
     let head : ◌≡◌ {A = ℕ × Cell × List ℕ} (stamp2, c2, x2) (stamp, c, x) = cc in
     let tail : others ≡ cells = cc in
     let stamps : stamp2 ≡ stamp = ap (λ (v : ℕ × Cell × List ℕ). v.0) head in
     let same : c2 ≡ c = ap (λ (v : ℕ × Cell × List ℕ). v.1) head in
-    let answers : b2 ≡ b = answer_once (does a.vars here.0 a.term) here c b2 b (subst (λ (v : Cell). Tells (does a.vars here.0 a.term) here v b2) same tells2) tells in
+    let answers : b2 ≡ b = told_once (does a.vars here.0 a.term) here c b2 b (subst (λ (v : Cell). Tells (does a.vars here.0 a.term) here v b2) same tells2) tells in
     let one : Walks here (record { low = stamp; vars = vars_after b2 a.vars; term = answered b2 a.term; batch = begun a.term a.batch }) others y = subst (λ (v : ℕ). Walks here (record { low = v; vars = vars_after b2 a.vars; term = answered b2 a.term; batch = begun a.term a.batch }) others y) stamps w2 in
     let two : Walks here (record { low = stamp; vars = vars_after b a.vars; term = answered b a.term; batch = begun a.term a.batch }) others y = subst (λ (v : Answer). Walks here (record { low = stamp; vars = vars_after v a.vars; term = answered v a.term; batch = begun a.term a.batch }) others y) answers one in
     walk_once w two tail l m

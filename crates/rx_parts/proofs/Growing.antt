@@ -5,6 +5,7 @@ use Rattle.std.proofs.lemmas.Bool.{ne_eqb}
 use Rattle.std.proofs.lemmas.List.{append-nil, length-map}
 use Rattle.rx_base.specs.declared.ids.TaskId.{TaskId}
 use Rattle.rx_base.proofs.Elements.{get-within}
+use Rattle.rx_base.proofs.Prefixes.{prefix-trans}
 use Rattle.rx_rules.specs.declared.entries.Act.{Act}
 use Rattle.rx_rules.specs.declared.entries.Act.TheVariants.{End}
 use Rattle.rx_rules.specs.declared.entries.Entry.{Entry}
@@ -25,7 +26,7 @@ use Rattle.rx_parts.specs.Growing.{LedgerOpens, LedgerGrows, OneAccount, NoneBy,
 use Rattle.rx_parts.specs.Reading.{is_of}
 use Rattle.rx_parts.specs.Closing.{StampedTo}
 use Rattle.rx_parts.specs.Calling.{AllHostItems, Grants, CallStep, HostStep, ArrivalStep, top_stamp, TopStamp, PlaceGrows, EachSeated, SeatMakes, CallKeeps, CallMakes}
-use Rattle.rx_parts.proofs.Lists.{one_item, not_none, prefix_on}
+use Rattle.rx_parts.proofs.Lists.{one_item, not_none}
 use Rattle.rx_parts.proofs.Changes.{Change, same, lands, goes_on, leaves, changed, own_moves}
 use Rattle.rx_runs.proofs.RootLast.{root_last-push}
 use Rattle.rx_parts.proofs.Tasks.{later, not_away}
@@ -213,7 +214,7 @@ seated_from code U p h legal t a got before low seen [] l e = tt
 seated_from code U p h legal t a got before low seen (m ∷ k) l e = (own, seated_from code U p h legal t a got (before ++ event_of m ∷ []) m.stamp m.carried k l.3 e) where
   own : m.task.0 ≡ t → m.by ≡ a.seat
   own it =
-      let within : IsPrefix m.carried h = prefix_on m.carried (last_carried m.carried k) h (seen_from code U p (before ++ event_of m ∷ []) m.stamp m.carried k l.3) e in
+      let within : IsPrefix m.carried h = prefix-trans m.carried (last_carried m.carried k) h (seen_from code U p (before ++ event_of m ∷ []) m.stamp m.carried k l.3) e in
       let on = legal_later code U m.carried h l.0.legal legal within in
       let w = later (length m.carried) l.0.legal.actors within.0 legal.actors on t l.0.actor (subst (λ (v : ℕ). slice_get l.0.legal.actors v ≡ Some l.0.actor) it l.0.stands) in
       let is : w.0 ≡ a = one_item (slice_get legal.actors t) w.0 a w.1 got in

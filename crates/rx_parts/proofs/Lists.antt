@@ -1,6 +1,6 @@
 -- Items of lists by number, and lists that begin with others.
 use Rattle.std.specs.Prelude.{◌≡◌, ◌≢◌, ℕ, zero, suc, ◌+◌, ◌<◌, ◌≤◌, List, [], ◌∷◌, ◌++◌, map, length, slice_get, slice_set, Option, Some, None, refl}
-use Rattle.std.proofs.Common.{arith, ap, sym, ◌∙◌, append_assoc}
+use Rattle.std.proofs.Common.{arith, ap, sym, ◌∙◌}
 use mathlib.Core.List.{IsPrefix}
 use Rattle.rx_base.proofs.Elements.{get-set}
 
@@ -50,9 +50,6 @@ got_right [] ys k = let e : 0 + k ≡ k = omega arith in ap (slice_get ys) e
 got_right (x ∷ xs) ys k = let e : length (x ∷ xs) + k ≡ suc (length xs + k) = omega arith in ap (slice_get (x ∷ xs ++ ys)) e ∙ got_right xs ys k
 
 -- Lists that begin with others.
-
-pub prefix_on : {X : Type 0} (xs ys zs : List X) → IsPrefix xs ys → IsPrefix ys zs → IsPrefix xs zs
-prefix_on xs ys zs h k = (h.0 ++ k.0, sym (append_assoc xs h.0 k.0) ∙ ap (λ v. v ++ k.0) h.1 ∙ k.1)
 
 -- nothing begins the empty list but itself
 pub prefix_none : {X : Type 0} (xs ys : List X) → ys ≡ [] → IsPrefix xs ys → xs ≡ []

@@ -5,6 +5,7 @@ use Rattle.std.proofs.Common.{ap, sym, ◌∙◌, subst, inl, inr}
 use Rattle.std.proofs.lemmas.List.{append-nil}
 use Rattle.rx_base.specs.declared.ids.PlaceId.{PlaceId}
 use Rattle.rx_base.specs.declared.ids.TaskId.{TaskId}
+use Rattle.rx_base.proofs.Prefixes.{prefix-trans}
 use Rattle.rx_rules.specs.declared.entries.Act.{Act}
 use Rattle.rx_rules.specs.declared.entries.Act.TheVariants.{Arrive, End}
 use Rattle.rx_rules.specs.declared.entries.Entry.TheVariants.{Step}
@@ -15,7 +16,6 @@ use Rattle.rx_runs.specs.Segments.{Stand, StandGoes}
 use Rattle.rx_runs.proofs.Segments.{joined, stopped, ended}
 use Rattle.rx_parts.specs.Ledger.{LedgerItem, Actor, Phase, Away, Present, Over, Walks, stays, local, stores, first_stand, actor_born, AllMake}
 use mathlib.Core.List.{IsPrefix}
-use Rattle.rx_parts.proofs.Lists.{prefix_on}
 use Rattle.rx_parts.proofs.Changes.{Change, same, lands, goes_on, leaves, changed}
 
 -- What stays.
@@ -38,8 +38,8 @@ later_on a b c h k =
       holder = k.holder ∙ h.holder;
       birth = k.birth ∙ h.birth;
       start = k.start ∙ h.start;
-      moves = prefix_on a.moves b.moves c.moves h.moves k.moves;
-      named = prefix_on a.named b.named c.named h.named k.named;
+      moves = prefix-trans a.moves b.moves c.moves h.moves k.moves;
+      named = prefix-trans a.named b.named c.named h.named k.named;
       seat = λ o. k.seat (h.stays_there o) ∙ h.seat o;
       stays_there = λ o. k.stays_there (h.stays_there o);
     }

@@ -6,6 +6,7 @@ use Rattle.std.proofs.lemmas.Bool.{eqb-true, eq-eqb, ne_eqb, true≢false}
 use Rattle.std.proofs.lemmas.List.{append-nil, length-map}
 use Rattle.std.proofs.lemmas.List.Elements.{filter_map-append}
 use Rattle.rx_base.specs.declared.ids.PlaceId.{PlaceId}
+use Rattle.rx_base.proofs.Prefixes.{prefix-trans}
 use Rattle.rx_rules.specs.declared.entries.Entry.{Entry}
 use Rattle.rx_rules.specs.declared.events.PlaceEvent.{PlaceEvent}
 use Rattle.rx_rules.specs.declared.events.PlaceEvent.TheVariants.{Done as Did, Close}
@@ -22,7 +23,7 @@ use Rattle.rx_parts.specs.Ledger.{LedgerItem, Actor, Away, Present, Over, Walks,
 use mathlib.Core.List.{IsPrefix}
 use Rattle.rx_parts.specs.Places.{MadeEvent, event_of, journal_of, MayMake, LegalFrom, LegalPlace, last_carried, seen_by}
 use Rattle.rx_parts.specs.Parts.{EachPlace, journals_of, AreParts, EachStamped, PartsPlay}
-use Rattle.rx_parts.proofs.Lists.{one_item, inside, got_map, prefix_on, prefix_none}
+use Rattle.rx_parts.proofs.Lists.{one_item, inside, got_map, prefix_none}
 use Rattle.rx_parts.proofs.Merging.{accounts-merge}
 use Rattle.rx_parts.proofs.Tasks.{Later, later, LandedBy, ActorOk, away, here, over, begins_of, begins_landed, plays_landed, walk_goes}
 use Rattle.rx_parts.proofs.Along.{Agree, AllOk, agree_back, ok_along, sized_along, moves_in, moves_along, birth_late, birth_early}
@@ -133,7 +134,7 @@ last_as {code = code} {U = U} {p = p} {t = t} {seen = seen} e h = subst (λ (v :
 
 pub seen_from : (code : Block) (U : Given) (p : ℕ) (before : List PlaceEvent) (low : ℕ) (seen : List LedgerItem) (k : List MadeEvent) → LegalFrom code U p before low seen k → IsPrefix seen (last_carried seen k)
 seen_from code U p before low seen [] h = ([], append-nil seen)
-seen_from code U p before low seen (m ∷ k) h = prefix_on seen m.carried (last_carried m.carried k) h.2 (seen_from code U p (before ++ event_of m ∷ []) m.stamp m.carried k h.3)
+seen_from code U p before low seen (m ∷ k) h = prefix-trans seen m.carried (last_carried m.carried k) h.2 (seen_from code U p (before ++ event_of m ∷ []) m.stamp m.carried k h.3)
 
 pub own_cell : (t : ℕ) (before : List PlaceEvent) (m : MadeEvent) → m.task.0 ≡ t → filter_map (cell_of t) (before ++ event_of m ∷ []) ≡ filter_map (cell_of t) before ++ (m.stamp, m.cell, m.path) ∷ []
 own_cell t before m e = filter_map-append (cell_of t) before (event_of m ∷ []) ∙ ap (λ v. filter_map (cell_of t) before ++ v) (rw (eq-eqb m.task.0 t e) refl)
@@ -186,7 +187,7 @@ merge_task starts c a first rest cells now landed says full named =
 by_last : (starts : Starts) (code : Block) (U : Given) (h : List LedgerItem) (legal : LegalLedger code U h) (p t : ℕ) (a : Actor) (journal : List PlaceEvent) (seen : List LedgerItem) → Agree starts legal.actors → slice_get legal.actors t ≡ Some a → IsPrefix seen h → IsPrefix a.named (filter_map (cell_of t) journal) → LastEvent code U p t journal seen → PlaysHere starts a (filter_map (cell_of t) journal)
 by_last starts code U h legal p t a journal seen agree got within named l = by_ok (legal_ok starts code U l.event.carried l.may.legal short_agree l.event.task.0 l.may.actor l.may.stands) where
   longer : IsPrefix l.event.carried h
-  longer = prefix_on l.event.carried seen h l.within within
+  longer = prefix-trans l.event.carried seen h l.within within
 
   on : AllMake (length l.event.carried) l.may.legal.actors longer.0 legal.actors
   on = legal_later code U l.event.carried h l.may.legal legal longer
@@ -286,7 +287,7 @@ rises code U p before low seen (m ∷ k) h = (h.1, rises code U p (before ++ eve
 at_home : (code : Block) (U : Given) (h : List LedgerItem) (legal : LegalLedger code U h) (p : ℕ) (before : List PlaceEvent) (low : ℕ) (seen : List LedgerItem) (k : List MadeEvent) → IsPrefix (last_carried seen k) h → LegalFrom code U p before low seen k → AtHome (entries_of h) p (journal_of k)
 at_home code U h legal p before low seen [] e l = tt
 at_home code U h legal p before low seen (m ∷ k) e l =
-    let within : IsPrefix m.carried h = prefix_on m.carried (last_carried m.carried k) h (seen_from code U p (before ++ event_of m ∷ []) m.stamp m.carried k l.3) e in
+    let within : IsPrefix m.carried h = prefix-trans m.carried (last_carried m.carried k) h (seen_from code U p (before ++ event_of m ∷ []) m.stamp m.carried k l.3) e in
     let on = legal_later code U m.carried h l.0.legal legal within in
     let w = later (length m.carried) l.0.legal.actors within.0 legal.actors on m.task.0 l.0.actor l.0.stands in
     let low_in : m.task.0 < length legal.actors = inside legal.actors m.task.0 w.0 w.1 in

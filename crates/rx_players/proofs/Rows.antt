@@ -7,6 +7,7 @@ use Rattle.std.proofs.lemmas.Bool.Decides.{leb_tells}
 use Rattle.std.proofs.lemmas.Option.{slice_get_within, slice_get_past}
 use Rattle.std.proofs.lemmas.List.{length-set, get_or-set_same, get_or-set_other, get_or-replicate, get_or_past, length-replicate}
 use Rattle.rx_base.specs.declared.ids.TaskId.{TaskId}
+use Rattle.rx_base.proofs.Elements.{get-within}
 use Rattle.rx_rules.specs.declared.events.Cell.{Cell}
 use Rattle.rx_rules.specs.declared.events.PlaceEvent.{PlaceEvent}
 use Rattle.rx_rules.specs.declared.events.PlaceEvent.TheVariants.{Done, Close}
@@ -162,11 +163,6 @@ rows_more js tasks rows j row before at is p one there = by (last_or_before rows
       let here : journal_at js p ≡ j = journal-is js p j (ap (λ (n : ℕ). slice_get js n) h.0 ∙ at) in
       subst (λ (k : List PlaceEvent). RowIs k tasks one) (sym here) (subst (λ (r : Row). RowIs j tasks r) h.1 is)
 
-slice_get-some : {A : Type 0} (xs : List A) (k : ℕ) → k < length xs → (x : A) × (slice_get xs k ≡ Some x)
-slice_get-some [] k lt = absurd (omega (arith, lt))
-slice_get-some (x ∷ xs) zero lt = (x, refl)
-slice_get-some (x ∷ xs) (suc k) lt = slice_get-some xs k (omega (arith, lt))
-
 -- no journal, and no row
 pub nothing_there : (js : List (List PlaceEvent)) (t p from : ℕ) → length js ≤ p → IsFirst t (journal_at js p) from 0
 nothing_there js t p from out =
@@ -183,7 +179,7 @@ table_is js tasks table size are =
     outside : (p : ℕ) → slice_get table.rows.items p ≡ None → length js ≤ p
     outside p none = elim (leb_tells (length js) p) [
       | inl h ↦ h.1
-      | inr h ↦ absurd (let there = slice_get-some table.rows.items p (omega (arith, h.1, size)) in let off : None ≡ Some there.0 = sym none ∙ there.1 in cc)
+      | inr h ↦ absurd (let there = get-within table.rows.items p (omega (arith, h.1, size)) in let off : None ≡ Some there.0 = sym none ∙ there.1 in cc)
     ]
 
     first : (p t : ℕ) → t < tasks → (o : Option Row) → slice_get table.rows.items p ≡ o → IsFirst t (journal_at js p) 0 (row_first o t)

@@ -1,29 +1,13 @@
 -- The law of stores allows one answer.
-use Rattle.std.specs.Prelude.{◌≡◌, ◌⊎◌, ℕ, zero, suc, ◌<◌, ℤ, Bool, true, false, Some, refl}
-use Rattle.std.proofs.Common.{ap, sym, subst, ◌∙◌, arith, inl, inr, ⊎_elim}
+use Rattle.std.specs.Prelude.{◌≡◌, ℕ, ℤ, Bool, true, false, Some}
+use Rattle.std.proofs.Common.{ap, sym, subst, ◌∙◌}
 use Rattle.std.proofs.lemmas.Bool.{true≢false}
 use Rattle.rx_base.specs.declared.ids.GlobalRef.{GlobalRef}
 use Rattle.rx_rules.specs.declared.events.Cell.TheVariants.{Make, MakeFull, Get, Put, Forget, GetRefused, PutRefused, ForgetStale}
-use Rattle.rx_rules.specs.Store.{State, Live, MayCell, IsLeastFree, Reads, Refuses, fits, block_of, word_at, is_index}
+use Rattle.rx_rules.specs.Store.{State, Live, MayCell, IsLeastFree, Refuses, fits, block_of, word_at}
+use Rattle.rx_runs.proofs.Telling.{least_once, not_refused, one_refusal}
 use Rattle.rx_store.specs.Asks.{makes}
 use Rattle.rx_replay.specs.Asks.{OneAnswer}
-use Rattle.rx_verdict.proofs.Single.{order}
-
-least_once : (w : ℕ) (S : State) (n a b : ℕ) → IsLeastFree w S n a → IsLeastFree w S n b → a ≡ b
-least_once w S n a b h k = ⊎_elim (λ (l : a < b). absurd (true≢false (sym h.here ∙ k.least a l)))
-    (λ (t : (a ≡ b) ⊎ (b < a)). ⊎_elim (λ (e : a ≡ b). e) (λ (l : b < a). absurd (true≢false (sym k.here ∙ h.least b l))) t) (order a b)
-
--- a read and a refusal
-reads_refused : (S : State) (r : GlobalRef) (i : ℤ) (b : Live) (stale : Bool) → Reads S r i b → Refuses S r i stale → ⊥
-reads_refused S r i b true h k = cc (h.block, k)
-reads_refused S r i b false h k =
-    let same : b ≡ k.0 = cc (h.block, k.1) in true≢false (sym h.index ∙ (ap (λ (x : Live). is_index i x.words) same ∙ k.2))
-
-refused_once : (S : State) (r : GlobalRef) (i : ℤ) (s t : Bool) → Refuses S r i s → Refuses S r i t → s ≡ t
-refused_once S r i true true h k = refl
-refused_once S r i false false h k = refl
-refused_once S r i true false h k = absurd (cc (h, k.1))
-refused_once S r i false true h k = absurd (cc (h.1, k))
 
 one_block : (S : State) (r : GlobalRef) (b c : Live) → block_of S r ≡ Some b → block_of S r ≡ Some c → b ≡ c
 one_block S r b c h k = cc (h, k)
@@ -51,19 +35,19 @@ one_answer w S (Get r i v) (Get q j u) e h k = get_get r i v q j u (cc e) (cc e)
         let same : h.0 ≡ k'.0 = one_block S r h.0 k'.0 h.1.block k'.1.block in
         let val : v ≡ u = h.2 ∙ (ap (λ (b : Live). word_at b.words i) same ∙ sym k'.2) in
         λ t. Get (er t) (ei t) (val t)
-one_answer w S (Get r i v) (GetRefused q j s) e h k = absurd (reads_refused S r i h.0 s h.1 (moved S r q i j s (cc e) (cc e) k))
-one_answer w S (GetRefused r i s) (Get q j u) e h k = absurd (reads_refused S q j k.0 s k.1 (moved S q r j i s (cc e) (cc e) h))
+one_answer w S (Get r i v) (GetRefused q j s) e h k = absurd (not_refused S r i h.0 s h.1 (moved S r q i j s (cc e) (cc e) k))
+one_answer w S (GetRefused r i s) (Get q j u) e h k = absurd (not_refused S q j k.0 s k.1 (moved S q r j i s (cc e) (cc e) h))
 one_answer w S (GetRefused r i s) (GetRefused q j t) e h k = both r i s q j t (cc e) (cc e) h k
   where
     both : (r : GlobalRef) (i : ℤ) (s : Bool) (q : GlobalRef) (j : ℤ) (t : Bool) → r ≡ q → i ≡ j → Refuses S r i s → Refuses S q j t → GetRefused r i s ≡ GetRefused q j t
-    both r i s q j t er ei h k = let st : s ≡ t = refused_once S r i s t h (subst (λ (z : GlobalRef × ℤ). Refuses S z.0 z.1 t) (λ x. (sym er x, sym ei x)) k) in λ x. GetRefused (er x) (ei x) (st x)
+    both r i s q j t er ei h k = let st : s ≡ t = one_refusal S r i s t h (subst (λ (z : GlobalRef × ℤ). Refuses S z.0 z.1 t) (λ x. (sym er x, sym ei x)) k) in λ x. GetRefused (er x) (ei x) (st x)
 one_answer w S (Put r i v) (Put q j u) e h k = cc e
-one_answer w S (Put r i v) (PutRefused q j u s) e h k = absurd (reads_refused S r i h.0 s h.1 (moved S r q i j s (cc e) (cc e) k))
-one_answer w S (PutRefused r i v s) (Put q j u) e h k = absurd (reads_refused S q j k.0 s k.1 (moved S q r j i s (cc e) (cc e) h))
+one_answer w S (Put r i v) (PutRefused q j u s) e h k = absurd (not_refused S r i h.0 s h.1 (moved S r q i j s (cc e) (cc e) k))
+one_answer w S (PutRefused r i v s) (Put q j u) e h k = absurd (not_refused S q j k.0 s k.1 (moved S q r j i s (cc e) (cc e) h))
 one_answer w S (PutRefused r i v s) (PutRefused q j u t) e h k = both r i v s q j u t (cc e) (cc e) (cc e) h k
   where
     both : (r : GlobalRef) (i v : ℤ) (s : Bool) (q : GlobalRef) (j u : ℤ) (t : Bool) → r ≡ q → i ≡ j → v ≡ u → Refuses S r i s → Refuses S q j t → PutRefused r i v s ≡ PutRefused q j u t
-    both r i v s q j u t er ei ev h k = let st : s ≡ t = refused_once S r i s t h (subst (λ (z : GlobalRef × ℤ). Refuses S z.0 z.1 t) (λ x. (sym er x, sym ei x)) k) in λ x. PutRefused (er x) (ei x) (ev x) (st x)
+    both r i v s q j u t er ei ev h k = let st : s ≡ t = one_refusal S r i s t h (subst (λ (z : GlobalRef × ℤ). Refuses S z.0 z.1 t) (λ x. (sym er x, sym ei x)) k) in λ x. PutRefused (er x) (ei x) (ev x) (st x)
 one_answer w S (Forget r) (Forget q) e h k = cc e
 one_answer w S (Forget r) (ForgetStale q) e h k = absurd (cc (h.1, k, e))
 one_answer w S (ForgetStale r) (Forget q) e h k = absurd (cc (h, k.1, e))

@@ -4,7 +4,7 @@ use Rattle.std.proofs.Common.{ap, sym, subst, ◌∙◌, arith}
 use Rattle.rx_rules.specs.declared.events.PlaceEvent.{PlaceEvent}
 use Rattle.rx_rules.specs.Store.{State, opening_state}
 use Rattle.rx_rules.specs.Run.{stamp_of}
-use Rattle.rx_store.specs.Kept.{state_of, last_stamp, ends_closed}
+use Rattle.rx_store.specs.Kept.{state_of, last_stamp}
 use Rattle.rx_store.specs.Table.{Table, Stands}
 use Rattle.rx_store.proofs.Running.{made_from}
 use Rattle.rx_timely.proofs.Dying.{take-next}

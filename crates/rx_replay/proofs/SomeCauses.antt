@@ -16,14 +16,14 @@ use Rattle.rx_rules.specs.declared.events.PlaceEvent.{PlaceEvent}
 use Rattle.rx_rules.specs.declared.events.PlaceEvent.TheVariants.{Done}
 use Rattle.rx_rules.specs.Code.{Block}
 use Rattle.rx_rules.specs.Terms as terms
-use Rattle.rx_rules.specs.Terms.{Term, Empty, Vars, Answer, Does, Local, does, answered, granted, child, items}
+use Rattle.rx_rules.specs.Terms.{Term, Empty, Vars, Answer, Does, does, child, items}
 use Rattle.rx_rules.specs.Fold.{AllAllowed, opening, births}
 use Rattle.rx_rules.specs.Reached.{opens}
 use Rattle.rx_rules.specs.Plays.{Cells, Moves, Starts, Tells, StartsSo, brought, cell_of, journal_at, birth_of, travels, moves_from}
 use Rattle.rx_sound.proofs.Histories.{none_yet}
 use Rattle.rx_runs.specs.SomeWords.{MakesSome, TermMakesSome}
 use Rattle.rx_verdict.specs.Makes as parts
-use Rattle.rx_verdict.specs.Makes.{Makes, MakesEvent, StampRule, Landing, Made, TaskMakes, cells_of}
+use Rattle.rx_verdict.specs.Makes.{Makes, MakesEvent, StampRule, Landing, Made, cells_of}
 use Rattle.rx_verdict.specs.Verdicts.{CauseOf, events_before}
 use Rattle.rx_verdict.proofs.Births.{Has, StartsTask, parent}
 use Rattle.rx_verdict.proofs.Once.{made_at}

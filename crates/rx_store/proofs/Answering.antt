@@ -1,14 +1,14 @@
 -- The answer of a call, from the event that tells it.
 use Rattle.std.proofs.Common.{◌≡◌, ℕ, ℤ, Bool, true, false, cond, sym, subst, ap, ◌∙◌}
-use Rattle.std.specs.Prelude.{Ok, Err}
+use Rattle.std.specs.Prelude.{Err}
 use Rattle.rx_base.specs.declared.ids.GlobalRef.{GlobalRef}
 use Rattle.rx_rules.specs.declared.events.Cell.{Cell}
 use Rattle.rx_rules.specs.declared.events.Cell.TheVariants.{Make, MakeFull, Get, Put, Forget, GetRefused, PutRefused, ForgetStale}
 use Rattle.rx_store.specs.declared.calls.Mark.{Mark}
-use Rattle.rx_store.specs.declared.calls.StoreFault.TheVariants.{Stale, Index, Full}
+use Rattle.rx_store.specs.declared.calls.StoreFault.TheVariants.{Stale, Index}
 use Rattle.rx_store.specs.Kept.{Kept}
 use Rattle.rx_store.specs.Asks.{ask_of, makes, gets, puts, forgets}
-use Rattle.rx_store.specs.Answers.{StoreTells, MakeAnswers, GetAnswers, PutAnswers, ForgetAnswers}
+use Rattle.rx_store.specs.Answers.{StoreTells, GetAnswers, PutAnswers}
 
 module _ (old new : Kept) (m : Mark) (cell : Cell) (t : StoreTells old new m cell) where
   moved : (other : Cell) → cell ≡ other → StoreTells old new m other

@@ -6,7 +6,7 @@ use Rattle.std.proofs.lemmas.Bool.{cases_lt, and_parts, and_from, eqb-true, eq-e
 use Rattle.std.proofs.lemmas.Option.{same_Some}
 use Rattle.rx_base.specs.declared.ids.GlobalRef.{GlobalRef}
 use Rattle.rx_heap.specs.Region.{Region, Extent, IsLiveExtent, IsFree, IsLeastFree}
-use Rattle.rx_rules.specs.Store.{Live, State, is_block, block_of, is_apart, fits, set_word}
+use Rattle.rx_rules.specs.Store.{Live, State, is_block, block_of, is_apart, fits}
 use Rattle.rx_rules.specs.Store as law
 use Rattle.rx_store.specs.declared.table.Held.{Held}
 use Rattle.rx_store.specs.Table.{slot_at, Backs, BacksAll, Lists, TableHolds, AllLive}

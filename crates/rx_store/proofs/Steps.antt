@@ -1,5 +1,5 @@
 -- What a store keeps after an event, and what the event tells.
-use Rattle.std.proofs.Common.{◌≡◌, ℕ, ◌-◌, ◌<◌, ◌^◌, false, List, [], ◌∷◌, ◌++◌, length, arith, sym, subst, ap, ◌∙◌, max}
+use Rattle.std.proofs.Common.{◌≡◌, ℕ, ◌-◌, ◌<◌, ◌^◌, false, [], ◌∷◌, ◌++◌, length, arith, sym, subst, ap, ◌∙◌, max}
 use Rattle.std.specs.Prelude.{Option, Some, None}
 use Rattle.rx_base.specs.declared.ids.PlaceId.{PlaceId}
 use Rattle.rx_rules.specs.declared.events.Cell.{Cell}

@@ -4,14 +4,14 @@ use Rattle.std.specs.Prelude.{Option, Some, None, slice_get, slice_index, not}
 use Rattle.std.proofs.lemmas.List.{length-replicate}
 use Rattle.std.proofs.lemmas.Option.{none-some}
 use Rattle.rx_base.specs.declared.ids.GlobalRef.{GlobalRef}
-use Rattle.rx_heap.specs.Region.{Region, Extent, IsLiveExtent, IsLaid, IsFree, IsLeastFree}
+use Rattle.rx_heap.specs.Region.{Region, Extent, IsLaid, IsFree, IsLeastFree}
 use Rattle.rx_rules.specs.declared.events.Cell.{Cell}
 use Rattle.rx_rules.specs.declared.events.Cell.TheVariants.{Make, MakeFull, Get, Put, Forget, GetRefused, PutRefused, ForgetStale}
-use Rattle.rx_rules.specs.Store.{Live, State, opening_state, MayCell, Refuses, after_cell, is_block, set_word}
+use Rattle.rx_rules.specs.Store.{Live, opening_state, MayCell, after_cell, is_block, set_word}
 use Rattle.rx_rules.specs.Store as law
 use Rattle.rx_store.specs.declared.table.Held.{Held}
 use Rattle.rx_store.specs.Table.{slot_at, Table, TableHolds, Stands, IsTable, Tells, IsLocated, IsUnlocated}
-use Rattle.rx_store.proofs.Holding.{all_live, none_fits, least_fits}
+use Rattle.rx_store.proofs.Holding.{none_fits, least_fits}
 use Rattle.rx_store.proofs.Changing.{make_holds, forget_holds, put_holds, length-made}
 use Rattle.rx_store.proofs.Lookups.{at_table, is_found, located_found, law_stale, law_refused, law_reads, law_get}
 

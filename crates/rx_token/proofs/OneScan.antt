@@ -1,6 +1,7 @@
 -- Bytes are scanned in one way, with one list of names.
-use Rattle.std.proofs.Common.{◌≡◌, ◌≢◌, ℕ, suc, ◌+◌, ◌<◌, ◌≤◌, false, List, [], ◌∷◌, length, Some, None, Option, option_map, slice_get, refl, sym, ap, subst, ◌∙◌, ◌⊎◌, inl, inr, eq-or-lt_of_le, arith}
+use Rattle.std.proofs.Common.{◌≡◌, ◌≢◌, ℕ, ◌+◌, ◌<◌, ◌≤◌, false, List, [], ◌∷◌, length, Some, None, Option, option_map, slice_get, refl, sym, ap, subst, ◌∙◌, ◌⊎◌, inl, inr, eq-or-lt_of_le, arith}
 use Rattle.std.proofs.lemmas.Option.{same_Some}
+use Rattle.rx_base.proofs.Elements.{same-items}
 use Rattle.rx_token.specs.declared.token.Token.{Token}
 use Rattle.rx_token.specs.declared.token.Token.TheVariants.{Key, Called, Number, Oper, Mark, Bad}
 use Rattle.rx_token.specs.declared.token.Lexeme.{Lexeme}
@@ -28,14 +29,8 @@ agree-more k names other a e i l = let le : i ≤ k = omega (arith, l) in by (eq
     by (inl f) = subst (λ j. slice_get names j ≡ slice_get other j) (sym f) e
     by (inr f) = a i f
 
-alike : {A : Type 0} (xs ys : List A) → length xs ≡ length ys → ((i : ℕ) → i < length xs → slice_get xs i ≡ slice_get ys i) → xs ≡ ys
-alike [] [] l h = refl
-alike [] (y ∷ ys) l h = absurd (omega (arith, l))
-alike (x ∷ xs) [] l h = absurd (omega (arith, l))
-alike (x ∷ xs) (y ∷ ys) l h = ap (λ z. z ∷ xs) (same_Some x y (h 0 (omega arith))) ∙ ap (λ zs. y ∷ zs) (alike xs ys (omega (arith, l)) (λ i m. h (suc i) (omega (arith, m))))
-
 all-agree : (k : ℕ) (names other : List (List ℕ)) → Agree k names other → k ≡ length names → k ≡ length other → names ≡ other
-all-agree k names other a e f = alike names other (sym e ∙ f) (λ i l. a i (omega (arith, l, e)))
+all-agree k names other a e f = same-items names other (sym e ∙ f) (λ i l. a i (omega (arith, l, e)))
 
 -- what a token is by its lexeme: the name of its number, or one that the lexeme tells
 abbrev told : Lexeme → Option Token

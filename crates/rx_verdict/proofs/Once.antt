@@ -16,7 +16,7 @@ use Rattle.rx_rules.specs.Reached.{opens}
 use Rattle.rx_rules.specs.Plays.{Cells, Moves, Starts, Tells, Fits, StartsSo, begun, brought, vars_told, birth_of, travels, moves_from}
 use Rattle.rx_sound.proofs.Histories.{none_yet}
 use Rattle.rx_verdict.specs.Makes.{Makes, local, stores, asks, ends, stops, Landing, Made, TaskMakes, EachMakes, cells_of}
-use Rattle.rx_verdict.proofs.Events.{told_once, not_told_and_fits, not_local_told, not_local_fits, not_done_told, not_done_fits, not_local_done}
+use Rattle.rx_runs.proofs.NextSteps.{told_once, not_told_and_fits, not_local_told, not_local_fits, not_done_told, not_done_fits, not_local_done}
 use Rattle.rx_verdict.proofs.Births.{Has, StartsTask, parent}
 use Rattle.rx_base.proofs.Elements.{get-within}
 use Rattle.std.proofs.lemmas.Option.{slice_get_past}

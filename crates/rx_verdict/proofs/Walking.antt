@@ -13,8 +13,8 @@ use Rattle.rx_runs.specs.AnyAnswers.{AsksStore}
 use Rattle.rx_verdict.specs.Makes as parts
 use Rattle.rx_verdict.specs.Makes.{Makes}
 use Rattle.rx_verdict.specs.Walks as walks
-use Rattle.rx_verdict.specs.Walks.{Walks, MakesFrom, next_does, WalksOn, OneMore, AsksLedger, Halts, IsAsked, AtRequest, AtEnd, AtHalt, NoneAfterEnd}
-use Rattle.rx_verdict.proofs.Events.{not_done_told, not_done_fits, not_local_done}
+use Rattle.rx_verdict.specs.Walks.{Walks, MakesFrom, WalksOn, OneMore, AsksLedger, Halts, AtRequest, AtEnd, AtHalt, NoneAfterEnd}
+use Rattle.rx_runs.proofs.NextSteps.{not_done_told, not_done_fits, not_local_done}
 use Rattle.rx_verdict.proofs.Once.{make_local, make_store, make_ask}
 
 not_empty : (moves : Moves) (m : ℕ × Act × List (List ℕ)) (more : Moves) → moves ++ m ∷ more ≡ [] → ⊥

@@ -1,4 +1,4 @@
-use Rattle.std.proofs.Common.{◌+◌, ◌<◌, length, sym, ◌∙◌, arith}
+use Rattle.std.proofs.Common.{◌<◌, length, sym, ◌∙◌, arith}
 use Rattle.std.proofs.lemmas.Bool.{true≢false}
 use Rattle.rx_replay.proofs.Replaying.{replays-on, few-made, closed-count, stopped-count}
 use Rattle.rx_replay.proofs.replay.lawful_events.Goals as goal

@@ -1,5 +1,6 @@
 use Rattle.std.proofs.Common.{suc, ◌∷◌, ◌++◌, ap, ◌∙◌}
 use Rattle.std.specs.Prelude.{List, option_to_list}
+use Rattle.rx_base.proofs.Results.{on-ok-then}
 use Rattle.rx_rules.specs.Terms.{Term, Releases, stmt_does, at, does}
 use Rattle.rx_control.specs.declared.frame.Frame.{Frame}
 use Rattle.rx_control.specs.Levels.{More, seq}
@@ -12,7 +13,6 @@ use Rattle.rx_control.proofs.Front.{next-lifted}
 use Rattle.rx_control.proofs.Plans.{asks}
 use Rattle.rx_control.proofs.Standing.{at-top, at-statement, calm-seq, calm-held}
 use Rattle.rx_control.proofs.NextIs.{stmt-does, waiting-does, inside-leaves, turns-local, try-local}
-use Rattle.rx_control.proofs.Words.{on-ok-then}
 use Rattle.rx_control.proofs.Steps.{leaves-by}
 use Rattle.rx_control.proofs.control.Control.step.Goals as goal
 

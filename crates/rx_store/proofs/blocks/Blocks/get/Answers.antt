@@ -4,10 +4,10 @@ use Rattle.std.proofs.lemmas.Int.{to_z-of_z}
 use mir.Val.{SFits, of_z, to_z}
 use mir.Syntax.{w64}
 use Rattle.rx_rules.specs.declared.events.Cell.TheVariants.{Get, GetRefused}
-use Rattle.rx_store.specs.Table.{Table, IsLocated, IsUnlocated, Tells}
+use Rattle.rx_store.specs.Table.{Table, Tells}
 use Rattle.rx_store.proofs.Holding.{all_live}
 use Rattle.rx_store.proofs.Lookups.{at_table}
-use Rattle.rx_store.proofs.Telling.{table, get_told, get_refused}
+use Rattle.rx_store.proofs.Telling.{get_told, get_refused}
 use Rattle.rx_store.proofs.blocks.Blocks.get.Goals as goal
 
 pub read-requires-clause-live : goal.read-requires-clause-live

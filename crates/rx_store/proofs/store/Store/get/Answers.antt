@@ -1,7 +1,7 @@
 use Rattle.std.proofs.Common.{◌≡◌, rules, sym, subst}
-use Rattle.std.specs.Prelude.{Some, Ok, Err}
+use Rattle.std.specs.Prelude.{Some, Err}
 use Rattle.std.proofs.lemmas.Int.{to_z-of_z}
-use mir.Val.{SFits, of_z, to_z}
+use mir.Val.{SFits}
 use mir.Syntax.{w64}
 use Rattle.rx_rules.specs.declared.events.Cell.TheVariants.{Get}
 use Rattle.rx_store.specs.Asks.{ask_of, gets}

@@ -1,11 +1,10 @@
-use Rattle.std.proofs.Common.{◌≡◌, rules, sym, subst}
-use Rattle.std.specs.Prelude.{Some, Ok, Err}
+use Rattle.std.proofs.Common.{◌≡◌, sym, subst}
+use Rattle.std.specs.Prelude.{Some, Err}
 use Rattle.std.proofs.lemmas.Int.{to_z-of_z}
-use mir.Val.{SFits, of_z, to_z}
+use mir.Val.{of_z, to_z}
 use mir.Syntax.{w64}
-use Rattle.rx_rules.specs.declared.events.Cell.TheVariants.{Get}
 use Rattle.rx_store.specs.Asks.{ask_of, puts}
-use Rattle.rx_store.specs.Answers.{StoreTells, PutAnswers}
+use Rattle.rx_store.specs.Answers.{PutAnswers}
 use Rattle.rx_store.proofs.Answering.{was_put, put_refused}
 use Rattle.rx_store.proofs.Steps.{seen, told_steady, told_tells}
 use Rattle.rx_store.proofs.store.Store.put.Goals as goal

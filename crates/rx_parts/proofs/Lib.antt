@@ -1,5 +1,4 @@
 pub mod Lists
-pub mod Once
 pub mod Merging
 pub mod Changes
 pub mod Tasks

@@ -20,6 +20,7 @@ pub mod Append
 pub mod Pigeons
 pub mod Plans
 pub mod Sets
+pub mod NextSteps
 pub mod Telling
 pub mod Asking
 pub mod Picks

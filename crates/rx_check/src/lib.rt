@@ -13,4 +13,3 @@ mod walk;
 pub use checker::{CheckCause, CheckFault, check};
 pub use laws::{names_are_few, steps_are_defined};
 pub use program::{Program, checked};
-

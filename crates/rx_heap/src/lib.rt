@@ -9,4 +9,3 @@ mod holes;
 
 pub use block::{Block, Full, Hole};
 pub use heap::Heap;
-

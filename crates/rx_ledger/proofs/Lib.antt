@@ -21,4 +21,3 @@ pub mod StaysGood
 pub mod OwnTold
 pub mod Called
 pub mod Newborn
-pub mod Scenes

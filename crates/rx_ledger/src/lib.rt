@@ -16,8 +16,6 @@ mod parts;
 mod refusing;
 mod releasing;
 mod waiting;
-#[cfg(test)]
-mod worked;
 
 pub use asks::{Reply, Request};
 pub use keeper::Keeper;

@@ -12,8 +12,6 @@ mod mentions;
 mod place;
 mod showing;
 mod trail;
-#[cfg(test)]
-mod worked;
 
 pub use laws::{
     books_make_run, host_is_told, host_may_ask, ledger_op_fits, meeting_hears, meeting_shows,

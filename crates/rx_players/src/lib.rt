@@ -18,8 +18,3 @@ pub use answering::{answers, event_tells_call};
 pub use players::{Players, Slot};
 pub use seat::{Seat, Stop};
 pub use table::EventTable;
-
-#[cfg(test)]
-mod admitting_tests;
-#[cfg(test)]
-mod marking_tests;

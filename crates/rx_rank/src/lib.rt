@@ -7,4 +7,3 @@ mod counts;
 mod ranks;
 
 pub use ranks::Ranks;
-

@@ -17,4 +17,3 @@ pub use flaws::{EventAt, first_flaw};
 pub use judging::judge_events;
 pub use marks::Marks;
 pub use replay::lawful_events;
-

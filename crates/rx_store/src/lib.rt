@@ -12,4 +12,3 @@ mod table;
 pub use blocks::Blocks;
 pub use calls::{Mark, StoreFault};
 pub use store::Store;
-

@@ -10,4 +10,3 @@ mod plan;
 
 pub use deaths::deaths_of;
 pub use plan::keeps_plan;
-

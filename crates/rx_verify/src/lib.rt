@@ -10,4 +10,3 @@ mod verifying;
 
 pub use rx_verdict::Verdict;
 pub use verifying::verify;
-

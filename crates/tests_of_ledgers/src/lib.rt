@@ -9,6 +9,8 @@ mod counts;
 #[cfg(test)]
 mod ledger;
 #[cfg(test)]
+mod ledger_worked;
+#[cfg(test)]
 mod mail;
 #[cfg(test)]
 mod ticket;

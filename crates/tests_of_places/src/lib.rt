@@ -13,7 +13,13 @@ mod monitor;
 #[cfg(test)]
 mod objects;
 #[cfg(test)]
+mod objects_worked;
+#[cfg(test)]
 mod players;
+#[cfg(test)]
+mod players_admitting;
+#[cfg(test)]
+mod players_marking;
 #[cfg(test)]
 mod replay;
 #[cfg(test)]

@@ -1,6 +1,7 @@
 // The words of an entry. What reads an entry adds it, so that it is written once.
-ghost use Rattle.std.specs.Prelude.{◌≡◌, ◌≤◌, ◌∷◌, codes, IfOk};
-ghost use Rattle.rx_reading.specs.Inside.EntryWords.{act_at, step_at, acted_at, changed_at, kind_named};
+ghost use Rattle.std.specs.Prelude.{◌≡◌, ◌≢◌, ◌≤◌, ◌∷◌, codes, IfOk, MatchOption};
+ghost use Rattle.rx_reading.specs.Inside.EntryWords.{act_at, step_at, acted_at, changed_at, word_of};
+ghost use Rattle.rx_reading.specs.declared.acts.Kind.{Kind};
 ghost use Rattle.rx_reading.specs.Inside.EntryWords.{release_or_root_at, root_at, death_at, join_at, entry_at, entered, if_good};
 
 use crate::acts::{Kind, act, is_end};
@@ -10,7 +11,6 @@ use rx_history::{Entry, History};
 use std::alloc::Global;
 
 // Adds the entry that the words after its number are; answers whether they are one.
-#[tactic(auto, using(crate::proofs::Naming::entry_by_kind))]
 pub(crate) fn entry(
     alloc: Global,
     words: &mut Words<'_>,
@@ -32,8 +32,9 @@ pub(crate) fn entry(
 }
 
 // The kind of act that a word names.
+#[tactic(auto, using(crate::proofs::Naming::is_word, crate::proofs::Naming::no_kind))]
 fn kind_of(word: &[u8]) -> Option<Kind>
-    ensures { result ≡ kind_named word.now }
+    ensures { MatchOption result ((kind : Kind) → word.now ≢ word_of kind) (λ kind. word.now ≡ word_of kind) }
 {
     if is_same(word, b"spawn") {
         Some(Kind::Spawn)

@@ -75,18 +75,17 @@ join_at places = followed (place_at places) (λ place. done (Join place))
 abbrev pub release_or_root_at : ℕ → Reader Entry
 release_or_root_at places = either (codes "host") (root_at places) (step_at (release_at places))
 
--- the kind of act that a word names
-abbrev pub kind_named : List ℕ → Option Kind
-kind_named w =
-    if bytes_eq w (codes "spawn") then Some kinds.Spawn else (
-    if bytes_eq w (codes "arrive") then Some kinds.Arrive else (
-    if bytes_eq w (codes "end") then Some kinds.End else (
-    if bytes_eq w (codes "open") then Some kinds.Open else (
-    if bytes_eq w (codes "at") then Some kinds.At else (
-    if bytes_eq w (codes "wait") then Some kinds.Wait else (
-    if bytes_eq w (codes "release") then Some kinds.Release else (
-    if bytes_eq w (codes "print") then Some kinds.Print else (
-    if bytes_eq w (codes "census") then Some kinds.Census else None))))))))
+-- the word that names a kind of act
+abbrev pub word_of : Kind → List ℕ
+word_of kinds.Open = codes "open"
+word_of kinds.At = codes "at"
+word_of kinds.Spawn = codes "spawn"
+word_of kinds.Arrive = codes "arrive"
+word_of kinds.Wait = codes "wait"
+word_of kinds.Release = codes "release"
+word_of kinds.End = codes "end"
+word_of kinds.Print = codes "print"
+word_of kinds.Census = codes "census"
 
 -- the entry of an act of this kind
 abbrev pub acted_at : ℕ → Kind → Reader Entry

@@ -4,17 +4,27 @@ use rx_words::{Command, PickWords, WordFault, read_live, read_words};
 use std::alloc::Global;
 use std::test::Fail;
 
-fn made(alloc: Global, words: &[&[u8]]) -> Result<Vec<RxWord>, NoMemory> {
+// The words of a line, between whose words one blank stands each; no byte gives no word.
+fn made(alloc: Global, line: &[u8]) -> Result<Vec<RxWord>, NoMemory> {
     let mut list = Vec::new(alloc);
-    for word in words {
-        list.push(RxWord::from_bytes(alloc, word)?)?;
+    let mut word = Vec::new(alloc);
+    for byte in line {
+        if *byte == b' ' {
+            list.push(RxWord::from_bytes(alloc, &word)?)?;
+            word.clear();
+        } else {
+            word.push(*byte)?;
+        }
+    }
+    if !line.is_empty() {
+        list.push(RxWord::from_bytes(alloc, &word)?)?;
     }
     Ok(list)
 }
 
 // The number of the bad word, or none where the words are a command.
-fn bad_word(alloc: Global, words: &[&[u8]]) -> Result<Option<u32>, NoMemory> {
-    let list = made(alloc, words)?;
+fn bad_word(alloc: Global, line: &[u8]) -> Result<Option<u32>, NoMemory> {
+    let list = made(alloc, line)?;
     match read_words(alloc, &list) {
         Ok(_) => Ok(None),
         Err(WordFault::Bad { word }) => Ok(Some(word)),
@@ -24,205 +34,82 @@ fn bad_word(alloc: Global, words: &[&[u8]]) -> Result<Option<u32>, NoMemory> {
 
 #[test]
 fn the_first_bad_word_is_told(rt: HostRuntime) -> Result<(), Fail> {
-    for (words, want) in [
-        ([].as_slice(), Some(0)),
-        ([b"stop".as_slice()].as_slice(), Some(0)),
-        ([b"step".as_slice(), b"more"].as_slice(), Some(1)),
-        ([b"check".as_slice(), b"more"].as_slice(), Some(1)),
-        ([b"check".as_slice()].as_slice(), None),
-        ([b"verify".as_slice()].as_slice(), None),
-        (
-            [b"verify".as_slice(), b"--places", b"2"].as_slice(),
-            Some(1),
-        ),
-        ([b"span".as_slice()].as_slice(), None),
-        ([b"span".as_slice(), b"verify"].as_slice(), Some(1)),
-        (
-            [b"step".as_slice(), b"--places", b"2", b"--kill", b"0@3"].as_slice(),
-            Some(4),
-        ),
-        (
-            [b"step".as_slice(), b"--kill", b"1@1", b"--kill", b"1@2"].as_slice(),
-            Some(4),
-        ),
-        ([b"step".as_slice(), b"--kill", b"2@1"].as_slice(), Some(2)),
-        ([b"step".as_slice(), b"--kill"].as_slice(), Some(2)),
-        ([b"step".as_slice(), b"--places", b"17"].as_slice(), Some(2)),
-        (
-            [b"step".as_slice(), b"--heap", b"4096", b"--heap", b"1"].as_slice(),
-            Some(3),
-        ),
-        (
-            [b"step".as_slice(), b"--heap", b"4096", b"--places"].as_slice(),
-            Some(4),
-        ),
-        ([b"step".as_slice(), b"--heap", b"0"].as_slice(), Some(2)),
-        ([b"step".as_slice(), b"--places", b"02"].as_slice(), Some(2)),
+    for (line, want) in [
+        (b"".as_slice(), Some(0)),
+        (b"stop", Some(0)),
+        (b"step more", Some(1)),
+        (b"check more", Some(1)),
+        (b"check", None),
+        (b"verify", None),
+        (b"verify --places 2", Some(1)),
+        (b"span", None),
+        (b"span verify", Some(1)),
+        (b"step --places 2 --kill 0@3", Some(4)),
+        (b"step --kill 1@1 --kill 1@2", Some(4)),
+        (b"step --kill 2@1", Some(2)),
+        (b"step --kill", Some(2)),
+        (b"step --places 17", Some(2)),
+        (b"step --heap 4096 --heap 1", Some(3)),
+        (b"step --heap 4096 --places", Some(4)),
+        (b"step --heap 0", Some(2)),
+        (b"step --places 02", Some(2)),
     ] {
-        assert_eq!(rt; bad_word(rt.alloc(), words)?, want);
+        assert_eq!(rt; bad_word(rt.alloc(), line)?, want);
     }
     Ok(())
 }
 
 #[test]
 fn the_first_bad_word_of_a_schedule_is_told(rt: HostRuntime) -> Result<(), Fail> {
-    for (words, want) in [
-        ([b"step".as_slice(), b"--pick"].as_slice(), Some(2)),
-        ([b"step".as_slice(), b"--pick", b""].as_slice(), Some(2)),
-        ([b"step".as_slice(), b"--pick", b"1,"].as_slice(), Some(2)),
-        (
-            [b"step".as_slice(), b"--pick", b"1000001"].as_slice(),
-            Some(2),
-        ),
-        (
-            [b"step".as_slice(), b"--pick", b"0", b"--seed", b"5"].as_slice(),
-            Some(3),
-        ),
-        (
-            [b"gen".as_slice(), b"--seed", b"5", b"--seed", b"5"].as_slice(),
-            Some(3),
-        ),
-        (
-            [b"step".as_slice(), b"--seed", b"18446744073709551616"].as_slice(),
-            Some(2),
-        ),
-        ([b"gen".as_slice(), b"--pick", b"0"].as_slice(), Some(1)),
-        ([b"step".as_slice(), b"--size", b"1"].as_slice(), Some(1)),
-        ([b"gen".as_slice()].as_slice(), Some(1)),
-        ([b"gen".as_slice(), b"--size"].as_slice(), Some(2)),
-        ([b"gen".as_slice(), b"--size", b"0"].as_slice(), Some(2)),
-        ([b"gen".as_slice(), b"--size", b"10001"].as_slice(), Some(2)),
+    for (line, want) in [
+        (b"step --pick".as_slice(), Some(2)),
+        (b"step --pick ", Some(2)),
+        (b"step --pick 1,", Some(2)),
+        (b"step --pick 1000001", Some(2)),
+        (b"step --pick 0 --seed 5", Some(3)),
+        (b"gen --seed 5 --seed 5", Some(3)),
+        (b"step --seed 18446744073709551616", Some(2)),
+        (b"gen --pick 0", Some(1)),
+        (b"step --size 1", Some(1)),
+        (b"gen", Some(1)),
+        (b"gen --size", Some(2)),
+        (b"gen --size 0", Some(2)),
+        (b"gen --size 10001", Some(2)),
         // a kill is looked at only where no word is missing
-        ([b"gen".as_slice(), b"--kill", b"0@1"].as_slice(), Some(3)),
-        (
-            [b"gen".as_slice(), b"--kill", b"0@1", b"--size", b"1"].as_slice(),
-            Some(2),
-        ),
+        (b"gen --kill 0@1", Some(3)),
+        (b"gen --kill 0@1 --size 1", Some(2)),
     ] {
-        assert_eq!(rt; bad_word(rt.alloc(), words)?, want);
+        assert_eq!(rt; bad_word(rt.alloc(), line)?, want);
     }
     Ok(())
 }
 
 #[test]
 fn the_first_bad_join_or_kill_is_told(rt: HostRuntime) -> Result<(), Fail> {
-    for (words, want) in [
-        (
-            [
-                b"step".as_slice(),
-                b"--places",
-                b"2",
-                b"--join",
-                b"5",
-                b"--kill",
-                b"2@4",
-            ]
-            .as_slice(),
-            Some(6),
-        ),
-        (
-            [
-                b"step".as_slice(),
-                b"--places",
-                b"2",
-                b"--join",
-                b"5",
-                b"--kill",
-                b"2@5",
-            ]
-            .as_slice(),
-            None,
-        ),
-        (
-            [b"step".as_slice(), b"--places", b"16", b"--join", b"1"].as_slice(),
-            Some(4),
-        ),
-        (
-            [
-                b"step".as_slice(),
-                b"--places",
-                b"16",
-                b"--join",
-                b"1",
-                b"--kill",
-                b"0@1",
-            ]
-            .as_slice(),
-            Some(4),
-        ),
-        (
-            [
-                b"step".as_slice(),
-                b"--places",
-                b"16",
-                b"--kill",
-                b"0@1",
-                b"--join",
-                b"1",
-            ]
-            .as_slice(),
-            Some(4),
-        ),
+    for (line, want) in [
+        (b"step --places 2 --join 5 --kill 2@4".as_slice(), Some(6)),
+        (b"step --places 2 --join 5 --kill 2@5", None),
+        (b"step --places 16 --join 1", Some(4)),
+        (b"step --places 16 --join 1 --kill 0@1", Some(4)),
+        (b"step --places 16 --kill 0@1 --join 1", Some(4)),
         // the place of a kill may join by a later word, at the second of two moments
-        (
-            [
-                b"step".as_slice(),
-                b"--kill",
-                b"3@6",
-                b"--join",
-                b"7",
-                b"--join",
-                b"5",
-            ]
-            .as_slice(),
-            Some(2),
-        ),
-        (
-            [
-                b"step".as_slice(),
-                b"--kill",
-                b"3@7",
-                b"--join",
-                b"7",
-                b"--join",
-                b"5",
-            ]
-            .as_slice(),
-            None,
-        ),
-        (
-            [
-                b"step".as_slice(),
-                b"--kill",
-                b"4@7",
-                b"--join",
-                b"7",
-                b"--join",
-                b"5",
-            ]
-            .as_slice(),
-            Some(2),
-        ),
-        (
-            [b"step".as_slice(), b"--join", b"1000001"].as_slice(),
-            Some(2),
-        ),
-        ([b"step".as_slice(), b"--join", b"05"].as_slice(), Some(2)),
-        ([b"step".as_slice(), b"--join"].as_slice(), Some(2)),
-        (
-            [b"gen".as_slice(), b"--join", b"1", b"--size", b"1"].as_slice(),
-            Some(1),
-        ),
-        ([b"check".as_slice(), b"--join", b"1"].as_slice(), Some(1)),
+        (b"step --kill 3@6 --join 7 --join 5", Some(2)),
+        (b"step --kill 3@7 --join 7 --join 5", None),
+        (b"step --kill 4@7 --join 7 --join 5", Some(2)),
+        (b"step --join 1000001", Some(2)),
+        (b"step --join 05", Some(2)),
+        (b"step --join", Some(2)),
+        (b"gen --join 1 --size 1", Some(1)),
+        (b"check --join 1", Some(1)),
     ] {
-        assert_eq!(rt; bad_word(rt.alloc(), words)?, want);
+        assert_eq!(rt; bad_word(rt.alloc(), line)?, want);
     }
     Ok(())
 }
 
 // The moments of the joins of the setup that words give, in their order, or none where they give none.
-fn joins_of(alloc: Global, words: &[&[u8]]) -> Result<Vec<u32>, NoMemory> {
-    let list = made(alloc, words)?;
+fn joins_of(alloc: Global, line: &[u8]) -> Result<Vec<u32>, NoMemory> {
+    let list = made(alloc, line)?;
     let mut joins = Vec::new(alloc);
     if let Ok(Command::Step { setup, .. }) = read_words(alloc, &list) {
         for i in 0..setup.joins.len() {
@@ -236,27 +123,15 @@ fn joins_of(alloc: Global, words: &[&[u8]]) -> Result<Vec<u32>, NoMemory> {
 fn joins_stand_in_order(rt: HostRuntime) -> Result<(), Fail> {
     let joins = joins_of(
         rt.alloc(),
-        &[
-            b"step",
-            b"--join",
-            b"1000000",
-            b"--join",
-            b"5",
-            b"--places",
-            b"12",
-            b"--join",
-            b"0",
-            b"--join",
-            b"5",
-        ],
+        b"step --join 1000000 --join 5 --places 12 --join 0 --join 5",
     )?;
     assert_eq!(rt; joins.as_slice(), [0, 5, 5, 1_000_000].as_slice());
     Ok(())
 }
 
 // The kills of the setup that words give, in their order, or none where they give none.
-fn kills_of(alloc: Global, words: &[&[u8]]) -> Result<Vec<Kill>, NoMemory> {
-    let list = made(alloc, words)?;
+fn kills_of(alloc: Global, line: &[u8]) -> Result<Vec<Kill>, NoMemory> {
+    let list = made(alloc, line)?;
     let mut kills = Vec::new(alloc);
     if let Ok(Command::Step { setup, .. }) = read_words(alloc, &list) {
         for i in 0..setup.kills.len() {
@@ -277,17 +152,7 @@ fn planned(place: u8, moment: u32) -> Kill {
 fn kills_stand_in_order(rt: HostRuntime) -> Result<(), Fail> {
     let kills = kills_of(
         rt.alloc(),
-        &[
-            b"step",
-            b"--kill",
-            b"2@13",
-            b"--kill",
-            b"3@12",
-            b"--places",
-            b"4",
-            b"--kill",
-            b"1@13",
-        ],
+        b"step --kill 2@13 --kill 3@12 --places 4 --kill 1@13",
     )?;
     let want = [planned(3, 12), planned(1, 13), planned(2, 13)];
     assert_eq!(rt; kills.as_slice(), want.as_slice());
@@ -295,8 +160,8 @@ fn kills_stand_in_order(rt: HostRuntime) -> Result<(), Fail> {
 }
 
 // The pick list that words give, or none where they give none.
-fn picks_of(alloc: Global, words: &[&[u8]]) -> Result<Vec<u32>, NoMemory> {
-    let list = made(alloc, words)?;
+fn picks_of(alloc: Global, line: &[u8]) -> Result<Vec<u32>, NoMemory> {
+    let list = made(alloc, line)?;
     let mut picks = Vec::new(alloc);
     if let Ok(Command::Step { picks: given, .. }) = read_words(alloc, &list) {
         if let PickWords::List(numbers) = given {
@@ -308,14 +173,14 @@ fn picks_of(alloc: Global, words: &[&[u8]]) -> Result<Vec<u32>, NoMemory> {
 
 #[test]
 fn picks_stand_as_they_were_given(rt: HostRuntime) -> Result<(), Fail> {
-    let list = picks_of(rt.alloc(), &[b"step", b"--pick", b"7,0,1000000"])?;
+    let list = picks_of(rt.alloc(), b"step --pick 7,0,1000000")?;
     assert_eq!(rt; list.as_slice(), [7, 0, 1_000_000].as_slice());
     Ok(())
 }
 
 // The size and the seed that words give, or none where they give none.
-fn size_and_seed(alloc: Global, words: &[&[u8]]) -> Result<(u32, Option<u64>), NoMemory> {
-    let list = made(alloc, words)?;
+fn size_and_seed(alloc: Global, line: &[u8]) -> Result<(u32, Option<u64>), NoMemory> {
+    let list = made(alloc, line)?;
     match read_words(alloc, &list) {
         Ok(Command::Gen { size, seed, .. }) => Ok((size, seed)),
         _ => Ok((0, None)),
@@ -324,24 +189,15 @@ fn size_and_seed(alloc: Global, words: &[&[u8]]) -> Result<(u32, Option<u64>), N
 
 #[test]
 fn greatest_size_and_seed_are_given(rt: HostRuntime) -> Result<(), Fail> {
-    let (size, seed) = size_and_seed(
-        rt.alloc(),
-        &[
-            b"gen",
-            b"--seed",
-            b"18446744073709551615",
-            b"--size",
-            b"10000",
-        ],
-    )?;
+    let (size, seed) = size_and_seed(rt.alloc(), b"gen --seed 18446744073709551615 --size 10000")?;
     assert_eq!(rt; size, 10_000);
     assert_eq!(rt; seed, Some(18_446_744_073_709_551_615));
     Ok(())
 }
 
 // The number of workers that the words of `live` give, or else the number of the bad word.
-fn workers_of(alloc: Global, words: &[&[u8]]) -> Result<(u32, Option<u32>), NoMemory> {
-    let list = made(alloc, words)?;
+fn workers_of(alloc: Global, line: &[u8]) -> Result<(u32, Option<u32>), NoMemory> {
+    let list = made(alloc, line)?;
     match read_live(alloc, &list) {
         Ok(Some(live)) => Ok((live.workers, None)),
         Ok(None) => Ok((0, None)),
@@ -351,8 +207,8 @@ fn workers_of(alloc: Global, words: &[&[u8]]) -> Result<(u32, Option<u32>), NoMe
 }
 
 // With how many snapshots the words of `live` watch it, 0 where they do not, or else the number of the bad word.
-fn watch_of(alloc: Global, words: &[&[u8]]) -> Result<(u32, Option<u32>), NoMemory> {
-    let list = made(alloc, words)?;
+fn watch_of(alloc: Global, line: &[u8]) -> Result<(u32, Option<u32>), NoMemory> {
+    let list = made(alloc, line)?;
     match read_live(alloc, &list) {
         Ok(Some(live)) => Ok((live.watch.unwrap_or(0), None)),
         Ok(None) => Ok((0, None)),
@@ -363,77 +219,35 @@ fn watch_of(alloc: Global, words: &[&[u8]]) -> Result<(u32, Option<u32>), NoMemo
 
 #[test]
 fn words_of_watch(rt: HostRuntime) -> Result<(), Fail> {
-    for (words, watch, bad) in [
-        ([b"live".as_slice()].as_slice(), 0, None),
-        (
-            [b"live".as_slice(), b"--watch", b"1000"].as_slice(),
-            1000,
-            None,
-        ),
-        (
-            [b"live".as_slice(), b"--watch", b"0"].as_slice(),
-            0,
-            Some(2),
-        ),
-        (
-            [b"live".as_slice(), b"--watch", b"1001"].as_slice(),
-            0,
-            Some(2),
-        ),
-        ([b"live".as_slice(), b"--watch"].as_slice(), 0, Some(2)),
-        (
-            [b"live".as_slice(), b"--watch", b"1", b"--watch", b"1"].as_slice(),
-            0,
-            Some(3),
-        ),
+    for (line, watch, bad) in [
+        (b"live".as_slice(), 0, None),
+        (b"live --watch 1000", 1000, None),
+        (b"live --watch 0", 0, Some(2)),
+        (b"live --watch 1001", 0, Some(2)),
+        (b"live --watch", 0, Some(2)),
+        (b"live --watch 1 --watch 1", 0, Some(3)),
     ] {
-        assert_eq!(rt; watch_of(rt.alloc(), words)?, (watch, bad));
+        assert_eq!(rt; watch_of(rt.alloc(), line)?, (watch, bad));
     }
-    assert!(rt;
-        read_words(
-            rt.alloc(),
-            &made(rt.alloc(), &[b"step".as_slice(), b"--watch", b"1"])?
-        )
-        .is_err()
-    );
+    assert!(rt; read_words(rt.alloc(), &made(rt.alloc(), b"step --watch 1")?).is_err());
     Ok(())
 }
 
 #[test]
 fn words_of_live(rt: HostRuntime) -> Result<(), Fail> {
-    for (words, workers, bad) in [
-        ([b"live".as_slice()].as_slice(), 2, None),
-        ([b"step".as_slice(), b"--workers", b"2"].as_slice(), 0, None),
-        ([b"live".as_slice(), b"--workers", b"8"].as_slice(), 8, None),
-        (
-            [b"live".as_slice(), b"--workers", b"9"].as_slice(),
-            0,
-            Some(2),
-        ),
-        (
-            [b"live".as_slice(), b"--workers", b"0"].as_slice(),
-            0,
-            Some(2),
-        ),
-        ([b"live".as_slice(), b"--pick", b"0"].as_slice(), 0, Some(1)),
-        ([b"live".as_slice(), b"--seed", b"0"].as_slice(), 0, Some(1)),
-        (
-            [b"live".as_slice(), b"--kill", b"2@1"].as_slice(),
-            0,
-            Some(2),
-        ),
-        (
-            [b"live".as_slice(), b"--kill", b"2@1", b"--join", b"1"].as_slice(),
-            2,
-            None,
-        ),
-        (
-            [b"live".as_slice(), b"--workers", b"1", b"--workers", b"1"].as_slice(),
-            0,
-            Some(3),
-        ),
+    for (line, workers, bad) in [
+        (b"live".as_slice(), 2, None),
+        (b"step --workers 2", 0, None),
+        (b"live --workers 8", 8, None),
+        (b"live --workers 9", 0, Some(2)),
+        (b"live --workers 0", 0, Some(2)),
+        (b"live --pick 0", 0, Some(1)),
+        (b"live --seed 0", 0, Some(1)),
+        (b"live --kill 2@1", 0, Some(2)),
+        (b"live --kill 2@1 --join 1", 2, None),
+        (b"live --workers 1 --workers 1", 0, Some(3)),
     ] {
-        assert_eq!(rt; workers_of(rt.alloc(), words)?, (workers, bad));
+        assert_eq!(rt; workers_of(rt.alloc(), line)?, (workers, bad));
     }
     Ok(())
 }

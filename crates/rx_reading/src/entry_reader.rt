@@ -2,7 +2,7 @@
 ghost use Rattle.std.specs.Prelude.{◌≡◌, ◌≢◌, ◌≤◌, ◌∷◌, codes, IfOk, MatchOption};
 ghost use Rattle.rx_reading.specs.Inside.EntryWords.{act_at, step_at, acted_at, changed_at, word_of};
 ghost use Rattle.rx_reading.specs.declared.acts.Kind.{Kind};
-ghost use Rattle.rx_reading.specs.Inside.EntryWords.{release_or_root_at, root_at, death_at, join_at, entry_at, entered, if_good};
+ghost use Rattle.rx_reading.specs.Inside.EntryWords.{release_or_root_at, root_at, entry_at, entered, if_good};
 
 use crate::acts::{Kind, act, is_end};
 use rx_base::NoMemory;
@@ -80,6 +80,7 @@ fn acted(
 }
 
 // The death or the join that a word names.
+#[tactic(auto, using(crate::proofs::Adding::whole_read, crate::proofs::Adding::part_read))]
 fn changed(
     words: &mut Words<'_>,
     places: u8,
@@ -90,13 +91,22 @@ fn changed(
         ≡ entered history.old.entries (changed_at places (word.now ∷ words.old))) }
     ensures same { history.new.setup ≡ history.old.setup }
 {
-    if is_same(word, b"death") {
-        death(words, places, history)
-    } else if is_same(word, b"join") {
-        join(words, places, history)
-    } else {
-        Ok(false)
+    let is_death = is_same(word, b"death");
+    if !is_death && !is_same(word, b"join") {
+        return Ok(false);
     }
+    let Some(place) = place_field(words, places) else {
+        return Ok(false);
+    };
+    if !is_end(words, history)? {
+        return Ok(false);
+    }
+    if is_death {
+        history.add(Entry::Death { place });
+    } else {
+        history.add(Entry::Join { place });
+    }
+    Ok(true)
 }
 
 // A task, what it did, and its batch.
@@ -163,37 +173,5 @@ fn root(
         masked,
         thrown,
     });
-    Ok(true)
-}
-
-#[tactic(auto, using(crate::proofs::Adding::whole_read, crate::proofs::Adding::part_read))]
-fn death(words: &mut Words<'_>, places: u8, history: &mut History) -> Result<bool, NoMemory>
-    ensures read { IfOk result (λ good. if_good good history.new.entries
-        ≡ entered history.old.entries (death_at places words.old)) }
-    ensures same { history.new.setup ≡ history.old.setup }
-{
-    let Some(place) = place_field(words, places) else {
-        return Ok(false);
-    };
-    if !is_end(words, history)? {
-        return Ok(false);
-    }
-    history.add(Entry::Death { place });
-    Ok(true)
-}
-
-#[tactic(auto, using(crate::proofs::Adding::whole_read, crate::proofs::Adding::part_read))]
-fn join(words: &mut Words<'_>, places: u8, history: &mut History) -> Result<bool, NoMemory>
-    ensures read { IfOk result (λ good. if_good good history.new.entries
-        ≡ entered history.old.entries (join_at places words.old)) }
-    ensures same { history.new.setup ≡ history.old.setup }
-{
-    let Some(place) = place_field(words, places) else {
-        return Ok(false);
-    };
-    if !is_end(words, history)? {
-        return Ok(false);
-    }
-    history.add(Entry::Join { place });
     Ok(true)
 }

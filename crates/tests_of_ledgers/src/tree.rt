@@ -103,51 +103,6 @@ fn first_path<L: FinishLedger>(
     Ok((ready, outcome, root))
 }
 
-/// Task 0 asks to release while task 1 travels.
-fn early<L: FinishLedger>(
-    ledger: &mut L,
-    alloc: Global,
-) -> Result<Result<Outcome, LedgerFault>, LedgerFault>
-    requires { L.stands ledger.old 0 (opening 2) }
-{
-    let inside = Caller {
-        task: TaskId(0),
-        scope: ScopeId(0),
-        inner: ScopeId(1),
-        place: Where::At(PlaceId(0)),
-    };
-    let _begun = begins(ledger, alloc, 2)?;
-    Ok(ledger.release(inside))
-}
-
-/// Place 1 dies while task 1 travels there.
-fn transit<L: FinishLedger>(
-    ledger: &mut L,
-    alloc: Global,
-) -> Result<(bool, Result<(), LedgerFault>), LedgerFault>
-    requires { L.stands ledger.old 0 (opening 2) }
-{
-    let inside = Caller {
-        task: TaskId(0),
-        scope: ScopeId(0),
-        inner: ScopeId(1),
-        place: Where::At(PlaceId(0)),
-    };
-    let message = Caller {
-        task: TaskId(1),
-        scope: ScopeId(1),
-        inner: ScopeId(1),
-        place: Where::Travel {
-            from: PlaceId(0),
-            to: PlaceId(1),
-        },
-    };
-    let _begun = begins(ledger, alloc, 2)?;
-    ledger.death(PlaceId(1), 3);
-    let ready = ledger.ready(inside);
-    Ok((ready, ledger.arrive(message)))
-}
-
 /// Place 1 dies while task 2 travels from there.
 fn source<L: FinishLedger>(
     ledger: &mut L,
@@ -185,30 +140,6 @@ fn source<L: FinishLedger>(
     ends(ledger, there, alloc)?;
     ledger.death(PlaceId(1), 6);
     Ok(ledger.arrive(second))
-}
-
-/// Task 0 calls place 1, and the callee arrives.
-fn call<L: FinishLedger>(ledger: &mut L) -> Result<Born, LedgerFault>
-    requires { L.stands ledger.old 0 (opening 3) }
-{
-    let main = Caller {
-        task: TaskId(0),
-        scope: ScopeId(0),
-        inner: ScopeId(0),
-        place: Where::At(PlaceId(0)),
-    };
-    let message = Caller {
-        task: TaskId(1),
-        scope: ScopeId(1),
-        inner: ScopeId(1),
-        place: Where::Travel {
-            from: PlaceId(0),
-            to: PlaceId(1),
-        },
-    };
-    let born = ledger.open_at(main, PlaceId(1))?;
-    ledger.arrive(message)?;
-    Ok(born)
 }
 
 /// Task 1 runs at place 1 inside the finish of task 0, and waits there for task 2, which is at place 2.
@@ -304,45 +235,6 @@ fn dropped<L: FinishLedger>(
     Ok((outcome, root))
 }
 
-/// The same where task 2 ends before place 1 dies, so that its scope holds the fault at the death.
-fn held<L: FinishLedger>(ledger: &mut L, alloc: Global) -> Result<Outcome, LedgerFault>
-    requires { L.stands ledger.old 0 (opening 3) }
-{
-    let inside = Caller {
-        task: TaskId(0),
-        scope: ScopeId(0),
-        inner: ScopeId(1),
-        place: Where::At(PlaceId(0)),
-    };
-    let last = Caller {
-        task: TaskId(2),
-        scope: ScopeId(2),
-        inner: ScopeId(2),
-        place: Where::At(PlaceId(2)),
-    };
-    nests(ledger, alloc)?;
-    throws(ledger, last, alloc)?;
-    ledger.death(PlaceId(1), 9);
-    ledger.release(inside)
-}
-
-/// A place joins, and task 0 asks for the number of places, before the new one dies and after that.
-fn joins<L: FinishLedger>(ledger: &mut L) -> Result<(u8, u8), LedgerFault>
-    requires { L.stands ledger.old 1 (opening 1) }
-{
-    let main = Caller {
-        task: TaskId(0),
-        scope: ScopeId(0),
-        inner: ScopeId(0),
-        place: Where::At(PlaceId(0)),
-    };
-    ledger.join(PlaceId(1));
-    ledger.print(main)?;
-    let places = ledger.census(main)?;
-    ledger.death(PlaceId(1), 3);
-    Ok((places, ledger.census(main)?))
-}
-
 #[test]
 fn ordinary_case(rt: HostRuntime) -> Result<(), Fail> {
     let mut ledger = TreeLedger::open(rt.alloc(), 2)?;
@@ -354,45 +246,6 @@ fn ordinary_case(rt: HostRuntime) -> Result<(), Fail> {
     assert_eq!(rt; root.lost, PlaceSet(0));
     assert_eq!(rt; root.masked, 0);
     assert_eq!(rt; root.thrown.len(), 0);
-    Ok(())
-}
-
-#[test]
-fn begins_by_number(rt: HostRuntime) -> Result<(), Fail> {
-    let mut ledger = TreeLedger::open(rt.alloc(), 2)?;
-    let (scope, born) = begins(&mut ledger, rt.alloc(), 2)?;
-    assert_eq!(rt; scope, ScopeId(1));
-    assert_eq!(rt;
-        born,
-        Born {
-            child: TaskId(1),
-            scope: ScopeId(1),
-            lost: false
-        }
-    );
-    Ok(())
-}
-
-#[test]
-fn not_yet_while_one_travels(rt: HostRuntime) -> Result<(), Fail> {
-    let mut ledger = TreeLedger::open(rt.alloc(), 2)?;
-    let early = early(&mut ledger, rt.alloc())?;
-    assert!(rt; matches!(early, Err(LedgerFault::NotYet { place: PlaceId(1) })));
-    Ok(())
-}
-
-#[test]
-fn loss_in_transit(rt: HostRuntime) -> Result<(), Fail> {
-    let mut ledger = TreeLedger::open(rt.alloc(), 2)?;
-    let (ready, arrived) = transit(&mut ledger, rt.alloc())?;
-    assert!(rt; ready);
-    assert_eq!(rt;
-        arrived,
-        Err(LedgerFault::Lost {
-            place: PlaceId(1),
-            at: 3
-        })
-    );
     Ok(())
 }
 
@@ -411,21 +264,6 @@ fn source_dies(rt: HostRuntime) -> Result<(), Fail> {
 }
 
 #[test]
-fn at_calls_a_place(rt: HostRuntime) -> Result<(), Fail> {
-    let mut ledger = TreeLedger::open(rt.alloc(), 3)?;
-    let born = call(&mut ledger)?;
-    assert_eq!(rt;
-        born,
-        Born {
-            child: TaskId(1),
-            scope: ScopeId(1),
-            lost: false
-        }
-    );
-    Ok(())
-}
-
-#[test]
 fn dropped_fault_is_counted(rt: HostRuntime) -> Result<(), Fail> {
     let mut ledger = TreeLedger::open(rt.alloc(), 3)?;
     let (outcome, root) = dropped(&mut ledger, rt.alloc())?;
@@ -435,23 +273,6 @@ fn dropped_fault_is_counted(rt: HostRuntime) -> Result<(), Fail> {
     assert_eq!(rt; root.lost, PlaceSet(0));
     assert_eq!(rt; root.masked, 0);
     assert_eq!(rt; root.thrown.len(), 0);
-    Ok(())
-}
-
-#[test]
-fn held_fault_is_counted(rt: HostRuntime) -> Result<(), Fail> {
-    let mut ledger = TreeLedger::open(rt.alloc(), 3)?;
-    let outcome = held(&mut ledger, rt.alloc())?;
-    assert_eq!(rt; outcome.lost, PlaceSet(2));
-    assert_eq!(rt; outcome.masked, 1);
-    assert_eq!(rt; outcome.thrown.len(), 0);
-    Ok(())
-}
-
-#[test]
-fn joining_place_is_counted(rt: HostRuntime) -> Result<(), Fail> {
-    let mut ledger = TreeLedger::open(rt.alloc(), 1)?;
-    assert_eq!(rt; joins(&mut ledger)?, (2, 2));
     Ok(())
 }
 

@@ -5,11 +5,11 @@ ghost use Rattle.rx_rules.specs.Terms.{Term, does};
 ghost use Rattle.rx_control.specs.Next.{next_of};
 ghost use Rattle.rx_control.specs.Stands.{StandsFor};
 
-use rx_base::Fault::{Dead, HeapFull, NoPlace, Overflow, Stale, Thrown, WrongPlace};
+use rx_base::Fault::{HeapFull, NoPlace, Overflow, Stale, Thrown, WrongPlace};
 use rx_base::{Fault, Faults, GlobalRef, NoMemory, Path, PlaceId, Value};
 use rx_check::{Program, check};
 use rx_control::Next::{Book, Cell, Local};
-use rx_control::Want::{Open, Print, Release, Spawn, Wait};
+use rx_control::Want::{Print, Release, Spawn, Wait};
 use rx_control::{CellOp, Control, Next, Variables, Want};
 use rx_script::{NameId, read_script};
 use std::alloc::{AllocGlobal, Global};
@@ -270,34 +270,6 @@ const SECOND: GlobalRef = GlobalRef {
     generation: 2,
 };
 
-const DEATHS: &[Fault] = &[Dead(THERE), Dead(PlaceId(3))];
-
-const OTHERS: &[Fault] = &[Dead(THERE), Thrown(2)];
-
-const FAULTS_COME_IN_ORDER_1: &[Step<'static>] = &[
-    (Local, &[0], Nothing),
-    (Book(Open), &[0, 0, 0], Nothing),
-];
-
-const FAULTS_COME_IN_ORDER_2: &[Step<'static>] = &[(
-    Book(Spawn { to: HERE }),
-    &[0, 0, 0, 0],
-    Nothing,
-)];
-
-const FAULTS_COME_IN_ORDER_3: &[Step<'static>] = &[(Local, &[0, 0, 0, 0, 0], Nothing)];
-
-const FAULTS_COME_IN_ORDER_4: &[Step<'static>] = &[(Local, &[0, 0, 0, 1, 0], Nothing)];
-
-const FAULTS_COME_IN_ORDER_5: &[Step<'static>] = &[
-    (Book(Spawn { to: HERE }), &[0, 0, 0, 1], Nothing),
-    (Local, &[0, 0, 0, 2], Nothing),
-    (Book(Wait), &[], List(&[Thrown(3)])),
-    (Book(Release), &[], List(&[Thrown(3), Thrown(1), Thrown(2)])),
-    (Local, &[], Nothing),
-    (Book(Print { value: 4 }), &[0, 1, 0], Nothing),
-];
-
 const REFERENCE_AT_A_WRONG_PLACE_1: &[Step<'static>] = &[
     (
         Cell(CellOp::Make { words: 1 }),
@@ -366,51 +338,6 @@ const STORES_ANSWER_2: &[Step<'static>] = &[
     (Book(Print { value: 7 }), &[0, 1, 3], Nothing),
 ];
 
-const DEATHS_ALONE_ARE_CAUGHT_1: &[Step<'static>] = &[
-    (Local, &[0], Nothing),
-    (Book(Open), &[0, 0, 0], Nothing),
-    (Book(Wait), &[], Nothing),
-    (Book(Release), &[], List(DEATHS)),
-    (Local, &[], Nothing),
-    (Book(Print { value: 1 }), &[0, 1, 0], Nothing),
-];
-
-const DEATHS_ALONE_ARE_CAUGHT_2: &[Step<'static>] = &[
-    (Local, &[0], Nothing),
-    (Book(Open), &[0, 0, 0], Nothing),
-    (Book(Wait), &[], Nothing),
-    (Book(Release), &[], List(OTHERS)),
-    (Local, &[], Nothing),
-];
-
-const HANDLERS_DO_NOT_CATCH_THEIR_OWN_1: &[Step<'static>] = &[
-    (Local, &[0], Nothing),
-    (Local, &[0, 0, 0], Nothing),
-    (Local, &[], Nothing),
-    (Local, &[0, 1, 0], Nothing),
-];
-
-const PATHS_IN_BLOCKS_1: &[Step<'static>] = &[
-    (Local, &[0], Nothing),
-    (Local, &[], Nothing),
-    (Local, &[1], Nothing),
-    (Book(Print { value: 2 }), &[1, 0, 0], Nothing),
-    (Local, &[2], Nothing),
-    (Book(Print { value: 3 }), &[2, 1, 0], Nothing),
-    (Local, &[3], Nothing),
-    (Local, &[], Nothing),
-    (Book(Print { value: 4 }), &[3, 0, 0], Nothing),
-    (Local, &[], Nothing),
-    (Book(Print { value: 4 }), &[3, 1, 0], Nothing),
-    (Local, &[], Nothing),
-];
-
-const PATHS_IN_BLOCKS_2: &[Step<'static>] = &[
-    (Local, &[0], Nothing),
-    (Book(Print { value: 1 }), &[0, 0, 0], Nothing),
-    (Local, &[], Nothing),
-];
-
 const NEW_TASKS_HAVE_COPIES_1: &[Step<'static>] = &[(Local, &[0], Nothing)];
 
 const NEW_TASKS_HAVE_COPIES_2: &[Step<'static>] = &[
@@ -442,27 +369,6 @@ const A_CENSUS_TELLS_OF_PLACES_4: &[Step<'static>] = &[
     (Book(Want::Census), &[2, 1], Places(3)),
     (Book(Print { value: 3 }), &[2, 2], Nothing),
 ];
-
-#[test]
-fn faults_come_in_order(rt: HostRuntime) -> Result<(), Fail> {
-    let p = program(
-        rt.alloc(),
-        b"try { finish { async { throw 1; } async { throw 2; } throw 3; } } catch { print 4; }",
-    )
-    .expect(&rt, "a program");
-    let mut main = main_of(rt.alloc(), &p)?;
-    follow(&rt, &p, &mut main, HERE, FAULTS_COME_IN_ORDER_1)?;
-    let mut first = child_of(&rt, &p, &main)?;
-    follow(&rt, &p, &mut main, HERE, FAULTS_COME_IN_ORDER_2)?;
-    let mut second = child_of(&rt, &p, &main)?;
-    follow(&rt, &p, &mut first, HERE, FAULTS_COME_IN_ORDER_3)?;
-    ends(&rt, &p, &mut first, HERE, &[Thrown(1)])?;
-    follow(&rt, &p, &mut second, HERE, FAULTS_COME_IN_ORDER_4)?;
-    ends(&rt, &p, &mut second, HERE, &[Thrown(2)])?;
-    follow(&rt, &p, &mut main, HERE, FAULTS_COME_IN_ORDER_5)?;
-    ends(&rt, &p, &mut main, HERE, &[])?;
-    Ok(())
-}
 
 // All expressions come before the home of the reference.
 #[test]
@@ -530,37 +436,6 @@ fn stores_answer(rt: HostRuntime) -> Result<(), Fail> {
         STORES_ANSWER_2,
         &[],
     )?;
-    Ok(())
-}
-
-#[test]
-fn deaths_alone_are_caught(rt: HostRuntime) -> Result<(), Fail> {
-    let bytes = b"try { finish { } } catch dead { print 1; }";
-    run(&rt, bytes, DEATHS_ALONE_ARE_CAUGHT_1, &[])?;
-    run(&rt, bytes, DEATHS_ALONE_ARE_CAUGHT_2, OTHERS)?;
-    Ok(())
-}
-
-#[test]
-fn handlers_do_not_catch_their_own(rt: HostRuntime) -> Result<(), Fail> {
-    run(
-        &rt,
-        b"try { throw 1; } catch { throw 2; } print 3;",
-        HANDLERS_DO_NOT_CATCH_THEIR_OWN_1,
-        &[Thrown(2)],
-    )?;
-    Ok(())
-}
-
-#[test]
-fn paths_in_blocks(rt: HostRuntime) -> Result<(), Fail> {
-    run(
-        &rt,
-        b"repeat 0 { print 1; } if 1 { print 2; } else { } if 0 { } else { print 3; } repeat 2 { print 4; }",
-        PATHS_IN_BLOCKS_1,
-        &[],
-    )?;
-    run(&rt, b"try { print 1; } catch { }", PATHS_IN_BLOCKS_2, &[])?;
     Ok(())
 }
 

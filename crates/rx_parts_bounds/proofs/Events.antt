@@ -9,6 +9,7 @@ use Rattle.std.proofs.lemmas.List.{append-nil}
 use Rattle.std.proofs.lemmas.List.Sums.{sum_by-append, sum_by-cons}
 use mathlib.Core.List.{IsPrefix}
 use Rattle.rx_base.specs.declared.ids.PlaceId.{PlaceId}
+use Rattle.rx_base.proofs.Prefixes.{prefix-trans}
 use Rattle.rx_rules.specs.declared.entries.Act.{Act}
 use Rattle.rx_rules.specs.declared.entries.Act.TheVariants.{At as Calls, Spawn}
 use Rattle.rx_rules.specs.declared.events.PlaceEvent.{PlaceEvent}
@@ -22,7 +23,7 @@ use Rattle.rx_runs.proofs.Segments.{joined}
 use Rattle.rx_runs.proofs.Paying.{tells_store}
 use Rattle.rx_parts.specs.Ledger.{LedgerItem, Actor, Away, Present, Over, Walks, stays, local, stores, main_actor, first_stand, actor_born, actors_born, actor_arrived, actor_granted, actor_ended, ItemMakes, hosts, arrives, asks, ends, AllMake, LegalLedger}
 use Rattle.rx_parts.specs.Places.{MadeEvent, event_of, journal_of, LegalFrom, LegalPlace, last_carried, seen_by}
-use Rattle.rx_parts.proofs.Lists.{one_item, inside, prefix_on}
+use Rattle.rx_parts.proofs.Lists.{one_item, inside}
 use Rattle.rx_parts.proofs.Tasks.{later, ActorOk, away, here, over, walk_goes}
 use Rattle.rx_parts.proofs.Whole.{starts_of, agrees, legal_ok, legal_later, seen_from, LastEvent, LastOrNone, last_from, cells_of, low_of}
 use Rattle.rx_parts_bounds.specs.Nesting.{nest}
@@ -220,7 +221,7 @@ counts_weigh n (a ∷ actors) j f =
 all_old : (code : Block) (U : Given) (h : List LedgerItem) (legal : LegalLedger code U h) (p : ℕ) (before : List PlaceEvent) (low : ℕ) (seen : List LedgerItem) (k : List MadeEvent) → LegalFrom code U p before low seen k → IsPrefix (last_carried seen k) h → AllOld (length legal.actors) k
 all_old code U h legal p before low seen [] l e = tt
 all_old code U h legal p before low seen (m ∷ k) l e =
-    let within : IsPrefix m.carried h = prefix_on m.carried (last_carried m.carried k) h (seen_from code U p (before ++ event_of m ∷ []) m.stamp m.carried k l.3) e in
+    let within : IsPrefix m.carried h = prefix-trans m.carried (last_carried m.carried k) h (seen_from code U p (before ++ event_of m ∷ []) m.stamp m.carried k l.3) e in
     let on = legal_later code U m.carried h l.0.legal legal within in
     let w = later (length m.carried) l.0.legal.actors within.0 legal.actors on m.task.0 l.0.actor l.0.stands in
     (inside legal.actors m.task.0 w.0 w.1, all_old code U h legal p (before ++ event_of m ∷ []) m.stamp m.carried k l.3 e)

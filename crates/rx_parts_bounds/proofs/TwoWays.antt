@@ -4,6 +4,7 @@ use Rattle.std.specs.List.{filter_map}
 use Rattle.std.proofs.Common.{ap, lit<, lit≤, subst}
 use mathlib.Core.List.{IsPrefix}
 use Rattle.rx_base.specs.declared.values.Value.TheVariants.{Num as Number, Ref}
+use Rattle.rx_base.proofs.Prefixes.{prefix-trans}
 use Rattle.rx_rules.specs.declared.events.Cell.{Cell}
 use Rattle.rx_rules.specs.Terms.{Answer, Gives}
 use Rattle.rx_rules.specs.Plays.{Birth, Cells, cell_of, journal_at}
@@ -11,7 +12,6 @@ use Rattle.rx_rules.specs.Examples.{t, p}
 use Rattle.rx_parts.specs.Ledger.{LedgerItem, Actor, stays, local, stores, main_actor, asks, LegalLedger}
 use Rattle.rx_parts.specs.Places.{LegalPlace, journal_of}
 use Rattle.rx_parts.specs.Parts.{AreParts, journals_of}
-use Rattle.rx_parts.proofs.Lists.{prefix_on}
 use Rattle.rx_parts.proofs.Tasks.{later}
 use Rattle.rx_parts.proofs.Whole.{legal_later}
 use Rattle.rx_parts_bounds.specs.Examples.{makers_setup}
@@ -59,5 +59,5 @@ ways_refused h parts =
     let on = legal_later ways_script makers_setup reads_zero h zero_legal parts.legal parts.places.1 in
     let z = later 1 zero_legal.actors parts.places.1.0 parts.legal.actors on 0 starter refl in
     let named : IsPrefix z.0.named (filter_map (cell_of 0) (journal_of ways_events)) = subst (λ (v : Birth). IsPrefix z.0.named (filter_map (cell_of 0) (journal_at (journals_of (ways_events ∷ [])) v.to.0))) z.2.birth (parts.named 0 z.0 z.1) in
-    let both : IsPrefix starter.named (filter_map (cell_of 0) (journal_of ways_events)) = prefix_on starter.named z.0.named (filter_map (cell_of 0) (journal_of ways_events)) z.2.named named in
+    let both : IsPrefix starter.named (filter_map (cell_of 0) (journal_of ways_events)) = prefix-trans starter.named z.0.named (filter_map (cell_of 0) (journal_of ways_events)) z.2.named named in
     other_read both

@@ -1,5 +1,4 @@
 pub mod Obeyed
 pub mod Spelled
+pub mod Standing
 pub mod Tallies
-pub mod Vouched
-pub mod Written

@@ -12,6 +12,7 @@ pub mod Starting
 pub mod Words
 pub mod Steps
 pub mod Answering
+pub mod Births
 pub mod Bound
 pub mod Kept
 pub mod Raising

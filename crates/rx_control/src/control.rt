@@ -3,9 +3,9 @@ ghost use Rattle.std.specs.Prelude.{◌≡◌, ◌≢◌, ℕ, ◌+◌, ◌*◌,
 ghost use Rattle.std.specs.Prelude.{MatchOption, option_to_list, vec_len, vec_capacity, ◌↔◌, IsTrue};
 ghost use Rattle.rx_base.specs.declared.ids.PlaceId.{PlaceId};
 ghost use Rattle.rx_base.specs.declared.values.Fault.{Fault};
-ghost use Rattle.rx_rules.specs.Code.{Block, work};
+ghost use Rattle.rx_rules.specs.Code.{Stmt as Tree, Block, work};
 ghost use Rattle.rx_rules.specs.Terms.{no_vars, Term, at, Empty, Waits, does, begins, child, items, granted, replaced, answered};
-ghost use Rattle.rx_rules.specs.Terms.{answer_of, vars_after, receives};
+ghost use Rattle.rx_rules.specs.Terms.{answer_of, vars_after, receives, stmt_child};
 ghost use Rattle.rx_rules.specs.Plays.{vars_told};
 ghost use Rattle.rx_rules.specs.declared.entries.Act.{Act};
 ghost use Rattle.rx_nodes.specs.Shape.{Shape, Stands};
@@ -14,7 +14,7 @@ ghost use Rattle.rx_control.specs.Stands.{StandsFor, path_of, Leaves, IsSame};
 ghost use Rattle.rx_control.specs.Bound.{StepFalls};
 ghost use Rattle.rx_runs.specs.Steps.{steps};
 ghost use Rattle.rx_control.specs.Next.{next_of, carried};
-ghost use Rattle.rx_control.specs.Inside.Front.{lifted};
+ghost use Rattle.rx_control.specs.Inside.Front.{lifted, Awaits};
 ghost use Rattle.rx_control.specs.Inside.Plans.{Due};
 
 use crate::birth::{born, start};
@@ -140,8 +140,12 @@ impl Control {
             → StandsFor p.now.script c (child t) × (c.vars ≡ self.now.vars)) }
         ensures steps { (t : Term) (x : List ℕ) → begins t ≡ Some x → steps (child t) < steps t }
     {
-        match self.path(alloc, p)? {
-            Some(path) => self.child_at(alloc, p, path),
+        let script = p.script();
+        match self.front() {
+            Some((block, next, part)) => {
+                let path = self.path_here(alloc, next, part)?;
+                self.child_of(alloc, script, block, next, path)
+            }
             None => unreachable!(),
         }
     }
@@ -155,12 +159,26 @@ impl Control {
     {
         let script = p.script();
         match self.front() {
-            Some((block, next, _)) => {
-                let vars = self.vars.copy(alloc)?;
-                born(alloc, script, at_hand(script, block, next), path, vars)
-            }
+            Some((block, next, _)) => self.child_of(alloc, script, block, next, path),
             None => unreachable!(),
         }
+    }
+
+    // The control of the task that a statement of a block starts, with a copy of the variables, where the statement's path is at hand.
+    fn child_of(
+        &self,
+        alloc: Global,
+        script: &Script,
+        block: BlockId,
+        next: u32,
+        path: Path,
+    ) -> Result<Control, NoMemory>
+        requires { (stmt : Tree) × (more : Block) × Awaits script.now block next stmt more }
+        ensures { IfOk result (λ c. (stmt : Tree) (more : Block) → Awaits script.now block next stmt more
+            → StandsFor script.now c (stmt_child stmt path) × (c.vars ≡ self.now.vars)) }
+    {
+        let vars = self.vars.copy(alloc)?;
+        born(alloc, script, at_hand(script, block, next), path, vars)
     }
 
     /// Makes the local step that is next, at a place. Fewer steps are left then. Where another step is next, nothing

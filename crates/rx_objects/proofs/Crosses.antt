@@ -18,6 +18,8 @@ use Rattle.rx_objects.proofs.trail.Trail.TheLaws.TheKnot as trail
 use Rattle.rx_objects.specs.contracts.ledger.LedgerObject as LedgerObject
 use Rattle.rx_objects.specs.contracts.ledger.LedgerOp as LedgerOp
 use Rattle.rx_objects.specs.contracts.place.PlaceObject as PlaceObject
+use Rattle.rx_objects.specs.contracts.surroundings.LedgerAndGate as LedgerAndGate
+use Rattle.rx_objects.specs.declared.surroundings.Surroundings.{Ghosts}
 
 pub ledger_op_send : IsSend LedgerOp.the_row
 ledger_op_send = search (request.the_field_send, option.the_field_send, note.the_send, crosses, sendable) depth 60 fits 20000
@@ -25,5 +27,8 @@ ledger_op_send = search (request.the_field_send, option.the_field_send, note.the
 pub ledger_object_send : IsSend LedgerObject.the_row
 ledger_object_send = search (keeper.the_send, counts.the_send, place.the_field_send, note.the_send, option.the_field_send, writer.the_send, heap.the_field_send, trail.crosses, crosses, sendable) depth 60 fits 20000
 
-pub place_object_send : (a : NamedLft) (G : RattleType) → IsSync G → IsSend (PlaceObject.the_row a G)
-place_object_send a G y = search (place.the_field_send, store.the_send, book.the_sync, ledger_object_send, option.the_field_send, note.the_send, trail.crosses, crosses, sendable) depth 60 fits 20000
+pub place_object_send : (S : RattleType) (g : Ghosts S.Denot) → IsSend S → IsSend (PlaceObject.the_row S g)
+place_object_send S g s = search (place.the_field_send, store.the_send, option.the_field_send, note.the_send, trail.crosses, crosses, sendable) depth 60 fits 20000
+
+pub ledger_and_gate_send : (a : NamedLft) (G : RattleType) → IsSync G → IsSend (LedgerAndGate.the_row a G)
+ledger_and_gate_send a G y = search (book.the_sync, ledger_object_send, crosses, sendable) depth 60 fits 20000

@@ -11,6 +11,7 @@ mod ledger;
 mod mentions;
 mod place;
 mod showing;
+mod surroundings;
 mod trail;
 
 pub use laws::{
@@ -22,4 +23,5 @@ pub use ledger::{LedgerCall, LedgerFixed, LedgerObject, LedgerOp, LedgerParts, L
 pub use mentions::Mentions;
 pub use place::{PlaceCall, PlaceFixed, PlaceObject, PlaceOp, PlaceReply};
 pub use showing::{BoardName, opening_summary};
+pub use surroundings::{LedgerAndGate, Surroundings};
 pub use trail::Trail;

@@ -8,8 +8,9 @@ ghost use Rattle.rx_objects.specs.Ledger.{LedgerIsLegal};
 ghost use Rattle.rx_objects.specs.Place.{shown, PlaceKeeps};
 
 use crate::ledger::LedgerObject;
+use crate::surroundings::Surroundings;
 use crate::trail::Trail;
-use rx_base::{Fault, Gate, PlaceId, PlaceSet, Value};
+use rx_base::{Fault, PlaceId, PlaceSet, Value};
 use rx_book::{Book, Note, Object, Pass};
 use rx_control::CellOp;
 use rx_parts_book::{EntryItem, EventItem};
@@ -57,16 +58,15 @@ pub struct PlaceFixed {
 
 /// A place. The note is None only after the place has failed.
 #[derive(Drop)]
-pub struct PlaceObject<'a, G: Gate + Sync> {
+pub struct PlaceObject<S: Surroundings> {
     pub place: PlaceId,
     pub store: Store,
-    pub ledger: &'a Book<LedgerObject>,
     pub note: Option<Note<EntryItem>>,
-    pub gate: &'a G,
+    pub surroundings: S,
     calls: Trail<PlaceCall>,
 }
 
-impl<'a, G: Gate + Sync> Model for PlaceObject<'a, G> {
+impl<S: Surroundings> Model for PlaceObject<S> {
     ghost use Rattle.rx_objects.specs.Place.{events_called, PlaceView, PlaceKeeps};
 
     ghost Value = { PlaceView };
@@ -75,10 +75,10 @@ impl<'a, G: Gate + Sync> Model for PlaceObject<'a, G> {
       entries = events_called s.calls;
       place = s.place;
       words = s.store.words;
-      ledger = s.ledger.now;
+      ledger = S.ledger s.surroundings;
     } };
 
-    ghost invariant = { λ s. PlaceKeeps s.place s.store s.ledger.now s.note (events_called s.calls) };
+    ghost invariant = { λ s. PlaceKeeps s.place s.store (S.ledger s.surroundings) s.note (events_called s.calls) };
 }
 
 // The pass meets the note, and a new note is made of what it has seen then.
@@ -117,49 +117,41 @@ fn last_event(store: &Store) -> Snapshot<PlaceEvent>
     Snapshot::of(journal.item(journal.len() - 1))
 }
 
-impl<'a, G: Gate + Sync> PlaceObject<'a, G> {
+impl<S: Surroundings> PlaceObject<S> {
     /// A place without events. The note is of the ledger's book, and knows of no death of the place.
-    pub fn open(
-        place: PlaceId,
-        store: Store,
-        ledger: &'a Book<LedgerObject>,
-        note: Note<EntryItem>,
-        gate: &'a G,
-    ) -> Self
-        requires own { note_word note ≡ ledger.now.word }
-        requires lawful { LedgerIsLegal ledger.now.fixed (note_view note).seen }
+    pub fn open(place: PlaceId, store: Store, note: Note<EntryItem>, surroundings: S) -> Self
+        requires own { note_word note ≡ (S.ledger surroundings).word }
+        requires lawful { LedgerIsLegal (S.ledger surroundings).fixed (note_view note).seen }
         requires alive { has_bit (note_view note).dead place.0 ≡ false }
         requires store { (store.events ≡ []) × (store.place ≡ place) }
-        ensures { result ≡ record { entries = []; place = place; words = store.words; ledger = ledger.now } }
+        ensures { result ≡ record { entries = []; place = place; words = store.words; ledger = S.ledger surroundings } }
     {
         PlaceObject {
             place,
             store,
-            ledger,
             note: Some(note),
-            gate,
+            surroundings,
             calls: Trail::Empty,
         }
     }
 
     /// The store and the note at the end. It takes no memory.
     pub fn into_parts(self) -> (Store, Option<Note<EntryItem>>)
-        ensures kept { PlaceKeeps self.entry.place result.0 self.entry.ledger result.1 self.entry.entries }
-        ensures words { result.0.words ≡ self.entry.words }
+        ensures kept { PlaceKeeps self.place result.0 self.ledger result.1 self.entries }
+        ensures words { result.0.words ≡ self.words }
     {
         let PlaceObject {
             place: _,
             store,
-            ledger: _,
             note,
-            gate: _,
+            surroundings: _,
             calls: _,
         } = self;
         (store, note)
     }
 }
 
-impl<'a, G: Gate + Sync> Object for PlaceObject<'a, G> {
+impl<S: Surroundings> Object for PlaceObject<S> {
     type Op = PlaceOp;
 
     type Reply = PlaceReply;
@@ -185,11 +177,11 @@ impl<'a, G: Gate + Sync> Object for PlaceObject<'a, G> {
         let Some(note) = self.note.take() else {
             return PlaceReply::NoMemory { pass };
         };
-        let note = exchange(self.ledger, &mut pass, note);
+        let note = exchange(self.surroundings.book(), &mut pass, note);
         if !has_room(&mut self.store) {
             return PlaceReply::NoMemory { pass };
         }
-        self.gate.cell(self.place);
+        self.surroundings.cell(self.place);
         let answer = ask(&mut self.store, mark, op);
         let call = PlaceCall {
             event: last_event(&self.store),

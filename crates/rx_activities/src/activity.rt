@@ -1,16 +1,9 @@
 // Activities, as queues and mailboxes hold them: what is known of one is known by its type.
-ghost use Rattle.std.specs.Prelude.{◌≡◌, [], ◌<◌, ◌≤◌};
-ghost use Rattle.rx_rules.specs.Code.{Block};
-ghost use Rattle.rx_rules.specs.Terms.{Empty, items, no_vars};
+ghost use Rattle.std.specs.Prelude.{◌≡◌, ◌<◌};
 ghost use Rattle.rx_finish.specs.Calls.{landing};
-ghost use Rattle.rx_nodes.specs.Shape.{Stands};
 ghost use Rattle.rx_check.specs.Checked.{Checked};
 ghost use Rattle.rx_control.specs.declared.step.Next.{Next as Step};
-ghost use Rattle.rx_control.specs.Stands.{StandsFor};
-ghost use Rattle.rx_book.specs.Calls.{IsFresh};
-ghost use Rattle.rx_book.specs.Passes.{view_of, word_of};
-ghost use Rattle.rx_ledger.specs.Answering.{main_caller};
-ghost use Rattle.rx_activities.specs.Knowing.{PlaceIs, IsNewSeat, IsOfRun, Knows};
+ghost use Rattle.rx_activities.specs.Knowing.{PlaceIs, IsNewSeat, Knows};
 ghost use Rattle.rx_activities.specs.Starting.{IsOpening, Begins};
 ghost use Rattle.rx_activities.specs.Turning.{Leaves};
 ghost use Rattle.rx_activities.specs.Inside.Stepping.{IsNext};
@@ -19,11 +12,11 @@ ghost use Rattle.rx_activities.specs.Inside.Sending.{IsCall};
 use crate::hand::{Hand, Journey, Outcome, Started};
 use crate::landing::Landing;
 use crate::naming::{LedgerPass, Naming};
-use rx_base::{Batch, Gate, PlaceId};
+use rx_base::{Batch, PlaceId};
 use rx_book::{Book, Pass};
 use rx_check::{Program, checked};
 use rx_control::{Control, Next};
-use rx_objects::{LedgerObject, PlaceObject};
+use rx_objects::{LedgerObject, PlaceObject, Surroundings};
 use rx_parts_book::{EntryItem, EventItem};
 use rx_ticket::{AnyTicket, InTransit, Live, Ticket};
 use std::alloc::Global;
@@ -171,13 +164,13 @@ impl<N: Naming> Activity<N> {
 
     /// Makes the local steps up to the next call of a book, and that call: of the place's book or of the ledger's. An activity that
     /// waits asks the ledger again only where the history may have grown. It owes no return.
-    pub fn turn<G: Gate + Sync, R: Wait>(
+    pub fn turn<S: Surroundings, R: Wait>(
         self,
         rt: &R,
         alloc: Global,
         p: &Program,
         ledger: &Book<LedgerObject>,
-        place_book: &Book<PlaceObject<'_, G>>,
+        place_book: &Book<PlaceObject<S>>,
     ) -> Turn<N>
         requires ledger { ledger.now ≡ N.ledger }
         requires program { ledger.now.fixed.program ≡ p.now }
@@ -229,13 +222,13 @@ impl Hand {
     }
 
     // Asks the ledger for what is next, and goes on by its answer. Beside it stands the number of entries of which it knew right before.
-    fn ask_now<G: Gate + Sync, R: Wait>(
+    fn ask_now<S: Surroundings, R: Wait>(
         mut self,
         rt: &R,
         alloc: Global,
         p: &Program,
         ledger: &Book<LedgerObject>,
-        place_book: &Book<PlaceObject<'_, G>>,
+        place_book: &Book<PlaceObject<S>>,
         next: Next,
     ) -> (Outcome, u32)
         requires program { ledger.now.fixed.program ≡ p.now }

@@ -13,15 +13,17 @@ ghost use Rattle.rx_activities.specs.Inside.Stepping.{IsNext};
 ghost use Rattle.rx_activities.specs.Inside.Sending.{IsCall, SuitsStep, IsReady, target, ChildIs};
 ghost use Rattle.rx_activities.specs.Inside.Sending.{PassIsLeft, SeatIsLeft, NoteIs, MentionsAre, IsReplied};
 
-use crate::hand::{Hand, Outcome, spend};
+use crate::hand::{Hand, Outcome, failed};
 use crate::replies::{Child, Rest};
-use rx_base::{Gate, NoMemory, PlaceId};
+use rx_base::{NoMemory, PlaceId};
 use rx_book::{Book, Note, Pass};
 use rx_check::{Program, checked};
 use rx_control::{Control, Next, Want};
 use rx_history::Ask;
 use rx_ledger::{Reply, Request};
-use rx_objects::{LedgerObject, LedgerOp, LedgerReply, Mentions, PlaceObject, ledger_op_fits};
+use rx_objects::{
+    LedgerObject, LedgerOp, LedgerReply, Mentions, PlaceObject, Surroundings, ledger_op_fits,
+};
 use rx_parts_book::{EntryItem, EventItem};
 use std::alloc::Global;
 use std::snapshot::Snapshot;
@@ -65,11 +67,11 @@ fn target_of(next: Next) -> Option<PlaceId>
 
 // What a task holds that is to be started, where the step starts one: a pass of the ledger's book, and one of the place's book
 // where it begins there.
-fn child_of<G: Gate + Sync>(
+fn child_of<S: Surroundings>(
     alloc: Global,
     p: &Program,
     ledger: &Book<LedgerObject>,
-    place_book: &Book<PlaceObject<'_, G>>,
+    place_book: &Book<PlaceObject<S>>,
     control: &Control,
     here: PlaceId,
     next: Next,
@@ -103,8 +105,8 @@ fn child_of<G: Gate + Sync>(
 }
 
 // A note of the place's book, where events were made.
-fn note_for<G: Gate + Sync>(
-    place_book: &Book<PlaceObject<'_, G>>,
+fn note_for<S: Surroundings>(
+    place_book: &Book<PlaceObject<S>>,
     seat: &mut Pass<EventItem>,
     made: bool,
 ) -> Option<Note<EventItem>>
@@ -176,13 +178,13 @@ pub(crate) fn ask<R: Wait>(
 
 impl Hand {
     /// Asks the ledger for what is next, and goes on by its answer.
-    pub(crate) fn call_ledger<G: Gate + Sync, R: Wait>(
+    pub(crate) fn call_ledger<S: Surroundings, R: Wait>(
         self,
         rt: &R,
         alloc: Global,
         p: &Program,
         ledger: &Book<LedgerObject>,
-        place_book: &Book<PlaceObject<'_, G>>,
+        place_book: &Book<PlaceObject<S>>,
         next: Next,
     ) -> Outcome
         requires program { ledger.now.fixed.program ≡ p.now }
@@ -205,15 +207,13 @@ impl Hand {
         } = self;
         let standing = control.as_ref();
         let Ok(path) = standing.path(alloc, p) else {
-            spend(ticket);
-            return Outcome::Failed { pass };
+            return failed(ticket, pass);
         };
         let prepared = child_of(
             alloc, p, ledger, place_book, standing, place, next, &mut pass, &mut seat,
         );
         let Ok(child) = prepared else {
-            spend(ticket);
-            return Outcome::Failed { pass };
+            return failed(ticket, pass);
         };
         let note = note_for(place_book, &mut seat, made);
         let mentions = mentions_of(told, &pass, &seat, &child);

@@ -73,6 +73,14 @@ pub(crate) fn spend(ticket: AnyTicket) {
     }
 }
 
+/// What a turn leaves for which there was no memory: the ticket is spent, and the pass is kept.
+pub(crate) fn failed(ticket: AnyTicket, pass: Pass<EntryItem>) -> Outcome
+    ensures { result ≡ Outcome.Failed pass }
+{
+    spend(ticket);
+    Outcome::Failed { pass }
+}
+
 impl Hand {
     /// Gives the activity up for want of memory, or since its place has died, and keeps what it has seen of the ledger.
     pub(crate) fn give_up(self) -> Pass<EntryItem>

@@ -1,8 +1,6 @@
 // The arrival of a task that travels.
-ghost use Rattle.std.specs.Prelude.{◌≡◌, [], None, length};
-ghost use Rattle.rx_rules.specs.Code.{Block};
+ghost use Rattle.std.specs.Prelude.{◌≡◌, None};
 ghost use Rattle.rx_finish.specs.Calls.{landing};
-ghost use Rattle.rx_book.specs.Passes.{view_of, word_of};
 ghost use Rattle.rx_activities.specs.Knowing.{IsNewSeat};
 ghost use Rattle.rx_activities.specs.Starting.{Comes};
 ghost use Rattle.rx_activities.specs.Turning.{Arrives};

@@ -1,13 +1,12 @@
 // How an activity goes on by the ledger's answer.
-ghost use Rattle.std.specs.Prelude.{◌≡◌, ℕ, List, [], IfOk, None, Some};
+ghost use Rattle.std.specs.Prelude.{◌≡◌, None, Some};
 ghost use Rattle.rx_book.specs.Passes.{view_of, word_of};
-ghost use Rattle.rx_activities.specs.Knowing.{Knows};
 ghost use Rattle.rx_activities.specs.Starting.{BeginsIf};
 ghost use Rattle.rx_activities.specs.Turning.{Leaves};
 ghost use Rattle.rx_activities.specs.Inside.Sending.{WasSent, WasGranted, WasCounted};
 ghost use Rattle.rx_activities.specs.Inside.Births.{IsStarted, IsAtStart, StartsWith, IsWith};
 
-use crate::hand::{Hand, Journey, Outcome, Started, spend};
+use crate::hand::{Hand, Journey, Outcome, Started, failed, spend};
 use rx_base::{Batch, Faults, PlaceId};
 use rx_book::{Book, Pass};
 use rx_check::{Program, checked};
@@ -84,9 +83,8 @@ impl Rest {
         ensures { Leaves ledger.now result }
     {
         if self.control.as_mut().resume(p, faults).is_err() {
-            spend(ticket);
             spend_if(started);
-            return Outcome::Failed { pass: self.pass };
+            return failed(ticket, self.pass);
         }
         let started = start(alloc, ledger, self.place, &mut self.pass, started, child);
         Outcome::Goes {
@@ -110,8 +108,7 @@ impl Rest {
     {
         let _ = ledger;
         if self.control.as_mut().census_done(p, places).is_err() {
-            spend(ticket);
-            return Outcome::Failed { pass: self.pass };
+            return failed(ticket, self.pass);
         }
         Outcome::Goes {
             hand: self.with(ticket, Batch::open(alloc)),
@@ -187,10 +184,7 @@ impl Rest {
                 let ticket = AnyTicket::Running(ticket);
                 match faults_raised(alloc, outcome.lost, &outcome.thrown) {
                     Ok(faults) => self.go_on(alloc, p, ledger, ticket, faults, None, None),
-                    Err(_) => {
-                        spend(ticket);
-                        Outcome::Failed { pass: self.pass }
-                    }
+                    Err(_) => failed(ticket, self.pass),
                 }
             }
             Reply::Census { ticket, places } => {
@@ -209,10 +203,7 @@ impl Rest {
             }
             Reply::Ended => Outcome::Over { pass: self.pass },
             Reply::Lost { place: _, at: _ } => Outcome::Over { pass: self.pass },
-            Reply::NoMemory { request } => {
-                spend(request.into_ticket());
-                Outcome::Failed { pass: self.pass }
-            }
+            Reply::NoMemory { request } => failed(request.into_ticket(), self.pass),
             Reply::Landed { ticket } => {
                 ticket.spent();
                 unreachable!()

@@ -1,8 +1,7 @@
 // A call of the store of an activity's place.
-ghost use Rattle.std.specs.Prelude.{◌≡◌, ◌≢◌, ◌<◌, ◌≤◌, ◌++◌, ◌∷◌, [], ℕ, Some, false, IfOk, IfSome, OnOk, List};
+ghost use Rattle.std.specs.Prelude.{◌≡◌, ◌<◌, ◌≤◌, ◌++◌, ◌∷◌, [], ℕ, Some, false, IfOk, IfSome, List};
 ghost use Rattle.rx_base.specs.Sets.{has_bit};
 ghost use Rattle.rx_rules.specs.Terms.{Term, begins};
-ghost use Rattle.rx_rules.specs.Plays.{begun};
 ghost use Rattle.rx_control.specs.declared.step.Next.{Next as Step};
 ghost use Rattle.rx_control.specs.Stands.{StandsFor};
 ghost use Rattle.rx_book.specs.Passes.{view_of, word_of};
@@ -14,13 +13,13 @@ ghost use Rattle.rx_activities.specs.Turning.{Leaves};
 ghost use Rattle.rx_activities.specs.Inside.Stepping.{IsNext};
 ghost use Rattle.rx_activities.specs.Inside.Answered.{PartsAre};
 
-use crate::hand::{Hand, Outcome, spend};
-use rx_base::{Batch, Fault, Gate, NoMemory, Path, PlaceId, Value};
+use crate::hand::{Hand, Outcome, failed};
+use rx_base::{Batch, Fault, NoMemory, Path, PlaceId, Value};
 use rx_book::{Book, Pass};
 use rx_check::{Program, checked};
 use rx_control::{CellOp, Control};
 use rx_finish::Caller;
-use rx_objects::{LedgerObject, PlaceObject, PlaceOp, PlaceReply, place_op_fits};
+use rx_objects::{LedgerObject, PlaceObject, PlaceOp, PlaceReply, Surroundings, place_op_fits};
 use rx_parts_book::EntryItem;
 use rx_store::Mark;
 use rx_ticket::AnyTicket;
@@ -91,13 +90,13 @@ fn parts_of(reply: PlaceReply) -> (Pass<EntryItem>, Option<Result<Option<Value>,
 
 impl Hand {
     /// Makes the store call that is next. An activity whose place has died makes none, and is over.
-    pub(crate) fn call_store<G: Gate + Sync, R: Wait>(
+    pub(crate) fn call_store<S: Surroundings, R: Wait>(
         self,
         rt: &R,
         alloc: Global,
         p: &Program,
         ledger: &Book<LedgerObject>,
-        place_book: &Book<PlaceObject<'_, G>>,
+        place_book: &Book<PlaceObject<S>>,
         op: CellOp,
     ) -> Outcome
         requires program { ledger.now.fixed.program ≡ p.now }
@@ -124,8 +123,7 @@ impl Hand {
             return Outcome::Over { pass };
         };
         let Ok(path) = begin_call(alloc, p, control.as_ref(), &mut batch) else {
-            spend(ticket);
-            return Outcome::Failed { pass };
+            return failed(ticket, pass);
         };
         let mark = Mark {
             task: caller_of(&ticket).task,
@@ -135,12 +133,10 @@ impl Hand {
         let reply = place_book.call(rt, &mut seat, PlaceOp { mark, op, pass });
         let (pass, answer) = parts_of(reply);
         let Some(answer) = answer else {
-            spend(ticket);
-            return Outcome::Failed { pass };
+            return failed(ticket, pass);
         };
         if control.as_mut().cell_done(alloc, p, answer).is_err() {
-            spend(ticket);
-            return Outcome::Failed { pass };
+            return failed(ticket, pass);
         }
         let hand = Hand {
             control,

@@ -18,7 +18,7 @@ use Rattle.rx_activities.proofs.AskedNote.{note_none, note_some, seat_noted, eve
 use Rattle.rx_activities.proofs.hand.Hand.call_ledger.Goals as goal
 
 pub child_of-prepared-requires-clause-stands : goal.child_of-prepared-requires-clause-stands
-child_of-prepared-requires-clause-stands g c κs within =
+child_of-prepared-requires-clause-stands g c =
     let b = c.checked.ensures in
     let s = c.requires.known.stands b.0 (subst (λ (p : Checked). Stands p.script b.0) (sym c.requires.program) b.1) in (
       s.stand.term,
@@ -27,7 +27,7 @@ child_of-prepared-requires-clause-stands g c κs within =
     )
 
 pub child_of-prepared-requires-clause-next : goal.child_of-prepared-requires-clause-next
-child_of-prepared-requires-clause-next g c κs within =
+child_of-prepared-requires-clause-next g c =
     subst (λ (x : Control). (t : Term) → StandsFor c.args.p.now.script x t → c.args.next ≡ next_of (does x.vars c.args.self.place.0 t)) (sym c.as_ref-standing.ensures) c.requires.next
 
 pub ask-reply-requires-clause-asks : goal.ask-reply-requires-clause-asks

@@ -10,6 +10,8 @@ use Rattle.rx_objects.specs.declared.place.PlaceFixed.{PlaceFixed}
 use Rattle.rx_objects.specs.declared.place.PlaceOp.{PlaceOp}
 use Rattle.rx_objects.specs.declared.place.PlaceReply.TheVariants.{Cell as Answered}
 use Rattle.rx_objects.specs.Laws.{AsksPlace}
+use Rattle.rx_activities.specs.declared.hand.Outcome.{Outcome}
+use Rattle.rx_activities.specs.Turning.{Leaves}
 use Rattle.rx_activities.proofs.Calling.{fixed_at, fixed_is, op_of, asked_by, looked_knows, asks_place, of_program, of_run, next_in_run, place_small, call_asked, call_path}
 use Rattle.rx_activities.proofs.Stored.{stored_knows, answered_parts, came_back, back_of_run, ok_so, called_so}
 use Rattle.rx_activities.proofs.hand.Hand.call_store.Goals as goal
@@ -56,8 +58,9 @@ returns-then-is_err g c =
     let called = c.call-reply.ensures.called in
     let known = looked_knows L a q c.requires.known c.in-Some.ensures.own c.in-Some.ensures.looked in
     let op : PlaceOp = op_of c.caller_of.result.task c.in-Some.stamp c.in-Ok.path c.args.op q in
-    back_of_run L place.fixed q c.parts_of-pass.result.0 c.requires.place.ledger
-    (came_back place.fixed (items_of ((view_of a.seat).seen ++ called.between)) op c.call-reply.result called.added c.parts_of-pass.result.0 c.parts_of-pass.result.1 called.replied c.parts_of-pass.ensures) known.pass
+    subst (λ (o : Outcome). Leaves L o) (sym c.failed-then-is_err.ensures)
+    (back_of_run L place.fixed q c.parts_of-pass.result.0 c.requires.place.ledger
+    (came_back place.fixed (items_of ((view_of a.seat).seen ++ called.between)) op c.call-reply.result called.added c.parts_of-pass.result.0 c.parts_of-pass.result.1 called.replied c.parts_of-pass.ensures) known.pass)
 
 pub returns : goal.returns
 returns g c =

@@ -121,7 +121,7 @@ fn prepare(
     ensures room { OnOk result (vec_len seats.new + 1 ≤ vec_capacity seats.new) }
 {
     let path = path_of(alloc, p, control)?;
-    let began = control.child(alloc, p)?;
+    let began = control.child_at(alloc, p, path.copy(alloc)?)?;
     let own = Box::new(alloc, began)?;
     seats.reserve(1)?;
     Ok((path, own))

@@ -1,10 +1,11 @@
 -- Lists of paths: which are in them, and those of a list from a number back.
-use Rattle.std.specs.Prelude.{◌≡◌, ◌⊎◌, ℕ, zero, suc, ◌+◌, ◌<◌, ◌≤◌, false, cond, List, [], ◌∷◌, length, map, slice_index_or, Contains, sum_by, refl}
+use Rattle.std.specs.Prelude.{◌≡◌, ◌⊎◌, ℕ, zero, suc, ◌+◌, ◌<◌, ◌≤◌, true, false, cond, List, [], ◌∷◌, ◌++◌, length, map, reverse, slice_index_or, Contains, sum_by, refl}
 use Rattle.std.specs.Cmp.{IsStrictWeakOrder}
 use Rattle.std.specs.List.Sorted.{IsPermutation, IsSortedBy}
 use Rattle.std.proofs.Common.{ap, sym, subst, ◌∙◌, arith, add-one, inl, inr, ⊎_elim}
 use Rattle.std.proofs.lemmas.Bool.{true≢false, false_from_ne_true}
 use Rattle.std.proofs.lemmas.List.Sorted.{Contains-permutation, sum_by-IsPermutation, IsPermutation-sym}
+use Rattle.std.proofs.lemmas.List.{map-append, reverse-append}
 use Rattle.std.proofs.lemmas.List.Sums.{sum_by-cons}
 use Rattle.rx_rules.specs.Code.{Block}
 use Rattle.rx_laws.specs.Once.{IsNone, AllDiffer}
@@ -198,6 +199,10 @@ times-once x (y ∷ ys) h = by_order (comes-either x y) (times-once x ys h.1) (s
     by_order (inr (inl k)) r e = other (λ i. comes-other x (subst (Comes x) (sym i) k)) r e
     by_order (inr (inr k)) r e = other (λ i. comes-other x (subst (λ w. Comes w x) (sym i) k)) r e
 
+below-further : (y x : List ℕ) (ys : List (List ℕ)) → Comes y x → Below y ys → Below x ys
+below-further y x [] k b = tt
+below-further y x (z ∷ zs) k b = (true-comes z x (comes-trans z y x (comes-true z y b.0) k), below-further y x zs k b.1)
+
 -- no path comes after the one before it
 abbrev Sinks : List (List ℕ) → Type 0
 Sinks [] = Unit {0}
@@ -210,7 +215,7 @@ sinks-descends (x ∷ []) h f = (tt, tt)
 sinks-descends (x ∷ y ∷ ys) h f =
     let rest : Descends (y ∷ ys) = sinks-descends (y ∷ ys) h.1 (λ z. (let e = sum_by-cons (same z) x (y ∷ ys) in let l = f z in omega arith)) in
     let first : Comes y x = by_order (comes-either x y) in
-    ((true-comes y x first, below y x ys first rest.0), rest)
+    ((true-comes y x first, below-further y x ys first rest.0), rest)
   where
     by_order : (x ≡ y) ⊎ (Comes x y ⊎ Comes y x) → Comes y x
     by_order (inl i) = absurd (
@@ -222,10 +227,6 @@ sinks-descends (x ∷ y ∷ ys) h f =
     by_order (inr (inl k)) = absurd (true≢false (sym (true-comes x y k) ∙ h.0))
     by_order (inr (inr k)) = k
 
-    below : (y x : List ℕ) (ys : List (List ℕ)) → Comes y x → Below y ys → Below x ys
-    below y x [] k b = tt
-    below y x (z ∷ zs) k b = (true-comes z x (comes-trans z y x (comes-true z y b.0) k), below y x zs k b.1)
-
 sorted-sinks : {X : Type 0} (f : X → List ℕ) (xs : List X) → IsSortedBy (λ a b. comes (f b) (f a)) xs → Sinks (map f xs)
 sorted-sinks f [] h = tt
 sorted-sinks f (x ∷ []) h = tt
@@ -235,3 +236,18 @@ sorted-sinks f (x ∷ y ∷ ys) h =
 pub sorted-descends : {X : Type 0} (f : X → List ℕ) (xs : List X) (ys : List (List ℕ)) → IsSortedBy (λ a b. comes (f b) (f a)) xs → AllDiffer ys → IsPermutation ys (map f xs) → Descends (map f xs)
 sorted-descends f xs ys h d p =
     sinks-descends (map f xs) (sorted-sinks f xs h) (λ x. (let e = sum_by-IsPermutation (same x) ys (map f xs) p in let l = times-once x ys d in omega arith))
+
+-- Lists that were told in ascending order.
+
+-- a path that comes after the last one
+pub descends-last : (xs rest : List (List ℕ)) (x y : List ℕ) → xs ≡ rest ++ x ∷ [] → comes x y ≡ true → Descends (reverse xs) → Descends (y ∷ reverse xs)
+descends-last xs rest x y e h d =
+    let r : reverse xs ≡ x ∷ reverse rest = ap reverse e ∙ reverse-append rest (x ∷ []) in
+    let falls : Below x (reverse rest) × Descends (reverse rest) = subst Descends r d in
+    (subst (Below y) (sym r) (h, below-further x y (reverse rest) (comes-true x y h) falls.0), d)
+
+pub map-reverse : {X : Type 0} (f : X → List ℕ) (xs : List X) → map f (reverse xs) ≡ reverse (map f xs)
+map-reverse f [] = refl
+map-reverse f (x ∷ xs) =
+    ap (map f) (reverse-append (x ∷ []) xs) ∙ map-append f (reverse xs) (x ∷ []) ∙ ap (λ l. l ++ f x ∷ []) (map-reverse f xs)
+    ∙ sym (reverse-append (f x ∷ []) (map f xs))

@@ -40,7 +40,7 @@ pub(crate) fn link<L: Ledger>(
     ensures looks { steps.new ≤ steps.old + 65 * length paths.now }
 {
     checked(program);
-    let mut links = Vec::new(alloc);
+    let mut links = Vec::with_capacity(alloc, paths.len())?;
     let mut rows = Vec::new(alloc);
     let mut marks = Vec::new(alloc);
     let mut passed = Kept::none();

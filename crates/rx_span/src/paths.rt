@@ -1,5 +1,5 @@
 // The statements that a history tells, and how far two paths go together.
-ghost use Rattle.std.specs.Prelude.{◌≡◌, map, option_to_list, IfOk};
+ghost use Rattle.std.specs.Prelude.{◌≡◌, ◌++◌, [], ◌∷◌, true, map, reverse, option_to_list, IfOk, OnOk};
 ghost use Rattle.std.specs.List.Sorted.{IsPermutation};
 ghost use Rattle.std.specs.Ordering.{is_lt};
 ghost use Rattle.rx_rules.specs.Order.{own_path, told};
@@ -28,22 +28,56 @@ fn path_of(act: &Act) -> Option<&Path>
     }
 }
 
-// The statements of a history, in the order in which it tells them.
-fn statements(alloc: Global, history: &History) -> Result<Vec<&Path>, NoMemory>
-    ensures { IfOk result (λ v. map (λ p. p.now) v.items ≡ told history.now.entries) }
+// Statements in the order in which they are told, and whether it is the order of their paths.
+#[derive(Drop)]
+struct Told<'a> {
+    paths: Vec<&'a Path>,
+    ascending: bool,
+}
+
+impl<'a> Told<'a> {
+    // One statement more. It is compared here with the one before it, since both were just read.
+    fn add(&mut self, path: &'a Path) -> Result<(), NoMemory>
+        ensures paths { OnOk result (map (λ p. p.now) self.new.paths.items ≡ map (λ p. p.now) self.old.paths.items ++ path.now ∷ []) }
+        ensures ascending { OnOk result ((self.old.ascending ≡ true → Descends (reverse (map (λ p. p.now) self.old.paths.items)))
+            → self.new.ascending ≡ true → Descends (reverse (map (λ p. p.now) self.new.paths.items))) }
+    {
+        self.ascending = self.ascending && comes_last(&self.paths, path);
+        self.paths.push(path)?;
+        Ok(())
+    }
+}
+
+// Whether a path comes after the last of these.
+fn comes_last(paths: &[&Path], path: &Path) -> bool
+    ensures { result ≡ true → Descends (reverse (map (λ p. p.now) paths.now)) → Descends (path.now ∷ reverse (map (λ p. p.now) paths.now)) }
 {
-    let mut paths = Vec::new(alloc);
+    match paths.split_last() {
+        None => true,
+        Some((last, _)) => order(last, path).is_lt(),
+    }
+}
+
+// The statements of a history, in the order in which it tells them.
+fn statements(alloc: Global, history: &History) -> Result<Told<'_>, NoMemory>
+    ensures paths { IfOk result (λ t. map (λ p. p.now) t.paths.items ≡ told history.now.entries) }
+    ensures ascending { IfOk result (λ t. t.ascending ≡ true → Descends (reverse (map (λ p. p.now) t.paths.items))) }
+{
+    let mut told = Told {
+        paths: Vec::new(alloc),
+        ascending: true,
+    };
     for i in 0..history.len() {
         if let Entry::Step { act, batch, .. } = history.item(i) {
             for k in 0..batch.len() {
-                paths.push(batch.item(k))?;
+                told.add(batch.item(k))?;
             }
             if let Some(path) = path_of(act) {
-                paths.push(path)?;
+                told.add(path)?;
             }
         }
     }
-    Ok(paths)
+    Ok(told)
 }
 
 // The order of two paths, number by number; a path comes before those that go on from it.
@@ -72,8 +106,14 @@ pub(crate) fn sorted(alloc: Global, history: &History) -> Result<Vec<&Path>, NoM
     ensures same { IfOk result (λ v. IsPermutation (told history.now.entries) (map (λ p. p.now) v.items)) }
     ensures descends { IfOk result (λ v. Descends (map (λ p. p.now) v.items)) }
 {
-    let mut paths = statements(alloc, history)?;
-    paths.sort_by(|x, y| order(y, x))?;
+    let told = statements(alloc, history)?;
+    let mut paths = told.paths;
+    // Most histories tell the statements in the order of their paths.
+    if told.ascending {
+        paths.reverse();
+    } else {
+        paths.sort_by(|x, y| order(y, x))?;
+    }
     Ok(paths)
 }
 

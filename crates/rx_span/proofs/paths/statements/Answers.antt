@@ -1,6 +1,6 @@
 use Rattle.std.proofs.Common.{◌≡◌, ◌∙◌, ℕ, ◌+◌, ◌≤◌, length, List, [], ◌∷◌, ◌++◌, drop, map, sym, ap, append_assoc, append-nil, arith, refl}
 use Rattle.std.specs.Prelude.{Some, slice_get, option_to_list}
-use Rattle.std.proofs.lemmas.List.{drop_all, map-append}
+use Rattle.std.proofs.lemmas.List.{drop_all}
 use Rattle.rx_base.proofs.Elements.{drop-next}
 use Rattle.rx_rules.specs.declared.entries.Act.{Act}
 use Rattle.rx_rules.specs.declared.entries.Entry.{Entry}
@@ -8,16 +8,19 @@ use Rattle.rx_rules.specs.declared.entries.Entry.TheVariants.{Step, Root, Death,
 use Rattle.rx_base.specs.declared.ids.TaskId.{TaskId}
 use Rattle.rx_rules.specs.Order.{told, told_in, own_path}
 use Rattle.rx_span.proofs.paths.statements.Goals as goal
-use Rattle.rx_span.proofs.paths.statements.Goals.{in-Step+else-loop-k-test+in-Some+in_ok-push-2, in-Step+else-loop-k-test+in_default-path_of, in_default}
+use Rattle.rx_span.proofs.paths.statements.Goals.{in-Step+else-loop-k-test+in-Some+in_ok-add-2, in-Step+else-loop-k-test+in_default-path_of, in_default}
 
 -- one more of a batch
-next-told : {X : Type 0} (f : X → List ℕ) (done more : List X) (x : X) (batch all : List (List ℕ)) (k : ℕ) → more ≡ done ++ x ∷ [] → slice_get batch k ≡ Some (f x) → map f done ++ drop k batch ≡ all → map f more ++ drop (k + 1) batch ≡ all
-next-told f done more x batch all k e h i =
-    ap (λ l. map f l ++ drop (k + 1) batch) e ∙ ap (λ l. l ++ drop (k + 1) batch) (map-append f done (x ∷ [])) ∙ append_assoc (map f done) (f x ∷ []) (drop (k + 1) batch) ∙ ap (λ l. map f done ++ l) (sym (drop-next batch k (f x) h)) ∙ i
+next-told : (done more : List (List ℕ)) (x : List ℕ) (batch all : List (List ℕ)) (k : ℕ) → more ≡ done ++ x ∷ [] → slice_get batch k ≡ Some x → done ++ drop k batch ≡ all → more ++ drop (k + 1) batch ≡ all
+next-told done more x batch all k e h i =
+    ap (λ l. l ++ drop (k + 1) batch) e ∙ append_assoc done (x ∷ []) (drop (k + 1) batch) ∙ ap (λ l. done ++ l) (sym (drop-next batch k x h)) ∙ i
 
 pub loop-k-preserved : goal.loop-k-preserved
 loop-k-preserved c =
-    next-told (λ p. p.now) c.loop-k.paths.items c.push.new.self.items c.item-in-loop-k.result c.in-Step.batch (map (λ p. p.now) c.loop-i.paths.items ++ c.in-Step.batch) c.loop-k.k c.in_ok-push.ensures.items c.item-in-loop-k.ensures c.loop-k.invariant
+    record {
+      whole = next-told (map (λ p. p.now) c.loop-k.told.paths.items) (map (λ p. p.now) c.add.new.self.paths.items) c.item-in-loop-k.result.now c.in-Step.batch (map (λ p. p.now) c.loop-i.told.paths.items ++ c.in-Step.batch) c.loop-k.k c.in_ok-add.ensures.paths c.item-in-loop-k.ensures c.loop-k.invariant.whole;
+      rises = c.in_ok-add.ensures.ascending c.loop-k.invariant.rises;
+    }
 
 -- one more entry
 entry-told : (done more : List (List ℕ)) (e : Entry) (es : List Entry) (i : ℕ) → slice_get es i ≡ Some e → more ≡ done ++ told_in e → done ++ told (drop i es) ≡ told es → more ++ told (drop (i + 1) es) ≡ told es
@@ -37,17 +40,24 @@ whole-told done all batch own k l e =
 
 pub loop-i-preserved : goal.loop-i-preserved
 loop-i-preserved c =
-    let done : List (List ℕ) = map (λ p. p.now) c.loop-i.paths.items in
-    entry-told done (map (λ p. p.now) c.match-item.paths.items) c.item.result.now c.args.history.now.entries c.loop-i.i c.item.ensures
-    (elim c.match-item.branch [
-      | in-Step+else-loop-k-test+in-Some+in_ok-push-2 w ↦
-          let own : own_path w.in-Step.act ≡ w.in-Some.path.now ∷ [] = w.path_of.ensures ∙ ap (λ o. map (λ p. p.now) (option_to_list o)) w.in-Some.is in
-          ap (λ v. map (λ p. p.now) v.items) w.paths-is ∙ ap (map (λ p. p.now)) w.in_ok-push-2.ensures.items ∙ map-append (λ p. p.now) w.loop-k.paths.items (w.in-Some.path ∷ []) ∙ ap (λ l. map (λ p. p.now) w.loop-k.paths.items ++ l) (sym own)
-          ∙ whole-told done (map (λ p. p.now) w.loop-k.paths.items) w.in-Step.batch (own_path w.in-Step.act) w.loop-k.k (omega (arith, w.loop-k-test.false, w.len-k-end.ensures)) w.loop-k.invariant ∙ ap (λ e. done ++ told_in e) (sym w.in-Step.is)
-      | in-Step+else-loop-k-test+in_default-path_of w ↦
-          let own : own_path w.in-Step.act ≡ [] = w.path_of.ensures ∙ ap (λ o. map (λ p. p.now) (option_to_list o)) w.in_default-path_of.is in
-          ap (λ v. map (λ p. p.now) v.items) w.paths-is ∙ sym (append-nil (map (λ p. p.now) w.loop-k.paths.items)) ∙ ap (λ l. map (λ p. p.now) w.loop-k.paths.items ++ l) (sym own)
-          ∙ whole-told done (map (λ p. p.now) w.loop-k.paths.items) w.in-Step.batch (own_path w.in-Step.act) w.loop-k.k (omega (arith, w.loop-k-test.false, w.len-k-end.ensures)) w.loop-k.invariant ∙ ap (λ e. done ++ told_in e) (sym w.in-Step.is)
-      | in_default w ↦ ap (λ v. map (λ p. p.now) v.items) w.paths-is ∙ sym (append-nil done) ∙ ap (λ l. done ++ l) (sym (told-other c.item.result.now w.in_default.not-Step))
-    ])
-    c.loop-i.invariant
+    let done : List (List ℕ) = map (λ p. p.now) c.loop-i.told.paths.items in
+    record {
+      whole = entry-told done (map (λ p. p.now) c.match-item.told.paths.items) c.item.result.now c.args.history.now.entries c.loop-i.i c.item.ensures
+          (elim c.match-item.branch [
+            | in-Step+else-loop-k-test+in-Some+in_ok-add-2 w ↦
+                let own : own_path w.in-Step.act ≡ w.in-Some.path.now ∷ [] = w.path_of.ensures ∙ ap (λ o. map (λ p. p.now) (option_to_list o)) w.in-Some.is in
+                ap (λ v. map (λ p. p.now) v.paths.items) w.told-is ∙ w.in_ok-add-2.ensures.paths ∙ ap (λ l. map (λ p. p.now) w.loop-k.told.paths.items ++ l) (sym own)
+                ∙ whole-told done (map (λ p. p.now) w.loop-k.told.paths.items) w.in-Step.batch (own_path w.in-Step.act) w.loop-k.k (omega (arith, w.loop-k-test.false, w.len-k-end.ensures)) w.loop-k.invariant.whole ∙ ap (λ e. done ++ told_in e) (sym w.in-Step.is)
+            | in-Step+else-loop-k-test+in_default-path_of w ↦
+                let own : own_path w.in-Step.act ≡ [] = w.path_of.ensures ∙ ap (λ o. map (λ p. p.now) (option_to_list o)) w.in_default-path_of.is in
+                ap (λ v. map (λ p. p.now) v.paths.items) w.told-is ∙ sym (append-nil (map (λ p. p.now) w.loop-k.told.paths.items)) ∙ ap (λ l. map (λ p. p.now) w.loop-k.told.paths.items ++ l) (sym own)
+                ∙ whole-told done (map (λ p. p.now) w.loop-k.told.paths.items) w.in-Step.batch (own_path w.in-Step.act) w.loop-k.k (omega (arith, w.loop-k-test.false, w.len-k-end.ensures)) w.loop-k.invariant.whole ∙ ap (λ e. done ++ told_in e) (sym w.in-Step.is)
+            | in_default w ↦ ap (λ v. map (λ p. p.now) v.paths.items) w.told-is ∙ sym (append-nil done) ∙ ap (λ l. done ++ l) (sym (told-other c.item.result.now w.in_default.not-Step))
+          ])
+          c.loop-i.invariant.whole;
+      rises = elim c.match-item.branch [
+        | in-Step+else-loop-k-test+in-Some+in_ok-add-2 w ↦ rw w.told-is (w.in_ok-add-2.ensures.ascending w.loop-k.invariant.rises)
+        | in-Step+else-loop-k-test+in_default-path_of w ↦ rw w.told-is w.loop-k.invariant.rises
+        | in_default w ↦ rw w.told-is c.loop-i.invariant.rises
+      ];
+    }

@@ -19,7 +19,7 @@ ghost use Rattle.rx_live.specs.Inside.Ending.{StaysAt, HasSeen, HaveWords, Place
 
 use crate::opening::end_board;
 use rx_activities::{LedgerPass, Naming};
-use rx_base::{Batch, Gate, NoMemory, PlaceId};
+use rx_base::{Batch, NoMemory, PlaceId};
 use rx_book::{Book, Note, Pass};
 use rx_check::{Program, checked};
 use rx_counts::CountLedger;
@@ -28,8 +28,8 @@ use rx_history::{Ask, History, Journal, Journals};
 use rx_ledger::{Keeper, Reply, Request};
 use rx_monitor::BoardWriter;
 use rx_objects::{
-    LedgerObject, LedgerOp, LedgerParts, LedgerReply, Mentions, host_is_told, host_may_ask,
-    ledger_op_fits,
+    LedgerObject, LedgerOp, LedgerParts, LedgerReply, Mentions, Surroundings, host_is_told,
+    host_may_ask, ledger_op_fits,
 };
 use rx_parts_book::{EntryItem, EventItem};
 use rx_stations::{Station, abandon_all};
@@ -120,8 +120,8 @@ fn let_go(ticket: Option<AnyTicket>) {
 }
 
 /// The second step: the host's pass of each place's book meets the notes of that place.
-pub(crate) fn meet_notes<'a, N: Naming, G: Gate + Sync>(
-    stations: &Vec<Station<'a, N, G>>,
+pub(crate) fn meet_notes<N: Naming, S: Surroundings>(
+    stations: &Vec<Station<N, S>>,
     seats: &mut Vec<Pass<EventItem>>,
     notes: Vec<(PlaceId, Note<EventItem>)>,
 )
@@ -140,8 +140,8 @@ pub(crate) fn meet_notes<'a, N: Naming, G: Gate + Sync>(
 }
 
 // The host's pass of the book of one place meets a note of that book.
-fn meet_at<'a, N: Naming, G: Gate + Sync>(
-    stations: &Vec<Station<'a, N, G>>,
+fn meet_at<N: Naming, S: Surroundings>(
+    stations: &Vec<Station<N, S>>,
     seats: &mut Vec<Pass<EventItem>>,
     at: usize,
     note: Note<EventItem>,
@@ -157,13 +157,13 @@ fn meet_at<'a, N: Naming, G: Gate + Sync>(
 
 /// The third and the fourth step: the books of the places are closed, and the host's pass of the ledger's book meets the note that each
 /// place kept. `None` is want of memory.
-pub(crate) fn close_places<'a, N: Naming, G: Gate + Sync, R: Wait>(
+pub(crate) fn close_places<N: Naming, S: Surroundings, R: Wait>(
     rt: &R,
     alloc: Global,
     p: &Program,
     ledger: &Book<LedgerObject>,
     host: &mut Pass<EntryItem>,
-    stations: Vec<Station<'a, N, G>>,
+    stations: Vec<Station<N, S>>,
     seats: Vec<Pass<EventItem>>,
 ) -> Option<Vec<Store>>
     requires ledger { ledger.now ≡ N.ledger }

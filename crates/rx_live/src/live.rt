@@ -20,7 +20,7 @@ use crate::ending::{
     Closed, Released, close_ledger, close_places, close_stores, meet_notes, meet_worker,
     meet_workers, release,
 };
-use crate::opening::{Places, end_board, open_ledger, open_words};
+use crate::opening::{Places, end_board, open_ledger, open_places, open_words};
 use crate::watching::{Looked, Looker, beside};
 use rx_activities::{Activity, LedgerPass, Naming};
 use rx_base::{Gate, NoGate, NoMemory, PlaceId};
@@ -31,7 +31,7 @@ use rx_counts::CountLedger;
 use rx_finish::FinishLedger;
 use rx_history::{History, Journals, Setup};
 use rx_monitor::BoardWriter;
-use rx_objects::LedgerObject;
+use rx_objects::{LedgerObject, Surroundings};
 use rx_parts_book::{EntryItem, EventItem};
 use rx_stations::{Hall, Worker, work};
 use rx_store::Store;
@@ -217,7 +217,7 @@ fn run_named<'a, N: Naming + Send + Sync, G: Gate + Sync, R: Threads + Wait + Sy
         pass,
         words,
     } = main;
-    let opened = Places::<'a, N, G>::open(rt, alloc, ledger, host, words, heap, gate);
+    let opened = open_places::<N, G, R>(rt, alloc, ledger, host, words, heap, gate);
     let Some(places) = opened else {
         ticket.spent();
         return None;
@@ -235,10 +235,16 @@ fn run_named<'a, N: Naming + Send + Sync, G: Gate + Sync, R: Threads + Wait + Sy
 }
 
 // The run from its first turn to the closing of the places' books.
-fn run_all<'a, N: Naming + Send + Sync, G: Gate + Sync, R: Threads + Wait + Sync>(
+fn run_all<
+    'a,
+    N: Naming + Send + Sync,
+    S: Surroundings + Send,
+    G: Gate + Sync,
+    R: Threads + Wait + Sync,
+>(
     rt: &R,
     alloc: Global,
-    hall: Hall<'a, N, G>,
+    hall: Hall<'a, N, S>,
     gate: &G,
     workers: u32,
     host: &mut Pass<EntryItem>,
@@ -270,10 +276,10 @@ fn run_all<'a, N: Naming + Send + Sync, G: Gate + Sync, R: Threads + Wait + Sync
 }
 
 // The run from the root's release to the closing of the places' books.
-fn end_all<'a, N: Naming, G: Gate + Sync, R: Wait>(
+fn end_all<'a, N: Naming, S: Surroundings, R: Wait>(
     rt: &R,
     alloc: Global,
-    hall: Hall<'a, N, G>,
+    hall: Hall<'a, N, S>,
     host: &mut Pass<EntryItem>,
     seats: Vec<Pass<EventItem>>,
     kept: Vec<Option<LedgerPass<N>>>,
@@ -302,10 +308,16 @@ fn end_all<'a, N: Naming, G: Gate + Sync, R: Wait>(
 }
 
 /// The workers, each on a thread of its own where one can be made, and what each has kept.
-pub(crate) fn spread<'a, N: Naming + Send + Sync, G: Gate + Sync, R: Threads + Wait + Sync>(
+pub(crate) fn spread<
+    'a,
+    N: Naming + Send + Sync,
+    S: Surroundings + Send,
+    G: Gate + Sync,
+    R: Threads + Wait + Sync,
+>(
     rt: &R,
     alloc: Global,
-    hall: &Hall<'a, N, G>,
+    hall: &Hall<'a, N, S>,
     gate: &G,
     workers: u32,
 ) -> Result<Vec<Option<LedgerPass<N>>>, AllocError>
@@ -332,10 +344,10 @@ struct Ended<N: Naming> {
 }
 
 // The caller goes on alone until no activity is left and the root is released. `None` is want of memory.
-fn go_on_alone<'a, N: Naming, G: Gate + Sync, R: Wait>(
+fn go_on_alone<'a, N: Naming, S: Surroundings, R: Wait>(
     rt: &R,
     alloc: Global,
-    hall: &Hall<'a, N, G>,
+    hall: &Hall<'a, N, S>,
     host: &mut Pass<EntryItem>,
     seats: &Vec<Pass<EventItem>>,
 ) -> Option<Ended<N>>

@@ -19,7 +19,7 @@ use rx_finish::FinishLedger;
 use rx_history::Setup;
 use rx_ledger::Keeper;
 use rx_monitor::BoardWriter;
-use rx_objects::{LedgerObject, PlaceObject, objects_open};
+use rx_objects::{LedgerAndGate, LedgerObject, PlaceObject, Surroundings, objects_open};
 use rx_parts_book::{EntryItem, EventItem};
 use rx_stations::{Station, abandon_all};
 use rx_store::Store;
@@ -86,63 +86,62 @@ pub(crate) fn open_ledger<R: Wait>(
 
 /// All places of a run with the host's pass of the book of each, both in the order of the places; and the pass of the first caller of
 /// the book of place 0.
-pub(crate) struct Places<'a, N: Naming, G: Gate + Sync> {
-    pub(crate) stations: Vec<Station<'a, N, G>>,
+pub(crate) struct Places<N: Naming, S: Surroundings> {
+    pub(crate) stations: Vec<Station<N, S>>,
     pub(crate) seats: Vec<Pass<EventItem>>,
     pub(crate) first: Option<Pass<EventItem>>,
 }
 
-impl<'a, N: Naming, G: Gate + Sync> Places<'a, N, G> {
-    /// Opens the places over their words. `None` is want of memory.
-    pub(crate) fn open<R: Wait>(
-        rt: &R,
-        alloc: Global,
-        ledger: &'a Book<LedgerObject>,
-        host: &mut Pass<EntryItem>,
-        words: Vec<BareBook<EventItem>>,
-        heap: u32,
-        gate: &'a G,
-    ) -> Option<Places<'a, N, G>>
-        requires ledger { ledger.now ≡ N.ledger }
-        requires own { word_of host.old ≡ N.ledger.word }
-        requires unseen { ((view_of host.old).seen ≡ []) × ((view_of host.old).dead ≡ 0) }
-        requires proper { Proper (given N.ledger.fixed.setup) }
-        requires heap { heap ≡ N.ledger.fixed.setup.heap }
-        requires words { words.items ≡ N.ledger.fixed.places }
-        requires few { length words.items ≤ 16 }
-        ensures same { (word_of host.new ≡ word_of host.old) × (view_of host.new ≡ view_of host.old) }
-        ensures stations { IfSome result (λ t. AreFrom 0 t.stations.items × (length t.stations.items ≡ length words.items)) }
-        ensures seats { IfSome result (λ t. SeatsFrom N.ledger 0 t.seats.items × (length t.seats.items ≡ length words.items)) }
-        ensures first { IfSome result (λ t. 0 < length words.items → IsSomeAnd t.first (IsFirst N.ledger 0)) }
-    {
-        let mut words = words;
-        let mut places = Places {
-            stations: Vec::new(alloc),
-            seats: Vec::new(alloc),
-            first: None,
+/// Opens the places over their words. `None` is want of memory.
+pub(crate) fn open_places<'a, N: Naming, G: Gate, R: Wait>(
+    rt: &R,
+    alloc: Global,
+    ledger: &'a Book<LedgerObject>,
+    host: &mut Pass<EntryItem>,
+    words: Vec<BareBook<EventItem>>,
+    heap: u32,
+    gate: &'a G,
+) -> Option<Places<N, LedgerAndGate<'a, G>>>
+    requires ledger { ledger.now ≡ N.ledger }
+    requires own { word_of host.old ≡ N.ledger.word }
+    requires unseen { ((view_of host.old).seen ≡ []) × ((view_of host.old).dead ≡ 0) }
+    requires proper { Proper (given N.ledger.fixed.setup) }
+    requires heap { heap ≡ N.ledger.fixed.setup.heap }
+    requires words { words.items ≡ N.ledger.fixed.places }
+    requires few { length words.items ≤ 16 }
+    ensures same { (word_of host.new ≡ word_of host.old) × (view_of host.new ≡ view_of host.old) }
+    ensures stations { IfSome result (λ t. AreFrom 0 t.stations.items × (length t.stations.items ≡ length words.items)) }
+    ensures seats { IfSome result (λ t. SeatsFrom N.ledger 0 t.seats.items × (length t.seats.items ≡ length words.items)) }
+    ensures first { IfSome result (λ t. 0 < length words.items → IsSomeAnd t.first (IsFirst N.ledger 0)) }
+{
+    let mut words = words;
+    let mut places = Places {
+        stations: Vec::new(alloc),
+        seats: Vec::new(alloc),
+        first: None,
+    };
+    'place: while let Some(word) = words.pop() {
+        let place = PlaceId(words.len() as u8);
+        let Some((book, first)) = open_place(alloc, ledger, host, word, place, heap, gate) else {
+            places.abandon(rt);
+            return None;
         };
-        'place: while let Some(word) = words.pop() {
-            let place = PlaceId(words.len() as u8);
-            let Some((book, first)) = open_place(alloc, ledger, host, word, place, heap, gate)
-            else {
-                places.abandon(rt);
-                return None;
-            };
-            if !places.add(rt, alloc, place, book, first) {
-                places.abandon(rt);
-                return None;
-            }
+        if !places.add(rt, alloc, place, book, first) {
+            places.abandon(rt);
+            return None;
         }
-        Some(places)
     }
+    Some(places)
+}
 
+impl<N: Naming, S: Surroundings> Places<N, S> {
     // Adds the place in front of the others. False is want of memory.
     fn add<R: Wait>(
         &mut self,
         rt: &R,
         alloc: Global,
         place: PlaceId,
-        book: Book<PlaceObject<'a, G>>,
+        book: Book<PlaceObject<S>>,
         first: Pass<EventItem>,
     ) -> bool
         requires place { IsPlaceBook N.ledger place book }
@@ -184,7 +183,7 @@ impl<'a, N: Naming, G: Gate + Sync> Places<'a, N, G> {
 }
 
 // The book of a place over its word, and the pass of its first caller. `None` is want of memory.
-fn open_place<'a, G: Gate + Sync>(
+fn open_place<'a, G: Gate>(
     alloc: Global,
     ledger: &'a Book<LedgerObject>,
     host: &mut Pass<EntryItem>,
@@ -192,7 +191,7 @@ fn open_place<'a, G: Gate + Sync>(
     place: PlaceId,
     heap: u32,
     gate: &'a G,
-) -> Option<(Book<PlaceObject<'a, G>>, Pass<EventItem>)>
+) -> Option<(Book<PlaceObject<LedgerAndGate<'a, G>>>, Pass<EventItem>)>
     requires own { word_of host.old ≡ ledger.now.word }
     requires unseen { ((view_of host.old).seen ≡ []) × ((view_of host.old).dead ≡ 0) }
     requires proper { Proper (given ledger.now.fixed.setup) }
@@ -209,7 +208,7 @@ fn open_place<'a, G: Gate + Sync>(
     let Ok(note) = ledger.note(host) else {
         unreachable!()
     };
-    let object = PlaceObject::open(place, store, ledger, note, gate);
+    let object = PlaceObject::open(place, store, note, LedgerAndGate { ledger, gate });
     match Book::over(alloc, word, object) {
         Ok(both) => Some(both),
         Err(_) => None,

@@ -19,7 +19,7 @@ use rx_counts::CountLedger;
 use rx_finish::FinishLedger;
 use rx_history::{History, Journals, Setup};
 use rx_monitor::{Board, BoardReader, BoardWriter, Summary, finish, watch_tells};
-use rx_objects::opening_summary;
+use rx_objects::{Surroundings, opening_summary};
 use rx_stations::Hall;
 use std::alloc::{AllocError, Global};
 use std::marker::Model;
@@ -131,10 +131,16 @@ pub fn run_watched<G: Gate + Sync, R: Threads + Wait + Sync>(
 }
 
 /// What the workers have kept, and beside them, in a thread of its own where one can be made, the snapshots of a reader, if there is one.
-pub(crate) fn beside<'a, N: Naming + Send + Sync, G: Gate + Sync, R: Threads + Wait + Sync>(
+pub(crate) fn beside<
+    'a,
+    N: Naming + Send + Sync,
+    S: Surroundings + Send,
+    G: Gate + Sync,
+    R: Threads + Wait + Sync,
+>(
     rt: &R,
     alloc: Global,
-    hall: &Hall<'a, N, G>,
+    hall: &Hall<'a, N, S>,
     gate: &G,
     workers: u32,
     looker: Option<Looker>,

@@ -1,14 +1,16 @@
 -- What workers may share. A struct that holds a snapshot gets no rule of its own, so each is found here once, from the rules of its fields.
 use denote.RattleType.{RattleType}
 use denote.Ref.{NamedLft}
-use denote.Param.Send.{IsSend, IsSync, sendable}
-use Rattle.std.proofs.Crossing.{crosses}
+use denote.Struct.Struct.{Struct}
+use denote.Struct.Declared.{fields, shape}
+use denote.Param.Send.{IsSend, IsSync, AllSync, recorded_sync, struct_sync, sendable}
+use Rattle.std.proofs.Crossing.{Vec-sync, crosses}
 use Rattle.rx_base.proofs.ids.PlaceId.TheSendSync as place
-use Rattle.rx_base.specs.declared.gate.Gate.{Ghosts as GateGhosts}
 use Rattle.rx_book.proofs.books.Book.TheSendSync as book
 use Rattle.rx_check.proofs.program.Program.TheSendSync as program
 use Rattle.rx_lock.proofs.keyed_lock.Lock.TheSendSync as lock
 use Rattle.rx_mail.proofs.mailbox.Mail.TheSendSync as mail
+use Rattle.rx_objects.specs.declared.surroundings.Surroundings.{Ghosts as SurroundingsGhosts}
 use Rattle.rx_objects.proofs.Crosses.{ledger_object_send, place_object_send}
 use Rattle.rx_activities.proofs.Crosses.{activity_send}
 use Rattle.rx_activities.specs.declared.naming.Naming.{Ghosts}
@@ -22,9 +24,18 @@ use Rattle.rx_stations.specs.contracts.station.Station as Station
 pub queue_send : (N : RattleType) (g : Ghosts N.Denot) → IsSend N → IsSend (Queue.the_row N g)
 queue_send N g s = search (activity_send, crosses, sendable) depth 60 fits 20000
 
-pub station_sync : (a : NamedLft) (N G : RattleType) (g : Ghosts N.Denot) (h : GateGhosts G.Denot) → IsSend N → IsSync G → IsSync (Station.the_row a N G g h)
-station_sync a N G g h s y =
+pub station_sync : (N S : RattleType) (g : Ghosts N.Denot) (h : SurroundingsGhosts S.Denot) → IsSend N → IsSend S → IsSync (Station.the_row N S g h)
+station_sync N S g h n s =
     search (place.the_field_sync, book.the_sync, place_object_send, mail.the_sync, letter.the_send, lock.the_sync, keys.the_send, queue_send, crosses, sendable) depth 60 fits 20000
 
-pub hall_sync : (a : NamedLft) (N G : RattleType) (g : Ghosts N.Denot) (h : GateGhosts G.Denot) → IsSend N → IsSync G → IsSync (Hall.the_row a N G g h)
-hall_sync a N G g h s y = search (program.the_sync, book.the_sync, ledger_object_send, station_sync, tally.the_field_sync, crosses, sendable) depth 60 fits 20000
+pub hall_sync : (a : NamedLft) (N S : RattleType) (g : Ghosts N.Denot) (h : SurroundingsGhosts S.Denot) → IsSend N → IsSend S → IsSync (Hall.the_row a N S g h)
+hall_sync a N S g h n s =
+    let T = Hall.the_type a N S g h in
+    let all : AllSync (fields T) = (
+      search (program.the_sync, sendable) depth 20,
+      (
+        search (book.the_sync, ledger_object_send, crosses, sendable) depth 60 fits 20000,
+        (Vec-sync (Station.the_row N S g h) (station_sync N S g h n s), (tally.the_field_sync, tt)),
+      ),
+    ) in
+    recorded_sync (Struct (shape T)) T.D T.to T.to_one (struct_sync (shape T) all)

@@ -4,31 +4,31 @@ ghost use Rattle.std.specs.Prelude.{◌≡◌, ◌<◌, length, Some, IfSome, sl
 use crate::station::Station;
 use crate::tally::Tally;
 use rx_activities::{Activity, Naming};
-use rx_base::{Gate, PlaceId};
+use rx_base::PlaceId;
 use rx_book::Book;
 use rx_check::Program;
-use rx_objects::LedgerObject;
+use rx_objects::{LedgerObject, Surroundings};
 use std::sync::Wait;
 
 /// The program, the ledger's book and the places, and what workers tell one another. It can't be dropped.
-pub struct Hall<'a, N: Naming, G: Gate + Sync> {
+pub struct Hall<'a, N: Naming, S: Surroundings> {
     pub program: &'a Program,
     pub ledger: &'a Book<LedgerObject>,
     /// In the order of the places.
-    pub stations: Vec<Station<'a, N, G>>,
+    pub stations: Vec<Station<N, S>>,
     pub(crate) tally: Tally,
 }
 
-impl<'a, N: Naming, G: Gate + Sync> Hall<'a, N, G> {
+impl<'a, N: Naming, S: Surroundings> Hall<'a, N, S> {
     /// A hall for a run of which only the main activity has begun.
     pub fn open(
         program: &'a Program,
         ledger: &'a Book<LedgerObject>,
-        stations: Vec<Station<'a, N, G>>,
-    ) -> Hall<'a, N, G>
+        stations: Vec<Station<N, S>>,
+    ) -> Hall<'a, N, S>
         ensures program { result.program.now ≡ program.now }
         ensures ledger { result.ledger.now ≡ ledger.now }
-        ensures stations { result.stations.items ≡ stations.entry.items }
+        ensures stations { result.stations.items ≡ stations.items }
     {
         Hall {
             program,
@@ -39,7 +39,7 @@ impl<'a, N: Naming, G: Gate + Sync> Hall<'a, N, G> {
     }
 
     /// The station of a place, where there is such a place.
-    pub(crate) fn station(&self, place: PlaceId) -> Option<&Station<'a, N, G>>
+    pub(crate) fn station(&self, place: PlaceId) -> Option<&Station<N, S>>
         ensures { IfSome result (λ s. slice_get self.now.stations.items place.0 ≡ Some s.now) }
     {
         let at = place.0 as usize;
@@ -65,7 +65,7 @@ impl<'a, N: Naming, G: Gate + Sync> Hall<'a, N, G> {
     }
 
     /// The places.
-    pub fn into_stations(self) -> Vec<Station<'a, N, G>>
+    pub fn into_stations(self) -> Vec<Station<N, S>>
         ensures { result.items ≡ self.entry.stations.items }
     {
         let Hall {
@@ -84,10 +84,7 @@ impl<'a, N: Naming, G: Gate + Sync> Hall<'a, N, G> {
 }
 
 /// Gives up the places.
-pub fn abandon_all<'a, N: Naming, G: Gate + Sync, R: Wait>(
-    rt: &R,
-    stations: Vec<Station<'a, N, G>>,
-) {
+pub fn abandon_all<N: Naming, S: Surroundings, R: Wait>(rt: &R, stations: Vec<Station<N, S>>) {
     let mut stations = stations;
     'rest: while let Some(station) = stations.pop() {
         station.abandon(rt);

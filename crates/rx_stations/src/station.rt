@@ -8,11 +8,11 @@ ghost use Rattle.rx_stations.specs.Closed.{IsClosed};
 use crate::keys::{Keys, Letter};
 use crate::queue::Queue;
 use rx_activities::{Activity, Naming, Traveller};
-use rx_base::{Gate, NoMemory, PlaceId};
+use rx_base::{NoMemory, PlaceId};
 use rx_book::{Book, Note, Pass};
 use rx_lock::{Fact, Lock};
 use rx_mail::Mail;
-use rx_objects::PlaceObject;
+use rx_objects::{PlaceObject, Surroundings};
 use rx_parts_book::{EntryItem, EventItem};
 use rx_store::Store;
 use std::alloc::Global;
@@ -32,9 +32,9 @@ impl<N: Naming> Fact<Keys<N>, Snapshot<Keys<N>>> for AreOf {
 
 /// A place with its book, the activities that are there, and the mailbox of those that are on their way to it. Contracts see the
 /// place and the mailbox. It can't be dropped.
-pub struct Station<'a, N: Naming, G: Gate + Sync> {
+pub struct Station<N: Naming, S: Surroundings> {
     place: PlaceId,
-    book: Book<PlaceObject<'a, G>>,
+    book: Book<PlaceObject<S>>,
     mail: Mail<Letter<N>>,
     // The first keys. Those of the workers are made from them.
     keys: Lock<Keys<N>, Snapshot<Keys<N>>, AreOf>,
@@ -45,7 +45,7 @@ pub struct Station<'a, N: Naming, G: Gate + Sync> {
     waiting: AtomicU64,
 }
 
-impl<'a, N: Naming, G: Gate + Sync> Model for Station<'a, N, G> {
+impl<N: Naming, S: Surroundings> Model for Station<N, S> {
     ghost use Rattle.std.specs.Prelude.{◌≡◌};
     ghost use Rattle.rx_stations.specs.Stations.{PostName, IsPlaceBook};
 
@@ -76,15 +76,15 @@ pub(crate) enum Job<N: Naming> {
     Land(Letter<N>),
 }
 
-impl<'a, N: Naming, G: Gate + Sync> Station<'a, N, G> {
+impl<N: Naming, S: Surroundings> Station<N, S> {
     /// A place without activities, by a first pass of its book that has seen nothing. `Err` is want of memory, and hands the book
     /// back.
     pub fn open(
         alloc: Global,
         place: PlaceId,
-        book: Book<PlaceObject<'a, G>>,
+        book: Book<PlaceObject<S>>,
         seat: Pass<EventItem>,
-    ) -> Result<Station<'a, N, G>, Book<PlaceObject<'a, G>>>
+    ) -> Result<Station<N, S>, Book<PlaceObject<S>>>
         requires place { IsPlaceBook N.ledger place book }
         requires seat { IsNewSeat N.ledger place seat }
         ensures { IfOk result (λ s. s.place ≡ place) }
@@ -115,7 +115,7 @@ impl<'a, N: Naming, G: Gate + Sync> Station<'a, N, G> {
     }
 
     /// Its book.
-    pub fn book(&self) -> &Book<PlaceObject<'a, G>>
+    pub fn book(&self) -> &Book<PlaceObject<S>>
         ensures { PlaceIs N.ledger self.now.place result.now }
     {
         &self.book
@@ -238,8 +238,8 @@ impl<'a, N: Naming, G: Gate + Sync> Station<'a, N, G> {
     }
 
     // The book alone. What else is here is given up.
-    fn into_book<R: Wait>(self, rt: &R) -> Book<PlaceObject<'a, G>>
-        ensures { IsPlaceBook N.ledger self.entry.place result }
+    fn into_book<R: Wait>(self, rt: &R) -> Book<PlaceObject<S>>
+        ensures { IsPlaceBook N.ledger self.place result }
     {
         let Station {
             place: _,
@@ -265,7 +265,7 @@ impl<'a, N: Naming, G: Gate + Sync> Station<'a, N, G> {
     /// Closes the book by the host's pass, and gives the store and the note that the place kept.
     pub fn close<R: Wait>(self, rt: &R, seat: Pass<EventItem>) -> (Store, Option<Note<EntryItem>>)
         requires { slice_get N.ledger.fixed.places self.place.0 ≡ Some (word_of seat) }
-        ensures { IsClosed N.ledger self.entry.place.0 (view_of seat).seen result.0 result.1 }
+        ensures { IsClosed N.ledger self.place.0 (view_of seat).seen result.0 result.1 }
     {
         let book = self.into_book(rt);
         match book.close(rt, seat) {

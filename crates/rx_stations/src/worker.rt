@@ -7,6 +7,7 @@ use crate::keys::{Keys, Letter};
 use crate::station::{Held, Job, Station, TURNS};
 use rx_activities::{Activity, Arrival, Began, LedgerPass, Naming, Traveller, Turn};
 use rx_base::Gate;
+use rx_objects::Surroundings;
 use std::alloc::Global;
 use std::marker::Model;
 use std::sync::Wait;
@@ -41,10 +42,10 @@ impl<N: Naming> Model for Worker<N> {
 
 impl<N: Naming> Worker<N> {
     /// A worker with keys of each place. `None` is want of memory.
-    pub fn open<'a, G: Gate + Sync, R: Wait>(
+    pub fn open<'a, S: Surroundings, R: Wait>(
         rt: &R,
         alloc: Global,
-        hall: &Hall<'a, N, G>,
+        hall: &Hall<'a, N, S>,
         number: u32,
     ) -> Option<Worker<N>>
         ensures { IfSome result (λ w. w ≡ hall.now.stations.items) }
@@ -65,11 +66,11 @@ impl<N: Naming> Worker<N> {
     }
 
     /// Makes turns until no activity is left or memory was refused. It comes by the gate before each turn.
-    pub fn work<'a, G: Gate + Sync, H: Gate, R: Wait>(
+    pub fn work<'a, S: Surroundings, H: Gate, R: Wait>(
         &mut self,
         rt: &R,
         alloc: Global,
-        hall: &Hall<'a, N, G>,
+        hall: &Hall<'a, N, S>,
         gate: &H,
     )
         requires hall { IsHall N.ledger hall.now.ledger.now hall.now.program.now hall.now.stations.items }
@@ -99,10 +100,10 @@ impl<N: Naming> Worker<N> {
 
     // What it does next: it goes on with what it has in hand, or looks for something until there is something. `None` where no
     // activity is left or memory was refused.
-    fn next_job<'a, G: Gate + Sync, R: Wait>(
+    fn next_job<'a, S: Surroundings, R: Wait>(
         &mut self,
         rt: &R,
-        hall: &Hall<'a, N, G>,
+        hall: &Hall<'a, N, S>,
         held: Option<Held<N>>,
     ) -> Option<Job<N>>
         requires ledger { hall.now.ledger.now ≡ N.ledger }
@@ -117,7 +118,7 @@ impl<N: Naming> Worker<N> {
     }
 
     // Goes on with what it has in hand.
-    fn go_on<'a, G: Gate + Sync>(&mut self, hall: &Hall<'a, N, G>, held: Held<N>) -> Option<Job<N>>
+    fn go_on<'a, S: Surroundings>(&mut self, hall: &Hall<'a, N, S>, held: Held<N>) -> Option<Job<N>>
         requires { hall.now.ledger.now ≡ N.ledger }
         ensures { self.new ≡ self.old }
     {
@@ -134,7 +135,11 @@ impl<N: Naming> Worker<N> {
     }
 
     // Looks for something to do until there is something.
-    fn find<'a, G: Gate + Sync, R: Wait>(&mut self, rt: &R, hall: &Hall<'a, N, G>) -> Option<Job<N>>
+    fn find<'a, S: Surroundings, R: Wait>(
+        &mut self,
+        rt: &R,
+        hall: &Hall<'a, N, S>,
+    ) -> Option<Job<N>>
         requires some { 0 < length hall.now.stations.items }
         requires keys { self.old ≡ hall.now.stations.items }
         ensures { self.new ≡ self.old }
@@ -154,7 +159,11 @@ impl<N: Naming> Worker<N> {
     }
 
     // Looks for something to do: first what may go on or arrive, from its own place on, and then what waits.
-    fn look<'a, G: Gate + Sync, R: Wait>(&mut self, rt: &R, hall: &Hall<'a, N, G>) -> Option<Job<N>>
+    fn look<'a, S: Surroundings, R: Wait>(
+        &mut self,
+        rt: &R,
+        hall: &Hall<'a, N, S>,
+    ) -> Option<Job<N>>
         requires some { 0 < length hall.now.stations.items }
         requires keys { self.old ≡ hall.now.stations.items }
         ensures { self.new ≡ self.old }
@@ -171,10 +180,10 @@ impl<N: Naming> Worker<N> {
     }
 
     // Looks at one place for what may go on or arrive.
-    fn look_at<'a, G: Gate + Sync, R: Wait>(
+    fn look_at<'a, S: Surroundings, R: Wait>(
         &mut self,
         rt: &R,
-        hall: &Hall<'a, N, G>,
+        hall: &Hall<'a, N, S>,
         at: usize,
     ) -> Option<Job<N>>
         requires inside { at < length hall.now.stations.items }
@@ -185,10 +194,10 @@ impl<N: Naming> Worker<N> {
     }
 
     // Looks for one that waits, where something has come that may let it go on.
-    fn look_again<'a, G: Gate + Sync, R: Wait>(
+    fn look_again<'a, S: Surroundings, R: Wait>(
         &mut self,
         rt: &R,
-        hall: &Hall<'a, N, G>,
+        hall: &Hall<'a, N, S>,
     ) -> Option<Job<N>>
         requires { 0 < length hall.now.stations.items }
         ensures { self.new ≡ self.old }
@@ -213,11 +222,11 @@ impl<N: Naming> Worker<N> {
     }
 
     // Makes one turn, and tells what it leaves in hand.
-    fn make<'a, G: Gate + Sync, R: Wait>(
+    fn make<'a, S: Surroundings, R: Wait>(
         &mut self,
         rt: &R,
         alloc: Global,
-        hall: &Hall<'a, N, G>,
+        hall: &Hall<'a, N, S>,
         job: Job<N>,
     ) -> Option<Held<N>>
         requires hall { IsHall N.ledger hall.now.ledger.now hall.now.program.now hall.now.stations.items }
@@ -231,11 +240,11 @@ impl<N: Naming> Worker<N> {
     }
 
     // Makes a turn of an activity.
-    fn make_move<'a, G: Gate + Sync, R: Wait>(
+    fn make_move<'a, S: Surroundings, R: Wait>(
         &mut self,
         rt: &R,
         alloc: Global,
-        hall: &Hall<'a, N, G>,
+        hall: &Hall<'a, N, S>,
         held: Held<N>,
     ) -> Option<Held<N>>
         requires hall { IsHall N.ledger hall.now.ledger.now hall.now.program.now hall.now.stations.items }
@@ -273,11 +282,11 @@ impl<N: Naming> Worker<N> {
     }
 
     // Goes on with an activity, or puts it back behind the others of its place. Where it rests, others can take the activity meanwhile.
-    fn hold<'a, G: Gate + Sync, R: Wait>(
+    fn hold<'a, S: Surroundings, R: Wait>(
         &mut self,
         rt: &R,
-        hall: &Hall<'a, N, G>,
-        station: &Station<'a, N, G>,
+        hall: &Hall<'a, N, S>,
+        station: &Station<N, S>,
         mut activity: Activity<N>,
         turns: u32,
     ) -> Option<Held<N>>
@@ -321,7 +330,7 @@ impl<N: Naming> Worker<N> {
     }
 
     // Rests with nothing in hand. It rests again once it has met others a few times more.
-    fn step_back<'a, G: Gate + Sync, R: Wait>(&mut self, rt: &R, hall: &Hall<'a, N, G>)
+    fn step_back<'a, S: Surroundings, R: Wait>(&mut self, rt: &R, hall: &Hall<'a, N, S>)
         ensures { self.new ≡ self.old }
     {
         hall.tally.rest(rt, self.rests);
@@ -330,11 +339,11 @@ impl<N: Naming> Worker<N> {
     }
 
     // Puts an activity that may go on behind the others of its place.
-    fn put<'a, G: Gate + Sync, R: Wait>(
+    fn put<'a, S: Surroundings, R: Wait>(
         &mut self,
         rt: &R,
-        hall: &Hall<'a, N, G>,
-        station: &Station<'a, N, G>,
+        hall: &Hall<'a, N, S>,
+        station: &Station<N, S>,
         activity: Activity<N>,
     )
         requires { hall.now.ledger.now ≡ N.ledger }
@@ -347,11 +356,11 @@ impl<N: Naming> Worker<N> {
     }
 
     // Puts an activity that waits behind the others of its place.
-    fn rest<'a, G: Gate + Sync, R: Wait>(
+    fn rest<'a, S: Surroundings, R: Wait>(
         &mut self,
         rt: &R,
-        hall: &Hall<'a, N, G>,
-        station: &Station<'a, N, G>,
+        hall: &Hall<'a, N, S>,
+        station: &Station<N, S>,
         activity: Activity<N>,
         waited: bool,
     )
@@ -365,10 +374,10 @@ impl<N: Naming> Worker<N> {
     }
 
     // Puts an activity that was started where it can be taken, if one was.
-    fn start<'a, G: Gate + Sync, R: Wait>(
+    fn start<'a, S: Surroundings, R: Wait>(
         &mut self,
         rt: &R,
-        hall: &Hall<'a, N, G>,
+        hall: &Hall<'a, N, S>,
         began: Option<Began<N>>,
     )
         requires ledger { hall.now.ledger.now ≡ N.ledger }
@@ -394,10 +403,10 @@ impl<N: Naming> Worker<N> {
     }
 
     // Sends an activity to its place. False is want of memory.
-    fn send<'a, G: Gate + Sync, R: Wait>(
+    fn send<'a, S: Surroundings, R: Wait>(
         &mut self,
         rt: &R,
-        hall: &Hall<'a, N, G>,
+        hall: &Hall<'a, N, S>,
         traveller: Traveller<N>,
     ) -> bool
         requires { self.old ≡ hall.now.stations.items }
@@ -411,11 +420,11 @@ impl<N: Naming> Worker<N> {
     }
 
     // Makes an activity arrive.
-    fn land<'a, G: Gate + Sync, R: Wait>(
+    fn land<'a, S: Surroundings, R: Wait>(
         &mut self,
         rt: &R,
         alloc: Global,
-        hall: &Hall<'a, N, G>,
+        hall: &Hall<'a, N, S>,
         traveller: Traveller<N>,
     ) -> Option<Held<N>>
         requires hall { IsHall N.ledger hall.now.ledger.now hall.now.program.now hall.now.stations.items }
@@ -446,7 +455,7 @@ impl<N: Naming> Worker<N> {
     }
 
     // An activity is over.
-    fn end<'a, G: Gate + Sync>(&mut self, hall: &Hall<'a, N, G>, pass: LedgerPass<N>)
+    fn end<'a, S: Surroundings>(&mut self, hall: &Hall<'a, N, S>, pass: LedgerPass<N>)
         requires { hall.now.ledger.now ≡ N.ledger }
         ensures { self.new ≡ self.old }
     {
@@ -455,7 +464,7 @@ impl<N: Naming> Worker<N> {
     }
 
     // Memory was refused.
-    fn fail<'a, G: Gate + Sync>(&mut self, hall: &Hall<'a, N, G>, pass: LedgerPass<N>)
+    fn fail<'a, S: Surroundings>(&mut self, hall: &Hall<'a, N, S>, pass: LedgerPass<N>)
         requires { hall.now.ledger.now ≡ N.ledger }
         ensures { self.new ≡ self.old }
     {
@@ -464,7 +473,7 @@ impl<N: Naming> Worker<N> {
     }
 
     // Keeps the ledger pass of the first activity that is over. That of each later one becomes a note, which the kept pass meets.
-    fn keep<'a, G: Gate + Sync>(&mut self, hall: &Hall<'a, N, G>, pass: LedgerPass<N>)
+    fn keep<'a, S: Surroundings>(&mut self, hall: &Hall<'a, N, S>, pass: LedgerPass<N>)
         requires { hall.now.ledger.now ≡ N.ledger }
         ensures { self.new ≡ self.old }
     {
@@ -480,10 +489,10 @@ impl<N: Naming> Worker<N> {
 }
 
 /// One worker from its opening to its end, and what it has kept.
-pub fn work<'a, N: Naming, G: Gate + Sync, R: Wait>(
+pub fn work<'a, N: Naming, S: Surroundings, G: Gate, R: Wait>(
     rt: &R,
     alloc: Global,
-    hall: &Hall<'a, N, G>,
+    hall: &Hall<'a, N, S>,
     gate: &G,
     number: u32,
 ) -> Option<LedgerPass<N>>

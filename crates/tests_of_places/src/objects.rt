@@ -1,7 +1,9 @@
 // What may be moved to another thread, and which books may be shared between threads.
 use rx_base::{CellGate, Gate, NoGate};
 use rx_book::Book;
-use rx_objects::{LedgerObject, LedgerOp, LedgerReply, PlaceObject, PlaceOp, PlaceReply};
+use rx_objects::{
+    LedgerAndGate, LedgerObject, LedgerOp, LedgerReply, PlaceObject, PlaceOp, PlaceReply,
+};
 
 // Values of the type may be moved to another thread.
 fn may_move<T: Send>() {}
@@ -28,15 +30,15 @@ fn place_calls_move() {
 }
 
 fn place_object_moves<'a, G: Gate + Sync>(_gate: &'a G) {
-    may_move::<PlaceObject<'a, G>>();
+    may_move::<PlaceObject<LedgerAndGate<'a, G>>>();
 }
 
 fn place_book_is_shared<'a, G: Gate + Sync>(_gate: &'a G) {
-    may_share::<Book<PlaceObject<'a, G>>>();
+    may_share::<Book<PlaceObject<LedgerAndGate<'a, G>>>>();
 }
 
 fn place_books_are_shared<'a, G: Gate + Sync>(_gate: &'a G) {
-    may_share::<Vec<Book<PlaceObject<'a, G>>>>();
+    may_share::<Vec<Book<PlaceObject<LedgerAndGate<'a, G>>>>>();
 }
 
 /// The books of a run may be shared between its workers, whatever the gate.

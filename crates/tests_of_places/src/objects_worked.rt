@@ -21,8 +21,8 @@ use rx_counts::CountLedger;
 use rx_history::{Ask, JoinList, KillList, Setup};
 use rx_ledger::{Keeper, Reply, Request};
 use rx_objects::{
-    LedgerObject, LedgerOp, LedgerReply, Mentions, PlaceObject, PlaceOp, PlaceReply, host_may_ask,
-    ledger_op_fits, objects_open, place_op_fits,
+    LedgerAndGate, LedgerObject, LedgerOp, LedgerReply, Mentions, PlaceObject, PlaceOp, PlaceReply,
+    Surroundings, host_may_ask, ledger_op_fits, objects_open, place_op_fits,
 };
 use rx_parts_book::{EntryItem, EventItem};
 use rx_script::read_script;
@@ -167,12 +167,12 @@ fn releases<R: Wait>(
 }
 
 // The first step of the main activity, before the first entry: it makes a block.
-fn makes<R: Abort + Wait>(
+fn makes<S: Surroundings, R: Abort + Wait>(
     rt: &R,
     alloc: Global,
     program: &Program,
     ledger: &Book<LedgerObject>,
-    place: &Book<PlaceObject<'_, NoGate>>,
+    place: &Book<PlaceObject<S>>,
     control: &Control,
     mut pass: Pass<EntryItem>,
     seat: &mut Pass<EventItem>,
@@ -257,7 +257,13 @@ fn open_place<'a>(
     ledger: &'a Book<LedgerObject>,
     pass: &mut Pass<EntryItem>,
     gate: &'a NoGate,
-) -> Result<(Book<PlaceObject<'a, NoGate>>, Pass<EventItem>), NoMemory>
+) -> Result<
+    (
+        Book<PlaceObject<LedgerAndGate<'a, NoGate>>>,
+        Pass<EventItem>,
+    ),
+    NoMemory,
+>
     requires places { (1 ≤ ledger.now.fixed.setup.places) × (ledger.now.fixed.setup.places ≤ 16) }
     requires own { word_of pass.old ≡ ledger.now.word }
     requires fresh { (view_of pass.old).seen ≡ [] }
@@ -273,7 +279,7 @@ fn open_place<'a>(
     }
     let store = Store::open(alloc, HERE, 16)?;
     let note = ledger.note(pass)?;
-    let object = PlaceObject::open(HERE, store, ledger, note, gate);
+    let object = PlaceObject::open(HERE, store, note, LedgerAndGate { ledger, gate });
     match Book::over(alloc, word, object) {
         Ok(both) => Ok(both),
         Err(_) => Err(NoMemory),
@@ -437,11 +443,11 @@ struct PlaceSeen {
     noted: bool,
 }
 
-fn close_place<'a, R: Wait>(
+fn close_place<S: Surroundings, R: Wait>(
     rt: &R,
-    place: Book<PlaceObject<'a, NoGate>>,
+    place: Book<PlaceObject<S>>,
     seat: Pass<EventItem>,
-) -> PlaceObject<'a, NoGate>
+) -> PlaceObject<S>
     requires { word_of seat ≡ place.word }
 {
     match place.close(rt, seat) {

@@ -12,8 +12,8 @@ place-init g c =
     subst (λ (l : List Kept). ClosesFrom g.N.Naming.ledger c.args.stations.items c.args.seats.items c.args.host.now c.args.stations.items c.args.seats.items c.args.host.now l) (sym c.new-stores.ensures.items)
     (none_closed g.N.Naming.ledger c.args.stations.items c.args.seats.items c.args.host.now c.requires.host c.requires.seats.1)
 
-pub close-store-requires-after_bounds : goal.close-store-requires-after_bounds
-close-store-requires-after_bounds g c κs within =
+pub close-store-requires : goal.close-store-requires
+close-store-requires g c =
     let posts : c.place.stations.items ≡ c.pop.new.self.items ++ c.in-Some.station ∷ [] = search rules in
     let passes : c.place.seats.items ≡ c.pop-in-Some.new.self.items ++ c.in-Some-pop.seat ∷ [] = search rules in
     seat_is g.N.Naming.ledger c.args.stations.items c.args.seats.items c.args.host.now c.place.stations.items c.place.seats.items c.place.host c.place.stores.items c.place.invariant c.pop.new.self.items c.in-Some.station posts

@@ -10,7 +10,7 @@ pub note-init : goal.note-init
 note-init g c = (c.requires.seats.0, refl, none_met c.args.notes.items (views_of c.args.seats.now.items))
 
 pub meet_at-requires-clause-inside : goal.meet_at-requires-clause-inside
-meet_at-requires-clause-inside g c κs within =
+meet_at-requires-clause-inside g c =
     let are = c.note.invariant.2 in
     let left : c.note.notes.items ≡ c.pop.new.self.items ++ (c.in-Some.place, c.in-Some.note) ∷ [] = search rules in
     let is = note_at g.N.Naming.ledger.fixed.places c.args.notes.items c.pop.new.self.items are.done (c.in-Some.place, c.in-Some.note) c.requires.notes (are.whole ∙ ap (λ (l : Notes). l ++ are.done) left) in
@@ -20,7 +20,7 @@ meet_at-requires-clause-inside g c κs within =
     let now = c.note.invariant.1 in (omega (arith, there, stations), omega (arith, there, stations, seats, now))
 
 pub meet_at-requires-clause-note : goal.meet_at-requires-clause-note
-meet_at-requires-clause-note g c κs within =
+meet_at-requires-clause-note g c =
     let are = c.note.invariant.2 in
     let left : c.note.notes.items ≡ c.pop.new.self.items ++ (c.in-Some.place, c.in-Some.note) ∷ [] = search rules in
     note_at g.N.Naming.ledger.fixed.places c.args.notes.items c.pop.new.self.items are.done (c.in-Some.place, c.in-Some.note) c.requires.notes (are.whole ∙ ap (λ (l : Notes). l ++ are.done) left)

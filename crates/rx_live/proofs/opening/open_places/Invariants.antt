@@ -1,7 +1,7 @@
 use Rattle.std.proofs.Common.{◌≡◌, length}
 use Rattle.rx_book.specs.Passes.{view_of, word_of}
 use Rattle.rx_live.proofs.Opened.{OpenFrom}
-use Rattle.rx_live.proofs.opening.Places.open.Given as goal
+use Rattle.rx_live.proofs.opening.open_places.Given as goal
 
 abbrev pub invariant-place : goal.invariant-place
 invariant-place g l =

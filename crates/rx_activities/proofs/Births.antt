@@ -25,7 +25,7 @@ use Rattle.rx_history.specs.Setups.{given}
 use Rattle.rx_history.specs.declared.asks.Ask.TheVariants.{At as AskCall, Spawn as AskSpawn}
 use Rattle.rx_control.specs.declared.control.Control.{Control}
 use Rattle.rx_control.specs.Stands.{StandsFor}
-use Rattle.rx_control.specs.Next.{next_of}
+use Rattle.rx_plan.specs.Next.{next_of}
 use Rattle.rx_book.specs.declared.views.View.{View}
 use Rattle.rx_book.specs.Passes.{view_of}
 use Rattle.rx_book.specs.declared.passes.Pass.{Pass}

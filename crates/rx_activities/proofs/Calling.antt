@@ -23,9 +23,9 @@ use Rattle.rx_finish.specs.declared.ledger.Caller.{Caller}
 use Rattle.rx_history.specs.Setups.{given}
 use Rattle.rx_check.specs.Checked.{Checked}
 use Rattle.rx_control.specs.declared.control.Control.{Control}
-use Rattle.rx_control.specs.declared.step.CellOp.{CellOp}
-use Rattle.rx_control.specs.declared.step.Next.TheVariants.{Cell as CellStep}
-use Rattle.rx_control.specs.Next.{next_of}
+use Rattle.rx_plan.specs.declared.step.CellOp.{CellOp}
+use Rattle.rx_plan.specs.declared.step.Next.TheVariants.{Cell as CellStep}
+use Rattle.rx_plan.specs.Next.{next_of}
 use Rattle.rx_control.specs.Stands.{StandsFor}
 use Rattle.rx_stores.specs.Asked.{MayAskStore}
 use Rattle.rx_book.specs.declared.views.Stamped.{Stamped}

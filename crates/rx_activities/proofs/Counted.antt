@@ -12,9 +12,9 @@ use Rattle.rx_rules.specs.Plays.{vars_told}
 use Rattle.rx_rules.specs.Run.{Folds}
 use Rattle.rx_nodes.specs.Shape.{Shape, Stands}
 use Rattle.rx_control.specs.declared.control.Control.{Control}
-use Rattle.rx_control.specs.declared.step.Next.TheVariants.{Book as BookStep}
-use Rattle.rx_control.specs.declared.step.Want.TheVariants.{Census as WantCensus}
-use Rattle.rx_control.specs.Next.{next_of}
+use Rattle.rx_plan.specs.declared.step.Next.TheVariants.{Book as BookStep}
+use Rattle.rx_plan.specs.declared.step.Want.TheVariants.{Census as WantCensus}
+use Rattle.rx_plan.specs.Next.{next_of}
 use Rattle.rx_control.specs.Stands.{StandsFor}
 use Rattle.rx_history.specs.Setups.{given}
 use Rattle.rx_history.specs.declared.asks.Ask.TheVariants.{Census as AskCensus}

@@ -14,7 +14,7 @@ use Rattle.rx_rules.specs.Entries.{place_number}
 use Rattle.rx_rules.specs.Terms.{Term, Does, Opens, Calls, Spawns, Waits, Releases, Prints, does, begins, granted}
 use Rattle.rx_rules.specs.Plays.{Fits, raised_by, vars_told}
 use Rattle.rx_nodes.specs.Shape.{Shape, Stands}
-use Rattle.rx_control.specs.Next.{next_of}
+use Rattle.rx_plan.specs.Next.{next_of}
 use Rattle.rx_finish.specs.declared.ledger.Caller.{Caller}
 use Rattle.rx_finish.specs.declared.ledger.Outcome.{Outcome}
 use Rattle.rx_history.specs.declared.asks.Ask.{Ask}

@@ -10,9 +10,9 @@ use Rattle.rx_rules.specs.Fold.{tree_of}
 use Rattle.rx_rules.specs.Plays.{brought, vars_told}
 use Rattle.rx_nodes.specs.Shape.{Shape, Stands}
 use Rattle.rx_control.specs.declared.control.Control.{Control}
-use Rattle.rx_control.specs.declared.step.Next.{Next}
-use Rattle.rx_control.specs.declared.step.Next.TheVariants.{Book as BookStep, Done as EndStep}
-use Rattle.rx_control.specs.declared.step.Want.TheVariants.{Wait as WantWait}
+use Rattle.rx_plan.specs.declared.step.Next.{Next}
+use Rattle.rx_plan.specs.declared.step.Next.TheVariants.{Book as BookStep, Done as EndStep}
+use Rattle.rx_plan.specs.declared.step.Want.TheVariants.{Wait as WantWait}
 use Rattle.rx_control.specs.Stands.{StandsFor}
 use Rattle.rx_finish.specs.declared.ledger.Caller.{Caller}
 use Rattle.rx_ticket.specs.declared.tickets.AnyTicket.{AnyTicket}

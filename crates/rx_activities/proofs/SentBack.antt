@@ -11,8 +11,8 @@ use Rattle.rx_rules.specs.Plays.{Cells}
 use Rattle.rx_rules.specs.Run.{Given}
 use Rattle.rx_nodes.specs.Shape.{Shape, Stands}
 use Rattle.rx_control.specs.declared.control.Control.{Control}
-use Rattle.rx_control.specs.declared.step.Next.TheVariants.{Book as BookStep}
-use Rattle.rx_control.specs.declared.step.Want.TheVariants.{Release as WantRelease}
+use Rattle.rx_plan.specs.declared.step.Next.TheVariants.{Book as BookStep}
+use Rattle.rx_plan.specs.declared.step.Want.TheVariants.{Release as WantRelease}
 use Rattle.rx_control.specs.Stands.{StandsFor}
 use Rattle.rx_history.specs.Setups.{given}
 use Rattle.rx_history.specs.declared.asks.Ask.{Ask}

@@ -20,9 +20,9 @@ use Rattle.rx_nodes.specs.Shape.{Stands}
 use Rattle.rx_history.specs.Setups.{given}
 use Rattle.std.specs.Global.{Box}
 use Rattle.rx_control.specs.declared.control.Control.{Control}
-use Rattle.rx_control.specs.declared.step.CellOp.{CellOp}
-use Rattle.rx_control.specs.declared.step.Next.TheVariants.{Cell as CellStep}
-use Rattle.rx_control.specs.Next.{next_of}
+use Rattle.rx_plan.specs.declared.step.CellOp.{CellOp}
+use Rattle.rx_plan.specs.declared.step.Next.TheVariants.{Cell as CellStep}
+use Rattle.rx_plan.specs.Next.{next_of}
 use Rattle.rx_control.specs.Stands.{StandsFor}
 use Rattle.rx_store.specs.Kept.{last_stamp}
 use Rattle.rx_book.specs.declared.views.Stamped.{Stamped}

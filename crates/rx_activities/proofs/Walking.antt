@@ -15,9 +15,9 @@ use Rattle.rx_nodes.specs.Shape.{Stands}
 use Rattle.std.specs.Global.{Box}
 use Rattle.rx_control.specs.declared.control.Control.{Control}
 use Rattle.rx_control.specs.Stands.{StandsFor, Leaves}
-use Rattle.rx_control.specs.declared.step.Next.TheVariants.{Local as LocalStep}
-use Rattle.rx_control.specs.Next.{next_of}
-use Rattle.rx_control.proofs.Told.{told_local}
+use Rattle.rx_plan.specs.declared.step.Next.TheVariants.{Local as LocalStep}
+use Rattle.rx_plan.specs.Next.{next_of}
+use Rattle.rx_plan.proofs.Told.{told_local}
 use Rattle.rx_check.specs.Checked.{Checked}
 use Rattle.rx_book.specs.Named.{BookName}
 use Rattle.rx_terms.specs.Held.{is_held}

@@ -2,7 +2,7 @@
 ghost use Rattle.std.specs.Prelude.{◌≡◌, ◌<◌};
 ghost use Rattle.rx_finish.specs.Calls.{landing};
 ghost use Rattle.rx_check.specs.Checked.{Checked};
-ghost use Rattle.rx_control.specs.declared.step.Next.{Next as Step};
+ghost use Rattle.rx_plan.specs.declared.step.Next.{Next as Step};
 ghost use Rattle.rx_activities.specs.Knowing.{PlaceIs, IsNewSeat, Knows};
 ghost use Rattle.rx_activities.specs.Starting.{IsOpening, Begins};
 ghost use Rattle.rx_activities.specs.Turning.{Leaves};

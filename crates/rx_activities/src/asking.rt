@@ -4,7 +4,7 @@ ghost use Rattle.rx_rules.specs.Code.{Block};
 ghost use Rattle.rx_rules.specs.Terms.{Term, does};
 ghost use Rattle.rx_nodes.specs.Shape.{Shape, Stands};
 ghost use Rattle.rx_control.specs.Stands.{StandsFor};
-ghost use Rattle.rx_control.specs.Next.{next_of};
+ghost use Rattle.rx_plan.specs.Next.{next_of};
 ghost use Rattle.rx_book.specs.Passes.{view_of, word_of};
 ghost use Rattle.rx_objects.specs.Laws.{AsksLedger};
 ghost use Rattle.rx_activities.specs.Knowing.{Knows, PlaceIs};

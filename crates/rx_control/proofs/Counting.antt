@@ -12,17 +12,17 @@ use Rattle.rx_nodes.specs.declared.nodes.NameId.{NameId}
 use Rattle.rx_nodes.specs.declared.nodes.Stmt.{Stmt as Node}
 use Rattle.rx_nodes.specs.declared.nodes.Stmt.TheVariants.{Census as CensusNode}
 use Rattle.rx_nodes.specs.Shape.{Shape, StmtIs}
-use Rattle.rx_control.specs.Next.{next_of}
+use Rattle.rx_plan.specs.Next.{next_of}
 use Rattle.rx_control.specs.Levels.{Level, More, seq}
-use Rattle.rx_control.specs.declared.step.Next.TheVariants.{Book}
-use Rattle.rx_control.specs.declared.step.Want.TheVariants.{Census as CensusWanted}
+use Rattle.rx_plan.specs.declared.step.Next.TheVariants.{Book}
+use Rattle.rx_plan.specs.declared.step.Want.TheVariants.{Census as CensusWanted}
 use Rattle.rx_control.specs.declared.frame.Frame.{Frame}
 use Rattle.rx_control.specs.declared.control.Control.{Control}
 use Rattle.rx_control.specs.Stands.{path_of}
 use Rattle.rx_control.specs.Inside.Front.{lifted, levels_opened, AtStatement}
 use Rattle.rx_control.proofs.Front.{next-lifted}
 use Rattle.rx_control.proofs.NextIs.{stmt-does}
-use Rattle.rx_control.proofs.Told.{told_census}
+use Rattle.rx_plan.proofs.Told.{told_census}
 
 -- the name to which a census gives the number of places
 abbrev stmt_counts : Stmt → Option ℕ

@@ -14,7 +14,7 @@ use Rattle.rx_control.specs.Levels.{Level, More, Again, Tried, Inside, Waiting, 
 use Rattle.rx_control.specs.declared.frame.Frame.{Frame}
 use Rattle.rx_control.specs.declared.frame.Frame.TheVariants.{Seq}
 use Rattle.rx_control.specs.Stands.{path_of, FramesStand}
-use Rattle.rx_control.specs.Next.{next_of}
+use Rattle.rx_plan.specs.Next.{next_of}
 use Rattle.rx_control.specs.Inside.Front.{lifted, Awaits}
 use Rattle.rx_control.proofs.Wrapping.{does-wrap}
 use Rattle.rx_control.proofs.Moves.{top-stands, path-snoc}

@@ -1,11 +1,9 @@
-pub mod Plans
 pub mod Wrapping
 pub mod Moves
 pub mod Settling
 pub mod Front
 pub mod Standing
 pub mod NextIs
-pub mod Told
 pub mod Counting
 pub mod Carried
 pub mod Starting
@@ -14,8 +12,6 @@ pub mod Steps
 pub mod Answering
 pub mod Births
 pub mod Bound
-pub mod Kept
 pub mod Raising
-pub mod Requests
 pub mod SomeWords
 pub mod Paths

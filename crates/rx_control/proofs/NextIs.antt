@@ -10,8 +10,8 @@ use Rattle.rx_control.specs.declared.frame.Frame.{Frame}
 use Rattle.rx_control.specs.declared.frame.Frame.TheVariants.{Turns, Try, Body, Held}
 use Rattle.rx_control.specs.declared.control.Control.{Control}
 use Rattle.rx_control.specs.Stands.{path_of, StandsFor, Leaves}
-use Rattle.rx_control.specs.Next.{next_of}
-use Rattle.rx_control.specs.declared.step.Next.TheVariants.{Local as LocalStep}
+use Rattle.rx_plan.specs.Next.{next_of}
+use Rattle.rx_plan.specs.declared.step.Next.TheVariants.{Local as LocalStep}
 use Rattle.rx_control.specs.Inside.Front.{lifted, AtStatement}
 use Rattle.rx_control.proofs.Front.{does-statement, does-turns, does-tried, does-inside, does-waiting, does-raised-tried, does-raised-inside}
 use Rattle.rx_control.proofs.Standing.{AtTop, calm-turns, at-end, at-turns, at-tried, at-inside, at-waiting}

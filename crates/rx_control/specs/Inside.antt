@@ -1,4 +1,2 @@
 -- What contracts of private functions say; a reader of the public contracts needs none of it.
 pub mod Front
-pub mod Plans
-pub mod Kept

@@ -5,9 +5,10 @@ ghost use Rattle.rx_rules.specs.Terms.{Empty, items, stmt_child};
 ghost use Rattle.rx_nodes.specs.Shape.{Shape, StmtIs, BlockStands};
 ghost use Rattle.rx_control.specs.Stands.{StandsFor};
 
+use crate::Control;
 use crate::frame::{enter, settle};
-use crate::{Control, Variables};
 use rx_base::{NoMemory, Path};
+use rx_plan::Variables;
 use rx_script::{BlockId, Script, Stmt};
 use std::alloc::Global;
 

@@ -13,19 +13,17 @@ ghost use Rattle.rx_control.specs.declared.frame.Frame.{Frame};
 ghost use Rattle.rx_control.specs.Stands.{StandsFor, path_of, Leaves, IsSame};
 ghost use Rattle.rx_control.specs.Bound.{StepFalls};
 ghost use Rattle.rx_runs.specs.Steps.{steps};
-ghost use Rattle.rx_control.specs.Next.{next_of, carried};
-ghost use Rattle.rx_control.specs.Inside.Front.{lifted, Awaits};
-ghost use Rattle.rx_control.specs.Inside.Plans.{Due};
+ghost use Rattle.rx_plan.specs.Next.{next_of, carried};
+ghost use Rattle.rx_control.specs.Inside.Front.{lifted, Awaits, Due};
 
 use crate::birth::{born, start};
 use crate::faults::{is_caught, one_fault};
 use crate::frame::{Frame, drop_top, enter, go_on, settle, top, unwind};
 use crate::path::{front_path, is_front_path};
-use crate::plan::{Plan, make_plan, tell};
 use crate::statement::{at_hand, following, learn, open_after, receive, receiver, statement_of};
-use crate::{Next, Variables, Want};
 use rx_base::{Fault, Faults, NoMemory, Path, PlaceId, Value};
 use rx_check::Program;
+use rx_plan::{Next, Plan, Variables, Want, make_plan, tell};
 use rx_script::{BlockId, Script, Stmt};
 use std::alloc::Global;
 

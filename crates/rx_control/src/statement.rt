@@ -9,12 +9,11 @@ ghost use Rattle.rx_control.specs.declared.frame.Frame.{Frame};
 ghost use Rattle.rx_control.specs.declared.control.Control.{Control};
 ghost use Rattle.rx_control.specs.Levels.{Level};
 ghost use Rattle.rx_control.specs.Stands.{StandsFor, FramesStand, path_of};
-ghost use Rattle.rx_control.specs.Inside.Front.{Awaits, SettlesTo, levels_opened};
-ghost use Rattle.rx_control.specs.Inside.Plans.{name_in};
+ghost use Rattle.rx_control.specs.Inside.Front.{Awaits, SettlesTo, levels_opened, name_in};
 
-use crate::Variables;
 use crate::frame::{Frame, enter, settle};
 use rx_base::{NoMemory, Value};
+use rx_plan::Variables;
 use rx_script::{BlockId, NameId, Script, Stmt};
 
 /// The statement at a position of a block.

@@ -31,9 +31,9 @@ use Rattle.rx_runs.proofs.Telling.{tell_once}
 use Rattle.rx_store.specs.Kept.{Kept}
 use Rattle.rx_store.specs.declared.calls.Mark.{Mark}
 use Rattle.rx_nodes.specs.Shape.{Shape}
-use Rattle.rx_control.specs.declared.step.CellOp.{CellOp}
-use Rattle.rx_control.specs.declared.step.Next.TheVariants.{Cell as CellStep}
-use Rattle.rx_control.specs.Next.{next_of}
+use Rattle.rx_plan.specs.declared.step.CellOp.{CellOp}
+use Rattle.rx_plan.specs.declared.step.Next.TheVariants.{Cell as CellStep}
+use Rattle.rx_plan.specs.Next.{next_of}
 use Rattle.rx_machine.specs.declared.machine.Machine.{Machine}
 use Rattle.rx_machine.specs.declared.seat.Seat.{Seat}
 use Rattle.rx_stores.specs.Kepts.{StoresAre}

@@ -18,12 +18,12 @@ use Rattle.rx_runs.specs.Steps.{steps, Sinks, TermSinks}
 use Rattle.rx_runs.specs.Left.{FewLeft, GoingSinks}
 use Rattle.rx_history.specs.Setups.{given, to_join}
 use Rattle.rx_nodes.specs.Shape.{Shape}
-use Rattle.rx_control.specs.declared.step.Next.TheVariants.{Local as LocalStep, Book, Done as Ended}
-use Rattle.rx_control.specs.declared.step.Want.{Want}
-use Rattle.rx_control.specs.declared.step.Next.{Next}
-use Rattle.rx_control.specs.Next.{next_of}
+use Rattle.rx_plan.specs.declared.step.Next.TheVariants.{Local as LocalStep, Book, Done as Ended}
+use Rattle.rx_plan.specs.declared.step.Want.{Want}
+use Rattle.rx_plan.specs.declared.step.Next.{Next}
+use Rattle.rx_plan.specs.Next.{next_of}
 use Rattle.rx_control.specs.Stands.{StandsFor, Leaves}
-use Rattle.rx_control.proofs.Told.{told_local}
+use Rattle.rx_plan.proofs.Told.{told_local}
 use Rattle.rx_machine.specs.declared.machine.Machine.{Machine}
 use Rattle.rx_machine.specs.declared.seat.Seat.{Seat}
 use Rattle.rx_terms.specs.Held.{is_held}

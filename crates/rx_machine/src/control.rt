@@ -4,10 +4,10 @@ ghost use Rattle.rx_base.specs.declared.ids.PlaceId.{PlaceId};
 ghost use Rattle.rx_rules.specs.Terms.{Term, does, begins, granted, answered, answer_of, vars_after, receives};
 ghost use Rattle.rx_rules.specs.Plays.{vars_told};
 ghost use Rattle.rx_rules.specs.declared.entries.Act.{Act};
-ghost use Rattle.rx_control.specs.declared.step.Next.{Next};
-ghost use Rattle.rx_control.specs.declared.step.Want.{Want};
+ghost use Rattle.rx_plan.specs.declared.step.Next.{Next};
+ghost use Rattle.rx_plan.specs.declared.step.Want.{Want};
 ghost use Rattle.rx_control.specs.Stands.{StandsFor, Leaves};
-ghost use Rattle.rx_control.specs.Next.{next_of};
+ghost use Rattle.rx_plan.specs.Next.{next_of};
 
 use rx_base::{Fault, NoMemory, PlaceId, Value};
 use rx_check::Program;

@@ -4,7 +4,7 @@ ghost use Rattle.rx_base.specs.declared.ids.PlaceId.{PlaceId};
 ghost use Rattle.rx_base.specs.declared.values.Fault.{Fault};
 ghost use Rattle.rx_rules.specs.Terms.{Term, Empty, Waits, does, begins, granted, replaced};
 ghost use Rattle.rx_nodes.specs.Shape.{Shape};
-ghost use Rattle.rx_control.specs.Next.{carried};
+ghost use Rattle.rx_plan.specs.Next.{carried};
 ghost use Rattle.rx_finish.specs.declared.ledger.LedgerFault.{LedgerFault};
 ghost use Rattle.rx_control.specs.Stands.{StandsFor};
 ghost use Rattle.rx_machine.specs.Inside.Acts.{HasClosed};

@@ -3,9 +3,9 @@ ghost use Rattle.std.specs.Prelude.{◌≡◌, ℕ, List, [], ◌∷◌, ◌++�
 ghost use Rattle.rx_rules.specs.Terms.{Term, does, begins};
 ghost use Rattle.rx_rules.specs.Plays.{begun};
 ghost use Rattle.rx_rules.specs.Picked.{Player};
-ghost use Rattle.rx_control.specs.declared.step.Next.TheVariants.{Cell};
+ghost use Rattle.rx_plan.specs.declared.step.Next.TheVariants.{Cell};
 ghost use Rattle.rx_control.specs.Stands.{StandsFor, Leaves};
-ghost use Rattle.rx_control.specs.Next.{next_of};
+ghost use Rattle.rx_plan.specs.Next.{next_of};
 ghost use Rattle.rx_machine.specs.Holds.{Acting};
 ghost use Rattle.rx_machine.specs.Refusals.{HasTold};
 ghost use Rattle.rx_machine.specs.Inside.Requests.{IsRequest, OnlyStores, AfterStep};

@@ -9,9 +9,9 @@ use Rattle.rx_rules.specs.Fold.{tree_of}
 use Rattle.rx_rules.specs.Run.{Given, Folds}
 use Rattle.rx_rules.specs.Plays.{Cells, cell_of}
 use Rattle.std.specs.List.{filter_map}
-use Rattle.rx_control.specs.declared.step.Next.TheVariants.{Cell as CellStep, Book as BookStep}
-use Rattle.rx_control.specs.declared.step.Want.TheVariants.{Open as WantOpen}
-use Rattle.rx_control.specs.Next.{next_of}
+use Rattle.rx_plan.specs.declared.step.Next.TheVariants.{Cell as CellStep, Book as BookStep}
+use Rattle.rx_plan.specs.declared.step.Want.TheVariants.{Open as WantOpen}
+use Rattle.rx_plan.specs.Next.{next_of}
 use Rattle.rx_history.specs.Setups.{given}
 use Rattle.rx_history.specs.declared.asks.Ask.TheVariants.{Open as AskOpen}
 use Rattle.rx_finish.specs.declared.ledger.Caller.{Caller}

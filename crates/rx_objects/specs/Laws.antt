@@ -12,8 +12,8 @@ use Rattle.rx_ticket.specs.declared.tickets.AnyTicket.{AnyTicket}
 use Rattle.rx_ticket.specs.declared.tickets.AnyTicket.TheVariants.{Host}
 use Rattle.rx_history.specs.declared.asks.Ask.TheVariants.{Root as AskRoot}
 use Rattle.rx_nodes.specs.Shape.{Stands}
-use Rattle.rx_control.specs.declared.step.Next.TheVariants.{Cell as CellStep}
-use Rattle.rx_control.specs.Next.{next_of}
+use Rattle.rx_plan.specs.declared.step.Next.TheVariants.{Cell as CellStep}
+use Rattle.rx_plan.specs.Next.{next_of}
 use Rattle.rx_history.specs.Setups.{given}
 use Rattle.rx_stores.specs.Asked.{MayAskStore}
 use Rattle.rx_book.specs.declared.views.Stamped.{Stamped}

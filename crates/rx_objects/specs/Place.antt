@@ -11,8 +11,8 @@ use Rattle.rx_rules.specs.declared.events.PlaceEvent.TheVariants.{Done as Did, C
 use Rattle.rx_rules.specs.Code.{Block}
 use Rattle.rx_rules.specs.Terms.{Does}
 use Rattle.rx_nodes.specs.Shape.{Stands}
-use Rattle.rx_control.specs.declared.step.Next.TheVariants.{Cell as CellStep}
-use Rattle.rx_control.specs.Next.{next_of}
+use Rattle.rx_plan.specs.declared.step.Next.TheVariants.{Cell as CellStep}
+use Rattle.rx_plan.specs.Next.{next_of}
 use Rattle.rx_history.specs.Setups.{given}
 use Rattle.rx_store.specs.Kept.{Kept, ends_closed, last_stamp}
 use Rattle.rx_stores.specs.Asked.{CallIsTold, MayAskStore}

@@ -28,9 +28,9 @@ use Rattle.rx_sound.specs.Sound.{ReachedSound}
 use Rattle.rx_runs.specs.Games.{fresh}
 use Rattle.rx_runs.proofs.Told.{IsNext}
 use Rattle.rx_nodes.specs.Shape.{Shape}
-use Rattle.rx_control.specs.declared.step.Want.{Want}
-use Rattle.rx_control.specs.declared.step.Next.TheVariants.{Book}
-use Rattle.rx_control.specs.Next.{next_of}
+use Rattle.rx_plan.specs.declared.step.Want.{Want}
+use Rattle.rx_plan.specs.declared.step.Next.TheVariants.{Book}
+use Rattle.rx_plan.specs.Next.{next_of}
 use Rattle.rx_verdict.specs.Events.{after}
 use Rattle.rx_verdict.specs.Makes.{cells_of}
 use Rattle.rx_verdict.specs.Marks.{home_of, low_of}

@@ -24,7 +24,7 @@ use Rattle.rx_rules.specs.Terms.{Term, Vars, Done, does}
 use Rattle.rx_sound.specs.Histories.{FoldReached}
 use Rattle.rx_runs.specs.Games.{fresh}
 use Rattle.rx_nodes.specs.Shape.{Shape}
-use Rattle.rx_control.specs.Next.{carried}
+use Rattle.rx_plan.specs.Next.{carried}
 use Rattle.rx_control.specs.Stands.{StandsFor}
 use Rattle.rx_verdict.specs.Makes.{cells_of}
 use Rattle.rx_verdict.specs.Marks.{home_of, low_of}

@@ -22,10 +22,10 @@ use Rattle.rx_nodes.specs.Shape.{Shape}
 use Rattle.rx_control.specs.declared.control.Control.{Control}
 use Rattle.rx_control.specs.Stands.{StandsFor}
 use Rattle.rx_verdict.specs.Walks.{next_does}
-use Rattle.rx_control.specs.declared.step.Want.{Want}
-use Rattle.rx_control.specs.declared.step.Want.TheVariants as want
-use Rattle.rx_control.specs.declared.step.Next.TheVariants.{Book}
-use Rattle.rx_control.specs.Next.{next_of, carried}
+use Rattle.rx_plan.specs.declared.step.Want.{Want}
+use Rattle.rx_plan.specs.declared.step.Want.TheVariants as want
+use Rattle.rx_plan.specs.declared.step.Next.TheVariants.{Book}
+use Rattle.rx_plan.specs.Next.{next_of, carried}
 use Rattle.rx_players.specs.declared.players.Slot.{Slot}
 use Rattle.rx_players.specs.declared.players.Slot.TheVariants.{Here}
 use Rattle.rx_players.specs.declared.seat.Seat.{Seat}

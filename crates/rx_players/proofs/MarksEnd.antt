@@ -19,10 +19,10 @@ use Rattle.rx_rules.specs.Run.{Given}
 use Rattle.rx_rules.specs.Terms.{Term, Vars, Does, Local, Makes, Gets, Puts, Forgets, Opens, Calls, Spawns, Waits, Releases, Prints, Counts, Done}
 use Rattle.rx_runs.specs.AnyAnswers.{AsksStore}
 use Rattle.rx_nodes.specs.Shape.{Shape}
-use Rattle.rx_control.specs.declared.step.CellOp.{CellOp}
-use Rattle.rx_control.specs.declared.step.Want.{Want}
-use Rattle.rx_control.specs.declared.step.Next.TheVariants.{Cell as CellStep, Book, Done as Ended}
-use Rattle.rx_control.specs.Next.{next_of}
+use Rattle.rx_plan.specs.declared.step.CellOp.{CellOp}
+use Rattle.rx_plan.specs.declared.step.Want.{Want}
+use Rattle.rx_plan.specs.declared.step.Next.TheVariants.{Cell as CellStep, Book, Done as Ended}
+use Rattle.rx_plan.specs.Next.{next_of}
 use Rattle.rx_verdict.specs.Makes.{Between}
 use Rattle.rx_verdict.specs.Marks.{home_of, StandsAt, WholePass, IsStuck, AwayEvent}
 use Rattle.rx_verdict.specs.Seats as pass

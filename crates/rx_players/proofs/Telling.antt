@@ -12,8 +12,8 @@ use Rattle.rx_rules.specs.declared.events.Cell.{Cell}
 use Rattle.rx_rules.specs.declared.events.Cell.TheVariants.{Make, MakeFull, Get, Put, Forget, GetRefused, PutRefused, ForgetStale}
 use Rattle.rx_rules.specs.Terms.{Local, Makes as Creates, Gets as Reading, Puts as Writing, Forgets as Freeing, Opens, Calls as Asks, Spawns, Waits, Releases, Prints, Counts, Done, Answer, Gives, Fine, Fails}
 use Rattle.rx_rules.specs.Plays.{Tells}
-use Rattle.rx_control.specs.declared.step.CellOp.{CellOp}
-use Rattle.rx_control.specs.declared.step.CellOp.TheVariants.{Make as Makes, Get as Gets, Put as Puts, Forget as Forgets}
+use Rattle.rx_plan.specs.declared.step.CellOp.{CellOp}
+use Rattle.rx_plan.specs.declared.step.CellOp.TheVariants.{Make as Makes, Get as Gets, Put as Puts, Forget as Forgets}
 use Rattle.rx_players.specs.Answers.{same_ref, answers, AnswersTells}
 
 both_true : (a b : Bool) → a ≡ true → b ≡ true → (a && b) ≡ true

@@ -19,12 +19,12 @@ use Rattle.rx_runs.specs.Steps.{steps, Sinks, TermSinks}
 use Rattle.rx_runs.specs.Knowing.{LocalKnowing}
 use Rattle.rx_history.specs.Events.{Events, AllEvents, events_of}
 use Rattle.rx_nodes.specs.Shape.{Shape}
-use Rattle.rx_control.specs.declared.step.CellOp.{CellOp}
-use Rattle.rx_control.specs.declared.step.Next.{Next}
-use Rattle.rx_control.specs.declared.step.Next.TheVariants.{Local as LocalStep, Cell as Calls}
-use Rattle.rx_control.specs.Next.{next_of}
+use Rattle.rx_plan.specs.declared.step.CellOp.{CellOp}
+use Rattle.rx_plan.specs.declared.step.Next.{Next}
+use Rattle.rx_plan.specs.declared.step.Next.TheVariants.{Local as LocalStep, Cell as Calls}
+use Rattle.rx_plan.specs.Next.{next_of}
 use Rattle.rx_control.specs.Stands.{StandsFor, Leaves}
-use Rattle.rx_control.proofs.Told.{told_local}
+use Rattle.rx_plan.proofs.Told.{told_local}
 use Rattle.rx_stores.specs.Asked.{Receives, CallIsTold}
 use Rattle.rx_verdict.proofs.Walking.{walks_on}
 use Rattle.rx_verdict.specs.Walks.{Walks, stays, local, stores, next_does, Halts}

@@ -7,10 +7,10 @@ use Rattle.rx_rules.specs.declared.events.Cell.{Cell}
 use Rattle.rx_rules.specs.declared.events.Cell.TheVariants.{Make, MakeFull, Get, Put, Forget, GetRefused, PutRefused, ForgetStale}
 use Rattle.rx_rules.specs.Terms.{Does, Answer}
 use Rattle.rx_rules.specs.Plays.{Tells}
-use Rattle.rx_control.specs.declared.step.CellOp.{CellOp}
-use Rattle.rx_control.specs.declared.step.CellOp.TheVariants.{Make as Makes, Get as Gets, Put as Puts, Forget as Forgets}
-use Rattle.rx_control.specs.declared.step.Next.TheVariants.{Cell as Calls}
-use Rattle.rx_control.specs.Next.{next_of}
+use Rattle.rx_plan.specs.declared.step.CellOp.{CellOp}
+use Rattle.rx_plan.specs.declared.step.CellOp.TheVariants.{Make as Makes, Get as Gets, Put as Puts, Forget as Forgets}
+use Rattle.rx_plan.specs.declared.step.Next.TheVariants.{Cell as Calls}
+use Rattle.rx_plan.specs.Next.{next_of}
 
 -- two references with the same parts
 abbrev pub same_ref : GlobalRef → GlobalRef → Bool

@@ -6,9 +6,9 @@ use Rattle.rx_rules.specs.Picked.{Player}
 use Rattle.rx_rules.specs.Plays.{Cells, cell_of, journal_at}
 use Rattle.rx_runs.specs.Steps.{steps}
 use Rattle.rx_nodes.specs.Shape.{Shape}
-use Rattle.rx_control.specs.declared.step.CellOp.{CellOp}
-use Rattle.rx_control.specs.declared.step.Next.TheVariants.{Cell, Book, Done}
-use Rattle.rx_control.specs.Next.{next_of}
+use Rattle.rx_plan.specs.declared.step.CellOp.{CellOp}
+use Rattle.rx_plan.specs.declared.step.Next.TheVariants.{Cell, Book, Done}
+use Rattle.rx_plan.specs.Next.{next_of}
 use Rattle.rx_control.specs.Stands.{StandsFor}
 use Rattle.rx_verdict.specs.Walks.{Walks, next_does, Halts}
 use Rattle.rx_players.specs.Events.{IsFirst}

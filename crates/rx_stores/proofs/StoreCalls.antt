@@ -31,10 +31,10 @@ use Rattle.rx_runs.specs.Events.{FewEvents, GoingTells}
 use Rattle.rx_runs.specs.SomeWords.{MakesSome, TermMakesSome, AsksSome, ComesSome, GoesSome}
 use Rattle.rx_runs.proofs.Pairs.{pairs-get}
 use Rattle.rx_runs.proofs.Rows.{row-found}
-use Rattle.rx_control.specs.declared.step.CellOp.{CellOp}
-use Rattle.rx_control.specs.declared.step.CellOp.TheVariants.{Make, Get as GetWord, Put as PutWord, Forget as ForgetBlock}
-use Rattle.rx_control.specs.declared.step.Next.TheVariants.{Cell as CellStep}
-use Rattle.rx_control.specs.Next.{next_of}
+use Rattle.rx_plan.specs.declared.step.CellOp.{CellOp}
+use Rattle.rx_plan.specs.declared.step.CellOp.TheVariants.{Make, Get as GetWord, Put as PutWord, Forget as ForgetBlock}
+use Rattle.rx_plan.specs.declared.step.Next.TheVariants.{Cell as CellStep}
+use Rattle.rx_plan.specs.Next.{next_of}
 use Rattle.rx_control.specs.Stands.{StandsFor}
 use Rattle.rx_stores.specs.Kepts.{StoresAre}
 use Rattle.rx_stores.specs.Asked.{MayAskStore, Receives, Asked}

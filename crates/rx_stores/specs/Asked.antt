@@ -11,10 +11,10 @@ use Rattle.rx_rules.specs.Plays.{Tells}
 use Rattle.rx_store.specs.Kept.{Kept, state_of}
 use Rattle.rx_store.specs.Answers.{event_told}
 use Rattle.rx_store.specs.declared.calls.Mark.{Mark}
-use Rattle.rx_control.specs.declared.step.CellOp.{CellOp}
-use Rattle.rx_control.specs.declared.step.CellOp.TheVariants.{Make, Get, Put, Forget}
-use Rattle.rx_control.specs.declared.step.Next.TheVariants.{Cell as CellStep}
-use Rattle.rx_control.specs.Next.{next_of}
+use Rattle.rx_plan.specs.declared.step.CellOp.{CellOp}
+use Rattle.rx_plan.specs.declared.step.CellOp.TheVariants.{Make, Get, Put, Forget}
+use Rattle.rx_plan.specs.declared.step.Next.TheVariants.{Cell as CellStep}
+use Rattle.rx_plan.specs.Next.{next_of}
 
 -- a store of this place may be asked so
 abbrev pub MayAskStore : PlaceId → CellOp → Type 0

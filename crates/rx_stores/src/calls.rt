@@ -1,7 +1,7 @@
 // How a store is called, and what a control is told of its answer.
 ghost use Rattle.std.specs.Prelude.{◌≡◌, ◌<◌, ◌^◌, Option, Result, IfOk, OnErr, false, length};
 ghost use Rattle.rx_store.specs.Kept.{ends_closed};
-ghost use Rattle.rx_control.specs.declared.step.CellOp.TheVariants.{Make, Get, Put, Forget};
+ghost use Rattle.rx_plan.specs.declared.step.CellOp.TheVariants.{Make, Get, Put, Forget};
 ghost use Rattle.rx_stores.specs.Asked.{Asked, MayAskStore};
 
 use rx_base::{Fault, GlobalRef, NoMemory, Value};

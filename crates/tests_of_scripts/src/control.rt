@@ -2,7 +2,7 @@
 // may be moved between threads.
 ghost use Rattle.std.specs.Prelude.{◌≡◌, IfOk, OnOk};
 ghost use Rattle.rx_rules.specs.Terms.{Term, does};
-ghost use Rattle.rx_control.specs.Next.{next_of};
+ghost use Rattle.rx_plan.specs.Next.{next_of};
 ghost use Rattle.rx_control.specs.Stands.{StandsFor};
 
 use rx_base::Fault::{HeapFull, NoPlace, Overflow, Stale, Thrown, WrongPlace};

@@ -8,11 +8,11 @@ use Rattle.rx_rules.specs.Terms.{Empty, begins, child, does, granted, replaced}
 use Rattle.rx_rules.specs.Plays.{vars_told}
 use Rattle.rx_nodes.specs.Shape.{Shape}
 use Rattle.rx_control.specs.declared.control.Control.{Control}
-use Rattle.rx_control.specs.declared.step.Next.{Next}
-use Rattle.rx_control.specs.declared.step.Next.TheVariants.{Local as LocalStep, Cell as CellStep, Book as BookStep, Done as EndStep}
-use Rattle.rx_control.specs.declared.step.Want.TheVariants.{At as WantAt, Spawn as WantSpawn, Open, Wait, Release, Print, Census}
+use Rattle.rx_plan.specs.declared.step.Next.{Next}
+use Rattle.rx_plan.specs.declared.step.Next.TheVariants.{Local as LocalStep, Cell as CellStep, Book as BookStep, Done as EndStep}
+use Rattle.rx_plan.specs.declared.step.Want.TheVariants.{At as WantAt, Spawn as WantSpawn, Open, Wait, Release, Print, Census}
 use Rattle.rx_control.specs.Stands.{StandsFor}
-use Rattle.rx_control.specs.Next.{next_of}
+use Rattle.rx_plan.specs.Next.{next_of}
 use Rattle.rx_history.specs.declared.asks.Ask.{Ask}
 use Rattle.rx_history.specs.declared.asks.Ask.TheVariants.{Open as AskOpen, At as AskCall, Spawn as AskSpawn, Arrive as AskArrive}
 use Rattle.rx_history.specs.declared.asks.Ask.TheVariants.{Wait as AskWait, Release as AskRelease, End as AskEnd}

@@ -1,16 +1,19 @@
 -- What stands at the front of a control: cited by its inner functions alone.
-use Rattle.std.specs.Prelude.{◌≡◌, ℕ, List, [], ◌∷◌, ◌++◌, drop, Option, Some, None, option_to_list, slice_get, Bool, true, false}
+use Rattle.std.specs.Prelude.{◌≡◌, ℕ, suc, List, [], ◌∷◌, ◌++◌, drop, Option, Some, None, option_to_list, slice_get, Bool, true, false}
 use Rattle.rx_base.specs.declared.values.Fault.{Fault}
 use Rattle.rx_rules.specs.Code.{Block, Nothing, Then, Stmt, SetTo, New, Get, Put, Forget, Census, Print, Throw, Async, AtAsync, At}
 use Rattle.rx_rules.specs.Code.{Finish, If, Repeat, Try}
-use Rattle.rx_rules.specs.Terms.{Term, Does, within}
+use Rattle.rx_rules.specs.Terms.{Term, Does, at, within}
 use Rattle.rx_nodes.specs.Shape.{Shape, ListStands}
 use Rattle.rx_nodes.specs.declared.nodes.StmtId.{StmtId}
 use Rattle.rx_nodes.specs.declared.nodes.BlockId.{BlockId}
+use Rattle.rx_nodes.specs.declared.nodes.NameId.{NameId}
+use Rattle.rx_plan.specs.declared.plan.Plan.{Plan}
+use Rattle.rx_plan.specs.Plans.{IsPlan}
 use Rattle.rx_control.specs.declared.frame.Frame.{Frame}
 use Rattle.rx_control.specs.declared.frame.Frame.TheVariants.{Seq}
 use Rattle.rx_control.specs.declared.control.Control.{Control}
-use Rattle.rx_control.specs.Levels.{Level, More, Again, Tried, Inside, Waiting, Settled, term_of, wrap}
+use Rattle.rx_control.specs.Levels.{Level, More, Again, Tried, Inside, Waiting, Settled, seq, term_of, wrap}
 use Rattle.rx_control.specs.Stands.{path_of, FramesStand}
 
 -- a step of an inner term, seen from outside
@@ -76,3 +79,16 @@ pub record AtStatement (s : Shape) (c : Control) (t : Term) (below : List Frame)
   pub rest : FramesStand s c.base below others
   pub calm : c.raised ≡ None
   pub is : t ≡ term_of None (More (Then stmt more) (path_of c.base below ++ option_to_list part) next ∷ others)
+
+-- what the statement at the front of a control does, by a plan
+pub record Due (s : Shape) (c : Control) (t : Term) (below : List Frame) (block : BlockId) (next : ℕ) (part : Option ℕ)
+    (plan : Plan) : Type 0 where
+  pub front : AtStatement s c t below block next part
+  pub act : Does
+  pub is : IsPlan s plan c.vars (at (path_of c.base below ++ option_to_list part) next)
+      (seq (More front.more (path_of c.base below ++ option_to_list part) (suc next) ∷ front.others)) act
+
+-- the number of a name
+abbrev pub name_in : Option NameId → Option ℕ
+name_in (Some name) = Some name.0
+name_in None = None

@@ -8,8 +8,8 @@ use Rattle.rx_rules.specs.Run.{Given}
 use Rattle.rx_rules.specs.Picked.{Game, Player}
 use Rattle.rx_runs.specs.Steps.{steps}
 use Rattle.rx_nodes.specs.Shape.{Shape}
-use Rattle.rx_control.specs.declared.step.Next.{Next}
-use Rattle.rx_control.specs.Next.{next_of}
+use Rattle.rx_plan.specs.declared.step.Next.{Next}
+use Rattle.rx_plan.specs.Next.{next_of}
 use Rattle.rx_machine.specs.declared.machine.Machine.{Machine}
 use Rattle.rx_machine.specs.declared.seat.Seat.{Seat}
 use Rattle.rx_machine.specs.Holds.{Acting}

@@ -14,11 +14,11 @@ use Rattle.rx_rules.specs.Terms.{Term, Does, does, begins, child, granted}
 use Rattle.rx_runs.specs.Steps.{steps}
 use Rattle.rx_nodes.specs.Shape.{Shape}
 use Rattle.rx_control.specs.declared.control.Control.{Control}
-use Rattle.rx_control.specs.declared.step.Want.{Want}
-use Rattle.rx_control.specs.declared.step.Want.TheVariants.{Open as WantOpen, At as WantAt, Spawn as WantSpawn, Wait as WantWait}
-use Rattle.rx_control.specs.declared.step.Want.TheVariants.{Release as WantRelease, Print as WantPrint, Census as WantCensus}
-use Rattle.rx_control.specs.declared.step.Next.TheVariants.{Book}
-use Rattle.rx_control.specs.Next.{next_of, carried}
+use Rattle.rx_plan.specs.declared.step.Want.{Want}
+use Rattle.rx_plan.specs.declared.step.Want.TheVariants.{Open as WantOpen, At as WantAt, Spawn as WantSpawn, Wait as WantWait}
+use Rattle.rx_plan.specs.declared.step.Want.TheVariants.{Release as WantRelease, Print as WantPrint, Census as WantCensus}
+use Rattle.rx_plan.specs.declared.step.Next.TheVariants.{Book}
+use Rattle.rx_plan.specs.Next.{next_of, carried}
 use Rattle.rx_control.specs.Stands.{StandsFor}
 use Rattle.rx_verdict.specs.Walks.{next_does}
 use Rattle.rx_players.specs.declared.players.Slot.{Slot}

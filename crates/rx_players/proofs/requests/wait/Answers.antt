@@ -1,7 +1,7 @@
 use Rattle.std.proofs.Common.{[], ◌∙◌, sym, ap}
 use Rattle.std.proofs.lemmas.Bool.{true≢false}
 use Rattle.rx_rules.specs.Terms.{Empty, replaced}
-use Rattle.rx_control.specs.Next.{carried}
+use Rattle.rx_plan.specs.Next.{carried}
 use Rattle.rx_players.proofs.AdmitRequests.{granted_none, granted_wait}
 use Rattle.rx_players.proofs.requests.wait.Goals as goal
 

@@ -2,9 +2,9 @@ use Rattle.std.proofs.Common.{◌≡◌, ◌≤◌, [], ap, sym, ◌∙◌, subs
 use Rattle.rx_rules.specs.Terms.{Term, Empty, items, no_vars, does, Vars}
 use Rattle.rx_nodes.specs.Shape.{Stands}
 use Rattle.rx_check.specs.Checked.{Checked}
-use Rattle.rx_control.specs.declared.step.CellOp.TheVariants.{Make}
-use Rattle.rx_control.specs.declared.step.Next.TheVariants.{Cell as CellStep}
-use Rattle.rx_control.specs.Next.{next_of}
+use Rattle.rx_plan.specs.declared.step.CellOp.TheVariants.{Make}
+use Rattle.rx_plan.specs.declared.step.Next.TheVariants.{Cell as CellStep}
+use Rattle.rx_plan.specs.Next.{next_of}
 use Rattle.rx_book.specs.Named.{BookName}
 use Rattle.rx_book.specs.Passes.{view_of}
 use Rattle.rx_objects.specs.declared.ledger.LedgerFixed.{LedgerFixed}

@@ -1,7 +1,7 @@
 use Rattle.std.proofs.Common.{subst}
 use Rattle.rx_rules.specs.Terms.{Does, does}
 use Rattle.rx_control.specs.Stands.{Leaves}
-use Rattle.rx_control.proofs.Told.{told_local}
+use Rattle.rx_plan.proofs.Told.{told_local}
 use Rattle.tests_of_scripts.proofs.control.local_step.Goals as goal
 
 pub returns : goal.returns

@@ -1,5 +1,5 @@
 use Rattle.rx_rules.specs.Terms.{does}
-use Rattle.rx_control.proofs.Told.{told_wait}
+use Rattle.rx_plan.proofs.Told.{told_wait}
 use Rattle.tests_of_scripts.proofs.control.waits.Goals as goal
 
 pub ledger_grants-requires : goal.ledger_grants-requires

@@ -4,7 +4,7 @@ use Rattle.rx_rules.specs.Terms.{Term, Vars, does, begins}
 use Rattle.rx_nodes.specs.Shape.{Shape, Stands}
 use Rattle.rx_check.specs.Checked.{Checked}
 use Rattle.rx_control.specs.declared.control.Control.{Control}
-use Rattle.rx_control.specs.Next.{next_of}
+use Rattle.rx_plan.specs.Next.{next_of}
 use Rattle.rx_control.specs.Stands.{StandsFor}
 use Rattle.rx_book.specs.declared.views.View.{View}
 use Rattle.rx_parts_book.specs.declared.items.EntryItem.{EntryItem}

@@ -7,10 +7,10 @@ use Rattle.rx_rules.specs.Code.{Then}
 use Rattle.rx_rules.specs.Terms.{Empty, Raise as RaiseTerm, Turns as TurnsTerm, Trying, bound, items, at, raise}
 use Rattle.rx_control.specs.Levels.{More, Again, Tried, seq, wrap}
 use Rattle.rx_control.specs.declared.frame.Frame.TheVariants.{Seq, Try}
-use Rattle.rx_control.specs.declared.plan.Plan.{Plan}
+use Rattle.rx_plan.specs.declared.plan.Plan.{Plan}
 use Rattle.rx_control.specs.declared.control.Control.{Control}
 use Rattle.rx_control.specs.Stands.{path_of}
-use Rattle.rx_control.specs.Inside.Plans.{IsPlan}
+use Rattle.rx_plan.specs.Plans.{IsPlan}
 use Rattle.rx_control.proofs.Steps.{went, entered, looped, tried, same-path, path-try, done-leaves, settled-turns, whole-stands}
 use Rattle.rx_control.proofs.control.Control.carry_out.Goals as goal
 

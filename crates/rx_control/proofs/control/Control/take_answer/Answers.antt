@@ -9,7 +9,7 @@ use Rattle.rx_control.specs.Levels.{More, term_of}
 use Rattle.rx_control.specs.declared.frame.Frame.TheVariants.{Seq}
 use Rattle.rx_control.specs.declared.control.Control.{Control}
 use Rattle.rx_control.specs.Stands.{path_of, StandsFor}
-use Rattle.rx_control.specs.Inside.Plans.{name_in}
+use Rattle.rx_control.specs.Inside.Front.{name_in}
 use Rattle.rx_control.proofs.Standing.{at-statement, settled-stands}
 use Rattle.rx_control.proofs.Steps.{went, whole-stands}
 use Rattle.rx_control.proofs.Carried.{statement-begin}

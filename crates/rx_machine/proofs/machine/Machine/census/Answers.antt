@@ -6,7 +6,7 @@ use Rattle.rx_rules.specs.Picked.{tree_in}
 use Rattle.rx_finish.specs.declared.ledger.Caller.{Caller}
 use Rattle.rx_finish.specs.Callers.{MayAsk, IsMoving}
 use Rattle.rx_finish.specs.Calls.{blow_of}
-use Rattle.rx_control.specs.Next.{next_of}
+use Rattle.rx_plan.specs.Next.{next_of}
 use Rattle.rx_history.specs.Setups.{to_join}
 use Rattle.rx_machine.proofs.Acted.{closed}
 use Rattle.rx_machine.proofs.Asking.{seat_asks, seat_unstruck, moving}

@@ -9,7 +9,7 @@ use Rattle.rx_rules.specs.Picked.{tree_in}
 use Rattle.rx_finish.specs.declared.ledger.Caller.{Caller}
 use Rattle.rx_finish.specs.Callers.{MayAskEnd}
 use Rattle.rx_finish.specs.Calls.{blow_of}
-use Rattle.rx_control.specs.Next.{carried}
+use Rattle.rx_plan.specs.Next.{carried}
 use Rattle.rx_history.specs.Setups.{to_join}
 use Rattle.rx_machine.proofs.Asking.{seat_unstruck}
 use Rattle.rx_machine.proofs.Ended.{end-asks, end-refused, ended}

@@ -1,6 +1,6 @@
 use Rattle.std.proofs.Common.{◌≤◌, ◌+◌, Option, subst, arith}
 use Rattle.rx_runs.specs.Steps.{steps}
-use Rattle.rx_control.specs.declared.step.Next.{Next}
+use Rattle.rx_plan.specs.declared.step.Next.{Next}
 use Rattle.rx_machine.specs.Inside.Requests.{AfterStep}
 use Rattle.rx_machine.proofs.Stepping.{same, same-twice, few-now}
 use Rattle.rx_machine.proofs.Requested.{any_err}

@@ -10,7 +10,7 @@ use Rattle.rx_finish.specs.declared.ledger.Caller.{Caller}
 use Rattle.rx_finish.specs.Callers.{MayAskWait}
 use Rattle.rx_finish.specs.Calls.{blow_of}
 use Rattle.rx_control.specs.Stands.{StandsFor}
-use Rattle.rx_control.specs.Next.{carried}
+use Rattle.rx_plan.specs.Next.{carried}
 use Rattle.rx_history.specs.Setups.{to_join}
 use Rattle.rx_machine.proofs.Acted.{Went, closed}
 use Rattle.rx_machine.proofs.Asking.{seat_unstruck}

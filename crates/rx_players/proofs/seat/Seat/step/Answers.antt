@@ -1,10 +1,10 @@
 use Rattle.std.proofs.Common.{◌≡◌, Bool, sym, subst}
 use Rattle.rx_base.specs.declared.ids.PlaceId.{PlaceId}
-use Rattle.rx_control.specs.Next.{next_of}
+use Rattle.rx_plan.specs.Next.{next_of}
 use Rattle.rx_verdict.specs.Walks.{next_does, Halts}
 use Rattle.rx_players.specs.Inside.Steps.{AfterCall}
 use Rattle.rx_history.specs.Events.{events_of}
-use Rattle.rx_control.specs.declared.step.Next.TheVariants.{Local, Cell}
+use Rattle.rx_plan.specs.declared.step.Next.TheVariants.{Local, Cell}
 use Rattle.rx_players.proofs.Walking.{no_walk, told_next, walked_local}
 use Rattle.rx_players.proofs.seat.Seat.step.Goals as goal
 

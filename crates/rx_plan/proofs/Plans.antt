@@ -11,12 +11,12 @@ use Rattle.rx_nodes.specs.declared.nodes.BlockId.{BlockId}
 use Rattle.rx_nodes.specs.declared.nodes.NameId.{NameId}
 use Rattle.rx_nodes.specs.declared.nodes.Stmt.TheVariants.{Set as SetNode, Get as GetNode, Put as PutNode, Throw as ThrowNode, If as IfNode, Repeat as RepeatNode, Try as TryNode}
 use Rattle.rx_nodes.specs.Shape.{Shape, StmtIs, ExprStands}
-use Rattle.rx_control.specs.declared.plan.Plan.{Plan}
-use Rattle.rx_control.specs.declared.plan.Plan.TheVariants.{Assign, Raise, Choose, Loop, Attempt, Ask}
-use Rattle.rx_control.specs.declared.step.Next.{Next}
-use Rattle.rx_control.specs.declared.step.Next.TheVariants.{Local as LocalStep}
-use Rattle.rx_control.specs.Next.{next_of}
-use Rattle.rx_control.specs.Inside.Plans.{Plans, IsPlan}
+use Rattle.rx_plan.specs.declared.plan.Plan.{Plan}
+use Rattle.rx_plan.specs.declared.plan.Plan.TheVariants.{Assign, Raise, Choose, Loop, Attempt, Ask}
+use Rattle.rx_plan.specs.declared.step.Next.{Next}
+use Rattle.rx_plan.specs.declared.step.Next.TheVariants.{Local as LocalStep}
+use Rattle.rx_plan.specs.Next.{next_of}
+use Rattle.rx_plan.specs.Plans.{Plans, IsPlan}
 
 -- an expression has the value z
 abbrev pub HasValue : Shape → Vars → ℕ → ExprId → Option ℤ → Type 0

@@ -1,11 +1,11 @@
--- What a control tells of its next step.
+-- What is told of a next step.
 use Rattle.std.specs.Prelude.{List, Option, Some, None}
 use Rattle.rx_base.specs.declared.values.Fault.{Fault}
 use Rattle.rx_rules.specs.Terms.{Does, Local, Makes, Gets, Puts, Forgets, Opens, Calls, Spawns, Waits, Releases, Prints, Counts, Done}
-use Rattle.rx_control.specs.declared.step.CellOp.TheVariants.{Make, Get, Put, Forget}
-use Rattle.rx_control.specs.declared.step.Want.TheVariants.{Open, At, Spawn, Wait, Release, Print, Census}
-use Rattle.rx_control.specs.declared.step.Next.{Next}
-use Rattle.rx_control.specs.declared.step.Next.TheVariants.{Local as LocalStep, Cell, Book, Done as Ended}
+use Rattle.rx_plan.specs.declared.step.CellOp.TheVariants.{Make, Get, Put, Forget}
+use Rattle.rx_plan.specs.declared.step.Want.TheVariants.{Open, At, Spawn, Wait, Release, Print, Census}
+use Rattle.rx_plan.specs.declared.step.Next.{Next}
+use Rattle.rx_plan.specs.declared.step.Next.TheVariants.{Local as LocalStep, Cell, Book, Done as Ended}
 
 -- the next step, told of what a term does
 abbrev pub next_of : Does → Next

@@ -1,7 +1,7 @@
 // What one activity knows: its variables and the number of places.
 ghost use Rattle.std.specs.Prelude.{◌≡◌, ◌<◌, Some, IfOk, OnOk, OnErr, length, slice_set};
 ghost use Rattle.rx_rules.specs.Terms.{no_vars, bound, value_of};
-ghost use Rattle.rx_control.specs.Inside.Kept.{padded, IsShort};
+ghost use Rattle.rx_plan.specs.Inside.Kept.{padded, IsShort};
 
 use rx_base::{NoMemory, Value};
 use rx_script::NameId;
@@ -18,7 +18,7 @@ pub struct Variables {
 
 impl Model for Variables {
     ghost use Rattle.rx_rules.specs.Terms.{Vars};
-    ghost use Rattle.rx_control.specs.Inside.Kept.{padded, IsShort};
+    ghost use Rattle.rx_plan.specs.Inside.Kept.{padded, IsShort};
 
     ghost Value = { Vars };
 

@@ -1,5 +1,5 @@
-use Rattle.rx_control.proofs.Plans.{set-local, throw-local, if-local, repeat-local, try-local}
-use Rattle.rx_control.proofs.plan.is_local.Goals as goal
+use Rattle.rx_plan.proofs.Plans.{set-local, throw-local, if-local, repeat-local, try-local}
+use Rattle.rx_plan.proofs.plan.is_local.Goals as goal
 
 pub returns-in-Set : goal.returns-in-Set
 returns-in-Set c y s t vars here x rest h = set-local s _ _ t vars here x rest (rw c.in-Set.is at h)

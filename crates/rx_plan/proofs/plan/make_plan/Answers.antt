@@ -1,7 +1,7 @@
 use Rattle.std.proofs.Common.{◌∙◌, ap}
 use Rattle.rx_rules.specs.Terms.{ref_in}
-use Rattle.rx_control.proofs.Plans.{set-plan, get-plan, put-plan}
-use Rattle.rx_control.proofs.plan.make_plan.Goals as goal
+use Rattle.rx_plan.proofs.Plans.{set-plan, get-plan, put-plan}
+use Rattle.rx_plan.proofs.plan.make_plan.Goals as goal
 
 pub returns-in-Set : goal.returns-in-Set
 returns-in-Set c t h = set-plan _ _ _ _ _ _ _ t (rw c.in-Set.is at h) c.evaluate.ensures (c.plan_set.ensures _ _)

@@ -3,7 +3,7 @@ use Rattle.std.proofs.Common.{◌≡◌, ℕ, ◌+◌, ◌-◌, ◌<◌, ◌≤�
 use Rattle.std.specs.Prelude.{slice_set}
 use Rattle.std.proofs.lemmas.List.{take_all, length-set, length-replicate, set-append_left, replicate-append-replicate}
 use Rattle.rx_base.specs.declared.values.Value.{Value}
-use Rattle.rx_control.specs.Inside.Kept.{padded}
+use Rattle.rx_plan.specs.Inside.Kept.{padded}
 
 -- a slot that is there
 pub set-kept : (xs : List (Option Value)) (i : ℕ) (v : Option Value) → i < length xs → padded (slice_set xs i v) ≡ slice_set (padded xs) i v

@@ -1,9 +1,9 @@
 use Rattle.std.proofs.Common.{◌≡◌, ◌<◌, ◌≤◌, ◌+◌, length, ap, ◌∙◌, arith, rules, Some}
 use Rattle.std.specs.Prelude.{vec_len, slice_set}
-use Rattle.rx_control.specs.Inside.Kept.{padded}
-use Rattle.rx_control.proofs.Kept.{set-kept, more-kept}
-use Rattle.rx_control.proofs.variables.write.Goals.{then-len-i+in_ok-resize, else-len-i}
-use Rattle.rx_control.proofs.variables.write.Goals as goal
+use Rattle.rx_plan.specs.Inside.Kept.{padded}
+use Rattle.rx_plan.proofs.Kept.{set-kept, more-kept}
+use Rattle.rx_plan.proofs.variables.write.Goals.{then-len-i+in_ok-resize, else-len-i}
+use Rattle.rx_plan.proofs.variables.write.Goals as goal
 
 pub returns-clause-ok : goal.returns-clause-ok
 returns-clause-ok c =

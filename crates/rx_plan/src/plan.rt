@@ -7,8 +7,9 @@ ghost use Rattle.rx_rules.specs.Code.{Stmt as Tree, Block};
 ghost use Rattle.rx_rules.specs.Terms.{Vars, Term, Does, Local, Gets, Puts, Forgets, Prints, Spawns, Calls, bound, raise, ref_in};
 ghost use Rattle.rx_rules.specs.Terms.{target_of, with_number, with_place, is_zero, items, at, stmt_does};
 ghost use Rattle.rx_nodes.specs.Shape.{Shape, StmtIs, BlockStands};
-ghost use Rattle.rx_control.specs.Next.{next_of};
-ghost use Rattle.rx_control.specs.Inside.Plans.{Plans, IsPlan, place_in};
+ghost use Rattle.rx_plan.specs.Next.{next_of};
+ghost use Rattle.rx_plan.specs.Plans.{Plans, IsPlan};
+ghost use Rattle.rx_plan.specs.Inside.Places.{place_in};
 
 use crate::eval::evaluate;
 use crate::{CellOp, Next, Variables, Want};
@@ -17,7 +18,7 @@ use rx_script::{BlockId, ExprId, NameId, Script, Stmt};
 
 /// What a statement does, once its expressions have values.
 #[derive(Clone, Copy, Debug, PartialEq, Eq)]
-pub(crate) enum Plan {
+pub enum Plan {
     /// A name gets a value.
     Assign {
         name: NameId,
@@ -45,8 +46,8 @@ pub(crate) enum Plan {
     Ask(Next),
 }
 
-/// What a statement does. Where it raises before it asks, it asks nothing.
-pub(crate) fn make_plan(script: &Script, stmt: Stmt, vars: &Variables, here: PlaceId) -> Plan
+/// What a statement does, at a place. Where it raises before it asks, it asks nothing. It takes no memory.
+pub fn make_plan(script: &Script, stmt: Stmt, vars: &Variables, here: PlaceId) -> Plan
     requires { (t : Tree) × StmtIs script.now stmt t }
     ensures { (t : Tree) → StmtIs script.now stmt t → Plans script.now result vars.now here.0 t }
 {
@@ -257,8 +258,9 @@ fn choose(z: Option<i64>, first: BlockId, other: BlockId) -> Plan
     }
 }
 
-/// What a statement tells of the next step. Where it can only be local, its expressions are not evaluated.
-pub(crate) fn tell(script: &Script, stmt: Stmt, vars: &Variables, here: PlaceId) -> Next
+/// The next step of a task whose next statement this is, at a place. Where it can only be local, the statement's expressions are
+/// not evaluated. It takes no memory.
+pub fn tell(script: &Script, stmt: Stmt, vars: &Variables, here: PlaceId) -> Next
     requires { (t : Tree) × StmtIs script.now stmt t }
     ensures { (t : Tree) (x : List ℕ) (rest : Term) → StmtIs script.now stmt t
         → next_of (stmt_does vars.now here.0 t x rest) ≡ result }

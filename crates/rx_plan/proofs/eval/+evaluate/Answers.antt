@@ -5,7 +5,7 @@ use Rattle.rx_rules.specs.Terms.{eval, both, number_in}
 use Rattle.rx_nodes.specs.Shape.{op_of}
 use Rattle.rx_script.proofs.Growing.{stands-within}
 use Rattle.rx_check.proofs.Exprs.{part-is}
-use Rattle.rx_control.proofs.eval.+evaluate.Goals as goal
+use Rattle.rx_plan.proofs.eval.+evaluate.Goals as goal
 
 pub expr-requires : goal.expr-requires
 expr-requires t c = stands-within _ _ _ c.requires.1

@@ -1,4 +1,4 @@
-// What a control asks for.
+// What a statement asks for, and what else is a next step.
 use rx_base::{GlobalRef, PlaceId};
 
 /// A call of the store of the task's place.
@@ -34,13 +34,13 @@ pub enum Want {
     At { to: PlaceId },
     /// Start a task for a place.
     Spawn { to: PlaceId },
-    /// Wait at the innermost scope. `Control::take_faults` has the faults of its body.
+    /// Wait at the innermost scope. `Control::take_faults` of rx_control has the faults of its body.
     Wait,
     /// Release the innermost scope.
     Release,
     /// Print a value.
     Print { value: i64 },
-    /// Tell the number of places. `Control::census_done` takes the answer.
+    /// Tell the number of places. `Control::census_done` of rx_control takes the answer.
     Census,
 }
 
@@ -53,6 +53,6 @@ pub enum Next {
     Cell(CellOp),
     /// A request to the ledger.
     Book(Want),
-    /// The task ends. `Control::take_faults` has the faults with which it does.
+    /// The task ends. `Control::take_faults` of rx_control has the faults with which it does.
     Done,
 }

@@ -1,0 +1,3 @@
+-- What contracts of private functions say; a reader of the public contracts needs none of it.
+pub mod Kept
+pub mod Places

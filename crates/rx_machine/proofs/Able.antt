@@ -10,9 +10,10 @@ use Rattle.rx_sound.specs.Owning.{WaiterOwns}
 use Rattle.rx_finish.specs.Callers.{MayAskRelease, WaitsInside, HasNumbers}
 use Rattle.rx_finish.specs.Calls.{is_ready, blow_of}
 use Rattle.rx_nodes.specs.Shape.{Shape}
-use Rattle.rx_machine.specs.declared.seat.Seat.{Seat}
-use Rattle.rx_machine.specs.Inside.Callers.{caller}
-use Rattle.rx_machine.specs.Slots.{IsSeat, SlotIs, seat_at, seat_in}
+use Rattle.rx_seats.specs.declared.seat.Seat.{Seat}
+use Rattle.rx_seats.specs.Callers.{caller}
+use Rattle.rx_seats.specs.Slots.{seat_at, seat_in}
+use Rattle.rx_machine.specs.Slots.{IsSeat, SlotIs}
 use Rattle.rx_machine.proofs.Live.{live_stands, live_number}
 use Rattle.rx_machine.proofs.Asking.{id_of, seat_asks, seat_unstruck, seat_inner}
 

@@ -25,8 +25,9 @@ use Rattle.rx_history.specs.Setups.{given, to_join}
 use Rattle.rx_store.specs.Kept.{Kept}
 use Rattle.rx_nodes.specs.Shape.{Shape}
 use Rattle.rx_machine.specs.declared.machine.Machine.{Machine}
-use Rattle.rx_machine.specs.declared.seat.Seat.{Seat}
-use Rattle.rx_machine.specs.Slots.{live_task, SlotIs, IsSeat, seat_at, seat_in}
+use Rattle.rx_seats.specs.declared.seat.Seat.{Seat}
+use Rattle.rx_seats.specs.Slots.{seat_at, seat_in}
+use Rattle.rx_machine.specs.Slots.{live_task, SlotIs, IsSeat}
 use Rattle.rx_stores.specs.Kepts.{StoresAre}
 use Rattle.rx_machine.specs.Holds.{Shares, Seated, HoldsBut, IsPick, HasGone, LeadsTo}
 use Rattle.rx_machine.specs.Inside.Acts.{HasClosed}

@@ -14,8 +14,8 @@ use Rattle.rx_rules.specs.Picked.{Player}
 use Rattle.rx_finish.specs.Callers.{MayAsk, HasNumbers, IsMoving}
 use Rattle.rx_finish.specs.Calls.{blow_of}
 use Rattle.rx_nodes.specs.Shape.{Shape}
-use Rattle.rx_machine.specs.declared.seat.Seat.{Seat}
-use Rattle.rx_machine.specs.Inside.Callers.{caller, first_scope}
+use Rattle.rx_seats.specs.declared.seat.Seat.{Seat}
+use Rattle.rx_seats.specs.Callers.{caller, first_scope}
 use Rattle.rx_machine.specs.Slots.{IsSeat}
 use Rattle.rx_terms.specs.Held.{is_held}
 use Rattle.rx_machine.proofs.Live.{live_stands, live_number}

@@ -17,8 +17,8 @@ use Rattle.rx_history.specs.Logs.{Log}
 use Rattle.rx_history.specs.Setups.{given}
 use Rattle.rx_nodes.specs.Shape.{Shape}
 use Rattle.rx_machine.specs.declared.machine.Machine.{Machine}
-use Rattle.rx_machine.specs.declared.seat.Seat.{Seat}
-use Rattle.rx_machine.specs.Slots.{seat_at}
+use Rattle.rx_seats.specs.declared.seat.Seat.{Seat}
+use Rattle.rx_seats.specs.Slots.{seat_at}
 use Rattle.rx_machine.specs.Holds.{Seated, Holds, CanTurn, Releasing}
 use Rattle.rx_machine.specs.Runs.{Calm, Falling, Taken}
 use Rattle.rx_machine.specs.Picking.{IsReady}

@@ -32,10 +32,11 @@ use Rattle.rx_nodes.specs.Shape.{Shape}
 use Rattle.rx_control.specs.declared.control.Control.{Control}
 use Rattle.rx_control.specs.Stands.{StandsFor}
 use Rattle.rx_machine.specs.declared.machine.Machine.{Machine}
-use Rattle.rx_machine.specs.declared.seat.Seat.{Seat}
+use Rattle.rx_seats.specs.declared.seat.Seat.{Seat}
 use Rattle.rx_terms.specs.Held.{is_held, HeldInFront}
 use Rattle.rx_terms.specs.Spine.{Spine}
-use Rattle.rx_machine.specs.Slots.{live_task, if_unstruck, own_scopes, own_kinds, SlotIs, IsSeat, seat_at, seat_in}
+use Rattle.rx_seats.specs.Slots.{seat_at, seat_in}
+use Rattle.rx_machine.specs.Slots.{live_task, if_unstruck, own_scopes, own_kinds, SlotIs, IsSeat}
 use Rattle.rx_stores.specs.Kepts.{StoresAre}
 use Rattle.rx_history.specs.Setups.{to_join}
 use Rattle.rx_machine.specs.Holds.{Seated, HoldsBut, IsPick, HasGone, LeadsTo}

@@ -37,7 +37,7 @@ use Rattle.rx_plan.specs.declared.step.Next.TheVariants.{Cell as CellStep}
 use Rattle.rx_plan.specs.Next.{next_of}
 use Rattle.rx_control.specs.Stands.{StandsFor}
 use Rattle.rx_machine.specs.declared.machine.Machine.{Machine}
-use Rattle.rx_machine.specs.declared.seat.Seat.{Seat}
+use Rattle.rx_seats.specs.declared.seat.Seat.{Seat}
 use Rattle.rx_terms.specs.Held.{is_held, HeldInFront}
 use Rattle.rx_machine.specs.Slots.{IsSeat, live_task, own_kinds}
 use Rattle.rx_stores.specs.Kepts.{StoresAre}

@@ -29,8 +29,9 @@ use Rattle.rx_history.specs.Setups.{given, to_join}
 use Rattle.rx_store.specs.Kept.{Kept, ends_closed, last_stamp}
 use Rattle.rx_nodes.specs.Shape.{Shape}
 use Rattle.rx_machine.specs.declared.machine.Machine.{Machine}
-use Rattle.rx_machine.specs.declared.seat.Seat.{Seat}
-use Rattle.rx_machine.specs.Slots.{live_task, SlotIs, seat_at, seat_in, left_by}
+use Rattle.rx_seats.specs.declared.seat.Seat.{Seat}
+use Rattle.rx_seats.specs.Slots.{seat_at, seat_in}
+use Rattle.rx_machine.specs.Slots.{live_task, SlotIs, left_by}
 use Rattle.rx_stores.specs.Kepts.{StoresAre}
 use Rattle.rx_machine.specs.Runs.{Falling, HasFallen}
 use Rattle.rx_machine.proofs.Finding.{same_or_not}

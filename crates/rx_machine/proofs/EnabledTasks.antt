@@ -10,8 +10,9 @@ use Rattle.rx_rules.specs.Tree.{Tree, is_task, task_of, quiet, inner}
 use Rattle.rx_rules.specs.Picked.{is_enabled, enabled, Player}
 use Rattle.rx_sound.specs.Sound.{TasksFall}
 use Rattle.rx_nodes.specs.Shape.{Shape}
-use Rattle.rx_machine.specs.declared.seat.Seat.{Seat}
-use Rattle.rx_machine.specs.Slots.{live_task, live_in, SlotIs, seat_at}
+use Rattle.rx_seats.specs.declared.seat.Seat.{Seat}
+use Rattle.rx_seats.specs.Slots.{seat_at}
+use Rattle.rx_machine.specs.Slots.{live_task, live_in, SlotIs}
 use Rattle.rx_machine.specs.Picking.{slot_able}
 use Rattle.rx_machine.proofs.Live.{live_stands, none_above}
 

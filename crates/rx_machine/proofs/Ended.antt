@@ -28,9 +28,10 @@ use Rattle.rx_history.specs.Setups.{given, to_join}
 use Rattle.rx_store.specs.Kept.{Kept}
 use Rattle.rx_nodes.specs.Shape.{Shape}
 use Rattle.rx_machine.specs.declared.machine.Machine.{Machine}
-use Rattle.rx_machine.specs.declared.seat.Seat.{Seat}
-use Rattle.rx_machine.specs.Inside.Callers.{caller}
-use Rattle.rx_machine.specs.Slots.{IsSeat, SlotIs, live_task, own_kinds, seat_at}
+use Rattle.rx_seats.specs.declared.seat.Seat.{Seat}
+use Rattle.rx_seats.specs.Callers.{caller}
+use Rattle.rx_seats.specs.Slots.{seat_at}
+use Rattle.rx_machine.specs.Slots.{IsSeat, SlotIs, live_task, own_kinds}
 use Rattle.rx_terms.specs.Held.{is_held}
 use Rattle.rx_stores.specs.Kepts.{StoresAre}
 use Rattle.rx_machine.specs.Holds.{Seated, Acting, LeadsTo}

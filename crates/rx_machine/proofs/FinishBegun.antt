@@ -24,7 +24,7 @@ use Rattle.rx_nodes.specs.Shape.{Shape}
 use Rattle.rx_control.specs.Stands.{StandsFor}
 use Rattle.rx_history.specs.Setups.{to_join}
 use Rattle.rx_machine.specs.declared.machine.Machine.{Machine}
-use Rattle.rx_machine.specs.declared.seat.Seat.{Seat}
+use Rattle.rx_seats.specs.declared.seat.Seat.{Seat}
 use Rattle.rx_machine.specs.Slots.{own_scopes, own_kinds}
 use Rattle.rx_terms.specs.Held.{is_held}
 use Rattle.rx_terms.specs.Spine.{Spine}

@@ -12,9 +12,10 @@ use Rattle.rx_history.specs.Setups.{given}
 use Rattle.rx_nodes.specs.Shape.{Shape}
 use Rattle.rx_control.specs.Stands.{StandsFor}
 use Rattle.rx_machine.specs.declared.machine.Machine.{Machine}
-use Rattle.rx_machine.specs.declared.seat.Seat.{Seat}
+use Rattle.rx_seats.specs.declared.seat.Seat.{Seat}
 use Rattle.rx_terms.specs.Held.{is_held, HeldInFront}
-use Rattle.rx_machine.specs.Slots.{SlotIs, seat_at, live_in, root_row}
+use Rattle.rx_seats.specs.Slots.{seat_at}
+use Rattle.rx_machine.specs.Slots.{SlotIs, live_in, root_row}
 use Rattle.rx_sound.specs.Enabling.{able_in}
 use Rattle.rx_machine.specs.Picking.{IsReady}
 use Rattle.rx_origins.specs.Origins.{TellsOrigins}

@@ -35,7 +35,7 @@ use Rattle.rx_plan.specs.declared.step.CellOp.{CellOp}
 use Rattle.rx_plan.specs.declared.step.Next.TheVariants.{Cell as CellStep}
 use Rattle.rx_plan.specs.Next.{next_of}
 use Rattle.rx_machine.specs.declared.machine.Machine.{Machine}
-use Rattle.rx_machine.specs.declared.seat.Seat.{Seat}
+use Rattle.rx_seats.specs.declared.seat.Seat.{Seat}
 use Rattle.rx_stores.specs.Kepts.{StoresAre}
 use Rattle.rx_machine.specs.Holds.{Seated, Acting}
 use Rattle.rx_machine.specs.Refusals.{BeginEach, HasBegun, HasTold}

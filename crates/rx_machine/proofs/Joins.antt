@@ -17,7 +17,8 @@ use Rattle.rx_finish.specs.Callers.{MayJoin}
 use Rattle.rx_history.specs.Setups.{given, to_join}
 use Rattle.rx_nodes.specs.Shape.{Shape}
 use Rattle.rx_machine.specs.declared.machine.Machine.{Machine}
-use Rattle.rx_machine.specs.Slots.{SlotIs, seat_at}
+use Rattle.rx_seats.specs.Slots.{seat_at}
+use Rattle.rx_machine.specs.Slots.{SlotIs}
 use Rattle.rx_machine.specs.Picking.{IsReady}
 use Rattle.rx_origins.specs.Origins.{TellsOrigins}
 use Rattle.rx_stores.specs.Kepts.{StoresAre}

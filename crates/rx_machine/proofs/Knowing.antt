@@ -12,7 +12,7 @@ use Rattle.rx_runs.specs.Coming.{GamesCome}
 use Rattle.rx_runs.specs.Knowing.{ComesKnowing, GoesKnowing}
 use Rattle.rx_nodes.specs.Shape.{Shape}
 use Rattle.rx_machine.specs.declared.machine.Machine.{Machine}
-use Rattle.rx_machine.specs.declared.seat.Seat.{Seat}
+use Rattle.rx_seats.specs.declared.seat.Seat.{Seat}
 use Rattle.rx_machine.specs.Holds.{Acting}
 
 -- it knows of no place that is not there

@@ -30,8 +30,9 @@ use Rattle.rx_runs.proofs.Planned.{due_planned}
 use Rattle.rx_machine.specs.declared.machine.Machine.{Machine}
 use Rattle.rx_machine.specs.declared.enabled.Ready.{Ready}
 use Rattle.rx_origins.specs.declared.origin.Origin.{Origin}
-use Rattle.rx_machine.specs.declared.seat.Seat.{Seat}
-use Rattle.rx_machine.specs.Slots.{live_task, SlotIs, seat_at}
+use Rattle.rx_seats.specs.declared.seat.Seat.{Seat}
+use Rattle.rx_seats.specs.Slots.{seat_at}
+use Rattle.rx_machine.specs.Slots.{live_task, SlotIs}
 use Rattle.rx_machine.specs.Picking.{slot_able, is_listed, IsReady}
 use Rattle.rx_origins.specs.Origins.{TellsOrigins, origin_in, origin_by}
 use Rattle.rx_machine.specs.Holds.{Seated, Holds, CanTurn}

@@ -24,8 +24,9 @@ use Rattle.rx_sound.proofs.Changes.{each_more, each_found, each_change, each_fil
 use Rattle.rx_sound.proofs.Reach.{task_below}
 use Rattle.rx_nodes.specs.Shape.{Shape}
 use Rattle.rx_origins.specs.declared.origin.Origin.{Origin}
-use Rattle.rx_machine.specs.declared.seat.Seat.{Seat}
-use Rattle.rx_machine.specs.Slots.{live_task, live_in, SlotIs, seat_at, seat_in}
+use Rattle.rx_seats.specs.declared.seat.Seat.{Seat}
+use Rattle.rx_seats.specs.Slots.{seat_at, seat_in}
+use Rattle.rx_machine.specs.Slots.{live_task, live_in, SlotIs}
 use Rattle.rx_origins.specs.Origins.{OriginIsTold, TellsOrigins, origin_in}
 use Rattle.rx_machine.proofs.Finding.{get_before}
 use Rattle.rx_machine.proofs.Live.{live_stands, stands_live, change-same, add-other, release-live}

@@ -12,7 +12,7 @@ use Rattle.rx_rules.specs.Tree.{Tree, task_of, opened_by}
 use Rattle.rx_rules.specs.Entries.{change_first, change_scope, opened, after_end}
 use Rattle.rx_rules.specs.Picked.{Player}
 use Rattle.rx_nodes.specs.Shape.{Shape}
-use Rattle.rx_machine.specs.declared.seat.Seat.{Seat}
+use Rattle.rx_seats.specs.declared.seat.Seat.{Seat}
 use Rattle.rx_machine.specs.Slots.{live_task, own_scopes, own_kinds, SlotIs}
 use Rattle.rx_terms.specs.Spine.{Spine}
 use Rattle.rx_machine.proofs.Live.{without_task}

@@ -10,8 +10,9 @@ use Rattle.rx_sound.specs.Sound.{Sound}
 use Rattle.rx_sound.specs.Enabling.{able, able_in}
 use Rattle.rx_sound.proofs.Reach.{task_below}
 use Rattle.rx_nodes.specs.Shape.{Shape}
-use Rattle.rx_machine.specs.declared.seat.Seat.{Seat}
-use Rattle.rx_machine.specs.Slots.{live_in, SlotIs, seat_at}
+use Rattle.rx_seats.specs.declared.seat.Seat.{Seat}
+use Rattle.rx_seats.specs.Slots.{seat_at}
+use Rattle.rx_machine.specs.Slots.{live_in, SlotIs}
 use Rattle.rx_machine.specs.Picking.{slot_able, is_listed, IsReady}
 use Rattle.rx_machine.proofs.Live.{live_stands}
 use Rattle.rx_machine.proofs.EnabledTasks.{able_from}

@@ -20,8 +20,9 @@ use Rattle.rx_runs.proofs.Pairs.{pairs-get, journal_got, set_same}
 use Rattle.rx_history.specs.Setups.{given, to_join}
 use Rattle.rx_nodes.specs.Shape.{Shape}
 use Rattle.rx_machine.specs.declared.machine.Machine.{Machine}
-use Rattle.rx_machine.specs.declared.seat.Seat.{Seat}
-use Rattle.rx_machine.specs.Slots.{IsSeat, SlotIs, seat_at, seat_in}
+use Rattle.rx_seats.specs.declared.seat.Seat.{Seat}
+use Rattle.rx_seats.specs.Slots.{seat_at, seat_in}
+use Rattle.rx_machine.specs.Slots.{IsSeat, SlotIs}
 use Rattle.rx_stores.specs.Kepts.{StoresAre}
 use Rattle.rx_machine.specs.Holds.{Seated, HoldsBut, IsPick, Acting, Landing}
 use Rattle.rx_machine.specs.Runs.{Taken}

@@ -30,8 +30,8 @@ use Rattle.rx_finish.specs.declared.ledger.LedgerFault.TheVariants.{NotYet, Lost
 use Rattle.rx_finish.specs.Calls.{SpawnReply, CallReply, blow_of}
 use Rattle.rx_history.specs.Setups.{to_join}
 use Rattle.rx_machine.specs.declared.machine.Machine.{Machine}
-use Rattle.rx_machine.specs.declared.seat.Seat.{Seat}
-use Rattle.rx_machine.specs.Inside.Callers.{caller}
+use Rattle.rx_seats.specs.declared.seat.Seat.{Seat}
+use Rattle.rx_seats.specs.Callers.{caller}
 use Rattle.rx_machine.specs.Slots.{live_task, if_unstruck, own_scopes, own_kinds}
 use Rattle.rx_terms.specs.Spine.{Spine}
 use Rattle.rx_terms.specs.Held.{is_held}

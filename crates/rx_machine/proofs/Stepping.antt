@@ -25,7 +25,7 @@ use Rattle.rx_plan.specs.Next.{next_of}
 use Rattle.rx_control.specs.Stands.{StandsFor, Leaves}
 use Rattle.rx_plan.proofs.Told.{told_local}
 use Rattle.rx_machine.specs.declared.machine.Machine.{Machine}
-use Rattle.rx_machine.specs.declared.seat.Seat.{Seat}
+use Rattle.rx_seats.specs.declared.seat.Seat.{Seat}
 use Rattle.rx_terms.specs.Held.{is_held}
 use Rattle.rx_machine.specs.Slots.{IsSeat, own_kinds}
 use Rattle.rx_stores.specs.Kepts.{StoresAre}

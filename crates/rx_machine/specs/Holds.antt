@@ -17,8 +17,9 @@ use Rattle.rx_stores.specs.Kepts.{StoresAre}
 use Rattle.rx_nodes.specs.Shape.{Shape}
 use Rattle.rx_finish.specs.Callers.{HasNumbers, HasRoot}
 use Rattle.rx_machine.specs.declared.machine.Machine.{Machine}
-use Rattle.rx_machine.specs.declared.seat.Seat.{Seat}
-use Rattle.rx_machine.specs.Slots.{SlotIs, IsSeat, seat_at}
+use Rattle.rx_seats.specs.declared.seat.Seat.{Seat}
+use Rattle.rx_seats.specs.Slots.{seat_at}
+use Rattle.rx_machine.specs.Slots.{SlotIs, IsSeat}
 use Rattle.rx_machine.specs.Picking.{IsReady}
 use Rattle.rx_origins.specs.Origins.{TellsOrigins}
 

@@ -1,5 +1,4 @@
 -- What contracts of private functions say; a reader of the public contracts needs none of it.
-pub mod Callers
 pub mod Requests
 pub mod Games
 pub mod Acts

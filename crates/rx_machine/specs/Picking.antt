@@ -5,7 +5,7 @@ use Rattle.rx_rules.specs.Tree.{Tree}
 use Rattle.rx_rules.specs.Picked.{is_enabled}
 use Rattle.rx_sound.specs.Enabling.{able}
 use Rattle.rx_rank.specs.Numbers.{Ascends}
-use Rattle.rx_machine.specs.declared.seat.Seat.{Seat}
+use Rattle.rx_seats.specs.declared.seat.Seat.{Seat}
 
 -- the task of a slot is enabled
 abbrev pub slot_able : Tree → Option Seat → Bool

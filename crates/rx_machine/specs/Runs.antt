@@ -14,8 +14,8 @@ use Rattle.rx_history.specs.Events.{AllEvents, events_of}
 use Rattle.rx_history.specs.Setups.{given, to_join}
 use Rattle.rx_nodes.specs.Shape.{Shape}
 use Rattle.rx_machine.specs.declared.machine.Machine.{Machine}
-use Rattle.rx_machine.specs.declared.seat.Seat.{Seat}
-use Rattle.rx_machine.specs.Slots.{seat_at}
+use Rattle.rx_seats.specs.declared.seat.Seat.{Seat}
+use Rattle.rx_seats.specs.Slots.{seat_at}
 use Rattle.rx_machine.specs.Picking.{IsReady}
 use Rattle.rx_origins.specs.Origins.{TellsOrigins}
 use Rattle.rx_machine.specs.Holds.{Seated, Holds, Finished, CanTurn, LeadsTo}

@@ -10,7 +10,7 @@ use Rattle.rx_rules.specs.Entries.{is_hit}
 use Rattle.rx_rules.specs.Picked.{Player}
 use Rattle.rx_nodes.specs.Shape.{Shape}
 use Rattle.rx_control.specs.Stands.{StandsFor}
-use Rattle.rx_machine.specs.declared.seat.Seat.{Seat}
+use Rattle.rx_seats.specs.declared.seat.Seat.{Seat}
 use Rattle.rx_terms.specs.Held.{is_held, HeldInFront}
 use Rattle.rx_terms.specs.Spine.{Spine}
 
@@ -55,14 +55,6 @@ pub record IsSeat (shape : Shape) (T : Tree) (n : ℕ) (p : Player) (seat : Seat
 abbrev pub SlotIs : Shape → Tree → List Player → ℕ → Option Seat → Type 0
 SlotIs shape T players n None = live_task T n ≡ None
 SlotIs shape T players n (Some seat) = (p : Player) × (slice_get players n ≡ Some p) × IsSeat shape T n p seat
-
--- the seat in a slot of the list
-abbrev pub seat_in : Option (Option Seat) → Option Seat
-seat_in None = None
-seat_in (Some o) = o
-
-abbrev pub seat_at : List (Option Seat) → ℕ → Option Seat
-seat_at seats n = seat_in (slice_get seats n)
 
 -- a death at the place strikes the task of a slot
 abbrev pub is_struck : PlaceId → Option Seat → Bool

@@ -4,10 +4,10 @@ ghost use Rattle.rx_machine.specs.Runs.{AfterTurn};
 ghost use Rattle.rx_machine.specs.Inside.Games.{SomeLanding, EachLanding};
 
 use crate::machine::Machine;
-use crate::seat::{Seat, put_back};
 use rx_base::{Batch, PlaceId};
 use rx_finish::FinishLedger;
 use rx_rules::{Act, Entry, Where};
+use rx_seats::{Seat, put_back};
 
 impl<L: FinishLedger> Machine<L> {
     /// Ends a turn by an arrival. It takes no memory.

@@ -5,14 +5,13 @@ ghost use Rattle.rx_machine.specs.Refusals.{NothingTold};
 ghost use Rattle.rx_machine.specs.Inside.Games.{SomeAsking};
 ghost use Rattle.rx_machine.specs.Inside.Acts.{HasAsked};
 
-use crate::control;
-use crate::entry::path_of;
 use crate::machine::Machine;
-use crate::seat::Seat;
 use rx_base::NoMemory;
 use rx_check::Program;
 use rx_finish::FinishLedger;
 use rx_rules::Act;
+use rx_seats::control::path_of;
+use rx_seats::{Seat, control};
 
 impl<L: FinishLedger> Machine<L> {
     /// Ends a turn by a census: the task is told the number of places.

@@ -1,15 +1,16 @@
 // The turn of a death.
 ghost use Rattle.std.specs.Prelude.{◌≡◌, ◌<◌, ℕ, length};
 ghost use Rattle.rx_rules.specs.declared.entries.Entry.TheVariants.{Death};
-ghost use Rattle.rx_machine.specs.Slots.{seat_at, is_struck as strikes, left_by};
+ghost use Rattle.rx_seats.specs.Slots.{seat_at};
+ghost use Rattle.rx_machine.specs.Slots.{is_struck as strikes, left_by};
 ghost use Rattle.rx_machine.specs.Runs.{HasFallen};
 ghost use Rattle.rx_machine.specs.Inside.Games.{SomeFalling, EachFalling};
 
 use crate::machine::Machine;
-use crate::seat::Seat;
 use rx_base::PlaceId;
 use rx_finish::FinishLedger;
 use rx_rules::{Entry, Where};
+use rx_seats::Seat;
 
 impl<L: FinishLedger> Machine<L> {
     /// Makes the death of a place that is due. It takes no memory.

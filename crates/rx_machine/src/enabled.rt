@@ -7,7 +7,7 @@ ghost use Rattle.rx_rules.specs.Picked.{Game, Turn, enabled, tree_in};
 ghost use Rattle.rx_rank.specs.Numbers.{Ascends, marked};
 ghost use Rattle.rx_sound.specs.Enabling.{nearest_opener as nearest};
 ghost use Rattle.rx_nodes.specs.Shape.{Shape};
-ghost use Rattle.rx_machine.specs.Slots.{seat_at};
+ghost use Rattle.rx_seats.specs.Slots.{seat_at};
 ghost use Rattle.rx_machine.specs.Holds.{Holds, CanTurn, Finished};
 ghost use Rattle.rx_machine.specs.Inside.Games.{SomeTurning, EachTurning, SomeMoved, EachMoved, SomeNoting, EachNoted};
 ghost use Rattle.rx_machine.specs.Refusals.{HasFailed};

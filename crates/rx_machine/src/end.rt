@@ -7,12 +7,13 @@ ghost use Rattle.rx_machine.specs.Refusals.{NothingTold};
 ghost use Rattle.rx_machine.specs.Inside.Games.{SomeAsking};
 ghost use Rattle.rx_machine.specs.Inside.Acts.{HasAsked};
 
-use crate::entry::{faults_of, no_memory};
+use crate::entry::no_memory;
 use crate::machine::Machine;
-use crate::seat::Seat;
 use rx_base::{Batch, NoMemory};
 use rx_finish::FinishLedger;
 use rx_rules::{Act, Entry};
+use rx_seats::Seat;
+use rx_seats::control::faults_of;
 
 impl<L: FinishLedger> Machine<L> {
     /// Ends a turn by the end of the task, whose slot stays empty.

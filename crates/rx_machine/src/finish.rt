@@ -6,13 +6,14 @@ ghost use Rattle.rx_machine.specs.Refusals.{NothingTold};
 ghost use Rattle.rx_machine.specs.Inside.Games.{SomeAsking};
 ghost use Rattle.rx_machine.specs.Inside.Acts.{HasAsked};
 
-use crate::entry::{faults_of, go_on, no_memory, path_of};
+use crate::entry::no_memory;
 use crate::machine::Machine;
-use crate::seat::Seat;
 use rx_base::{Faults, NoMemory};
 use rx_check::Program;
 use rx_finish::FinishLedger;
 use rx_rules::Act;
+use rx_seats::Seat;
+use rx_seats::control::{faults_of, go_on, path_of};
 
 impl<L: FinishLedger> Machine<L> {
     /// Ends a turn by the opening of a finish.

@@ -1,5 +1,5 @@
 //! Runs on one thread: the machine that makes the turns of a picked run, deaths and joins among them, over any ledger that keeps its
-//! promises. It stands on rx_finish, rx_history, rx_control, rx_kills, rx_picks, rx_rank, rx_stores and the laws of rx_sound and rx_runs.
+//! promises. It stands on rx_finish, rx_history, rx_seats, rx_kills, rx_picks, rx_rank, rx_stores and the laws of rx_sound and rx_runs.
 //! The layer above uses `run`, which makes the turns that are left of the picked run of a program under a setup, or `turn` and
 //! `into_parts`, and the laws of histories and journals, which stand in the module `laws`.
 #![tactic(auto)]
@@ -7,7 +7,6 @@
 mod arrival;
 mod birth;
 mod census;
-mod control;
 mod death;
 mod enabled;
 mod end;
@@ -20,7 +19,6 @@ mod moves;
 mod print;
 mod release;
 mod run;
-mod seat;
 mod steps;
 mod turn;
 

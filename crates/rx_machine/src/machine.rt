@@ -12,7 +12,6 @@ ghost use Rattle.rx_machine.specs.Slots.{root_row};
 ghost use Rattle.rx_machine.specs.Holds.{Holds};
 
 use crate::enabled::Ready;
-use crate::seat::Seat;
 use rx_base::{Batch, NoMemory, PlaceId, ScopeId, TaskId};
 use rx_check::{Program, checked};
 use rx_control::Control;
@@ -22,6 +21,7 @@ use rx_kills::Kills;
 use rx_origins::Origin;
 use rx_rank::Ranks;
 use rx_rules::{Task, Where};
+use rx_seats::Seat;
 use rx_stores::Stores;
 use std::alloc::Global;
 

@@ -5,12 +5,12 @@ ghost use Rattle.rx_machine.specs.Runs.{AfterTurn};
 ghost use Rattle.rx_machine.specs.Inside.Games.{SomeTaken, EachTaken, SomeActing, EachActing, EachTold};
 
 use crate::machine::Machine;
-use crate::seat::{Seat, take_seat};
 use rx_base::{NoMemory, PlaceId};
 use rx_check::Program;
 use rx_control::{Next, Want};
 use rx_finish::FinishLedger;
 use rx_rules::Where;
+use rx_seats::{Seat, take_seat};
 
 impl<L: FinishLedger> Machine<L> {
     // Moves the task of a slot, which the pick moves, up to its next entry.

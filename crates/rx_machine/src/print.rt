@@ -5,13 +5,13 @@ ghost use Rattle.rx_machine.specs.Refusals.{NothingTold};
 ghost use Rattle.rx_machine.specs.Inside.Games.{SomeAsking};
 ghost use Rattle.rx_machine.specs.Inside.Acts.{HasAsked};
 
-use crate::entry::{go_on, path_of};
 use crate::machine::Machine;
-use crate::seat::Seat;
 use rx_base::{Faults, NoMemory};
 use rx_check::Program;
 use rx_finish::FinishLedger;
 use rx_rules::Act;
+use rx_seats::Seat;
+use rx_seats::control::{go_on, path_of};
 
 impl<L: FinishLedger> Machine<L> {
     /// Ends a turn by a print.

@@ -8,14 +8,15 @@ ghost use Rattle.rx_machine.specs.Holds.{Finished, LeadsTo};
 ghost use Rattle.rx_machine.specs.Inside.Games.{SomeAsking, SomeReleasing, EachReleasing};
 ghost use Rattle.rx_machine.specs.Inside.Acts.{HasAsked};
 
-use crate::entry::{go_on, no_memory};
+use crate::entry::no_memory;
 use crate::machine::Machine;
-use crate::seat::Seat;
 use rx_base::{NoMemory, ScopeId};
 use rx_check::Program;
 use rx_control::faults_raised;
 use rx_finish::FinishLedger;
 use rx_rules::{Act, Entry};
+use rx_seats::Seat;
+use rx_seats::control::go_on;
 
 impl<L: FinishLedger> Machine<L> {
     /// Ends a turn by the release of the scope at which the task waits.

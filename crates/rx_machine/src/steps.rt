@@ -1,26 +1,21 @@
 // The local steps and store calls of a task up to its next entry.
-ghost use Rattle.std.specs.Prelude.{◌≡◌, ℕ, List, [], ◌∷◌, ◌++◌, Some, None, IfOk, OnOk, OnErr};
-ghost use Rattle.rx_rules.specs.Terms.{Term, does, begins};
-ghost use Rattle.rx_rules.specs.Plays.{begun};
+ghost use Rattle.std.specs.Prelude.{◌≡◌, None, IfOk, OnOk, OnErr};
+ghost use Rattle.rx_rules.specs.Terms.{does};
 ghost use Rattle.rx_rules.specs.Picked.{Player};
 ghost use Rattle.rx_plan.specs.declared.step.Next.TheVariants.{Cell};
-ghost use Rattle.rx_control.specs.Stands.{StandsFor, Leaves};
 ghost use Rattle.rx_plan.specs.Next.{next_of};
 ghost use Rattle.rx_machine.specs.Holds.{Acting};
 ghost use Rattle.rx_machine.specs.Refusals.{HasTold};
 ghost use Rattle.rx_machine.specs.Inside.Requests.{IsRequest, OnlyStores, AfterStep};
 ghost use Rattle.rx_machine.specs.Inside.Games.{SomeActing, SomeDoing, EachActing, EachTold};
 
-use crate::control;
-use crate::entry::path_of;
 use crate::machine::Machine;
-use crate::seat::Seat;
-use rx_base::{NoMemory, Path, PlaceId};
+use rx_base::{NoMemory, PlaceId};
 use rx_check::Program;
 use rx_control::{CellOp, Next};
 use rx_finish::FinishLedger;
+use rx_seats::{Seat, begin_call, control, local_step};
 use rx_store::Mark;
-use std::alloc::Global;
 
 // More steps than a term can make of a script whose work is at most 100,000.
 const LIMIT: u32 = 300_001;
@@ -114,39 +109,4 @@ impl<L: FinishLedger> Machine<L> {
         control::cell_done(&mut seat.control, self.alloc, p, answer)?;
         Ok(())
     }
-}
-
-// Makes the local step that is next.
-fn local_step(alloc: Global, p: &Program, seat: &mut Seat, here: PlaceId) -> Result<(), NoMemory>
-    requires { (t : Term) × StandsFor p.now.script seat.old.control.value t }
-    ensures { OnOk result ((t : Term) → StandsFor p.now.script seat.old.control.value t
-        → Leaves p.now.script seat.new.control.value (does seat.old.control.value.vars here.0 t)
-        × (seat.new.batch ≡ begun t seat.old.batch) × (seat.new.row ≡ seat.old.row) × (seat.new.scopes ≡ seat.old.scopes)) }
-{
-    begin(alloc, p, seat)?;
-    control::local(&mut seat.control, alloc, p, here)?;
-    Ok(())
-}
-
-// Notes the statement that the next step begins, where it begins one.
-fn begin(alloc: Global, p: &Program, seat: &mut Seat) -> Result<(), NoMemory>
-    ensures { OnOk result ((t : Term) → StandsFor p.now.script seat.old.control.value t
-        → seat.new ≡ record seat.old { batch = begun t seat.old.batch }) }
-{
-    if let Some(path) = seat.control.path(alloc, p)? {
-        seat.batch.push(path)?;
-    }
-    Ok(())
-}
-
-// Notes the statement that the next step begins, and gives its path.
-fn begin_call(alloc: Global, p: &Program, seat: &mut Seat) -> Result<Path, NoMemory>
-    requires { (t : Term) × (x : List ℕ) × StandsFor p.now.script seat.old.control.value t × (begins t ≡ Some x) }
-    ensures { IfOk result (λ path. (t : Term) (x : List ℕ) → StandsFor p.now.script seat.old.control.value t → begins t ≡ Some x
-        → (path ≡ x) × (seat.new ≡ record seat.old { batch = seat.old.batch ++ x ∷ [] })) }
-{
-    let path = path_of(alloc, p, &seat.control)?;
-    let copy = path.copy(alloc)?;
-    seat.batch.push(copy)?;
-    Ok(path)
 }

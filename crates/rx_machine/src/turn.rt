@@ -9,13 +9,13 @@ ghost use Rattle.rx_machine.specs.Runs.{WentOn, CanRun, HasGoneOn, HasEnded, Was
 ghost use Rattle.rx_machine.specs.Inside.Games.{SomeDue, EachDue, SomeCalm, EachCalm};
 
 use crate::machine::Machine;
-use crate::seat::under_of;
 use rx_base::{NoMemory, PlaceId};
 use rx_check::Program;
 use rx_finish::FinishLedger;
 use rx_kills::Due;
 use rx_picks::Picks;
 use rx_rank::Ranks;
+use rx_seats::under_of;
 
 /// Whether a turn went on with the run or ended it.
 #[derive(Clone, Copy, Debug, PartialEq, Eq)]

@@ -10,7 +10,7 @@ use Rattle.rx_rules.specs.Run.{Given}
 use Rattle.rx_rules.specs.Picked.{Game, Player, tree_in}
 use Rattle.rx_nodes.specs.Shape.{Shape}
 use Rattle.rx_machine.specs.declared.machine.Machine.{Machine}
-use Rattle.rx_machine.specs.declared.seat.Seat.{Seat}
+use Rattle.rx_seats.specs.declared.seat.Seat.{Seat}
 use Rattle.rx_machine.specs.Holds.{Acting, Landing, Releasing, CanTurn}
 use Rattle.rx_machine.specs.Picking.{IsReady}
 use Rattle.rx_origins.specs.Origins.{TellsOrigins}

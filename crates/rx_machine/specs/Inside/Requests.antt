@@ -11,7 +11,7 @@ use Rattle.rx_nodes.specs.Shape.{Shape}
 use Rattle.rx_plan.specs.declared.step.Next.{Next}
 use Rattle.rx_plan.specs.Next.{next_of}
 use Rattle.rx_machine.specs.declared.machine.Machine.{Machine}
-use Rattle.rx_machine.specs.declared.seat.Seat.{Seat}
+use Rattle.rx_seats.specs.declared.seat.Seat.{Seat}
 use Rattle.rx_machine.specs.Holds.{Acting}
 
 -- the next step is a request to the ledger, or the end

@@ -5,7 +5,7 @@ use Rattle.rx_rules.specs.Picked.{Game, tree_in}
 use Rattle.rx_nodes.specs.Shape.{Shape}
 use Rattle.rx_rank.specs.Numbers.{Ascends, marked}
 use Rattle.rx_machine.specs.declared.machine.Machine.{Machine}
-use Rattle.rx_machine.specs.Slots.{seat_at}
+use Rattle.rx_seats.specs.Slots.{seat_at}
 use Rattle.rx_machine.specs.Holds.{CanTurn}
 use Rattle.rx_machine.specs.Picking.{slot_able, is_listed}
 use Rattle.rx_machine.proofs.Finding.{same_or_not}

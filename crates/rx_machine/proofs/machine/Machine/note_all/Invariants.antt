@@ -4,7 +4,7 @@ use Rattle.rx_rules.specs.Run.{Given}
 use Rattle.rx_rules.specs.Picked.{Game, tree_in}
 use Rattle.rx_rank.specs.Numbers.{Ascends}
 use Rattle.rx_nodes.specs.Shape.{Shape}
-use Rattle.rx_machine.specs.Slots.{seat_at}
+use Rattle.rx_seats.specs.Slots.{seat_at}
 use Rattle.rx_machine.specs.Holds.{CanTurn}
 use Rattle.rx_machine.specs.Picking.{slot_able, is_listed}
 use Rattle.rx_machine.proofs.machine.Machine.note_all.Given as goal

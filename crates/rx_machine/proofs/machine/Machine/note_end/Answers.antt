@@ -3,7 +3,7 @@ use Rattle.rx_rules.specs.Picked.{tree_in}
 use Rattle.rx_rank.specs.Numbers.{marked}
 use Rattle.rx_machine.specs.declared.machine.Machine.{Machine}
 use Rattle.rx_origins.specs.declared.origin.Origin.{Origin}
-use Rattle.rx_machine.specs.Slots.{seat_at}
+use Rattle.rx_seats.specs.Slots.{seat_at}
 use Rattle.rx_machine.specs.Holds.{CanTurn}
 use Rattle.rx_machine.specs.Picking.{slot_able}
 use Rattle.rx_origins.specs.Origins.{TellsOrigins}

@@ -11,7 +11,7 @@ use Rattle.rx_finish.specs.Callers.{MayAsk, IsMoving}
 use Rattle.rx_finish.specs.Calls.{blow_of}
 use Rattle.rx_control.specs.Stands.{StandsFor}
 use Rattle.rx_history.specs.Setups.{to_join}
-use Rattle.rx_machine.specs.Inside.Callers.{caller}
+use Rattle.rx_seats.specs.Callers.{caller}
 use Rattle.rx_machine.proofs.Acted.{closed}
 use Rattle.rx_machine.proofs.Asking.{seat_asks, seat_unstruck, moving}
 use Rattle.rx_machine.proofs.FinishBegun.{open-begins, open-free, open-refused, finish-opened}

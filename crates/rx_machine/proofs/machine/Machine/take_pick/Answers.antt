@@ -1,8 +1,8 @@
 use Rattle.std.proofs.Common.{arith, ◌≡◌, ◌<◌, List, Option, length, vec_len, vec_capacity, ap, ◌∙◌, sym, subst}
 use Rattle.rx_rules.specs.Picked.{tree_in}
 use Rattle.rx_machine.specs.declared.enabled.Ready.{Ready}
-use Rattle.rx_machine.specs.declared.seat.Seat.{Seat}
-use Rattle.rx_machine.specs.Slots.{seat_at}
+use Rattle.rx_seats.specs.declared.seat.Seat.{Seat}
+use Rattle.rx_seats.specs.Slots.{seat_at}
 use Rattle.rx_origins.specs.Origins.{TellsOrigins}
 use Rattle.rx_machine.proofs.Readying.{ready_slots}
 use Rattle.rx_machine.proofs.BeforeTurn.{releasing, taken}

@@ -6,7 +6,7 @@ use Rattle.rx_nodes.specs.Shape.{Shape}
 use Rattle.rx_control.specs.declared.control.Control.{Control}
 use Rattle.rx_control.specs.Stands.{StandsFor}
 use Rattle.rx_plan.specs.Next.{carried}
-use Rattle.rx_machine.proofs.entry.faults_of.Goals as goal
+use Rattle.rx_seats.proofs.control.faults_of.Goals as goal
 
 pub returns-clause-list : goal.returns-clause-list
 returns-clause-list c =

@@ -2,7 +2,7 @@ use Rattle.std.proofs.Common.{◌≡◌, ap, sym, subst}
 use Rattle.rx_rules.specs.Terms.{does}
 use Rattle.rx_control.specs.declared.control.Control.{Control}
 use Rattle.rx_control.specs.Stands.{StandsFor, Leaves}
-use Rattle.rx_machine.proofs.steps.local_step.Goals as goal
+use Rattle.rx_seats.proofs.steps.local_step.Goals as goal
 
 pub returns : goal.returns
 returns c = λ t h.

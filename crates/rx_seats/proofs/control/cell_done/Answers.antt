@@ -3,7 +3,7 @@ use Rattle.std.specs.Prelude.{OnOk}
 use Rattle.rx_rules.specs.Terms.{Term, begins, answered, answer_of, vars_after, receives}
 use Rattle.rx_control.specs.declared.control.Control.{Control}
 use Rattle.rx_control.specs.Stands.{StandsFor}
-use Rattle.rx_machine.proofs.control.cell_done.Goals as goal
+use Rattle.rx_seats.proofs.control.cell_done.Goals as goal
 
 pub returns : goal.returns
 returns c = record {

@@ -5,20 +5,19 @@ ghost use Rattle.rx_rules.specs.Order.{is_kept, is_kept_in};
 ghost use Rattle.rx_nodes.specs.Shape.{Shape, StmtIs, BlockStands};
 ghost use Rattle.rx_order.specs.Inside.Parts.{is_kept_along, WalkGoes, IsOpen};
 
-use crate::parts::{Walk, part_of, stmt_at};
-use rx_base::Path;
+use crate::parts::{Walk, number_at, part_of, stmt_at};
 use rx_script::{BlockId, Script, Stmt};
 
 /// Whether each `async` along the path has a `finish` before it, from the statement on whose position in the block is the number of
 /// the path at `first`. It is false where the block has no such statement.
-pub(crate) fn is_kept(script: &Script, top: BlockId, x: &Path, first: usize) -> bool
+pub(crate) fn is_kept(script: &Script, top: BlockId, x: &[u32], first: usize) -> bool
     requires { (b : Block) × BlockStands script.now top b }
     ensures { (b : Block) → BlockStands script.now top b → result ≡ is_kept_along b (drop first x.now) }
 {
     let mut block = top;
     let mut at = first;
     while at < x.len() {
-        match step(script, block, x.item(at), x, at + 1) {
+        match step(script, block, number_at(x, at), x, at + 1) {
             Walk::Over(kept) => return kept,
             Walk::On(part) => {
                 block = part.block;
@@ -30,7 +29,7 @@ pub(crate) fn is_kept(script: &Script, top: BlockId, x: &Path, first: usize) -> 
 }
 
 // From the statement at a position on. The path goes on at `at`.
-fn step(script: &Script, block: BlockId, i: u32, x: &Path, at: usize) -> Walk
+fn step(script: &Script, block: BlockId, i: u32, x: &[u32], at: usize) -> Walk
     requires { (b : Block) × BlockStands script.now block b }
     ensures { (b : Block) → BlockStands script.now block b → WalkGoes script.now at result (is_kept_in b i (drop at x.now))
         (λ c k. is_kept_along c (drop k x.now)) }
@@ -42,7 +41,7 @@ fn step(script: &Script, block: BlockId, i: u32, x: &Path, at: usize) -> Walk
 }
 
 // From a statement on.
-fn from(stmt: Stmt, x: &Path, at: usize) -> Walk
+fn from(stmt: Stmt, x: &[u32], at: usize) -> Walk
     ensures { (s : Shape) (t : Tree) → StmtIs s stmt t → WalkGoes s at result (is_kept t (drop at x.now))
         (λ c k. is_kept_along c (drop k x.now)) }
 {
@@ -59,7 +58,7 @@ fn from(stmt: Stmt, x: &Path, at: usize) -> Walk
 }
 
 // From inside a statement on.
-fn inside(stmt: Stmt, x: &Path, at: usize) -> Walk
+fn inside(stmt: Stmt, x: &[u32], at: usize) -> Walk
     requires { at < length x.now }
     ensures { (s : Shape) (t : Tree) → StmtIs s stmt t → IsOpen t
         → WalkGoes s at result (is_kept t (drop at x.now)) (λ c k. is_kept_along c (drop k x.now)) }

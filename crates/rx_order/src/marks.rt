@@ -5,8 +5,8 @@ ghost use Rattle.rx_nodes.specs.Shape.{Shape, Stands, StmtIs};
 ghost use Rattle.rx_order.specs.Marks.{mark_of, marks_of};
 ghost use Rattle.rx_order.specs.Inside.Parts.{part_mark};
 
-use crate::parts::{part_of, stmt_at};
-use rx_base::{NoMemory, Path};
+use crate::parts::{number_at, part_of, stmt_at};
+use rx_base::NoMemory;
 use rx_check::Program;
 use rx_script::{Stmt, whole};
 
@@ -26,7 +26,7 @@ pub enum Mark {
 
 /// Makes `marks` the list of what each number of the path stands for. For a path of the program there is one mark for each
 /// number. For any other path the list ends where the program has no statement. A refusal leaves any list.
-pub fn mark_numbers(p: &Program, x: &Path, marks: &mut Vec<Mark>) -> Result<(), NoMemory>
+pub fn mark_numbers(p: &Program, x: &[u32], marks: &mut Vec<Mark>) -> Result<(), NoMemory>
     ensures { (t : Block) → Stands p.now.script t → IfOk result (λ _. marks.new.items ≡ marks_of t x.now) }
 {
     let script = p.script();
@@ -35,7 +35,7 @@ pub fn mark_numbers(p: &Program, x: &Path, marks: &mut Vec<Mark>) -> Result<(), 
     let mut block = script.top();
     let mut at = 0;
     while at < x.len() {
-        let Some(stmt) = stmt_at(script, block, x.item(at)) else {
+        let Some(stmt) = stmt_at(script, block, number_at(x, at)) else {
             return Ok(());
         };
         marks.push(position_mark(stmt))?;

@@ -6,7 +6,7 @@ ghost use Rattle.rx_nodes.specs.Shape.{Shape, Stands, StmtIs, BlockStands};
 ghost use Rattle.rx_order.specs.Inside.Parts.{WalkGoes, is_ordered};
 
 use crate::kept::is_kept;
-use crate::parts::{Walk, part_of, stmt_at};
+use crate::parts::{Walk, number_at, part_of, stmt_at};
 use rx_base::Path;
 use rx_check::Program;
 use rx_script::{BlockId, Script, Stmt, whole};
@@ -14,6 +14,13 @@ use rx_script::{BlockId, Script, Stmt, whole};
 /// Whether the statement instance that x names is before the one that y names. Any paths may be passed: where the program has no
 /// statement at a position that is looked at, the answer is false. The time is linear in the two paths, and no memory is taken.
 pub fn before(p: &Program, x: &Path, y: &Path) -> bool
+    ensures { (t : Block) → Stands p.now.script t → result ≡ comes_before t x.now y.now }
+{
+    is_before(p, x.numbers(), y.numbers())
+}
+
+// The same of their numbers.
+fn is_before(p: &Program, x: &[u32], y: &[u32]) -> bool
     ensures { (t : Block) → Stands p.now.script t → result ≡ comes_before t x.now y.now }
 {
     let script = p.script();
@@ -33,7 +40,7 @@ pub fn before(p: &Program, x: &Path, y: &Path) -> bool
 }
 
 // One statement along both paths, or where they part.
-fn step(script: &Script, block: BlockId, x: &Path, y: &Path, at: usize) -> Walk
+fn step(script: &Script, block: BlockId, x: &[u32], y: &[u32], at: usize) -> Walk
     requires block { (b : Block) × BlockStands script.now block b }
     requires at { at < length x.now }
     ensures { (b : Block) → BlockStands script.now block b → WalkGoes script.now (at + 1) result (comes_before b (drop at x.now)
@@ -42,8 +49,8 @@ fn step(script: &Script, block: BlockId, x: &Path, y: &Path, at: usize) -> Walk
     if at >= y.len() {
         return Walk::Over(false);
     }
-    let i = x.item(at);
-    let j = y.item(at);
+    let i = number_at(x, at);
+    let j = number_at(y, at);
     if i == j {
         match stmt_at(script, block, i) {
             None => Walk::Over(false),
@@ -57,7 +64,7 @@ fn step(script: &Script, block: BlockId, x: &Path, y: &Path, at: usize) -> Walk
 }
 
 // From inside a statement on, along which both go.
-fn inside(script: &Script, stmt: Stmt, x: &Path, y: &Path, at: usize) -> Walk
+fn inside(script: &Script, stmt: Stmt, x: &[u32], y: &[u32], at: usize) -> Walk
     requires { (t : Tree) × StmtIs script.now stmt t }
     ensures { (t : Tree) → StmtIs script.now stmt t → WalkGoes script.now at result (before_inside t (drop at x.now) (drop at y.now))
         (λ c k. comes_before c (drop k x.now) (drop k y.now)) }

@@ -1,10 +1,9 @@
 // Where a path goes on inside a statement.
-ghost use Rattle.std.specs.Prelude.{◌≡◌, ◌+◌, MatchOption, drop};
+ghost use Rattle.std.specs.Prelude.{◌≡◌, ◌+◌, ◌<◌, MatchOption, Some, drop, length, slice_get};
 ghost use Rattle.rx_rules.specs.Code.{Stmt as Tree, Block};
 ghost use Rattle.rx_nodes.specs.Shape.{Shape, StmtIs, BlockStands};
 ghost use Rattle.rx_order.specs.Inside.Parts.{item_of, turn_in, one_in, part_in, numbers_of, IsPart};
 
-use rx_base::Path;
 use rx_script::{BlockId, Script, Stmt};
 
 /// The part of a statement into which a path goes: its number, 0 where there is one alone, its block, and where in the path the
@@ -22,6 +21,14 @@ pub(crate) enum Walk {
     On(Part),
 }
 
+/// The number of a path at a position.
+pub(crate) fn number_at(path: &[u32], at: usize) -> u32
+    requires { at < length path.now }
+    ensures { slice_get path.now at ≡ Some result }
+{
+    path[at]
+}
+
 /// The statement at a position of a block.
 pub(crate) fn stmt_at(script: &Script, block: BlockId, i: u32) -> Option<Stmt>
     requires { (b : Block) × BlockStands script.now block b }
@@ -36,12 +43,12 @@ pub(crate) fn stmt_at(script: &Script, block: BlockId, i: u32) -> Option<Stmt>
 }
 
 // A turn of a block. A position stands after its number.
-fn turn_of(block: BlockId, path: &Path, at: usize) -> Option<Part>
+fn turn_of(block: BlockId, path: &[u32], at: usize) -> Option<Part>
     ensures { (s : Shape) (body : Block) → BlockStands s block body → IsPart s path.now (at + 1) result (turn_in body (drop at path.now)) }
 {
     if at < path.len().saturating_sub(1) {
         Some(Part {
-            number: path.item(at),
+            number: number_at(path, at),
             block,
             at: at + 1,
         })
@@ -51,7 +58,7 @@ fn turn_of(block: BlockId, path: &Path, at: usize) -> Option<Part>
 }
 
 // One of two blocks, by its number.
-fn one_of(zero: BlockId, one: BlockId, path: &Path, at: usize) -> Option<Part>
+fn one_of(zero: BlockId, one: BlockId, path: &[u32], at: usize) -> Option<Part>
     ensures { (s : Shape) (first other : Block) → BlockStands s zero first → BlockStands s one other
         → IsPart s path.now (at + 1) result (one_in first other (drop at path.now)) }
 {
@@ -74,7 +81,7 @@ fn one_of(zero: BlockId, one: BlockId, path: &Path, at: usize) -> Option<Part>
 }
 
 /// Where the path goes on inside the statement, if it does.
-pub(crate) fn part_of(stmt: Stmt, path: &Path, at: usize) -> Option<Part>
+pub(crate) fn part_of(stmt: Stmt, path: &[u32], at: usize) -> Option<Part>
     ensures { (s : Shape) (t : Tree) → StmtIs s stmt t → IsPart s path.now (at + numbers_of t) result (part_in t (drop at path.now)) }
 {
     match stmt {

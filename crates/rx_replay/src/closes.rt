@@ -3,21 +3,24 @@ ghost use Rattle.std.specs.Prelude.{◌≡◌, ◌↔◌, ◌<◌, ◌≤◌, �
 ghost use Rattle.std.specs.List.{filter_map};
 ghost use Rattle.rx_rules.specs.Run.{close_in};
 ghost use Rattle.rx_history.specs.Events.{events_of};
+ghost use Rattle.rx_timely.specs.Deaths.{AreDeaths};
 ghost use Rattle.rx_replay.specs.Closes.{IsFirstUnclosed};
 
 use rx_base::PlaceId;
 use rx_history::{History, Journal, Journals};
 use rx_rules::PlaceEvent;
-use rx_timely::deaths_of;
 
-/// The least place that dies in the history and whose journal has no close. None comes exactly where there is no such place. No
-/// memory is taken.
-pub fn first_unclosed(history: &History, journals: &Journals) -> Option<PlaceId>
-    requires numbered { length history.now.entries ≤ 2 ^ 32 }
+/// The least place that dies in the history, of which these are the deaths, and whose journal has no close. None comes exactly where
+/// there is no such place. No memory is taken.
+pub fn first_unclosed(
+    history: &History,
+    deaths: &[Option<u32>; 16],
+    journals: &Journals,
+) -> Option<PlaceId>
+    requires deaths { AreDeaths history.now.entries deaths.now }
     requires few { length journals.now.journals ≤ 16 }
     ensures { IsFirstUnclosed history.now.entries (events_of journals.now) result }
 {
-    let deaths = deaths_of(history);
     for p in 0..journals.len() {
         if deaths[p].is_some() && !has_close(journals.item(p)) {
             return Some(PlaceId(p as u8));

@@ -1,6 +1,7 @@
 // The first event that has no cause.
 ghost use Rattle.std.specs.Prelude.{◌≡◌, ◌↔◌, ◌<◌, ◌≤◌, ◌^◌, length, IsTrue, IfOk};
 ghost use Rattle.rx_history.specs.Events.{events_of};
+ghost use Rattle.rx_timely.specs.Deaths.{AreDeaths};
 ghost use Rattle.rx_replay.specs.Lawful.{WantsSome};
 ghost use Rattle.rx_replay.specs.Marks.{row_at, HasShape};
 ghost use Rattle.rx_replay.specs.Flaws.{CauseBy, IsFirstIn, IsFirstFlaw};
@@ -9,7 +10,6 @@ use crate::{Marks, lawful_events};
 use rx_base::{NoMemory, PlaceId};
 use rx_history::{History, Journal, Journals};
 use rx_rules::PlaceEvent;
-use rx_timely::deaths_of;
 use std::alloc::Global;
 
 /// An event, by the place of its journal and its position there, from 0.
@@ -20,22 +20,22 @@ pub struct EventAt {
 }
 
 /// The first event, by place and then by position, that is not sound: up to it the journal is to be lawful, and it is to be marked,
-/// or a close with the number of its place's death. None comes exactly where all events are sound. It takes time in proportion to the
-/// history and the journals, and memory in proportion to the heap.
+/// or a close with the number of its place's death, of which these are those of the history. None comes exactly where all events are
+/// sound. It takes time in proportion to the journals, and memory in proportion to the heap.
 pub fn first_flaw(
     alloc: Global,
     history: &History,
+    deaths: &[Option<u32>; 16],
     journals: &Journals,
     marks: &Marks,
 ) -> Result<Option<EventAt>, NoMemory>
     requires some { 0 < history.now.setup.heap }
     requires most { history.now.setup.heap ≤ 4096 }
-    requires numbered { length history.now.entries ≤ 2 ^ 32 }
+    requires deaths { AreDeaths history.now.entries deaths.now }
     requires few { length journals.now.journals ≤ 16 }
     requires shape { HasShape (events_of journals.now) marks.now }
     ensures { IfOk result (IsFirstFlaw history.now.setup.heap history.now.entries (events_of journals.now) marks.now) }
 {
-    let deaths = deaths_of(history);
     for p in 0..journals.len() {
         let place = PlaceId(p as u8);
         let found = first_in(

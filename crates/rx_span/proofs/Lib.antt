@@ -10,3 +10,4 @@ pub mod States
 pub mod Passing
 pub mod Picked
 pub mod Told
+pub mod Copied

@@ -44,6 +44,10 @@ next-map f xs n x e l =
     let g : slice_get (map f xs) n ≡ Some (f x) = slice_get-map f xs n ∙ ap (option_map f) (slice_get-get_or xs n x l) ∙ ap (λ y. Some (f y)) (sym e) in
     sym (get_or_from_slice_get (map f xs) n (f x) [] g)
 
+-- the path that stands at a position
+pub next-there : {X : Type 0} (f : X → List ℕ) (xs : List X) (i : ℕ) (x : List ℕ) → slice_get (map f xs) i ≡ Some x → next_of i (map f xs) ≡ x
+next-there f xs i x e = get_or_from_slice_get (map f xs) i x [] e
+
 pub next-past : (xs : List (List ℕ)) (n : ℕ) → length xs ≤ n → next_of n xs ≡ []
 next-past [] n l = refl
 next-past (x ∷ xs) zero l = absurd (omega arith)

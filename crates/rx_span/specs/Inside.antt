@@ -2,3 +2,4 @@
 pub mod Sorting
 pub mod Best
 pub mod Kept
+pub mod Copied

@@ -27,7 +27,7 @@ pub(crate) struct Links {
 pub(crate) fn link<L: Ledger>(
     alloc: Global,
     program: &Program,
-    paths: &[&Path],
+    paths: &[&[u32]],
     steps: &mut Steps<L>,
 ) -> Result<Links, NoMemory>
     requires descends { Descends (map (λ p. p.now) paths.now) }
@@ -47,7 +47,7 @@ pub(crate) fn link<L: Ledger>(
     let mut from = 0;
     let mut at = 0;
     while at < paths.len() {
-        let x = paths[at];
+        let x = path_at(paths, at);
         let inside = lay(&mut rows, from, passed, x.len())?;
         mark_numbers(program, x, &mut marks)?;
         from = next_shared(paths, at);
@@ -66,13 +66,21 @@ pub(crate) fn link<L: Ledger>(
     })
 }
 
+// The path at a position.
+fn path_at<'a>(paths: &[&'a [u32]], at: usize) -> &'a [u32]
+    requires { at < length paths.now }
+    ensures { result.now ≡ next_of at (map (λ p. p.now) paths.now) }
+{
+    paths[at]
+}
+
 // How far a path goes together with the next, or 0 where it is the last.
-fn next_shared(paths: &[&Path], at: usize) -> usize
+fn next_shared(paths: &[&[u32]], at: usize) -> usize
     requires { at < length paths.now }
     ensures { result ≡ going (next_of (at + 1) (map (λ p. p.now) paths.now)) (next_of at (map (λ p. p.now) paths.now)) }
 {
     if at + 1 < paths.len() {
-        shared(paths[at + 1], paths[at])
+        shared(path_at(paths, at + 1), path_at(paths, at))
     } else {
         0
     }
@@ -81,7 +89,7 @@ fn next_shared(paths: &[&Path], at: usize) -> usize
 /// The statements of the longest chain.
 pub(crate) fn read(
     alloc: Global,
-    paths: &[&Path],
+    paths: &[&[u32]],
     links: &[Kept],
     longest: Kept,
 ) -> Result<Batch, NoMemory>
@@ -93,7 +101,7 @@ pub(crate) fn read(
     let mut chain = Batch::open(alloc);
     let mut rest = longest;
     while rest.length > 0 {
-        chain.push(paths[rest.head].copy(alloc)?)?;
+        chain.push(Path::from_slice(alloc, path_at(paths, rest.head))?)?;
         rest = links[rest.head];
     }
     Ok(chain)

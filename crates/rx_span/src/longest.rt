@@ -8,7 +8,7 @@ ghost use Rattle.rx_span.specs.Paths.{ArePaths};
 ghost use Rattle.rx_span.specs.Chains.{IsSpan};
 
 use crate::links::{link, read};
-use crate::paths::sorted;
+use crate::paths::{sorted, statements};
 use crate::{Span, Steps};
 use rx_base::NoMemory;
 use rx_check::{Program, checked};
@@ -65,7 +65,8 @@ pub fn span_counted<L: Ledger>(
     ensures looks { steps.new ≤ steps.old + 65 * length (told history.now.entries) }
 {
     checked(program);
-    let paths = sorted(alloc, history)?;
+    let copies = statements(alloc, history)?;
+    let paths = sorted(alloc, &copies)?;
     let linked = link(alloc, program, &paths, steps)?;
     let chain = read(alloc, &paths, &linked.links, linked.longest)?;
     Ok(Span {

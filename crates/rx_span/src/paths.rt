@@ -1,10 +1,11 @@
 // The statements that a history tells, and how far two paths go together.
-ghost use Rattle.std.specs.Prelude.{◌≡◌, ◌++◌, [], ◌∷◌, true, map, reverse, option_to_list, IfOk, OnOk};
+ghost use Rattle.std.specs.Prelude.{◌≡◌, ◌++◌, ℕ, List, [], ◌∷◌, length, map, option_to_list, IfOk, OnOk};
 ghost use Rattle.std.specs.List.Sorted.{IsPermutation};
 ghost use Rattle.std.specs.Ordering.{is_lt};
 ghost use Rattle.rx_rules.specs.Order.{own_path, told};
 ghost use Rattle.rx_laws.specs.Once.{AllDiffer};
 ghost use Rattle.rx_span.specs.Inside.Sorting.{comes, shared, Descends};
+ghost use Rattle.rx_span.specs.Inside.Copied.{joined, AreCopied};
 
 use rx_base::{NoMemory, Path};
 use rx_history::{Act, Entry, History};
@@ -28,70 +29,60 @@ fn path_of(act: &Act) -> Option<&Path>
     }
 }
 
-// Statements in the order in which they are told, and whether it is the order of their paths.
+/// Statements, copied in the order in which they are told: the numbers of one path after those of the other, how many each has, and
+/// where the last begins; and whether each comes after the one before it. What comes after reads them here, where they stand together,
+/// and not in the entries, which are far apart.
 #[derive(Drop)]
-struct Told<'a> {
-    paths: Vec<&'a Path>,
+pub(crate) struct Copies {
+    numbers: Vec<u32>,
+    lengths: Vec<usize>,
+    last: usize,
     ascending: bool,
 }
 
-impl<'a> Told<'a> {
-    // One statement more. It is compared here with the one before it, since both were just read.
-    fn add(&mut self, path: &'a Path) -> Result<(), NoMemory>
-        ensures paths { OnOk result (map (λ p. p.now) self.new.paths.items ≡ map (λ p. p.now) self.old.paths.items ++ path.now ∷ []) }
-        ensures ascending { OnOk result ((self.old.ascending ≡ true → Descends (reverse (map (λ p. p.now) self.old.paths.items)))
-            → self.new.ascending ≡ true → Descends (reverse (map (λ p. p.now) self.new.paths.items))) }
+impl Copies {
+    // Copies one path more.
+    fn add(&mut self, path: &Path) -> Result<(), NoMemory>
+        requires { (xs : List (List ℕ)) × AreCopied xs self.old }
+        ensures { OnOk result ((xs : List (List ℕ)) → AreCopied xs self.old → AreCopied (xs ++ path.now ∷ []) self.new) }
     {
-        self.ascending = self.ascending && comes_last(&self.paths, path);
-        self.paths.push(path)?;
+        let x = path.numbers();
+        self.ascending = self.ascending && order(&self.numbers[self.last..], x).is_lt();
+        self.last = self.numbers.len();
+        self.numbers.extend_from_slice(x)?;
+        self.lengths.push(x.len())?;
         Ok(())
     }
 }
 
-// Whether a path comes after the last of these.
-fn comes_last(paths: &[&Path], path: &Path) -> bool
-    ensures { result ≡ true → Descends (reverse (map (λ p. p.now) paths.now)) → Descends (path.now ∷ reverse (map (λ p. p.now) paths.now)) }
+/// The statements of a history, in the order in which it tells them.
+pub(crate) fn statements(alloc: Global, history: &History) -> Result<Copies, NoMemory>
+    ensures { IfOk result (λ c. AreCopied (told history.now.entries) c) }
 {
-    match paths.split_last() {
-        None => true,
-        Some((last, _)) => order(last, path).is_lt(),
-    }
-}
-
-// The statements of a history, in the order in which it tells them.
-fn statements(alloc: Global, history: &History) -> Result<Told<'_>, NoMemory>
-    ensures paths { IfOk result (λ t. map (λ p. p.now) t.paths.items ≡ told history.now.entries) }
-    ensures ascending { IfOk result (λ t. t.ascending ≡ true → Descends (reverse (map (λ p. p.now) t.paths.items))) }
-{
-    let mut told = Told {
-        paths: Vec::new(alloc),
+    let mut copies = Copies {
+        numbers: Vec::new(alloc),
+        lengths: Vec::new(alloc),
+        last: 0,
         ascending: true,
     };
     for i in 0..history.len() {
         if let Entry::Step { act, batch, .. } = history.item(i) {
             for k in 0..batch.len() {
-                told.add(batch.item(k))?;
+                copies.add(batch.item(k))?;
             }
             if let Some(path) = path_of(act) {
-                told.add(path)?;
+                copies.add(path)?;
             }
         }
     }
-    Ok(told)
+    Ok(copies)
 }
 
 // The order of two paths, number by number; a path comes before those that go on from it.
-pub(crate) fn order(x: &Path, y: &Path) -> Ordering
+fn order(x: &[u32], y: &[u32]) -> Ordering
     ensures { is_lt result ≡ comes x.now y.now }
 {
-    order_numbers(x.numbers(), y.numbers())
-}
-
-// The order of two lists of numbers.
-fn order_numbers(x: &[u32], y: &[u32]) -> Ordering
-    ensures { is_lt result ≡ comes x.now y.now }
-{
-    let at = together(x, y);
+    let at = shared(x, y);
     if at >= x.len() || at >= y.len() {
         return x.len().cmp(&y.len());
     }
@@ -100,16 +91,31 @@ fn order_numbers(x: &[u32], y: &[u32]) -> Ordering
     i.cmp(&j)
 }
 
-/// The statements of a history, of which no two are the same, from the last to the first.
-pub(crate) fn sorted(alloc: Global, history: &History) -> Result<Vec<&Path>, NoMemory>
-    requires { AllDiffer (told history.now.entries) }
-    ensures same { IfOk result (λ v. IsPermutation (told history.now.entries) (map (λ p. p.now) v.items)) }
+// The paths whose numbers stand one after the other, in their order.
+fn cut<'a>(alloc: Global, numbers: &'a [u32], lengths: &[usize]) -> Result<Vec<&'a [u32]>, NoMemory>
+    requires { (xs : List (List ℕ)) × (numbers.now ≡ joined xs) × (lengths.now ≡ map length xs) }
+    ensures { (xs : List (List ℕ)) → numbers.now ≡ joined xs → lengths.now ≡ map length xs → IfOk result
+        (λ v. map (λ p. p.now) v.items ≡ xs) }
+{
+    let mut paths = Vec::with_capacity(alloc, lengths.len())?;
+    let mut rest = numbers;
+    for i in 0..lengths.len() {
+        let (path, later) = rest.split_at(lengths[i]);
+        paths.push(path)?;
+        rest = later;
+    }
+    Ok(paths)
+}
+
+/// The statements, of which no two are the same, from the last to the first.
+pub(crate) fn sorted(alloc: Global, copies: &Copies) -> Result<Vec<&[u32]>, NoMemory>
+    requires { (xs : List (List ℕ)) × AreCopied xs copies.now × AllDiffer xs }
+    ensures same { (xs : List (List ℕ)) → AreCopied xs copies.now → IfOk result (λ v. IsPermutation xs (map (λ p. p.now) v.items)) }
     ensures descends { IfOk result (λ v. Descends (map (λ p. p.now) v.items)) }
 {
-    let told = statements(alloc, history)?;
-    let mut paths = told.paths;
+    let mut paths = cut(alloc, &copies.numbers, &copies.lengths)?;
     // Most histories tell the statements in the order of their paths.
-    if told.ascending {
+    if copies.ascending {
         paths.reverse();
     } else {
         paths.sort_by(|x, y| order(y, x))?;
@@ -118,14 +124,7 @@ pub(crate) fn sorted(alloc: Global, history: &History) -> Result<Vec<&Path>, NoM
 }
 
 /// How many numbers from the front are the same.
-pub(crate) fn shared(x: &Path, y: &Path) -> usize
-    ensures { result ≡ shared x.now y.now }
-{
-    together(x.numbers(), y.numbers())
-}
-
-// How many numbers from the front are the same.
-fn together(x: &[u32], y: &[u32]) -> usize
+pub(crate) fn shared(x: &[u32], y: &[u32]) -> usize
     ensures { result ≡ shared x.now y.now }
 {
     let mut at = 0;

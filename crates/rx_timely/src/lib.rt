@@ -8,5 +8,5 @@ mod deaths;
 pub mod laws;
 mod plan;
 
-pub use deaths::deaths_of;
+pub use deaths::{deaths_of, no_deaths, note_death};
 pub use plan::keeps_plan;

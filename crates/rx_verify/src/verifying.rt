@@ -17,6 +17,7 @@ use rx_finish::FinishLedger;
 use rx_history::{History, Journals};
 use rx_players::Players;
 use rx_replay::judge_events;
+use rx_timely::no_deaths;
 use rx_verdict::Verdict;
 use std::alloc::Global;
 
@@ -63,14 +64,24 @@ fn judge<L: FinishLedger>(
     rx_verdict::seats_tell();
     rx_verdict::parts_begin();
     rx_replay::laws::events_decide();
-    match first_flaw(alloc, program, history, journals, &mut audit, &mut players)? {
+    let mut deaths = no_deaths();
+    let flaw = first_flaw(
+        alloc,
+        program,
+        history,
+        journals,
+        &mut audit,
+        &mut players,
+        &mut deaths,
+    )?;
+    match flaw {
         Some(number) => Ok(Verdict::Entry { number }),
         None => {
             if !audit.has_ended() {
                 return Ok(Verdict::End);
             }
             let marks = players.finish(alloc, program, journals)?;
-            judge_events(alloc, history, journals, &marks)
+            judge_events(alloc, history, &deaths, journals, &marks)
         }
     }
 }

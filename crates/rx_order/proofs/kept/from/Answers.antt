@@ -9,10 +9,10 @@ returns-in-Some c s t h =
     let k : (x : List ℕ) → is_kept t x ≡ c.in-Some.kept = rw c.in-Some.is at c.kept_by.ensures s t h in
     sym (k (drop c.args.at c.args.x.now))
 
-pub returns-then-at-len : goal.returns-then-at-len
-returns-then-at-len c s t h = c.inside.ensures s t h (rw c.in-None.is at c.kept_by.ensures s t h)
+pub returns-then-at-x : goal.returns-then-at-x
+returns-then-at-x c s t h = c.inside.ensures s t h (rw c.in-None.is at c.kept_by.ensures s t h)
 
-pub returns-else-at-len : goal.returns-else-at-len
-returns-else-at-len c s t h =
+pub returns-else-at-x : goal.returns-else-at-x
+returns-else-at-x c s t h =
     let P : List ℕ → Type 0 = λ x. true ≡ is_kept t x in
-    subst P (sym (drop_all c.args.at c.args.x.now (omega (arith, c.if-at-len.false, c.len.ensures)))) (kept-end t (rw c.in-None.is at c.kept_by.ensures s t h))
+    subst P (sym (drop_all c.args.at c.args.x.now (omega (arith, c.if-at-x.false)))) (kept-end t (rw c.in-None.is at c.kept_by.ensures s t h))

@@ -18,8 +18,8 @@ returns-in_default c t h =
     let x = c.args.x.now in
     let P : Shape → Type 0 = λ s. Stands s t in
     let v = c.loop-at.invariant t (subst P (sym c.script-script.ensures) h) in
-    let k : item_of v.0 c.item.result ≡ None = rw c.in_default.is at c.stmt_at.ensures v.0 v.1 in
-    let none : marks_along v.0 (drop c.loop-at.at x) ≡ [] = marks-at v.0 x c.loop-at.at c.item.result c.item.ensures ∙ marks-none v.0 c.item.result (drop (c.loop-at.at + 1) x) k in
+    let k : item_of v.0 c.number_at.result ≡ None = rw c.in_default.is at c.stmt_at.ensures v.0 v.1 in
+    let none : marks_along v.0 (drop c.loop-at.at x) ≡ [] = marks-at v.0 x c.loop-at.at c.number_at.result c.number_at.ensures ∙ marks-none v.0 c.number_at.result (drop (c.loop-at.at + 1) x) k in
     sym (v.2 ∙ ap (λ l. c.loop-at.marks.items ++ l) none ∙ append-nil c.loop-at.marks.items)
 
 -- after the mark of a position come those inside its statement
@@ -32,10 +32,10 @@ returns-in_default-part_of c t h =
     let P : Shape → Type 0 = λ s. Stands s t in
     let s : Shape = c.script-script.result.now in
     let v = c.loop-at.invariant t (subst P (sym c.script-script.ensures) h) in
-    let k : (u : Tree) × StmtIs s c.in-Some.stmt u × (item_of v.0 c.item.result ≡ Some u) = rw c.in-Some.is at c.stmt_at.ensures v.0 v.1 in
+    let k : (u : Tree) × StmtIs s c.in-Some.stmt u × (item_of v.0 c.number_at.result ≡ Some u) = rw c.in-Some.is at c.stmt_at.ensures v.0 v.1 in
     let out : IsPart s x (c.loop-at.at + 1 + numbers_of k.0) None (part_in k.0 (drop (c.loop-at.at + 1) x)) = rw c.in_default-part_of.is at c.part_of.ensures s k.0 k.1 in
     let none : marks k.0 (drop (c.loop-at.at + 1) x) ≡ [] = marks-out s x (c.loop-at.at + 1 + numbers_of k.0) k.0 (drop (c.loop-at.at + 1) x) out in
-    let along : marks_along v.0 (drop c.loop-at.at x) ≡ mark_of k.0 ∷ [] = marks-at v.0 x c.loop-at.at c.item.result c.item.ensures ∙ marks-some v.0 c.item.result (drop (c.loop-at.at + 1) x) k.0 k.2 ∙ ap (λ l. mark_of k.0 ∷ l) none in
+    let along : marks_along v.0 (drop c.loop-at.at x) ≡ mark_of k.0 ∷ [] = marks-at v.0 x c.loop-at.at c.number_at.result c.number_at.ensures ∙ marks-some v.0 c.number_at.result (drop (c.loop-at.at + 1) x) k.0 k.2 ∙ ap (λ l. mark_of k.0 ∷ l) none in
     let m : c.position_mark.result ≡ mark_of k.0 = c.position_mark.ensures s k.0 k.1 in
     c.in_ok-push.ensures.items ∙ ap (λ m. c.loop-at.marks.items ++ m ∷ []) m ∙ sym (v.2 ∙ ap (λ l. c.loop-at.marks.items ++ l) along)
 
@@ -44,10 +44,10 @@ loop-at-smaller c =
     let x = c.args.x.now in
     let s : Shape = c.script-script.result.now in
     let v = c.loop-at.invariant c.whole.ensures.0 c.whole.ensures.1 in
-    let k : (u : Tree) × StmtIs s c.in-Some.stmt u × (item_of v.0 c.item.result ≡ Some u) = rw c.in-Some.is at c.stmt_at.ensures v.0 v.1 in
+    let k : (u : Tree) × StmtIs s c.in-Some.stmt u × (item_of v.0 c.number_at.result ≡ Some u) = rw c.in-Some.is at c.stmt_at.ensures v.0 v.1 in
     let on : IsPart s x (c.loop-at.at + 1 + numbers_of k.0) (Some c.in-Some-part_of.part) (part_in k.0 (drop (c.loop-at.at + 1) x)) = rw c.in-Some-part_of.is at c.part_of.ensures s k.0 k.1 in
     let e : c.in-Some-part_of.part.at ≡ c.loop-at.at + 1 + numbers_of k.0 = (marks-on s x (c.loop-at.at + 1 + numbers_of k.0) k.0 (drop (c.loop-at.at + 1) x) c.in-Some-part_of.part on).at in
-    omega (arith, c.loop-at-test.true, c.len.ensures)
+    omega (arith, c.loop-at-test.true)
 
 one : (done : List Mark) (m n : Mark) (items rest all : List Mark) → items ≡ (done ++ m ∷ []) ++ n ∷ [] → all ≡ m ∷ (n ∷ rest) → done ++ all ≡ items ++ rest
 one done m n items rest all e f =
@@ -58,11 +58,11 @@ loop-at-preserved c t h =
     let x = c.args.x.now in
     let s : Shape = c.script-script.result.now in
     let v = c.loop-at.invariant t h in
-    let k : (u : Tree) × StmtIs s c.in-Some.stmt u × (item_of v.0 c.item.result ≡ Some u) = rw c.in-Some.is at c.stmt_at.ensures v.0 v.1 in
+    let k : (u : Tree) × StmtIs s c.in-Some.stmt u × (item_of v.0 c.number_at.result ≡ Some u) = rw c.in-Some.is at c.stmt_at.ensures v.0 v.1 in
     let on : IsPart s x (c.loop-at.at + 1 + numbers_of k.0) (Some c.in-Some-part_of.part) (part_in k.0 (drop (c.loop-at.at + 1) x)) = rw c.in-Some-part_of.is at c.part_of.ensures s k.0 k.1 in
     let g : Marked s x (c.loop-at.at + 1 + numbers_of k.0) c.in-Some-part_of.part k.0 (drop (c.loop-at.at + 1) x) = marks-on s x (c.loop-at.at + 1 + numbers_of k.0) k.0 (drop (c.loop-at.at + 1) x) c.in-Some-part_of.part on in
     let rest : List Mark = marks_along g.block (drop c.in-Some-part_of.part.at x) in
-    let along : marks_along v.0 (drop c.loop-at.at x) ≡ mark_of k.0 ∷ (option_to_list (part_mark k.0 c.in-Some-part_of.part.number) ++ rest) = marks-at v.0 x c.loop-at.at c.item.result c.item.ensures ∙ marks-some v.0 c.item.result (drop (c.loop-at.at + 1) x) k.0 k.2 ∙ ap (λ l. mark_of k.0 ∷ l) g.same in
+    let along : marks_along v.0 (drop c.loop-at.at x) ≡ mark_of k.0 ∷ (option_to_list (part_mark k.0 c.in-Some-part_of.part.number) ++ rest) = marks-at v.0 x c.loop-at.at c.number_at.result c.number_at.ensures ∙ marks-some v.0 c.number_at.result (drop (c.loop-at.at + 1) x) k.0 k.2 ∙ ap (λ l. mark_of k.0 ∷ l) g.same in
     let m : c.position_mark.result ≡ mark_of k.0 = c.position_mark.ensures s k.0 k.1 in
     let p : c.part_mark.result ≡ part_mark k.0 c.in-Some-part_of.part.number = c.part_mark.ensures s k.0 k.1 in
     let pushed : c.push.new.self.items ≡ c.loop-at.marks.items ++ mark_of k.0 ∷ [] = c.in_ok-push.ensures.items ∙ ap (λ m. c.loop-at.marks.items ++ m ∷ []) m in (
@@ -85,4 +85,4 @@ returns c t h =
     let x = c.args.x.now in
     let P : Shape → Type 0 = λ s. Stands s t in
     let v = c.loop-at.invariant t (subst P (sym c.script-script.ensures) h) in
-    sym (v.2 ∙ ap (λ z. c.loop-at.marks.items ++ marks_along v.0 z) (drop_all c.loop-at.at x (omega (arith, c.loop-at-test.false, c.len.ensures))) ∙ append-nil c.loop-at.marks.items)
+    sym (v.2 ∙ ap (λ z. c.loop-at.marks.items ++ marks_along v.0 z) (drop_all c.loop-at.at x (omega (arith, c.loop-at-test.false))) ∙ append-nil c.loop-at.marks.items)

@@ -9,7 +9,7 @@ use Rattle.rx_span.specs.Inside.Best.{may_lead, pick, best_chains}
 use Rattle.rx_span.specs.Inside.Kept.{follow, past, IsLaid, IsKept}
 use Rattle.rx_span.proofs.Sharing.{shared-left, shared-right, marks_of-all}
 use Rattle.rx_span.proofs.Depths.{path-short}
-use Rattle.rx_span.proofs.Passing.{next-map, is_path, table, kept_follows, kept_short, next_linked, next_state, all-passed}
+use Rattle.rx_span.proofs.Passing.{is_path, table, kept_follows, kept_short, next_linked, next_state, all-passed}
 use Rattle.rx_span.proofs.links.link.Goals as goal
 
 length_now : {X : Type 0} (f : X → List ℕ) (xs : List X) (n : ℕ) → n < length xs → n < length (map f xs)
@@ -22,8 +22,8 @@ look-looked-requires g c =
     let xs : List (List ℕ) = map (λ p. p.now) c.args.paths.now in
     let n : ℕ = c.loop-at.at in
     let low : n < length xs = length_now (λ p. p.now) c.args.paths.now n c.loop-at-test.true in
-    let x : c.index-paths-at.result.now ≡ next_of n xs = next-map (λ p. p.now) c.args.paths.now n c.index-paths-at.result c.index-paths-at.is c.loop-at-test.true in
-    let len : c.len.result ≡ length (next_of n xs) = c.len.ensures ∙ ap length x in
+    let x : c.path_at-x.result.now ≡ next_of n xs = c.path_at-x.ensures in
+    let len : length c.path_at-x.result.now ≡ length (next_of n xs) = ap length x in
     let lay : IsLaid c.loop-at.from c.loop-at.passed (length (next_of n xs)) c.loop-at.rows.items c.lay.new.rows.items c.in_ok-inside.inside = subst (λ m. IsLaid c.loop-at.from c.loop-at.passed m c.loop-at.rows.items c.lay.new.rows.items c.in_ok-inside.inside) len c.in_ok-inside.ensures in
     let tab = table t xs n low c.requires.descends (c.requires.paths t st) c.loop-at.rows.items c.lay.new.rows.items c.loop-at.from c.loop-at.passed c.in_ok-inside.inside (c.loop-at.invariant.state t st) c.loop-at.invariant.rows lay in
     let ms : c.mark_numbers.new.marks.items ≡ marks_of t (next_of n xs) = c.in_ok-mark_numbers.ensures t st ∙ ap (marks_of t) x in
@@ -36,8 +36,8 @@ returns-in_err-push-clause-looks g c =
     let xs : List (List ℕ) = map (λ p. p.now) c.args.paths.now in
     let n : ℕ = c.loop-at.at in
     let low : n < length xs = length_now (λ p. p.now) c.args.paths.now n c.loop-at-test.true in
-    let x : c.index-paths-at.result.now ≡ next_of n xs = next-map (λ p. p.now) c.args.paths.now n c.index-paths-at.result c.index-paths-at.is c.loop-at-test.true in
-    let len : c.len.result ≡ length (next_of n xs) = c.len.ensures ∙ ap length x in
+    let x : c.path_at-x.result.now ≡ next_of n xs = c.path_at-x.ensures in
+    let len : length c.path_at-x.result.now ≡ length (next_of n xs) = ap length x in
     let lay : IsLaid c.loop-at.from c.loop-at.passed (length (next_of n xs)) c.loop-at.rows.items c.lay.new.rows.items c.in_ok-inside.inside = subst (λ m. IsLaid c.loop-at.from c.loop-at.passed m c.loop-at.rows.items c.lay.new.rows.items c.in_ok-inside.inside) len c.in_ok-inside.ensures in
     let tab = table t xs n low c.requires.descends (c.requires.paths t st) c.loop-at.rows.items c.lay.new.rows.items c.loop-at.from c.loop-at.passed c.in_ok-inside.inside (c.loop-at.invariant.state t st) c.loop-at.invariant.rows lay in
     let path : length (next_of n xs) ≤ 65 = path-short t c.checked.ensures.4 (next_of n xs) (is_path t xs n low c.requires.descends (c.requires.paths t st)) in
@@ -54,8 +54,8 @@ overflow_add-own g c =
     let xs : List (List ℕ) = map (λ p. p.now) c.args.paths.now in
     let n : ℕ = c.loop-at.at in
     let low : n < length xs = length_now (λ p. p.now) c.args.paths.now n c.loop-at-test.true in
-    let x : c.index-paths-at.result.now ≡ next_of n xs = next-map (λ p. p.now) c.args.paths.now n c.index-paths-at.result c.index-paths-at.is c.loop-at-test.true in
-    let len : c.len.result ≡ length (next_of n xs) = c.len.ensures ∙ ap length x in
+    let x : c.path_at-x.result.now ≡ next_of n xs = c.path_at-x.ensures in
+    let len : length c.path_at-x.result.now ≡ length (next_of n xs) = ap length x in
     let lay : IsLaid c.loop-at.from c.loop-at.passed (length (next_of n xs)) c.loop-at.rows.items c.lay.new.rows.items c.in_ok-inside.inside = subst (λ m. IsLaid c.loop-at.from c.loop-at.passed m c.loop-at.rows.items c.lay.new.rows.items c.in_ok-inside.inside) len c.in_ok-inside.ensures in
     let tab = table t xs n low c.requires.descends (c.requires.paths t st) c.loop-at.rows.items c.lay.new.rows.items c.loop-at.from c.loop-at.passed c.in_ok-inside.inside (c.loop-at.invariant.state t st) c.loop-at.invariant.rows lay in
     let ms : c.deref-in-loop-at.result.now ≡ marks_of t (next_of n xs) = c.deref-in-loop-at.ensures.value ∙ c.in_ok-mark_numbers.ensures t st ∙ ap (marks_of t) x in
@@ -73,8 +73,8 @@ loop-at-preserved g c =
     let xs : List (List ℕ) = map (λ p. p.now) c.args.paths.now in
     let n : ℕ = c.loop-at.at in
     let low : n < length xs = length_now (λ p. p.now) c.args.paths.now n c.loop-at-test.true in
-    let x : c.index-paths-at.result.now ≡ next_of n xs = next-map (λ p. p.now) c.args.paths.now n c.index-paths-at.result c.index-paths-at.is c.loop-at-test.true in
-    let len : c.len.result ≡ length (next_of n xs) = c.len.ensures ∙ ap length x in
+    let x : c.path_at-x.result.now ≡ next_of n xs = c.path_at-x.ensures in
+    let len : length c.path_at-x.result.now ≡ length (next_of n xs) = ap length x in
     let lay : IsLaid c.loop-at.from c.loop-at.passed (length (next_of n xs)) c.loop-at.rows.items c.lay.new.rows.items c.in_ok-inside.inside = subst (λ m. IsLaid c.loop-at.from c.loop-at.passed m c.loop-at.rows.items c.lay.new.rows.items c.in_ok-inside.inside) len c.in_ok-inside.ensures in
     let tab = table t xs n low c.requires.descends (c.requires.paths t st) c.loop-at.rows.items c.lay.new.rows.items c.loop-at.from c.loop-at.passed c.in_ok-inside.inside (c.loop-at.invariant.state t st) c.loop-at.invariant.rows lay in
     let path : length (next_of n xs) ≤ 65 = path-short t c.checked.ensures.4 (next_of n xs) (is_path t xs n low c.requires.descends (c.requires.paths t st)) in

@@ -1,24 +1,21 @@
 use Rattle.std.proofs.Common.{◌≡◌, ◌∙◌, ℕ, ◌<◌, ◌≤◌, List, [], ◌∷◌, ◌++◌, length, map, get_or, ap, sym, subst, arith, rules, append_assoc, append-nil}
-use Rattle.std.specs.Prelude.{Some, slice_get, option_map}
-use Rattle.std.proofs.lemmas.Option.{slice_get_within, get_or_from_slice_get, slice_get-map, slice_get-get_or, same_Some}
+use Rattle.std.specs.Prelude.{Some, slice_get}
+use Rattle.std.proofs.lemmas.Option.{slice_get_within, get_or_from_slice_get}
 use Rattle.std.proofs.lemmas.List.{length-map}
 use Rattle.rx_base.proofs.Elements.{empty-from}
 use Rattle.rx_span.specs.Inside.Kept.{IsKept}
+use Rattle.rx_span.proofs.Passing.{next-there}
 use Rattle.rx_span.proofs.Ties.{first-found}
 use Rattle.rx_span.proofs.links.read.Goals as goal
 
 within-map : {X : Type 0} (f : X → List ℕ) (xs : List X) (i : ℕ) (x : List ℕ) → slice_get (map f xs) i ≡ Some x → i < length xs
 within-map f xs i x e = let l = slice_get_within (map f xs) i x e in let m = length-map xs f in omega arith
 
-at-map : {X : Type 0} (f : X → List ℕ) (xs : List X) (i : ℕ) (x : List ℕ) (y : X) → slice_get (map f xs) i ≡ Some x → y ≡ get_or xs i y → f y ≡ x
-at-map f xs i x y e g =
-    ap f g ∙ same_Some (f (get_or xs i y)) x (ap (option_map f) (sym (slice_get-get_or xs i y (within-map f xs i x e))) ∙ sym (slice_get-map f xs i) ∙ e)
-
 pub loop-rest-init : goal.loop-rest-init
 loop-rest-init c = λ cs d h k. (d, k, ap (λ l. l ++ d) (sym c.open-chain.ensures))
 
-pub bounds-paths-rest : goal.bounds-paths-rest
-bounds-paths-rest c =
+pub path_at-requires : goal.path_at-requires
+path_at-requires c =
     let r = c.requires in
     let v = c.loop-rest.invariant r.0 r.1 r.2 r.3 in
     let f = first-found r.0 (map (λ p. p.now) c.args.paths.now) c.args.links.now r.2 c.loop-rest.rest v.0 c.loop-rest-test.true v.1 in
@@ -30,9 +27,6 @@ bounds-links-rest c =
     let v = c.loop-rest.invariant r.0 r.1 r.2 r.3 in
     let f = first-found r.0 (map (λ p. p.now) c.args.paths.now) c.args.links.now r.2 c.loop-rest.rest v.0 c.loop-rest-test.true v.1 in
     slice_get_within c.args.links.now c.loop-rest.rest.head f.link f.link_at
-
-pub offset_bounds-paths-rest : goal.offset_bounds-paths-rest
-offset_bounds-paths-rest c = let h : c.loop-rest.rest.head < length c.args.paths.now = bounds-paths-rest c in search rules
 
 pub offset_bounds-links-rest : goal.offset_bounds-links-rest
 offset_bounds-links-rest c = let h : c.loop-rest.rest.head < length c.args.links.now = bounds-links-rest c in search rules
@@ -56,7 +50,7 @@ loop-rest-preserved c cs d h k =
       f.rest,
       subst (λ l. IsKept cs l f.rest) (sym e) f.kept,
       v.2 ∙ ap (λ l. c.loop-rest.chain ++ l) f.whole ∙ sym (append_assoc c.loop-rest.chain (f.path ∷ []) f.rest)
-          ∙ ap (λ y. (c.loop-rest.chain ++ y ∷ []) ++ f.rest) (sym (c.in_ok-copy.ensures ∙ at-map (λ p. p.now) c.args.paths.now c.loop-rest.rest.head f.path c.index-paths-rest.result f.path_at c.index-paths-rest.is)) ∙ ap (λ l. l ++ f.rest) (sym c.in_ok-push.ensures.ok),
+          ∙ ap (λ y. (c.loop-rest.chain ++ y ∷ []) ++ f.rest) (sym (c.in_ok-from_slice.ensures ∙ c.path_at.ensures ∙ next-there (λ p. p.now) c.args.paths.now c.loop-rest.rest.head f.path f.path_at)) ∙ ap (λ l. l ++ f.rest) (sym c.in_ok-push.ensures.ok),
     )
 
 pub returns : goal.returns

@@ -20,23 +20,23 @@ count f ys xs p = sym (length-map xs f) ∙ length_permutation ys (map f xs) p
 pub link-requires-clause-paths : goal.link-requires-clause-paths
 link-requires-clause-paths g c code st =
     subst (λ l. ArePaths code (map (λ p. p.now) l)) (sym c.deref.ensures.value)
-    (paths-permutation code (told c.args.history.now.entries) (map (λ p. p.now) c.in_ok-paths.paths.items) c.in_ok-paths.ensures.same (c.requires.paths code st))
+    (paths-permutation code (told c.args.history.now.entries) (map (λ p. p.now) c.in_ok-paths.paths.items) (c.in_ok-paths.ensures.same (told c.args.history.now.entries) c.in_ok-copies.ensures) (c.requires.paths code st))
 
 pub returns-in_err-linked-clause-looks : goal.returns-in_err-linked-clause-looks
 returns-in_err-linked-clause-looks g c =
-    let n = ap length c.deref.ensures.value ∙ count (λ p. p.now) (told c.args.history.now.entries) c.in_ok-paths.paths.items c.in_ok-paths.ensures.same in
+    let n = ap length c.deref.ensures.value ∙ count (λ p. p.now) (told c.args.history.now.entries) c.in_ok-paths.paths.items (c.in_ok-paths.ensures.same (told c.args.history.now.entries) c.in_ok-copies.ensures) in
     let looks = c.link.ensures.looks in
     omega arith
 
 pub returns-in_err-chain-clause-looks : goal.returns-in_err-chain-clause-looks
 returns-in_err-chain-clause-looks g c =
-    let n = ap length c.deref.ensures.value ∙ count (λ p. p.now) (told c.args.history.now.entries) c.in_ok-paths.paths.items c.in_ok-paths.ensures.same in
+    let n = ap length c.deref.ensures.value ∙ count (λ p. p.now) (told c.args.history.now.entries) c.in_ok-paths.paths.items (c.in_ok-paths.ensures.same (told c.args.history.now.entries) c.in_ok-copies.ensures) in
     let looks = c.link.ensures.looks in
     omega arith
 
 pub returns-clause-looks : goal.returns-clause-looks
 returns-clause-looks g c =
-    let n = ap length c.deref.ensures.value ∙ count (λ p. p.now) (told c.args.history.now.entries) c.in_ok-paths.paths.items c.in_ok-paths.ensures.same in
+    let n = ap length c.deref.ensures.value ∙ count (λ p. p.now) (told c.args.history.now.entries) c.in_ok-paths.paths.items (c.in_ok-paths.ensures.same (told c.args.history.now.entries) c.in_ok-copies.ensures) in
     let looks = c.link.ensures.looks in
     omega arith
 
@@ -58,7 +58,7 @@ read-requires g c =
 
 pub overflow_cast-result : goal.overflow_cast-result
 overflow_cast-result g c =
-    let n = count (λ p. p.now) (told c.args.history.now.entries) c.in_ok-paths.paths.items c.in_ok-paths.ensures.same in
+    let n = count (λ p. p.now) (told c.args.history.now.entries) c.in_ok-paths.paths.items (c.in_ok-paths.ensures.same (told c.args.history.now.entries) c.in_ok-copies.ensures) in
     let few = c.requires.few in
     let bound : c.len.result < 2 ^ 32 = omega (arith, c.len.ensures, c.in_ok-paths.paths.ok.0) in
     search rules
@@ -76,4 +76,4 @@ returns-clause-span g c code st =
     let same : pick cs ≡ pick (best_chains code (backwards (length ys) ys)) =
     ap (λ n. pick (best_chains code (backwards n (map (λ p. p.now) c.deref.result.now)))) whole ∙ ap (λ l. pick (best_chains code (backwards (length ys) (map (λ p. p.now) l)))) c.deref.ensures.value in
     let n : c.len.result ≡ length ys = let e = length-map items (λ p. p.now) in omega (arith, c.len.ensures, c.in_ok-paths.paths.ok.0) in
-    spanned code (told c.args.history.now.entries) ys c.len.result c.in_ok-chain.chain c.in_ok-paths.ensures.same c.in_ok-paths.ensures.descends n (chain ∙ same)
+    spanned code (told c.args.history.now.entries) ys c.len.result c.in_ok-chain.chain (c.in_ok-paths.ensures.same (told c.args.history.now.entries) c.in_ok-copies.ensures) c.in_ok-paths.ensures.descends n (chain ∙ same)

@@ -15,12 +15,20 @@ next-told : (done more : List (List ℕ)) (x : List ℕ) (batch all : List (List
 next-told done more x batch all k e h i =
     ap (λ l. l ++ drop (k + 1) batch) e ∙ append_assoc done (x ∷ []) (drop (k + 1) batch) ∙ ap (λ l. done ++ l) (sym (drop-next batch k x h)) ∙ i
 
+pub add-requires : goal.add-requires
+add-requires c =
+    let h = c.loop-i.invariant in
+    let k = c.loop-k.invariant h.0 h.1 in
+    (k.0, k.1)
+
 pub loop-k-preserved : goal.loop-k-preserved
-loop-k-preserved c =
-    record {
-      whole = next-told (map (λ p. p.now) c.loop-k.told.paths.items) (map (λ p. p.now) c.add.new.self.paths.items) c.item-in-loop-k.result.now c.in-Step.batch (map (λ p. p.now) c.loop-i.told.paths.items ++ c.in-Step.batch) c.loop-k.k c.in_ok-add.ensures.paths c.item-in-loop-k.ensures c.loop-k.invariant.whole;
-      rises = c.in_ok-add.ensures.ascending c.loop-k.invariant.rises;
-    }
+loop-k-preserved c = λ done h.
+    let k = c.loop-k.invariant done h in
+    let x = c.item-in-loop-k.result.now in (
+      k.0 ++ x ∷ [],
+      c.in_ok-add.ensures k.0 k.1,
+      next-told k.0 (k.0 ++ x ∷ []) x c.in-Step.batch (done ++ c.in-Step.batch) c.loop-k.k refl c.item-in-loop-k.ensures k.2,
+    )
 
 -- one more entry
 entry-told : (done more : List (List ℕ)) (e : Entry) (es : List Entry) (i : ℕ) → slice_get es i ≡ Some e → more ≡ done ++ told_in e → done ++ told (drop i es) ≡ told es → more ++ told (drop (i + 1) es) ≡ told es
@@ -40,24 +48,20 @@ whole-told done all batch own k l e =
 
 pub loop-i-preserved : goal.loop-i-preserved
 loop-i-preserved c =
-    let done : List (List ℕ) = map (λ p. p.now) c.loop-i.told.paths.items in
-    record {
-      whole = entry-told done (map (λ p. p.now) c.match-item.told.paths.items) c.item.result.now c.args.history.now.entries c.loop-i.i c.item.ensures
-          (elim c.match-item.branch [
-            | in-Step+else-loop-k-test+in-Some+in_ok-add-2 w ↦
-                let own : own_path w.in-Step.act ≡ w.in-Some.path.now ∷ [] = w.path_of.ensures ∙ ap (λ o. map (λ p. p.now) (option_to_list o)) w.in-Some.is in
-                ap (λ v. map (λ p. p.now) v.paths.items) w.told-is ∙ w.in_ok-add-2.ensures.paths ∙ ap (λ l. map (λ p. p.now) w.loop-k.told.paths.items ++ l) (sym own)
-                ∙ whole-told done (map (λ p. p.now) w.loop-k.told.paths.items) w.in-Step.batch (own_path w.in-Step.act) w.loop-k.k (omega (arith, w.loop-k-test.false, w.len-k-end.ensures)) w.loop-k.invariant.whole ∙ ap (λ e. done ++ told_in e) (sym w.in-Step.is)
-            | in-Step+else-loop-k-test+in_default-path_of w ↦
-                let own : own_path w.in-Step.act ≡ [] = w.path_of.ensures ∙ ap (λ o. map (λ p. p.now) (option_to_list o)) w.in_default-path_of.is in
-                ap (λ v. map (λ p. p.now) v.paths.items) w.told-is ∙ sym (append-nil (map (λ p. p.now) w.loop-k.told.paths.items)) ∙ ap (λ l. map (λ p. p.now) w.loop-k.told.paths.items ++ l) (sym own)
-                ∙ whole-told done (map (λ p. p.now) w.loop-k.told.paths.items) w.in-Step.batch (own_path w.in-Step.act) w.loop-k.k (omega (arith, w.loop-k-test.false, w.len-k-end.ensures)) w.loop-k.invariant.whole ∙ ap (λ e. done ++ told_in e) (sym w.in-Step.is)
-            | in_default w ↦ ap (λ v. map (λ p. p.now) v.paths.items) w.told-is ∙ sym (append-nil done) ∙ ap (λ l. done ++ l) (sym (told-other c.item.result.now w.in_default.not-Step))
-          ])
-          c.loop-i.invariant.whole;
-      rises = elim c.match-item.branch [
-        | in-Step+else-loop-k-test+in-Some+in_ok-add-2 w ↦ rw w.told-is (w.in_ok-add-2.ensures.ascending w.loop-k.invariant.rises)
-        | in-Step+else-loop-k-test+in_default-path_of w ↦ rw w.told-is w.loop-k.invariant.rises
-        | in_default w ↦ rw w.told-is c.loop-i.invariant.rises
-      ];
-    }
+    let h = c.loop-i.invariant in
+    elim c.match-item.branch [
+      | in-Step+else-loop-k-test+in-Some+in_ok-add-2 w ↦
+          let k = w.loop-k.invariant h.0 h.1 in
+          let own : own_path w.in-Step.act ≡ w.in-Some.path.now ∷ [] = w.path_of.ensures ∙ ap (λ o. map (λ p. p.now) (option_to_list o)) w.in-Some.is in
+          let xs = k.0 ++ w.in-Some.path.now ∷ [] in
+          let all : xs ≡ h.0 ++ told_in c.item.result.now = ap (λ l. k.0 ++ l) (sym own) ∙ whole-told h.0 k.0 w.in-Step.batch (own_path w.in-Step.act) w.loop-k.k (omega (arith, w.loop-k-test.false, w.len-k-end.ensures)) k.2 ∙ ap (λ e. h.0 ++ told_in e) (sym w.in-Step.is) in
+          (xs, rw w.copies-is (w.in_ok-add-2.ensures k.0 k.1), entry-told h.0 xs c.item.result.now c.args.history.now.entries c.loop-i.i c.item.ensures all h.2)
+      | in-Step+else-loop-k-test+in_default-path_of w ↦
+          let k = w.loop-k.invariant h.0 h.1 in
+          let own : own_path w.in-Step.act ≡ [] = w.path_of.ensures ∙ ap (λ o. map (λ p. p.now) (option_to_list o)) w.in_default-path_of.is in
+          let all : k.0 ≡ h.0 ++ told_in c.item.result.now = sym (append-nil k.0) ∙ ap (λ l. k.0 ++ l) (sym own) ∙ whole-told h.0 k.0 w.in-Step.batch (own_path w.in-Step.act) w.loop-k.k (omega (arith, w.loop-k-test.false, w.len-k-end.ensures)) k.2 ∙ ap (λ e. h.0 ++ told_in e) (sym w.in-Step.is) in
+          (k.0, rw w.copies-is k.1, entry-told h.0 k.0 c.item.result.now c.args.history.now.entries c.loop-i.i c.item.ensures all h.2)
+      | in_default w ↦
+          let all : h.0 ≡ h.0 ++ told_in c.item.result.now = sym (append-nil h.0) ∙ ap (λ l. h.0 ++ l) (sym (told-other c.item.result.now w.in_default.not-Step)) in
+          (h.0, rw w.copies-is h.1, entry-told h.0 h.0 c.item.result.now c.args.history.now.entries c.loop-i.i c.item.ensures all h.2)
+    ]

@@ -1,19 +1,14 @@
-use Rattle.std.proofs.Common.{◌≡◌, ◌++◌, true, drop, map}
-use Rattle.std.specs.Prelude.{reverse}
+use Rattle.std.proofs.Common.{◌≡◌, ◌++◌, ℕ, List, drop}
 use Rattle.rx_rules.specs.Order.{told}
-use Rattle.rx_span.specs.Inside.Sorting.{Descends}
+use Rattle.rx_span.specs.Inside.Copied.{AreCopied}
 use Rattle.rx_span.proofs.paths.statements.Given as goal
 
+-- those of the entries so far are copied
 abbrev pub invariant-loop-i : goal.invariant-loop-i
 invariant-loop-i l =
-    record {
-      whole : map (λ p. p.now) l.told.paths.items ++ told (drop l.i l.history.entries) ≡ told l.history.entries;
-      rises : l.told.ascending ≡ true → Descends (reverse (map (λ p. p.now) l.told.paths.items));
-    }
+    (xs : List (List ℕ)) × AreCopied xs l.copies × (xs ++ told (drop l.i l.history.entries) ≡ told l.history.entries)
 
+-- and those of the batch so far
 abbrev pub invariant-loop-k : goal.invariant-loop-k
 invariant-loop-k l =
-    record {
-      whole : map (λ p. p.now) l.told.paths.items ++ drop l.k l.batch ≡ map (λ p. p.now) l.initial.told.paths.items ++ l.batch;
-      rises : l.told.ascending ≡ true → Descends (reverse (map (λ p. p.now) l.told.paths.items));
-    }
+    (done : List (List ℕ)) → AreCopied done l.initial.copies → (xs : List (List ℕ)) × AreCopied xs l.copies × (xs ++ drop l.k l.batch ≡ done ++ l.batch)

@@ -1,7 +1,6 @@
-use Rattle.std.proofs.Common.{◌≡◌, [], ◌∷◌, ◌++◌, ◌≤◌, ◌+◌, suc, length, take, ap, sym, ◌∙◌, subst, arith}
+use Rattle.std.proofs.Common.{◌≡◌, ◌≤◌, ◌+◌, suc, length, take, ap, sym, ◌∙◌, subst, arith}
 use Rattle.rx_timely.specs.Deaths.{AreDeaths}
-use Rattle.rx_timely.specs.Inside.Noted.{with_death}
-use Rattle.rx_timely.proofs.Dying.{take-next, length-front, deaths-next}
+use Rattle.rx_timely.proofs.Dying.{take-next, length-front}
 use Rattle.rx_timely.proofs.deaths.deaths_of.Goals as goal
 
 pub loop-i-preserved : goal.loop-i-preserved
@@ -13,6 +12,4 @@ loop-i-preserved c =
     let long : length (take i es) ≡ i = length-front es i fits in
     let next : suc i ≡ i + 1 = omega arith in
     let front = sym (take-next es i e c.item.ensures) ∙ ap (λ n. take n es) next in
-    let noted = deaths-next (take i es) c.loop-i.deaths e c.loop-i.invariant in
-    let now : with_death c.loop-i.deaths (length (take i es)) e ≡ c.note_death.new.deaths = ap (λ n. with_death c.loop-i.deaths n e) long ∙ sym c.note_death.ensures in
-    subst (λ l. AreDeaths l c.note_death.new.deaths) front (subst (AreDeaths (take i es ++ e ∷ [])) now noted)
+    subst (λ l. AreDeaths l c.note_death.new.deaths) front (c.note_death.ensures (take i es) long c.loop-i.invariant)

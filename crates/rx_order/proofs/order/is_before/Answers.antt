@@ -3,7 +3,7 @@ use Rattle.std.proofs.lemmas.List.{drop_all}
 use Rattle.rx_rules.specs.Code.{Block}
 use Rattle.rx_rules.specs.Order.{comes_before}
 use Rattle.rx_nodes.specs.Shape.{Shape, Stands, BlockStands}
-use Rattle.rx_order.proofs.order.before.Goals as goal
+use Rattle.rx_order.proofs.order.is_before.Goals as goal
 
 pub step-requires-clause-block : goal.step-requires-clause-block
 step-requires-clause-block c = let v = c.loop-at.invariant c.whole.ensures.0 c.whole.ensures.1 in (v.0, v.1)
@@ -23,7 +23,7 @@ loop-at-smaller c =
     let y = c.args.y.now in
     let v = c.loop-at.invariant c.whole.ensures.0 c.whole.ensures.1 in
     let k : (d : Block) × BlockStands c.script-script.result.now c.in-On.part.block d × (comes_before v.0 (drop c.loop-at.at x) (drop c.loop-at.at y) ≡ comes_before d (drop c.in-On.part.at x) (drop c.in-On.part.at y)) × (c.loop-at.at + 1 ≤ c.in-On.part.at) = rw c.in-On.is at c.step.ensures v.0 v.1 in
-    omega (arith, k.3, c.loop-at-test.true, c.len.ensures)
+    omega (arith, k.3, c.loop-at-test.true)
 
 pub loop-at-preserved : goal.loop-at-preserved
 loop-at-preserved c t h =
@@ -39,4 +39,4 @@ returns c t h =
     let y = c.args.y.now in
     let P : Shape → Type 0 = λ s. Stands s t in
     let v = c.loop-at.invariant t (subst P (sym c.script-script.ensures) h) in
-    sym (v.2 ∙ ap (λ z. comes_before v.0 z (drop c.loop-at.at y)) (drop_all c.loop-at.at x (omega (arith, c.loop-at-test.false, c.len.ensures))))
+    sym (v.2 ∙ ap (λ z. comes_before v.0 z (drop c.loop-at.at y)) (drop_all c.loop-at.at x (omega (arith, c.loop-at-test.false))))

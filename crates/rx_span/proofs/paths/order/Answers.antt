@@ -4,8 +4,8 @@ use Rattle.std.specs.Ordering.{is_lt, nat_cmp}
 use Rattle.std.proofs.lemmas.Bool.Decides.{nat_tests}
 use Rattle.rx_span.specs.Inside.Sorting.{shared}
 use Rattle.rx_span.proofs.Sharing.{order-at, order-end, at-index}
-use Rattle.rx_span.proofs.paths.order_numbers.Goals as goal
-use Rattle.rx_span.proofs.paths.order_numbers.Goals.{then-at-x-via-then-at-x, then-at-x-via-else-at-x+then-at-y}
+use Rattle.rx_span.proofs.paths.order.Goals as goal
+use Rattle.rx_span.proofs.paths.order.Goals.{then-at-x-via-then-at-x, then-at-x-via-else-at-x+then-at-y}
 
 less-cmp : (m n : ℕ) → is_lt (nat_cmp m n) ≡ nat_lt m n
 less-cmp m n = grind (arith, nat_tests)
@@ -14,7 +14,7 @@ pub returns-then-at-x : goal.returns-then-at-x
 returns-then-at-x c =
     let x = c.args.x.now in
     let y = c.args.y.now in
-    let e : c.together-at.result ≡ shared x y = c.together-at.ensures in
+    let e : c.shared-at.result ≡ shared x y = c.shared-at.ensures in
     let over : (length x ≤ shared x y) ⊎ (length y ≤ shared x y) = elim c.then-at-x.branch [
       | then-at-x-via-then-at-x w ↦ inl (omega (arith, w.if-at-x.true))
       | then-at-x-via-else-at-x+then-at-y w ↦ inr (omega (arith, w.if-at-y.true))
@@ -25,8 +25,8 @@ pub returns : goal.returns
 returns c =
     let x = c.args.x.now in
     let y = c.args.y.now in
-    let k = c.together-at.result in
-    let e : k ≡ shared x y = c.together-at.ensures in
+    let k = c.shared-at.result in
+    let e : k ≡ shared x y = c.shared-at.ensures in
     let there : (z : List ℕ) → k < length z → slice_get z (shared x y) ≡ Some (slice_index z k) =
     λ z low. subst (λ n. slice_get z n ≡ Some (slice_index z k)) e (at-index z k low) in
     ap is_lt c.cmp-2.ensures ∙ less-cmp (slice_index x k) (slice_index y k)

@@ -1,6 +1,6 @@
 use Rattle.std.proofs.Common.{◌≡◌, ◌+◌, ◌-◌, ◌≤◌, length, drop}
 use Rattle.rx_span.specs.Inside.Sorting.{shared}
-use Rattle.rx_span.proofs.paths.together.Given as goal
+use Rattle.rx_span.proofs.paths.shared.Given as goal
 
 -- the numbers below `at` are the same
 abbrev pub invariant-loop-at : goal.invariant-loop-at

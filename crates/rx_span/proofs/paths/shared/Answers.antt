@@ -1,6 +1,6 @@
 use Rattle.std.proofs.Common.{arith}
 use Rattle.rx_span.proofs.Sharing.{shared-over_right}
-use Rattle.rx_span.proofs.paths.together.Goals as goal
+use Rattle.rx_span.proofs.paths.shared.Goals as goal
 
 pub returns-else-at-y : goal.returns-else-at-y
 returns-else-at-y c =

@@ -1,12 +1,13 @@
 -- The faults of the places of a set, one place after another.
-use Rattle.std.specs.Prelude.{◌≡◌, ℕ, zero, suc, ◌+◌, ◌<◌, true, false, List, [], ◌∷◌, ◌++◌, map, filter, drop, Some, slice_get, refl}
-use Rattle.std.proofs.Common.{ap, ◌∙◌, sym, subst, arith}
+use Rattle.std.specs.Prelude.{◌≡◌, ℕ, ◌+◌, ◌<◌, true, false, List, [], ◌∷◌, ◌++◌, map, filter, drop, Some, slice_get, length, refl}
+use Rattle.std.proofs.Common.{ap, ◌∙◌, sym, subst}
 use Rattle.std.proofs.lemmas.List.{at_drop_more, append_assoc, append-nil}
 use Rattle.std.proofs.lemmas.Option.{slice_get_within, get_or_from_slice_get}
 use Rattle.rx_base.specs.declared.place_set.PlaceSet.{PlaceSet}
 use Rattle.rx_base.specs.declared.values.Fault.{Fault}
 use Rattle.rx_base.specs.declared.values.Fault.TheVariants.{Dead}
 use Rattle.rx_base.specs.Sets.{all_places, has_bit, members}
+use Rattle.rx_base.proofs.Elements.{empty-from}
 use Rattle.rx_base.proofs.Members.{place-at}
 
 next_place : (p : ℕ) → p < 16 → drop p all_places ≡ p ∷ drop (p + 1) all_places
@@ -39,3 +40,11 @@ pub raises-all : (lost : PlaceSet) (fs : List Fault) (p : ℕ) → p ≡ 16 → 
 raises-all lost fs p e so =
     let nothing : fs ++ raised_from lost 16 ≡ raised_all lost = subst (λ (n : ℕ). fs ++ raised_from lost n ≡ raised_all lost) e so in
     sym (append-nil fs) ∙ nothing
+
+pub same-set : (lost set : PlaceSet) → lost.0 ≡ set.0 → lost ≡ set
+same-set lost set e = ap (λ n. record { 0 = n }) e
+
+-- a release that lost no place and has no faults raises none
+pub raises-nothing : (lost set : PlaceSet) (thrown : List Fault) → lost ≡ set → members set ≡ [] → length thrown ≡ 0 → [] ≡ raised_all lost ++ thrown
+raises-nothing lost set thrown e m n =
+    sym (ap (λ fs. fs ++ thrown) (ap raised_all e ∙ ap (map (λ n. Dead (record { 0 = n }))) m) ∙ empty-from thrown n)

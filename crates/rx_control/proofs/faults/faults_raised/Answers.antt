@@ -1,9 +1,14 @@
 use Rattle.std.specs.Result.{IfOk}
 use Rattle.std.proofs.Common.{◌≡◌, ◌<◌, ◌≤◌, ◌+◌, List, ◌++◌, arith, ap, sym, ◌∙◌, subst}
+use Rattle.std.proofs.lemmas.Bool.{eqb-true}
 use Rattle.rx_base.specs.declared.values.Fault.{Fault}
-use Rattle.rx_control.proofs.Raising.{raised_from, raised_all, raises-one, raises-none, raises-all}
+use Rattle.rx_control.proofs.Raising.{raised_from, raised_all, raises-one, raises-none, raises-all, raises-nothing, same-set}
 use Rattle.rx_control.proofs.faults.faults_raised.Goals.{then-contains+in_ok-push, else-contains}
 use Rattle.rx_control.proofs.faults.faults_raised.Goals as goal
+
+pub returns-then-len-eq0 : goal.returns-then-len-eq0
+returns-then-len-eq0 c =
+    c.open-faults.ensures ∙ raises-nothing c.args.lost c.empty.result c.args.thrown.now (same-set c.args.lost c.empty.result (eqb-true c.args.lost.0 c.empty.result.0 (sym c.if-eq.ensures))) c.empty.ensures (sym c.len.ensures ∙ c.if-len-eq0.true)
 
 pub loop-place-init : goal.loop-place-init
 loop-place-init c = ap (λ fs. fs ++ raised_all c.args.lost) c.open-faults.ensures

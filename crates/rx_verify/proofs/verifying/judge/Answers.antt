@@ -15,7 +15,7 @@ returns-in-Some g c = λ code st.
     let U = given c.args.history.now.setup in
     let es = c.args.history.now.entries in
     let js = events_of c.args.journals.now in
-    let flaw = subst (λ (o : Option ℕ). FirstFlaw S c.args.program.now.script U es js c.first_flaw.new.audit c.first_flaw.new.players o) c.in-Some.is c.in_ok-number.ensures in
+    let flaw = subst (λ (o : Option ℕ). FirstFlaw S c.args.program.now.script U es js c.first_flaw.new.audit c.first_flaw.new.players o) c.in-Some.is c.in_ok-flaw.ensures.flaw in
     let both = flaw.1 code st in
     (flaw.0, λ m le. (c.parts_begin.ensures code U es js).1 m c.in-Some.number le both.0, both.1)
 
@@ -25,7 +25,7 @@ returns-then-not-has_ended g c = λ code st.
     let U = given c.args.history.now.setup in
     let es = c.args.history.now.entries in
     let js = events_of c.args.journals.now in
-    let pass = subst (λ (o : Option ℕ). FirstFlaw S c.args.program.now.script U es js c.first_flaw.new.audit c.first_flaw.new.players o) c.in-None.is c.in_ok-number.ensures in
+    let pass = subst (λ (o : Option ℕ). FirstFlaw S c.args.program.now.script U es js c.first_flaw.new.audit c.first_flaw.new.players o) c.in-None.is c.in_ok-flaw.ensures.flaw in
     let audit = subst (λ (xs : List Entry). AuditIs S U xs c.first_flaw.new.audit) (take-length es) pass.audit in
     let part = part_here S c.args.program.now.script U es js (length es) c.seats_tell.ensures c.first_flaw.new.audit c.first_flaw.new.players pass code st in
     (λ n le. (c.parts_begin.ensures code U es js).1 n (length es) le part, λ last. true≢false (sym ((c.has_ended.ensures U es audit).1 last) ∙ c.if-not-has_ended.true))
@@ -37,7 +37,7 @@ finish-requires g c =
     let es = c.args.history.now.entries in
     let js = events_of c.args.journals.now in
     let x = c.checked.ensures in
-    let pass = subst (λ (o : Option ℕ). FirstFlaw S c.args.program.now.script U es js c.first_flaw.new.audit c.first_flaw.new.players o) c.in-None.is c.in_ok-number.ensures in
+    let pass = subst (λ (o : Option ℕ). FirstFlaw S c.args.program.now.script U es js c.first_flaw.new.audit c.first_flaw.new.players o) c.in-None.is c.in_ok-flaw.ensures.flaw in
     (x.0, U, es, x.1, pass.players x.0 x.1)
 
 pub returns : goal.returns
@@ -46,7 +46,7 @@ returns g c =
     let U = given c.args.history.now.setup in
     let es = c.args.history.now.entries in
     let js = events_of c.args.journals.now in
-    let pass = subst (λ (o : Option ℕ). FirstFlaw S c.args.program.now.script U es js c.first_flaw.new.audit c.first_flaw.new.players o) c.in-None.is c.in_ok-number.ensures in
+    let pass = subst (λ (o : Option ℕ). FirstFlaw S c.args.program.now.script U es js c.first_flaw.new.audit c.first_flaw.new.players o) c.in-None.is c.in_ok-flaw.ensures.flaw in
     let audit = subst (λ (xs : List Entry). AuditIs S U xs c.first_flaw.new.audit) (take-length es) pass.audit in
     let last = (c.has_ended.ensures U es audit).0 c.if-not-has_ended.false in
     ok_as c.judge_events.result _ _ c.judge_events.ensures (λ v told code st.

@@ -3,6 +3,7 @@ use rx_base::{GlobalRef, NoMemory, Path, PlaceId, TaskId};
 use rx_history::{History, JoinList, Journal, Journals, KillList, Setup};
 use rx_replay::{EventAt, Marks, first_flaw, first_unclosed, judge_events, lawful_events};
 use rx_rules::{Cell, Entry, PlaceEvent};
+use rx_timely::deaths_of;
 use rx_verdict::Verdict;
 use std::alloc::Global;
 use std::test::Fail;
@@ -95,7 +96,8 @@ fn an_unmarked_event_has_no_cause(rt: HostRuntime) -> Result<(), Fail> {
         joins: JoinList::open(rt.alloc()),
     };
     let history = History::open(rt.alloc(), setup);
-    let found = first_flaw(rt.alloc(), &history, &journals, &marks)?;
+    let deaths = deaths_of(&history);
+    let found = first_flaw(rt.alloc(), &history, &deaths, &journals, &marks)?;
     assert_eq!(rt;
         found,
         Some(EventAt {
@@ -103,7 +105,7 @@ fn an_unmarked_event_has_no_cause(rt: HostRuntime) -> Result<(), Fail> {
             number: 0
         })
     );
-    assert_eq!(rt; first_unclosed(&history, &journals), None);
+    assert_eq!(rt; first_unclosed(&history, &deaths, &journals), None);
     Ok(())
 }
 
@@ -132,7 +134,8 @@ fn judged(alloc: Global, close: Option<u32>) -> Result<Verdict, NoMemory> {
     journals.push(Journal::open(alloc))?;
     journals.push(closed(alloc, close)?)?;
     let marks = Marks::open(alloc, &journals)?;
-    judge_events(alloc, &history, &journals, &marks)
+    let deaths = deaths_of(&history);
+    judge_events(alloc, &history, &deaths, &journals, &marks)
 }
 
 #[test]

@@ -2,3 +2,4 @@ pub mod Outside
 pub mod Memory
 pub mod Sets
 pub mod Lists
+pub mod Few

@@ -117,7 +117,7 @@ ways p q = both (place_field p) (place_field q) (natural p.0) (natural q.0)
 
 acts : (act : Act) → (is_line (act_word act) ≡ true) × (is_line (act_fields act) ≡ true)
 acts (Open s r x) = (refl, both (scope_in s r) (path_field x) (scopes s r) (path x))
-acts (At s r c p q x) =
+acts (At p q s r c x) =
     let front = both (scope_in s r) (task_field c) (scopes s r) (natural c.0) in
     let whole = both (scope_in s r ++ task_field c) (way p q) front (ways p q) in
     (refl, both (scope_in s r ++ task_field c ++ way p q) (path_field x) whole (path x))

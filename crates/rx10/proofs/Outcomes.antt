@@ -100,7 +100,7 @@ apart i a b d e = let same : byte i a ≡ byte i b = ap (byte i) e in let test :
 not-root : (lost : PlaceSet) (masked : ℕ) (thrown : List Fault) (t : TaskId) (act : Act) (batch : List (List ℕ)) → entry_text (Root lost masked thrown) ≡ entry_text (StepEntry t act batch) → ⊥
 unfolding byte
 not-root lost masked thrown t (Open s r x) batch e = apart 1 _ _ refl e
-not-root lost masked thrown t (At s r c p q x) batch e = apart 1 _ _ refl e
+not-root lost masked thrown t (At p q s r c x) batch e = apart 1 _ _ refl e
 not-root lost masked thrown t (Spawn c s p q x) batch e = apart 1 _ _ refl e
 not-root lost masked thrown t (Arrive p) batch e = apart 1 _ _ refl e
 not-root lost masked thrown t (Wait s raised) batch e = apart 1 _ _ refl e
@@ -179,7 +179,7 @@ traces-tell U es fs js ks h k e = texts-tell U es fs js ks [] [] h k (ap (λ t. 
 entry-plain : (e : Entry) → entry_text (plain e) ≡ entry_text e
 unfolding lost_part
 entry-plain (StepEntry t (Open s r x) batch) = refl
-entry-plain (StepEntry t (At s r c p q x) batch) = refl
+entry-plain (StepEntry t (At p q s r c x) batch) = refl
 entry-plain (StepEntry t (Spawn c s p q x) batch) = refl
 entry-plain (StepEntry t (Arrive p) batch) = refl
 entry-plain (StepEntry t (Wait s thrown) batch) = refl
@@ -211,7 +211,7 @@ status-plain (Join p ∷ es) = status-plain es
 
 act-plain : (p : Act → Bool) (act : Act) → ((s : ScopeId) (lost : PlaceSet) (masked : ℕ) (thrown : List Fault) → p (Release s (plain_set lost) masked thrown) ≡ p (Release s lost masked thrown)) → p (plain_act act) ≡ p act
 act-plain p (Open s r x) h = refl
-act-plain p (At s r c from to x) h = refl
+act-plain p (At from to s r c x) h = refl
 act-plain p (Spawn c s from to x) h = refl
 act-plain p (Arrive q) h = refl
 act-plain p (Wait s thrown) h = refl

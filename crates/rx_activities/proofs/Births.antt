@@ -143,7 +143,7 @@ called_so L rest ticket callee child code st w =
     let kept : is_refusal reply ≡ false = refl in
     let a : OpensAt (tree_of L.fixed.setup.places (there L rest reply child code st w kept)) (there L rest reply child code st w kept) w.op.request ticket callee (now L rest reply child code st w).entries = answers L rest reply child code st w kept in
     let ask : w.op.request.ask ≡ AskCall a.to = ap (λ (q : Request). q.ask) a.asked in
-    starts_it L rest reply child code st w kept a.who (ActCall a.scope a.who.inner a.child (place_number a.who.place) a.to a.path) a.child a.scope a.to a.path (Calls a.to.0) (ap (λ (q : Request). asker q.ticket) a.asked)
+    starts_it L rest reply child code st w kept a.who (ActCall (place_number a.who.place) a.to a.scope a.who.inner a.child a.path) a.child a.scope a.to a.path (Calls a.to.0) (ap (λ (q : Request). asker q.ticket) a.asked)
     a.entry.allowed a.entry.added refl (λ n i x. refl) a.entry.allowed.asks.3 a.entry.allowed.asks.4
     (λ t is. subst (SuitsStep (does w.hand.control.value.vars w.hand.place.0 t)) ask (w.asks t is)) (ap (λ (q : Request). q.path) a.asked) refl (λ here t from path. (refl, from, path))
     callee a.callee_is (λ folds numbers. children_begin (given L.fixed.setup) (there L rest reply child code st w kept) (now L rest reply child code st w).entries w.op.request reply folds a numbers)

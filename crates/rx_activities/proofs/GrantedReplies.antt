@@ -131,7 +131,7 @@ module _ (shape : Shape) (L : BookName LedgerFixed) (rest : Rest) (child : Optio
   called_who = who_is shape L rest (Called ticket callee) child w called_answer.answers.who (ap (λ (z : Request). asker z.ticket) called_answer.answers.asked)
 
   abbrev called_act : Act
-  called_act = ActCall called_answer.answers.scope called_answer.answers.who.inner called_answer.answers.child (place_number called_answer.answers.who.place) called_answer.answers.to called_answer.answers.path
+  called_act = ActCall (place_number called_answer.answers.who.place) called_answer.answers.to called_answer.answers.scope called_answer.answers.who.inner called_answer.answers.child called_answer.answers.path
 
   called_so : (code : Block) (stands : Stands L.fixed.program.script code) (s : StandsSo code L w.hand w.knows.who.task) → GrantedSo shape L rest (Called ticket callee) child w code s (Held ticket) called_act
   called_so code stands s =

@@ -31,7 +31,7 @@ batch-long (x ∷ batch) = omega (arith, fields-long (x ∷ batch), length-appen
 -- so does the word of an act, which tells one path at most
 own-long : (act : Act) → length (own_path act) ≤ length (act_word act)
 own-long (Open scope parent path) = omega arith
-own-long (At scope parent callee from to path) = omega arith
+own-long (At from to scope parent callee path) = omega arith
 own-long (Spawn child scope from to path) = omega arith
 own-long (Arrive place) = omega arith
 own-long (Wait scope thrown) = omega arith

@@ -186,7 +186,7 @@ module _ (U : Given) (es : List Entry) (t q : ℕ) (row : Row) (folds : Folds U 
   -- where the row lets it, the ledger may be asked
   pub asked : (act : Act) → may_ask row.standing row.kinds.items q act ≡ true → MayAskAct T row.who act
   asked (Open s r path) e = moving_asks T row.who row.standing e h.stands
-  asked (Calls s r c from to path) e =
+  asked (Calls from to s r c path) e =
       let p = both (is_moving row.standing) (nat_lt to.0 q) e in
       record { asks = moving_asks T row.who row.standing p.0 h.stands; target = subst (λ (n : ℕ). to.0 < n) there (less to.0 q p.1) }
   asked (Spawn c s from to path) e =
@@ -207,7 +207,7 @@ module _ (U : Given) (es : List Entry) (t q : ℕ) (row : Row) (folds : Folds U 
   -- and where it does not, the act is not allowed
   pub not_asked : (act : Act) → may_ask row.standing row.kinds.items q act ≡ false → AllowedAct T row.who.task act → ⊥
   not_asked (Open s r path) e act = not_moving T row.who row.standing _ e h.stands act act.asks.0
-  not_asked (Calls s r c from to path) e act =
+  not_asked (Calls from to s r c path) e act =
       elim (either (is_moving row.standing) (nat_lt to.0 q) e) [
         | inl w ↦ not_moving T row.who row.standing _ w h.stands act (from, act.asks.0)
         | inr w ↦ (let a : q ≤ to.0 = not_less to.0 q w in let b : to.0 < T.places = act.asks.4 in let v : ⊥ = absurd (omega (arith, a, b, there)) in v)

@@ -83,7 +83,7 @@ same_or_not m n =
 -- as its own act tells
 kinds_own : (act : Act) (own : Owned) → kinds_after act (kinds_of own) ≡ kinds_of (own_after act own)
 kinds_own (Open s r path) own = sym (kinds_more Finish (map (λ o. o.1) own))
-kinds_own (Calls s r c from to path) own = sym (kinds_more Call (map (λ o. o.1) own))
+kinds_own (Calls from to s r c path) own = sym (kinds_more Call (map (λ o. o.1) own))
 kinds_own (Spawn c s from to path) own = refl
 kinds_own (Arrive p) own = refl
 kinds_own (Wait s thrown) own = refl
@@ -131,16 +131,16 @@ module _ (U : Given) (es : List Entry) (folds : Folds U es) where
   so = sound (fold_reached U.places es folds.some folds.few folds.allowed)
 
   -- the callee of an at
-  callee_stands : (t : TaskId) (s r : ScopeId) (c : TaskId) (from to : PlaceId) (path : List ℕ) → AllowedAct T t (Calls s r c from to path) → HasNumbers (made_act T t (Calls s r c from to path)) → StandsAs (made_act T t (Calls s r c from to path)) (fresh_caller c s (cond (from.0 == to.0) (At to) (Travel from to))) (cond (from.0 == to.0) Moving Away)
+  callee_stands : (t : TaskId) (s r : ScopeId) (c : TaskId) (from to : PlaceId) (path : List ℕ) → AllowedAct T t (Calls from to s r c path) → HasNumbers (made_act T t (Calls from to s r c path)) → StandsAs (made_act T t (Calls from to s r c path)) (fresh_caller c s (cond (from.0 == to.0) (At to) (Travel from to))) (cond (from.0 == to.0) Moving Away)
   callee_stands t s r c from to path act few =
       let next : c.0 ≡ T.next_task = act.asks.3 in
       let low : t.0 < T.next_task = task_below T.next_task T.tasks t act.task so.tasks_fall act.stands in
       let mine : (c.0 == c.0) ≡ true = eq-eqb c.0 c.0 refl in
       let other : (c.0 == t.0) ≡ false = ne_eqb c.0 t.0 (λ e. absurd (omega (arith, low, next, e))) in
       let apart : (t.0 == c.0) ≡ false = ne_eqb t.0 c.0 (λ e. absurd (omega (arith, low, next, e))) in
-      let none : links (made_act T t (Calls s r c from to path)) c ≡ [] = rw apart (ap (map link) (unborn T so c next)) in
-      let stands : task_of (made_act T t (Calls s r c from to path)) c ≡ Some (born T c s from to) = rw other (rw mine refl) in
-      newborn T (made_act T t (Calls s r c from to path)) c s from to stands none few
+      let none : links (made_act T t (Calls from to s r c path)) c ≡ [] = rw apart (ap (map link) (unborn T so c next)) in
+      let stands : task_of (made_act T t (Calls from to s r c path)) c ≡ Some (born T c s from to) = rw other (rw mine refl) in
+      newborn T (made_act T t (Calls from to s r c path)) c s from to stands none few
 
   -- the child of a spawn
   child_stands : (t c : TaskId) (s : ScopeId) (from to : PlaceId) (path : List ℕ) → AllowedAct T t (Spawn c s from to path) → HasNumbers (made_act T t (Spawn c s from to path)) → StandsAs (made_act T t (Spawn c s from to path)) (fresh_caller c s (cond (from.0 == to.0) (At to) (Travel from to))) (cond (from.0 == to.0) Moving Away)
@@ -191,7 +191,7 @@ module _ (U : Given) (es : List Entry) (folds : Folds U es) where
       where
         same_task : (ps : List ScopeId) (c : Act) (w : Caller) → (who_after ps c w).task ≡ w.task
         same_task ps (Open s r path) w = refl
-        same_task ps (Calls s r d from to path) w = refl
+        same_task ps (Calls from to s r d path) w = refl
         same_task ps (Spawn d s from to path) w = refl
         same_task ps (Arrive p) w = refl
         same_task ps (Wait s thrown) w = refl
@@ -204,7 +204,7 @@ module _ (U : Given) (es : List Entry) (folds : Folds U es) where
     child_row : (row : Row) → BornBy act (Some row) → RowIs V fs T.next_task row
     child_row row new = by act may few new where
       by : (a : Act) (m : AllowedAct T t a) (f : HasNumbers (made_act T t a)) → BornBy a (Some row) → RowIs (made_act T t a) (es ++ Step t a batch ∷ []) T.next_task row
-      by (Calls s r c from to path) m f b = newborn_row (made_act T t (Calls s r c from to path)) t c (Calls s r c from to path) batch s from to row below m.asks.3 b (callee_stands t s r c from to path m f)
+      by (Calls from to s r c path) m f b = newborn_row (made_act T t (Calls from to s r c path)) t c (Calls from to s r c path) batch s from to row below m.asks.3 b (callee_stands t s r c from to path m f)
       by (Spawn c s from to path) m f b = newborn_row (made_act T t (Spawn c s from to path)) t c (Spawn c s from to path) batch s from to row below m.asks.1 b (child_stands t c s from to path m f)
       by (Open s r path) m f b = absurd (let v : ⊥ = cc in v)
       by (Arrive p) m f b = absurd (let v : ⊥ = cc in v)
@@ -221,8 +221,8 @@ module _ (U : Given) (es : List Entry) (folds : Folds U es) where
       none o n e same = let z : length (option_to_list o) ≡ 0 = ap (λ (p : Option Row). length (option_to_list p)) e in omega (arith, z, same)
 
       by : (a : Act) (o : Option Row) → AllowedAct T t a → BornBy a o → T.next_task + length (option_to_list o) ≡ (made_act T t a).next_task
-      by (Calls s r c from to path) (Some row) m b = omega arith
-      by (Calls s r c from to path) None m b = absurd b
+      by (Calls from to s r c path) (Some row) m b = omega arith
+      by (Calls from to s r c path) None m b = absurd b
       by (Spawn c s from to path) (Some row) m b = omega arith
       by (Spawn c s from to path) None m b = absurd b
       by (Open s r path) o m b = none o T.next_task b refl

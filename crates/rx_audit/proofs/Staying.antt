@@ -121,7 +121,7 @@ module _ (U : Given) (es : List Entry) (who : Caller) (folds : Folds U es) where
       let it : f.at.task ≡ act.task = cc in
       sym f.at.inner_is ∙ (ap (inner T) it ∙ sym act.asks.2)
 
-  calls_inside : (P : Task → Type 0) (s r : ScopeId) (c : TaskId) (from to : PlaceId) (path : List ℕ) → MayAsk T who P → AllowedAct T who.task (Calls s r c from to path) → who.inner ≡ r
+  calls_inside : (P : Task → Type 0) (s r : ScopeId) (c : TaskId) (from to : PlaceId) (path : List ℕ) → MayAsk T who P → AllowedAct T who.task (Calls from to s r c path) → who.inner ≡ r
   calls_inside P s r c from to path may act =
       let f = stands_free T who P _ may act in
       let same : Some f.at.task ≡ Some act.task = sym f.at.stands ∙ act.stands in
@@ -134,10 +134,10 @@ module _ (U : Given) (es : List Entry) (who : Caller) (folds : Folds U es) where
       let is = opens_inside IsMoving s r path may act in
       subst (λ (v : ScopeId). MayAskMoving (made_act T who.task (Open s v path)) (record who { inner = s })) is
       (opened_on T so who s path may (subst (λ (v : ScopeId). AllowedAct T who.task (Open s v path)) (sym is) act) (subst (λ (v : ScopeId). HasNumbers (made_act T who.task (Open s v path))) (sym is) few))
-  acted ps Moving ks q (Calls s r c from to path) told ok may st act few =
+  acted ps Moving ks q (Calls from to s r c path) told ok may st act few =
       let is = calls_inside IsMoving s r c from to path may.asks act in
-      subst (λ (v : ScopeId). MayAskRelease (made_act T who.task (Calls s v c from to path)) (record who { inner = s })) is
-      (called_on T so who s c from to path may.asks (subst (λ (v : ScopeId). AllowedAct T who.task (Calls s v c from to path)) (sym is) act) (subst (λ (v : ScopeId). HasNumbers (made_act T who.task (Calls s v c from to path))) (sym is) few))
+      subst (λ (v : ScopeId). MayAskRelease (made_act T who.task (Calls from to s v c path)) (record who { inner = s })) is
+      (called_on T so who s c from to path may.asks (subst (λ (v : ScopeId). AllowedAct T who.task (Calls from to s v c path)) (sym is) act) (subst (λ (v : ScopeId). HasNumbers (made_act T who.task (Calls from to s v c path))) (sym is) few))
   acted ps Moving ks q (Spawn c s from to path) told ok may st act few = started_on T so who c s from to path may.asks act few
   acted ps Away ks q (Arrive p) told ok may st act few = landed p may act few
   acted ps Moving ks q (Wait s thrown) told ok may st act few =
@@ -151,7 +151,7 @@ module _ (U : Given) (es : List Entry) (who : Caller) (folds : Folds U es) where
   acted ps Moving ks q (Print value path) told ok may st act few = may
   acted ps Moving ks q (Census places path) told ok may st act few = may
   acted ps Away ks q (Open s r path) told ok may st act few = absurd (true≢false (sym ok))
-  acted ps Away ks q (Calls s r c from to path) told ok may st act few = absurd (true≢false (sym ok))
+  acted ps Away ks q (Calls from to s r c path) told ok may st act few = absurd (true≢false (sym ok))
   acted ps Away ks q (Spawn c s from to path) told ok may st act few = absurd (true≢false (sym ok))
   acted ps Away ks q (Wait s thrown) told ok may st act few = absurd (true≢false (sym ok))
   acted ps Away ks q (Release s lost masked thrown) told ok may st act few = absurd (true≢false (sym ok))
@@ -161,7 +161,7 @@ module _ (U : Given) (es : List Entry) (who : Caller) (folds : Folds U es) where
   acted ps Moving ks q (Arrive p) told ok may st act few = absurd (true≢false (sym ok))
   acted ps Moving ks q (Release s lost masked thrown) told ok may st act few = absurd (true≢false (sym ok))
   acted ps Waiting ks q (Open s r path) told ok may st act few = absurd (true≢false (sym ok))
-  acted ps Waiting ks q (Calls s r c from to path) told ok may st act few = absurd (true≢false (sym ok))
+  acted ps Waiting ks q (Calls from to s r c path) told ok may st act few = absurd (true≢false (sym ok))
   acted ps Waiting ks q (Spawn c s from to path) told ok may st act few = absurd (true≢false (sym ok))
   acted ps Waiting ks q (Arrive p) told ok may st act few = absurd (true≢false (sym ok))
   acted ps Waiting ks q (Wait s thrown) told ok may st act few = absurd (true≢false (sym ok))
@@ -169,7 +169,7 @@ module _ (U : Given) (es : List Entry) (who : Caller) (folds : Folds U es) where
   acted ps Waiting ks q (Print value path) told ok may st act few = absurd (true≢false (sym ok))
   acted ps Waiting ks q (Census places path) told ok may st act few = absurd (true≢false (sym ok))
   acted ps Over ks q (Open s r path) told ok may st act few = absurd (true≢false (sym ok))
-  acted ps Over ks q (Calls s r c from to path) told ok may st act few = absurd (true≢false (sym ok))
+  acted ps Over ks q (Calls from to s r c path) told ok may st act few = absurd (true≢false (sym ok))
   acted ps Over ks q (Spawn c s from to path) told ok may st act few = absurd (true≢false (sym ok))
   acted ps Over ks q (Arrive p) told ok may st act few = absurd (true≢false (sym ok))
   acted ps Over ks q (Wait s thrown) told ok may st act few = absurd (true≢false (sym ok))

@@ -41,7 +41,7 @@ ends_inside kinds = is_finish_in (slice_get kinds (length kinds - 1))
 -- a task that stands so and has scopes of these kinds may ask for the act, where there are so many places
 abbrev pub may_ask : Standing → List Kind → ℕ → Act → Bool
 may_ask s kinds places (Open scope r path) = is_moving s
-may_ask s kinds places (Calls scope r callee from to path) = is_moving s && nat_lt to.0 places
+may_ask s kinds places (Calls from to scope r callee path) = is_moving s && nat_lt to.0 places
 may_ask s kinds places (Spawn child scope from to path) = is_moving s && nat_lt to.0 places
 may_ask s kinds places (Arrive p) = is_away s
 may_ask s kinds places (Wait scope thrown) = is_moving s && ends_inside kinds
@@ -53,7 +53,7 @@ may_ask s kinds places (Census n path) = is_moving s
 -- what the ledger's call for an act asks
 abbrev pub MayAskAct : Tree → Caller → Act → Type 0
 MayAskAct T who (Open s r path) = MayAskMoving T who
-MayAskAct T who (Calls s r callee from to path) = MayAskTo T who to
+MayAskAct T who (Calls from to s r callee path) = MayAskTo T who to
 MayAskAct T who (Spawn child s from to path) = MayAskTo T who to
 MayAskAct T who (Arrive p) = MayAskArrive T who
 MayAskAct T who (Wait s thrown) = MayAskWait T who

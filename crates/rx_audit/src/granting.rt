@@ -45,9 +45,9 @@ fn calls<L: FinishLedger>(
     from: PlaceId,
     to: PlaceId,
 ) -> Result<bool, NoMemory>
-    requires { (path : List ℕ) × SomeAsks L.stands ledger.old who (At scope parent callee from to path) }
+    requires { (path : List ℕ) × SomeAsks L.stands ledger.old who (At from to scope parent callee path) }
     ensures { IfOk result (λ b. (path : List ℕ)
-        → Grants L.stands ledger.old ledger.new who (At scope parent callee from to path) b) }
+        → Grants L.stands ledger.old ledger.new who (At from to scope parent callee path) b) }
 {
     if who.inner != parent || place_of(who.place) != from {
         return Ok(false);

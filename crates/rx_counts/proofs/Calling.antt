@@ -88,7 +88,7 @@ called_stands l m T who to s child r zero b st may blow f next num kind home par
         allowed = a;
         made =
             record {
-              reached = acts who.task (Calls s who.inner child from to []) st.reached a;
+              reached = acts who.task (Calls from to s who.inner child []) st.reached a;
               fit =
                   record {
                     places = places ∙ st.fit.places;
@@ -97,7 +97,7 @@ called_stands l m T who to s child r zero b st may blow f next num kind home par
                     next_scope = (let q = st.fit.next_scope in omega arith);
                     totals =
                         totals
-                        ∙ totals_are (more_tasks b (start from to) (more_scopes l.totals)) (made_act T who.task (Calls s who.inner child from to []))
+                        ∙ totals_are (more_tasks b (start from to) (more_scopes l.totals)) (made_act T who.task (Calls from to s who.inner child []))
                         (waits_same (more_tasks b (start from to) (more_scopes l.totals)) (length (g ∷ T.scopes)) (is_task who.task) true (y ∷ T.tasks)
                         (one_born (more_scopes l.totals) (length (g ∷ T.scopes)) T.tasks y (start from to) b refl (struck_if (death_of T to) to ∙ sym dies)
                         (one_scope l.totals (length T.scopes) T.tasks (are l.totals T st.fit.totals))));
@@ -110,7 +110,7 @@ called_stands l m T who to s child r zero b st may blow f next num kind home par
                         (record_new keeps g T.scopes (y ∷ T.tasks) r new (same_places to (start from to) zero r.sums b (λ v. (lost v).0) joins ∙ is_zero.places) mine) st.fit.scopes));
                     masked = masked_opened keeps g T.scopes l.scopes.items m.scopes.items r (st.fit.numbers ∙ sym number) falls lives (same_masked (start from to) zero r.sums b (λ v. (lost v).0) joins ∙ is_zero.masked) p st.fit.masked;
                   };
-              has_room = room_kept l m T (made_act T who.task (Calls s who.inner child from to [])) width refl st.has_room;
+              has_room = room_kept l m T (made_act T who.task (Calls from to s who.inner child [])) width refl st.has_room;
             };
       },
       dies,

@@ -163,7 +163,7 @@ pub main_calls : MayAskTo (opening 4) (caller 0 0 (At (place 0))) (place 1)
 main_calls = record { asks = asks (opening 4) (caller 0 0 (At (place 0))) IsMoving _ refl refl refl refl (record { place = _; is_at = refl; moves = refl }) (lit< tt) (lit< tt); target = lit< tt }
 
 abbrev pub called : Tree
-called = made_act (opening 4) (task 0) (Calls (scope 1) (scope 0) (task 1) (place 0) (place 1) [])
+called = made_act (opening 4) (task 0) (Calls (place 0) (place 1) (scope 1) (scope 0) (task 1) [])
 
 pub called_stands : (b : Born) (S : Tree → Type 0) → CallReply (opening 4) (caller 0 0 (At (place 0))) (place 1) (Ok b) S → S called
 called_stands b S h = called_next (opening 4) (caller 0 0 (At (place 0))) b.scope b.child (place 0) (place 1) S h.0
@@ -206,7 +206,7 @@ still_waits thrown = asks (lost_after thrown) (caller 0 1 (At (place 0))) (Waits
 -- two adoptions, of a finish by a call and of both by a finish
 
 abbrev pub asked : Tree
-asked = made_act (landed (opening 4) 0) (task 1) (Calls (scope 2) (scope 1) (task 2) (place 1) (place 2) [])
+asked = made_act (landed (opening 4) 0) (task 1) (Calls (place 1) (place 2) (scope 2) (scope 1) (task 2) [])
 
 pub first_calls : MayAskTo (landed (opening 4) 0) (caller 1 1 (At (place 1))) (place 2)
 first_calls = record { asks = asks (landed (opening 4) 0) (caller 1 1 (At (place 1))) IsMoving _ refl refl refl refl (record { place = _; is_at = refl; moves = refl }) (lit< tt) (lit< tt); target = lit< tt }

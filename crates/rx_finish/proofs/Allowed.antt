@@ -64,10 +64,10 @@ open_allowed T who s r may u n =
     let f : Free T who IsMoving = free T who IsMoving r may u in
     does_it T who IsMoving (Open s who.inner []) f (lives_here T who IsMoving f f.at.allowed, n, sym f.at.inner_is)
 
-pub call_allowed : (T : Tree) (who : Caller) (to : PlaceId) (s : ScopeId) (callee : TaskId) → Reached T → MayAskTo T who to → IsUnstruck T who → s.0 ≡ T.next_scope → callee.0 ≡ T.next_task → AllowedAct T who.task (Calls s who.inner callee (place_number who.place) to [])
+pub call_allowed : (T : Tree) (who : Caller) (to : PlaceId) (s : ScopeId) (callee : TaskId) → Reached T → MayAskTo T who to → IsUnstruck T who → s.0 ≡ T.next_scope → callee.0 ≡ T.next_task → AllowedAct T who.task (Calls (place_number who.place) to s who.inner callee [])
 call_allowed T who to s callee r may u n m =
     let f : Free T who IsMoving = free T who IsMoving r may.asks u in
-    does_it T who IsMoving (Calls s who.inner callee (place_number who.place) to []) f (lives T who IsMoving f f.at.allowed, n, sym f.at.inner_is, m, may.target)
+    does_it T who IsMoving (Calls (place_number who.place) to s who.inner callee []) f (lives T who IsMoving f f.at.allowed, n, sym f.at.inner_is, m, may.target)
 
 pub spawn_allowed : (T : Tree) (who : Caller) (to : PlaceId) (s : ScopeId) (child : TaskId) → Reached T → MayAskTo T who to → IsUnstruck T who → s ≡ governing T who.inner → child.0 ≡ T.next_task → AllowedAct T who.task (Spawn child s (place_number who.place) to [])
 spawn_allowed T who to s child r may u n m =

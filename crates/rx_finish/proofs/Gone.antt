@@ -50,7 +50,7 @@ gone-end T t thrown =
 
 acted_struck : (T : Tree) (t : TaskId) (act : Act) → all_struck T.gone ≡ true → all_struck (made_act T t act).gone ≡ true
 acted_struck T t (Open s r path) h = h
-acted_struck T t (Calls s r callee from to path) h = h
+acted_struck T t (Calls from to s r callee path) h = h
 acted_struck T t (Spawn child s from to path) h = h
 acted_struck T t (Arrive p) h = h
 acted_struck T t (Wait s thrown) h = h

@@ -43,10 +43,10 @@ asks T who P x e u p i h m n =
 pub opened_next : (T : Tree) (who : Caller) (s : ScopeId) (S : Tree → Type 0) → Did T who (Open s who.inner []) S → S (made_act T who.task (Open (record { 0 = T.next_scope }) who.inner []))
 opened_next T who s S d = subst (λ (n : ℕ). S (made_act T who.task (Open (record { 0 = n }) who.inner []))) d.allowed.asks.1 d.made
 
-pub called_next : (T : Tree) (who : Caller) (s : ScopeId) (callee : TaskId) (from to : PlaceId) (S : Tree → Type 0) → Did T who (Calls s who.inner callee from to []) S → S (made_act T who.task (Calls (record { 0 = T.next_scope }) who.inner (record { 0 = T.next_task }) from to []))
+pub called_next : (T : Tree) (who : Caller) (s : ScopeId) (callee : TaskId) (from to : PlaceId) (S : Tree → Type 0) → Did T who (Calls from to s who.inner callee []) S → S (made_act T who.task (Calls from to (record { 0 = T.next_scope }) who.inner (record { 0 = T.next_task }) []))
 called_next T who s callee from to S d =
-    subst (λ (n : ℕ). S (made_act T who.task (Calls (record { 0 = T.next_scope }) who.inner (record { 0 = n }) from to []))) d.allowed.asks.3
-    (subst (λ (n : ℕ). S (made_act T who.task (Calls (record { 0 = n }) who.inner callee from to []))) d.allowed.asks.1 d.made)
+    subst (λ (n : ℕ). S (made_act T who.task (Calls from to (record { 0 = T.next_scope }) who.inner (record { 0 = n }) []))) d.allowed.asks.3
+    (subst (λ (n : ℕ). S (made_act T who.task (Calls from to (record { 0 = n }) who.inner callee []))) d.allowed.asks.1 d.made)
 
 -- the task that is found is the one
 the_task : (x y : Task) → Some x ≡ Some y → x ≡ y

@@ -65,7 +65,7 @@ OpenReply T who (Err (NotYet place)) S = ⊥
 -- open_at: the callee, the new scope, and whether the callee is born struck
 abbrev pub CallReply : Tree → Caller → PlaceId → Result Born LedgerFault → (Tree → Type 0) → Type 0
 CallReply T who to (Ok b) S =
-    Did T who (Calls b.scope who.inner b.child (place_number who.place) to []) S × (b.lost ≡ is_some (death_of T to))
+    Did T who (Calls (place_number who.place) to b.scope who.inner b.child []) S × (b.lost ≡ is_some (death_of T to))
 CallReply T who to (Err NoMemory) S = IsUnstruck T who × S T
 CallReply T who to (Err (Lost place at)) S = WasLost T who place at × S T
 CallReply T who to (Err (NotYet place)) S = ⊥

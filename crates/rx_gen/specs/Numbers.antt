@@ -16,7 +16,7 @@ has_some (x ∷ xs) = true
 
 -- a task is born: it is spawned, or called by an `at`
 abbrev pub starts_by : Act → Bool
-starts_by (At scope parent callee from to path) = true
+starts_by (At from to scope parent callee path) = true
 starts_by (Spawn child scope from to path) = true
 starts_by (Census places path) = false
 starts_by _ = false

@@ -108,7 +108,7 @@ not_task t c p x false e o h = refl
 -- an act of another task, and one that is neither arrival nor end, leaves it
 pub here-act : (T : Tree) (t : TaskId) (act : Act) (c p : ℕ) → AllowedAct T t act → (t.0 ≡ c → ⊥) ⊎ (((w : PlaceId) → act ≡ Arrive w → ⊥) × ((faults : List Fault) → act ≡ End faults → ⊥)) → stays_here T c p ≡ true → stays_here (made_act T t act) c p ≡ true
 here-act T t (Open s r x) c p a o h = h
-here-act T t (Calling s r d from to x) c p a o h =
+here-act T t (Calling from to s r d x) c p a o h =
     any-change (is_task t) waiting (is_here c p) (λ y e k. k) (born T d s from to ∷ T.tasks) (or_right (is_here c p (born T d s from to)) (list_any (is_here c p) T.tasks) h)
 here-act T t (Spawn d s from to x) c p a o h = or_right (is_here c p (born T d s from to)) (list_any (is_here c p) T.tasks) h
 here-act T t (Arrive w) c p a (inl o) h =
@@ -152,7 +152,7 @@ born_here T d s from to e dead =
     let free : is_none {T = Blow} (option_map (λ n. record { place = to; entry = n }) (death_of T to)) ≡ true = ap (λ (o : Option ℕ). is_none {T = Blow} (option_map (λ n. record { place = to; entry = n }) o)) dead in
     and_from (d.0 == d.0) (is_none (born T d s from to).struck && at_place to.0 (born T d s from to).place) (eq-eqb d.0 d.0 refl) (and_from (is_none (born T d s from to).struck) (at_place to.0 (born T d s from to).place) free at)
 
-pub here-called : (T : Tree) (t : TaskId) (s r : ScopeId) (d : TaskId) (from to : PlaceId) (x : List ℕ) → (from.0 == to.0) ≡ true → death_of T to ≡ None → stays_here (made_act T t (Calling s r d from to x)) d.0 to.0 ≡ true
+pub here-called : (T : Tree) (t : TaskId) (s r : ScopeId) (d : TaskId) (from to : PlaceId) (x : List ℕ) → (from.0 == to.0) ≡ true → death_of T to ≡ None → stays_here (made_act T t (Calling from to s r d x)) d.0 to.0 ≡ true
 here-called T t s r d from to x e dead =
     any-change (is_task t) waiting (is_here d.0 to.0) (λ y i k. k) (born T d s from to ∷ T.tasks) (or_left (is_here d.0 to.0 (born T d s from to)) (list_any (is_here d.0 to.0) T.tasks) (born_here T d s from to e dead))
 

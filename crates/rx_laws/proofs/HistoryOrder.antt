@@ -40,7 +40,7 @@ use Rattle.rx_laws.proofs.KeptStep.{none-open, below-kept, single-kept, grow-kep
 use Rattle.rx_laws.proofs.KeptBirth.{hangs, child-under}
 
 pub started-next : (T : Tree) (t : TaskId) (act : Act) → AllowedAct T t act → (d : TaskId) → started_by act ≡ Some d → d.0 ≡ T.next_task
-started-next T t (Calling s r c from to x) a d e = let same : c ≡ d = cc in ap (λ (v : TaskId). v.0) (sym same) ∙ a.asks.3
+started-next T t (Calling from to s r c x) a d e = let same : c ≡ d = cc in ap (λ (v : TaskId). v.0) (sym same) ∙ a.asks.3
 started-next T t (Spawn c s from to x) a d e = let same : c ≡ d = cc in ap (λ (v : TaskId). v.0) (sym same) ∙ a.asks.1
 started-next T t (Open s r x) a d e = cc
 started-next T t (Arrive p) a d e = cc
@@ -53,7 +53,7 @@ started-next T t (Counted places x) a d e = cc
 starter_no_release : (act : Act) (d : TaskId) → started_by act ≡ Some d → is_release act ≡ false
 starter_no_release (Release s lost masked thrown) d e = cc
 starter_no_release (Open s r x) d e = refl
-starter_no_release (Calling s r c from to x) d e = refl
+starter_no_release (Calling from to s r c x) d e = refl
 starter_no_release (Spawn c s from to x) d e = refl
 starter_no_release (Arrive p) d e = refl
 starter_no_release (Wait s thrown) d e = refl

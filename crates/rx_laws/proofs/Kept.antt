@@ -109,7 +109,7 @@ NextScope T act after =
 
 pub next-scope : (T : Tree) (t : TaskId) (act : Act) → AllowedAct T t act → NextScope T act (made_act T t act)
 next-scope T t (Open s r x) a = inr (s.0, refl, a.asks.1, refl)
-next-scope T t (Calling s r c from to x) a = inr (s.0, refl, a.asks.1, refl)
+next-scope T t (Calling from to s r c x) a = inr (s.0, refl, a.asks.1, refl)
 next-scope T t (Spawn c s from to x) a = inl (refl, refl)
 next-scope T t (Arrive p) a = inl (refl, refl)
 next-scope T t (Wait s thrown) a = inl (refl, refl)
@@ -121,7 +121,7 @@ next-scope T t (Counted places x) a = inl (refl, refl)
 -- chains of scopes that are there stay
 pub walk-more : (past : List Entry) (T : Tree) (t : TaskId) (act : Act) (batch : List (List ℕ)) → AllowedAct T t act → (n : ℕ) → n < T.next_scope → walk (links (Step t act batch ∷ past)) n ≡ walk (links past) n
 walk-more past T t (Open s r x) batch a n h = let e : s.0 ≡ T.next_scope = a.asks.1 in rw (ne_eqb s.0 n (λ k. omega arith))
-walk-more past T t (Calling s r c from to x) batch a n h = let e : s.0 ≡ T.next_scope = a.asks.1 in rw (ne_eqb s.0 n (λ k. omega arith))
+walk-more past T t (Calling from to s r c x) batch a n h = let e : s.0 ≡ T.next_scope = a.asks.1 in rw (ne_eqb s.0 n (λ k. omega arith))
 walk-more past T t (Spawn c s from to x) batch a n h = refl
 walk-more past T t (Arrive p) batch a n h = refl
 walk-more past T t (Wait s thrown) batch a n h = refl
@@ -135,7 +135,7 @@ pub walk-new : (past : List Entry) (T : Tree) (t : TaskId) (act : Act) (batch : 
 walk-new past T t (Open s r x) batch a m h n e =
     let same : s.0 ≡ n = cc in
     rw (eq-eqb s.0 n same) (ap (λ k. n ∷ walk (links past) k) (ap (λ v. v.0) a.asks.2 ∙ h a.task a.stands))
-walk-new past T t (Calling s r c from to x) batch a m h n e =
+walk-new past T t (Calling from to s r c x) batch a m h n e =
     let same : s.0 ≡ n = cc in
     rw (eq-eqb s.0 n same) (ap (λ k. n ∷ walk (links past) k) (ap (λ v. v.0) a.asks.2 ∙ h a.task a.stands))
 walk-new past T t (Spawn c s from to x) batch a m h n e = cc
@@ -149,7 +149,7 @@ walk-new past T t (Counted places x) batch a m h n e = cc
 -- tasks that are there hang where they hung
 pub under-same : (past : List Entry) (T : Tree) (t : TaskId) (act : Act) (batch : List (List ℕ)) → AllowedAct T t act → (c : ℕ) → c < T.next_task → under_in (born_so_far (Step t act batch ∷ past)) c ≡ under_in (born_so_far past) c
 under-same past T t (Open s r x) batch a c h = refl
-under-same past T t (Calling s r d from to x) batch a c h = let e : d.0 ≡ T.next_task = a.asks.3 in rw (ne_eqb d.0 c (λ k. omega arith))
+under-same past T t (Calling from to s r d x) batch a c h = let e : d.0 ≡ T.next_task = a.asks.3 in rw (ne_eqb d.0 c (λ k. omega arith))
 under-same past T t (Spawn d s from to x) batch a c h = let e : d.0 ≡ T.next_task = a.asks.1 in rw (ne_eqb d.0 c (λ k. omega arith))
 under-same past T t (Arrive p) batch a c h = refl
 under-same past T t (Wait s thrown) batch a c h = refl

@@ -43,9 +43,9 @@ pub data Hangs (past : List Entry) (T : Tree) (t : TaskId) (act : Act) (batch : 
   spawns : scope_in act ≡ None → (g : ℕ) → under_in (born_so_far (Step t act batch ∷ past)) T.next_task ≡ g → walk (links (Step t act batch ∷ past)) g ≡ walk (links past) g → g ≡ first_num (line (bones T) (Some (inner_num past t.0))) → is_on g (nums (bones T)) ≡ true → ((x : List ℕ) → Pushes act x → ⊥) → Hangs past T t act batch
 
 pub hangs : (past : List Entry) (T : Tree) → Tied past T → (t : TaskId) (act : Act) (batch : List (List ℕ)) → AllowedAct T t act → own_nums t.0 (cores T) ≡ nums_of (opened past t.0) → (d : TaskId) → started_by act ≡ Some d → Hangs past T t act batch
-hangs past T i t (Calling s r c from to x) batch a own d e =
+hangs past T i t (Calling from to s r c x) batch a own d e =
     calls s.0 refl (rw (eq-eqb c.0 T.next_task a.asks.3))
-    (walk-new past T t (Calling s r c from to x) batch a (inner_num past t.0) (inner-of past T i t own) s.0 refl)
+    (walk-new past T t (Calling from to s r c x) batch a (inner_num past t.0) (inner-of past T i t own) s.0 refl)
 hangs past T i t (Spawn c g from to x) batch a own d e =
     spawns refl g.0 (rw (eq-eqb c.0 T.next_task a.asks.1)) refl
     (ap (λ (v : ScopeId). v.0) a.asks.2 ∙ governs-first T a.task ∙ ap (λ m. first_num (line (bones T) (Some m))) (inner-of past T i t own a.task a.stands))

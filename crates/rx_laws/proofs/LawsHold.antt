@@ -109,7 +109,7 @@ at_entry n past T i (Root lost masked thrown) a =
     let there = root_stands n past T i a.0 a.1 in
     (at_over past T i the_root lost there a.2.is_quiet, at_named past T i the_root lost there a.2.places)
 at_entry n past T i (Step t (Open s r path) batch) a = (tt, tt)
-at_entry n past T i (Step t (Calls s r c from to path) batch) a = (tt, tt)
+at_entry n past T i (Step t (Calls from to s r c path) batch) a = (tt, tt)
 at_entry n past T i (Step t (Spawn c s from to path) batch) a = (tt, tt)
 at_entry n past T i (Step t (Arrive p) batch) a = (tt, tt)
 at_entry n past T i (Step t (Wait s thrown) batch) a = (tt, tt)

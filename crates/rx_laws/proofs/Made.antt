@@ -126,7 +126,7 @@ module _ (n : ℕ) (past : List Entry) (T : Tree) (i : Tied past T) where
       (record { task = c.0; under = s.0; from = from.0; to = to.0 }) (born T c s from to) a.asks.1 there
       (row-born past T i (facts past) (bones T) refl refl refl c s from to a.asks.1 low there)
 
-  makes_call : (t : TaskId) (s r : ScopeId) (c : TaskId) (from to : PlaceId) (path : List ℕ) (batch : List (List ℕ)) → Keeps (Step t (Calls s r c from to path) batch)
+  makes_call : (t : TaskId) (s r : ScopeId) (c : TaskId) (from to : PlaceId) (path : List ℕ) (batch : List (List ℕ)) → Keeps (Step t (Calls from to s r c path) batch)
   makes_call t s r c from to path batch a =
       let there : is_on r.0 (nums (bones T)) ≡ true = subst (λ (v : ScopeId). is_on v.0 (nums (bones T)) ≡ true) (sym a.asks.2) (inner_stands past T i t a.task a.stands) in
       let low : to.0 < 16 = let k : to.0 < T.places = a.asks.4 in let e : T.places ≤ 16 = i.few in omega arith in
@@ -209,7 +209,7 @@ module _ (n : ℕ) (past : List Entry) (T : Tree) (i : Tied past T) where
 
   pub tied-made : (e : Entry) → Allowed T e → Tied (e ∷ past) (made n T e)
   tied-made (Step t (Open s r path) batch) a = makes_open t s r path batch a
-  tied-made (Step t (Calls s r c from to path) batch) a = makes_call t s r c from to path batch a
+  tied-made (Step t (Calls from to s r c path) batch) a = makes_call t s r c from to path batch a
   tied-made (Step t (Spawn c s from to path) batch) a = makes_spawn t c s from to path batch a
   tied-made (Step t (Arrive p) batch) a = makes_arrive t p batch a
   tied-made (Step t (Wait s thrown) batch) a = makes_wait t s thrown batch a

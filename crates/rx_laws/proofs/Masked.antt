@@ -168,7 +168,7 @@ at_entry T (Step t (Release s lost masked thrown) batch) r a =
     masked-loses T s lost masked thrown (sound r) (after_own T t s a.asks.1 (sound r) a.asks.2) a.asks.3
 at_entry T (Root lost masked thrown) r a = masked-loses T the_root lost masked thrown (sound r) (after_root T (sound r)) a.2
 at_entry T (Step t (Open s p path) batch) r a = tt
-at_entry T (Step t (Calls s p c from to path) batch) r a = tt
+at_entry T (Step t (Calls from to s p c path) batch) r a = tt
 at_entry T (Step t (Spawn c s from to path) batch) r a = tt
 at_entry T (Step t (Arrive p) batch) r a = tt
 at_entry T (Step t (Wait s thrown) batch) r a = tt

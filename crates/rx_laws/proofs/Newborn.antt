@@ -20,7 +20,7 @@ use Rattle.rx_laws.proofs.Here.{stays_here, here-called, here-spawned}
 
 pub to-same : (past : List Entry) (T : Tree) (t : TaskId) (act : Act) (batch : List (List ℕ)) → AllowedAct T t act → (c : ℕ) → c < T.next_task → to_in (born_so_far (Step t act batch ∷ past)) c ≡ to_in (born_so_far past) c
 to-same past T t (Open s r x) batch a c h = refl
-to-same past T t (Calling s r d from to x) batch a c h = let e : d.0 ≡ T.next_task = a.asks.3 in rw (ne_eqb d.0 c (λ k. omega arith))
+to-same past T t (Calling from to s r d x) batch a c h = let e : d.0 ≡ T.next_task = a.asks.3 in rw (ne_eqb d.0 c (λ k. omega arith))
 to-same past T t (Spawn d s from to x) batch a c h = let e : d.0 ≡ T.next_task = a.asks.1 in rw (ne_eqb d.0 c (λ k. omega arith))
 to-same past T t (Arrive p) batch a c h = refl
 to-same past T t (Wait s thrown) batch a c h = refl
@@ -39,9 +39,9 @@ pub record Newborn (n : ℕ) (past : List Entry) (T : Tree) (t : TaskId) (act : 
   pub here : (from.0 == to.0) ≡ true → death_of T to ≡ None → stays_here (made_act T t act) d.0 to.0 ≡ true
 
 pub newborn : (n : ℕ) (past : List Entry) (T : Tree) (t : TaskId) (act : Act) (batch : List (List ℕ)) → AllowedAct T t act → (d : TaskId) → started_by act ≡ Some d → Newborn n past T t act batch d
-newborn n past T t (Calling s r c from to x) batch a d e =
+newborn n past T t (Calling from to s r c x) batch a d e =
     let same : c ≡ d = cc in
-    subst (Newborn n past T t (Calling s r c from to x) batch) same
+    subst (Newborn n past T t (Calling from to s r c x) batch) same
     (record { from = from; to = to; birth = rw (eq-eqb c.0 c.0 refl); dest = rw (eq-eqb c.0 c.0 refl); target = a.asks.4; here = here-called T t s r c from to x })
 newborn n past T t (Spawn c s from to x) batch a d e =
     let same : c ≡ d = cc in

@@ -17,7 +17,7 @@ less_one (m ∷ ms) = ms
 
 abbrev pub opened_after : Act → List (ℕ × List ℕ) → List (ℕ × List ℕ)
 opened_after (Open s r x) ms = (s.0, x) ∷ ms
-opened_after (Calling s r c from to x) ms = (s.0, x) ∷ ms
+opened_after (Calling from to s r c x) ms = (s.0, x) ∷ ms
 opened_after (Spawn c s from to x) ms = ms
 opened_after (Arrive p) ms = ms
 opened_after (Wait s thrown) ms = ms
@@ -43,7 +43,7 @@ nums_of (m ∷ ms) = m.0 ∷ nums_of ms
 
 after-paths : (act : Act) (ms : List (ℕ × List ℕ)) → paths_of (opened_after act ms) ≡ stack_after act (paths_of ms)
 after-paths (Open s r x) ms = refl
-after-paths (Calling s r c from to x) ms = refl
+after-paths (Calling from to s r c x) ms = refl
 after-paths (Spawn c s from to x) ms = refl
 after-paths (Arrive p) ms = refl
 after-paths (Wait s thrown) ms = refl
@@ -97,7 +97,7 @@ nums-on s (m ∷ ms) h =
 -- the number of the scope that an act opens
 abbrev pub scope_in : Act → Option ℕ
 scope_in (Open s r x) = Some s.0
-scope_in (Calling s r c from to x) = Some s.0
+scope_in (Calling from to s r c x) = Some s.0
 scope_in (Spawn c s from to x) = None
 scope_in (Arrive p) = None
 scope_in (Wait s thrown) = None
@@ -109,8 +109,8 @@ scope_in (Counted places x) = None
 after-on : (act : Act) (ms : List (ℕ × List ℕ)) (s : ℕ) (x : List ℕ) → On s x (opened_after act ms) → ((scope_in act ≡ Some s) × (own_path act ≡ x ∷ [])) ⊎ On s x ms
 after-on (Open n r y) ms s x (inl e) = inl (ap Some (sym e.0), ap (λ v. v ∷ []) (sym e.1))
 after-on (Open n r y) ms s x (inr h) = inr h
-after-on (Calling n r c from to y) ms s x (inl e) = inl (ap Some (sym e.0), ap (λ v. v ∷ []) (sym e.1))
-after-on (Calling n r c from to y) ms s x (inr h) = inr h
+after-on (Calling from to n r c y) ms s x (inl e) = inl (ap Some (sym e.0), ap (λ v. v ∷ []) (sym e.1))
+after-on (Calling from to n r c y) ms s x (inr h) = inr h
 after-on (Spawn c n from to y) ms s x h = inr h
 after-on (Arrive p) ms s x h = inr h
 after-on (Wait n thrown) ms s x h = inr h

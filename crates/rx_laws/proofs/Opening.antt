@@ -12,7 +12,7 @@ use Rattle.rx_laws.proofs.TermCode.{Coded}
 
 abbrev pub is_opening : Act → Bool
 is_opening (Open s r x) = true
-is_opening (Calling s r c from to x) = false
+is_opening (Calling from to s r c x) = false
 is_opening (Spawn c s from to x) = false
 is_opening (Arrive p) = false
 is_opening (Wait s thrown) = false

@@ -129,7 +129,7 @@ pub data Became (T : Tree) (t : TaskId) : Act → List Core → Type 0 where
 
 pub became : (T : Tree) (t : TaskId) (act : Act) → AllowedAct T t act → Became T t act (cores (made_act T t act))
 became T t (Open s r x) a = opens s.0 refl a.asks.1 (λ ms. refl) refl
-became T t (Calling s r c from to x) a = opens s.0 refl a.asks.1 (λ ms. refl) refl
+became T t (Calling from to s r c x) a = opens s.0 refl a.asks.1 (λ ms. refl) refl
 became T t (Spawn c s from to x) a = leaves refl (λ ms. refl) refl
 became T t (Arrive p) a = leaves refl (λ ms. refl) refl
 became T t (Wait s thrown) a = leaves refl (λ ms. refl) (cores-change (is_scope s) (λ g. record g { body = thrown }) (λ g. refl) T.scopes)

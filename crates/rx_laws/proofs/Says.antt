@@ -144,7 +144,7 @@ asked-left vars here faults (Held rest) z e n s = cc
 
 own_fits : (here : PlaceId) (t : Term) (d : Does) (act : Act) → Fits here t d act → ((x : List ℕ) × (begins t ≡ Some x) × (own_path act ≡ x ∷ [])) ⊎ ((own_path act ≡ []) × (started_by act ≡ None))
 own_fits here t Opens (Open s r x) f = inl (x, f, refl)
-own_fits here t (Asks p) (Calls s r c from to x) f = inl (x, f.2, refl)
+own_fits here t (Asks p) (Calls from to s r c x) f = inl (x, f.2, refl)
 own_fits here t (Spawns p) (Spawn c s from to x) f = inl (x, f.2, refl)
 own_fits here t (Waits faults) (Wait s thrown) f = inr (refl, refl)
 own_fits here t Releases (Release s lost masked thrown) f = inr (refl, refl)

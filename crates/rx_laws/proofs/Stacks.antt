@@ -24,7 +24,7 @@ rest_of (p ∷ ps) = ps
 
 abbrev pub stack_after : Act → List (List ℕ) → List (List ℕ)
 stack_after (Open s r x) ps = x ∷ ps
-stack_after (Calling s r c from to x) ps = x ∷ ps
+stack_after (Calling from to s r c x) ps = x ∷ ps
 stack_after (Spawn c s from to x) ps = ps
 stack_after (Arrive p) ps = ps
 stack_after (Wait s thrown) ps = ps
@@ -61,8 +61,8 @@ stacked-starts (p ∷ ps) x z (inr h) e = stacked-starts ps x z h (each_last (ou
 pub stacked-after : (act : Act) (ps : List (List ℕ)) (x : List ℕ) → Stacked x (stack_after act ps) → (own_path act ≡ x ∷ []) ⊎ Stacked x ps
 stacked-after (Open s r y) ps x (inl h) = inl (ap (λ v. v ∷ []) (sym h))
 stacked-after (Open s r y) ps x (inr h) = inr h
-stacked-after (Calling s r c from to y) ps x (inl h) = inl (ap (λ v. v ∷ []) (sym h))
-stacked-after (Calling s r c from to y) ps x (inr h) = inr h
+stacked-after (Calling from to s r c y) ps x (inl h) = inl (ap (λ v. v ∷ []) (sym h))
+stacked-after (Calling from to s r c y) ps x (inr h) = inr h
 stacked-after (Spawn c s from to y) ps x h = inr h
 stacked-after (Arrive p) ps x h = inr h
 stacked-after (Wait s thrown) ps x h = inr h
@@ -224,7 +224,7 @@ asked vars here (Held rest) s = (refl, λ n. n, held-released rest)
 pub asked-nested : (here : PlaceId) (t : Term) (d : Does) (act : Act) (ps : List (List ℕ)) → Asked d t → Fits here t d act → Sorted t → Nested t (outermost ps) → Nested (granted (brought act) t) (outermost (stack_after act ps))
 asked-nested here t Opens (Open s r x) ps k f so n =
     subst (λ y. Nested (granted [] t) (grown y (outermost ps) x)) k (granted-nested [] t x (outermost ps) f so n)
-asked-nested here t (Calls p) (Calling s r c from to x) ps k f so n =
+asked-nested here t (Calls p) (Calling from to s r c x) ps k f so n =
     subst (λ y. Nested (granted [] t) (grown y (outermost ps) x)) k (granted-nested [] t x (outermost ps) f.2 so n)
 asked-nested here t (Spawns p) (Spawn c s from to x) ps k f so n =
     subst (λ y. Nested (granted [] t) (grown y (outermost ps) x)) k (granted-nested [] t x (outermost ps) f.2 so n)
@@ -255,7 +255,7 @@ none-some x e = cc
 
 asked-begins : (here : PlaceId) (t : Term) (d : Does) (act : Act) (x : List ℕ) → Asked d t → Fits here t d act → begins t ≡ Some x → own_path act ≡ x ∷ []
 asked-begins here t Opens (Open s r y) x k f e = let same : Some y ≡ Some x = sym f ∙ e in let it : y ≡ x = cc in ap (λ v. v ∷ []) it
-asked-begins here t (Calls p) (Calling s r c from to y) x k f e = let same : Some y ≡ Some x = sym f.2 ∙ e in let it : y ≡ x = cc in ap (λ v. v ∷ []) it
+asked-begins here t (Calls p) (Calling from to s r c y) x k f e = let same : Some y ≡ Some x = sym f.2 ∙ e in let it : y ≡ x = cc in ap (λ v. v ∷ []) it
 asked-begins here t (Spawns p) (Spawn c s from to y) x k f e = let same : Some y ≡ Some x = sym f.2 ∙ e in let it : y ≡ x = cc in ap (λ v. v ∷ []) it
 asked-begins here t (Prints z) (Printed value y) x k f e = let same : Some y ≡ Some x = sym f.1 ∙ e in let it : y ≡ x = cc in ap (λ v. v ∷ []) it
 asked-begins here t (Counts name) (Counted places y) x k f e = let same : Some y ≡ Some x = sym f ∙ e in let it : y ≡ x = cc in ap (λ v. v ∷ []) it
@@ -272,7 +272,7 @@ Pushes act x = (ps : List (List ℕ)) → Stacked x (stack_after act ps)
 
 asked-pushes : (here : PlaceId) (t : Term) (d : Does) (act : Act) (x : List ℕ) → Asked d t → Fits here t d act → begins t ≡ Some x → opens_one t ≡ true → Pushes act x
 asked-pushes here t Opens (Open s r y) x k f e o ps = let same : Some y ≡ Some x = sym f ∙ e in let it : x ≡ y = cc in inl it
-asked-pushes here t (Calls p) (Calling s r c from to y) x k f e o ps = let same : Some y ≡ Some x = sym f.2 ∙ e in let it : x ≡ y = cc in inl it
+asked-pushes here t (Calls p) (Calling from to s r c y) x k f e o ps = let same : Some y ≡ Some x = sym f.2 ∙ e in let it : x ≡ y = cc in inl it
 asked-pushes here t (Spawns p) (Spawn c s from to y) x k f e o ps = absurd (true≢false (sym o ∙ k))
 asked-pushes here t (Prints z) (Printed value y) x k f e o ps = absurd (true≢false (sym o ∙ k))
 asked-pushes here t (Counts name) (Counted places y) x k f e o ps = absurd (true≢false (sym o ∙ k))
@@ -298,7 +298,7 @@ done-closed here vars t faults e so ps n =
 -- a task that asks for more does not end
 pub fits-not_end : (here : PlaceId) (t : Term) (d : Does) (act : Act) (faults : List Fault) → act ≡ End faults → Fits here t d act → ⊥
 fits-not_end here t Opens (Open s r x) faults e f = cc
-fits-not_end here t (Calls p) (Calling s r c from to x) faults e f = cc
+fits-not_end here t (Calls p) (Calling from to s r c x) faults e f = cc
 fits-not_end here t (Spawns p) (Spawn c s from to x) faults e f = cc
 fits-not_end here t (Prints z) (Printed value x) faults e f = cc
 fits-not_end here t (Counts name) (Counted places x) faults e f = cc
@@ -309,7 +309,7 @@ fits-not_end here t d act faults e f = absurd f
 -- nor does it arrive
 pub fits-not_arrive : (here : PlaceId) (t : Term) (d : Does) (act : Act) (p : PlaceId) → act ≡ Arrive p → Fits here t d act → ⊥
 fits-not_arrive here t Opens (Open s r x) p e f = cc
-fits-not_arrive here t (Calls q) (Calling s r c from to x) p e f = cc
+fits-not_arrive here t (Calls q) (Calling from to s r c x) p e f = cc
 fits-not_arrive here t (Spawns q) (Spawn c s from to x) p e f = cc
 fits-not_arrive here t (Prints z) (Printed value x) p e f = cc
 fits-not_arrive here t (Counts name) (Counted places x) p e f = cc

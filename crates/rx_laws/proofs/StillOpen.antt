@@ -36,7 +36,7 @@ all_open-covers code past T f coded o =
 
 abbrev pub is_release : Act → Bool
 is_release (Open s r x) = false
-is_release (Calling s r c from to x) = false
+is_release (Calling from to s r c x) = false
 is_release (Spawn c s from to x) = false
 is_release (Arrive p) = false
 is_release (Wait s thrown) = false
@@ -51,7 +51,7 @@ release-of act h = cc
 
 stack-keeps : (act : Act) (ps : List (List ℕ)) (x : List ℕ) → is_release act ≡ false → Stacked x ps → Stacked x (stack_after act ps)
 stack-keeps (Open s r y) ps x n h = inr h
-stack-keeps (Calling s r c from to y) ps x n h = inr h
+stack-keeps (Calling from to s r c y) ps x n h = inr h
 stack-keeps (Spawn c s from to y) ps x n h = h
 stack-keeps (Arrive p) ps x n h = h
 stack-keeps (Wait s thrown) ps x n h = h

@@ -102,7 +102,7 @@ alive-end T t thrown c x e h =
 
 pub alive-back : (n : ℕ) (T : Tree) (e : Entry) (c : ℕ) → Allowed T e → is_alive (made n T e) c ≡ true → (is_alive T c ≡ true) ⊎ Starts_it e c
 alive-back n T (Step t (Open s r path) batch) c a h = inl h
-alive-back n T (Step t (Calls s r d from to path) batch) c a h =
+alive-back n T (Step t (Calls from to s r d path) batch) c a h =
     elim (alive-born (born T d s from to) c T.tasks (sym (alive-change (is_task t) waiting c (λ x. refl) (born T d s from to ∷ T.tasks)) ∙ h)) [
       | inl k ↦ inl k
       | inr k ↦ inr (d, refl, k)
@@ -306,7 +306,7 @@ pub data Starting (n : ℕ) (T : Tree) (t : TaskId) (act : Act) (batch : List (L
 
 pub starting : (n : ℕ) (T : Tree) (t : TaskId) (act : Act) (batch : List (List ℕ)) → AllowedAct T t act → Starting n T t act batch
 starting n T t (Open s1 r x) batch a = starts_none refl refl
-starting n T t (Calls s1 r c from to x) batch a = starts_one c refl a.asks.3 refl
+starting n T t (Calls from to s1 r c x) batch a = starts_one c refl a.asks.3 refl
 starting n T t (Spawn c s1 from to x) batch a = starts_one c refl a.asks.1 refl
 starting n T t (Arrive p) batch a = starts_none refl refl
 starting n T t (Wait s1 thrown) batch a = starts_none refl refl

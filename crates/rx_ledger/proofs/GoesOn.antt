@@ -200,7 +200,7 @@ module _ (T : Tree) (h : Sound T) where
       }
 
   -- it opened an at
-  pub called_on : (who : Caller) (s : ScopeId) (child : TaskId) (from to : PlaceId) (path : List ℕ) → MayAsk T who IsMoving → AllowedAct T who.task (Calls s who.inner child from to path) → HasNumbers (made_act T who.task (Calls s who.inner child from to path)) → MayAskRelease (made_act T who.task (Calls s who.inner child from to path)) (record who { inner = s })
+  pub called_on : (who : Caller) (s : ScopeId) (child : TaskId) (from to : PlaceId) (path : List ℕ) → MayAsk T who IsMoving → AllowedAct T who.task (Calls from to s who.inner child path) → HasNumbers (made_act T who.task (Calls from to s who.inner child path)) → MayAskRelease (made_act T who.task (Calls from to s who.inner child path)) (record who { inner = s })
   called_on who s child from to path may act few =
       let x = act.task in
       let so = so_says T who IsMoving x may act.stands in
@@ -243,7 +243,7 @@ tickets_go_on U es es' q (Called ticket callee) folds may h few =
     let T = tree_of U.places es in
     let so = sound (fold_reached U.places es folds.some folds.few folds.allowed) in
     let asks = (subst (λ (z : Request). MayApply T z) h.asked may).0 in
-    let same = grown U es es' h.who (Calls h.scope h.who.inner h.child (place_number h.who.place) h.to h.path) q.batch h.entry in
+    let same = grown U es es' h.who (Calls (place_number h.who.place) h.to h.scope h.who.inner h.child h.path) q.batch h.entry in
     let on = called_on T so h.who h.scope h.child (place_number h.who.place) h.to h.path asks.asks h.entry.allowed (subst HasNumbers same few) in
     subst (λ (w : Caller). MayAskRelease (tree_of U.places es') w) (sym h.ticket_is) (subst (λ (V : Tree). MayAskRelease V (record h.who { inner = h.scope })) (sym same) on)
 tickets_go_on U es es' q (Spawned ticket child) folds may h few =

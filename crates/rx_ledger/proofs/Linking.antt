@@ -201,7 +201,7 @@ module _ (T : Tree) (r : Reached T) (h : AllLinked T) where
 
   pub linked_act : (t : TaskId) (act : Act) → AllowedAct T t act → AllLinked (made_act T t act)
   linked_act t (Open s p path) may v y found free = opens_on t may.task Finish s p v y may.stands may.asks.2 found free
-  linked_act t (Calls s p callee from to path) may v y found free =
+  linked_act t (Calls from to s p callee path) may v y found free =
       let b = before_change waiting t v (born T callee s from to ∷ T.tasks) y (λ x. (refl, refl, refl)) found in
       calls_on t may.task s p (born T callee s from to) v y b.task may.stands may.asks.2 may.asks.3 b.found b.under (b.struck ∙ free)
   linked_act t (Spawn child s from to path) may v y found free =

@@ -133,7 +133,7 @@ none_born T child t s rest b number next low =
 
 pub none_act : (T : Tree) (u t : TaskId) (act : Act) → AllowedAct T u act → Apart T t → task_of (made_act T u act) t ≡ None
 none_act T u t (Open s r path) may h = h.none
-none_act T u t (Calls s r child from to path) may h =
+none_act T u t (Calls from to s r child path) may h =
     none_changed (is_task t) (is_task u) waiting (λ x. refl) (born T child s from to ∷ T.tasks)
     (none_born T child t s (task_of T t) (born T child s from to) refl may.asks.3 h.low ∙ h.none)
 none_act T u t (Spawn child s from to path) may h = none_born T child t s (task_of T t) (born T child s from to) refl may.asks.1 h.low ∙ h.none
@@ -148,7 +148,7 @@ none_act T u t (Census places path) may h = h.none
 
 next_act : (T : Tree) (u t : TaskId) (act : Act) → AllowedAct T u act → t.0 < T.next_task → t.0 < (made_act T u act).next_task
 next_act T u t (Open s r path) may h = h
-next_act T u t (Calls s r child from to path) may h = omega (arith, h)
+next_act T u t (Calls from to s r child path) may h = omega (arith, h)
 next_act T u t (Spawn child s from to path) may h = omega (arith, h)
 next_act T u t (Arrive p) may h = h
 next_act T u t (Wait s thrown) may h = h
@@ -182,7 +182,7 @@ apart_left T s t z h old e =
 
 gone_act : (T : Tree) (u t : TaskId) (act : Act) (z : Task) → Sound T → AllowedAct T u act → ((y : Task) → gone_of T t ≡ Some y → Apart T t) → gone_of (made_act T u act) t ≡ Some z → Apart (made_act T u act) t
 gone_act T u t (Open s r path) z h may old e = apart_act T u t (Open s r path) may (old z e)
-gone_act T u t (Calls s r child from to path) z h may old e = apart_act T u t (Calls s r child from to path) may (old z e)
+gone_act T u t (Calls from to s r child path) z h may old e = apart_act T u t (Calls from to s r child path) may (old z e)
 gone_act T u t (Spawn child s from to path) z h may old e = apart_act T u t (Spawn child s from to path) may (old z e)
 gone_act T u t (Arrive p) z h may old e = apart_act T u t (Arrive p) may (old z e)
 gone_act T u t (Wait s thrown) z h may old e = apart_act T u t (Wait s thrown) may (old z e)
@@ -283,9 +283,9 @@ module _ (T : Tree) (r : Reached T) (u t : TaskId) (x : Task) (apart : t.0 ≢ u
 
   pub act_lasts : (act : Act) → AllowedAct T u act → Lasts T (made_act T u act) t x
   act_lasts (Open s p path) may = inl (record { kept = same_kept (made_act T u (Open s p path)) t x found; owns = rw skip refl })
-  act_lasts (Calls s p child from to path) may =
+  act_lasts (Calls from to s p child path) may =
       inl (record {
-        kept = same_kept (made_act T u (Calls s p child from to path)) t x
+        kept = same_kept (made_act T u (Calls from to s p child path)) t x
             (find_other u t waiting (λ z. refl) apart (born T child s from to ∷ T.tasks) x
             (none_born T child t s (task_of T t) (born T child s from to) refl may.asks.3 low ∙ found));
         owns = rw skip refl;
@@ -344,7 +344,7 @@ entry_lasts n T (Death d) t x r may apart found =
 
 gone_stays : (T : Tree) (u t : TaskId) (act : Act) (z : Task) → AllowedAct T u act → gone_of T t ≡ Some z → gone_of (made_act T u act) t ≡ Some z
 gone_stays T u t (Open s r path) z may e = e
-gone_stays T u t (Calls s r child from to path) z may e = e
+gone_stays T u t (Calls from to s r child path) z may e = e
 gone_stays T u t (Spawn child s from to path) z may e = e
 gone_stays T u t (Arrive p) z may e = e
 gone_stays T u t (Wait s thrown) z may e = e

@@ -48,7 +48,7 @@ linked_owned T V t e = sym (kinds_link (filter (opened_by t) V.scopes)) ∙ (ap 
 
 own_act : (T : Tree) (t : TaskId) (act : Act) (y : Task) → Reached T → AllowedAct T t act → task_of (made_act T t act) t ≡ Some y → owned (made_act T t act) t ≡ own_after act (owned T t)
 own_act T t (Open s r path) y reached may found = rw (eq-eqb t.0 t.0 refl) refl
-own_act T t (Calls s r child from to path) y reached may found = rw (eq-eqb t.0 t.0 refl) refl
+own_act T t (Calls from to s r child path) y reached may found = rw (eq-eqb t.0 t.0 refl) refl
 own_act T t (Spawn child s from to path) y reached may found = refl
 own_act T t (Arrive p) y reached may found = refl
 own_act T t (Wait s thrown) y reached may found =
@@ -82,7 +82,7 @@ unlinked (g ∷ gs) e = absurd (let v : ⊥ = cc in v)
 
 none_owned : (T : Tree) (u t : TaskId) (act : Act) → AllowedAct T u act → (u.0 == t.0) ≡ false → filter (opened_by t) T.scopes ≡ [] → filter (opened_by t) (made_act T u act).scopes ≡ []
 none_owned T u t (Open s r path) may skip e = rw skip e
-none_owned T u t (Calls s r child from to path) may skip e = rw skip e
+none_owned T u t (Calls from to s r child path) may skip e = rw skip e
 none_owned T u t (Spawn child s from to path) may skip e = e
 none_owned T u t (Arrive p) may skip e = e
 none_owned T u t (Wait s thrown) may skip e =
@@ -99,7 +99,7 @@ none_owned T u t (Census places path) may skip e = e
 
 next_more : (n : ℕ) (T : Tree) (e : Entry) → (T.next_task ≤ (made n T e).next_task) × ((made n T e).next_task ≤ T.next_task + 1) × ((made n T e).next_scope ≤ T.next_scope + 1)
 next_more n T (Step t (Open s r path) batch) = (omega arith, omega arith, omega arith)
-next_more n T (Step t (Calls s r child from to path) batch) = (omega arith, omega arith, omega arith)
+next_more n T (Step t (Calls from to s r child path) batch) = (omega arith, omega arith, omega arith)
 next_more n T (Step t (Spawn child s from to path) batch) = (omega arith, omega arith, omega arith)
 next_more n T (Step t (Arrive p) batch) = (omega arith, omega arith, omega arith)
 next_more n T (Step t (Wait s thrown) batch) = (omega arith, omega arith, omega arith)

@@ -40,7 +40,7 @@ still_open-step (Join e ∷ es) t act batch h = still_open-step es t act batch h
 pub parents-push : (es : List Entry) (e : Entry) → parents_in (es ++ e ∷ []) ≡ parents_in es ++ parents_in (e ∷ [])
 parents-push [] e = refl
 parents-push (Step t (Open s r path) batch ∷ es) e = ap (λ (ps : List ScopeId). r ∷ ps) (parents-push es e)
-parents-push (Step t (Calls s r callee from to path) batch ∷ es) e = ap (λ (ps : List ScopeId). r ∷ ps) (parents-push es e)
+parents-push (Step t (Calls from to s r callee path) batch ∷ es) e = ap (λ (ps : List ScopeId). r ∷ ps) (parents-push es e)
 parents-push (Step t (Spawn child s from to path) batch ∷ es) e = parents-push es e
 parents-push (Step t (Arrive p) batch ∷ es) e = parents-push es e
 parents-push (Step t (Wait s thrown) batch ∷ es) e = parents-push es e

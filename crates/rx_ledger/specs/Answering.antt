@@ -77,7 +77,7 @@ pub record OpensAt (T : Tree) (es : List Entry) (q : Request) (ticket : Caller) 
   pub scope : ScopeId
   pub child : TaskId
   pub asked : Asks q (Running who) (AskCall to) (Some path)
-  pub entry : Appends T es who (Calls scope who.inner child (place_number who.place) to path) q.batch es'
+  pub entry : Appends T es who (Calls (place_number who.place) to scope who.inner child path) q.batch es'
   pub ticket_is : ticket ≡ record who { inner = scope }
   pub callee_is : callee ≡ ticket_of T child scope (place_number who.place) to
 

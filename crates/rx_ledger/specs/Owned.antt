@@ -26,7 +26,7 @@ sort_of g = (g.number, g.kind)
 -- what an act makes of the scopes of its task
 abbrev pub own_after : Act → Owned → Owned
 own_after (Open s r path) own = (s, Finish) ∷ own
-own_after (Calls s r callee from to path) own = (s, Call) ∷ own
+own_after (Calls from to s r callee path) own = (s, Call) ∷ own
 own_after (Spawn child s from to path) own = own
 own_after (Arrive p) own = own
 own_after (Wait s thrown) own = own

@@ -41,7 +41,7 @@ is_census _ = false
 
 pub told-nothing : (d : Does) (act : Act) (vars : Vars) → is_census act ≡ false → vars_told d act vars ≡ vars
 told-nothing (Counts name) (Open s r path) vars h = refl
-told-nothing (Counts name) (CallsAt s r callee from to path) vars h = refl
+told-nothing (Counts name) (CallsAt from to s r callee path) vars h = refl
 told-nothing (Counts name) (Spawn child s from to path) vars h = refl
 told-nothing (Counts name) (Arrive p) vars h = refl
 told-nothing (Counts name) (Wait s thrown) vars h = refl

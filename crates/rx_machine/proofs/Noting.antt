@@ -79,7 +79,7 @@ one_more T T' e = record { least = omega (arith, e); most = omega (arith, e) }
 
 grows-act : (T : Tree) (t : TaskId) (act : Act) → Grows T (made_act T t act)
 grows-act T t (Open s r path) = grows T (made_act T t (Open s r path)) refl
-grows-act T t (Calls s r callee from to path) = one_more T (made_act T t (Calls s r callee from to path)) refl
+grows-act T t (Calls from to s r callee path) = one_more T (made_act T t (Calls from to s r callee path)) refl
 grows-act T t (Spawn child s from to path) = one_more T (made_act T t (Spawn child s from to path)) refl
 grows-act T t (Arrive p) = grows T (made_act T t (Arrive p)) refl
 grows-act T t (Wait s thrown) = grows T (made_act T t (Wait s thrown)) refl

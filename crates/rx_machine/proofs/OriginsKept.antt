@@ -71,7 +71,7 @@ tells_opened T t kind s r origins next h =
 -- what an act makes of it
 pub tells_act : (T : Tree) (t : TaskId) (act : Act) (origins : List Origin) → AllowedAct T t act → TellsOrigins T origins → TellsOrigins (made_act T t act) (with_row (origin_in t act) origins)
 tells_act T t (Open s r path) origins may h = tells_opened T t Finish s r origins may.asks.1 h
-tells_act T t (Calls s r callee from to path) origins may h =
+tells_act T t (Calls from to s r callee path) origins may h =
     let o : TellsOrigins (opened T t Call s r) (origins ++ row_of t r ∷ []) = tells_opened T t Call s r origins may.asks.1 h in
     record { size = o.size; tells = o.tells }
 tells_act T t (Spawn child s from to path) origins may h = record { size = h.size; tells = h.tells }
@@ -182,7 +182,7 @@ none_above_root T under s reached law way e =
 -- after an act its task stands unstruck, or else it has ended
 pub acts_on : (T : Tree) (t : TaskId) (act : Act) → Sound T → AllowedAct T t act → ((thrown : List Fault) × (act ≡ End thrown)) ⊎ ((y : Task) × (live_task (made_act T t act) t.0 ≡ Some y))
 acts_on T t (Open s r path) h may = inr (may.task, stands_live T t.0 may.task may.stands may.unstruck)
-acts_on T t (Calls s r callee from to path) h may =
+acts_on T t (Calls from to s r callee path) h may =
     let x : Task = born T callee s from to in
     let low : t.0 < T.next_task = task_below T.next_task T.tasks t may.task h.tasks_fall may.stands in
     let next : callee.0 ≡ T.next_task = may.asks.3 in

@@ -81,9 +81,9 @@ call-free q here to asks =
 pub call-target : (T : Tree) (q : Player) (here : PlaceId) (to : ℕ) → here.0 < T.places → q.vars.places ≤ T.places → does q.vars here.0 q.term ≡ Calls to → to < T.places
 call-target T q here to inside knows asks = subst (λ (d : Does). Targets T.places d) asks (targets-exist q.vars here.0 T.places q.term inside knows)
 
-pub call-did : (T : Tree) (row : Task) (scopes : List ScopeId) (here to : PlaceId) (b : Born) (S : Tree → Type 0) → row.place ≡ At here → CallReply T (caller row scopes) to (Ok b) S → AllowedAct T row.number (CallsAt b.scope (caller row scopes).inner b.child here to []) × S (made_act T row.number (CallsAt b.scope (caller row scopes).inner b.child here to [])) × (b.lost ≡ is_some (death_of T to))
+pub call-did : (T : Tree) (row : Task) (scopes : List ScopeId) (here to : PlaceId) (b : Born) (S : Tree → Type 0) → row.place ≡ At here → CallReply T (caller row scopes) to (Ok b) S → AllowedAct T row.number (CallsAt here to b.scope (caller row scopes).inner b.child []) × S (made_act T row.number (CallsAt here to b.scope (caller row scopes).inner b.child [])) × (b.lost ≡ is_some (death_of T to))
 call-did T row scopes here to b S at h =
-    (subst (λ (w : Where). AllowedAct T row.number (CallsAt b.scope (caller row scopes).inner b.child (place_number w) to [])) at h.0.allowed, subst (λ (w : Where). S (made_act T row.number (CallsAt b.scope (caller row scopes).inner b.child (place_number w) to []))) at h.0.made, h.1)
+    (subst (λ (w : Where). AllowedAct T row.number (CallsAt (place_number w) to b.scope (caller row scopes).inner b.child [])) at h.0.allowed, subst (λ (w : Where). S (made_act T row.number (CallsAt (place_number w) to b.scope (caller row scopes).inner b.child []))) at h.0.made, h.1)
 
 -- the ledger refuses for want of memory alone
 pub spawn-refused : (T : Tree) (who : Caller) (to : PlaceId) (e : LedgerFault) (S : Tree → Type 0) → blow_of T who.task ≡ None → SpawnReply T who to (Err e) S → e ≡ NoMemory
@@ -129,7 +129,7 @@ spawned stands shape code U m m' k i here to q seat seat' slot control G number 
     a.inside back a.stores
 
 -- the turn of a call
-pub called : {L : Type 0} (stands : L → ℕ → Tree → Type 0) (shape : Shape) (code : Block) (U : Given) (m m' : Machine L) (k i : ℕ) (here to : PlaceId) (q : Player) (seat seat' : Seat) (slot : Option Seat) (control : Control) (G : Game) (scope parent : ScopeId) (number : TaskId) (x : List ℕ) → Acting stands shape code U m k i here q seat G → Sound (tree_in U G) → does q.vars here.0 q.term ≡ Calls to.0 → begins q.term ≡ Some x → AllowedAct (tree_in U G) seat.row.number (CallsAt scope parent number here to []) → StandsFor shape seat'.control.value (granted [] q.term) → seat'.control.value.vars ≡ seat.control.value.vars → seat'.row ≡ waiting seat.row → seat'.scopes.items ≡ seat.scopes.items ++ scope ∷ [] → seat'.batch ≡ [] → StandsFor shape control (child q.term) → control.vars ≡ seat.control.value.vars → IsBorn (tree_in U G) number scope here to control slot → Went stands m m' (to_join U (tree_in U G)) (made_act (tree_in U G) seat.row.number (CallsAt scope parent number here to x)) (Step seat.row.number (CallsAt scope parent number here to x) seat.batch) → m'.seats.items ≡ slice_set m.seats.items i (Some seat') ++ slot ∷ [] → LeadsTo (Turn U k G true) (Seated stands shape code U m')
+pub called : {L : Type 0} (stands : L → ℕ → Tree → Type 0) (shape : Shape) (code : Block) (U : Given) (m m' : Machine L) (k i : ℕ) (here to : PlaceId) (q : Player) (seat seat' : Seat) (slot : Option Seat) (control : Control) (G : Game) (scope parent : ScopeId) (number : TaskId) (x : List ℕ) → Acting stands shape code U m k i here q seat G → Sound (tree_in U G) → does q.vars here.0 q.term ≡ Calls to.0 → begins q.term ≡ Some x → AllowedAct (tree_in U G) seat.row.number (CallsAt here to scope parent number []) → StandsFor shape seat'.control.value (granted [] q.term) → seat'.control.value.vars ≡ seat.control.value.vars → seat'.row ≡ waiting seat.row → seat'.scopes.items ≡ seat.scopes.items ++ scope ∷ [] → seat'.batch ≡ [] → StandsFor shape control (child q.term) → control.vars ≡ seat.control.value.vars → IsBorn (tree_in U G) number scope here to control slot → Went stands m m' (to_join U (tree_in U G)) (made_act (tree_in U G) seat.row.number (CallsAt here to scope parent number x)) (Step seat.row.number (CallsAt here to scope parent number x) seat.batch) → m'.seats.items ≡ slice_set m.seats.items i (Some seat') ++ slot ∷ [] → LeadsTo (Turn U k G true) (Seated stands shape code U m')
 called stands shape code U m m' k i here to q seat seat' slot control G scope parent number x a sound asks path may term vars row scopes batch child_term child_vars is went back =
     let T : Tree = tree_in U G in
     let t : TaskId = seat.row.number in
@@ -152,17 +152,17 @@ called stands shape code U m m' k i here to q seat seat' slot control G scope pa
     subst (λ (v : ℕ). (own_scopes T1 v ≡ scope ∷ own_scopes T v) × (own_kinds T1 v ≡ Call ∷ own_kinds T v)) is_it (opened-same T t Call scope parent) in
     let none = none-own T sound in
     let kept = opened-other T t Call scope parent T.next_task (not_t T.next_task (λ e. older (sym e))) in
-    started stands shape code U m m' k i here a.began q a.store a.left a.events seat seat' slot G (CallsAt scope parent number here to x) number a.but a.pick a.gone (subst (λ (d : Does). Fits here q.term d (CallsAt scope parent number here to x)) (sym asks) (refl, refl, path)) may refl a.players (λ n apart fresh. live n apart ∙ added n fresh) (λ n apart fresh. opened-other T t Call scope parent n (not_t n apart)) refl
+    started stands shape code U m m' k i here a.began q a.store a.left a.events seat seat' slot G (CallsAt here to scope parent number x) number a.but a.pick a.gone (subst (λ (d : Does). Fits here q.term d (CallsAt here to scope parent number x)) (sym asks) (refl, refl, path)) may refl a.players (λ n apart fresh. live n apart ∙ added n fresh) (λ n apart fresh. opened-other T t Call scope parent n (not_t n apart)) refl
     (record {
       row = now ∙ ap (λ r. Some r) (sym row);
       scopes = own.0 ∙ (ap (λ ss. scope ∷ ss) s.scopes ∙ (sym (reverse-append seat.scopes.items (scope ∷ [])) ∙ ap (λ ss. reverse ss) (sym scopes)));
       term = term;
-      vars = vars ∙ (s.vars ∙ sym (told-nothing (does q.vars here.0 q.term) (CallsAt scope parent number here to x) q.vars refl));
+      vars = vars ∙ (s.vars ∙ sym (told-nothing (does q.vars here.0 q.term) (CallsAt here to scope parent number x) q.vars refl));
       batch = batch;
       waits = ap (λ r. r.waits) row ∙ sym grant.1;
       held = grant.0;
       spine = subst (λ (ks : List Kind). Spine (granted [] q.term) ks) (sym (reverse-append (Call ∷ []) (own_kinds T i)) ∙ ap (λ ks. reverse ks) (sym own.1)) spine;
     })
     (new-slot shape T T3 T.next_task q slot control number scope here to (live T.next_task (λ e. older (sym e)) ∙ subst (λ (v : ℕ). live_task T2 v ≡ if_unstruck b) may.asks.3 (add-same T1 b)) (kept.0 ∙ none.0, kept.1 ∙ none.1) child_term (child_vars ∙ s.vars) is.lost is.row is.rest)
-    (record { setup = went.setup; entries = went.entries ∙ ap (λ v. m.history.entries ++ Step seat.row.number (CallsAt scope parent number here to x) v ∷ []) s.batch; plan = went.plan; failed = went.failed; stores = went.stores; ledger = went.ledger })
+    (record { setup = went.setup; entries = went.entries ∙ ap (λ v. m.history.entries ++ Step seat.row.number (CallsAt here to scope parent number x) v ∷ []) s.batch; plan = went.plan; failed = went.failed; stores = went.stores; ledger = went.ledger })
     a.inside back a.stores

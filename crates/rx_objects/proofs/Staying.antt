@@ -131,7 +131,7 @@ module _ (code : Block) (U : Given) (h : List LedgerItem) (legal : LegalLedger c
       one q a.who (Open scope a.who.inner a.path) es es' _ a.entry.added (asked_of _ _ _ _ _ a.who _ (subst IsMade a.asked f))
       (λ here t d place s. inl (subst (λ (e : Does). Fits here t e (Open scope a.who.inner a.path)) (sym s.0) s.1))
   answer_stays T es q (Called ticket callee) es' f a =
-      let act = ActCall a.scope a.who.inner a.child (place_number a.who.place) a.to a.path in
+      let act = ActCall (place_number a.who.place) a.to a.scope a.who.inner a.child a.path in
       one q a.who act es es' _ a.entry.added (asked_of _ _ _ _ _ a.who _ (subst IsMade a.asked f))
       (λ here t d place s. inl (subst (λ (e : Does). Fits here t e act) (sym s.0) (refl, ap place_number place, s.1)))
   answer_stays T es q (Spawned ticket child) es' f a =

@@ -25,7 +25,7 @@ pub record TellsOrigins (T : Tree) (origins : List Origin) : Type 0 where
 -- the origin of the scope that an act of task t opens
 abbrev pub origin_in : TaskId → Act → Option Origin
 origin_in t (Open s r path) = Some (record { opener = t; parent = r })
-origin_in t (Calls s r callee from to path) = Some (record { opener = t; parent = r })
+origin_in t (Calls from to s r callee path) = Some (record { opener = t; parent = r })
 origin_in t (Spawn child s from to path) = None
 origin_in t (Arrive p) = None
 origin_in t (Wait s thrown) = None

@@ -40,7 +40,7 @@ agree_back starts n before h last l g k a got = let z = later n before h last l 
 
 next_number : (T : Tree) (t : TaskId) (act : Act) → AllowedAct T t act → (c : TaskId) → started_by act ≡ Some c → c.0 ≡ T.next_task
 next_number T t (Open s r x) h c e = absurd (let f : ⊥ = cc in f)
-next_number T t (Calls s r b from to x) h c e = let it : b ≡ c = cc in ap (λ (v : TaskId). v.0) (sym it) ∙ h.asks.3
+next_number T t (Calls from to s r b x) h c e = let it : b ≡ c = cc in ap (λ (v : TaskId). v.0) (sym it) ∙ h.asks.3
 next_number T t (Spawn b s from to x) h c e = let it : b ≡ c = cc in ap (λ (v : TaskId). v.0) (sym it) ∙ h.asks.1
 next_number T t (Arrive p) h c e = absurd (let f : ⊥ = cc in f)
 next_number T t (Wait s thrown) h c e = absurd (let f : ⊥ = cc in f)
@@ -136,7 +136,7 @@ moves_along n before (i ∷ h) last k l =
 
 pub birth_none : (n k size : ℕ) (e : Entry) → Numbered size e → (k < size) ⊎ (size + births_of e ≤ k) → birth_in n k e ≡ None
 birth_none n k size (Step t (Open s r x) batch) h o = refl
-birth_none n k size (Step t (Calls s r c from to x) batch) h o = let e : c.0 ≡ size = h t (Calls s r c from to x) batch refl c refl in rw (ne_eqb c.0 k (apart o e)) refl where
+birth_none n k size (Step t (Calls from to s r c x) batch) h o = let e : c.0 ≡ size = h t (Calls from to s r c x) batch refl c refl in rw (ne_eqb c.0 k (apart o e)) refl where
   apart : {c : TaskId} {k size : ℕ} → (k < size) ⊎ (size + 1 ≤ k) → c.0 ≡ size → c.0 ≢ k
   apart (inl l) e w = omega arith
   apart (inr l) e w = omega arith

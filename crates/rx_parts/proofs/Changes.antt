@@ -43,7 +43,7 @@ own_moves n k e t act batch h s = ap (move_of n k) h ∙ rw (eq-eqb t.0 k s) ref
 
 starts_next : (n : ℕ) (i : LedgerItem) (before set : List Actor) (act : Act) (z : Stand) → length set ≡ length before → StartsNext n i before (set ++ actors_born n i act z) act z
 starts_next n i before set (Open s r x) z e c h = absurd (let f : ⊥ = cc in f)
-starts_next n i before set (Calls s r b from to x) z e c h = (from, to, ap (slice_get (set ++ actor_born n i from to z ∷ [])) (let g : length before ≡ length set + 0 = omega arith in g) ∙ got_right set (actor_born n i from to z ∷ []) 0)
+starts_next n i before set (Calls from to s r b x) z e c h = (from, to, ap (slice_get (set ++ actor_born n i from to z ∷ [])) (let g : length before ≡ length set + 0 = omega arith in g) ∙ got_right set (actor_born n i from to z ∷ []) 0)
 starts_next n i before set (Spawn b s from to x) z e c h = (from, to, ap (slice_get (set ++ actor_born n i from to z ∷ [])) (let g : length before ≡ length set + 0 = omega arith in g) ∙ got_right set (actor_born n i from to z ∷ []) 0)
 starts_next n i before set (Arrive p) z e c h = absurd (let f : ⊥ = cc in f)
 starts_next n i before set (Wait s thrown) z e c h = absurd (let f : ⊥ = cc in f)
@@ -100,7 +100,7 @@ changed {n = n} {before = before} {i = i} (ends t faults b z e stands by here wa
 -- the number of tasks
 born_size : (n : ℕ) (i : LedgerItem) (t : TaskId) (act : Act) (batch : List (List ℕ)) (z : Stand) → length (actors_born n i act z) ≡ births_of (Step t act batch)
 born_size n i t (Open s r x) batch z = refl
-born_size n i t (Calls s r c from to x) batch z = refl
+born_size n i t (Calls from to s r c x) batch z = refl
 born_size n i t (Spawn c s from to x) batch z = refl
 born_size n i t (Arrive p) batch z = refl
 born_size n i t (Wait s thrown) batch z = refl
@@ -164,10 +164,10 @@ only_one (z ∷ xs) x y (suc k) h got = let r = only_one xs x y k (omega arith) 
 
 pub came_act : (n k : ℕ) (i : LedgerItem) (before set : List Actor) (t : TaskId) (act : Act) (batch : List (List ℕ)) (z : Stand) (b : Actor) → i.entry ≡ Step t act batch → t.0 < length before → length set ≡ length before → slice_get before k ≡ None → slice_get (set ++ actors_born n i act z) k ≡ Some b → (c : Came n k i before b) × (c.stand ≡ z)
 came_act n k i before set t (Open s r x) batch z b e old size gone got = absurd (none_came n k i before (set ++ []) b (ap length (append-nil set) ∙ size) gone got)
-came_act n k i before set t (Calls s r c from to x) batch z b e old size gone got =
+came_act n k i before set t (Calls from to s r c x) batch z b e old size gone got =
     let out : length before ≤ k = outside before k gone in
     let one = only_one set (actor_born n i from to z) b k (omega arith) got in
-    (record { task = t; act = Calls s r c from to x; batch = batch; entry = e; old = old; number = one.0 ∙ size; started = c; starts = refl; from = from; to = to; stand = z; is_it = one.1; birth_told = λ m. rw (eq-eqb c.0 c.0 refl) refl }, refl)
+    (record { task = t; act = Calls from to s r c x; batch = batch; entry = e; old = old; number = one.0 ∙ size; started = c; starts = refl; from = from; to = to; stand = z; is_it = one.1; birth_told = λ m. rw (eq-eqb c.0 c.0 refl) refl }, refl)
 came_act n k i before set t (Spawn c s from to x) batch z b e old size gone got =
     let out : length before ≤ k = outside before k gone in
     let one = only_one set (actor_born n i from to z) b k (omega arith) got in

@@ -99,7 +99,7 @@ actor_born n i from to z =
 
 -- the task that an act starts, if it starts one
 abbrev pub actors_born : ℕ → LedgerItem → Act → Stand → List Actor
-actors_born n i (Calls s r c from to x) z = actor_born n i from to z ∷ []
+actors_born n i (Calls from to s r c x) z = actor_born n i from to z ∷ []
 actors_born n i (Spawn c s from to x) z = actor_born n i from to z ∷ []
 actors_born n i _ z = []
 

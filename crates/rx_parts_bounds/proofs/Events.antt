@@ -96,7 +96,7 @@ born_one n i from to z =
     let two : owns (child z.term) + gives (child z.term) ≤ starts kids_of z.term = child_given z.term in omega (arith, one, two)
 
 born_total : (n : ℕ) (i : LedgerItem) (act : Act) (z : Stand) → total (actors_born n i act z) ≤ starts kids_of z.term
-born_total n i (Calls s r c from to x) z = born_one n i from to z
+born_total n i (Calls from to s r c x) z = born_one n i from to z
 born_total n i (Spawn c s from to x) z = born_one n i from to z
 born_total n i _ z = omega arith
 

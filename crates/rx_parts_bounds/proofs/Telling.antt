@@ -159,15 +159,15 @@ started_low n true from to b e = let f : ◌≡◌ {A = Birth} (record { from = 
 started_low n false from to b e = absurd (let f : ⊥ = cc in f)
 
 birth_low : (n k : ℕ) (e : Entry) (b : Birth) → birth_in n k e ≡ Some b → b.low ≡ suc n
-birth_low n k (Step t (Calls s r c from to x) batch) b h = started_low n (c.0 == k) from to b h
+birth_low n k (Step t (Calls from to s r c x) batch) b h = started_low n (c.0 == k) from to b h
 birth_low n k (Step t (Spawn c s from to x) batch) b h = started_low n (c.0 == k) from to b h
 birth_low n k _ b h = absurd (let f : ⊥ = cc in f)
 
 -- who is not born now, and not before, is born later
 still_to_come : (n k size : ℕ) (e : Entry) → Numbered size e → size ≤ k → birth_in n k e ≡ None → size + births_of e ≤ k
-still_to_come n k size (Step t (Calls s r c from to x) batch) h le no_birth =
-    let num : c.0 ≡ size = h t (Calls s r c from to x) batch refl c refl in
-    let o : c.0 ≢ k = λ w. let e : birth_in n k (Step t (Calls s r c from to x) batch) ≡ Some (record { from = from; to = to; low = suc n }) = rw (eq-eqb c.0 k w) refl in not_none (birth_in n k (Step t (Calls s r c from to x) batch)) (record { from = from; to = to; low = suc n }) e no_birth in
+still_to_come n k size (Step t (Calls from to s r c x) batch) h le no_birth =
+    let num : c.0 ≡ size = h t (Calls from to s r c x) batch refl c refl in
+    let o : c.0 ≢ k = λ w. let e : birth_in n k (Step t (Calls from to s r c x) batch) ≡ Some (record { from = from; to = to; low = suc n }) = rw (eq-eqb c.0 k w) refl in not_none (birth_in n k (Step t (Calls from to s r c x) batch)) (record { from = from; to = to; low = suc n }) e no_birth in
     omega (arith, num, o, le)
 still_to_come n k size (Step t (Spawn c s from to x) batch) h le no_birth =
     let num : c.0 ≡ size = h t (Spawn c s from to x) batch refl c refl in

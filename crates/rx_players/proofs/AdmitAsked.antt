@@ -83,7 +83,7 @@ pub record Starts (shape : Shape) (table : EventTable) (number : ℕ) (z : Playe
   pub is : IsChild shape table number z task to seat.value
 
 whom : (shape : Shape) (table : EventTable) (number : ℕ) (z : Player) (act : Act) (o : Option Slot) → IsNewborn shape table number z act o → Starts shape table number z act o ⊎ ((started_by act ≡ None) × (o ≡ None))
-whom shape table number z (Called s r c from to x) o h =
+whom shape table number z (Called from to s r c x) o h =
     inl (record { task = c; from = from; to = to; seat = h.0; starts = refl; birth = λ n t batch. rw (eq-eqb c.0 c.0 refl); slot = h.1; is = h.2 })
 whom shape table number z (Spawn c s from to x) o h =
     inl (record { task = c; from = from; to = to; seat = h.0; starts = refl; birth = λ n t batch. rw (eq-eqb c.0 c.0 refl); slot = h.1; is = h.2 })

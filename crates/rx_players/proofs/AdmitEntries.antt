@@ -68,7 +68,7 @@ quiet_keeps places es e q u =
 
 -- it starts none, or the next
 starts_next : (T : Tree) (t : TaskId) (act : Act) → AllowedAct T t act → StartsAt T.next_task act
-starts_next T t (Calls s r c from to x) a = a.asks.3
+starts_next T t (Calls from to s r c x) a = a.asks.3
 starts_next T t (Spawn c s from to x) a = a.asks.1
 starts_next T t act a = tt
 

@@ -59,7 +59,7 @@ open_cut here t (Open s r x) = (λ f. (refl, f), λ w r. r)
 open_cut here t act = other (λ f. f)
 
 call_cut : (here : PlaceId) (t : Term) (place : ℕ) (act : Act) → Cut (want.At (record { 0 = place })) here t (Calls place) act
-call_cut here t place (Called s r c from to x) =
+call_cut here t place (Called from to s r c x) =
     (λ f. (is_sent to from here place f.0 f.1, f.2), λ w r. let k = sent to from here place w in (k.0, k.1, r))
 call_cut here t place act = other (λ f. f)
 

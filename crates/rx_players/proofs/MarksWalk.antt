@@ -50,7 +50,7 @@ use Rattle.rx_players.proofs.Using.{IsExact, from_here, used_exactly}
 
 birth-few : (e : Entry) → births_of e ≤ 1
 birth-few (Step t (Open s r x) batch) = omega arith
-birth-few (Step t (Calls s r c from to x) batch) = omega arith
+birth-few (Step t (Calls from to s r c x) batch) = omega arith
 birth-few (Step t (Spawn c s from to x) batch) = omega arith
 birth-few (Step t (Arrive p) batch) = omega arith
 birth-few (Step t (Wait s thrown) batch) = omega arith

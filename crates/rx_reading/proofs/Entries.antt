@@ -141,7 +141,7 @@ at-takes places =
     takes-followed task_at _ task_field IsTask _ task-one (λ callee b.
     takes-followed (way_at places) _ way_text (ArePlaces places) _ (way-one places) (λ w c.
     takes-followed path_at _ path_field FitsPath _ path-one (λ path d.
-    takes-done (At n.0 n.1 callee w.0 w.1 path) _
+    takes-done (At w.0 w.1 n.0 n.1 callee path) _
     (flat-at (scope_field n.0) (codes " in") (scope_field n.1) (task_field callee) (place_field w.0) (place_field w.1) (path_field path), ((a.0, a.1, b, c.0, c.1, d), refl))))))
 
 spawn-takes : (places : ℕ) → Takes (spawn_at places) (IsAct places (codes "spawn"))
@@ -332,9 +332,9 @@ open-again places scope parent path fits =
     again-field path_at _ path act (path_field path) _ Any (path-again path fits.2) (
     again-done act Any)))
 
-at-again : (places : ℕ) (scope parent : ScopeId) (callee : TaskId) (from to : PlaceId) (path : List ℕ) → places ≤ 16 → FitsAct places (At scope parent callee from to path) → Again (at_at places) (At scope parent callee from to path) (act_fields (At scope parent callee from to path)) OnlyBatch
+at-again : (places : ℕ) (scope parent : ScopeId) (callee : TaskId) (from to : PlaceId) (path : List ℕ) → places ≤ 16 → FitsAct places (At from to scope parent callee path) → Again (at_at places) (At from to scope parent callee path) (act_fields (At from to scope parent callee path)) OnlyBatch
 at-again places scope parent callee from to path few fits =
-    let act : Act = At scope parent callee from to path in
+    let act : Act = At from to scope parent callee path in
     again-as (at_at places) act _ _ Any OnlyBatch (flat-at (scope_field scope) (codes " in") (scope_field parent) (task_field callee) (place_field from) (place_field to) (path_field path)) (λ rest o. tt) (
     again-field nested_at _ (scope, parent) act (nested_field (scope, parent)) _ Any (nested-again scope parent fits.0 fits.1) (
     again-field task_at _ callee act (task_field callee) _ Any (task-again callee fits.2) (
@@ -466,7 +466,7 @@ release-step places task scope lost masked thrown batch few fits =
 -- the text of an entry is read as it
 pub entry-again : (places : ℕ) (e : Entry) → places ≤ 16 → FitsEntry places e → Again (entry_at places) e (entry_text e) IsEnd
 entry-again places (Step task (Open scope parent path) batch) few fits = stepped-again places (codes "open") open_at task (Open scope parent path) batch refl (plain-word-is (codes "open") refl) (λ ws. refl) fits (open-again places scope parent path fits.1)
-entry-again places (Step task (At scope parent callee from to path) batch) few fits = stepped-again places (codes "at") (at_at places) task (At scope parent callee from to path) batch refl (plain-word-is (codes "at") refl) (λ ws. refl) fits (at-again places scope parent callee from to path few fits.1)
+entry-again places (Step task (At from to scope parent callee path) batch) few fits = stepped-again places (codes "at") (at_at places) task (At from to scope parent callee path) batch refl (plain-word-is (codes "at") refl) (λ ws. refl) fits (at-again places scope parent callee from to path few fits.1)
 entry-again places (Step task (Spawn child scope from to path) batch) few fits = stepped-again places (codes "spawn") (spawn_at places) task (Spawn child scope from to path) batch refl (plain-word-is (codes "spawn") refl) (λ ws. refl) fits (spawn-again places child scope from to path few fits.1)
 entry-again places (Step task (Arrive place) batch) few fits = stepped-again places (codes "arrive") (arrive_at places) task (Arrive place) batch refl (plain-word-is (codes "arrive") refl) (λ ws. refl) fits (arrive-again places place few fits.1)
 entry-again places (Step task (Wait scope thrown) batch) few fits = stepped-again places (codes "wait") (wait_at places) task (Wait scope thrown) batch refl (plain-word-is (codes "wait") refl) (λ ws. refl) fits (wait-again places scope thrown few fits.1)

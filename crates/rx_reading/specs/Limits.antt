@@ -37,7 +37,7 @@ FitsFault places HeapFull = Unit {0}
 -- the numbers of an act; in a set of places bit p stands for place p
 abbrev pub FitsAct : ℕ → Act → Type 0
 FitsAct places (Open scope parent path) = IsShort scope.0 × IsShort parent.0 × FitsPath path
-FitsAct places (At scope parent callee from to path) =
+FitsAct places (At from to scope parent callee path) =
     IsShort scope.0 × IsShort parent.0 × IsShort callee.0 × (from.0 < places) × (to.0 < places) × FitsPath path
 FitsAct places (Spawn child scope from to path) =
     IsShort child.0 × IsShort scope.0 × (from.0 < places) × (to.0 < places) × FitsPath path

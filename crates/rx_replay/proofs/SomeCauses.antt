@@ -67,7 +67,7 @@ landing_has c X P f A true low [] k h = absurd h
 landing_has c X P f A true low ((n, Arrive p, batch) ∷ moves) k h =
     ⊎_elim (λ (s : StartsTask (Arrive p) c). absurd (let e : None ≡ Some s.0 = s.1 in let g : ⊥ = cc in g)) (λ (more : Has c moves). f (suc n) moves k.1 more) h
 landing_has c X P f A true low ((n, Open s r x, batch) ∷ moves) k h = absurd k
-landing_has c X P f A true low ((n, Calls s r d from to x, batch) ∷ moves) k h = absurd k
+landing_has c X P f A true low ((n, Calls from to s r d x, batch) ∷ moves) k h = absurd k
 landing_has c X P f A true low ((n, Spawn d s from to x, batch) ∷ moves) k h = absurd k
 landing_has c X P f A true low ((n, Wait s thrown, batch) ∷ moves) k h = absurd k
 landing_has c X P f A true low ((n, Release s lost masked thrown, batch) ∷ moves) k h = absurd k
@@ -80,7 +80,7 @@ landing_of X P f false low moves k = f low moves k
 landing_of X P f true low [] k = absurd k
 landing_of X P f true low ((n, Arrive p, batch) ∷ moves) k = f (suc n) moves k.1
 landing_of X P f true low ((n, Open s r x, batch) ∷ moves) k = absurd k
-landing_of X P f true low ((n, Calls s r d from to x, batch) ∷ moves) k = absurd k
+landing_of X P f true low ((n, Calls from to s r d x, batch) ∷ moves) k = absurd k
 landing_of X P f true low ((n, Spawn d s from to x, batch) ∷ moves) k = absurd k
 landing_of X P f true low ((n, Wait s thrown, batch) ∷ moves) k = absurd k
 landing_of X P f true low ((n, Release s lost masked thrown, batch) ∷ moves) k = absurd k

@@ -61,7 +61,7 @@ end-places T t thrown = of_found (task_of T t)
 
 pub act-places : (T : Tree) (t : TaskId) (act : Act) → (made_act T t act).places ≡ T.places
 act-places T t (Open s r path) = refl
-act-places T t (Calls s r callee from to path) = refl
+act-places T t (Calls from to s r callee path) = refl
 act-places T t (Spawn child s from to path) = refl
 act-places T t (Arrive p) = refl
 act-places T t (Wait s thrown) = refl

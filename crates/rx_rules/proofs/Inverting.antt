@@ -90,7 +90,7 @@ end_of starts here false low vars t cells moves before n thrown last after b h =
 end_of starts here true low vars t cells [] [] n thrown last after b h = absurd (let f : ⊥ = cc in f)
 end_of starts here true low vars t cells [] (m ∷ before) n thrown last after b h = absurd (let f : ⊥ = cc in f)
 end_of starts here true low vars t cells ((k, Open s r x, batch) ∷ moves) before n thrown last after b h = absurd b
-end_of starts here true low vars t cells ((k, Calls s r c from to x, batch) ∷ moves) before n thrown last after b h = absurd b
+end_of starts here true low vars t cells ((k, Calls from to s r c x, batch) ∷ moves) before n thrown last after b h = absurd b
 end_of starts here true low vars t cells ((k, Spawn c s from to x, batch) ∷ moves) before n thrown last after b h = absurd b
 end_of starts here true low vars t cells ((k, Arrive p, batch) ∷ moves) [] n thrown last after b h =
     let head : ◌≡◌ {A = ℕ × Act × List (List ℕ)} (k, Arrive p, batch) (n, End thrown, last) = cc in
@@ -111,7 +111,7 @@ ends_last code U es js t n thrown batch before after run born h =
 -- the first entry of a task that was started for another place
 first_of : (starts : List (Term × Vars)) (here : PlaceId) (low : ℕ) (vars : Vars) (t : Term) (cells : List (ℕ × Cell × List ℕ)) (first : ℕ × Act × List (List ℕ)) (more : List (ℕ × Act × List (List ℕ))) → Begins starts here true low vars t cells (first ∷ more) → (p : PlaceId) × (first.1 ≡ Arrive p) × FromOn (suc first.0) cells
 first_of starts here low vars t cells (k, Open s r x, batch) more b = absurd b
-first_of starts here low vars t cells (k, Calls s r c from to x, batch) more b = absurd b
+first_of starts here low vars t cells (k, Calls from to s r c x, batch) more b = absurd b
 first_of starts here low vars t cells (k, Spawn c s from to x, batch) more b = absurd b
 first_of starts here low vars t cells (k, Arrive p, batch) more b = (p, refl, cells_from_low b.1)
 first_of starts here low vars t cells (k, Wait s faults, batch) more b = absurd b

@@ -26,7 +26,7 @@ next-after_end T t thrown =
 
 pub next-made : (n : ℕ) (T : Tree) (e : Entry) → (made n T e).next_task ≡ T.next_task + births_of e
 next-made n T (Step t (Open s r path) batch) = sym (add-zero T.next_task)
-next-made n T (Step t (Calls s r callee from to path) batch) = sym (add-one T.next_task)
+next-made n T (Step t (Calls from to s r callee path) batch) = sym (add-one T.next_task)
 next-made n T (Step t (Spawn child s from to path) batch) = sym (add-one T.next_task)
 next-made n T (Step t (Arrive p) batch) = sym (add-zero T.next_task)
 next-made n T (Step t (Wait s thrown) batch) = sym (add-zero T.next_task)
@@ -65,8 +65,8 @@ number-from : (n : ℕ) (T : Tree) (es : List Entry) → AllAllowed n T es → C
 number-from n T [] h = (tt, tt)
 number-from n T (Step t (Open s r path) batch ∷ es) h =
     let more = number-from (suc n) (made n T (Step t (Open s r path) batch)) es h.1 in (more.0, (h.0.asks.1, more.1))
-number-from n T (Step t (Calls s r callee from to path) batch ∷ es) h =
-    let more = number-from (suc n) (made n T (Step t (Calls s r callee from to path) batch)) es h.1 in ((h.0.asks.3, more.0), (h.0.asks.1, more.1))
+number-from n T (Step t (Calls from to s r callee path) batch ∷ es) h =
+    let more = number-from (suc n) (made n T (Step t (Calls from to s r callee path) batch)) es h.1 in ((h.0.asks.3, more.0), (h.0.asks.1, more.1))
 number-from n T (Step t (Spawn child s from to path) batch ∷ es) h =
     let more = number-from (suc n) (made n T (Step t (Spawn child s from to path) batch)) es h.1 in ((h.0.asks.1, more.0), more.1)
 number-from n T (Step t (Arrive p) batch ∷ es) h = number-from (suc n) (made n T (Step t (Arrive p) batch)) es h.1

@@ -143,7 +143,7 @@ pub record MayFree (T : Tree) (s : ScopeId) (lost : PlaceSet) (masked : ℕ) (th
 -- what an act of task t, which is x, asks
 abbrev pub ActAsks : Tree → TaskId → Task → Act → Type 0
 ActAsks T t x (Open s r path) = IsLiveHere x × (s.0 ≡ T.next_scope) × (r ≡ inner T x)
-ActAsks T t x (Calls s r callee from to path) =
+ActAsks T t x (Calls from to s r callee path) =
     IsLive from x × (s.0 ≡ T.next_scope) × (r ≡ inner T x) × (callee.0 ≡ T.next_task) × (to.0 < T.places)
 ActAsks T t x (Spawn child s from to path) =
     IsLive from x × (child.0 ≡ T.next_task) × (s ≡ governs T x) × (to.0 < T.places)
@@ -187,7 +187,7 @@ after_end T t thrown =
 -- what an act of task t makes
 abbrev pub made_act : Tree → TaskId → Act → Tree
 made_act T t (Open s r path) = opened T t Finish s r
-made_act T t (Calls s r callee from to path) =
+made_act T t (Calls from to s r callee path) =
     change_task waiting t (add_task (born T callee s from to) (opened T t Call s r))
 made_act T t (Spawn child s from to path) = add_task (born T child s from to) T
 made_act T t (Arrive p) = change_task (λ x. record x { place = At p }) t T

@@ -235,7 +235,7 @@ two_losses_journals =
 -- the callee is lost, and the at waits for the task that it left behind
 abbrev pub at_waits : List Entry
 at_waits =
-    Step (t 0) (Calls (s 1) (s 0) (t 1) (p 0) (p 1) (0 ∷ 0 ∷ 0 ∷ [])) ((0 ∷ []) ∷ [])
+    Step (t 0) (Calls (p 0) (p 1) (s 1) (s 0) (t 1) (0 ∷ 0 ∷ 0 ∷ [])) ((0 ∷ []) ∷ [])
     ∷ Step (t 1) (Arrive (p 1)) []
     ∷ Step (t 1) (Open (s 2) (s 1) (0 ∷ 0 ∷ 0 ∷ 0 ∷ [])) []
     ∷ Step (t 1) (Spawn (t 2) (s 2) (p 1) (p 2) (0 ∷ 0 ∷ 0 ∷ 0 ∷ 0 ∷ [])) []

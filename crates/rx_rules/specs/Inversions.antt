@@ -73,14 +73,14 @@ NeverArrived =
 
 -- the task that an entry brings
 abbrev pub born_in : Entry → Option ℕ
-born_in (Step t (Calls s r callee from to path) batch) = Some callee.0
+born_in (Step t (Calls from to s r callee path) batch) = Some callee.0
 born_in (Step t (Spawn child s from to path) batch) = Some child.0
 born_in _ = None
 
 -- the scope that an entry opens
 abbrev pub opened_in : Entry → Option ℕ
 opened_in (Step t (Open s r path) batch) = Some s.0
-opened_in (Step t (Calls s r callee from to path) batch) = Some s.0
+opened_in (Step t (Calls from to s r callee path) batch) = Some s.0
 opened_in _ = None
 
 -- the numbers are n, n + 1, .. in order

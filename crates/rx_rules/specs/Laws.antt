@@ -17,7 +17,7 @@ pub record Link : Type 0 where
 -- the scope that an entry opens
 abbrev pub link_in : Entry → Option Link
 link_in (Step t (Open s r path) batch) = Some (record { scope = s.0; parent = r.0 })
-link_in (Step t (Calls s r c from to path) batch) = Some (record { scope = s.0; parent = r.0 })
+link_in (Step t (Calls from to s r c path) batch) = Some (record { scope = s.0; parent = r.0 })
 link_in _ = None
 
 -- the scopes opened so far, the newest first; no entry opens the root
@@ -39,7 +39,7 @@ pub record TaskBirth : Type 0 where
 
 -- the birth that an entry tells
 abbrev pub birth_told : Entry → Option TaskBirth
-birth_told (Step t (Calls s r c from to path) batch) = Some (record { task = c.0; under = s.0; from = from.0; to = to.0 })
+birth_told (Step t (Calls from to s r c path) batch) = Some (record { task = c.0; under = s.0; from = from.0; to = to.0 })
 birth_told (Step t (Spawn c s from to path) batch) = Some (record { task = c.0; under = s.0; from = from.0; to = to.0 })
 birth_told _ = None
 

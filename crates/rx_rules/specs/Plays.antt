@@ -61,7 +61,7 @@ Starts = List (Term × Vars)
 -- the act is what the term asks of the ledger
 abbrev pub Fits : PlaceId → Term → Does → Act → Type 0
 Fits here t Opens (Open s r x) = begins t ≡ Some x
-Fits here t (Asks place) (Calls s r c from to x) = (to.0 ≡ place) × (from ≡ here) × (begins t ≡ Some x)
+Fits here t (Asks place) (Calls from to s r c x) = (to.0 ≡ place) × (from ≡ here) × (begins t ≡ Some x)
 Fits here t (Spawns place) (Spawn c s from to x) = (to.0 ≡ place) × (from ≡ here) × (begins t ≡ Some x)
 Fits here t (Waits faults) (Wait s thrown) = thrown ≡ faults
 Fits here t Releases (Release s lost masked thrown) = Unit {0}
@@ -71,7 +71,7 @@ Fits here t _ act = ⊥
 
 -- the task that an act starts
 abbrev pub started_by : Act → Option TaskId
-started_by (Calls s r c from to x) = Some c
+started_by (Calls from to s r c x) = Some c
 started_by (Spawn c s from to x) = Some c
 started_by _ = None
 
@@ -149,7 +149,7 @@ pub record Birth : Type 0 where
 
 -- the birth of task t, if entry n is it
 abbrev pub birth_in : ℕ → ℕ → Entry → Option Birth
-birth_in n t (Step u (Calls s r c from to x) batch) =
+birth_in n t (Step u (Calls from to s r c x) batch) =
     cond (c.0 == t) (Some (record { from = from; to = to; low = suc n })) None
 birth_in n t (Step u (Spawn c s from to x) batch) =
     cond (c.0 == t) (Some (record { from = from; to = to; low = suc n })) None

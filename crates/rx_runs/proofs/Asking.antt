@@ -32,7 +32,7 @@ open_once T u here t (Open a0 a1 a2) (Open b0 b1 b2) h k m o p q =
     let r : a1 ≡ b1 = m.asks.2 ∙ ap (inner T) task ∙ sym o.asks.2 in
     let x : a2 ≡ b2 = (let e : Some a2 ≡ Some b2 = sym h ∙ k in cc) in
     ap (λ (v : ScopeId). Open v a1 a2) s ∙ ap (λ (v : ScopeId). Open b0 v a2) r ∙ ap (λ (v : List ℕ). Open b0 b1 v) x
-open_once T u here t (Open a0 a1 a2) (Calls b0 b1 b2 b3 b4 b5) h k m o p q = absurd k
+open_once T u here t (Open a0 a1 a2) (Calls b3 b4 b0 b1 b2 b5) h k m o p q = absurd k
 open_once T u here t (Open a0 a1 a2) (Spawn b0 b1 b2 b3 b4) h k m o p q = absurd k
 open_once T u here t (Open a0 a1 a2) (Arrive b0) h k m o p q = absurd k
 open_once T u here t (Open a0 a1 a2) (Wait b0 b1) h k m o p q = absurd k
@@ -40,7 +40,7 @@ open_once T u here t (Open a0 a1 a2) (Release b0 b1 b2 b3) h k m o p q = absurd 
 open_once T u here t (Open a0 a1 a2) (End b0) h k m o p q = absurd k
 open_once T u here t (Open a0 a1 a2) (Print b0 b1) h k m o p q = absurd k
 open_once T u here t (Open a0 a1 a2) (Census b0 b1) h k m o p q = absurd k
-open_once T u here t (Calls a0 a1 a2 a3 a4 a5) d h k m o p q = absurd h
+open_once T u here t (Calls a3 a4 a0 a1 a2 a5) d h k m o p q = absurd h
 open_once T u here t (Spawn a0 a1 a2 a3 a4) d h k m o p q = absurd h
 open_once T u here t (Arrive a0) d h k m o p q = absurd h
 open_once T u here t (Wait a0 a1) d h k m o p q = absurd h
@@ -51,8 +51,8 @@ open_once T u here t (Census a0 a1) d h k m o p q = absurd h
 
 call_once : (T : Tree) (u : TaskId) (here : PlaceId) (t : Term) (place : ℕ) (c d : Act) → Fits here t (Asks place) c → Fits here t (Asks place) d → AllowedAct T u c → AllowedAct T u d → ActFits c → ActFits d → c ≡ d
 call_once T u here t place (Open a0 a1 a2) d h k m o p q = absurd h
-call_once T u here t place (Calls a0 a1 a2 a3 a4 a5) (Open b0 b1 b2) h k m o p q = absurd k
-call_once T u here t place (Calls a0 a1 a2 a3 a4 a5) (Calls b0 b1 b2 b3 b4 b5) h k m o p q =
+call_once T u here t place (Calls a3 a4 a0 a1 a2 a5) (Open b0 b1 b2) h k m o p q = absurd k
+call_once T u here t place (Calls a3 a4 a0 a1 a2 a5) (Calls b3 b4 b0 b1 b2 b5) h k m o p q =
     let s : a0 ≡ b0 = scope-is a0 b0 (m.asks.1 ∙ sym o.asks.1) in
     let task : m.task ≡ o.task = one_task T u m.task o.task m.stands o.stands in
     let r : a1 ≡ b1 = m.asks.2 ∙ ap (inner T) task ∙ sym o.asks.2 in
@@ -60,14 +60,14 @@ call_once T u here t place (Calls a0 a1 a2 a3 a4 a5) (Calls b0 b1 b2 b3 b4 b5) h
     let from : a3 ≡ b3 = h.1 ∙ sym k.1 in
     let to : a4 ≡ b4 = place-is a4 b4 (h.0 ∙ sym k.0) in
     let x : a5 ≡ b5 = (let e : Some a5 ≡ Some b5 = sym h.2 ∙ k.2 in cc) in
-    ap (λ (v : ScopeId). Calls v a1 a2 a3 a4 a5) s ∙ ap (λ (v : ScopeId). Calls b0 v a2 a3 a4 a5) r ∙ ap (λ (v : TaskId). Calls b0 b1 v a3 a4 a5) c ∙ ap (λ (v : PlaceId). Calls b0 b1 b2 v a4 a5) from ∙ ap (λ (v : PlaceId). Calls b0 b1 b2 b3 v a5) to ∙ ap (λ (v : List ℕ). Calls b0 b1 b2 b3 b4 v) x
-call_once T u here t place (Calls a0 a1 a2 a3 a4 a5) (Spawn b0 b1 b2 b3 b4) h k m o p q = absurd k
-call_once T u here t place (Calls a0 a1 a2 a3 a4 a5) (Arrive b0) h k m o p q = absurd k
-call_once T u here t place (Calls a0 a1 a2 a3 a4 a5) (Wait b0 b1) h k m o p q = absurd k
-call_once T u here t place (Calls a0 a1 a2 a3 a4 a5) (Release b0 b1 b2 b3) h k m o p q = absurd k
-call_once T u here t place (Calls a0 a1 a2 a3 a4 a5) (End b0) h k m o p q = absurd k
-call_once T u here t place (Calls a0 a1 a2 a3 a4 a5) (Print b0 b1) h k m o p q = absurd k
-call_once T u here t place (Calls a0 a1 a2 a3 a4 a5) (Census b0 b1) h k m o p q = absurd k
+    ap (λ (v : ScopeId). Calls a3 a4 v a1 a2 a5) s ∙ ap (λ (v : ScopeId). Calls a3 a4 b0 v a2 a5) r ∙ ap (λ (v : TaskId). Calls a3 a4 b0 b1 v a5) c ∙ ap (λ (v : PlaceId). Calls v a4 b0 b1 b2 a5) from ∙ ap (λ (v : PlaceId). Calls b3 v b0 b1 b2 a5) to ∙ ap (λ (v : List ℕ). Calls b3 b4 b0 b1 b2 v) x
+call_once T u here t place (Calls a3 a4 a0 a1 a2 a5) (Spawn b0 b1 b2 b3 b4) h k m o p q = absurd k
+call_once T u here t place (Calls a3 a4 a0 a1 a2 a5) (Arrive b0) h k m o p q = absurd k
+call_once T u here t place (Calls a3 a4 a0 a1 a2 a5) (Wait b0 b1) h k m o p q = absurd k
+call_once T u here t place (Calls a3 a4 a0 a1 a2 a5) (Release b0 b1 b2 b3) h k m o p q = absurd k
+call_once T u here t place (Calls a3 a4 a0 a1 a2 a5) (End b0) h k m o p q = absurd k
+call_once T u here t place (Calls a3 a4 a0 a1 a2 a5) (Print b0 b1) h k m o p q = absurd k
+call_once T u here t place (Calls a3 a4 a0 a1 a2 a5) (Census b0 b1) h k m o p q = absurd k
 call_once T u here t place (Spawn a0 a1 a2 a3 a4) d h k m o p q = absurd h
 call_once T u here t place (Arrive a0) d h k m o p q = absurd h
 call_once T u here t place (Wait a0 a1) d h k m o p q = absurd h
@@ -78,9 +78,9 @@ call_once T u here t place (Census a0 a1) d h k m o p q = absurd h
 
 spawn_once : (T : Tree) (u : TaskId) (here : PlaceId) (t : Term) (place : ℕ) (c d : Act) → Fits here t (Spawns place) c → Fits here t (Spawns place) d → AllowedAct T u c → AllowedAct T u d → ActFits c → ActFits d → c ≡ d
 spawn_once T u here t place (Open a0 a1 a2) d h k m o p q = absurd h
-spawn_once T u here t place (Calls a0 a1 a2 a3 a4 a5) d h k m o p q = absurd h
+spawn_once T u here t place (Calls a3 a4 a0 a1 a2 a5) d h k m o p q = absurd h
 spawn_once T u here t place (Spawn a0 a1 a2 a3 a4) (Open b0 b1 b2) h k m o p q = absurd k
-spawn_once T u here t place (Spawn a0 a1 a2 a3 a4) (Calls b0 b1 b2 b3 b4 b5) h k m o p q = absurd k
+spawn_once T u here t place (Spawn a0 a1 a2 a3 a4) (Calls b3 b4 b0 b1 b2 b5) h k m o p q = absurd k
 spawn_once T u here t place (Spawn a0 a1 a2 a3 a4) (Spawn b0 b1 b2 b3 b4) h k m o p q =
     let task : m.task ≡ o.task = one_task T u m.task o.task m.stands o.stands in
     let c : a0 ≡ b0 = task-is a0 b0 (m.asks.1 ∙ sym o.asks.1) in
@@ -104,11 +104,11 @@ spawn_once T u here t place (Census a0 a1) d h k m o p q = absurd h
 
 wait_once : (T : Tree) (u : TaskId) (here : PlaceId) (t : Term) (faults : List Fault) (c d : Act) → Fits here t (Waits faults) c → Fits here t (Waits faults) d → AllowedAct T u c → AllowedAct T u d → ActFits c → ActFits d → c ≡ d
 wait_once T u here t faults (Open a0 a1 a2) d h k m o p q = absurd h
-wait_once T u here t faults (Calls a0 a1 a2 a3 a4 a5) d h k m o p q = absurd h
+wait_once T u here t faults (Calls a3 a4 a0 a1 a2 a5) d h k m o p q = absurd h
 wait_once T u here t faults (Spawn a0 a1 a2 a3 a4) d h k m o p q = absurd h
 wait_once T u here t faults (Arrive a0) d h k m o p q = absurd h
 wait_once T u here t faults (Wait a0 a1) (Open b0 b1 b2) h k m o p q = absurd k
-wait_once T u here t faults (Wait a0 a1) (Calls b0 b1 b2 b3 b4 b5) h k m o p q = absurd k
+wait_once T u here t faults (Wait a0 a1) (Calls b3 b4 b0 b1 b2 b5) h k m o p q = absurd k
 wait_once T u here t faults (Wait a0 a1) (Spawn b0 b1 b2 b3 b4) h k m o p q = absurd k
 wait_once T u here t faults (Wait a0 a1) (Arrive b0) h k m o p q = absurd k
 wait_once T u here t faults (Wait a0 a1) (Wait b0 b1) h k m o p q =
@@ -126,12 +126,12 @@ wait_once T u here t faults (Census a0 a1) d h k m o p q = absurd h
 
 release_once : (T : Tree) (u : TaskId) (here : PlaceId) (t : Term) (c d : Act) → Fits here t Releases c → Fits here t Releases d → AllowedAct T u c → AllowedAct T u d → ActFits c → ActFits d → c ≡ d
 release_once T u here t (Open a0 a1 a2) d h k m o p q = absurd h
-release_once T u here t (Calls a0 a1 a2 a3 a4 a5) d h k m o p q = absurd h
+release_once T u here t (Calls a3 a4 a0 a1 a2 a5) d h k m o p q = absurd h
 release_once T u here t (Spawn a0 a1 a2 a3 a4) d h k m o p q = absurd h
 release_once T u here t (Arrive a0) d h k m o p q = absurd h
 release_once T u here t (Wait a0 a1) d h k m o p q = absurd h
 release_once T u here t (Release a0 a1 a2 a3) (Open b0 b1 b2) h k m o p q = absurd k
-release_once T u here t (Release a0 a1 a2 a3) (Calls b0 b1 b2 b3 b4 b5) h k m o p q = absurd k
+release_once T u here t (Release a0 a1 a2 a3) (Calls b3 b4 b0 b1 b2 b5) h k m o p q = absurd k
 release_once T u here t (Release a0 a1 a2 a3) (Spawn b0 b1 b2 b3 b4) h k m o p q = absurd k
 release_once T u here t (Release a0 a1 a2 a3) (Arrive b0) h k m o p q = absurd k
 release_once T u here t (Release a0 a1 a2 a3) (Wait b0 b1) h k m o p q = absurd k
@@ -149,14 +149,14 @@ release_once T u here t (Census a0 a1) d h k m o p q = absurd h
 
 print_once : (T : Tree) (u : TaskId) (here : PlaceId) (t : Term) (z : ℤ) (c d : Act) → Fits here t (Prints z) c → Fits here t (Prints z) d → AllowedAct T u c → AllowedAct T u d → ActFits c → ActFits d → c ≡ d
 print_once T u here t z (Open a0 a1 a2) d h k m o p q = absurd h
-print_once T u here t z (Calls a0 a1 a2 a3 a4 a5) d h k m o p q = absurd h
+print_once T u here t z (Calls a3 a4 a0 a1 a2 a5) d h k m o p q = absurd h
 print_once T u here t z (Spawn a0 a1 a2 a3 a4) d h k m o p q = absurd h
 print_once T u here t z (Arrive a0) d h k m o p q = absurd h
 print_once T u here t z (Wait a0 a1) d h k m o p q = absurd h
 print_once T u here t z (Release a0 a1 a2 a3) d h k m o p q = absurd h
 print_once T u here t z (End a0) d h k m o p q = absurd h
 print_once T u here t z (Print a0 a1) (Open b0 b1 b2) h k m o p q = absurd k
-print_once T u here t z (Print a0 a1) (Calls b0 b1 b2 b3 b4 b5) h k m o p q = absurd k
+print_once T u here t z (Print a0 a1) (Calls b3 b4 b0 b1 b2 b5) h k m o p q = absurd k
 print_once T u here t z (Print a0 a1) (Spawn b0 b1 b2 b3 b4) h k m o p q = absurd k
 print_once T u here t z (Print a0 a1) (Arrive b0) h k m o p q = absurd k
 print_once T u here t z (Print a0 a1) (Wait b0 b1) h k m o p q = absurd k
@@ -170,7 +170,7 @@ print_once T u here t z (Census a0 a1) d h k m o p q = absurd h
 
 census_once : (T : Tree) (u : TaskId) (here : PlaceId) (t : Term) (name : ℕ) (c d : Act) → Fits here t (Counts name) c → Fits here t (Counts name) d → AllowedAct T u c → AllowedAct T u d → ActFits c → ActFits d → c ≡ d
 census_once T u here t name (Open a0 a1 a2) d h k m o p q = absurd h
-census_once T u here t name (Calls a0 a1 a2 a3 a4 a5) d h k m o p q = absurd h
+census_once T u here t name (Calls a3 a4 a0 a1 a2 a5) d h k m o p q = absurd h
 census_once T u here t name (Spawn a0 a1 a2 a3 a4) d h k m o p q = absurd h
 census_once T u here t name (Arrive a0) d h k m o p q = absurd h
 census_once T u here t name (Wait a0 a1) d h k m o p q = absurd h
@@ -178,7 +178,7 @@ census_once T u here t name (Release a0 a1 a2 a3) d h k m o p q = absurd h
 census_once T u here t name (End a0) d h k m o p q = absurd h
 census_once T u here t name (Print a0 a1) d h k m o p q = absurd h
 census_once T u here t name (Census a0 a1) (Open b0 b1 b2) h k m o p q = absurd k
-census_once T u here t name (Census a0 a1) (Calls b0 b1 b2 b3 b4 b5) h k m o p q = absurd k
+census_once T u here t name (Census a0 a1) (Calls b3 b4 b0 b1 b2 b5) h k m o p q = absurd k
 census_once T u here t name (Census a0 a1) (Spawn b0 b1 b2 b3 b4) h k m o p q = absurd k
 census_once T u here t name (Census a0 a1) (Arrive b0) h k m o p q = absurd k
 census_once T u here t name (Census a0 a1) (Wait b0 b1) h k m o p q = absurd k

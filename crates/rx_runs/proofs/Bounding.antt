@@ -114,7 +114,7 @@ children_owe es ps r (Some c) = owes-push es 0 ps (record { term = child r.term;
 
 starts_at : (size : ℕ) (T : Tree) (t : TaskId) (act : Act) → T.next_task ≡ size → AllowedAct T t act → StartsAt size act
 starts_at size T t (Open s r x) e may = tt
-starts_at size T t (Calls s r c from to x) e may = may.asks.3 ∙ e
+starts_at size T t (Calls from to s r c x) e may = may.asks.3 ∙ e
 starts_at size T t (Spawn c s from to x) e may = may.asks.1 ∙ e
 starts_at size T t (Arrive p) e may = tt
 starts_at size T t (Wait s thrown) e may = tt

@@ -29,7 +29,7 @@ use Rattle.rx_runs.proofs.Plans.{plan_few}
 
 scope-made : (n : ℕ) (T : Tree) (e : Entry) → (made n T e).next_scope ≤ T.next_scope + 1
 scope-made n T (Step t (Open s r path) batch) = omega arith
-scope-made n T (Step t (Calls s r callee from to path) batch) = omega arith
+scope-made n T (Step t (Calls from to s r callee path) batch) = omega arith
 scope-made n T (Step t (Spawn child s from to path) batch) = omega arith
 scope-made n T (Step t (Arrive p) batch) = omega arith
 scope-made n T (Step t (Wait s thrown) batch) = omega arith
@@ -50,7 +50,7 @@ scope-fold n T (e ∷ es) =
 
 birth-one : (e : Entry) → births_of e ≤ 1
 birth-one (Step t (Open s r path) batch) = omega arith
-birth-one (Step t (Calls s r callee from to path) batch) = omega arith
+birth-one (Step t (Calls from to s r callee path) batch) = omega arith
 birth-one (Step t (Spawn child s from to path) batch) = omega arith
 birth-one (Step t (Arrive p) batch) = omega arith
 birth-one (Step t (Wait s thrown) batch) = omega arith

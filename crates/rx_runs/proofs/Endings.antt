@@ -117,7 +117,7 @@ held_end T u thrown batch x t e held low =
 
 held_act : (T : Tree) (u : TaskId) (act : Act) (batch : List (List ℕ)) (t : ℕ) → AllowedAct T u act → (t < T.next_task → Held T t) → t < (made_act T u act).next_task → After (made_act T u act) (Step u act batch) t
 held_act T u (Open s r x) batch t may held low = inl (held low)
-held_act T u (Calls s r c from to x) batch t may held low =
+held_act T u (Calls from to s r c x) batch t may held low =
     inl (⊎_elim (λ (a : list_any (is_number t) (born T c s from to ∷ T.tasks) ≡ true). inl (any_change (is_number t) (is_task u) waiting (λ y. refl) (born T c s from to ∷ T.tasks) ∙ a)) (λ (a : list_any (is_number t) T.gone ≡ true). inr a) (held_new T (born T c s from to) t may.asks.3 held low))
 held_act T u (Spawn c s from to x) batch t may held low = inl (held_new T (born T c s from to) t may.asks.1 held low)
 held_act T u (Arrive p) batch t may held low =

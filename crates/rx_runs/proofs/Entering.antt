@@ -78,7 +78,7 @@ begins_due starts here false n vars t moves h = omega (arith, works_due h)
 begins_due starts here true n vars t [] h = omega arith
 begins_due starts here true n vars t ((k, Arrive p, batch) ∷ moves) h = omega (arith, works_due h)
 begins_due starts here true n vars t ((k, Open s r x, batch) ∷ moves) h = absurd h
-begins_due starts here true n vars t ((k, Calls s r c from to x, batch) ∷ moves) h = absurd h
+begins_due starts here true n vars t ((k, Calls from to s r c x, batch) ∷ moves) h = absurd h
 begins_due starts here true n vars t ((k, Spawn c s from to x, batch) ∷ moves) h = absurd h
 begins_due starts here true n vars t ((k, Wait s thrown, batch) ∷ moves) h = absurd h
 begins_due starts here true n vars t ((k, Release s lost masked thrown, batch) ∷ moves) h = absurd h
@@ -113,7 +113,7 @@ main_due starts es (s ∷ ss) (n ∷ ns) some stay h =
 
 no_birth : (n : ℕ) (T : Tree) (e : Entry) → 1 ≤ T.next_task → Allowed T e → birth_in n 0 e ≡ None
 no_birth n T (Step t (Open s r x) batch) some may = refl
-no_birth n T (Step t (Calls s r c from to x) batch) some may = let new : c.0 ≡ T.next_task = may.asks.3 in rw (ne_eqb c.0 0 (λ e. absurd (omega arith))) refl
+no_birth n T (Step t (Calls from to s r c x) batch) some may = let new : c.0 ≡ T.next_task = may.asks.3 in rw (ne_eqb c.0 0 (λ e. absurd (omega arith))) refl
 no_birth n T (Step t (Spawn c s from to x) batch) some may = let new : c.0 ≡ T.next_task = may.asks.1 in rw (ne_eqb c.0 0 (λ e. absurd (omega arith))) refl
 no_birth n T (Step t (Arrive p) batch) some may = refl
 no_birth n T (Step t (Wait s thrown) batch) some may = refl
@@ -171,7 +171,7 @@ rootless_end T t thrown r None e = rw (e, after_end) r
 
 rootless_act : (T : Tree) (t : TaskId) (act : Act) → Sound T → AllowedAct T t act → Rootless T → Rootless (made_act T t act)
 rootless_act T t (Open s p x) h may r = let new : s.0 ≡ T.next_scope = may.asks.1 in let some : 1 ≤ T.next_scope = h.numbered in or_from (s.0 == 0) (list_any (is_scope the_root) T.scopes) (ne_eqb s.0 0 (λ e. absurd (omega arith))) r
-rootless_act T t (Calls s p c from to x) h may r = let new : s.0 ≡ T.next_scope = may.asks.1 in let some : 1 ≤ T.next_scope = h.numbered in or_from (s.0 == 0) (list_any (is_scope the_root) T.scopes) (ne_eqb s.0 0 (λ e. absurd (omega arith))) r
+rootless_act T t (Calls from to s p c x) h may r = let new : s.0 ≡ T.next_scope = may.asks.1 in let some : 1 ≤ T.next_scope = h.numbered in or_from (s.0 == 0) (list_any (is_scope the_root) T.scopes) (ne_eqb s.0 0 (λ e. absurd (omega arith))) r
 rootless_act T t (Spawn c s from to x) h may r = r
 rootless_act T t (Arrive p) h may r = r
 rootless_act T t (Wait s thrown) h may r = any_faulted (λ g. thrown) (λ g. g.ends) (is_scope s) (is_scope the_root) (λ g. refl) T.scopes ∙ r

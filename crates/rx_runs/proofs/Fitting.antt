@@ -93,7 +93,7 @@ own_fits T t x y here places q (Forgets target) act r found fit f fits may after
 own_fits T t x y here places q Opens (Open a0 a1 a2) r found fit f fits may after =
     let same : x ≡ y = one_task T t x y found after in
     fit_as (kinds_own (new_scope T t Finish a0 a1) T.scopes t (eq-eqb t.0 t.0 refl)) f.3 f.2 (((λ e. refl), fit.frames_are)) (ap (λ (v : Task). v.waits) (sym same) ∙ fit.waits_is ∙ f.0)
-own_fits T t x y here places q Opens (Calls a0 a1 a2 a3 a4 a5) r found fit f fits may after = absurd fits
+own_fits T t x y here places q Opens (Calls a3 a4 a0 a1 a2 a5) r found fit f fits may after = absurd fits
 own_fits T t x y here places q Opens (Spawn a0 a1 a2 a3 a4) r found fit f fits may after = absurd fits
 own_fits T t x y here places q Opens (Arrive a0) r found fit f fits may after = absurd fits
 own_fits T t x y here places q Opens (Wait a0 a1) r found fit f fits may after = absurd fits
@@ -102,7 +102,7 @@ own_fits T t x y here places q Opens (End a0) r found fit f fits may after = abs
 own_fits T t x y here places q Opens (Print a0 a1) r found fit f fits may after = absurd fits
 own_fits T t x y here places q Opens (Census a0 a1) r found fit f fits may after = absurd fits
 own_fits T t x y here places q (Asks pl) (Open a0 a1 a2) r found fit f fits may after = absurd fits
-own_fits T t x y here places q (Asks pl) (Calls a0 a1 a2 a3 a4 a5) r found fit f fits may after =
+own_fits T t x y here places q (Asks pl) (Calls a3 a4 a0 a1 a2 a5) r found fit f fits may after =
     let low : t.0 < T.next_task = task_below T.next_task T.tasks t x (sound r).tasks_fall found in
     let new : a2.0 ≡ T.next_task = may.asks.3 in
     let there : find (is_task t) (born T a2 a0 a3 a4 ∷ T.tasks) ≡ Some x = skip (born T a2 a0 a3 a4) T.tasks t (λ e. omega arith) ∙ found in
@@ -116,7 +116,7 @@ own_fits T t x y here places q (Asks pl) (End a0) r found fit f fits may after =
 own_fits T t x y here places q (Asks pl) (Print a0 a1) r found fit f fits may after = absurd fits
 own_fits T t x y here places q (Asks pl) (Census a0 a1) r found fit f fits may after = absurd fits
 own_fits T t x y here places q (Spawns pl) (Open a0 a1 a2) r found fit f fits may after = absurd fits
-own_fits T t x y here places q (Spawns pl) (Calls a0 a1 a2 a3 a4 a5) r found fit f fits may after = absurd fits
+own_fits T t x y here places q (Spawns pl) (Calls a3 a4 a0 a1 a2 a5) r found fit f fits may after = absurd fits
 own_fits T t x y here places q (Spawns pl) (Spawn a0 a1 a2 a3 a4) r found fit f fits may after =
     let low : t.0 < T.next_task = task_below T.next_task T.tasks t x (sound r).tasks_fall found in
     let new : a0.0 ≡ T.next_task = may.asks.1 in
@@ -130,7 +130,7 @@ own_fits T t x y here places q (Spawns pl) (End a0) r found fit f fits may after
 own_fits T t x y here places q (Spawns pl) (Print a0 a1) r found fit f fits may after = absurd fits
 own_fits T t x y here places q (Spawns pl) (Census a0 a1) r found fit f fits may after = absurd fits
 own_fits T t x y here places q (Waits faults) (Open a0 a1 a2) r found fit f fits may after = absurd fits
-own_fits T t x y here places q (Waits faults) (Calls a0 a1 a2 a3 a4 a5) r found fit f fits may after = absurd fits
+own_fits T t x y here places q (Waits faults) (Calls a3 a4 a0 a1 a2 a5) r found fit f fits may after = absurd fits
 own_fits T t x y here places q (Waits faults) (Spawn a0 a1 a2 a3 a4) r found fit f fits may after = absurd fits
 own_fits T t x y here places q (Waits faults) (Arrive a0) r found fit f fits may after = absurd fits
 own_fits T t x y here places q (Waits faults) (Wait a0 a1) r found fit f fits may after =
@@ -141,7 +141,7 @@ own_fits T t x y here places q (Waits faults) (End a0) r found fit f fits may af
 own_fits T t x y here places q (Waits faults) (Print a0 a1) r found fit f fits may after = absurd fits
 own_fits T t x y here places q (Waits faults) (Census a0 a1) r found fit f fits may after = absurd fits
 own_fits T t x y here places q Releases (Open a0 a1 a2) r found fit f fits may after = absurd fits
-own_fits T t x y here places q Releases (Calls a0 a1 a2 a3 a4 a5) r found fit f fits may after = absurd fits
+own_fits T t x y here places q Releases (Calls a3 a4 a0 a1 a2 a5) r found fit f fits may after = absurd fits
 own_fits T t x y here places q Releases (Spawn a0 a1 a2 a3 a4) r found fit f fits may after = absurd fits
 own_fits T t x y here places q Releases (Arrive a0) r found fit f fits may after = absurd fits
 own_fits T t x y here places q Releases (Wait a0 a1) r found fit f fits may after = absurd fits
@@ -158,7 +158,7 @@ own_fits T t x y here places q Releases (End a0) r found fit f fits may after = 
 own_fits T t x y here places q Releases (Print a0 a1) r found fit f fits may after = absurd fits
 own_fits T t x y here places q Releases (Census a0 a1) r found fit f fits may after = absurd fits
 own_fits T t x y here places q (Prints z) (Open a0 a1 a2) r found fit f fits may after = absurd fits
-own_fits T t x y here places q (Prints z) (Calls a0 a1 a2 a3 a4 a5) r found fit f fits may after = absurd fits
+own_fits T t x y here places q (Prints z) (Calls a3 a4 a0 a1 a2 a5) r found fit f fits may after = absurd fits
 own_fits T t x y here places q (Prints z) (Spawn a0 a1 a2 a3 a4) r found fit f fits may after = absurd fits
 own_fits T t x y here places q (Prints z) (Arrive a0) r found fit f fits may after = absurd fits
 own_fits T t x y here places q (Prints z) (Wait a0 a1) r found fit f fits may after = absurd fits
@@ -169,7 +169,7 @@ own_fits T t x y here places q (Prints z) (Print a0 a1) r found fit f fits may a
     fit_as {kinds = kinds_of T t} refl f.2.1 f.2.0 fit.frames_are (ap (λ (v : Task). v.waits) (sym same) ∙ fit.waits_is)
 own_fits T t x y here places q (Prints z) (Census a0 a1) r found fit f fits may after = absurd fits
 own_fits T t x y here places q (Counts name) (Open a0 a1 a2) r found fit f fits may after = absurd fits
-own_fits T t x y here places q (Counts name) (Calls a0 a1 a2 a3 a4 a5) r found fit f fits may after = absurd fits
+own_fits T t x y here places q (Counts name) (Calls a3 a4 a0 a1 a2 a5) r found fit f fits may after = absurd fits
 own_fits T t x y here places q (Counts name) (Spawn a0 a1 a2 a3 a4) r found fit f fits may after = absurd fits
 own_fits T t x y here places q (Counts name) (Arrive a0) r found fit f fits may after = absurd fits
 own_fits T t x y here places q (Counts name) (Wait a0 a1) r found fit f fits may after = absurd fits
@@ -183,7 +183,7 @@ own_fits T t x y here places q (Done faults) act r found fit f fits may after = 
 
 -- The task that an act starts.
 
-calls_flat : (here : PlaceId) (places : ℕ) (q : Term) (d : Does) (a0 a1 : ScopeId) (a2 : TaskId) (a3 a4 : PlaceId) (a5 : List ℕ) → Framed places q d → Fits here q d (Calls a0 a1 a2 a3 a4 a5) → Flat (child q)
+calls_flat : (here : PlaceId) (places : ℕ) (q : Term) (d : Does) (a0 a1 : ScopeId) (a2 : TaskId) (a3 a4 : PlaceId) (a5 : List ℕ) → Framed places q d → Fits here q d (Calls a3 a4 a0 a1 a2 a5) → Flat (child q)
 calls_flat here places q (Local left vars) a0 a1 a2 a3 a4 a5 f h = absurd h
 calls_flat here places q (Makes name words) a0 a1 a2 a3 a4 a5 f h = absurd h
 calls_flat here places q (Gets name target index) a0 a1 a2 a3 a4 a5 f h = absurd h
@@ -219,7 +219,7 @@ head_found x xs u e = ap (λ b. cond b (Some x) (find (is_task u) xs)) (eq-eqb x
 -- the task that an act starts has the next number
 starts_next : (T : Tree) (t : TaskId) (act : Act) (c : TaskId) → AllowedAct T t act → started_by act ≡ Some c → c.0 ≡ T.next_task
 starts_next T t (Open a0 a1 a2) c may e = cc
-starts_next T t (Calls a0 a1 a2 a3 a4 a5) c may e = (let it : a2 ≡ c = cc in ap (λ (v : TaskId). v.0) (sym it) ∙ may.asks.3)
+starts_next T t (Calls a3 a4 a0 a1 a2 a5) c may e = (let it : a2 ≡ c = cc in ap (λ (v : TaskId). v.0) (sym it) ∙ may.asks.3)
 starts_next T t (Spawn a0 a1 a2 a3 a4) c may e = (let it : a0 ≡ c = cc in ap (λ (v : TaskId). v.0) (sym it) ∙ may.asks.1)
 starts_next T t (Arrive a0) c may e = cc
 starts_next T t (Wait a0 a1) c may e = cc
@@ -233,7 +233,7 @@ fit_new q kinds waits flat none calm = fit_as {kinds = []} {fs = []} none (flat_
 
 child_fits : (T : Tree) (t c : TaskId) (y : Task) (here : PlaceId) (places : ℕ) (q : Term) (d : Does) (act : Act) → Reached T → t.0 < T.next_task → Framed places q d → Fits here q d act → AllowedAct T t act → started_by act ≡ Some c → task_of (made_act T t act) c ≡ Some y → TermFits (kinds_of (made_act T t act) c) y.waits (child q)
 child_fits T t c y here places q d (Open a0 a1 a2) r low f fits may e found = cc
-child_fits T t c y here places q d (Calls a0 a1 a2 a3 a4 a5) r low f fits may e found =
+child_fits T t c y here places q d (Calls a3 a4 a0 a1 a2 a5) r low f fits may e found =
     let h : Sound T = sound r in
     let it : a2 ≡ c = cc in
     let new : a2.0 ≡ T.next_task = may.asks.3 in
@@ -241,7 +241,7 @@ child_fits T t c y here places q d (Calls a0 a1 a2 a3 a4 a5) r low f fits may e 
     let there : find (is_task c) (born T a2 a0 a3 a4 ∷ T.tasks) ≡ Some y = sym (find_other t c waiting (λ v. refl) (λ w. omega arith) (born T a2 a0 a3 a4 ∷ T.tasks)) ∙ found in
     let same : born T a2 a0 a3 a4 ≡ y = (let e2 : Some (born T a2 a0 a3 a4) ≡ Some y = sym (head_found (born T a2 a0 a3 a4) T.tasks c num) ∙ there in cc) in
     let below : OpenersBelow T.next_task (new_scope T t Call a0 a1 ∷ T.scopes) = ((λ v mine. let w : t.0 ≡ v.0 = eqb-true t.0 v.0 mine in omega arith), openers_below T.next_task T.tasks T.scopes h.tasks_fall h.opened) in
-    fit_new q (kinds_of (made_act T t (Calls a0 a1 a2 a3 a4 a5)) c) y.waits (calls_flat here places q d a0 a1 a2 a3 a4 a5 f fits)
+    fit_new q (kinds_of (made_act T t (Calls a3 a4 a0 a1 a2 a5)) c) y.waits (calls_flat here places q d a0 a1 a2 a3 a4 a5 f fits)
     (kinds_none T.next_task (new_scope T t Call a0 a1 ∷ T.scopes) c below (sym num ∙ new)) (ap (λ (v : Task). v.waits) (sym same))
 child_fits T t c y here places q d (Spawn a0 a1 a2 a3 a4) r low f fits may e found =
     let h : Sound T = sound r in

@@ -129,8 +129,8 @@ module _ (U : Given) (k : ℕ) (G : Game) (free : NoneDue (length G.entries) G.p
   turn_by (Asks pl) e f l =
       let T : Tree = tree_in U G in
       let to : PlaceId = record { 0 = pl } in
-      by_act (Calls (record { 0 = T.next_scope }) (inner T x) (record { 0 = T.next_task }) here to f.1.0) (subst (λ (d : Does). Fits here q.term d (Calls (record { 0 = T.next_scope }) (inner T x) (record { 0 = T.next_task }) here to f.1.0)) (sym e) (refl, refl, f.1.1))
-      (allowed (Calls (record { 0 = T.next_scope }) (inner T x) (record { 0 = T.next_task }) here to f.1.0) (live f.0, refl, refl, refl, f.2)) tt
+      by_act (Calls here to (record { 0 = T.next_scope }) (inner T x) (record { 0 = T.next_task }) f.1.0) (subst (λ (d : Does). Fits here q.term d (Calls here to (record { 0 = T.next_scope }) (inner T x) (record { 0 = T.next_task }) f.1.0)) (sym e) (refl, refl, f.1.1))
+      (allowed (Calls here to (record { 0 = T.next_scope }) (inner T x) (record { 0 = T.next_task }) f.1.0) (live f.0, refl, refl, refl, f.2)) tt
   turn_by (Spawns pl) e f l =
       let T : Tree = tree_in U G in
       let to : PlaceId = record { 0 = pl } in

@@ -402,8 +402,8 @@ module _ (code : Block) (U : Given) (G : Game) (ok : GameOk code U G) where
   keeps_move i x here p r S Z k (Release s lost masked thrown) due pick at player store goes fits may h = plain i x here p r S Z k (Release s lost masked thrown) due pick at player store goes fits may h refl refl refl (λ v e. cc)
   keeps_move i x here p r S Z k (Print value y) due pick at player store goes fits may h = plain i x here p r S Z k (Print value y) due pick at player store goes fits may h refl refl refl (λ v e. cc)
   keeps_move i x here p r S Z k (Census value y) due pick at player store goes fits may h = plain i x here p r S Z k (Census value y) due pick at player store goes fits may h refl refl refl (λ v e. cc)
-  keeps_move i x here p r S Z k (Calls s q c from to y) due pick at player store goes fits may h =
-      birth i x here p r S Z k (Calls s q c from to y) c from to due pick at player store goes fits may h refl (may.asks.3 ∙ next_is) refl refl (λ v e. cc) (λ j. rw (eq-eqb c.0 c.0 refl) refl)
+  keeps_move i x here p r S Z k (Calls from to s q c y) due pick at player store goes fits may h =
+      birth i x here p r S Z k (Calls from to s q c y) c from to due pick at player store goes fits may h refl (may.asks.3 ∙ next_is) refl refl (λ v e. cc) (λ j. rw (eq-eqb c.0 c.0 refl) refl)
   keeps_move i x here p r S Z k (Spawn c s from to y) due pick at player store goes fits may h =
       birth i x here p r S Z k (Spawn c s from to y) c from to due pick at player store goes fits may h refl (may.asks.1 ∙ next_is) refl refl (λ v e. cc) (λ j. rw (eq-eqb c.0 c.0 refl) refl)
   keeps_move i x here p r S Z k (Arrive to) due pick at player store goes fits may h = absurd (no_arrival here r.term (does r.vars here.0 r.term) to fits)

@@ -72,7 +72,7 @@ asks_cost here t (Gets a b c) act s h = absurd h
 asks_cost here t (Puts a b c) act s h = absurd h
 asks_cost here t (Forgets a) act s h = absurd h
 asks_cost here t Opens (Open u v w) s h = let less : cost (granted [] t) + 1 ≤ cost t = s in omega arith
-asks_cost here t Opens (Calls u v w x y z) s h = absurd h
+asks_cost here t Opens (Calls x y u v w z) s h = absurd h
 asks_cost here t Opens (Spawn u v w x y) s h = absurd h
 asks_cost here t Opens (Arrive u) s h = absurd h
 asks_cost here t Opens (Wait u v) s h = absurd h
@@ -81,7 +81,7 @@ asks_cost here t Opens (End u) s h = absurd h
 asks_cost here t Opens (Print u v) s h = absurd h
 asks_cost here t Opens (Census u v) s h = absurd h
 asks_cost here t (Asks a) (Open u v w) s h = absurd h
-asks_cost here t (Asks a) (Calls u v w x y z) s h = let less : cost (granted [] t) + cost (child t) + 3 ≤ cost t = s in omega arith
+asks_cost here t (Asks a) (Calls x y u v w z) s h = let less : cost (granted [] t) + cost (child t) + 3 ≤ cost t = s in omega arith
 asks_cost here t (Asks a) (Spawn u v w x y) s h = absurd h
 asks_cost here t (Asks a) (Arrive u) s h = absurd h
 asks_cost here t (Asks a) (Wait u v) s h = absurd h
@@ -90,7 +90,7 @@ asks_cost here t (Asks a) (End u) s h = absurd h
 asks_cost here t (Asks a) (Print u v) s h = absurd h
 asks_cost here t (Asks a) (Census u v) s h = absurd h
 asks_cost here t (Spawns a) (Open u v w) s h = absurd h
-asks_cost here t (Spawns a) (Calls u v w x y z) s h = absurd h
+asks_cost here t (Spawns a) (Calls x y u v w z) s h = absurd h
 asks_cost here t (Spawns a) (Spawn u v w x y) s h = let less : cost (granted [] t) + cost (child t) + 3 ≤ cost t = s in omega arith
 asks_cost here t (Spawns a) (Arrive u) s h = absurd h
 asks_cost here t (Spawns a) (Wait u v) s h = absurd h
@@ -99,7 +99,7 @@ asks_cost here t (Spawns a) (End u) s h = absurd h
 asks_cost here t (Spawns a) (Print u v) s h = absurd h
 asks_cost here t (Spawns a) (Census u v) s h = absurd h
 asks_cost here t (Waits a) (Open u v w) s h = absurd h
-asks_cost here t (Waits a) (Calls u v w x y z) s h = absurd h
+asks_cost here t (Waits a) (Calls x y u v w z) s h = absurd h
 asks_cost here t (Waits a) (Spawn u v w x y) s h = absurd h
 asks_cost here t (Waits a) (Arrive u) s h = absurd h
 asks_cost here t (Waits a) (Wait u v) s h = let less : cost (granted [] t) + 1 ≤ cost t = s in omega arith
@@ -108,7 +108,7 @@ asks_cost here t (Waits a) (End u) s h = absurd h
 asks_cost here t (Waits a) (Print u v) s h = absurd h
 asks_cost here t (Waits a) (Census u v) s h = absurd h
 asks_cost here t Releases (Open u v w) s h = absurd h
-asks_cost here t Releases (Calls u v w x y z) s h = absurd h
+asks_cost here t Releases (Calls x y u v w z) s h = absurd h
 asks_cost here t Releases (Spawn u v w x y) s h = absurd h
 asks_cost here t Releases (Arrive u) s h = absurd h
 asks_cost here t Releases (Wait u v) s h = absurd h
@@ -117,7 +117,7 @@ asks_cost here t Releases (End u) s h = absurd h
 asks_cost here t Releases (Print u v) s h = absurd h
 asks_cost here t Releases (Census u v) s h = absurd h
 asks_cost here t (Prints a) (Open u v w) s h = absurd h
-asks_cost here t (Prints a) (Calls u v w x y z) s h = absurd h
+asks_cost here t (Prints a) (Calls x y u v w z) s h = absurd h
 asks_cost here t (Prints a) (Spawn u v w x y) s h = absurd h
 asks_cost here t (Prints a) (Arrive u) s h = absurd h
 asks_cost here t (Prints a) (Wait u v) s h = absurd h
@@ -126,7 +126,7 @@ asks_cost here t (Prints a) (End u) s h = absurd h
 asks_cost here t (Prints a) (Print u v) s h = let less : cost (granted [] t) + 1 ≤ cost t = s in omega arith
 asks_cost here t (Prints a) (Census u v) s h = absurd h
 asks_cost here t (Counts a) (Open u v w) s h = absurd h
-asks_cost here t (Counts a) (Calls u v w x y z) s h = absurd h
+asks_cost here t (Counts a) (Calls x y u v w z) s h = absurd h
 asks_cost here t (Counts a) (Spawn u v w x y) s h = absurd h
 asks_cost here t (Counts a) (Arrive u) s h = absurd h
 asks_cost here t (Counts a) (Wait u v) s h = absurd h

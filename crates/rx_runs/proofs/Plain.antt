@@ -69,7 +69,7 @@ members_plain s = same_filter (has_bit (s.0 % 2 ^ 16)) (has_bit s.0) all_places 
 
 plain_fits_act : (act : Act) → ActFits (plain_act act)
 plain_fits_act (Open s r x) = tt
-plain_fits_act (Calls s r c from to x) = tt
+plain_fits_act (Calls from to s r c x) = tt
 plain_fits_act (Spawn c s from to x) = tt
 plain_fits_act (Arrive p) = tt
 plain_fits_act (Wait s thrown) = tt
@@ -89,7 +89,7 @@ plain_fits (Join p ∷ es) = plain_fits es
 
 made_plain : (n : ℕ) (T : Tree) (e : Entry) → made n T (plain e) ≡ made n T e
 made_plain n T (Step t (Open s r x) batch) = refl
-made_plain n T (Step t (Calls s r c from to x) batch) = refl
+made_plain n T (Step t (Calls from to s r c x) batch) = refl
 made_plain n T (Step t (Spawn c s from to x) batch) = refl
 made_plain n T (Step t (Arrive p) batch) = refl
 made_plain n T (Step t (Wait s thrown) batch) = refl
@@ -123,7 +123,7 @@ end_stays (Join p ∷ es) h = end_stays es h
 
 brought_plain : (act : Act) → brought (plain_act act) ≡ brought act
 brought_plain (Open s r x) = refl
-brought_plain (Calls s r c from to x) = refl
+brought_plain (Calls from to s r c x) = refl
 brought_plain (Spawn c s from to x) = refl
 brought_plain (Arrive p) = refl
 brought_plain (Wait s thrown) = refl
@@ -134,7 +134,7 @@ brought_plain (Census places x) = refl
 
 child_plain : (q : Player) (act : Act) → child_of q (plain_act act) ≡ child_of q act
 child_plain q (Open s r x) = refl
-child_plain q (Calls s r c from to x) = refl
+child_plain q (Calls from to s r c x) = refl
 child_plain q (Spawn c s from to x) = refl
 child_plain q (Arrive p) = refl
 child_plain q (Wait s thrown) = refl
@@ -161,7 +161,7 @@ release_fits here t (Done faults) s lost other masked thrown h = h
 
 fits_plain : (here : PlaceId) (t : Term) (d : Does) (act : Act) → Fits here t d act → Fits here t d (plain_act act)
 fits_plain here t d (Open s r x) h = h
-fits_plain here t d (Calls s r c from to x) h = h
+fits_plain here t d (Calls from to s r c x) h = h
 fits_plain here t d (Spawn c s from to x) h = h
 fits_plain here t d (Arrive p) h = h
 fits_plain here t d (Wait s thrown) h = h
@@ -173,7 +173,7 @@ fits_plain here t d (Census places x) h = h
 -- what the act tells is the same
 vars_plain : (d : Does) (act : Act) (vars : Vars) → vars_told d (plain_act act) vars ≡ vars_told d act vars
 vars_plain d (Open s r x) vars = refl
-vars_plain d (Calls s r c from to x) vars = refl
+vars_plain d (Calls from to s r c x) vars = refl
 vars_plain d (Spawn c s from to x) vars = refl
 vars_plain d (Arrive p) vars = refl
 vars_plain d (Wait s thrown) vars = refl
@@ -202,7 +202,7 @@ free_as_plain T s lost masked thrown h = record { is_quiet = h.is_quiet; places 
 
 allowed_plain : (T : Tree) (e : Entry) → Allowed T e → Allowed T (plain e)
 allowed_plain T (Step t (Open s r x) batch) h = h
-allowed_plain T (Step t (Calls s r c from to x) batch) h = h
+allowed_plain T (Step t (Calls from to s r c x) batch) h = h
 allowed_plain T (Step t (Spawn c s from to x) batch) h = h
 allowed_plain T (Step t (Arrive p) batch) h = h
 allowed_plain T (Step t (Wait s thrown) batch) h = h

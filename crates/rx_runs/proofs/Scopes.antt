@@ -127,7 +127,7 @@ other_end T t thrown x h e u y found =
 
 pub other_act : (T : Tree) (t : TaskId) (act : Act) → Sound T → AllowedAct T t act → (u : TaskId) (y : Task) → t.0 ≢ u.0 → u.0 < T.next_task → task_of (made_act T t act) u ≡ Some y → y.struck ≡ None → Same T (made_act T t act) u y
 other_act T t (Open s r path) h may u y other low found free = record { found = found; kinds = kinds_other (new_scope T t Finish s r) T.scopes u (ne_eqb t.0 u.0 other) }
-other_act T t (Calls s r c from to path) h may u y other low found free =
+other_act T t (Calls from to s r c path) h may u y other low found free =
     let new : c.0 ≡ T.next_task = may.asks.3 in
     record {
       found = sym (find_other t u waiting (λ x. refl) other (born T c s from to ∷ T.tasks) ∙ skip (born T c s from to) T.tasks u (λ e. omega arith)) ∙ found;

@@ -137,7 +137,7 @@ born_in_order g n T (e ∷ es) h =
 
     one : (g : ℕ → ℕ) (T : Tree) (e : Entry) (k : ℕ) → Allowed T e → of_entry (λ act. brings g (started_by act)) e + range g (T.next_task + births_of e) k ≡ range g T.next_task (births_of e + k)
     one g T (Step t (Open s r x) batch) k may = none_more g T.next_task k
-    one g T (Step t (Calls s r c from to x) batch) k may = ap (λ v. g v + range g (T.next_task + 1) k) may.asks.3 ∙ one_more g T.next_task k
+    one g T (Step t (Calls from to s r c x) batch) k may = ap (λ v. g v + range g (T.next_task + 1) k) may.asks.3 ∙ one_more g T.next_task k
     one g T (Step t (Spawn c s from to x) batch) k may = ap (λ v. g v + range g (T.next_task + 1) k) may.asks.1 ∙ one_more g T.next_task k
     one g T (Step t (Arrive p) batch) k may = none_more g T.next_task k
     one g T (Step t (Wait s thrown) batch) k may = none_more g T.next_task k
@@ -171,7 +171,7 @@ given_range w starts m (s ∷ ss) same =
 -- each entry's task was born
 pub act_below : (T : Tree) (t : TaskId) (act : Act) → Reached T → AllowedAct T t act → t.0 < T.next_task
 act_below T t (Open s p x) r may = task_below T.next_task T.tasks t may.task (sound r).tasks_fall may.stands
-act_below T t (Calls s p c from to x) r may = task_below T.next_task T.tasks t may.task (sound r).tasks_fall may.stands
+act_below T t (Calls from to s p c x) r may = task_below T.next_task T.tasks t may.task (sound r).tasks_fall may.stands
 act_below T t (Spawn c s from to x) r may = task_below T.next_task T.tasks t may.task (sound r).tasks_fall may.stands
 act_below T t (Arrive p) r may = task_below T.next_task T.tasks t may.task (sound r).tasks_fall may.stands
 act_below T t (Wait s thrown) r may = task_below T.next_task T.tasks t may.task (sound r).tasks_fall may.stands

@@ -49,7 +49,7 @@ asks_steps here t (Gets a b c) act s h = absurd h
 asks_steps here t (Puts a b c) act s h = absurd h
 asks_steps here t (Forgets a) act s h = absurd h
 asks_steps here t Opens (Open u v w) s h = let less : steps (granted [] t) + 1 ≤ steps t = s in omega arith
-asks_steps here t Opens (Calls u v w x y z) s h = absurd h
+asks_steps here t Opens (Calls x y u v w z) s h = absurd h
 asks_steps here t Opens (Spawn u v w x y) s h = absurd h
 asks_steps here t Opens (Arrive u) s h = absurd h
 asks_steps here t Opens (Wait u v) s h = absurd h
@@ -58,7 +58,7 @@ asks_steps here t Opens (End u) s h = absurd h
 asks_steps here t Opens (Print u v) s h = absurd h
 asks_steps here t Opens (Census u v) s h = absurd h
 asks_steps here t (Asks a) (Open u v w) s h = absurd h
-asks_steps here t (Asks a) (Calls u v w x y z) s h = let less : steps (granted [] t) + steps (child t) + 2 ≤ steps t = s in omega arith
+asks_steps here t (Asks a) (Calls x y u v w z) s h = let less : steps (granted [] t) + steps (child t) + 2 ≤ steps t = s in omega arith
 asks_steps here t (Asks a) (Spawn u v w x y) s h = absurd h
 asks_steps here t (Asks a) (Arrive u) s h = absurd h
 asks_steps here t (Asks a) (Wait u v) s h = absurd h
@@ -67,7 +67,7 @@ asks_steps here t (Asks a) (End u) s h = absurd h
 asks_steps here t (Asks a) (Print u v) s h = absurd h
 asks_steps here t (Asks a) (Census u v) s h = absurd h
 asks_steps here t (Spawns a) (Open u v w) s h = absurd h
-asks_steps here t (Spawns a) (Calls u v w x y z) s h = absurd h
+asks_steps here t (Spawns a) (Calls x y u v w z) s h = absurd h
 asks_steps here t (Spawns a) (Spawn u v w x y) s h = let less : steps (granted [] t) + steps (child t) + 2 ≤ steps t = s in omega arith
 asks_steps here t (Spawns a) (Arrive u) s h = absurd h
 asks_steps here t (Spawns a) (Wait u v) s h = absurd h
@@ -76,7 +76,7 @@ asks_steps here t (Spawns a) (End u) s h = absurd h
 asks_steps here t (Spawns a) (Print u v) s h = absurd h
 asks_steps here t (Spawns a) (Census u v) s h = absurd h
 asks_steps here t (Waits a) (Open u v w) s h = absurd h
-asks_steps here t (Waits a) (Calls u v w x y z) s h = absurd h
+asks_steps here t (Waits a) (Calls x y u v w z) s h = absurd h
 asks_steps here t (Waits a) (Spawn u v w x y) s h = absurd h
 asks_steps here t (Waits a) (Arrive u) s h = absurd h
 asks_steps here t (Waits a) (Wait u v) s h = let less : steps (granted [] t) + 1 ≤ steps t = s in omega arith
@@ -85,7 +85,7 @@ asks_steps here t (Waits a) (End u) s h = absurd h
 asks_steps here t (Waits a) (Print u v) s h = absurd h
 asks_steps here t (Waits a) (Census u v) s h = absurd h
 asks_steps here t Releases (Open u v w) s h = absurd h
-asks_steps here t Releases (Calls u v w x y z) s h = absurd h
+asks_steps here t Releases (Calls x y u v w z) s h = absurd h
 asks_steps here t Releases (Spawn u v w x y) s h = absurd h
 asks_steps here t Releases (Arrive u) s h = absurd h
 asks_steps here t Releases (Wait u v) s h = absurd h
@@ -94,7 +94,7 @@ asks_steps here t Releases (End u) s h = absurd h
 asks_steps here t Releases (Print u v) s h = absurd h
 asks_steps here t Releases (Census u v) s h = absurd h
 asks_steps here t (Prints a) (Open u v w) s h = absurd h
-asks_steps here t (Prints a) (Calls u v w x y z) s h = absurd h
+asks_steps here t (Prints a) (Calls x y u v w z) s h = absurd h
 asks_steps here t (Prints a) (Spawn u v w x y) s h = absurd h
 asks_steps here t (Prints a) (Arrive u) s h = absurd h
 asks_steps here t (Prints a) (Wait u v) s h = absurd h
@@ -103,7 +103,7 @@ asks_steps here t (Prints a) (End u) s h = absurd h
 asks_steps here t (Prints a) (Print u v) s h = let less : steps (granted [] t) + 1 ≤ steps t = s in omega arith
 asks_steps here t (Prints a) (Census u v) s h = absurd h
 asks_steps here t (Counts a) (Open u v w) s h = absurd h
-asks_steps here t (Counts a) (Calls u v w x y z) s h = absurd h
+asks_steps here t (Counts a) (Calls x y u v w z) s h = absurd h
 asks_steps here t (Counts a) (Spawn u v w x y) s h = absurd h
 asks_steps here t (Counts a) (Arrive u) s h = absurd h
 asks_steps here t (Counts a) (Wait u v) s h = absurd h
@@ -143,7 +143,7 @@ begins_pay starts here false n vars t moves h = works_pay h
 begins_pay starts here true n vars t [] h = let e : n ≡ 0 = h in omega arith
 begins_pay starts here true n vars t ((k, Arrive p, batch) ∷ moves) h = omega (arith, works_pay h)
 begins_pay starts here true n vars t ((k, Open s r x, batch) ∷ moves) h = absurd h
-begins_pay starts here true n vars t ((k, Calls s r c from to x, batch) ∷ moves) h = absurd h
+begins_pay starts here true n vars t ((k, Calls from to s r c x, batch) ∷ moves) h = absurd h
 begins_pay starts here true n vars t ((k, Spawn c s from to x, batch) ∷ moves) h = absurd h
 begins_pay starts here true n vars t ((k, Wait s thrown, batch) ∷ moves) h = absurd h
 begins_pay starts here true n vars t ((k, Release s lost masked thrown, batch) ∷ moves) h = absurd h

@@ -25,7 +25,7 @@ StartsAt size act = IsNext size (started_by act)
 
 pub birth_other : (size n m : ℕ) (t : TaskId) (act : Act) (batch : List (List ℕ)) → StartsAt size act → size ≢ m → birth_in n m (Step t act batch) ≡ None
 birth_other size n m t (Open s r x) batch h o = refl
-birth_other size n m t (Calls s r c from to x) batch h o = rw (ne_eqb c.0 m (λ e. o (sym h ∙ e)))
+birth_other size n m t (Calls from to s r c x) batch h o = rw (ne_eqb c.0 m (λ e. o (sym h ∙ e)))
 birth_other size n m t (Spawn c s from to x) batch h o = rw (ne_eqb c.0 m (λ e. o (sym h ∙ e)))
 birth_other size n m t (Arrive p) batch h o = refl
 birth_other size n m t (Wait s thrown) batch h o = refl

@@ -179,12 +179,12 @@ ties-act q size es T t (Open s r x) batch few next may e a h i na =
     let d = told size es t (Open s r x) batch h in
     ties-step q size size es T t (Open s r x) batch T.tasks T.dead (omega arith) a.old d (λ j m k. refl) i (made_act T t (Open s r x)) refl refl refl
     (rows-on size es (es ++ Step t (Open s r x) batch ∷ []) T.tasks (λ k w low v. row_any size es (es ++ Step t (Open s r x) batch ∷ []) t (Open s r x) batch d e a.old a.landed k w low v) i.rows)
-ties-act q size es T t (Calls s r c from to x) batch few next may e a h i na =
-    let act : Act = Calls s r c from to x in
-    let d = told size es t (Calls s r c from to x) batch h in
-    ties-step q size (suc size) es T t (Calls s r c from to x) batch (change_first (is_task t) waiting (born T c s from to ∷ T.tasks)) T.dead (omega arith) a.old d (λ j m k. birth_other size j m t (Calls s r c from to x) batch h (λ v. omega arith)) i (made_act T t (Calls s r c from to x)) refl refl refl
-    (rows-change t waiting (λ y. refl) (λ y. refl) (λ y. refl) (suc size) (es ++ Step t (Calls s r c from to x) batch ∷ []) (born T c s from to ∷ T.tasks)
-    (rows-born q size es T t c (Calls s r c from to x) batch s from to few may.asks.4 (may.asks.3 ∙ next) e a d (λ j. rw (eq-eqb c.0 c.0 refl) refl) i))
+ties-act q size es T t (Calls from to s r c x) batch few next may e a h i na =
+    let act : Act = Calls from to s r c x in
+    let d = told size es t (Calls from to s r c x) batch h in
+    ties-step q size (suc size) es T t (Calls from to s r c x) batch (change_first (is_task t) waiting (born T c s from to ∷ T.tasks)) T.dead (omega arith) a.old d (λ j m k. birth_other size j m t (Calls from to s r c x) batch h (λ v. omega arith)) i (made_act T t (Calls from to s r c x)) refl refl refl
+    (rows-change t waiting (λ y. refl) (λ y. refl) (λ y. refl) (suc size) (es ++ Step t (Calls from to s r c x) batch ∷ []) (born T c s from to ∷ T.tasks)
+    (rows-born q size es T t c (Calls from to s r c x) batch s from to few may.asks.4 (may.asks.3 ∙ next) e a d (λ j. rw (eq-eqb c.0 c.0 refl) refl) i))
 ties-act q size es T t (Spawn c s from to x) batch few next may e a h i na =
     let d = told size es t (Spawn c s from to x) batch h in
     ties-step q size (suc size) es T t (Spawn c s from to x) batch (born T c s from to ∷ T.tasks) T.dead (omega arith) a.old d (λ j m k. birth_other size j m t (Spawn c s from to x) batch h (λ v. omega arith)) i (made_act T t (Spawn c s from to x)) refl refl refl

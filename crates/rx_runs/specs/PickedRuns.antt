@@ -18,7 +18,7 @@ PickedIsRun = (code : Block) (U : Given) (picks : ℕ → ℕ) (es : List Entry)
 -- the set of places of an act has 16 bits, as its type has them
 abbrev pub ActFits : Act → Type 0
 ActFits (Open s r x) = Unit {0}
-ActFits (Calls s r c from to x) = Unit {0}
+ActFits (Calls from to s r c x) = Unit {0}
 ActFits (Spawn c s from to x) = Unit {0}
 ActFits (Arrive p) = Unit {0}
 ActFits (Wait s thrown) = Unit {0}

@@ -20,7 +20,7 @@ Moves = List (ℕ × Act × List (List ℕ))
 -- the entry is an end
 abbrev pub is_end : ℕ × Act × List (List ℕ) → Bool
 is_end (n, Open s r x, batch) = false
-is_end (n, Calls s r c from to x, batch) = false
+is_end (n, Calls from to s r c x, batch) = false
 is_end (n, Spawn c s from to x, batch) = false
 is_end (n, Arrive p, batch) = false
 is_end (n, Wait s thrown, batch) = false

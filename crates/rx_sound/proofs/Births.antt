@@ -20,7 +20,7 @@ StartsOther act c = (d : TaskId) → started_by act ≡ Some d → d.0 ≡ c →
 
 pub birth-other : (n c : ℕ) (t : TaskId) (act : Act) (batch : List (List ℕ)) → StartsOther act c → birth_in n c (Step t act batch) ≡ None
 birth-other n c t (Open s r x) batch o = refl
-birth-other n c t (Calls s r d from to x) batch o = rw (ne_eqb d.0 c (o d refl))
+birth-other n c t (Calls from to s r d x) batch o = rw (ne_eqb d.0 c (o d refl))
 birth-other n c t (Spawn d s from to x) batch o = rw (ne_eqb d.0 c (o d refl))
 birth-other n c t (Arrive p) batch o = refl
 birth-other n c t (Wait s thrown) batch o = refl

@@ -41,7 +41,7 @@ dead-end T t thrown =
 -- an act of a task leaves the dead as they are
 pub dead-act : (T : Tree) (t : TaskId) (act : Act) → (made_act T t act).dead ≡ T.dead
 dead-act T t (Open s r path) = refl
-dead-act T t (Calls s r callee from to path) = refl
+dead-act T t (Calls from to s r callee path) = refl
 dead-act T t (Spawn child s from to path) = refl
 dead-act T t (Arrive p) = refl
 dead-act T t (Wait s thrown) = refl

@@ -23,7 +23,7 @@ Based gs = Each (λ g. g.parent ≡ None → g.number.0 ≡ 0) gs
 
 based_act : (T : Tree) (t : TaskId) (act : Act) → Based T.scopes → Based (made_act T t act).scopes
 based_act T t (Open s r path) h = ((λ e. cc), h)
-based_act T t (Calls s r callee from to path) h = ((λ e. cc), h)
+based_act T t (Calls from to s r callee path) h = ((λ e. cc), h)
 based_act T t (Spawn child s from to path) h = h
 based_act T t (Arrive p) h = h
 based_act T t (Wait s thrown) h = each_change (λ g. g.parent ≡ None → g.number.0 ≡ 0) (is_scope s) (λ g. record g { body = thrown }) T.scopes (λ x found v. v) h

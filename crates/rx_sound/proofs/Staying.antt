@@ -188,7 +188,7 @@ released T s r h still =
 quiet_stays : (T : Tree) (t n : TaskId) (act : Act) (y : Task) (g : Scope) → Sound T → AllowedAct T t act → task_of (made_act T t act) t ≡ Some y → own_scope T n ≡ Some g → n.0 ≢ t.0 → quiet (made_act T t act) g.number ≡ quiet T g.number
 quiet_stays T t n (Open s r path) y g h may stands own apart =
     quiet_as T (opened T t Finish s r) g.number (newer T (record { number = s; kind = Finish; opener = Some t; home = home_for T t; parent = Some r; body = []; ends = [] }) g.number h may.asks.1)
-quiet_stays T t n (Calls s r callee from to path) y g h may stands own apart =
+quiet_stays T t n (Calls from to s r callee path) y g h may stands own apart =
     let k : Scope = record { number = s; kind = Call; opener = Some t; home = home_for T t; parent = Some r; body = []; ends = [] } in
     let x : Task = born T callee s from to in
     let low : g.number.0 < T.next_scope = own_low T n g h own in
@@ -196,7 +196,7 @@ quiet_stays T t n (Calls s r callee from to path) y g h may stands own apart =
     let other : is_scope g.number k ≡ false = ne_eqb s.0 g.number.0 (λ e. absurd (omega (arith, e, low, next))) in
     let up : meets g.number (k ∷ T.scopes) (Some s) ≡ meets g.number T.scopes (Some r) = rw (eq-eqb s.0 s.0 refl, other) refl in
     let old : busy (k ∷ T.scopes) T.tasks g.number ≡ busy T.scopes T.tasks g.number = newer T k g.number h may.asks.1 in
-    quiet_as T (made_act T t (Calls s r callee from to path)) g.number
+    quiet_as T (made_act T t (Calls from to s r callee path)) g.number
     (any_changed (λ z. meets g.number (k ∷ T.scopes) (Some z.under) && is_none z.struck) (is_task t) waiting (λ z. refl) (x ∷ T.tasks)
     ∙ (absorbed (meets g.number (k ∷ T.scopes) (Some s) && is_none x.struck) (busy (k ∷ T.scopes) T.tasks g.number)
     (λ e. old ∙ works_below T t n may.task g h may.stands may.unstruck own apart (subst (λ (v : ScopeId). meets g.number T.scopes (Some v) ≡ true) may.asks.2 (sym up ∙ (and_parts (meets g.number (k ∷ T.scopes) (Some s)) (is_none x.struck) e).0)))
@@ -286,12 +286,12 @@ pub others_stay : OthersStay
 others_stay T t (Open s r path) y n reached may stands apart low =
     same_able T (made_act T t (Open s r path)) n reached refl (λ x g found free own.
     (inner_same T (made_act T t (Open s r path)) n x g found own (λ u. ap (number_at u) (not_mine T t n Finish s r apart)), quiet_stays T t n (Open s r path) y g (sound reached) may stands own apart))
-others_stay T t (Calls s r callee from to path) y n reached may stands apart low =
+others_stay T t (Calls from to s r callee path) y n reached may stands apart low =
     let next : callee.0 ≡ T.next_task = may.asks.3 in
     let off : (callee.0 == n.0) ≡ false = ne_eqb callee.0 n.0 (λ e. absurd (omega (arith, e, low, next))) in
-    let found : task_of (made_act T t (Calls s r callee from to path)) n ≡ task_of T n = find_unchanged t n waiting (λ z. refl) apart (born T callee s from to ∷ T.tasks) ∙ rw off refl in
-    same_able T (made_act T t (Calls s r callee from to path)) n reached found (λ x g found free own.
-    (inner_same T (made_act T t (Calls s r callee from to path)) n x g found own (λ u. ap (number_at u) (not_mine T t n Call s r apart)), quiet_stays T t n (Calls s r callee from to path) y g (sound reached) may stands own apart))
+    let found : task_of (made_act T t (Calls from to s r callee path)) n ≡ task_of T n = find_unchanged t n waiting (λ z. refl) apart (born T callee s from to ∷ T.tasks) ∙ rw off refl in
+    same_able T (made_act T t (Calls from to s r callee path)) n reached found (λ x g found free own.
+    (inner_same T (made_act T t (Calls from to s r callee path)) n x g found own (λ u. ap (number_at u) (not_mine T t n Call s r apart)), quiet_stays T t n (Calls from to s r callee path) y g (sound reached) may stands own apart))
 others_stay T t (Spawn child s from to path) y n reached may stands apart low =
     let next : child.0 ≡ T.next_task = may.asks.1 in
     let off : (child.0 == n.0) ≡ false = ne_eqb child.0 n.0 (λ e. absurd (omega (arith, e, low, next))) in

@@ -184,7 +184,7 @@ young n gs T c under from to b e = λ s o m a. (let low : o.0 < n = below_any n 
 
 apt_acts : (T : Tree) (t : TaskId) (act : Act) → Sound T → AllowedAct T t act → Apt T → Apt (made_act T t act)
 apt_acts T t (Open s r path) h may a = apt_opened T t Finish s r h may.asks.1 a
-apt_acts T t (Calls s r callee from to path) h may a =
+apt_acts T t (Calls from to s r callee path) h may a =
     let g : Scope = record { number = s; kind = Call; opener = Some t; home = home_for T t; parent = Some r; body = []; ends = [] } in
     let o : Apt (opened T t Call s r) = apt_opened T t Call s r h may.asks.1 a in
     let low : t.0 < T.next_task = task_below T.next_task T.tasks t may.task h.tasks_fall may.stands in

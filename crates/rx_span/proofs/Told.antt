@@ -77,7 +77,7 @@ begun-paths code t batch c h = by_option (begins t) refl
 
 fits-own : (code : Block) (here : PlaceId) (t : Term) (d : Does) (act : Act) → Coded code t → Fits here t d act → ArePaths code (own_path act)
 fits-own code here t Opens (Open s r x) c h = (begins-path code t x c h, tt)
-fits-own code here t (Calls place) (Calling s r callee from to x) c h = (begins-path code t x c h.2, tt)
+fits-own code here t (Calls place) (Calling from to s r callee x) c h = (begins-path code t x c h.2, tt)
 fits-own code here t (Spawns place) (Spawn n s from to x) c h = (begins-path code t x c h.2, tt)
 fits-own code here t (Waits faults) (Wait s thrown) c h = tt
 fits-own code here t Releases (Release s lost masked thrown) c h = tt
@@ -142,7 +142,7 @@ module _ (code : Block) (starts : List (Term × Vars)) where
   moves-later n (Join p) es c = λ h. h
 
   next-coded : (T : Tree) (t : TaskId) (act : Act) (batch : List (List ℕ)) → AllowedAct T t act → ((c : ℕ) → c < T.next_task → CodedStart c) → ((d : TaskId) → started_by act ≡ Some d → CodedStart d.0) → (c : ℕ) → c < T.next_task + births_of (Step t act batch) → CodedStart c
-  next-coded T t (Calling s r d from to x) batch a old new c l = one_more T d c l a.asks.3 old (new d refl)
+  next-coded T t (Calling from to s r d x) batch a old new c l = one_more T d c l a.asks.3 old (new d refl)
     where
       one_more : (T : Tree) (d : TaskId) (c : ℕ) → c < T.next_task + 1 → d.0 ≡ T.next_task → ((c : ℕ) → c < T.next_task → CodedStart c) → CodedStart d.0 → CodedStart c
       one_more T d c l e old new = ⊎_elim (λ (k : c < T.next_task). old c k) (λ (k : T.next_task ≤ c). (let i : d.0 ≡ c = omega arith in subst CodedStart i new)) (cases_lt c T.next_task)

@@ -21,7 +21,7 @@ way from to = place_field from ++ place_field to
 -- the word of an act, which stands before the task
 abbrev pub act_word : Act → List ℕ
 act_word (Open scope parent path) = codes " open"
-act_word (At scope parent callee from to path) = codes " at"
+act_word (At from to scope parent callee path) = codes " at"
 act_word (Spawn child scope from to path) = codes " spawn"
 act_word (Arrive place) = codes " arrive"
 act_word (Wait scope thrown) = codes " wait"
@@ -33,7 +33,7 @@ act_word (Census places path) = codes " census"
 -- what stands after the task
 abbrev pub act_fields : Act → List ℕ
 act_fields (Open scope parent path) = scope_in scope parent ++ path_field path
-act_fields (At scope parent callee from to path) = scope_in scope parent ++ task_field callee ++ way from to ++ path_field path
+act_fields (At from to scope parent callee path) = scope_in scope parent ++ task_field callee ++ way from to ++ path_field path
 act_fields (Spawn child scope from to path) = task_field child ++ codes " in" ++ scope_field scope ++ way from to ++ path_field path
 act_fields (Arrive place) = place_field place
 act_fields (Wait scope thrown) = scope_field scope ++ thrown_part thrown

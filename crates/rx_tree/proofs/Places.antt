@@ -11,7 +11,7 @@ use Rattle.rx_rules.proofs.Append.{end-places}
 
 acted_few : (T : Tree) (t : TaskId) (act : Act) → T.places ≤ 16 → (made_act T t act).places ≤ 16
 acted_few T t (Open s r path) h = h
-acted_few T t (Calls s r callee from to path) h = h
+acted_few T t (Calls from to s r callee path) h = h
 acted_few T t (Spawn child s from to path) h = h
 acted_few T t (Arrive p) h = h
 acted_few T t (Wait s thrown) h = h

@@ -31,9 +31,9 @@ actor_below T t act h a = below T t a.task h a.stands
 -- the birth that an entry tells
 pub newborn : (n : ℕ) (t : TaskId) (act : Act) (batch : List (List ℕ)) (d : TaskId) → started_by act ≡ Some d → (b : Birth) × (birth_in n d.0 (Step t act batch) ≡ Some b) × (b.low ≡ suc n)
 newborn n t (Open s r x) batch d e = absurd (let f : ⊥ = cc in f)
-newborn n t (Calls s r c from to x) batch d e =
+newborn n t (Calls from to s r c x) batch d e =
     let same : c ≡ d = cc in
-    subst (λ (z : TaskId). (b : Birth) × (birth_in n z.0 (Step t (Calls s r c from to x) batch) ≡ Some b) × (b.low ≡ suc n)) same
+    subst (λ (z : TaskId). (b : Birth) × (birth_in n z.0 (Step t (Calls from to s r c x) batch) ≡ Some b) × (b.low ≡ suc n)) same
     (record { from = from; to = to; low = suc n }, rw (eq-eqb c.0 c.0 refl), refl)
 newborn n t (Spawn c s from to x) batch d e =
     let same : c ≡ d = cc in
@@ -52,7 +52,7 @@ StartsNext T act k = ((d : TaskId) × (started_by act ≡ Some d) × (d.0 ≡ T.
 
 pub starts : (T : Tree) (t : TaskId) (act : Act) (batch : List (List ℕ)) → AllowedAct T t act → StartsNext T act (births_of (Step t act batch))
 starts T t (Open s r x) batch a = inr (refl, refl)
-starts T t (Calls s r c from to x) batch a = inl (c, refl, a.asks.3, refl)
+starts T t (Calls from to s r c x) batch a = inl (c, refl, a.asks.3, refl)
 starts T t (Spawn c s from to x) batch a = inl (c, refl, a.asks.1, refl)
 starts T t (Arrive p) batch a = inr (refl, refl)
 starts T t (Wait s thrown) batch a = inr (refl, refl)

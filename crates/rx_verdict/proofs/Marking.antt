@@ -97,7 +97,7 @@ module _ (rule : StampRule) (starts : Starts) (here : PlaceId) (s : Term × Vars
   landing_event true low ((n, Arrive p, batch) ∷ moves) h =
       let r = event_from_player rule starts here (suc n) (fresh s) z cells left moves h.1 in (r.0, r.1, λ k m. (h.0, r.2 more k m), λ k m. r.3 more k m.1)
   landing_event true low ((n, Open q r x, batch) ∷ moves) h = absurd h
-  landing_event true low ((n, Calls q r c f g x, batch) ∷ moves) h = absurd h
+  landing_event true low ((n, Calls f g q r c x, batch) ∷ moves) h = absurd h
   landing_event true low ((n, Spawn c q f g x, batch) ∷ moves) h = absurd h
   landing_event true low ((n, Wait q thrown, batch) ∷ moves) h = absurd h
   landing_event true low ((n, Release q lost masked thrown, batch) ∷ moves) h = absurd h

@@ -90,7 +90,7 @@ landing_map P Q R A B C f g false low moves h k = f low moves h k
 landing_map P Q R A B C f g true low [] h k = g h k
 landing_map P Q R A B C f g true low ((n, Arrive p, batch) ∷ moves) h k = (h.0, f (suc n) moves h.1 k.1)
 landing_map P Q R A B C f g true low ((n, Open s r x, batch) ∷ moves) h k = absurd h
-landing_map P Q R A B C f g true low ((n, Calls s r c from to x, batch) ∷ moves) h k = absurd h
+landing_map P Q R A B C f g true low ((n, Calls from to s r c x, batch) ∷ moves) h k = absurd h
 landing_map P Q R A B C f g true low ((n, Spawn c s from to x, batch) ∷ moves) h k = absurd h
 landing_map P Q R A B C f g true low ((n, Wait s thrown, batch) ∷ moves) h k = absurd h
 landing_map P Q R A B C f g true low ((n, Release s lost masked thrown, batch) ∷ moves) h k = absurd h
@@ -104,7 +104,7 @@ landing_use c X true low [] k h = absurd h
 landing_use c X true low ((n, Arrive p, batch) ∷ moves) k h =
     ⊎_elim (λ (s : StartsTask (Arrive p) c). absurd (let e : None ≡ Some s.0 = s.1 in let f : ⊥ = cc in f)) (λ (more : Has c moves). k.1 more) h
 landing_use c X true low ((n, Open s r x, batch) ∷ moves) k h = absurd k
-landing_use c X true low ((n, Calls s r d from to x, batch) ∷ moves) k h = absurd k
+landing_use c X true low ((n, Calls from to s r d x, batch) ∷ moves) k h = absurd k
 landing_use c X true low ((n, Spawn d s from to x, batch) ∷ moves) k h = absurd k
 landing_use c X true low ((n, Wait s thrown, batch) ∷ moves) k h = absurd k
 landing_use c X true low ((n, Release s lost masked thrown, batch) ∷ moves) k h = absurd k

@@ -115,7 +115,7 @@ snoc_assoc (y ∷ before) x m = ap (λ (v : Moves). y ∷ v) (snoc_assoc before 
 arrival : (P : ℕ → Moves → Type 0) (low n : ℕ) (act : Act) (batch : List (List ℕ)) → Landing P (Unit {0}) true low ((n, act, batch) ∷ []) → (p : PlaceId) × (act ≡ Arrive p) × (batch ≡ [])
 arrival P low n (Arrive p) batch h = (p, refl, h.0)
 arrival P low n (Open s r x) batch h = absurd h
-arrival P low n (Calls s r c from to x) batch h = absurd h
+arrival P low n (Calls from to s r c x) batch h = absurd h
 arrival P low n (Spawn c s from to x) batch h = absurd h
 arrival P low n (Wait s thrown) batch h = absurd h
 arrival P low n (Release s lost masked thrown) batch h = absurd h
@@ -206,7 +206,7 @@ module _ (code : Block) (places : ℕ) (es : List Entry) (js : List (List PlaceE
   landing_join to keeps here cells z left rest m k true low [] h = absurd h
   landing_join to keeps here cells z left rest m k true low ((n, Arrive p, b) ∷ moves) h = (h.0, (rest, join to here (walks_wider from to keeps here h.1) k))
   landing_join to keeps here cells z left rest m k true low ((n, Open q r x, b) ∷ moves) h = absurd h
-  landing_join to keeps here cells z left rest m k true low ((n, Calls q r c f g x, b) ∷ moves) h = absurd h
+  landing_join to keeps here cells z left rest m k true low ((n, Calls f g q r c x, b) ∷ moves) h = absurd h
   landing_join to keeps here cells z left rest m k true low ((n, Spawn c q f g x, b) ∷ moves) h = absurd h
   landing_join to keeps here cells z left rest m k true low ((n, Wait q thrown, b) ∷ moves) h = absurd h
   landing_join to keeps here cells z left rest m k true low ((n, Release q lost masked thrown, b) ∷ moves) h = absurd h
@@ -219,7 +219,7 @@ module _ (code : Block) (places : ℕ) (es : List Entry) (js : List (List PlaceE
   landing_cut to here cells z left m true low [] h k = absurd h
   landing_cut to here cells z left m true low ((n, Arrive p, b) ∷ moves) h k = (k.1.0, cut from to here m [] h.1 k.1.1)
   landing_cut to here cells z left m true low ((n, Open q r x, b) ∷ moves) h k = absurd h
-  landing_cut to here cells z left m true low ((n, Calls q r c f g x, b) ∷ moves) h k = absurd h
+  landing_cut to here cells z left m true low ((n, Calls f g q r c x, b) ∷ moves) h k = absurd h
   landing_cut to here cells z left m true low ((n, Spawn c q f g x, b) ∷ moves) h k = absurd h
   landing_cut to here cells z left m true low ((n, Wait q thrown, b) ∷ moves) h k = absurd h
   landing_cut to here cells z left m true low ((n, Release q lost masked thrown, b) ∷ moves) h k = absurd h
@@ -277,7 +277,7 @@ module _ (code : Block) (places : ℕ) (es : List Entry) (js : List (List PlaceE
     go true low [] h = absurd h
     go true low ((n, Arrive p, b) ∷ moves) h = (h.0, on h.1)
     go true low ((n, Open q r x, b) ∷ moves) h = absurd h
-    go true low ((n, Calls q r c f g x, b) ∷ moves) h = absurd h
+    go true low ((n, Calls f g q r c x, b) ∷ moves) h = absurd h
     go true low ((n, Spawn c q f g x, b) ∷ moves) h = absurd h
     go true low ((n, Wait q thrown, b) ∷ moves) h = absurd h
     go true low ((n, Release q lost masked thrown, b) ∷ moves) h = absurd h
@@ -299,7 +299,7 @@ module _ (code : Block) (places : ℕ) (es : List Entry) (js : List (List PlaceE
   landing_ended to here cells m true low [] h k = h
   landing_ended to here cells m true low ((n, Arrive p, b) ∷ moves) h k = none_after to here h.1.1 h.1.2 h.1.3 m h.1.0 k.1.1 (ap (λ (v : Moves). v ++ m ∷ []) h.1.4 ∙ snoc_assoc h.1.0 (h.1.1, End h.1.2, h.1.3) m)
   landing_ended to here cells m true low ((n, Open q r x, b) ∷ moves) h k = h
-  landing_ended to here cells m true low ((n, Calls q r c f g x, b) ∷ moves) h k = h
+  landing_ended to here cells m true low ((n, Calls f g q r c x, b) ∷ moves) h k = h
   landing_ended to here cells m true low ((n, Spawn c q f g x, b) ∷ moves) h k = h
   landing_ended to here cells m true low ((n, Wait q thrown, b) ∷ moves) h k = h
   landing_ended to here cells m true low ((n, Release q lost masked thrown, b) ∷ moves) h k = h
@@ -368,7 +368,7 @@ landing_end starts here a z cells left n faults batch false low moves h = (moves
 landing_end starts here a z cells left n faults batch true low [] h = absurd h
 landing_end starts here a z cells left n faults batch true low ((k, Arrive p, b) ∷ moves) h = (h.0, (moves, n, faults, batch, refl))
 landing_end starts here a z cells left n faults batch true low ((k, Open q r x, b) ∷ moves) h = absurd h
-landing_end starts here a z cells left n faults batch true low ((k, Calls q r c f g x, b) ∷ moves) h = absurd h
+landing_end starts here a z cells left n faults batch true low ((k, Calls f g q r c x, b) ∷ moves) h = absurd h
 landing_end starts here a z cells left n faults batch true low ((k, Spawn c q f g x, b) ∷ moves) h = absurd h
 landing_end starts here a z cells left n faults batch true low ((k, Wait q thrown, b) ∷ moves) h = absurd h
 landing_end starts here a z cells left n faults batch true low ((k, Release q lost masked thrown, b) ∷ moves) h = absurd h

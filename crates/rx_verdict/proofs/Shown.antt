@@ -187,7 +187,7 @@ landing_first from to here s cells true low ((n, Arrive p, batch) ∷ moves) ((m
     let r = first_makes from to here h.1.1 some more tail (λ c k. same c (inr k)) in
     subst (λ (v : ℕ × Act × List (List ℕ)). Landing (λ low moves. (rest : Cells) × Makes to here s.1 s.0 [] cells moves rest) (Unit {0}) true low (v ∷ some)) one (h.0, r)
 landing_first from to here s cells true low ((n, Open q k x, batch) ∷ moves) (y ∷ some) more e same h = absurd h
-landing_first from to here s cells true low ((n, Calls q k c f g x, batch) ∷ moves) (y ∷ some) more e same h = absurd h
+landing_first from to here s cells true low ((n, Calls f g q k c x, batch) ∷ moves) (y ∷ some) more e same h = absurd h
 landing_first from to here s cells true low ((n, Spawn c q f g x, batch) ∷ moves) (y ∷ some) more e same h = absurd h
 landing_first from to here s cells true low ((n, Wait q thrown, batch) ∷ moves) (y ∷ some) more e same h = absurd h
 landing_first from to here s cells true low ((n, Release q lost masked thrown, batch) ∷ moves) (y ∷ some) more e same h = absurd h
@@ -223,7 +223,7 @@ begins_to starts here false low vars t cells moves h = h
 begins_to starts here true low vars t cells [] h = h
 begins_to starts here true low vars t cells ((n, Arrive p, batch) ∷ moves) h = h
 begins_to starts here true low vars t cells ((n, Open s k x, batch) ∷ moves) h = absurd h
-begins_to starts here true low vars t cells ((n, Calls s k c from to x, batch) ∷ moves) h = absurd h
+begins_to starts here true low vars t cells ((n, Calls from to s k c x, batch) ∷ moves) h = absurd h
 begins_to starts here true low vars t cells ((n, Spawn c s from to x, batch) ∷ moves) h = absurd h
 begins_to starts here true low vars t cells ((n, Wait s thrown, batch) ∷ moves) h = absurd h
 begins_to starts here true low vars t cells ((n, Release s lost masked thrown, batch) ∷ moves) h = absurd h

@@ -78,7 +78,7 @@ leaves_orphan =
 -- the callee is lost, and the at is released while the task that it left behind runs on
 abbrev pub at_leaves_orphan : List Entry
 at_leaves_orphan =
-    Step (t 0) (Calls (s 1) (s 0) (t 1) (p 0) (p 1) (0 ∷ 0 ∷ 0 ∷ [])) ((0 ∷ []) ∷ [])
+    Step (t 0) (Calls (p 0) (p 1) (s 1) (s 0) (t 1) (0 ∷ 0 ∷ 0 ∷ [])) ((0 ∷ []) ∷ [])
     ∷ Step (t 1) (Arrive (p 1)) []
     ∷ Step (t 1) (Open (s 2) (s 1) (0 ∷ 0 ∷ 0 ∷ 0 ∷ [])) []
     ∷ Step (t 1) (Spawn (t 2) (s 2) (p 1) (p 2) (0 ∷ 0 ∷ 0 ∷ 0 ∷ 0 ∷ [])) []
@@ -118,7 +118,7 @@ arrives_at_dead =
 abbrev pub at_and_async : List Entry
 at_and_async =
     Step (t 0) (Open (s 1) (s 0) (0 ∷ [])) []
-    ∷ Step (t 0) (Calls (s 2) (s 1) (t 1) (p 0) (p 1) (0 ∷ 0 ∷ [])) []
+    ∷ Step (t 0) (Calls (p 0) (p 1) (s 2) (s 1) (t 1) (0 ∷ 0 ∷ [])) []
     ∷ Step (t 1) (Arrive (p 1)) []
     ∷ Step (t 1) (Spawn (t 2) (s 1) (p 1) (p 1) (0 ∷ 0 ∷ 0 ∷ [])) []
     ∷ Step (t 1) (End []) []

@@ -155,7 +155,7 @@ too_large =
 -- the callee at place 1 uses a reference to a block of place 0
 abbrev pub used_away : List Entry
 used_away =
-    Step (t 0) (Calls (s 1) (s 0) (t 1) (p 0) (p 1) (1 ∷ 0 ∷ 0 ∷ [])) ((0 ∷ []) ∷ (1 ∷ []) ∷ [])
+    Step (t 0) (Calls (p 0) (p 1) (s 1) (s 0) (t 1) (1 ∷ 0 ∷ 0 ∷ [])) ((0 ∷ []) ∷ (1 ∷ []) ∷ [])
     ∷ Step (t 1) (Arrive (p 1)) []
     ∷ Step (t 1) (End (WrongPlace ∷ [])) ((1 ∷ 0 ∷ 0 ∷ 0 ∷ []) ∷ [])
     ∷ Step (t 0) (Release (s 1) (m 0) 0 (WrongPlace ∷ [])) []
@@ -172,7 +172,7 @@ used_away_journals =
 -- the values of the expressions, at place 1
 abbrev pub values : List Entry
 values =
-    Step (t 0) (Calls (s 1) (s 0) (t 1) (p 0) (p 1) (0 ∷ [])) []
+    Step (t 0) (Calls (p 0) (p 1) (s 1) (s 0) (t 1) (0 ∷ [])) []
     ∷ Step (t 1) (Arrive (p 1)) []
     ∷ Step (t 1) (Print (pos 1) (0 ∷ 0 ∷ [])) []
     ∷ Step (t 1) (Print (negsuc 2) (0 ∷ 1 ∷ [])) []

@@ -19,7 +19,7 @@ use Rattle.rx_audit.specs.declared.row.Row.{Row}
 -- who the task is after its act; these are the parents of the scopes by their numbers
 abbrev pub who_after : List ScopeId → Act → Caller → Caller
 who_after parents (Open s r path) who = record who { inner = s }
-who_after parents (Calls s r callee from to path) who = record who { inner = s }
+who_after parents (Calls from to s r callee path) who = record who { inner = s }
 who_after parents (Spawn child s from to path) who = who
 who_after parents (Arrive p) who = record who { place = At p }
 who_after parents (Wait s thrown) who = who
@@ -31,7 +31,7 @@ who_after parents (Census places path) who = who
 -- how it stands then
 abbrev pub standing_after : Act → Standing → Standing
 standing_after (Open s r path) a = a
-standing_after (Calls s r callee from to path) a = Waiting
+standing_after (Calls from to s r callee path) a = Waiting
 standing_after (Spawn child s from to path) a = a
 standing_after (Arrive p) a = Moving
 standing_after (Wait s thrown) a = Waiting
@@ -43,7 +43,7 @@ standing_after (Census places path) a = a
 -- the kinds of its scopes
 abbrev pub kinds_after : Act → List Kind → List Kind
 kinds_after (Open s r path) ks = ks ++ Finish ∷ []
-kinds_after (Calls s r callee from to path) ks = ks ++ Call ∷ []
+kinds_after (Calls from to s r callee path) ks = ks ++ Call ∷ []
 kinds_after (Spawn child s from to path) ks = ks
 kinds_after (Arrive p) ks = ks
 kinds_after (Wait s thrown) ks = ks
@@ -72,7 +72,7 @@ IfRow (Some row) P = P row
 -- the row of the task that an act starts, and none where it starts none
 abbrev pub BornBy : Act → Option Row → Type 0
 BornBy (Open s r path) o = o ≡ None
-BornBy (Calls s r callee from to path) o = IfRow o (IsNewborn callee s from to)
+BornBy (Calls from to s r callee path) o = IfRow o (IsNewborn callee s from to)
 BornBy (Spawn child s from to path) o = IfRow o (IsNewborn child s from to)
 BornBy (Arrive p) o = o ≡ None
 BornBy (Wait s thrown) o = o ≡ None

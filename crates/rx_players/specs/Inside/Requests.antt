@@ -32,7 +32,7 @@ use Rattle.rx_players.specs.Table.{TableIs}
 -- the act is of the kind that is wanted, from here and for its place, or with its value
 abbrev pub wanted : Want → PlaceId → Act → Bool
 wanted WantOpen here (Open s r x) = true
-wanted (WantAt place) here (Calls s r c from to x) = (to.0 == place.0) && (from.0 == here.0)
+wanted (WantAt place) here (Calls from to s r c x) = (to.0 == place.0) && (from.0 == here.0)
 wanted (WantSpawn place) here (Spawn c s from to x) = (to.0 == place.0) && (from.0 == here.0)
 wanted WantWait here (Wait s thrown) = true
 wanted WantRelease here (Release s lost masked thrown) = true
@@ -43,7 +43,7 @@ wanted _ here act = false
 -- the rest of it is right: its path is that of the statement that begins, its faults are those that the term carries
 abbrev pub FitsRest : Term → Does → Act → Type 0
 FitsRest t d (Open s r x) = begins t ≡ Some x
-FitsRest t d (Calls s r c from to x) = begins t ≡ Some x
+FitsRest t d (Calls from to s r c x) = begins t ≡ Some x
 FitsRest t d (Spawn c s from to x) = begins t ≡ Some x
 FitsRest t d (Arrive p) = ⊥
 FitsRest t d (Wait s thrown) = carried d ≡ Some thrown
@@ -123,7 +123,7 @@ slot_for from to seat = cond (from.0 == to.0) (Here seat) (Away seat)
 
 -- the slot of the task that an act of the player starts, or none
 abbrev pub IsNewborn : Shape → EventTable → ℕ → Player → Act → Option Slot → Type 0
-IsNewborn shape table number z (Calls s r c from to x) o =
+IsNewborn shape table number z (Calls from to s r c x) o =
     (seat : Box Seat) × (o ≡ Some (slot_for from to seat)) × IsChild shape table number z c to seat.value
 IsNewborn shape table number z (Spawn c s from to x) o =
     (seat : Box Seat) × (o ≡ Some (slot_for from to seat)) × IsChild shape table number z c to seat.value

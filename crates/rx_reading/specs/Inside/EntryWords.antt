@@ -17,7 +17,7 @@ open_at = followed nested_at (λ n. followed path_at (λ path. done (Open n.0 n.
 
 abbrev pub at_at : ℕ → Reader Act
 at_at places = followed nested_at (λ n. followed task_at (λ callee. followed (way_at places)
-    (λ w. followed path_at (λ path. done (At n.0 n.1 callee w.0 w.1 path)))))
+    (λ w. followed path_at (λ path. done (At w.0 w.1 n.0 n.1 callee path)))))
 
 abbrev pub spawn_at : ℕ → Reader Act
 spawn_at places = followed task_at (λ child. keyed (codes "in") (followed scope_at (λ scope.

@@ -13,7 +13,7 @@ pub child_of-requires-clause-begins : goal.child_of-requires-clause-begins
 child_of-requires-clause-begins c =
     let r = c.requires.asks in
     let home = c.args.seat.now.home in
-    let act = At c.in-At.scope c.in-At.parent c.in-At.callee c.in-At.from c.in-At.to c.in-At.path in
+    let act = At c.in-At.from c.in-At.to c.in-At.scope c.in-At.parent c.in-At.callee c.in-At.path in
     let b = begins_it home (next_does home r.1) act (begins r.1.term) refl refl (subst (λ (v : Act). IsAsked home (next_does home r.1) v) c.in-At.is r.4) (begins-so r.1.vars home.0 r.1.term) in
     (r.0, r.1, r.2, b.0, r.3, b.1)
 
@@ -28,7 +28,7 @@ child_of-requires-in-Spawn-clause-begins c =
 pub returns-in_ok-child-in-At : goal.returns-in_ok-child-in-At
 returns-in_ok-child-in-At c = λ js z left s a.
     let home = c.args.seat.now.home in
-    let act = At c.in-At.scope c.in-At.parent c.in-At.callee c.in-At.from c.in-At.to c.in-At.path in
+    let act = At c.in-At.from c.in-At.to c.in-At.scope c.in-At.parent c.in-At.callee c.in-At.path in
     let b = begins_it home (next_does home z) act (begins z.term) refl refl (subst (λ (v : Act). IsAsked home (next_does home z) v) c.in-At.is a) (begins-so z.vars home.0 z.term) in
     let child = c.in_ok-child-in-At.child in
     subst (λ (v : Act). IsNewborn c.args.p.now.script c.args.table.now c.args.number z v (Some c.born_slot.result)) (sym c.in-At.is)

@@ -15,7 +15,7 @@ returns-in-Open c = IfOk-weaker c.pass.result _ _ (λ b h t here s a.
 
 pub returns-in-At : goal.returns-in-At
 returns-in-At c = IfOk-weaker c.pass-in-At.result _ _ (λ b h t here s a.
-    let act = At c.in-At.scope c.in-At.parent c.in-At.callee c.in-At.from c.in-At.to c.in-At.path in
+    let act = At c.in-At.from c.in-At.to c.in-At.scope c.in-At.parent c.in-At.callee c.in-At.path in
     subst (λ (v : Act). AfterAct c.args.p.now.script c.args.control.now c.pass-in-At.new.control here t v b) (sym c.in-At.is)
     (after_path c.args.p.now.script c.args.control.now c.pass-in-At.new.control here t act c.in-At.path b (λ e. e, λ e. e) refl (λ n x e. let f : ⊥ = cc in f) (h t s))) c.pass-in-At.ensures
 

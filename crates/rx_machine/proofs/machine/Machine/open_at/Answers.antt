@@ -73,8 +73,8 @@ returns-clause-made g c = λ code U k q G a asks.
     c.close_turn.ensures.seats ∙ (ap (λ v. slice_set v c.args.i (Some after)) (c.push_reserved-2.ensures.items ∙ ap (λ v. v ++ slot ∷ []) c.prepare.ensures.items)
     ∙ set_before c.args.self.now.seats.items slot c.args.i (Some after) a.inside) in
     let parent = (caller c.args.seat.row c.args.seat.scopes.items).inner in
-    let act = At c.in-Ok.born.scope parent c.in-Ok.born.child c.args.here c.args.to c.in_ok-path.path in
-    let went = subst (λ (w : Caller). Went g.L.FinishLedger.stands c.args.self.now c.close_turn.new.self (to_join U T) (made_act T c.args.seat.row.number act) (Step c.args.seat.row.number (At c.in-Ok.born.scope w.inner c.in-Ok.born.child c.args.here c.args.to c.in_ok-path.path) c.args.seat.batch)) who
+    let act = At c.args.here c.args.to c.in-Ok.born.scope parent c.in-Ok.born.child c.in_ok-path.path in
+    let went = subst (λ (w : Caller). Went g.L.FinishLedger.stands c.args.self.now c.close_turn.new.self (to_join U T) (made_act T c.args.seat.row.number act) (Step c.args.seat.row.number (At c.args.here c.args.to c.in-Ok.born.scope w.inner c.in-Ok.born.child c.in_ok-path.path) c.args.seat.batch)) who
     (closed g.L.FinishLedger.stands c.args.self.now _ _ c.args.i _ _ _ (made_act T c.args.seat.row.number act) refl c.close_turn.ensures did.1) in
     called g.L.FinishLedger.stands c.args.p.now.script code U c.args.self.now _ k c.args.i c.args.here c.args.to q c.args.seat after slot c.in_ok-path.control.value G c.in-Ok.born.scope parent c.in-Ok.born.child c.in_ok-path.path a (c.reached_is_sound.ensures T a.reached) asks at did.0 term c.in_ok-go_on.ensures.vars refl (c.push_reserved.ensures.items ∙ ap (λ v. v ++ c.in-Ok.born.scope ∷ []) c.reserve.ensures.items) refl born.0 born.1
     (record { lost = c.new_seat-slot.ensures.lost ∙ did.2; row = c.new_seat-slot.ensures.row; rest = c.new_seat-slot.ensures.seat })

@@ -58,8 +58,8 @@ set-keeps [] len n = refl
 set-keeps (x ∷ xs) zero n = refl
 set-keeps (x ∷ xs) (suc len) n = ap suc (set-keeps xs len n)
 
--- eight numbers are no more than a path has
-pub few-long : (xs : List ℕ) (k : ℕ) → k ≤ 8 → length (take k xs) ≤ 65
+-- they are no more than a path has
+pub few-long : (xs : List ℕ) (k : ℕ) → k ≤ 65 → length (take k xs) ≤ 65
 few-long xs k few = omega (arith, length-take k xs)
 
 short-more : (ns : List ℕ) (n : ℕ) → Short ns → n < 2 ^ 32 → Short (ns ++ n ∷ [])

@@ -118,7 +118,7 @@ impl<'a> Words<'a> {
         Some(n)
     }
 
-    // Takes the next word where it is a path of at most eight numbers, each of at most nine digits. None says nothing of the word, and
+    // Takes the next word where it is a path of at most 65 numbers, each of at most nine digits. None says nothing of the word, and
     // takes none.
     pub(crate) fn short_path(&mut self, alloc: Global) -> Result<Option<Path>, NoMemory>
         ensures some { IfOk result (λ o. IfSome o (λ path. path_at self.old ≡ Some (path, self.new))) }
@@ -127,11 +127,30 @@ impl<'a> Words<'a> {
         let Some(tail) = behind(self.rest, b' ') else {
             return Ok(None);
         };
+        // Most paths have few numbers.
         let mut few = [0; 8];
-        let Some((len, rest)) = front_path(&mut few, tail) else {
+        match front_path(&mut few, tail) {
+            Some((len, rest)) => {
+                let path = Path::from_slice(alloc, &few[..len])?;
+                self.rest = rest;
+                Ok(Some(path))
+            }
+            None => self.long_path(alloc, tail),
+        }
+    }
+
+    // The same of the word behind the blank.
+    #[inline(never)]
+    fn long_path(&mut self, alloc: Global, tail: &'a [u8]) -> Result<Option<Path>, NoMemory>
+        requires { pieces 32 tail.now ≡ self.old }
+        ensures some { IfOk result (λ o. IfSome o (λ path. path_at self.old ≡ Some (path, self.new))) }
+        ensures none { IfOk result (λ o. IfNone o (self.new ≡ self.old)) }
+    {
+        let mut many = [0; 65];
+        let Some((len, rest)) = front_path(&mut many, tail) else {
             return Ok(None);
         };
-        let path = Path::from_slice(alloc, &few[..len])?;
+        let path = Path::from_slice(alloc, &many[..len])?;
         self.rest = rest;
         Ok(Some(path))
     }
@@ -163,9 +182,12 @@ fn behind(bytes: &[u8], first: u8) -> Option<&[u8]>
 }
 
 // How many numbers the path has that is the first word of these bytes, and what stands after it; the numbers are put in front of the
-// list. None says nothing of the bytes; it comes also where there are more than eight numbers, or one of more than nine digits.
-fn front_path<'a>(few: &mut [u32; 8], bytes: &'a [u8]) -> Option<(usize, &'a [u8])>
-    ensures within { IfSome result (λ x. x.0 ≤ 8) }
+// list. None says nothing of the bytes; it comes also where there are more numbers than the list has, or one of more than nine digits.
+#[inline(always)]
+fn front_path<'a>(few: &mut [u32], bytes: &'a [u8]) -> Option<(usize, &'a [u8])>
+    requires { (0 < length few.old) × (length few.old ≤ 65) }
+    ensures size { length few.new ≡ length few.old }
+    ensures within { IfSome result (λ x. x.0 ≤ length few.new) }
     ensures some { IfSome result (λ x. path_at (pieces 32 bytes.now) ≡ Some (take x.0 few.new, words_left x.1.now)) }
 {
     let mut len = 0;
@@ -176,7 +198,7 @@ fn front_path<'a>(few: &mut [u32; 8], bytes: &'a [u8]) -> Option<(usize, &'a [u8
         if ends_word(tail) {
             return Some((len, tail));
         }
-        if len == 8 {
+        if len == few.len() {
             return None;
         }
         rest = behind(tail, b'.')?;

@@ -11,8 +11,9 @@ returns-then-ends_word-clause-some c =
 pub numbers-preserved : goal.numbers-preserved
 numbers-preserved c =
     let more = take-more c.numbers.few c.numbers.len c.in-Some.n (omega (arith, c.numbers.invariant.below, c.numbers.invariant.size)) in
+    let size = set-keeps c.numbers.few c.numbers.len c.in-Some.n in
     record {
-      below = omega (arith, c.numbers.invariant.below);
+      below = omega (arith, c.numbers.invariant.below, size);
       size = set-keeps c.numbers.few c.numbers.len c.in-Some.n ∙ c.numbers.invariant.size;
       read = read-more c.args.bytes.now (take c.numbers.len c.numbers.few) (take (c.numbers.len + 1) (slice_set c.numbers.few c.numbers.len c.in-Some.n)) c.numbers.rest.now c.in-Some.tail.now c.in_ok-rest.rest.now c.in-Some.n c.numbers.invariant.read c.in-Some.ensures.low c.in-Some.ensures.some c.in_ok-rest.ensures more;
     }

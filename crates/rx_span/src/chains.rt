@@ -12,8 +12,8 @@ use std::sync::ledger::Ledger;
 /// chain has the length 0, and its first statement is not read.
 #[derive(Clone, Copy, Debug, PartialEq, Eq)]
 pub(crate) struct Kept {
-    pub(crate) length: usize,
-    pub(crate) head: usize,
+    pub(crate) length: u32,
+    pub(crate) head: u32,
 }
 
 /// What the rows of a path tell.

@@ -30,6 +30,7 @@ pub(crate) fn link<L: Ledger>(
     paths: &[&[u32]],
     steps: &mut Steps<L>,
 ) -> Result<Links, NoMemory>
+    requires few { length paths.now < 2 ^ 32 }
     requires descends { Descends (map (λ p. p.now) paths.now) }
     requires paths { (code : Block) → Stands program.now.script code → ArePaths code (map (λ p. p.now) paths.now) }
     ensures linked { (code : Block) → Stands program.now.script code → IfOk result (λ l. Linked
@@ -55,7 +56,7 @@ pub(crate) fn link<L: Ledger>(
         links.push(looked.follows)?;
         let own = Kept {
             length: looked.follows.length + 1,
-            head: at,
+            head: at as u32,
         };
         passed = better(own, looked.passed);
         at += 1;
@@ -86,6 +87,13 @@ fn next_shared(paths: &[&[u32]], at: usize) -> usize
     }
 }
 
+// The number of a kept chain's first statement.
+fn head_of(kept: Kept) -> usize
+    ensures { result ≡ kept.head }
+{
+    kept.head as usize
+}
+
 /// The statements of the longest chain.
 pub(crate) fn read(
     alloc: Global,
@@ -101,8 +109,9 @@ pub(crate) fn read(
     let mut chain = Batch::open(alloc);
     let mut rest = longest;
     while rest.length > 0 {
-        chain.push(Path::from_slice(alloc, path_at(paths, rest.head))?)?;
-        rest = links[rest.head];
+        let head = head_of(rest);
+        chain.push(Path::from_slice(alloc, path_at(paths, head))?)?;
+        rest = links[head];
     }
     Ok(chain)
 }

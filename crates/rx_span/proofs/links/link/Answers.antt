@@ -1,4 +1,4 @@
-use Rattle.std.proofs.Common.{◌≡◌, ◌∙◌, ℕ, ◌+◌, ◌<◌, ◌≤◌, List, length, map, filter, drop, ap, sym, subst, refl, arith, rules, add-one}
+use Rattle.std.proofs.Common.{◌≡◌, ◌∙◌, ℕ, ◌+◌, ◌^◌, ◌<◌, ◌≤◌, List, length, map, filter, drop, ap, sym, subst, refl, arith, rules, add-one}
 use Rattle.std.proofs.lemmas.List.{length-map}
 use Rattle.rx_base.proofs.Elements.{length-push}
 use Rattle.rx_rules.specs.Code.{Block}
@@ -63,7 +63,15 @@ overflow_add-own g c =
     kept_follows t xs n low c.requires.descends (c.requires.paths t st) c.lay.new.rows.items c.in_ok-inside.inside c.deref-in-loop-at.result.now c.look-looked.result.follows tab ms (c.look-looked.ensures.follows ∙ ap (follow c.deref-in-loop-at.result.now) c.deref.ensures.value) in
     let short : c.look-looked.result.follows.length ≤ n = kept_short t xs n low c.requires.descends (c.requires.paths t st) c.look-looked.result.follows kept in
     let test : n < length c.args.paths.now = c.loop-at-test.true in
-    let bound : c.look-looked.result.follows.length + 1 ≤ length c.args.paths.now = omega arith in
+    let few : length c.args.paths.now < 2 ^ 32 = c.requires.few in
+    let bound : c.look-looked.result.follows.length + 1 < 2 ^ 32 = omega arith in
+    search rules
+
+pub overflow_cast-own : goal.overflow_cast-own
+overflow_cast-own g c =
+    let test : c.loop-at.at < length c.args.paths.now = c.loop-at-test.true in
+    let few : length c.args.paths.now < 2 ^ 32 = c.requires.few in
+    let bound : c.loop-at.at < 2 ^ 32 = omega arith in
     search rules
 
 pub loop-at-preserved : goal.loop-at-preserved

@@ -17,6 +17,12 @@ use Rattle.rx_span.proofs.longest.span_counted.Goals as goal
 count : {X : Type 0} (f : X → List ℕ) (ys : List (List ℕ)) (xs : List X) → IsPermutation ys (map f xs) → length xs ≡ length ys
 count f ys xs p = sym (length-map xs f) ∙ length_permutation ys (map f xs) p
 
+pub link-requires-clause-few : goal.link-requires-clause-few
+link-requires-clause-few g c =
+    let n = ap length c.deref.ensures.value ∙ count (λ p. p.now) (told c.args.history.now.entries) c.in_ok-paths.paths.items (c.in_ok-paths.ensures.same (told c.args.history.now.entries) c.in_ok-copies.ensures) in
+    let few = c.requires.few in
+    omega arith
+
 pub link-requires-clause-paths : goal.link-requires-clause-paths
 link-requires-clause-paths g c code st =
     subst (λ l. ArePaths code (map (λ p. p.now) l)) (sym c.deref.ensures.value)

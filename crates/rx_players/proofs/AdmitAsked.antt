@@ -46,7 +46,7 @@ use Rattle.rx_players.specs.declared.players.Players.{Players}
 use Rattle.rx_players.specs.declared.table.EventTable.{EventTable}
 use Rattle.rx_players.specs.Events.{IsFirst}
 use Rattle.rx_players.specs.Marked.{MarksAre}
-use Rattle.rx_players.specs.Players.{Awaits, IsSeat, SlotIs, PlayersAre}
+use Rattle.rx_players.specs.Players.{AwaitsWhere, IsSeat, Rests, SlotIs, PlayersAre, others_rest}
 use Rattle.rx_players.specs.Stood.{Stood}
 use Rattle.rx_players.specs.Table.{TableIs}
 use Rattle.rx_players.specs.Inside.Admitted.{Stopped}
@@ -54,7 +54,7 @@ use Rattle.rx_players.specs.Inside.Requests.{CountsMore, GoneOn, IsAsked, IsChil
 use Rattle.rx_players.proofs.AdmitEntries.{newborn_birth, newborn_moves, starts_at}
 use Rattle.rx_players.proofs.AdmitPlayers.{changed_size, count_is, home_stays, low_now, many, more_places, next_is, one_changed}
 use Rattle.rx_players.proofs.AdmitRequests.{fits_cut}
-use Rattle.rx_players.proofs.AdmitSlots.{Each, each_push}
+use Rattle.rx_players.proofs.AdmitSlots.{Each, SeatRests, away_rests, each_push, rest_push, rest_set, stands_rest}
 use Rattle.rx_players.proofs.MarksEnd.{asks_ledger}
 use Rattle.rx_players.proofs.MarksOn.{marks_born_away, marks_born_here, marks_stay}
 use Rattle.rx_players.proofs.MarksWalk.{births-few}
@@ -90,7 +90,7 @@ whom shape table number z (Spawn c s from to x) o h =
 whom shape table number z act o h = inr (refl, h)
 
 module _ (shape : Shape) (code : Block) (U : Given) (es : List Entry) (js : List (List PlaceEvent)) (i : ℕ) (ps : Players) (task : TaskId) (act : Act) (batch : List (List ℕ)) (want : Want) (h : Stopped shape code U es js i ps task act batch (Asks want)) where
-  abbrev a : Awaits shape code U es js i ps (Step task act batch)
+  abbrev a : AwaitsWhere (others_rest task.0) shape code U es js i ps (Step task act batch)
   a = h.awaits
 
   abbrev z : Player
@@ -121,10 +121,10 @@ module _ (shape : Shape) (code : Block) (U : Given) (es : List Entry) (js : List
   asks_there = subst (λ (p : PlaceId). AsksLedger (next_does p z)) seated.home (asks_ledger (next_does seat.home z) want h.stops.stops)
 
   -- only there is the entry made
-  pub asks_only : SeatAsks → Part code U es js (suc i) → (batch ≡ seat.batch) × Fits seat.home z.term (next_does seat.home z) act
+  pub asks_only : SeatAsks → Part code U es js (suc i) → Fits seat.home z.term (next_does seat.home z) act
   asks_only law k =
       let r = (law code U es js i a.players.seats task act batch z left a.players.seated a.follows h.stops.stands asks_there).1 k in
-      (r.0 ∙ sym seated.stood.batch, subst (λ (p : PlaceId). Fits p z.term (next_does p z) act) (sym seated.home) r.1)
+      subst (λ (p : PlaceId). Fits p z.term (next_does p z) act) (sym seated.home) r.1
 
   -- of the seat as it was taken out of its slot
   pub at_hand : (got : Seat) → got ≡ seat → wanted want got.home act ≡ true → Stood shape js got z left × IsAsked got.home (next_does got.home z) act
@@ -137,7 +137,7 @@ module _ (shape : Shape) (code : Block) (U : Given) (es : List Entry) (js : List
   pub is_of_kind : SeatAsks → (got : Seat) → got ≡ seat → Part code U es js (suc i) → wanted want got.home act ≡ true
   is_of_kind law got e k =
       subst (λ (v : Seat). wanted want v.home act ≡ true) (sym e)
-      ((fits_cut seat.home z.term (next_does seat.home z) act want h.stops.stops).0 (asks_only law k).1).0
+      ((fits_cut seat.home z.term (next_does seat.home z) act want h.stops.stops).0 (asks_only law k)).0
 
   -- a census may be told
   pub tells_more : FoldReached → ReachedSound → CountsMore seat.control.vars.places act
@@ -174,12 +174,19 @@ module _ (shape : Shape) (code : Block) (U : Given) (es : List Entry) (js : List
 
   -- The seats of the pass after it.
 
-  pass_seats : SeatAsks → batch ≡ seat.batch → Fits seat.home z.term (next_does seat.home z) act → pass.Seated code U later js (slice_set a.players.seats task.0 (pass.Stands y left) ++ newborn_seats later js z act)
-  pass_seats law same fits =
+  pass_seats : SeatAsks → Fits seat.home z.term (next_does seat.home z) act → pass.Seated code U later js (slice_set a.players.seats task.0 (pass.Stands y left) ++ newborn_seats later js z act)
+  pass_seats law fits =
       let home = seated.home in
       let it = (law code U es js i a.players.seats task act batch z left a.players.seated a.follows h.stops.stands asks_there).0
-      (same ∙ seated.stood.batch, subst (λ (p : PlaceId). Fits p z.term (next_does p z) act) home fits) in
+      (h.whole, subst (λ (p : PlaceId). Fits p z.term (next_does p z) act) home fits) in
       subst (λ (p : PlaceId). pass.Seated code U later js (slice_set a.players.seats task.0 (pass.Stands (acted p z act) left) ++ newborn_seats later js z act)) (sym home) it
+
+  -- where it has gone on it rests, as the others do
+  own_rests : (u : ℕ) → Rests (slice_set a.players.seats task.0 (pass.Stands y left)) u
+  own_rests =
+      let low = inside in
+      let size = a.players.size in
+      rest_set a.players.seats task.0 (pass.Stands y left) (omega (arith, low, size)) (λ v ne. a.players.rest v ne) (stands_rest y left refl)
 
   -- The slot of the task that the act starts.
 
@@ -237,7 +244,6 @@ module _ (shape : Shape) (code : Block) (U : Given) (es : List Entry) (js : List
         record {
           term = s.is.term;
           vars = s.is.vars;
-          batch = s.is.batch;
           events = (λ j. filter_map (cell_of (s.is.task j).0) (drop s.seat.value.position (journal_at js (s.is.home j).0))) ∙ (first.same ∙ ap (λ (p : PlaceId). filter_map (cell_of c) (journal_at js p.0)) home);
           first = subst (λ (v : TaskId × PlaceId). IsFirst v.0.0 (journal_at js v.1.0) s.seat.value.position s.seat.value.position) {x = (s.task, s.to)} {y = (s.seat.value.task, s.seat.value.home)} (λ j. (sym s.is.task j, sym s.is.home j))
               (record { here = first.here; same = refl });
@@ -261,6 +267,13 @@ module _ (shape : Shape) (code : Block) (U : Given) (es : List Entry) (js : List
       by_place : (at w : Bool) → w ≡ not at → SlotIs shape U.places later js c (cond at (Here s.seat) (Away s.seat)) (cond w (pass.Away r) (pass.Stands (fresh r) (cells_of later js c)))
       by_place true w e = subst (λ (v : Bool). SlotIs shape U.places later js c (Here s.seat) (cond v (pass.Away r) (pass.Stands (fresh r) (cells_of later js c)))) (sym e) child_is
       by_place false w e = subst (λ (v : Bool). SlotIs shape U.places later js c (Away s.seat) (cond v (pass.Away r) (pass.Stands (fresh r) (cells_of later js c)))) (sym e) child_is
+
+    -- it has begun nothing
+    child_rests : SeatRests (newborn_seat later js c r)
+    child_rests = by_place (travels (birth_of later c)) where
+      by_place : (w : Bool) → SeatRests (cond w (pass.Away r) (pass.Stands (fresh r) (cells_of later js c)))
+      by_place true = away_rests r
+      by_place false = stands_rest (fresh r) (cells_of later js c) refl
 
     -- it comes after the others
     is_last : (new : Box Seat) → length (slice_set ps.slots.items task.0 (Here new)) ≡ c
@@ -288,11 +301,11 @@ module _ (shape : Shape) (code : Block) (U : Given) (es : List Entry) (js : List
 
   -- The players after the request.
 
-  pub asked : (new : Players) (on : Box Seat) (o : Option Slot) → SeatAsks → batch ≡ seat.batch → Fits seat.home z.term (next_does seat.home z) act → GoneOn shape js seat on.value i y left → IsNewborn shape ps.table i z act o → new.slots.items ≡ slice_set ps.slots.items task.0 (Here on) ++ option_to_list o → new.table ≡ ps.table → new.marks ≡ ps.marks → PlayersAre shape code U es js (suc i) new
-  asked new on o law same fits g born slots table marks = ⊎_elim one none (whom shape ps.table i z act o born) where
+  pub asked : (new : Players) (on : Box Seat) (o : Option Slot) → SeatAsks → Fits seat.home z.term (next_does seat.home z) act → GoneOn shape js seat on.value i y left → IsNewborn shape ps.table i z act o → new.slots.items ≡ slice_set ps.slots.items task.0 (Here on) ++ option_to_list o → new.table ≡ ps.table → new.marks ≡ ps.marks → PlayersAre shape code U es js (suc i) new
+  asked new on o law fits g born slots table marks = ⊎_elim one none (whom shape ps.table i z act o born) where
     -- with these slots and seats
-    over : (all : List Slot) (seats : List pass.Seat) → pass.Seated code U later js seats → length all ≡ length seats → Each (SlotIs shape U.places later js) all seats → MarksAre code U es js all ps.marks → new.slots.items ≡ all → PlayersAre shape code U es js (suc i) new
-    over all seats sits size each h is =
+    over : (all : List Slot) (seats : List pass.Seat) → pass.Seated code U later js seats → length all ≡ length seats → Each (SlotIs shape U.places later js) all seats → MarksAre code U es js all ps.marks → ((u : ℕ) → Rests seats u) → new.slots.items ≡ all → PlayersAre shape code U es js (suc i) new
+    over all seats sits size each h rests is =
         record {
           seats = seats;
           seated = sits;
@@ -300,6 +313,7 @@ module _ (shape : Shape) (code : Block) (U : Given) (es : List Entry) (js : List
           each = subst (λ (l : List Slot). Each (SlotIs shape U.places later js) l seats) (sym is) each;
           table = subst (λ (v : EventTable). TableIs js (suc (length es)) v) (sym table) a.players.table;
           marks = subst (λ (v : List Slot × List (List Bool)). MarksAre code U es js v.0 v.1) {x = (all, ps.marks)} {y = (new.slots.items, new.marks)} (λ j. (sym is j, sym marks j)) h;
+          rest = λ u all. rests u;
         }
 
     one : Starts shape ps.table i z act o → PlayersAre shape code U es js (suc i) new
@@ -307,9 +321,9 @@ module _ (shape : Shape) (code : Block) (U : Given) (es : List Entry) (js : List
         let slot : Slot = slot_for s.from s.to s.seat in
         let x : pass.Seat = newborn_seat later js s.task.0 (child z.term, z.vars) in
         over (slice_set ps.slots.items task.0 (Here on) ++ slot ∷ []) (slice_set a.players.seats task.0 (pass.Stands y left) ++ x ∷ [])
-        (subst (λ (l : List pass.Seat). pass.Seated code U later js (slice_set a.players.seats task.0 (pass.Stands y left) ++ l)) (one_seat o s) (pass_seats law same fits))
+        (subst (λ (l : List pass.Seat). pass.Seated code U later js (slice_set a.players.seats task.0 (pass.Stands y left) ++ l)) (one_seat o s) (pass_seats law fits))
         (length-push (slice_set ps.slots.items task.0 (Here on)) slot ∙ (ap suc (own_size on) ∙ sym (length-push (slice_set a.players.seats task.0 (pass.Stands y left)) x)))
-        (child_each o s on g) (child_marks o s on g)
+        (child_each o s on g) (child_marks o s on g) (rest_push (slice_set a.players.seats task.0 (pass.Stands y left)) x own_rests (child_rests o s))
         (slots ∙ ap (λ (v : Option Slot). slice_set ps.slots.items task.0 (Here on) ++ option_to_list v) s.slot)
 
     none : (started_by act ≡ None) × (o ≡ None) → PlayersAre shape code U es js (suc i) new
@@ -317,6 +331,6 @@ module _ (shape : Shape) (code : Block) (U : Given) (es : List Entry) (js : List
         let no_seat : newborn_seats later js z act ≡ [] = ap (λ (v : Option TaskId). elim v as (λ _. List pass.Seat) [ Some d ↦ newborn_seat later js d.0 (child z.term, z.vars) ∷ [] | None ↦ [] ]) n.0 in
         let seats : List pass.Seat = slice_set a.players.seats task.0 (pass.Stands y left) in
         over (slice_set ps.slots.items task.0 (Here on)) seats
-        (subst (λ (l : List pass.Seat). pass.Seated code U later js l) (ap (λ (l : List pass.Seat). seats ++ l) no_seat ∙ append-nil seats) (pass_seats law same fits))
-        (own_size on) (own_each on g) (own_marks on g)
+        (subst (λ (l : List pass.Seat). pass.Seated code U later js l) (ap (λ (l : List pass.Seat). seats ++ l) no_seat ∙ append-nil seats) (pass_seats law fits))
+        (own_size on) (own_each on g) (own_marks on g) own_rests
         (slots ∙ (ap (λ (v : Option Slot). slice_set ps.slots.items task.0 (Here on) ++ option_to_list v) n.1 ∙ append-nil (slice_set ps.slots.items task.0 (Here on))))

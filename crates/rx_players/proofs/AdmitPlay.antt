@@ -1,7 +1,8 @@
 -- The walk before an entry of a task, and the players after it where the task makes no entry.
-use Rattle.std.specs.Prelude.{◌≡◌, ℕ, suc, Bool, cond, Some, None, List, ◌∷◌, take, drop, slice_get, refl}
+use Rattle.std.specs.Prelude.{◌≡◌, ◌≢◌, ℕ, suc, Bool, cond, Some, None, List, [], ◌∷◌, take, drop, slice_get, refl}
+use Rattle.std.specs.Global.{Box}
 use Rattle.std.specs.List.{cons_option}
-use Rattle.std.proofs.Common.{ap, subst, ◌∙◌, arith}
+use Rattle.std.proofs.Common.{ap, sym, subst, ◌∙◌, arith}
 use Rattle.std.proofs.lemmas.Bool.{eq-eqb}
 use Rattle.std.proofs.lemmas.Option.{slice_get_within}
 use Rattle.rx_base.specs.declared.ids.PlaceId.{PlaceId}
@@ -12,24 +13,29 @@ use Rattle.rx_rules.specs.declared.entries.Entry.{Entry}
 use Rattle.rx_rules.specs.declared.entries.Entry.TheVariants.{Step}
 use Rattle.rx_rules.specs.declared.events.PlaceEvent.{PlaceEvent}
 use Rattle.rx_rules.specs.Code.{Block}
+use Rattle.rx_rules.specs.Picked.{Player}
 use Rattle.rx_rules.specs.Plays.{Moves, moves_from}
 use Rattle.rx_rules.specs.Run.{Given}
+use Rattle.rx_rules.specs.Terms.{Done}
 use Rattle.rx_runs.specs.AnyAnswers.{AsksStore}
 use Rattle.rx_nodes.specs.Shape.{Shape}
-use Rattle.rx_verdict.specs.Marks.{EntriesToCome}
+use Rattle.rx_verdict.specs.Marks.{EntriesToCome, home_of}
 use Rattle.rx_verdict.specs.Seats as pass
-use Rattle.rx_verdict.specs.Seats.{MayFollow, SeatRefuses}
+use Rattle.rx_verdict.specs.Seats.{MayFollow, SeatAsks, SeatEnds, SeatRefuses}
 use Rattle.rx_verdict.specs.Verdicts.{Part}
-use Rattle.rx_verdict.specs.Walks.{next_does, Halts}
+use Rattle.rx_verdict.specs.Walks.{next_does, AsksLedger, Halts}
+use Rattle.rx_players.specs.declared.along.Along.{Along}
 use Rattle.rx_players.specs.declared.seat.Seat.{Seat}
 use Rattle.rx_players.specs.declared.seat.Stop.{Stop}
-use Rattle.rx_players.specs.declared.seat.Stop.TheVariants.{Halts as Halted}
+use Rattle.rx_players.specs.declared.seat.Stop.TheVariants.{Asks, Ends, Halts as Halted}
 use Rattle.rx_players.specs.declared.players.Slot.TheVariants.{Here, Over}
 use Rattle.rx_players.specs.declared.players.Players.{Players}
+use Rattle.rx_players.specs.Along.{GoesAlong}
 use Rattle.rx_players.specs.Marked.{IsNextOf}
-use Rattle.rx_players.specs.Players.{Awaits, IsSeat, SlotIs, PlayersAre, StopsAt}
-use Rattle.rx_players.specs.Inside.Admitted.{Stopped}
-use Rattle.rx_players.proofs.MarksEnd.{asks_store}
+use Rattle.rx_players.specs.Players.{Awaits, IsSeat, SlotIs, PlayersStand, StopsAt, none_rests}
+use Rattle.rx_players.specs.Inside.Admitted.{Stopped, WalksAlong}
+use Rattle.rx_players.proofs.MarksEnd.{asks_ledger, asks_store, is_done}
+use Rattle.rx_players.proofs.MarksWalk.{sits}
 
 -- the entry is the next of its task
 pub next_of_task : (es : List Entry) (i : ℕ) (U : Given) (task : TaskId) (act : Act) (batch : List (List ℕ)) → EntriesToCome → MayFollow U es i (Step task act batch) → IsNextOf (Some i) (moves_from i (drop i es) task.0)
@@ -41,13 +47,43 @@ next_of_task es i U task act batch come f =
     (act, batch, more, all)
 
 module _ (shape : Shape) (code : Block) (U : Given) (es : List Entry) (js : List (List PlaceEvent)) (i : ℕ) (old : Players) (task : TaskId) (act : Act) (batch : List (List ℕ)) (a : Awaits shape code U es js i old (Step task act batch)) where
-  -- what the walk leaves
+  -- what the walk leaves: the seats of the other tasks stay
   abbrev pub Walked : Players → Stop → Type 0
   Walked new stop =
-      (after : PlayersAre shape code U es js i new) × StopsAt shape U es js i task.0 new stop after.seats
+      (after : PlayersStand none_rests shape code U es js i new) × (stops : StopsAt shape U es js i task.0 new stop after.seats)
+      × ((u : ℕ) → u ≢ task.0 → slice_get after.seats u ≡ slice_get a.players.seats u)
 
-  pub stopped : (new : Players) (stop : Stop) → Walked new stop → Stopped shape code U es js i new task act batch stop
-  stopped new stop w = record { awaits = record { script = a.script; players = w.0; follows = a.follows }; stops = w.1 }
+  -- what it tells of the batch, where it began at the front
+  pub goes_along : (was along : Along) (y : Player) → WalksAlong a.players.seats task.0 y was along → GoesAlong batch was [] → (seat : Box Seat) → slice_get old.slots.items task.0 ≡ Some (Here seat) → GoesAlong batch along y.batch
+  goes_along was along y goes front seat at =
+      let s = sits shape code U es js i old a.players task.0 seat at in
+      goes s.player s.left s.stands batch (subst (λ (l : List (List ℕ)). GoesAlong batch was l) (sym (a.players.rest task.0 tt s.player s.left s.stands)) front)
+
+  pub stopped : (new : Players) (stop : Stop) → (w : Walked new stop) → batch ≡ w.1.player.batch → Stopped shape code U es js i new task act batch stop
+  stopped new stop w whole =
+      record {
+        awaits = record {
+          script = a.script;
+          players = record {
+            seats = w.0.seats;
+            seated = w.0.seated;
+            size = w.0.size;
+            each = w.0.each;
+            table = w.0.table;
+            marks = w.0.marks;
+            rest = λ u ne z left at. a.players.rest u tt z left (sym (w.2 u ne) ∙ at);
+          };
+          follows = a.follows;
+        };
+        stops = w.1;
+        whole = whole;
+      }
+
+  -- where the statements that were begun are the batch, the task has stopped with it
+  pub stops_whole : (new : Players) (stop at : Stop) (was along : Along) (w : Walked new stop) → WalksAlong a.players.seats task.0 w.1.player was along → GoesAlong batch was [] → (seat : Box Seat) → slice_get old.slots.items task.0 ≡ Some (Here seat) → ((so_far : List (List ℕ)) → GoesAlong batch along so_far → batch ≡ so_far) → stop ≡ at → Stopped shape code U es js i new task act batch at
+  stops_whole new stop at was along w goes front seat here whole is =
+      subst (λ (v : Stop). Stopped shape code U es js i new task act batch v) is
+      (stopped new stop w (whole w.1.player.batch (goes_along was along w.1.player goes front seat here)))
 
   -- a task that halts makes no entry
   pub halted : (new : Players) → SeatRefuses → Walked new Halted → Part code U es js (suc i) → ⊥
@@ -59,6 +95,23 @@ module _ (shape : Shape) (code : Block) (U : Given) (es : List Entry) (js : List
       (law code U es js i p.seats task act batch p.seated a.follows).0 s.player s.left s.stands
       (subst (λ (q : PlaceId). AsksStore (next_does q s.player)) is.home store)
       (subst (λ (q : PlaceId). Halts q s.player s.left) is.home s.stops.1) k
+
+  -- nor does one that has not begun the entry's batch
+  pub missed : (new : Players) (stop : Stop) → SeatAsks → SeatEnds → SeatRefuses → (w : Walked new stop) → (batch ≡ w.1.player.batch → ⊥) → Part code U es js (suc i) → ⊥
+  missed new (Asks want) asks ends refuses w other k =
+      let s = w.1 in
+      let p = w.0 in
+      let is : IsSeat shape U.places (take i es) js task.0 s.seat.value s.player s.left = p.each task.0 (Here s.seat) (pass.Stands s.player s.left) s.slot s.stands in
+      let there = subst (λ (q : PlaceId). AsksLedger (next_does q s.player)) is.home (asks_ledger (next_does s.seat.value.home s.player) want s.stops) in
+      other ((asks code U es js i p.seats task act batch s.player s.left p.seated a.follows s.stands there).1 k).0
+  missed new Ends asks ends refuses w other k =
+      let s = w.1 in
+      let p = w.0 in
+      let is : IsSeat shape U.places (take i es) js task.0 s.seat.value s.player s.left = p.each task.0 (Here s.seat) (pass.Stands s.player s.left) s.slot s.stands in
+      let d = is_done (next_does s.seat.value.home s.player) s.stops in
+      let there : next_does (home_of (take i es) task.0) s.player ≡ Done d.0 = ap (λ (q : PlaceId). next_does q s.player) (sym is.home) ∙ d.1 in
+      other ((ends code U es js i p.seats task act batch s.player s.left d.0 p.seated a.follows s.stands there).1 k).0
+  missed new Halted asks ends refuses w other k = halted new refuses w k
 
   -- nor does one that has ended
   pub over : SeatRefuses → slice_get old.slots.items task.0 ≡ Some Over → Part code U es js (suc i) → ⊥

@@ -42,12 +42,12 @@ use Rattle.rx_players.specs.declared.players.Players.{Players}
 use Rattle.rx_players.specs.declared.table.EventTable.{EventTable}
 use Rattle.rx_players.specs.Events.{IsFirst, IsOf}
 use Rattle.rx_players.specs.Marked.{MarksAre}
-use Rattle.rx_players.specs.Players.{Awaits, IsMade, IsSeat, SlotIs, PlayersAre}
+use Rattle.rx_players.specs.Players.{Awaits, AwaitsWhere, IsMade, IsSeat, SlotIs, PlayersAre, others_rest}
 use Rattle.rx_players.specs.Table.{TableIs}
 use Rattle.rx_players.specs.Inside.Admitted.{AfterEntry, Stopped}
 use Rattle.rx_players.proofs.AdmitEntries.{Keeps, actor_born, others_keep, own_home, own_low, places_stay, quiet_keeps}
 use Rattle.rx_players.proofs.MarksEnd.{is_done}
-use Rattle.rx_players.proofs.AdmitSlots.{Each, each_set, slot_keeps}
+use Rattle.rx_players.proofs.AdmitSlots.{Each, SeatRests, each_set, over_rests, rest_set, slot_keeps, stands_rest}
 use Rattle.rx_players.proofs.MarksOn.{marks_arrive, marks_end}
 use Rattle.rx_players.proofs.MarksWalk.{seats-many}
 
@@ -72,11 +72,12 @@ quiet_after shape code U es js i ps e stay q a =
       each = λ u s y at on. slot_keeps shape U.places (take i es) (take (suc i) es) js u (keeps u) s y (p.each u s y at on);
       table = p.table;
       marks = p.marks;
+      rest = p.rest;
     }
 
 -- An entry of a task.
 
-module _ (shape : Shape) (code : Block) (U : Given) (es : List Entry) (js : List (List PlaceEvent)) (i : ℕ) (ps : Players) (task : TaskId) (act : Act) (batch : List (List ℕ)) (a : Awaits shape code U es js i ps (Step task act batch)) where
+module _ {resting : ℕ → Type 0} (shape : Shape) (code : Block) (U : Given) (es : List Entry) (js : List (List PlaceEvent)) (i : ℕ) (ps : Players) (task : TaskId) (act : Act) (batch : List (List ℕ)) (a : AwaitsWhere resting shape code U es js i ps (Step task act batch)) where
   abbrev before : List Entry
   before = take i es
 
@@ -136,8 +137,8 @@ module _ (shape : Shape) (code : Block) (U : Given) (es : List Entry) (js : List
   changed_size slot x = length-set ps.slots.items task.0 slot ∙ a.players.size ∙ sym (length-set a.players.seats task.0 x)
 
   -- the players with that slot
-  pub players_changed : (new : Players) (slot : Slot) (x : pass.Seat) → task.0 < length ps.slots.items → Seated code U later js (slice_set a.players.seats task.0 x) → SlotIs shape U.places later js task.0 slot x → new.slots.items ≡ slice_set ps.slots.items task.0 slot → new.table ≡ ps.table → new.marks ≡ ps.marks → MarksAre code U es js (slice_set ps.slots.items task.0 slot) ps.marks → PlayersAre shape code U es js (suc i) new
-  players_changed new slot x low seated own slots table marks h =
+  pub players_changed : (new : Players) (slot : Slot) (x : pass.Seat) → task.0 < length ps.slots.items → Seated code U later js (slice_set a.players.seats task.0 x) → SlotIs shape U.places later js task.0 slot x → new.slots.items ≡ slice_set ps.slots.items task.0 slot → new.table ≡ ps.table → new.marks ≡ ps.marks → MarksAre code U es js (slice_set ps.slots.items task.0 slot) ps.marks → ((u : ℕ) → u ≢ task.0 → resting u) → SeatRests x → PlayersAre shape code U es js (suc i) new
+  players_changed new slot x low seated own slots table marks h others rests =
       record {
         seats = slice_set a.players.seats task.0 x;
         seated = seated;
@@ -145,6 +146,7 @@ module _ (shape : Shape) (code : Block) (U : Given) (es : List Entry) (js : List
         each = subst (λ (l : List Slot). Each (SlotIs shape U.places later js) l (slice_set a.players.seats task.0 x)) (sym slots) (one_changed slot x low own);
         table = subst (λ (v : EventTable). TableIs js (suc (length es)) v) (sym table) a.players.table;
         marks = subst (λ (v : List Slot × List (List Bool)). MarksAre code U es js v.0 v.1) {x = (slice_set ps.slots.items task.0 slot, ps.marks)} {y = (new.slots.items, new.marks)} (λ j. (sym slots j, sym marks j)) h;
+        rest = λ u all. rest_set a.players.seats task.0 x (let size = a.players.size in omega (arith, low, size)) (λ v ne. a.players.rest v (others v ne)) rests u;
       }
 
   -- Who travels.
@@ -171,8 +173,8 @@ module _ (shape : Shape) (code : Block) (U : Given) (es : List Entry) (js : List
       let x = travels_so seat at in
       (law code U es js i a.players.seats task act batch x.start a.players.seated a.follows x.away).1 h
 
-  pub landed : (new : Players) (seat landing : Box Seat) (p : PlaceId) (low : ℕ) → SeatArrives → slice_get ps.slots.items task.0 ≡ Some (Away seat) → act ≡ Arrive p → batch ≡ [] → landing.value ≡ record seat.value { low = low } → low ≡ suc i → new.slots.items ≡ slice_set ps.slots.items task.0 (Here landing) → new.table ≡ ps.table → new.marks ≡ ps.marks → PlayersAre shape code U es js (suc i) new
-  landed new seat landing p low law at arrives none is number slots table marks =
+  pub landed : (new : Players) (seat landing : Box Seat) (p : PlaceId) (low : ℕ) → ((u : ℕ) → u ≢ task.0 → resting u) → SeatArrives → slice_get ps.slots.items task.0 ≡ Some (Away seat) → act ≡ Arrive p → batch ≡ [] → landing.value ≡ record seat.value { low = low } → low ≡ suc i → new.slots.items ≡ slice_set ps.slots.items task.0 (Here landing) → new.table ≡ ps.table → new.marks ≡ ps.marks → PlayersAre shape code U es js (suc i) new
+  landed new seat landing p low others law at arrives none is number slots table marks =
       let x = travels_so seat at in
       let s = x.is in
       let inside = slice_get_within ps.slots.items task.0 (Away seat) at in
@@ -185,7 +187,7 @@ module _ (shape : Shape) (code : Block) (U : Given) (es : List Entry) (js : List
         home = s.home ∙ sym (home_stays inside);
         low = number ∙ sym low_now;
         known = omega (arith, known, wider);
-        stood = record { term = s.stood.term; vars = s.stood.vars; batch = s.stood.batch; events = s.stood.events; first = s.stood.first; few = s.stood.few };
+        stood = record { term = s.stood.term; vars = s.stood.vars; events = s.stood.events; first = s.stood.first; few = s.stood.few };
       } in
       let j : List PlaceEvent = journal_at js seat.value.home.0 in
       let first : IsFirst task.0 j 0 seat.value.position =
@@ -196,12 +198,12 @@ module _ (shape : Shape) (code : Block) (U : Given) (es : List Entry) (js : List
       players_changed new (Here landing) all inside
       ((law code U es js i a.players.seats task act batch x.start a.players.seated a.follows x.away).0 p arrives none)
       (subst (λ (v : Seat). IsSeat shape U.places later js task.0 v (fresh x.start) (cells_of before js task.0)) (sym is) own) slots table marks
-      (marks_arrive code U es js ps.marks ps.slots.items task.0 seat landing at (subst (λ (v : Seat). IsFirst task.0 (journal_at js v.home.0) 0 v.position) (sym is) first) a.players.marks)
+      (marks_arrive code U es js ps.marks ps.slots.items task.0 seat landing at (subst (λ (v : Seat). IsFirst task.0 (journal_at js v.home.0) 0 v.position) (sym is) first) a.players.marks) others (stands_rest (fresh x.start) (cells_of before js task.0) refl)
 
 -- A task that has come to its end.
 
 module _ (shape : Shape) (code : Block) (U : Given) (es : List Entry) (js : List (List PlaceEvent)) (i : ℕ) (ps : Players) (task : TaskId) (act : Act) (batch : List (List ℕ)) (h : Stopped shape code U es js i ps task act batch Ends) where
-  abbrev a : Awaits shape code U es js i ps (Step task act batch)
+  abbrev a : AwaitsWhere (others_rest task.0) shape code U es js i ps (Step task act batch)
   a = h.awaits
 
   abbrev z : Player
@@ -217,18 +219,16 @@ module _ (shape : Shape) (code : Block) (U : Given) (es : List Entry) (js : List
   ends_there : next_does (home_of (take i es) task.0) z ≡ Done ends_with.0
   ends_there = ap (λ (p : PlaceId). next_does p z) (sym stopped.home) ∙ ends_with.1
 
-  pub ends_only : SeatEnds → Part code U es js (suc i) → (batch ≡ h.stops.seat.value.batch) × (act ≡ End ends_with.0)
-  ends_only law k =
-      let r = (law code U es js i a.players.seats task act batch z h.stops.left ends_with.0 a.players.seated a.follows h.stops.stands ends_there).1 k in
-      (r.0 ∙ sym stopped.stood.batch, r.1)
+  pub ends_only : SeatEnds → Part code U es js (suc i) → act ≡ End ends_with.0
+  ends_only law k = ((law code U es js i a.players.seats task act batch z h.stops.left ends_with.0 a.players.seated a.follows h.stops.stands ends_there).1 k).1
 
-  pub ended : (new : Players) → SeatsTell → SeatEnds → batch ≡ h.stops.seat.value.batch → act ≡ End ends_with.0 → new.slots.items ≡ slice_set ps.slots.items task.0 Over → new.table ≡ ps.table → new.marks ≡ ps.marks → PlayersAre shape code U es js (suc i) new
-  ended new tell law same is slots table marks =
+  pub ended : (new : Players) → SeatsTell → SeatEnds → act ≡ End ends_with.0 → new.slots.items ≡ slice_set ps.slots.items task.0 Over → new.table ≡ ps.table → new.marks ≡ ps.marks → PlayersAre shape code U es js (suc i) new
+  ended new tell law is slots table marks =
       players_changed shape code U es js i ps task act batch a new Over pass.Over (slice_get_within ps.slots.items task.0 (Here h.stops.seat) h.stops.slot)
-      ((law code U es js i a.players.seats task act batch z h.stops.left ends_with.0 a.players.seated a.follows h.stops.stands ends_there).0 (same ∙ stopped.stood.batch, is))
+      ((law code U es js i a.players.seats task act batch z h.stops.left ends_with.0 a.players.seated a.follows h.stops.stands ends_there).0 (h.whole, is))
       tt slots table marks
       (marks_end shape code U es js i task.0 h.stops.seat z h.stops.left stopped ((tell code U es js).2 i a.players.seats task.0 z h.stops.left a.players.seated h.stops.stands)
-      (inl (ends_with.0, ends_there)) ps.slots.items ps.marks h.stops.slot a.players.marks)
+      (inl (ends_with.0, ends_there)) ps.slots.items ps.marks h.stops.slot a.players.marks) (λ u ne. ne) over_rests
 
   -- the control carries them
   pub carries : (seat : Seat) → seat ≡ h.stops.seat.value → StandsFor shape seat.control z.term × (carried (does seat.control.vars h.stops.seat.value.home.0 z.term) ≡ Some ends_with.0)

@@ -163,8 +163,8 @@ after_wait shape old new here t s faults thrown true is h =
 after_wait shape old new here t s faults thrown false is h = λ f. h (let e : Some faults ≡ Some thrown = sym (ap carried is) ∙ f in cc)
 
 -- the seat with its control
-pub request_made : (shape : Shape) (js : List (List PlaceEvent)) (old new : Seat) (number : ℕ) (z : Player) (left : Cells) (act : Act) → Stood shape js old z left → IsAsked old.home (next_does old.home z) act → AfterAct shape old.control new.control old.home z.term act true → new.task ≡ old.task → new.home ≡ old.home → new.position ≡ old.position → new.batch ≡ [] → new.low ≡ suc number → AfterRequest shape js old new number z left act true
-request_made shape js old new number z left act s a h task home position batch low =
+pub request_made : (shape : Shape) (js : List (List PlaceEvent)) (old new : Seat) (number : ℕ) (z : Player) (left : Cells) (act : Act) → Stood shape js old z left → IsAsked old.home (next_does old.home z) act → AfterAct shape old.control new.control old.home z.term act true → new.task ≡ old.task → new.home ≡ old.home → new.position ≡ old.position → new.low ≡ suc number → AfterRequest shape js old new number z left act true
+request_made shape js old new number z left act s a h task home position low =
     let d : does old.control.vars old.home.0 z.term ≡ next_does old.home z = ap (λ (v : Vars). does v old.home.0 z.term) s.vars in
     let few = s.few in
     let fewer = h.1.fewer in
@@ -179,7 +179,6 @@ request_made shape js old new number z left act s a h task home position batch l
         stood = record {
           term = h.1.stands;
           vars = h.2 ∙ (ap (λ (v : Vars). vars_told (does v old.home.0 z.term) act v) s.vars);
-          batch = batch;
           events = events ∙ s.events;
           first = subst (λ (v : TaskId × PlaceId × ℕ). IsFirst v.0.0 (journal_at js v.1.0) v.2 v.2) {x = (old.task, old.home, old.position)} {y = (new.task, new.home, new.position)} (λ i. (sym task i, sym home i, sym position i)) s.first;
           few = omega (arith, few, fewer);

@@ -11,6 +11,7 @@ use Rattle.rx_rules.specs.declared.entries.Entry.{Entry}
 use Rattle.rx_rules.specs.declared.events.PlaceEvent.{PlaceEvent}
 use Rattle.rx_rules.specs.Picked.{Player}
 use Rattle.rx_rules.specs.Plays.{Cells, cell_of, journal_at}
+use Rattle.rx_rules.specs.Terms.{Term, Vars}
 use Rattle.rx_runs.specs.Games.{fresh}
 use Rattle.rx_nodes.specs.Shape.{Shape}
 use Rattle.rx_verdict.specs.Makes.{cells_of}
@@ -18,7 +19,7 @@ use Rattle.rx_verdict.specs.Seats as pass
 use Rattle.rx_players.specs.declared.seat.Seat.{Seat}
 use Rattle.rx_players.specs.declared.players.Slot.{Slot}
 use Rattle.rx_players.specs.declared.players.Slot.TheVariants.{Away, Here, Over}
-use Rattle.rx_players.specs.Players.{IsSeat, SlotIs}
+use Rattle.rx_players.specs.Players.{IsSeat, SlotIs, Rests}
 use Rattle.rx_players.proofs.AdmitEntries.{Keeps}
 use Rattle.rx_players.proofs.MarksOn.{get_other, get_below}
 
@@ -55,6 +56,44 @@ each_push Q slots seats slot x size own each u s y a b = ⊎_elim old new (cases
       let first : slot ≡ s = (let g = get-last slots slot u e in cc (g, a)) in
       let second : x ≡ y = (let g = get-last seats x u (e ∙ size) in cc (g, b)) in
       subst (λ (v : ℕ × Slot × pass.Seat). Q v.0 v.1 v.2) {x = (length slots, slot, x)} {y = (u, s, y)} (λ i. (sym e i, first i, second i)) own
+
+-- Which seats rest.
+
+-- a task with such a seat has begun no statement since its last entry
+abbrev pub SeatRests : pass.Seat → Type 0
+SeatRests x = (z : Player) (left : Cells) → x ≡ pass.Stands z left → z.batch ≡ []
+
+pub rest_set : (seats : List pass.Seat) (t : ℕ) (x : pass.Seat) → t < length seats → ((u : ℕ) → u ≢ t → Rests seats u) → SeatRests x → (u : ℕ) → Rests (slice_set seats t x) u
+rest_set seats t x low others own u z left at = ⊎_elim here away (cases_eq u t) where
+  here : u ≡ t → z.batch ≡ []
+  here e =
+      let on : slice_get (slice_set seats t x) t ≡ Some (pass.Stands z left) = ap (λ (n : ℕ). slice_get (slice_set seats t x) n) (sym e) ∙ at in
+      own z left (let g = get-set seats t x low in cc (g, on))
+
+  away : (u ≡ t → ⊥) → z.batch ≡ []
+  away ne = others u ne z left (sym (get_other seats t u x ne) ∙ at)
+
+pub rest_push : (seats : List pass.Seat) (x : pass.Seat) → ((u : ℕ) → Rests seats u) → SeatRests x → (u : ℕ) → Rests (seats ++ x ∷ []) u
+rest_push seats x all own u z left at = ⊎_elim old new (cases_lt u (length seats)) where
+  old : u < length seats → z.batch ≡ []
+  old low = all u z left (sym (get_below seats (x ∷ []) u low) ∙ at)
+
+  new : length seats ≤ u → z.batch ≡ []
+  new past =
+      let l = slice_get_within (seats ++ x ∷ []) u (pass.Stands z left) at in
+      let k = length-push seats x in
+      let e : u ≡ length seats = omega (arith, past, l, k) in
+      own z left (let g = get-last seats x u e in cc (g, at))
+
+-- a player without a batch rests
+pub stands_rest : (y : Player) (left : Cells) → y.batch ≡ [] → SeatRests (pass.Stands y left)
+stands_rest y left none z more e = let same : y ≡ z = cc in ap (λ (v : Player). v.batch) (sym same) ∙ none
+
+pub over_rests : SeatRests pass.Over
+over_rests z left e = absurd (let f : ⊥ = cc in f)
+
+pub away_rests : (r : Term × Vars) → SeatRests (pass.Away r)
+away_rests r z left e = absurd (let f : ⊥ = cc in f)
 
 pub set_twice : {X : Type 0} (xs : List X) (k : ℕ) (x y : X) → slice_set (slice_set xs k x) k y ≡ slice_set xs k y
 set_twice [] k x y = refl

@@ -4,6 +4,7 @@ pub mod Answered
 pub mod Following
 pub mod Rows
 pub mod Positions
+pub mod GoingAlong
 pub mod Walking
 pub mod Opening
 pub mod MarksOn

@@ -37,7 +37,7 @@ use Rattle.rx_players.specs.declared.seat.Stop.TheVariants.{Asks, Ends, Halts as
 use Rattle.rx_players.specs.declared.players.Slot.{Slot}
 use Rattle.rx_players.specs.declared.players.Slot.TheVariants.{Away, Here, Over}
 use Rattle.rx_players.specs.declared.players.Players.{Players}
-use Rattle.rx_players.specs.Players.{IsSeat, SlotIs, PlayersAre, StopsAt}
+use Rattle.rx_players.specs.Players.{IsSeat, SlotIs, PlayersStand, StopsAt}
 use Rattle.rx_players.specs.Stood.{Stops}
 use Rattle.rx_players.proofs.MarksOn.{IsEvent, Of, of_task, all_used}
 use Rattle.rx_players.proofs.MarksWalk.{sits, seats-many}
@@ -106,9 +106,9 @@ away_seat shape places es js t seat pass.Over is = absurd is
 abbrev pub StuckBelow : List Entry → ℕ → List pass.Seat → ℕ → Type 0
 StuckBelow es i seats n = (u : ℕ) (z : Player) (left : Cells) → u < n → slice_get seats u ≡ Some (pass.Stands z left) → IsStuck es i u z left
 
-module _ (shape : Shape) (code : Block) (U : Given) (es : List Entry) (js : List (List PlaceEvent)) (i : ℕ) (old ps : Players) (P : PlayersAre shape code U es js i old) (t : ℕ) (stuck : StuckBelow es i P.seats t) where
+module _ {resting : ℕ → Type 0} (shape : Shape) (code : Block) (U : Given) (es : List Entry) (js : List (List PlaceEvent)) (i : ℕ) (old ps : Players) (P : PlayersStand resting shape code U es js i old) (t : ℕ) (stuck : StuckBelow es i P.seats t) where
   -- one more after its walk
-  pub one_stuck : (stop : Stop) (after : PlayersAre shape code U es js i ps) → StopsAt shape U es js i t ps stop after.seats → ((u : ℕ) → u ≢ t → slice_get after.seats u ≡ slice_get P.seats u) → moves_from i (drop i es) t ≡ [] → StuckBelow es i after.seats (suc t)
+  pub one_stuck : (stop : Stop) (after : PlayersStand resting shape code U es js i ps) → StopsAt shape U es js i t ps stop after.seats → ((u : ℕ) → u ≢ t → slice_get after.seats u ≡ slice_get P.seats u) → moves_from i (drop i es) t ≡ [] → StuckBelow es i after.seats (suc t)
   one_stuck stop after s others none u z left lt at =
       elim (cases_eq u t) as (λ _. IsStuck es i u z left) [
         | inr ne ↦ stuck u z left (omega (arith, lt, ne)) (sym (others u ne) ∙ at)
@@ -135,7 +135,7 @@ module _ (shape : Shape) (code : Block) (U : Given) (es : List Entry) (js : List
       no_stand Over o is = is
 
 -- All entries are told, and no player goes on.
-module _ (shape : Shape) (code : Block) (U : Given) (es : List Entry) (js : List (List PlaceEvent)) (ps : Players) (P : PlayersAre shape code U es js (length es) ps) (stuck : StuckBelow es (length es) P.seats (length ps.slots.items)) (tell : SeatsTell) (away : AwayEvent) where
+module _ {resting : ℕ → Type 0} (shape : Shape) (code : Block) (U : Given) (es : List Entry) (js : List (List PlaceEvent)) (ps : Players) (P : PlayersStand resting shape code U es js (length es) ps) (stuck : StuckBelow es (length es) P.seats (length ps.slots.items)) (tell : SeatsTell) (away : AwayEvent) where
   whole : Seated code U es js P.seats
   whole = subst (λ (l : List Entry). Seated code U l js P.seats) (take_all (length es) es (omega arith)) P.seated
 

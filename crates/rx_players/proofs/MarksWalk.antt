@@ -31,6 +31,7 @@ use Rattle.rx_verdict.specs.Walks.{Walks}
 use Rattle.rx_verdict.proofs.Marking.{later}
 use Rattle.rx_verdict.proofs.Telling.{event_from_player}
 use Rattle.rx_replay.specs.Marks.{marked}
+use Rattle.rx_players.specs.declared.along.Along.{Along}
 use Rattle.rx_players.specs.declared.seat.Seat.{Seat}
 use Rattle.rx_players.specs.declared.seat.Stop.{Stop}
 use Rattle.rx_players.specs.declared.players.Slot.{Slot}
@@ -39,9 +40,11 @@ use Rattle.rx_players.specs.declared.players.Players.{Players}
 use Rattle.rx_players.specs.declared.table.EventTable.{EventTable}
 use Rattle.rx_players.specs.Events.{IsFirst}
 use Rattle.rx_players.specs.Marked.{IsLeft, MarksAre, IsNextOf, InReach, MarksUsed}
-use Rattle.rx_players.specs.Players.{IsSeat, SlotIs, PlayersAre, StopsAt}
+use Rattle.rx_players.specs.Along.{KeepsAlong}
+use Rattle.rx_players.specs.Players.{IsSeat, SlotIs, PlayersStand, StopsAt, none_rests}
 use Rattle.rx_players.specs.Stood.{Stops, Walked}
 use Rattle.rx_players.specs.Table.{TableIs}
+use Rattle.rx_players.specs.Inside.Admitted.{WalksAlong}
 use Rattle.rx_players.proofs.Positions.{at_most_length}
 use Rattle.rx_players.proofs.MarksOn.{IsEvent, Of, of_task, of_all, get_other, left_events}
 use Rattle.rx_players.proofs.Using.{IsExact, from_here, used_exactly}
@@ -74,8 +77,13 @@ pub seats-many : (code : Block) (U : Given) (es : List Entry) (js : List (List P
 seats-many code U es js seats s = sym (pairs-length (SeatIs s.starts es js) 0 s.starts seats s.each) ∙ s.made.all
 
 -- there are as many slots after as many entries
-pub same_size : (shape : Shape) (code : Block) (U : Given) (es : List Entry) (js : List (List PlaceEvent)) (i : ℕ) (old ps : Players) → PlayersAre shape code U es js i old → PlayersAre shape code U es js i ps → length ps.slots.items ≡ length old.slots.items
+pub same_size : {some all : ℕ → Type 0} (shape : Shape) (code : Block) (U : Given) (es : List Entry) (js : List (List PlaceEvent)) (i : ℕ) (old ps : Players) → PlayersStand some shape code U es js i old → PlayersStand all shape code U es js i ps → length ps.slots.items ≡ length old.slots.items
 same_size shape code U es js i old ps P Q = Q.size ∙ (seats-many code U (take i es) js Q.seats Q.seated ∙ (sym (seats-many code U (take i es) js P.seats P.seated) ∙ sym P.size))
+
+-- the players as they stand, whoever rests
+abbrev pub standing : {resting : ℕ → Type 0} (shape : Shape) (code : Block) (U : Given) (es : List Entry) (js : List (List PlaceEvent)) (i : ℕ) (ps : Players) → PlayersStand resting shape code U es js i ps → PlayersStand none_rests shape code U es js i ps
+standing shape code U es js i ps P =
+    record { seats = P.seats; seated = P.seated; size = P.size; each = P.each; table = P.table; marks = P.marks; rest = λ t none. absurd none }
 
 -- The seat of a task at its place.
 
@@ -90,7 +98,7 @@ here_sits shape places es js seats t seat (pass.Away r) at is = absurd is
 here_sits shape places es js seats t seat (pass.Stands z left) at is = record { player = z; left = left; stands = at; is = is }
 here_sits shape places es js seats t seat pass.Over at is = absurd is
 
-module _ (shape : Shape) (code : Block) (U : Given) (es : List Entry) (js : List (List PlaceEvent)) (i : ℕ) (old : Players) (P : PlayersAre shape code U es js i old) (t : ℕ) (seat : Box Seat) (at : slice_get old.slots.items t ≡ Some (Here seat)) where
+module _ {resting : ℕ → Type 0} (shape : Shape) (code : Block) (U : Given) (es : List Entry) (js : List (List PlaceEvent)) (i : ℕ) (old : Players) (P : PlayersStand resting shape code U es js i old) (t : ℕ) (seat : Box Seat) (at : slice_get old.slots.items t ≡ Some (Here seat)) where
   inside : t < length P.seats
   inside =
       let l = slice_get_within old.slots.items t (Here seat) at in
@@ -233,7 +241,7 @@ module _ (shape : Shape) (code : Block) (U : Given) (es : List Entry) (js : List
           ]
 
 -- The players after it.
-module _ (shape : Shape) (code : Block) (U : Given) (es : List Entry) (js : List (List PlaceEvent)) (i : ℕ) (old ps : Players) (P : PlayersAre shape code U es js i old) (t : ℕ) (seat new : Box Seat) (last : Option ℕ) (at : slice_get old.slots.items t ≡ Some (Here seat)) (tell : SeatsTell) (walk : SeatsWalk) where
+module _ {resting : ℕ → Type 0} (shape : Shape) (code : Block) (U : Given) (es : List Entry) (js : List (List PlaceEvent)) (i : ℕ) (old ps : Players) (P : PlayersStand resting shape code U es js i old) (t : ℕ) (seat new : Box Seat) (last : Option ℕ) (at : slice_get old.slots.items t ≡ Some (Here seat)) (tell : SeatsTell) (walk : SeatsWalk) where
   abbrev at_seat : Sits shape U.places (take i es) js P.seats t seat
   at_seat = sits shape code U es js i old P t seat at
 
@@ -260,7 +268,7 @@ module _ (shape : Shape) (code : Block) (U : Given) (es : List Entry) (js : List
               P.each u slot x (sym (get_other old.slots.items t u (Here new) ne) ∙ found) (sym (get_other P.seats t u (pass.Stands y rest) ne) ∙ there)
         ]
 
-    players_walked : PlayersAre shape code U es js i ps
+    players_walked : PlayersStand none_rests shape code U es js i ps
     players_walked =
         record {
           seats = seats;
@@ -271,11 +279,17 @@ module _ (shape : Shape) (code : Block) (U : Given) (es : List Entry) (js : List
           marks = subst (λ (l : List Slot). MarksAre code U es js l ps.marks) (sym slots)
               (marks_walked shape code U es js i t seat new at_seat.player y at_seat.left rest at_seat.is w old.slots.items old.marks ps.marks last at
               ((tell code U es js).2 i P.seats t at_seat.player at_seat.left P.seated at_seat.stands) P.marks used next);
+          rest = λ u none. absurd none;
         }
 
-    pub walked : (stop : Stop) → Stops stop new.value y rest → (after : PlayersAre shape code U es js i ps) × StopsAt shape U es js i t ps stop after.seats × ((u : ℕ) → u ≢ t → slice_get after.seats u ≡ slice_get P.seats u)
+    -- it was the player that the seats had of the task
+    same_player : (z : Player) (some : Cells) → slice_get P.seats t ≡ Some (pass.Stands z some) → at_seat.player ≡ z
+    same_player z some at =
+        let both : Some (pass.Stands at_seat.player at_seat.left) ≡ Some (pass.Stands z some) = sym at_seat.stands ∙ at in cc
+
+    pub walked : (stop : Stop) (was along : Along) → Stops stop new.value y rest → KeepsAlong was along at_seat.player y → (after : PlayersStand none_rests shape code U es js i ps) × (stops : StopsAt shape U es js i t ps stop after.seats) × ((u : ℕ) → u ≢ t → slice_get after.seats u ≡ slice_get P.seats u) × WalksAlong P.seats t stops.player was along
     unfolding players_walked
-    walked stop stops = (
+    walked stop was along stops goes = (
       players_walked,
       record {
         seat = new;
@@ -286,4 +300,5 @@ module _ (shape : Shape) (code : Block) (U : Given) (es : List Entry) (js : List
         stops = stops;
       },
       λ u ne. get_other P.seats t u (pass.Stands y rest) ne,
+      λ z some at. subst (λ (v : Player). KeepsAlong was along v y) (same_player z some at) goes,
     )

@@ -9,6 +9,7 @@ use Rattle.rx_rules.specs.declared.entries.Entry.{Entry}
 use Rattle.rx_rules.specs.declared.events.PlaceEvent.{PlaceEvent}
 use Rattle.rx_rules.specs.Code.{Block, work}
 use Rattle.rx_rules.specs.Terms.{Empty, items, no_vars}
+use Rattle.rx_rules.specs.Picked.{Player}
 use Rattle.rx_rules.specs.Plays.{cell_of, journal_at}
 use Rattle.rx_rules.specs.Run.{Given}
 use Rattle.rx_runs.specs.Games.{fresh}
@@ -27,7 +28,7 @@ use Rattle.rx_players.specs.declared.players.Players.{Players}
 use Rattle.rx_players.specs.Events.{IsFirst}
 use Rattle.rx_players.specs.Table.{TableIs}
 use Rattle.rx_players.specs.Marked.{MarksAre}
-use Rattle.rx_players.specs.Players.{IsSeat, SlotIs, PlayersAre}
+use Rattle.rx_players.specs.Players.{IsSeat, Rests, SlotIs, PlayersAre}
 use Rattle.rx_players.proofs.Rows.{first_again}
 use Rattle.rx_players.proofs.MarksOn.{marks_born_here}
 
@@ -42,6 +43,11 @@ at_first shape code U js seat here zero slot x at is =
 at_first shape code U js seat here (suc zero) slot x at is = absurd (let f : ⊥ = cc in f)
 at_first shape code U js seat here (suc (suc t)) slot x at is = absurd (let f : ⊥ = cc in f)
 
+at_start_rest : (code : Block) (U : Given) (js : List (List PlaceEvent)) (t : ℕ) → Rests (opening_seats code U js) t
+at_start_rest code U js zero z left at =
+    let same : fresh (main_start code U.places) ≡ z = cc in ap (λ (y : Player). y.batch) (sym same)
+at_start_rest code U js (suc t) z left at = absurd (let f : ⊥ = cc in f)
+
 -- before the first entry no event is marked, and all are left
 no_events_used : (code : Block) (U : Given) (es : List Entry) (js : List (List PlaceEvent)) → NoMarks → MarksAre code U es js [] (no_marks js)
 no_events_used code U es js none =
@@ -51,8 +57,8 @@ no_events_used code U es js none =
       used = λ p e task stamp cell path at used whole. absurd (used tt);
     }
 
-pub opened : (shape : Shape) (code : Block) (U : Given) (es : List Entry) (js : List (List PlaceEvent)) (seat : Box Seat) (own : Seat) (ps : Players) → seat.value ≡ own → SeatsTell → NoMarks → 1 ≤ U.places → U.places ≤ 16 → work code ≤ 100000 → steps (items code [] Empty) ≡ 3 * work code → StandsFor shape own.control (items code [] Empty) → own.control.vars ≡ no_vars U.places → own.batch ≡ [] → own.task ≡ record { 0 = 0 } → own.home ≡ record { 0 = 0 } → IsFirst 0 (journal_at js 0) 0 own.position → own.low ≡ 0 → ps.slots.items ≡ Here seat ∷ [] → TableIs js (suc (length es)) ps.table → ps.marks ≡ no_marks js → PlayersAre shape code U es js 0 ps
-opened shape code U es js seat own ps is tell none some few small size stands vars batch task home position low slots table marks =
+pub opened : (shape : Shape) (code : Block) (U : Given) (es : List Entry) (js : List (List PlaceEvent)) (seat : Box Seat) (own : Seat) (ps : Players) → seat.value ≡ own → SeatsTell → NoMarks → 1 ≤ U.places → U.places ≤ 16 → work code ≤ 100000 → steps (items code [] Empty) ≡ 3 * work code → StandsFor shape own.control (items code [] Empty) → own.control.vars ≡ no_vars U.places → own.task ≡ record { 0 = 0 } → own.home ≡ record { 0 = 0 } → IsFirst 0 (journal_at js 0) 0 own.position → own.low ≡ 0 → ps.slots.items ≡ Here seat ∷ [] → TableIs js (suc (length es)) ps.table → ps.marks ≡ no_marks js → PlayersAre shape code U es js 0 ps
+opened shape code U es js seat own ps is tell none some few small size stands vars task home position low slots table marks =
     let known : U.places ≤ U.places = omega arith in
     let fits : steps (items code [] Empty) ≤ 300000 = omega (arith, small, size) in
     let first : IsFirst own.task.0 (journal_at js own.home.0) 0 own.position =
@@ -71,7 +77,6 @@ opened shape code U es js seat own ps is tell none some few small size stands va
       stood = record {
         term = stands;
         vars = vars;
-        batch = batch;
         events = events;
         first = first_again own.task.0 (journal_at js own.home.0) 0 own.position first;
         few = fits;
@@ -90,4 +95,5 @@ opened shape code U es js seat own ps is tell none some few small size stands va
       each = λ t slot x at on. at_first shape code U js seat in_box t slot x (ap (λ (l : List Slot). slice_get l t) (sym slots) ∙ at) on;
       table = table;
       marks = subst (λ (l : List Slot). MarksAre code U es js l ps.marks) (sym slots) (subst (λ (ms : List (List Bool)). MarksAre code U es js (Here seat ∷ []) ms) (sym marks) used);
+      rest = λ t all. at_start_rest code U js t;
     }

@@ -1,5 +1,5 @@
 -- One step of a walk.
-use Rattle.std.specs.Prelude.{◌≡◌, ℕ, zero, suc, ◌+◌, ◌<◌, ◌≤◌, false, List, [], ◌∷◌, ◌++◌, drop, length, map, Option, Some, None, Result, slice_get, refl}
+use Rattle.std.specs.Prelude.{◌≡◌, ℕ, zero, suc, ◌+◌, ◌<◌, ◌≤◌, false, List, [], ◌∷◌, ◌++◌, drop, length, map, Option, Some, Result, slice_get, refl}
 use Rattle.std.specs.List.{filter_map}
 use Rattle.std.proofs.Common.{ap, sym, subst, ◌∙◌, arith, inl, inr}
 use Rattle.std.proofs.lemmas.Option.{slice_get_within}
@@ -28,9 +28,11 @@ use Rattle.rx_plan.proofs.Told.{told_local}
 use Rattle.rx_stores.specs.Asked.{Receives, CallIsTold}
 use Rattle.rx_verdict.proofs.Walking.{walks_on}
 use Rattle.rx_verdict.specs.Walks.{Walks, stays, local, stores, next_does, Halts}
+use Rattle.rx_players.specs.declared.along.Along.{Along}
 use Rattle.rx_players.specs.declared.seat.Seat.{Seat}
 use Rattle.rx_players.specs.Answers.{answers}
 use Rattle.rx_players.specs.Events.{IsFirst, IsOf}
+use Rattle.rx_players.specs.Along.{GoesAlong}
 use Rattle.rx_players.specs.Stood.{Stood, Walked}
 use Rattle.rx_players.specs.Inside.Steps.{GoesFurther}
 use Rattle.rx_terms.proofs.Beginning.{begins-so}
@@ -38,6 +40,7 @@ use Rattle.rx_terms.specs.Steps.{Begins}
 use Rattle.rx_terms.proofs.Receiving.{call-so}
 use Rattle.rx_terms.specs.Steps.{CallSo}
 use Rattle.rx_players.proofs.Following.{none_past, here_event}
+use Rattle.rx_players.proofs.GoingAlong.{begun_some}
 use Rattle.rx_players.proofs.Rows.{told_of}
 use Rattle.rx_players.proofs.Telling.{answers_tells}
 
@@ -49,8 +52,8 @@ no_walk shape js seat z left s = record { task = refl; home = refl; low = refl; 
 pub told_next : (shape : Shape) (js : List (List PlaceEvent)) (seat : Seat) (z : Player) (left : Cells) (n : Next) → Stood shape js seat z left → n ≡ next_of (does seat.control.vars seat.home.0 z.term) → next_of (next_does seat.home z) ≡ n
 told_next shape js seat z left n s e = ap (λ (v : Vars). next_of (does v seat.home.0 z.term)) (sym s.vars) ∙ sym e
 
-pub walked_local : (shape : Shape) (js : List (List PlaceEvent)) (old new : Seat) (z : Player) (left : Cells) → TermSinks → LocalKnowing → Stood shape js old z left → next_of (next_does old.home z) ≡ LocalStep → Leaves shape new.control (does old.control.vars old.home.0 z.term) → new ≡ record old { control = new.control; batch = begun z.term old.batch } → GoesFurther shape js old new z left
-walked_local shape js old new z left sinks knows s e leaves same =
+pub walked_local : (shape : Shape) (js : List (List PlaceEvent)) (old new : Seat) (was along : Along) (z : Player) (left : Cells) → TermSinks → LocalKnowing → Stood shape js old z left → next_of (next_does old.home z) ≡ LocalStep → Leaves shape new.control (does old.control.vars old.home.0 z.term) → new ≡ record old { control = new.control } → ((batch so_far : List (List ℕ)) → GoesAlong batch was so_far → GoesAlong batch along (begun z.term so_far)) → GoesFurther shape js old new was along z left
+walked_local shape js old new was along z left sinks knows s e leaves same goes =
     let l = told_local (next_does old.home z) e in
     let after : Term = l.0 in
     let vars : Vars = l.1 in
@@ -68,7 +71,6 @@ walked_local shape js old new z left sinks knows s e leaves same =
         stood = record {
           term = on.0;
           vars = on.1;
-          batch = ap (λ (q : Seat). q.batch) same ∙ ap (λ (b : List (List ℕ)). begun z.term b) s.batch;
           events = ap (λ (q : Seat). filter_map (cell_of q.task.0) (drop q.position (journal_at js q.home.0))) same ∙ s.events;
           first = subst (λ (q : Seat). IsFirst q.task.0 (journal_at js q.home.0) q.position q.position) (sym same) s.first;
           few = omega (arith, falls, few);
@@ -77,6 +79,7 @@ walked_local shape js old new z left sinks knows s e leaves same =
         known = knows z.vars vars old.home.0 z.term after is;
       },
       falls,
+      λ batch g. goes batch z.batch g,
     )
 
 -- What is known of a store call: its statement, the name that waits, and that it leaves fewer steps.
@@ -110,15 +113,15 @@ places_stay Fine v = refl
 places_stay (Fails fault) v = refl
 
 -- The task's next event answers its call.
-pub walked_store : (shape : Shape) (js : List (List PlaceEvent)) (old new : Seat) (z : Player) (left rest : Cells) (op : CellOp) (x path : List ℕ) (stamp : ℕ) (cell : Cell) (answer : Result (Option Value) Fault) → TermSinks → Stood shape js old z left → next_of (next_does old.home z) ≡ Calls op → begins z.term ≡ Some x → left ≡ (stamp, cell, path) ∷ rest → x ≡ path → CallIsTold old.home op answer cell → StandsFor shape new.control (answered (answer_of (receives z.term) answer) z.term) → new.control.vars ≡ vars_after (answer_of (receives z.term) answer) old.control.vars → new.batch ≡ old.batch ++ x ∷ [] → new.task ≡ old.task → new.home ≡ old.home → new.low ≡ old.low → filter_map (cell_of new.task.0) (drop new.position (journal_at js new.home.0)) ≡ rest → IsFirst new.task.0 (journal_at js new.home.0) new.position new.position → GoesFurther shape js old new z left
-walked_store shape js old new z left rest op x path stamp cell answer sinks s e b events same told term vars batch task home low more first =
+pub walked_store : (shape : Shape) (js : List (List PlaceEvent)) (old new : Seat) (was along : Along) (z : Player) (left rest : Cells) (op : CellOp) (x path : List ℕ) (stamp : ℕ) (cell : Cell) (answer : Result (Option Value) Fault) → TermSinks → Stood shape js old z left → next_of (next_does old.home z) ≡ Calls op → begins z.term ≡ Some x → left ≡ (stamp, cell, path) ∷ rest → x ≡ path → CallIsTold old.home op answer cell → StandsFor shape new.control (answered (answer_of (receives z.term) answer) z.term) → new.control.vars ≡ vars_after (answer_of (receives z.term) answer) old.control.vars → ((batch so_far : List (List ℕ)) → GoesAlong batch was so_far → GoesAlong batch along (so_far ++ path ∷ [])) → new.task ≡ old.task → new.home ≡ old.home → new.low ≡ old.low → filter_map (cell_of new.task.0) (drop new.position (journal_at js new.home.0)) ≡ rest → IsFirst new.task.0 (journal_at js new.home.0) new.position new.position → GoesFurther shape js old new was along z left
+walked_store shape js old new was along z left rest op x path stamp cell answer sinks s e b events same told term vars goes task home low more first =
     let is = is_store_call old.home z op sinks e in
     let a : Answer = answer_of (receives z.term) answer in
     let falls : steps (answered a z.term) + 1 ≤ steps z.term = is.sinks a in
     let few = s.few in
     let y : Player = record { term = answered a z.term; vars = vars_after a z.vars; batch = begun z.term z.batch } in
     let known : (vars_after a z.vars).places ≡ z.vars.places = places_stay a z.vars in
-    let noted : begun z.term z.batch ≡ z.batch ++ x ∷ [] = ap (λ (o : Option (List ℕ)). elim o as (λ _. List (List ℕ)) [ Some w ↦ z.batch ++ w ∷ [] | None ↦ z.batch ]) b in (
+    let noted : begun z.term z.batch ≡ z.batch ++ path ∷ [] = begun_some z.term z.batch path (b ∙ ap (λ (w : List ℕ). Some w) same) in (
       y,
       rest,
       record {
@@ -128,7 +131,6 @@ walked_store shape js old new z left rest op x path stamp cell answer sinks s e 
         stood = record {
           term = term;
           vars = vars ∙ ap (λ (v : Vars). vars_after a v) s.vars;
-          batch = batch ∙ (ap (λ (l : List (List ℕ)). l ++ x ∷ []) s.batch ∙ sym noted);
           events = more;
           first = first;
           few = omega (arith, falls, few);
@@ -138,6 +140,7 @@ walked_store shape js old new z left rest op x path stamp cell answer sinks s e 
         known = known;
       },
       falls,
+      λ batch g. subst (λ (l : List (List ℕ)). GoesAlong batch along l) (sym noted) (goes batch z.batch g),
     )
 
 -- The task has no event left, or its next event does not answer its call.

@@ -2,6 +2,7 @@ pub mod Answers
 pub mod Events
 pub mod Table
 pub mod Stood
+pub mod Along
 pub mod Marked
 pub mod Players
 pub mod Worked

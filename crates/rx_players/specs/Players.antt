@@ -1,5 +1,5 @@
 -- What players keep of the tasks of a history, and what an entry makes of it.
-use Rattle.std.specs.Prelude.{◌≡◌, ℕ, suc, ◌≤◌, Bool, true, false, List, length, take, Some, slice_get}
+use Rattle.std.specs.Prelude.{◌≡◌, ◌≢◌, ℕ, suc, ◌≤◌, Bool, true, false, List, [], length, take, Some, slice_get}
 use Rattle.std.specs.Global.{Box}
 use Rattle.rx_rules.specs.declared.entries.Entry.{Entry}
 use Rattle.rx_rules.specs.declared.events.PlaceEvent.{PlaceEvent}
@@ -41,9 +41,23 @@ SlotIs shape places es js t (Here seat) (pass.Stands z left) = IsSeat shape plac
 SlotIs shape places es js t Over pass.Over = Unit {0}
 SlotIs shape places es js t slot seat = ⊥
 
--- after i entries the players stand for the tasks, and their marks for the events used so far
-pub record PlayersAre (shape : Shape) (code : Block) (U : Given) (es : List Entry) (js : List (List PlaceEvent)) (i : ℕ) (ps : Players)
-    : Type 0 where
+-- task t has begun no statement since its last entry
+abbrev pub Rests : List pass.Seat → ℕ → Type 0
+Rests seats t = (z : Player) (left : Cells) → slice_get seats t ≡ Some (pass.Stands z left) → z.batch ≡ []
+
+-- which tasks are known to rest: all, those other than task t, or none
+abbrev pub all_rest : ℕ → Type 0
+all_rest u = Unit {0}
+
+abbrev pub others_rest : ℕ → ℕ → Type 0
+others_rest t u = u ≢ t
+
+abbrev pub none_rests : ℕ → Type 0
+none_rests u = ⊥
+
+-- after i entries the players stand for the tasks, of which these rest, and their marks for the events used so far
+pub record PlayersStand (resting : ℕ → Type 0) (shape : Shape) (code : Block) (U : Given) (es : List Entry) (js : List (List PlaceEvent))
+    (i : ℕ) (ps : Players) : Type 0 where
   pub seats : List pass.Seat
   pub seated : Seated code U (take i es) js seats
   pub size : length ps.slots.items ≡ length seats
@@ -51,6 +65,11 @@ pub record PlayersAre (shape : Shape) (code : Block) (U : Given) (es : List Entr
       → SlotIs shape U.places (take i es) js t slot seat
   pub table : TableIs js (suc (length es)) ps.table
   pub marks : MarksAre code U es js ps.slots.items ps.marks
+  pub rest : (t : ℕ) → resting t → Rests seats t
+
+-- between two entries all rest
+abbrev pub PlayersAre : Shape → Block → Given → List Entry → List (List PlaceEvent) → ℕ → Players → Type 0
+PlayersAre shape code U es js i ps = PlayersStand all_rest shape code U es js i ps
 
 -- task t has come to the player z, where it stops, with these events left
 pub record StopsAt (shape : Shape) (U : Given) (es : List Entry) (js : List (List PlaceEvent)) (i t : ℕ) (ps : Players) (stop : Stop)
@@ -62,12 +81,16 @@ pub record StopsAt (shape : Shape) (U : Given) (es : List Entry) (js : List (Lis
   pub stands : slice_get seats t ≡ Some (pass.Stands player left)
   pub stops : Stops stop seat.value player left
 
--- before entry i: the players stand for the tasks, and the entry may follow
-pub record Awaits (shape : Shape) (code : Block) (U : Given) (es : List Entry) (js : List (List PlaceEvent)) (i : ℕ) (ps : Players)
-    (e : Entry) : Type 0 where
+-- before entry i: the players stand for the tasks, of which these rest, and the entry may follow
+pub record AwaitsWhere (resting : ℕ → Type 0) (shape : Shape) (code : Block) (U : Given) (es : List Entry) (js : List (List PlaceEvent))
+    (i : ℕ) (ps : Players) (e : Entry) : Type 0 where
   pub script : IsScript shape code
-  pub players : PlayersAre shape code U es js i ps
+  pub players : PlayersStand resting shape code U es js i ps
   pub follows : MayFollow U es i e
+
+-- where all rest, as between two entries
+abbrev pub Awaits : Shape → Block → Given → List Entry → List (List PlaceEvent) → ℕ → Players → Entry → Type 0
+Awaits shape code U es js i ps e = AwaitsWhere all_rest shape code U es js i ps e
 
 -- a yes: the players stand for the tasks after the entry. A no: with the entry they are no part of a run.
 abbrev pub IsMade : Shape → List (List PlaceEvent) → ℕ → Players → Players → Entry → Bool → Type 0

@@ -20,7 +20,6 @@ use Rattle.rx_players.specs.declared.seat.Stop.TheVariants.{Asks, Ends, Halts as
 pub record Stood (shape : Shape) (js : List (List PlaceEvent)) (seat : Seat) (z : Player) (left : Cells) : Type 0 where
   pub term : StandsFor shape seat.control z.term
   pub vars : seat.control.vars ≡ z.vars
-  pub batch : seat.batch ≡ z.batch
   pub events : filter_map (cell_of seat.task.0) (drop seat.position (journal_at js seat.home.0)) ≡ left
   -- its position is that of the first of these events
   pub first : IsFirst seat.task.0 (journal_at js seat.home.0) seat.position seat.position

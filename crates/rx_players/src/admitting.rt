@@ -19,11 +19,12 @@ ghost use Rattle.rx_players.specs.Stood.{Stood};
 ghost use Rattle.rx_players.specs.Inside.Admitted.{Stopped, AfterEntry};
 ghost use Rattle.rx_players.specs.Inside.Requests.{CountsMore, GoesOn, IsAsked, IsChild, IsNewborn, slot_for};
 
+use crate::along::Along;
 use crate::players::{Players, Slot};
 use crate::requests::is_wanted;
 use crate::seat::{Seat, Stop};
 use crate::table::EventTable;
-use rx_base::{Batch, NoMemory, PlaceId, TaskId, same_batch, same_faults};
+use rx_base::{Batch, NoMemory, PlaceId, TaskId, same_faults};
 use rx_check::Program;
 use rx_control::Want;
 use rx_history::{Entry, Journals};
@@ -105,7 +106,8 @@ impl Players {
         true
     }
 
-    // Whether the entry of a task that is at its place is what it makes: it walks on to where it stops.
+    // Whether the entry of a task that is at its place is what it makes: it walks on to where it stops, and has to begin the entry's
+    // batch.
     fn play(
         &mut self,
         alloc: Global,
@@ -123,20 +125,29 @@ impl Players {
         ensures { IfOk result (IsMade p.now.script (events_of journals.now) number self.old self.new (Step task act.now batch.now)) }
     {
         rx_verdict::entries_come();
+        rx_verdict::seats_ask();
+        rx_verdict::seats_end();
         rx_verdict::seats_refuse();
-        match self.walk(alloc, p, journals, task.0 as usize, Some(number))? {
-            Stop::Asks(want) => self.grant(alloc, p, number, task, want, act, batch),
-            Stop::Ends => Ok(self.end(alloc, task, act, batch)),
+        let mut along = Along::open(batch);
+        let t = task.0 as usize;
+        let stop = self.walk(alloc, p, journals, t, Some(number), &mut along)?;
+        if !along.is_whole() {
+            return Ok(false);
+        }
+        match stop {
+            Stop::Asks(want) => self.grant(alloc, p, number, task, want, act),
+            Stop::Ends => Ok(self.end(alloc, task, act)),
             Stop::Halts => Ok(false),
         }
     }
 
     // Whether the entry of a task whose term is done is that end; its slot is over then.
-    fn end(&mut self, alloc: Global, task: TaskId, act: &Act, batch: &Batch) -> bool
+    fn end(&mut self, alloc: Global, task: TaskId, act: &Act) -> bool
         requires { (shape : Shape) × (code : Block) × (U : Given) × (es : List Entry) × (js : List (List PlaceEvent)) × (i : ℕ)
-            × Stopped shape code U es js i self.old task act.now batch.now Ends }
+            × (batch : List (List ℕ)) × Stopped shape code U es js i self.old task act.now batch Ends }
         ensures { (shape : Shape) (code : Block) (U : Given) (es : List Entry) (js : List (List PlaceEvent)) (i : ℕ)
-            → Stopped shape code U es js i self.old task act.now batch.now Ends → AfterEntry shape code U es js i self.new result }
+            (batch : List (List ℕ)) → Stopped shape code U es js i self.old task act.now batch Ends
+            → AfterEntry shape code U es js i self.new result }
     {
         rx_verdict::seats_tell();
         rx_verdict::seats_end();
@@ -147,9 +158,6 @@ impl Players {
         let Act::End { thrown } = act else {
             return false;
         };
-        if !same_batch(&seat.batch, batch) {
-            return false;
-        }
         if !same_faults(&seat.control.take_faults(alloc), thrown) {
             return false;
         }
@@ -166,13 +174,12 @@ impl Players {
         task: TaskId,
         want: Want,
         act: &Act,
-        batch: &Batch,
     ) -> Result<bool, NoMemory>
         requires less { number + 1 < 2 ^ 32 }
-        requires awaits { (code : Block) × (U : Given) × (es : List Entry) × (js : List (List PlaceEvent))
-            × Stopped p.now.script code U es js number self.old task act.now batch.now (Asks want) }
-        ensures { IfOk result (λ b. (code : Block) (U : Given) (es : List Entry) (js : List (List PlaceEvent))
-            → Stopped p.now.script code U es js number self.old task act.now batch.now (Asks want)
+        requires awaits { (code : Block) × (U : Given) × (es : List Entry) × (js : List (List PlaceEvent)) × (batch : List (List ℕ))
+            × Stopped p.now.script code U es js number self.old task act.now batch (Asks want) }
+        ensures { IfOk result (λ b. (code : Block) (U : Given) (es : List Entry) (js : List (List PlaceEvent)) (batch : List (List ℕ))
+            → Stopped p.now.script code U es js number self.old task act.now batch (Asks want)
             → AfterEntry p.now.script code U es js number self.new b) }
     {
         rx_sound::fold_is_reached();
@@ -183,9 +190,6 @@ impl Players {
         };
         let seat = &**seat;
         if !is_wanted(&want, seat.home, act) {
-            return Ok(false);
-        }
-        if !same_batch(&seat.batch, batch) {
             return Ok(false);
         }
         let newborn = newborn(&self.table, alloc, p, number, seat, act)?;
@@ -279,7 +283,6 @@ fn child_of(
         task,
         home: to,
         control: seat.control.child(alloc, p)?,
-        batch: Batch::open(alloc),
         position: table.first(to, task),
         low: number + 1,
     };

@@ -5,6 +5,7 @@
 #![tactic(auto)]
 
 mod admitting;
+mod along;
 mod answering;
 pub mod laws;
 mod marking;
@@ -14,6 +15,7 @@ mod seat;
 mod table;
 mod walk;
 
+pub use along::Along;
 pub use answering::{answers, event_tells_call};
 pub use players::{Players, Slot};
 pub use seat::{Seat, Stop};

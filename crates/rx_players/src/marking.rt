@@ -13,13 +13,15 @@ ghost use Rattle.rx_players.specs.declared.players.Slot.TheVariants.{Here};
 ghost use Rattle.rx_players.specs.declared.seat.Seat.{Seat};
 ghost use Rattle.rx_players.specs.Events.{IsOf, IsFirst};
 ghost use Rattle.rx_players.specs.Marked.{IsNextOf, InReach, MarksUsed};
-ghost use Rattle.rx_players.specs.Players.{PlayersAre, StopsAt};
+ghost use Rattle.rx_players.specs.Players.{PlayersAre, PlayersStand, StopsAt, none_rests};
 ghost use Rattle.rx_players.specs.Table.{TableIs};
+ghost use Rattle.rx_players.specs.Inside.Admitted.{WalksAlong};
 
+use crate::along::Along;
 use crate::players::{Players, Slot};
 use crate::seat::{Seat, Stop};
 use crate::table::EventTable;
-use rx_base::NoMemory;
+use rx_base::{Batch, NoMemory};
 use rx_check::{Program, checked};
 use rx_history::Journals;
 use rx_replay::Marks;
@@ -28,7 +30,7 @@ use std::alloc::Global;
 
 impl Players {
     // Walks on with a task that is at its place, and marks the events that it uses and whose stamps lie between its last entry and
-    // its next, whose number is `last`.
+    // its next, whose number is `last`. It tells whether the statements that the task begins go along with a batch.
     pub(crate) fn walk(
         &mut self,
         alloc: Global,
@@ -36,16 +38,18 @@ impl Players {
         journals: &Journals,
         t: usize,
         last: Option<u32>,
+        along: &mut Along<'_>,
     ) -> Result<Stop, NoMemory>
         requires { (code : Block) × (U : Given) × (es : List Entry) × (i : ℕ) × (seat : Box Seat) × Stands p.now.script code
-            × PlayersAre p.now.script code U es (events_of journals.now) i self.old
+            × PlayersStand none_rests p.now.script code U es (events_of journals.now) i self.old
             × (slice_get self.old.slots.items t ≡ Some (Here seat)) }
         ensures { IfOk result (λ stop. (code : Block) (U : Given) (es : List Entry) (i : ℕ) → Stands p.now.script code
-            → (before : PlayersAre p.now.script code U es (events_of journals.now) i self.old)
+            → (before : PlayersStand none_rests p.now.script code U es (events_of journals.now) i self.old)
             → IsNextOf last (moves_from i (drop i es) t)
-            → (after : PlayersAre p.now.script code U es (events_of journals.now) i self.new)
-            × StopsAt p.now.script U es (events_of journals.now) i t self.new stop after.seats
-            × ((u : ℕ) → u ≢ t → slice_get after.seats u ≡ slice_get before.seats u)) }
+            → (after : PlayersStand none_rests p.now.script code U es (events_of journals.now) i self.new)
+            × (stops : StopsAt p.now.script U es (events_of journals.now) i t self.new stop after.seats)
+            × ((u : ℕ) → u ≢ t → slice_get after.seats u ≡ slice_get before.seats u)
+            × WalksAlong before.seats t stops.player along.old along.new) }
     {
         rx_verdict::seats_tell();
         rx_verdict::seats_walk();
@@ -54,7 +58,7 @@ impl Players {
         };
         let seat = &mut **seat;
         let from = seat.position;
-        let stop = seat.advance(alloc, p, journals, &self.table)?;
+        let stop = seat.advance(alloc, p, journals, &self.table, along)?;
         mark_used(&mut self.marks, journals, &self.table, seat, from, last);
         Ok(stop)
     }
@@ -78,9 +82,11 @@ impl Players {
         rx_verdict::entries_come();
         rx_verdict::travellers_tell_nothing();
         rx_replay::laws::made_marks_tell();
+        // What a task begins after its last entry stands in no batch.
+        let none = Batch::open(alloc);
         for t in 0..self.slots.len() {
             if let Slot::Here(_) = &self.slots[t] {
-                self.walk(alloc, p, journals, t, None)?;
+                self.walk(alloc, p, journals, t, None, &mut Along::open(&none))?;
             }
         }
         Ok(self.marks)

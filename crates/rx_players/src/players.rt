@@ -9,7 +9,7 @@ ghost use Rattle.rx_players.specs.Players.{PlayersAre};
 
 use crate::seat::Seat;
 use crate::table::EventTable;
-use rx_base::{Batch, NoMemory, PlaceId, TaskId};
+use rx_base::{NoMemory, PlaceId, TaskId};
 use rx_check::{Program, checked};
 use rx_control::Control;
 use rx_history::Journals;
@@ -60,7 +60,6 @@ impl Players {
             task: TaskId(0),
             home: PlaceId(0),
             control,
-            batch: Batch::open(alloc),
             position: table.first(PlaceId(0), TaskId(0)),
             low: 0,
         };

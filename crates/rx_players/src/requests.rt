@@ -16,7 +16,7 @@ ghost use Rattle.rx_players.specs.Stood.{Stood};
 ghost use Rattle.rx_players.specs.Inside.Requests.{wanted, IsAsked, CountsMore, IsGranted, AfterPath, AfterWait, AfterAct, AfterRequest};
 
 use crate::seat::Seat;
-use rx_base::{Batch, Faults, NoMemory, Path, PlaceId, PlaceSet, same_faults};
+use rx_base::{Faults, NoMemory, Path, PlaceId, PlaceSet, same_faults};
 use rx_check::Program;
 use rx_control::{Control, Want, faults_raised};
 use rx_rules::Act;
@@ -78,7 +78,6 @@ impl Seat {
         if !answer(&mut self.control, alloc, p, act)? {
             return Ok(false);
         }
-        self.batch = Batch::open(alloc);
         self.low = number + 1;
         Ok(true)
     }

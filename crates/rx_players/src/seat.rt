@@ -1,15 +1,14 @@
 // What is kept of one task that is at its place.
-use rx_base::{Batch, PlaceId, TaskId};
+use rx_base::{PlaceId, TaskId};
 use rx_control::{Control, Want};
 
-/// A task at its place: what it has still to run, the statements that it has begun since its last entry, the position of its next
-/// event in the journal of its place, or that journal's length, and one more than the number of its last entry, or of its birth.
+/// A task at its place: what it has still to run, the position of its next event in the journal of its place, or that journal's
+/// length, and one more than the number of its last entry, or of its birth.
 #[derive(Drop)]
 pub struct Seat {
     pub task: TaskId,
     pub home: PlaceId,
     pub control: Control,
-    pub batch: Batch,
     pub position: usize,
     pub low: u32,
 }

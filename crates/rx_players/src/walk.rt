@@ -10,9 +10,11 @@ ghost use Rattle.rx_control.specs.Stands.{StandsFor, Leaves};
 ghost use Rattle.rx_plan.specs.Next.{next_of};
 ghost use Rattle.rx_verdict.specs.Walks.{next_does};
 ghost use Rattle.rx_players.specs.Table.{TableIs};
+ghost use Rattle.rx_players.specs.Along.{GoesAlong, KeepsAlong};
 ghost use Rattle.rx_players.specs.Stood.{Stood, Stops, Walked};
 ghost use Rattle.rx_players.specs.Inside.Steps.{AfterStep, AfterCall};
 
+use crate::along::Along;
 use crate::answering::{answers, told};
 use crate::seat::{Seat, Stop};
 use crate::table::EventTable;
@@ -27,24 +29,25 @@ use std::alloc::Global;
 const LIMIT: u32 = 300_001;
 
 impl Seat {
-    /// Walks on up to a request to the ledger, the end, or a store call that the task's next event does not answer. After want of
-    /// memory the seat is of no more use.
+    /// Walks on up to a request to the ledger, the end, or a store call that the task's next event does not answer, and tells whether
+    /// the statements that it begins go along with a batch. After want of memory the seat is of no more use.
     pub fn advance(
         &mut self,
         alloc: Global,
         p: &Program,
         journals: &Journals,
         table: &EventTable,
+        along: &mut Along<'_>,
     ) -> Result<Stop, NoMemory>
         requires { (tasks : ℕ) × TableIs (events_of journals.now) tasks table.now × (self.old.task.0 < tasks) × (z : Player)
             × (left : Cells) × Stood p.now.script (events_of journals.now) self.old z left }
         ensures { IfOk result (λ stop. (tasks : ℕ) → TableIs (events_of journals.now) tasks table.now → self.old.task.0 < tasks
             → (z : Player) (left : Cells) → Stood p.now.script (events_of journals.now) self.old z left
             → (y : Player) × (rest : Cells) × Walked p.now.script (events_of journals.now) self.old self.new z left y rest
-            × Stops stop self.new y rest) }
+            × Stops stop self.new y rest × KeepsAlong along.old along.new z y) }
     {
         for _made in 0..LIMIT {
-            match self.step(alloc, p, journals, table)? {
+            match self.step(alloc, p, journals, table, along)? {
                 Some(stop) => return Ok(stop),
                 None => {}
             }
@@ -59,22 +62,23 @@ impl Seat {
         p: &Program,
         journals: &Journals,
         table: &EventTable,
+        along: &mut Along<'_>,
     ) -> Result<Option<Stop>, NoMemory>
         requires { (tasks : ℕ) × TableIs (events_of journals.now) tasks table.now × (self.old.task.0 < tasks) × (z : Player)
             × (left : Cells) × Stood p.now.script (events_of journals.now) self.old z left }
         ensures { IfOk result (λ stop. (tasks : ℕ) → TableIs (events_of journals.now) tasks table.now → self.old.task.0 < tasks
             → (z : Player) (left : Cells) → Stood p.now.script (events_of journals.now) self.old z left
-            → AfterStep p.now.script (events_of journals.now) self.old self.new z left stop) }
+            → AfterStep p.now.script (events_of journals.now) self.old self.new along.old along.new z left stop) }
     {
         rx_runs::terms_sink();
         rx_runs::local_steps_tell_no_places();
         match self.control.next(p, self.home) {
             Next::Local => {
-                self.local(alloc, p)?;
+                self.local(alloc, p, along)?;
                 Ok(None)
             }
             Next::Cell(op) => {
-                if self.call(alloc, p, journals, table, op)? {
+                if self.call(alloc, p, journals, table, op, along)? {
                     Ok(None)
                 } else {
                     Ok(Some(Stop::Halts))
@@ -86,29 +90,16 @@ impl Seat {
     }
 
     // Makes the local step that is next.
-    fn local(&mut self, alloc: Global, p: &Program) -> Result<(), NoMemory>
+    fn local(&mut self, alloc: Global, p: &Program, along: &mut Along<'_>) -> Result<(), NoMemory>
         requires { (t : Term) × StandsFor p.now.script self.old.control t }
         ensures { OnOk result ((t : Term) → StandsFor p.now.script self.old.control t
             → Leaves p.now.script self.new.control (does self.old.control.vars self.old.home.0 t)
-            × (self.new ≡ record self.old { control = self.new.control; batch = begun t self.old.batch })) }
+            × (self.new ≡ record self.old { control = self.new.control })
+            × ((batch so_far : List (List ℕ)) → GoesAlong batch along.old so_far → GoesAlong batch along.new (begun t so_far))) }
     {
-        self.begin(alloc, p)?;
+        along.begin(alloc, p, &self.control)?;
         self.control.local(alloc, p, self.home)?;
         Ok(())
-    }
-
-    // Notes the statement that the next step begins, where it begins one.
-    fn begin(&mut self, alloc: Global, p: &Program) -> Result<(), NoMemory>
-        ensures { OnOk result ((t : Term) → StandsFor p.now.script self.old.control t
-            → self.new ≡ record self.old { batch = begun t self.old.batch }) }
-    {
-        match self.control.path(alloc, p)? {
-            Some(path) => {
-                self.batch.push(path)?;
-                Ok(())
-            }
-            None => Ok(()),
-        }
     }
 
     // Takes the task's next event as the answer to its store call, where it answers it.
@@ -119,6 +110,7 @@ impl Seat {
         journals: &Journals,
         table: &EventTable,
         op: CellOp,
+        along: &mut Along<'_>,
     ) -> Result<bool, NoMemory>
         requires { (tasks : ℕ) × TableIs (events_of journals.now) tasks table.now × (self.old.task.0 < tasks) × (z : Player)
             × (left : Cells) × Stood p.now.script (events_of journals.now) self.old z left
@@ -126,7 +118,7 @@ impl Seat {
         ensures { IfOk result (λ b. (tasks : ℕ) → TableIs (events_of journals.now) tasks table.now → self.old.task.0 < tasks
             → (z : Player) (left : Cells) → Stood p.now.script (events_of journals.now) self.old z left
             → next_of (next_does self.old.home z) ≡ Cell op
-            → AfterCall p.now.script (events_of journals.now) self.old self.new z left b) }
+            → AfterCall p.now.script (events_of journals.now) self.old self.new along.old along.new z left b) }
     {
         rx_runs::terms_sink();
         let place = self.home.0 as usize;
@@ -146,8 +138,7 @@ impl Seat {
                 if !self.control.begins(p, path) {
                     return Ok(false);
                 }
-                let begun = path.copy(alloc)?;
-                self.batch.push(begun)?;
+                along.tell(path);
                 self.control
                     .cell_done(alloc, p, told(self.home, op, *cell))?;
                 self.position = table.after(self.home, at);

@@ -113,7 +113,6 @@ pub record IsChild (shape : Shape) (table : EventTable) (number : ℕ) (z : Play
   pub term : StandsFor shape seat.control (child z.term)
   pub fewer : steps (child z.term) ≤ steps z.term
   pub vars : seat.control.vars ≡ z.vars
-  pub batch : seat.batch ≡ []
   pub first : (js : List (List PlaceEvent)) (tasks : ℕ) → TableIs js tasks table → c.0 < tasks
       → IsFirst c.0 (journal_at js to.0) 0 seat.position
 

@@ -6,21 +6,25 @@ use Rattle.rx_rules.specs.Plays.{Cells}
 use Rattle.rx_runs.specs.Steps.{steps}
 use Rattle.rx_nodes.specs.Shape.{Shape}
 use Rattle.rx_verdict.specs.Walks.{Halts}
+use Rattle.rx_players.specs.declared.along.Along.{Along}
 use Rattle.rx_players.specs.declared.seat.Seat.{Seat}
 use Rattle.rx_players.specs.declared.seat.Stop.{Stop}
+use Rattle.rx_players.specs.Along.{KeepsAlong}
 use Rattle.rx_players.specs.Stood.{Stops, Walked}
 
 -- the player has walked on and has fewer steps left
-abbrev pub GoesFurther : Shape → List (List PlaceEvent) → Seat → Seat → Player → Cells → Type 0
-GoesFurther shape js old new z left =
-    (y : Player) × (rest : Cells) × Walked shape js old new z left y rest × (steps y.term + 1 ≤ steps z.term)
+abbrev pub GoesFurther : Shape → List (List PlaceEvent) → Seat → Seat → Along → Along → Player → Cells → Type 0
+GoesFurther shape js old new was along z left =
+    (y : Player) × (rest : Cells) × Walked shape js old new z left y rest × (steps y.term + 1 ≤ steps z.term) × KeepsAlong was along z y
 
 -- the player has walked on, or is where it was and stops there
-abbrev pub AfterStep : Shape → List (List PlaceEvent) → Seat → Seat → Player → Cells → Option Stop → Type 0
-AfterStep shape js old new z left None = GoesFurther shape js old new z left
-AfterStep shape js old new z left (Some stop) = Walked shape js old new z left z left × Stops stop new z left
+abbrev pub AfterStep : Shape → List (List PlaceEvent) → Seat → Seat → Along → Along → Player → Cells → Option Stop → Type 0
+AfterStep shape js old new was along z left None = GoesFurther shape js old new was along z left
+AfterStep shape js old new was along z left (Some stop) =
+    Walked shape js old new z left z left × Stops stop new z left × KeepsAlong was along z z
 
 -- the player has walked on over its next event, or that event does not answer its call
-abbrev pub AfterCall : Shape → List (List PlaceEvent) → Seat → Seat → Player → Cells → Bool → Type 0
-AfterCall shape js old new z left true = GoesFurther shape js old new z left
-AfterCall shape js old new z left false = Walked shape js old new z left z left × Halts old.home z left
+abbrev pub AfterCall : Shape → List (List PlaceEvent) → Seat → Seat → Along → Along → Player → Cells → Bool → Type 0
+AfterCall shape js old new was along z left true = GoesFurther shape js old new was along z left
+AfterCall shape js old new was along z left false =
+    Walked shape js old new z left z left × Halts old.home z left × KeepsAlong was along z z

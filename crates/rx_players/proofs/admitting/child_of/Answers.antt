@@ -15,6 +15,5 @@ returns c = λ js z left x s b.
       term = on.0;
       fewer = omega (arith, less);
       vars = on.1 ∙ s.vars;
-      batch = c.open.ensures;
       first = c.first.ensures;
     })

@@ -11,19 +11,19 @@ use Rattle.rx_check.proofs.OneTree.{one-tree}
 use Rattle.rx_history.specs.Events.{events_of}
 use Rattle.rx_players.specs.declared.players.Players.{Players}
 use Rattle.rx_players.specs.declared.players.Slot.{Slot}
-use Rattle.rx_players.specs.Players.{PlayersAre}
+use Rattle.rx_players.specs.Players.{PlayersStand, none_rests}
 use Rattle.rx_control.proofs.SomeWords.{makes-some}
-use Rattle.rx_players.proofs.MarksWalk.{same_size}
+use Rattle.rx_players.proofs.MarksWalk.{same_size, standing}
 use Rattle.rx_players.proofs.MarksEnd.{StuckBelow, one_stuck, none_stuck, pass_is, marks_made}
 use Rattle.rx_players.proofs.players.Players.finish.Goals as goal
 use Rattle.rx_players.proofs.players.Players.finish.Goals.{in-Here+in_ok-walk, in_default}
 
 -- the players so far
 abbrev Kept : Shape → Block → Given → List Entry → List (List PlaceEvent) → ℕ → Players → Type 0
-Kept shape code U es js t ps = (now : PlayersAre shape code U es js (length es) ps) × StuckBelow es (length es) now.seats t
+Kept shape code U es js t ps = (now : PlayersStand none_rests shape code U es js (length es) ps) × StuckBelow es (length es) now.seats t
 
 pub loop-t-init : goal.loop-t-init
-loop-t-init c = λ code U es script now. (now, λ u z left lt at. absurd (omega (arith, lt)))
+loop-t-init c = λ code U es script now. (standing c.args.p.now.script code U es (events_of c.args.journals.now) (length es) c.args.self now, λ u z left lt at. absurd (omega (arith, lt)))
 
 pub index-requires : goal.index-requires
 index-requires c =

@@ -4,11 +4,11 @@ use Rattle.rx_rules.specs.Code.{Block}
 use Rattle.rx_rules.specs.Run.{Given}
 use Rattle.rx_nodes.specs.Shape.{Stands}
 use Rattle.rx_history.specs.Events.{events_of}
-use Rattle.rx_players.specs.Players.{PlayersAre}
+use Rattle.rx_players.specs.Players.{PlayersAre, PlayersStand, none_rests}
 use Rattle.rx_players.proofs.MarksEnd.{StuckBelow}
 use Rattle.rx_players.proofs.players.Players.finish.Given as goal
 
 abbrev pub invariant-loop-t : goal.invariant-loop-t
 invariant-loop-t l =
     (code : Block) (U : Given) (es : List Entry) → Stands l.p.script code → PlayersAre l.p.script code U es (events_of l.journals) (length es) l.initial.self
-    → (now : PlayersAre l.p.script code U es (events_of l.journals) (length es) l.self) × StuckBelow es (length es) now.seats l.t
+    → (now : PlayersStand none_rests l.p.script code U es (events_of l.journals) (length es) l.self) × StuckBelow es (length es) now.seats l.t

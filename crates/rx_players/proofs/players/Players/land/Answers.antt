@@ -37,7 +37,7 @@ returns c = λ shape code U es js seat a at.
     let t = c.args.task.0 in
     let next : c.args.number + 1 ≡ suc c.args.number = omega arith in
     let landing : Box Seat = record c.take_seat-seat.result { value = record c.deref_mut.result.now { low = c.args.number + 1 } } in
-    landed shape code U es js c.args.number c.args.self.now c.args.task c.args.act.now c.args.batch.now a _ seat landing c.in-Arrive.place (c.args.number + 1) c.seats_arrive.ensures at c.in-Arrive.is
+    landed shape code U es js c.args.number c.args.self.now c.args.task c.args.act.now c.args.batch.now a _ seat landing c.in-Arrive.place (c.args.number + 1) (λ u ne. tt) c.seats_arrive.ensures at c.in-Arrive.is
     (empty-from c.args.batch.now (sym c.len.ensures ∙ c.if-len-ne0.false))
     (ap (λ (v : Seat). let w : Seat = record v { low = c.args.number + 1 } in w) (c.deref_mut.ensures.value ∙ ap (λ (v : Box Seat). v.value) (c.take_seat-seat.ensures.away seat at))) next
     (c.put_back.ensures ∙ (ap (λ (l : List Slot). slice_set l t (Here landing)) c.take_seat-seat.ensures.left ∙ set_twice slots t Over (Here landing))) refl refl

@@ -19,5 +19,5 @@ returns c = λ code U es written same long.
     let tasks : c.args.entries + 1 ≡ suc (length es) = omega (arith, long) in
     let table : TableIs js (suc (length es)) c.in_ok-table.table = subst (λ (n : ℕ). TableIs js n c.in_ok-table.table) tasks c.in_ok-table.ensures in
     let first = c.first.ensures js (suc (length es)) table (omega arith) in
-    opened c.args.p.now.script code U es js c.in_ok-new.field-0 _ _ c.in_ok-new.ensures.ok c.seats_tell.ensures c.marks_begin_empty.ensures some few small (c.main.ensures.steps code) at.0 (at.1 ∙ ap no_vars (sym same)) c.open-3.ensures refl refl
+    opened c.args.p.now.script code U es js c.in_ok-new.field-0 _ _ c.in_ok-new.ensures.ok c.seats_tell.ensures c.marks_begin_empty.ensures some few small (c.main.ensures.steps code) at.0 (at.1 ∙ ap no_vars (sym same)) refl refl
     first refl (one_slot c.new-slots.result.items c.push.new.self.items _ c.in_ok-push.ensures.items c.new-slots.ensures.items) table c.in_ok-marks.ensures.none

@@ -10,8 +10,10 @@ use Rattle.rx_nodes.specs.Shape.{Shape}
 use Rattle.rx_history.specs.Events.{events_of}
 use Rattle.rx_players.specs.declared.players.Slot.{Slot}
 use Rattle.rx_players.specs.declared.players.Slot.TheVariants.{Here}
+use Rattle.rx_players.specs.declared.along.Along.{Along}
 use Rattle.rx_players.specs.declared.seat.Seat.{Seat}
 use Rattle.rx_players.specs.declared.seat.Stop.{Stop}
+use Rattle.rx_players.specs.Along.{KeepsAlong}
 use Rattle.rx_players.specs.Events.{IsFirst}
 use Rattle.rx_players.specs.Marked.{MarksUsed}
 use Rattle.rx_players.specs.Stood.{Stood, Stops, Walked}
@@ -23,8 +25,9 @@ found : (slots : List Slot) (t : ℕ) (x : Slot) (seat was : Box Seat) → x ≡
 found slots t x seat was value is at = slice_get_read slots (length slots) t x refl (slice_get_within slots t (Here was) at) value ∙ ap (λ (s : Slot). Some s) is
 
 -- the walk of the seat in the box
-abbrev OfBox : Shape → List (List PlaceEvent) → Seat → Seat → Player → Cells → Stop → Type 0
-OfBox shape js old new z left stop = (y : Player) × (rest : Cells) × Walked shape js old new z left y rest × Stops stop new y rest
+abbrev OfBox : Shape → List (List PlaceEvent) → Seat → Seat → Along → Along → Player → Cells → Stop → Type 0
+OfBox shape js old new was along z left stop =
+    (y : Player) × (rest : Cells) × Walked shape js old new z left y rest × Stops stop new y rest × KeepsAlong was along z y
 
 pub advance-requires : goal.advance-requires
 advance-requires c =
@@ -50,8 +53,8 @@ mark_used-requires c =
     let few = numbered shape q.0 q.1 q.2 js q.3 c.args.self.now q.6 c.args.t seat at in
     let within = subst (λ (v : Seat). v.task.0 < suc (length q.2)) (sym e) few in
     let stood = subst (λ (v : Seat). Stood shape js v s.player s.left) (sym e) s.is.stood in
-    let w : OfBox shape js seat.value new.value s.player s.left c.in_ok-stop.stop =
-    subst (λ (v : Seat). OfBox shape js v new.value s.player s.left c.in_ok-stop.stop) e (c.in_ok-stop.ensures (suc (length q.2)) q.6.table within s.player s.left stood) in
+    let w : OfBox shape js seat.value new.value c.args.along.now c.advance.new.along s.player s.left c.in_ok-stop.stop =
+    subst (λ (v : Seat). OfBox shape js v new.value c.args.along.now c.advance.new.along s.player s.left c.in_ok-stop.stop) e (c.in_ok-stop.ensures (suc (length q.2)) q.6.table within s.player s.left stood) in
     let begins : IsFirst new.value.task.0 (journal_at js new.value.home.0) seat.value.position seat.value.position =
     subst (λ (n : TaskId). IsFirst n.0 (journal_at js new.value.home.0) seat.value.position seat.value.position) (sym w.2.task)
     (subst (λ (h : PlaceId). IsFirst seat.value.task.0 (journal_at js h.0) seat.value.position seat.value.position) (sym w.2.home) s.is.stood.first) in
@@ -76,7 +79,7 @@ returns c = λ code U es i script before next.
     let few = numbered shape code U es js i c.args.self.now before c.args.t seat at in
     let within = subst (λ (v : Seat). v.task.0 < suc (length es)) (sym e) few in
     let stood = subst (λ (v : Seat). Stood shape js v s.player s.left) (sym e) s.is.stood in
-    let w : OfBox shape js seat.value new.value s.player s.left c.in_ok-stop.stop =
-    subst (λ (v : Seat). OfBox shape js v new.value s.player s.left c.in_ok-stop.stop) e (c.in_ok-stop.ensures (suc (length es)) before.table within s.player s.left stood) in
+    let w : OfBox shape js seat.value new.value c.args.along.now c.advance.new.along s.player s.left c.in_ok-stop.stop =
+    subst (λ (v : Seat). OfBox shape js v new.value c.args.along.now c.advance.new.along s.player s.left c.in_ok-stop.stop) e (c.in_ok-stop.ensures (suc (length es)) before.table within s.player s.left stood) in
     let used = subst (λ (v : Seat). MarksUsed js c.args.self.now.marks c.mark_used.new.marks new.value.home.0 new.value.task.0 v.position new.value.position new.value.low c.args.last) e c.mark_used.ensures in
-    walked shape code U es js i c.args.self.now _ before c.args.t seat new c.args.last at c.seats_tell.ensures c.seats_walk.ensures w.0 w.1 w.2 refl refl used next c.in_ok-stop.stop w.3
+    walked shape code U es js i c.args.self.now _ before c.args.t seat new c.args.last at c.seats_tell.ensures c.seats_walk.ensures w.0 w.1 w.2 refl refl used next c.in_ok-stop.stop c.args.along.now c.advance.new.along w.3 w.4

@@ -15,7 +15,7 @@ same_task old new tasks same lt = subst (λ (t : TaskId). t.0 < tasks) (sym same
 pub loop-made-init : goal.loop-made-init
 loop-made-init c = λ tasks is lt z left s.
     let few = s.few in
-    (z, left, no_walk c.args.p.now.script (events_of c.args.journals.now) c.args.self.now z left s, omega (arith, few))
+    (z, left, no_walk c.args.p.now.script (events_of c.args.journals.now) c.args.self.now z left s, omega (arith, few), λ batch g. g)
 
 pub step-requires : goal.step-requires
 step-requires c =
@@ -32,13 +32,13 @@ unreachable-requires c =
 pub returns-in-Some : goal.returns-in-Some
 returns-in-Some c = λ tasks is lt z left s.
     let r = c.loop-made.invariant tasks is lt z left s in
-    let on = subst (λ (o : Option Stop). AfterStep c.args.p.now.script (events_of c.args.journals.now) c.loop-made.self c.step.new.self r.0 r.1 o) c.in-Some.is (c.in_ok-stop.ensures tasks is (same_task c.args.self.now c.loop-made.self tasks r.2.task lt) r.0 r.1 r.2.stood) in
-    (r.0, r.1, walked_twice c.args.p.now.script (events_of c.args.journals.now) c.args.self.now c.loop-made.self c.step.new.self z r.0 r.0 left r.1 r.1 r.2 on.0, on.1)
+    let on = subst (λ (o : Option Stop). AfterStep c.args.p.now.script (events_of c.args.journals.now) c.loop-made.self c.step.new.self c.loop-made.along c.step.new.along r.0 r.1 o) c.in-Some.is (c.in_ok-stop.ensures tasks is (same_task c.args.self.now c.loop-made.self tasks r.2.task lt) r.0 r.1 r.2.stood) in
+    (r.0, r.1, walked_twice c.args.p.now.script (events_of c.args.journals.now) c.args.self.now c.loop-made.self c.step.new.self z r.0 r.0 left r.1 r.1 r.2 on.0, on.1, λ batch g. on.2 batch (r.4 batch g))
 
 pub loop-made-preserved : goal.loop-made-preserved
 loop-made-preserved c = λ tasks is lt z left s.
     let r = c.loop-made.invariant tasks is lt z left s in
-    let on = subst (λ (o : Option Stop). AfterStep c.args.p.now.script (events_of c.args.journals.now) c.loop-made.self c.step.new.self r.0 r.1 o) c.in-None.is (c.in_ok-stop.ensures tasks is (same_task c.args.self.now c.loop-made.self tasks r.2.task lt) r.0 r.1 r.2.stood) in
+    let on = subst (λ (o : Option Stop). AfterStep c.args.p.now.script (events_of c.args.journals.now) c.loop-made.self c.step.new.self c.loop-made.along c.step.new.along r.0 r.1 o) c.in-None.is (c.in_ok-stop.ensures tasks is (same_task c.args.self.now c.loop-made.self tasks r.2.task lt) r.0 r.1 r.2.stood) in
     let was : steps r.0.term + c.loop-made._made ≤ 300000 = r.3 in
     let less : steps on.0.term + 1 ≤ steps r.0.term = on.3 in
-    (on.0, on.1, walked_twice c.args.p.now.script (events_of c.args.journals.now) c.args.self.now c.loop-made.self c.step.new.self z r.0 on.0 left r.1 on.1 r.2 on.2, omega (arith, was, less))
+    (on.0, on.1, walked_twice c.args.p.now.script (events_of c.args.journals.now) c.args.self.now c.loop-made.self c.step.new.self z r.0 on.0 left r.1 on.1 r.2 on.2, omega (arith, was, less), λ batch g. on.4 batch (r.4 batch g))

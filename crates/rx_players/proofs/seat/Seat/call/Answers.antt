@@ -1,4 +1,4 @@
-use Rattle.std.proofs.Common.{rules, ◌≡◌, ℕ, suc, ◌<◌, ◌≤◌, List, [], ◌∷◌, ◌++◌, length, slice_get, Some, refl, ap, sym, ◌∙◌}
+use Rattle.std.proofs.Common.{rules, ◌≡◌, ℕ, suc, ◌<◌, ◌≤◌, List, [], length, slice_get, Some, refl, ap, sym, ◌∙◌}
 use Rattle.std.proofs.lemmas.Bool.{true≢false}
 use Rattle.std.proofs.lemmas.Option.{same_Some}
 use Rattle.rx_rules.specs.declared.events.PlaceEvent.{PlaceEvent}
@@ -14,6 +14,7 @@ returns-then-len-place c = λ tasks is lt z left s e.
     let out : length c.args.journals.now.journals ≤ c.args.self.now.home.0 = search rules in (
       no_walk c.args.p.now.script (events_of c.args.journals.now) c.args.self.now z left s,
       none_halts c.args.self.now.home z left (left_out c.args.p.now.script c.args.journals.now c.args.self.now z left s out),
+      λ batch g. g,
     )
 
 pub returns-then-len-at : goal.returns-then-len-at
@@ -23,6 +24,7 @@ returns-then-len-at c = λ tasks is lt z left s e.
     let none = none_past seat.task.0 c.item-journal.result.now.events seat.position over in (
       no_walk c.args.p.now.script (events_of c.args.journals.now) seat z left s,
       none_halts seat.home z left (left_is c.args.p.now.script c.args.journals.now seat z left [] c.item-journal.result.now s c.item-journal.ensures none),
+      λ batch g. g,
     )
 
 pub unreachable-requires : goal.unreachable-requires
@@ -44,6 +46,7 @@ returns-then-not-answers c = λ tasks is lt z left s e.
     let event = event_left shape c.args.journals.now seat z left c.item-journal.result.now c.item.result.now c.in-Done.task c.in-Done.stamp c.in-Done.cell c.in-Done.path s c.item-journal.ensures c.item.ensures c.in-Done.is in (
       no_walk shape (events_of c.args.journals.now) seat z left s,
       other_halts seat.home z left _ c.args.op c.in-Done.stamp c.in-Done.cell c.in-Done.path e event (sym c.answers.ensures ∙ c.if-not-answers.true),
+      λ batch g. g,
     )
 
 pub returns-then-not-begins : goal.returns-then-not-begins
@@ -55,6 +58,7 @@ returns-then-not-begins c = λ tasks is lt z left s e.
       no_walk shape (events_of c.args.journals.now) seat z left s,
       path_halts seat.home z left _ c.in-Done.stamp c.in-Done.cell call.begins.0 c.in-Done.path call.begins.1 event
           (λ q. true≢false (sym ((c.begins.ensures z.term s.term).1 (call.begins.1 ∙ ap (λ (w : List ℕ). Some w) q)) ∙ c.if-not-begins.true)),
+      λ batch g. g,
     )
 
 pub returns : goal.returns
@@ -70,7 +74,7 @@ returns c = λ tasks is lt z left s e.
     let within : seat.position < length journal.events = search rules in
     let mine = is_here shape c.args.journals.now seat z left journal s c.item-journal.ensures within in
     let next = c.after-self.ensures js tasks seat.task.0 mine.0 mine.1 mine.2 is lt mine.3 in
-    walked_store shape js seat _ z left _ c.args.op call.begins.0 c.in-Done.path c.in-Done.stamp c.in-Done.cell c.told.result c.terms_sink.ensures s e call.begins.1 event
+    walked_store shape js seat _ c.args.along.now _ z left _ c.args.op call.begins.0 c.in-Done.path c.in-Done.stamp c.in-Done.cell c.told.result c.terms_sink.ensures s e call.begins.1 event
     begun c.told.ensures done.0 done.1
-    (c.in_ok-push-in-Done.ensures.ok ∙ ap (λ (w : List ℕ). seat.batch ++ w ∷ []) (c.in_ok-begun-in-Done.ensures ∙ sym begun)) refl refl refl next.same
+    c.tell.ensures refl refl refl next.same
     (first_again seat.task.0 (journal_at js seat.home.0) (suc seat.position) c.after-self.result next)

@@ -20,4 +20,4 @@ returns c = λ js z left s a.
     request_made c.args.p.now.script js old _ c.args.number z left c.args.act.now s a
     (subst (λ (b : Bool). AfterAct c.args.p.now.script old.control c.answer.new.control old.home z.term c.args.act.now b) c.if-not-branch.false
     (c.in_ok-answer.ensures z.term old.home s.term (subst (λ (v : Does). IsAsked old.home v c.args.act.now) (sym d) a)))
-    refl refl refl c.open.ensures next
+    refl refl refl next

@@ -39,9 +39,9 @@ pub(crate) fn read_all<S: Source>(
     ensures later { S.faults input.old ≤ S.faults input.new }
 {
     let mut bytes = Vec::new(alloc);
-    let mut buf = [0u8; 4096];
+    let mut buf = [0u8; 16_384];
     'reads: while bytes.len() <= most {
-        let want = (most + 1 - bytes.len()).min(4096);
+        let want = (most + 1 - bytes.len()).min(16_384);
         match input.read(&mut buf[..want]) {
             Ok(count) => {
                 if count == 0 {

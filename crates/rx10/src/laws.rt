@@ -1,4 +1,4 @@
-// Laws of outcomes: what an answer of the program leaves free is want of memory and faults of the outside alone. They do nothing
+// Laws of outcomes: an answer of the program leaves free running out of memory and faults of the outside alone. They do nothing
 // when they run.
 ghost use Rattle.rx10.specs.Outcomes.{TextTellsStatus, OneOutcome};
 

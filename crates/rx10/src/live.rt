@@ -32,7 +32,7 @@ pub fn rx10<S: Source, K: Sink, G: Gate + Sync, R: Threads + Wait + Sync>(
     out: &mut K,
     gate: &G,
 ) -> Status
-    // The words, from both sides, but for want of memory. Bad words leave the source as it was.
+    // The words, from both sides, unless memory runs out. Bad words leave the source as it was.
     ensures usage { (word : ℕ) → result ≡ Usage word → (k : ℕ) × (asked_any words.now ≡ BadWord k) × (word ≡ told_number k) }
     ensures words { (k : ℕ) → asked_any words.now ≡ BadWord k → ((result ≡ Usage (told_number k)) ⊎ (result ≡ NoRoom))
         × (input.new ≡ input.old) }
@@ -61,7 +61,7 @@ pub fn rx10<S: Source, K: Sink, G: Gate + Sync, R: Threads + Wait + Sync>(
         × Appends (K.written out.old) (K.written out.new) (take n text) }
     ensures untouched { (IsOver result → ⊥) → (result ≡ WriteFault → ⊥) → out.new ≡ out.old }
     ensures taken { TookNoMore (takes_pair (asked_any words.now)) (S.left input.old) (S.left input.new) }
-    // What can be done, and is read and written without a fault, is done, but for want of memory.
+    // What can be done, and is read and written without a fault, is done, unless memory runs out.
     ensures complete { CanDo (asked_any words.now) (S.left input.old) →
         (Rose (S.faults input.old) (S.faults input.new) → ⊥) → (Rose (K.faults out.old) (K.faults out.new) → ⊥) →
         IsOver result ⊎ (result ≡ NoRoom) }

@@ -82,7 +82,7 @@ pub(crate) fn failed(ticket: AnyTicket, pass: Pass<EntryItem>) -> Outcome
 }
 
 impl Hand {
-    /// Gives the activity up for want of memory, or since its place has died, and keeps what it has seen of the ledger.
+    /// Gives the activity up for lack of memory, or since its place has died, and keeps what it has seen of the ledger.
     pub(crate) fn give_up(self) -> Pass<EntryItem>
         ensures { result ≡ self.pass }
     {

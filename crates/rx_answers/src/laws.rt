@@ -29,7 +29,7 @@ pub fn worked_lines()
     ensures { WorkedLines }
 {}
 
-/// Bytes that are a script which meets the rules are refused for want of memory alone.
+/// Bytes that are a script which meets the rules are refused only for lack of memory.
 pub fn programs_have_no_fault()
     ensures { ProgramsHaveNoFault }
 {
@@ -37,7 +37,7 @@ pub fn programs_have_no_fault()
     one_script();
 }
 
-/// Bytes that give something to judge are refused for want of memory alone.
+/// Bytes that give something to judge are refused only for lack of memory.
 pub fn cases_have_no_fault()
     ensures { CasesHaveNoFault }
 {

@@ -16,7 +16,7 @@ mod standard;
 mod values;
 mod word;
 
-pub use compare::{same_batch, same_faults};
+pub use compare::{same_faults, same_path};
 pub use failures::{Failed, NoMemory};
 pub use gate::{CellGate, Gate, MeetGate, NoGate};
 pub use ids::{GlobalRef, Kill, PlaceId, ScopeId, TaskId};

@@ -75,7 +75,7 @@ impl<I: Dies> Model for BareBook<I> {
 }
 
 impl<I: Dies> BareBook<I> {
-    /// The first of two steps of opening. `Err` is want of memory.
+    /// The first of two steps of opening. `Err` means out of memory.
     pub fn open(alloc: Global) -> Result<BareBook<I>, NoMemory> {
         let (word, seat) = Word::open(alloc)?;
         Ok(BareBook { word, seat })

@@ -138,7 +138,7 @@ fn add_known(known: &mut Vec<NameId>, assigned: Option<Seen>) -> Result<(), Chec
 }
 
 impl Walk {
-    // Counts a statement, and takes note of the name that it assigns. A count past 32 bits is answered as want of memory.
+    // Counts a statement, and takes note of the name that it assigns. A count past 32 bits is answered as out of memory.
     fn note(&mut self, assigned: Option<Seen>) -> Result<(), CheckCause>
         ensures noted { OnOk result (sofar_of self.new ≡ noted (option_map seen_as assigned) (sofar_of self.old)) }
         ensures known { OnOk result (self.new.known ≡ self.old.known) }

@@ -1,6 +1,6 @@
 // The ledger.
-ghost use Rattle.std.specs.Prelude.{◌≡◌, ℕ, ◌+◌, ◌≤◌, ◌<◌, IfOk, IfSome, is_some, true, Err};
-ghost use Rattle.rx_rules.specs.Tree.{Tree};
+ghost use Rattle.std.specs.Prelude.{◌≡◌, ℕ, ◌+◌, ◌≤◌, ◌<◌, IfOk, IfSome, is_some, true, Err, option_map};
+ghost use Rattle.rx_rules.specs.Tree.{Tree, scope_of, death_of};
 ghost use Rattle.rx_rules.specs.Fold.{opening};
 ghost use Rattle.rx_base.specs.Sets.{members};
 ghost use Rattle.rx_rules.specs.Counts.{live_count, transit_count, lost_at, adopter};
@@ -9,6 +9,7 @@ ghost use Rattle.rx_finish.specs.Calls.{SpawnReply};
 ghost use Rattle.rx_finish.specs.Totals.{totals_of};
 ghost use Rattle.rx_counts.specs.Stands.{StandsFor, HasScope};
 ghost use Rattle.rx_counts.specs.Meaning.{CountsStand};
+ghost use Rattle.rx_counts.specs.Seen.{seen};
 ghost use Rattle.rx_counts.specs.Inside.Freeing.{IsLast, OutcomeReply, FreeReply};
 
 use crate::dying::{hand_over_all, strike_all};
@@ -26,6 +27,14 @@ use rx_finish::{
 };
 use rx_rules::{Kind, Where};
 use std::alloc::Global;
+
+/// What a scope is, for whoever asks the ledger.
+#[derive(Clone, Copy)]
+pub struct ScopeSeen {
+    pub kind: Kind,
+    /// The scope under which it was opened. The root has none.
+    pub parent: Option<ScopeId>,
+}
 
 /// A ledger that keeps counts and no task: the records of the scopes that stand, by number.
 #[derive(Drop)]
@@ -125,6 +134,48 @@ impl CountLedger {
             Some(keeper) => keeper,
             None => s,
         }
+    }
+
+    /// What a scope is, while it stands.
+    pub fn scope_seen(&self, s: ScopeId) -> Option<ScopeSeen>
+        requires { (room : ℕ) × (T : Tree) × StandsFor self.now room T }
+        ensures { (room : ℕ) (T : Tree) → StandsFor self.now room T → result ≡ option_map seen (scope_of T s) }
+    {
+        match look(&self.scopes, s) {
+            Some(kept) => Some(ScopeSeen {
+                kind: kept.kind,
+                parent: kept.parent,
+            }),
+            None => None,
+        }
+    }
+
+    /// The number that the next task gets.
+    pub fn next_task(&self) -> u32
+        ensures { (room : ℕ) (T : Tree) → StandsFor self.now room T → result ≡ T.next_task }
+    {
+        self.next_task
+    }
+
+    /// The number that the next scope gets.
+    pub fn next_scope(&self) -> u32
+        ensures { (room : ℕ) (T : Tree) → StandsFor self.now room T → result ≡ T.next_scope }
+    {
+        self.next_scope
+    }
+
+    /// How many places there are, dead ones among them.
+    pub fn places(&self) -> u8
+        ensures { (room : ℕ) (T : Tree) → StandsFor self.now room T → result ≡ T.places }
+    {
+        self.places
+    }
+
+    /// Whether a place is dead.
+    pub fn has_died(&self, place: PlaceId) -> bool
+        ensures { (room : ℕ) (T : Tree) → StandsFor self.now room T → result ≡ is_some (death_of T place) }
+    {
+        matches!(self.dead.get(place.0 as usize), Some(Some(_)))
     }
 
     /// How many scopes are not released, and how many unstruck tasks are at a place and travel. It takes no memory, and looks at

@@ -16,4 +16,4 @@ mod removal;
 mod table;
 mod totals;
 
-pub use ledger::{CountLedger, counts_stand};
+pub use ledger::{CountLedger, ScopeSeen, counts_stand};

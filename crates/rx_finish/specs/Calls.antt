@@ -78,7 +78,7 @@ SpawnReply T who to (Err NoMemory) S = IsUnstruck T who × S T
 SpawnReply T who to (Err (Lost place at)) S = WasLost T who place at × S T
 SpawnReply T who to (Err (NotYet place)) S = ⊥
 
--- arrive: never want of memory
+-- arrive: never out of memory
 abbrev pub ArriveReply : Tree → Caller → Result Unit LedgerFault → (Tree → Type 0) → Type 0
 ArriveReply T who (Ok u) S = Did T who (Arrive (landing who.place)) S
 ArriveReply T who (Err NoMemory) S = ⊥
@@ -110,14 +110,14 @@ EndReply T who thrown (Err (NoMemory, back)) S = IsUnstruck T who × (back ≡ t
 EndReply T who thrown (Err (Lost place at, back)) S = WasLost T who place at × (back ≡ thrown) × S T
 EndReply T who thrown (Err (NotYet place, back)) S = ⊥
 
--- print, whatever the value: never want of memory, and the ledger stays
+-- print, whatever the value: never out of memory, and the ledger stays
 abbrev pub PrintReply : Tree → Caller → Result Unit LedgerFault → Type 0
 PrintReply T who (Ok u) = AllowedAct T who.task (Print (pos 0) [])
 PrintReply T who (Err NoMemory) = ⊥
 PrintReply T who (Err (Lost place at)) = WasLost T who place at
 PrintReply T who (Err (NotYet place)) = ⊥
 
--- census: the number of places; never want of memory, and the ledger stays
+-- census: the number of places; never out of memory, and the ledger stays
 abbrev pub CensusReply : Tree → Caller → Result ℕ LedgerFault → Type 0
 CensusReply T who (Ok n) = AllowedAct T who.task (Census n [])
 CensusReply T who (Err NoMemory) = ⊥

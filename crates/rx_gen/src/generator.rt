@@ -13,7 +13,7 @@ use std::alloc::Global;
 
 /// The program of so many lines, from 1 to 10,000, over so many places, from 1 to 16. Line i, from 0 on, is
 /// `try { finish { at A async { at B async { print I; } } } } catch dead { }`, where A is i modulo the number of places, B is i + 1
-/// modulo it, and I is i. Its work is five times the number of lines. `Err` comes for want of memory alone.
+/// modulo it, and I is i. Its work is five times the number of lines. `Err` comes only for lack of memory.
 pub fn generate(alloc: Global, size: u32, places: u8) -> Result<Program, NoMemory>
     requires size { (1 ≤ size) × (size ≤ 10000) }
     requires places { (1 ≤ places) × (places ≤ 16) }

@@ -13,7 +13,7 @@ use rx_kills::Due;
 use rx_rules::Entry;
 
 impl<L: FinishLedger> Books<L> {
-    /// Takes room for one entry, and gives its number. That the numbers of 32 bits are used up counts as want of memory.
+    /// Takes room for one entry, and gives its number. That the numbers of 32 bits are used up counts as out of memory.
     pub(crate) fn room(&mut self) -> Result<u32, NoMemory>
         ensures same { self.new ≡ record self.old { history = self.new.history } }
         ensures told { (self.new.history.entries ≡ self.old.history.entries) × (self.new.history.setup ≡ self.old.history.setup) }

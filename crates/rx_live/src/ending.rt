@@ -156,7 +156,7 @@ fn meet_at<N: Naming, S: Surroundings>(
 }
 
 /// The third and the fourth step: the books of the places are closed, and the host's pass of the ledger's book meets the note that each
-/// place kept. `None` is want of memory.
+/// place kept. `None` means out of memory.
 pub(crate) fn close_places<N: Naming, S: Surroundings, R: Wait>(
     rt: &R,
     alloc: Global,

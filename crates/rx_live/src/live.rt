@@ -44,7 +44,7 @@ use std::thread::Threads;
 
 /// Runs a program under a setup with so many workers, each in a thread of its own where one can be made, over a ledger that stands
 /// for the opening tree and has room for the places that are to join. What comes is a whole run, and the ledger, which stands for
-/// the tree to which its history folds. `Err` is want of memory, after which the ledger is gone. Worker k comes by the gate before
+/// the tree to which its history folds. `Err` means out of memory, after which the ledger is gone. Worker k comes by the gate before
 /// each of its turns, and each place before each call of its store.
 pub fn run_live<G: Gate + Sync, R: Threads + Wait + Sync>(
     rt: &R,
@@ -187,7 +187,7 @@ struct Ends {
     looked: Option<Looked>,
 }
 
-// The run between the opening and the closing of the ledger's book. `None` is want of memory.
+// The run between the opening and the closing of the ledger's book. `None` means out of memory.
 fn run_named<'a, N: Naming + Send + Sync, G: Gate + Sync, R: Threads + Wait + Sync>(
     rt: &R,
     alloc: Global,
@@ -343,7 +343,7 @@ struct Ended<N: Naming> {
     own: Option<LedgerPass<N>>,
 }
 
-// The caller goes on alone until no activity is left and the root is released. `None` is want of memory.
+// The caller goes on alone until no activity is left and the root is released. `None` means out of memory.
 fn go_on_alone<'a, N: Naming, S: Surroundings, R: Wait>(
     rt: &R,
     alloc: Global,

@@ -92,7 +92,7 @@ pub(crate) struct Places<N: Naming, S: Surroundings> {
     pub(crate) first: Option<Pass<EventItem>>,
 }
 
-/// Opens the places over their words. `None` is want of memory.
+/// Opens the places over their words. `None` means out of memory.
 pub(crate) fn open_places<'a, N: Naming, G: Gate, R: Wait>(
     rt: &R,
     alloc: Global,
@@ -135,7 +135,7 @@ pub(crate) fn open_places<'a, N: Naming, G: Gate, R: Wait>(
 }
 
 impl<N: Naming, S: Surroundings> Places<N, S> {
-    // Adds the place in front of the others. False is want of memory.
+    // Adds the place in front of the others. False means out of memory.
     fn add<R: Wait>(
         &mut self,
         rt: &R,
@@ -182,7 +182,7 @@ impl<N: Naming, S: Surroundings> Places<N, S> {
     }
 }
 
-// The book of a place over its word, and the pass of its first caller. `None` is want of memory.
+// The book of a place over its word, and the pass of its first caller. `None` means out of memory.
 fn open_place<'a, G: Gate>(
     alloc: Global,
     ledger: &'a Book<LedgerObject>,

@@ -83,7 +83,7 @@ pub(crate) struct Looked {
 /// Runs as `run_live` does, and makes snapshots of the history as it grows, `watch` of them in a thread of their own where one can be
 /// made, and one more of the whole history. Each is the summary of as many entries as it says, and none is of fewer than the one
 /// before. The reader takes no lock of the ledger, and comes by the gate before each of its snapshots as the worker behind the last.
-/// `Err` is want of memory.
+/// `Err` means out of memory.
 pub fn run_watched<G: Gate + Sync, R: Threads + Wait + Sync>(
     rt: &R,
     alloc: Global,

@@ -54,7 +54,7 @@ impl<T, K, F: Fact<T, K>> Model for Lock<T, K, F> {
 }
 
 impl<T, K, F: Fact<T, K>> Lock<T, K, F> {
-    /// A lock with this value and this key. The key exists for contracts alone, and is only looked at. `Err` is want of memory
+    /// A lock with this value and this key. The key exists for contracts alone, and is only looked at. `Err` means out of memory
     /// and hands the value back.
     pub fn new(alloc: Global, value: T, key: &K) -> Result<Lock<T, K, F>, (T, NoMemory)>
         requires { F.holds key.now value }

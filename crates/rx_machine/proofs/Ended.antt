@@ -72,7 +72,7 @@ end-asks shape T i q seat here fs s numbers is_at asks =
       none_open = subst (λ (t : TaskId). own_scope T t ≡ None) (sym id) (none-found (opened_by (record { 0 = i })) T.scopes none);
     })
 
--- it refuses for want of memory alone
+-- it refuses only for lack of memory
 pub end-refused : (T : Tree) (who : Caller) (thrown : List Fault) (e : LedgerFault × List Fault) (S : Tree → Type 0) → blow_of T who.task ≡ None → EndReply T who thrown (Err e) S → e.0 ≡ NoMemory
 end-refused T who thrown (NoMemory, back) S free h = refl
 end-refused T who thrown (Lost place at, back) S free h = absurd (not_lost T who.task (record { place = place; entry = at }) free h.0)

@@ -49,7 +49,7 @@ open-free q here asks =
       | false ↦ λ e. refl
     ]) refl
 
--- the ledger refuses for want of memory alone
+-- the ledger refuses only for lack of memory
 pub open-refused : (T : Tree) (who : Caller) (e : LedgerFault) (S : Tree → Type 0) → blow_of T who.task ≡ None → OpenReply T who (Err e) S → e ≡ NoMemory
 open-refused T who NoMemory S free h = refl
 open-refused T who (Lost place at) S free h = absurd (not_lost T who.task (record { place = place; entry = at }) free h.0)

@@ -44,7 +44,7 @@ arrival-granted T who NoMemory S free h = h
 arrival-granted T who (Lost place at) S free h = not_lost T who.task (record { place = place; entry = at }) free h.0
 arrival-granted T who (NotYet place) S free h = h
 
--- and a release of the root that is quiet for want of memory alone
+-- and a release of the root that is quiet only for lack of memory
 pub root-refused : (T : Tree) (e : LedgerFault) (S : Tree → Type 0) → quiet T the_root ≡ true → RootReply T (Err e) S → e ≡ NoMemory
 root-refused T NoMemory S calm h = refl
 root-refused T (Lost place at) S calm h = absurd h

@@ -101,7 +101,7 @@ release-quiet shape U k i q seat here G s pick asks =
     let T : Tree = tree_in U G in
     subst (λ (v : ScopeId). quiet T v ≡ true) (seat_inner shape T i q seat s) (pick-quiet U k i seat G pick (s.waits ∙ release_held q.vars here.0 q.term asks))
 
--- the ledger refuses for want of memory alone
+-- the ledger refuses only for lack of memory
 pub release-refused : (T : Tree) (who : Caller) (e : LedgerFault) (S : Tree → Type 0) → blow_of T who.task ≡ None → quiet T who.inner ≡ true → ReleaseReply T who (Err e) S → e ≡ NoMemory
 release-refused T who NoMemory S free calm h = refl
 release-refused T who (Lost place at) S free calm h = absurd (not_lost T who.task (record { place = place; entry = at }) free h.0)

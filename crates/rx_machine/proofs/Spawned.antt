@@ -85,7 +85,7 @@ pub call-did : (T : Tree) (row : Task) (scopes : List ScopeId) (here to : PlaceI
 call-did T row scopes here to b S at h =
     (subst (λ (w : Where). AllowedAct T row.number (CallsAt (place_number w) to b.scope (caller row scopes).inner b.child [])) at h.0.allowed, subst (λ (w : Where). S (made_act T row.number (CallsAt (place_number w) to b.scope (caller row scopes).inner b.child []))) at h.0.made, h.1)
 
--- the ledger refuses for want of memory alone
+-- the ledger refuses only for lack of memory
 pub spawn-refused : (T : Tree) (who : Caller) (to : PlaceId) (e : LedgerFault) (S : Tree → Type 0) → blow_of T who.task ≡ None → SpawnReply T who to (Err e) S → e ≡ NoMemory
 spawn-refused T who to NoMemory S free h = refl
 spawn-refused T who to (Lost place at) S free h = absurd (not_lost T who.task (record { place = place; entry = at }) free h.0)

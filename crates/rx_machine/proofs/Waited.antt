@@ -79,7 +79,7 @@ wait-asks shape T i q seat here fs s numbers is_at asks =
       finish = found.2;
     })
 
--- it refuses for want of memory alone
+-- it refuses only for lack of memory
 pub wait-refused : (T : Tree) (who : Caller) (thrown : List Fault) (e : LedgerFault × List Fault) (S : Tree → Type 0) → blow_of T who.task ≡ None → WaitReply T who thrown (Err e) S → e.0 ≡ NoMemory
 wait-refused T who thrown (NoMemory, back) S free h = refl
 wait-refused T who thrown (Lost place at, back) S free h = absurd (not_lost T who.task (record { place = place; entry = at }) free h.0)

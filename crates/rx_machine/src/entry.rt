@@ -26,7 +26,7 @@ impl<L: FinishLedger> Machine<L> {
     }
 }
 
-/// The error of a refusal that is want of memory.
+/// The error of a refusal that means out of memory.
 pub(crate) fn no_memory(fault: LedgerFault) -> NoMemory
     requires { fault ≡ LedgerFault.NoMemory }
 {

@@ -163,7 +163,7 @@ fn pair<R: Wait>(
 }
 
 impl Board {
-    /// A board on which one summary is shown, with its writer and its reader. `Err` is want of memory.
+    /// A board on which one summary is shown, with its writer and its reader. `Err` means out of memory.
     pub fn open<R: Wait>(
         rt: &R,
         alloc: Global,
@@ -200,7 +200,7 @@ impl Board {
 
 impl BoardWriter {
     /// Shows a summary: it comes to the end of the list. It is of no shorter history than the one before, and no place that was dead
-    /// there is alive. It takes memory for the summary, which is given back once a later one is up. `Err` is want of memory and
+    /// there is alive. It takes memory for the summary, which is given back once a later one is up. `Err` means out of memory and
     /// changes nothing; so is the answer where 2^64 - 1 summaries were shown.
     pub fn show<R: Wait>(&mut self, rt: &R, alloc: Global, s: Summary) -> Result<(), NoMemory>
         requires { (x : Summary) → EndsWith self.old.list x → MayFollow x s }
@@ -267,7 +267,7 @@ impl BoardWriter {
 }
 
 /// The end of a watch, after the writer has shown its last summary: one snapshot more. The items then stand in the list that was
-/// shown, in order, and the last of them is its last. `Err` is want of memory.
+/// shown, in order, and the last of them is its last. `Err` means out of memory.
 pub fn finish(
     writer: &mut BoardWriter,
     reader: &mut BoardReader,
@@ -313,7 +313,7 @@ impl BoardReader {
         self.take_in(note, last, count);
     }
 
-    /// Makes n snapshots, which stand in the list that the reader has then seen, in order. `Err` is want of memory for the list of them.
+    /// Makes n snapshots, which stand in the list that the reader has then seen, in order. `Err` means out of memory for the list of them.
     pub fn watch(&mut self, alloc: Global, n: u32) -> Result<Vec<Summary>, NoMemory>
         ensures board { self.new.board ≡ self.old.board }
         ensures begins { IsPrefix self.old.list self.new.list }
@@ -326,7 +326,7 @@ impl BoardReader {
         Ok(items)
     }
 
-    /// One snapshot more, behind others. They stand in the list that the reader has then seen, in order. `Err` is want of memory for
+    /// One snapshot more, behind others. They stand in the list that the reader has then seen, in order. `Err` means out of memory for
     /// the list of them.
     pub fn snap_behind(&mut self, items: &mut Vec<Summary>) -> Result<(), NoMemory>
         requires { StandInOrder self.old.list 0 items.old.items }

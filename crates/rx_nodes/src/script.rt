@@ -101,14 +101,6 @@ impl Script {
     {
         &self.names
     }
-
-    /// The bytes of a name.
-    pub fn name(&self, id: NameId) -> &[u8]
-        requires { id.0 < length self.now.names }
-        ensures { slice_get self.now.names id.0 ≡ Some result.now }
-    {
-        &self.names[id.0 as usize]
-    }
 }
 
 /// A law: each script stands for statements of the grammar, with its names.

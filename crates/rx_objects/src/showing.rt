@@ -58,7 +58,7 @@ fn summary(keeper: &Keeper<CountLedger>) -> Summary
     }
 }
 
-// Shows the summary of all entries. False is want of memory.
+// Shows the summary of all entries. False means out of memory.
 fn put_up<R: Wait>(
     rt: &R,
     alloc: Global,
@@ -75,7 +75,7 @@ fn put_up<R: Wait>(
 }
 
 /// Shows the summary of all entries where there are more than `before`, if there is a board. `late` tells whether an earlier one could
-/// not be shown. False is want of memory.
+/// not be shown. False means out of memory.
 pub(crate) fn show_new<R: Wait>(
     rt: &R,
     alloc: Global,

@@ -2,8 +2,8 @@
 //! each place have a book of their own, and no lock is held over two of them. Here stands when the history of such a book is
 //! legal, and the law that legal histories, which name and carry each other, are one whole run of the script. Every statement is
 //! over plain lists, without words, seats or locks. The crate stands on rx_rules, rx_sound and rx_runs and holds no code but laws:
-//! each public function has an empty body, and its contract is the law. The objects of the books cite `ledger_grows`,
-//! `call_step` and `place_grows`, and who closes the books `parts_run`; specs/ has the statements.
+//! each public function has an empty body, and its contract is the law. The crates above cite the lemmas below these laws;
+//! specs/ has the statements.
 #![tactic(auto)]
 
 ghost use Rattle.rx_parts.specs.Merges.{AccountsMerge};

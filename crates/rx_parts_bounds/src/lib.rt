@@ -2,8 +2,8 @@
 //! legal history of a place no more events than a multiple of the script's work; so the books of a run in parts have a greatest
 //! length before the run begins. Every whole run has parts, and worked histories hold the definitions of rx_parts to their
 //! meaning: each is legal, or breaks one rule and is not. The crate stands on rx_parts and the laws below
-//! it, and holds no code but laws: each public function has an empty body, and its contract is the law. The objects of the books
-//! cite `ledger_bounded` and `events_are_few` for the conditions on numbers; specs/ has the statements.
+//! it, and holds no code but laws: each public function has an empty body, and its contract is the law. No crate stands on it;
+//! specs/ has the statements.
 #![tactic(auto)]
 
 ghost use Rattle.std.specs.Prelude.{◌≡◌};

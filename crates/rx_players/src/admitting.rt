@@ -33,7 +33,7 @@ use std::alloc::Global;
 
 impl Players {
     /// Whether the entry, with its number, is what its task makes; the players stand after it then. It is asked for each entry in
-    /// turn, after it was seen that the tree allows it. After a no or want of memory the players are of no more use.
+    /// turn, after it was seen that the tree allows it. After a no, or where memory ran out, the players are of no more use.
     pub fn admit(
         &mut self,
         alloc: Global,

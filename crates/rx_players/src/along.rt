@@ -5,7 +5,7 @@ ghost use Rattle.rx_rules.specs.Plays.{begun};
 ghost use Rattle.rx_control.specs.Stands.{StandsFor};
 ghost use Rattle.rx_players.specs.Along.{GoesAlong};
 
-use rx_base::{Batch, NoMemory, Path};
+use rx_base::{Batch, NoMemory, Path, same_path};
 use rx_check::Program;
 use rx_control::Control;
 use std::alloc::Global;
@@ -77,11 +77,4 @@ impl<'a> Along<'a> {
             self.same = false;
         }
     }
-}
-
-// Whether two paths are the same.
-fn same_path(a: &Path, b: &Path) -> bool
-    ensures { IsTrue result ↔ (a.now ≡ b.now) }
-{
-    a.numbers() == b.numbers()
 }

@@ -30,7 +30,7 @@ const LIMIT: u32 = 300_001;
 
 impl Seat {
     /// Walks on up to a request to the ledger, the end, or a store call that the task's next event does not answer, and tells whether
-    /// the statements that it begins go along with a batch. After want of memory the seat is of no more use.
+    /// the statements that it begins go along with a batch. Where memory ran out the seat is of no more use.
     pub fn advance(
         &mut self,
         alloc: Global,

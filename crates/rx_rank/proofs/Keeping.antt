@@ -1,12 +1,12 @@
 -- What the set keeps, in the words of its view.
-use Rattle.std.specs.Prelude.{◌≡◌, ℕ, suc, ◌+◌, ◌*◌, ◌/◌, ◌^◌, ◌<◌, ◌≤◌, ◌↔◌, IsTrue, true, false, not, eqb, List, [], ◌∷◌, length, slice_index, Contains, refl}
+use Rattle.std.specs.Prelude.{◌≡◌, ℕ, suc, ◌+◌, ◌*◌, ◌/◌, ◌^◌, ◌<◌, ◌≤◌, List, [], ◌∷◌, length, slice_index, refl}
 use Rattle.std.proofs.Common.{arith, ap, sym, subst, ◌∙◌, inl, inr}
-use Rattle.std.proofs.lemmas.Bool.{cases_lt, eq-eqb, ne_eqb}
-use Rattle.std.proofs.lemmas.List.{get_or-drop, get_or_past, length-drop}
+use Rattle.std.proofs.lemmas.Bool.{cases_lt}
+use Rattle.std.proofs.lemmas.List.{length-drop}
 use Rattle.std.proofs.Math.Nat.{pow-suc, pow-le-pow_right}
 use Rattle.rx_rank.specs.Numbers.{removed}
 use Rattle.rx_rank.specs.Counts.{numbers, leaves, IsTree, IsKept}
-use Rattle.rx_rank.proofs.Leaves.{empty, numbers-between, numbers-most, numbers-holds, numbers-lacks, removed_none}
+use Rattle.rx_rank.proofs.Leaves.{empty, numbers-between, numbers-most, removed_none}
 use Rattle.rx_rank.proofs.Adding.{half-is, root-length}
 
 -- there is a tree where there is room
@@ -68,33 +68,6 @@ kept_within h k cs kept l = let e = root-length (2 ^ h) cs (kept_numbers h k cs 
 
 pub kept_room : (h k : ℕ) (cs : List ℕ) → IsKept h cs → k < length (numbers 0 (leaves cs)) → length cs / 2 ≡ 2 ^ h
 kept_room h k cs kept l = half-is (2 ^ h) cs (kept_numbers h k cs kept l).bare
-
--- a number is there exactly where its leaf counts
-leaf-at : (x : ℕ) (cs : List ℕ) → slice_index (leaves cs) x ≡ slice_index cs (length cs / 2 + x)
-leaf-at x cs = get_or-drop (length cs / 2) cs x 0
-
-held : (x n : ℕ) (cs : List ℕ) → n ≡ slice_index cs (length cs / 2 + x) → (n ≡ 0 → ⊥) → Contains (numbers 0 (leaves cs)) x
-held x n cs e ne =
-    let at : slice_index (leaves cs) x ≡ n = leaf-at x cs ∙ sym e in
-    let x0 : 0 + x ≡ x = omega arith in
-    subst (λ z. Contains (numbers 0 (leaves cs)) z) x0 (numbers-holds 0 x (leaves cs) (λ z. ne (sym at ∙ z)))
-
-lacks : (x : ℕ) (cs : List ℕ) → slice_index cs (length cs / 2 + x) ≡ 0 → Contains (numbers 0 (leaves cs)) x → ⊥
-lacks x cs e i =
-    let x0 : x ≡ 0 + x = omega arith in
-    numbers-lacks 0 x (leaves cs) (leaf-at x cs ∙ e) (subst (λ z. Contains (numbers 0 (leaves cs)) z) x0 i)
-
-counting : (n : ℕ) → not (eqb n 0) ≡ true → n ≡ 0 → ⊥
-counting n t e = let f : not (eqb n 0) ≡ false = ap not (eq-eqb n 0 e) in cc
-
-pub held_where : (x n : ℕ) (cs : List ℕ) → n ≡ slice_index cs (length cs / 2 + x) → IsTrue (not (eqb n 0)) ↔ Contains (numbers 0 (leaves cs)) x
-held_where x n cs e = (
-  λ t. held x n cs e (counting n t),
-  λ i. ap not (ne_eqb n 0 (λ z. lacks x cs (sym e ∙ z) i)),
-)
-
-pub held_past : (x : ℕ) (cs : List ℕ) → length cs ≤ length cs / 2 + x → Contains (numbers 0 (leaves cs)) x → ⊥
-held_past x cs past i = lacks x cs (get_or_past cs (length cs / 2 + x) 0 past) i
 
 -- past the room there is nothing to take out
 pub kept_removed : (h x : ℕ) (cs : List ℕ) → IsKept h cs → length cs / 2 ≤ x → removed x (numbers 0 (leaves cs)) ≡ numbers 0 (leaves cs)

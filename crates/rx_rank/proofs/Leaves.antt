@@ -1,5 +1,5 @@
 -- The numbers of leaves, and what a leaf that is written anew does to them.
-use Rattle.std.specs.Prelude.{◌≡◌, ℕ, zero, suc, ◌+◌, ◌<◌, ◌≤◌, ◌⊎◌, Bool, true, false, not, eqb, ltb, List, [], ◌∷◌, ◌++◌, length, take, set, replicate, sum, Some, slice_get, slice_index, Contains, refl}
+use Rattle.std.specs.Prelude.{◌≡◌, ℕ, zero, suc, ◌+◌, ◌<◌, ◌≤◌, ◌⊎◌, Bool, true, false, not, eqb, ltb, List, [], ◌∷◌, ◌++◌, length, take, set, replicate, sum, Some, slice_get, slice_index, refl}
 use Rattle.std.proofs.Common.{arith, ap, sym, subst, ◌∙◌, inl, inr}
 use Rattle.std.proofs.lemmas.Bool.{cases_eq, cond-true, cond-false, lt-ltb, le-ltb, ne_eqb, eq-eqb}
 use Rattle.std.proofs.lemmas.List.Sums.{sum_by-append}
@@ -15,11 +15,6 @@ Between a b (y ∷ ys) = (a ≤ y) × (y < b) × Between a b ys
 pub between-wider : (a b c d : ℕ) (xs : List ℕ) → c ≤ a → b ≤ d → Between a b xs → Between c d xs
 between-wider a b c d [] l m p = tt
 between-wider a b c d (x ∷ xs) l m p = let p0 = p.0 in let p1 = p.1 in (omega arith, omega arith, between-wider a b c d xs l m p.2)
-
-pub between_in : (a b x : ℕ) (ys : List ℕ) → Between a b ys → Contains ys x → (a ≤ x) × (x < b)
-between_in a b x [] p i = let l = i.1 in absurd (omega arith)
-between_in a b x (y ∷ ys) p (zero, l, e) = let p0 = p.0 in let p1 = p.1 in let e' : y ≡ x = e in (omega arith, omega arith)
-between_in a b x (y ∷ ys) p (suc i, l, e) = between_in a b x ys p.2 (i, omega arith, e)
 
 pub removed_none : (x a b : ℕ) (ys : List ℕ) → (x < a) ⊎ (b ≤ x) → Between a b ys → removed x ys ≡ ys
 removed_none x a b [] o p = refl
@@ -105,37 +100,6 @@ numbers-at first (suc x) k (c ∷ cs) bits e one =
     by_leaf (λ z. slice_get z k ≡ Some (first + suc x)) first c cs
     (λ e0. let same : k ≡ sum (take x cs) = omega arith in ap (λ z. slice_get (numbers (first + 1) cs) z) same ∙ rest)
     (λ ne. let next : k ≡ suc (sum (take x cs)) = omega (arith, ne) in ap (λ z. slice_get (first ∷ numbers (first + 1) cs) z) next ∙ rest)
-
--- a number is there exactly where its leaf counts
-later : (x y : ℕ) (ys : List ℕ) → Contains ys x → Contains (y ∷ ys) x
-later x y ys (i, l, e) = (suc i, omega arith, e)
-
-pub numbers-holds : (first x : ℕ) (cs : List ℕ) → (slice_index cs x ≡ 0 → ⊥) → Contains (numbers first cs) (first + x)
-numbers-holds first x [] ne = absurd (ne refl)
-numbers-holds first zero (c ∷ cs) ne =
-    let x0 : first ≡ first + 0 = omega arith in
-    by_leaf (λ z. Contains z (first + 0)) first c cs (λ e. absurd (ne e)) (λ _. (0, omega arith, x0))
-numbers-holds first (suc x) (c ∷ cs) ne =
-    let last : first + 1 + x ≡ first + suc x = omega arith in
-    let rest : Contains (numbers (first + 1) cs) (first + suc x) = subst (λ z. Contains (numbers (first + 1) cs) z) last (numbers-holds (first + 1) x cs ne) in
-    by_leaf (λ z. Contains z (first + suc x)) first c cs (λ e. rest) (λ _. later (first + suc x) first (numbers (first + 1) cs) rest)
-
-earlier : (x y : ℕ) (ys : List ℕ) → (y ≡ x → ⊥) → Contains (y ∷ ys) x → Contains ys x
-earlier x y ys ne (zero, l, e) = absurd (ne e)
-earlier x y ys ne (suc i, l, e) = (i, omega arith, e)
-
-pub numbers-lacks : (first x : ℕ) (cs : List ℕ) → slice_index cs x ≡ 0 → Contains (numbers first cs) (first + x) → ⊥
-unfolding numbers
-numbers-lacks first x [] e i = let l = i.1 in omega arith
-numbers-lacks first zero (c ∷ cs) e i =
-    let i' : Contains (numbers (first + 1) cs) (first + 0) = subst (λ z. Contains z (first + 0)) (none first c cs e) i in
-    let p = between_in (first + 1) (first + 1 + length cs) (first + 0) (numbers (first + 1) cs) (numbers-between (first + 1) cs) i' in
-    let low = p.0 in
-    omega arith
-numbers-lacks first (suc x) (c ∷ cs) e i =
-    let last : first + suc x ≡ first + 1 + x = omega arith in
-    let rest : Contains (numbers (first + 1) cs) (first + suc x) → ⊥ = λ j. numbers-lacks (first + 1) x cs e (subst (λ z. Contains (numbers (first + 1) cs) z) last j) in
-    by_leaf (λ z. Contains z (first + suc x) → ⊥) first c cs (λ _. rest) (λ _ j. rest (earlier (first + suc x) first (numbers (first + 1) cs) (λ same. omega (arith, same)) j)) i
 
 -- leaves that count nothing after the others
 blank : (first m : ℕ) → numbers first (replicate m 0) ≡ []

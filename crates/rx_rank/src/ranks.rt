@@ -1,5 +1,5 @@
 // The set of numbers.
-ghost use Rattle.std.specs.Prelude.{◌≡◌, ℕ, ◌*◌, ◌/◌, ◌^◌, ◌<◌, ◌≤◌, ◌↔◌, [], Some, IsTrue, IfOk, OnOk, OnErr, Contains, length};
+ghost use Rattle.std.specs.Prelude.{◌≡◌, ℕ, ◌*◌, ◌/◌, ◌^◌, ◌<◌, ◌≤◌, [], Some, IfOk, OnOk, OnErr, length};
 ghost use Rattle.std.specs.Prelude.{slice_get};
 ghost use Rattle.rx_rank.specs.Numbers.{inserted, removed, marked, Ascends};
 ghost use Rattle.rx_rank.specs.Counts.{numbers, leaves, IsKept};
@@ -108,16 +108,6 @@ impl Ranks {
     {
         if (x as usize) < self.counts.len() / 2 {
             mark(&mut self.counts, x, false);
-        }
-    }
-
-    /// Whether a number is in the set.
-    pub fn contains(&self, x: u32) -> bool
-        ensures { IsTrue result ↔ Contains self.now.members x }
-    {
-        match self.counts.get(self.counts.len() / 2 + x as usize) {
-            Some(count) => *count != 0,
-            None => false,
         }
     }
 

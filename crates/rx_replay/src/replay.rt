@@ -14,7 +14,7 @@ use std::alloc::Global;
 /// How many of the first events of a journal are those of a store of so many words: the law of stores allows each, no stamp falls,
 /// and none asks for a block of no words, as no statement does. Where there are more events, this fails with the next one. Of a
 /// reference its start and its generation are looked at, and not its place. It takes time in proportion to the journal, and memory
-/// in proportion to the heap; 2^32 events and more it answers as want of memory.
+/// in proportion to the heap; 2^32 events and more it answers as out of memory.
 pub fn lawful_events(alloc: Global, heap: u32, journal: &Journal) -> Result<u32, NoMemory>
     requires some { 0 < heap }
     requires most { heap ≤ 4096 }

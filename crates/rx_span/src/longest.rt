@@ -19,7 +19,7 @@ use std::sync::ledger::{Blank, Ledger};
 
 /// The number of statements that a history tells and the longest chain of them, as docs/semantics.md states it under "The order of
 /// statements". The history tells paths of the program alone, none of them twice, and fewer than 2^32. The time is that of a sort of
-/// the paths, and linear in their numbers; the memory is in proportion to the statements. The only refusal is want of memory.
+/// the paths, and linear in their numbers; the memory is in proportion to the statements. The only refusal is out of memory.
 pub fn span(alloc: Global, program: &Program, history: &History) -> Result<Span, NoMemory>
     requires few { length (told history.now.entries) < 2 ^ 32 }
     requires paths { (code : Block) → Stands program.now.script code → ArePaths code (told history.now.entries) }

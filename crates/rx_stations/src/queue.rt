@@ -24,7 +24,7 @@ impl<N: Naming> Queue<N> {
         }
     }
 
-    /// Puts one that may go on behind the others. A refusal is want of memory, and hands it back.
+    /// Puts one that may go on behind the others. A refusal means out of memory, and hands it back.
     pub(crate) fn put(&mut self, a: Activity<N>) -> Result<(), Activity<N>> {
         match self.ready.push_back(a) {
             Ok(()) => Ok(()),
@@ -38,7 +38,7 @@ impl<N: Naming> Queue<N> {
     }
 
     /// Puts one that waits behind the others: one that has gone on until now is looked at first, and one that was looked at last.
-    /// A refusal is want of memory, and hands it back.
+    /// A refusal means out of memory, and hands it back.
     pub(crate) fn rest(&mut self, a: Activity<N>, looked_at: bool) -> Result<(), Activity<N>> {
         let put = if looked_at {
             self.waiting.push_front(a)

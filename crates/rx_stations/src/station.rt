@@ -77,7 +77,7 @@ pub(crate) enum Job<N: Naming> {
 }
 
 impl<N: Naming, S: Surroundings> Station<N, S> {
-    /// A place without activities, by a first pass of its book that has seen nothing. `Err` is want of memory, and hands the book
+    /// A place without activities, by a first pass of its book that has seen nothing. `Err` means out of memory, and hands the book
     /// back.
     pub fn open(
         alloc: Global,
@@ -121,7 +121,7 @@ impl<N: Naming, S: Surroundings> Station<N, S> {
         &self.book
     }
 
-    /// Keys of its own for a worker. `None` is want of memory.
+    /// Keys of its own for a worker. `None` means out of memory.
     pub(crate) fn new_keys<R: Wait>(&self, rt: &R) -> Option<Keys<N>>
         ensures { IfSome result (λ k. k ≡ self.now) }
     {
@@ -160,7 +160,7 @@ impl<N: Naming, S: Surroundings> Station<N, S> {
         }
     }
 
-    /// Sends an activity to this place. False is want of memory, and then it is gone.
+    /// Sends an activity to this place. False means out of memory, and then it is gone.
     pub(crate) fn send<R: Wait>(&self, rt: &R, keys: &mut Keys<N>, traveller: Traveller<N>) -> bool
         requires { keys.old ≡ self.now }
         ensures { keys.new ≡ keys.old }
@@ -172,7 +172,7 @@ impl<N: Naming, S: Surroundings> Station<N, S> {
         sent.is_ok()
     }
 
-    /// Puts an activity that may go on behind the others here. A refusal is want of memory, and hands it back.
+    /// Puts an activity that may go on behind the others here. A refusal means out of memory, and hands it back.
     pub(crate) fn put<R: Wait>(&self, rt: &R, a: Activity<N>) -> Result<(), Activity<N>> {
         let put = self.queue.lock(rt).put(a);
         if put.is_ok() {
@@ -181,7 +181,7 @@ impl<N: Naming, S: Surroundings> Station<N, S> {
         put
     }
 
-    /// Puts an activity that waits behind the others here. A refusal is want of memory, and hands it back.
+    /// Puts an activity that waits behind the others here. A refusal means out of memory, and hands it back.
     pub(crate) fn rest<R: Wait>(
         &self,
         rt: &R,

@@ -5,9 +5,11 @@ ghost use Rattle.rx_stations.specs.Stations.{IsHall};
 use crate::hall::Hall;
 use crate::keys::{Keys, Letter};
 use crate::station::{Held, Job, Station, TURNS};
+use crate::tally::Tally;
 use rx_activities::{Activity, Arrival, Began, LedgerPass, Naming, Traveller, Turn};
 use rx_base::Gate;
-use rx_objects::Surroundings;
+use rx_book::Book;
+use rx_objects::{LedgerObject, Surroundings};
 use std::alloc::Global;
 use std::marker::Model;
 use std::sync::Wait;
@@ -41,7 +43,7 @@ impl<N: Naming> Model for Worker<N> {
 }
 
 impl<N: Naming> Worker<N> {
-    /// A worker with keys of each place. `None` is want of memory.
+    /// A worker with keys of each place. `None` means out of memory.
     pub fn open<'a, S: Surroundings, R: Wait>(
         rt: &R,
         alloc: Global,
@@ -112,17 +114,17 @@ impl<N: Naming> Worker<N> {
         ensures { self.new ≡ self.old }
     {
         match held {
-            Some(held) => self.go_on(hall, held),
+            Some(held) => self.go_on(hall.ledger, &hall.tally, held),
             None => self.find(rt, hall),
         }
     }
 
     // Goes on with what it has in hand.
-    fn go_on<'a, S: Surroundings>(&mut self, hall: &Hall<'a, N, S>, held: Held<N>) -> Option<Job<N>>
-        requires { hall.now.ledger.now ≡ N.ledger }
+    fn go_on(&mut self, ledger: &Book<LedgerObject>, tally: &Tally, held: Held<N>) -> Option<Job<N>>
+        requires { ledger.now ≡ N.ledger }
         ensures { self.new ≡ self.old }
     {
-        if !hall.tally.is_done() {
+        if !tally.is_done() {
             return Some(Job::Move(held));
         }
         let Held {
@@ -130,7 +132,7 @@ impl<N: Naming> Worker<N> {
             turns: _,
             waited: _,
         } = held;
-        self.keep(hall, activity.give_up());
+        self.keep(ledger, activity.give_up());
         None
     }
 
@@ -257,7 +259,7 @@ impl<N: Naming> Worker<N> {
             waited,
         } = held;
         let Some(station) = hall.station(activity.place()) else {
-            self.fail(hall, activity.give_up());
+            self.fail(hall.ledger, &hall.tally, activity.give_up());
             return None;
         };
         let left = activity.turn(rt, alloc, hall.program, hall.ledger, station.book());
@@ -271,11 +273,11 @@ impl<N: Naming> Worker<N> {
                 None
             }
             Turn::Over(pass) => {
-                self.end(hall, pass);
+                self.end(hall.ledger, &hall.tally, pass);
                 None
             }
             Turn::Failed(pass) => {
-                self.fail(hall, pass);
+                self.fail(hall.ledger, &hall.tally, pass);
                 None
             }
         }
@@ -296,7 +298,7 @@ impl<N: Naming> Worker<N> {
         self.feel(activity.has_met_others(hall.ledger));
         if self.is_crowded() && hall.tally.goes_to_rest() {
             self.put(rt, hall, station, activity);
-            self.step_back(rt, hall);
+            self.step_back(rt, &hall.tally);
             return None;
         }
         if turns > 0 {
@@ -330,10 +332,10 @@ impl<N: Naming> Worker<N> {
     }
 
     // Rests with nothing in hand. It rests again once it has met others a few times more.
-    fn step_back<'a, S: Surroundings, R: Wait>(&mut self, rt: &R, hall: &Hall<'a, N, S>)
+    fn step_back<R: Wait>(&mut self, rt: &R, tally: &Tally)
         ensures { self.new ≡ self.old }
     {
-        hall.tally.rest(rt, self.rests);
+        tally.rest(rt, self.rests);
         self.rests = self.rests.saturating_add(1);
         self.crowd = self.crowd.saturating_sub(CROWD / 2);
     }
@@ -351,7 +353,7 @@ impl<N: Naming> Worker<N> {
     {
         match station.put(rt, activity) {
             Ok(()) => {}
-            Err(activity) => self.fail(hall, activity.give_up()),
+            Err(activity) => self.fail(hall.ledger, &hall.tally, activity.give_up()),
         }
     }
 
@@ -369,7 +371,7 @@ impl<N: Naming> Worker<N> {
     {
         match station.rest(rt, activity, waited) {
             Ok(()) => hall.tally.waits(),
-            Err(activity) => self.fail(hall, activity.give_up()),
+            Err(activity) => self.fail(hall.ledger, &hall.tally, activity.give_up()),
         }
     }
 
@@ -390,7 +392,7 @@ impl<N: Naming> Worker<N> {
                 hall.tally.starts();
                 match hall.station(activity.place()) {
                     Some(station) => self.put(rt, hall, station, activity),
-                    None => self.fail(hall, activity.give_up()),
+                    None => self.fail(hall.ledger, &hall.tally, activity.give_up()),
                 }
             }
             Some(Began::Away(traveller)) => {
@@ -402,7 +404,7 @@ impl<N: Naming> Worker<N> {
         }
     }
 
-    // Sends an activity to its place. False is want of memory.
+    // Sends an activity to its place. False means out of memory.
     fn send<'a, S: Surroundings, R: Wait>(
         &mut self,
         rt: &R,
@@ -444,44 +446,44 @@ impl<N: Naming> Worker<N> {
                 waited: false,
             }),
             Arrival::Lost(pass) => {
-                self.end(hall, pass);
+                self.end(hall.ledger, &hall.tally, pass);
                 None
             }
             Arrival::Failed(pass) => {
-                self.fail(hall, pass);
+                self.fail(hall.ledger, &hall.tally, pass);
                 None
             }
         }
     }
 
     // An activity is over.
-    fn end<'a, S: Surroundings>(&mut self, hall: &Hall<'a, N, S>, pass: LedgerPass<N>)
-        requires { hall.now.ledger.now ≡ N.ledger }
+    fn end(&mut self, ledger: &Book<LedgerObject>, tally: &Tally, pass: LedgerPass<N>)
+        requires { ledger.now ≡ N.ledger }
         ensures { self.new ≡ self.old }
     {
-        self.keep(hall, pass);
-        hall.tally.ends();
+        self.keep(ledger, pass);
+        tally.ends();
     }
 
     // Memory was refused.
-    fn fail<'a, S: Surroundings>(&mut self, hall: &Hall<'a, N, S>, pass: LedgerPass<N>)
-        requires { hall.now.ledger.now ≡ N.ledger }
+    fn fail(&mut self, ledger: &Book<LedgerObject>, tally: &Tally, pass: LedgerPass<N>)
+        requires { ledger.now ≡ N.ledger }
         ensures { self.new ≡ self.old }
     {
-        self.keep(hall, pass);
-        hall.tally.refuse();
+        self.keep(ledger, pass);
+        tally.refuse();
     }
 
     // Keeps the ledger pass of the first activity that is over. That of each later one becomes a note, which the kept pass meets.
-    fn keep<'a, S: Surroundings>(&mut self, hall: &Hall<'a, N, S>, pass: LedgerPass<N>)
-        requires { hall.now.ledger.now ≡ N.ledger }
+    fn keep(&mut self, ledger: &Book<LedgerObject>, pass: LedgerPass<N>)
+        requires { ledger.now ≡ N.ledger }
         ensures { self.new ≡ self.old }
     {
         self.kept = match self.kept.take() {
             None => Some(pass),
             Some(kept) => {
                 let mut kept = kept.into_pass();
-                hall.ledger.meet(&mut kept, pass.into_pass().into_note());
+                ledger.meet(&mut kept, pass.into_pass().into_note());
                 Some(LedgerPass::of(kept))
             }
         };

@@ -23,7 +23,7 @@ use std::alloc::Global;
 
 /// The verdict on a history and its journals for a program: the first flaw, or `Run`, where they are a whole run. There is one such
 /// verdict. Its conditions are limits of a trace text: a proper setup, at most 2^32 entries, and one journal for each place that is
-/// there or may join. It takes memory in proportion to the history and the journals. The only refusal is want of memory.
+/// there or may join. It takes memory in proportion to the history and the journals. The only refusal is out of memory.
 pub fn verify(
     alloc: Global,
     program: &Program,

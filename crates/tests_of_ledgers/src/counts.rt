@@ -223,54 +223,6 @@ fn five(alloc: Global) -> Result<Faults, LedgerFault> {
     Ok(faults)
 }
 
-/// Place 1 dies; task 2 ends under the finish whose home was there; task 0 releases its own.
-fn end_late(ledger: &mut CountLedger, alloc: Global) -> Result<Outcome, LedgerFault>
-    requires { StandsFor ledger.old 0 (opening 3) }
-{
-    nest_two(ledger, alloc, 3)?;
-    ledger.death(PlaceId(1), 8);
-    let last = Caller {
-        task: TaskId(2),
-        scope: ScopeId(2),
-        inner: ScopeId(2),
-        place: Where::At(PlaceId(2)),
-    };
-    let thrown = five(alloc)?;
-    if let Err(refused) = ledger.end(last, thrown) {
-        return Err(refused.0);
-    }
-    ledger.release(Caller {
-        task: TaskId(0),
-        scope: ScopeId(0),
-        inner: ScopeId(1),
-        place: Where::At(PlaceId(0)),
-    })
-}
-
-/// The same where task 2 ends before.
-fn end_early(ledger: &mut CountLedger, alloc: Global) -> Result<Outcome, LedgerFault>
-    requires { StandsFor ledger.old 0 (opening 3) }
-{
-    nest_two(ledger, alloc, 3)?;
-    let last = Caller {
-        task: TaskId(2),
-        scope: ScopeId(2),
-        inner: ScopeId(2),
-        place: Where::At(PlaceId(2)),
-    };
-    let thrown = five(alloc)?;
-    if let Err(refused) = ledger.end(last, thrown) {
-        return Err(refused.0);
-    }
-    ledger.death(PlaceId(1), 9);
-    ledger.release(Caller {
-        task: TaskId(0),
-        scope: ScopeId(0),
-        inner: ScopeId(1),
-        place: Where::At(PlaceId(0)),
-    })
-}
-
 /// Task 1 calls place 2, where the callee nests; task 3 ends with a fault; places 2 and 1 die, so that the finish at place 2 is adopted
 /// by the call, and both by the finish of task 0, which is released.
 fn adopt_twice(ledger: &mut CountLedger, alloc: Global) -> Result<Outcome, LedgerFault>
@@ -332,22 +284,6 @@ fn adopt_twice(ledger: &mut CountLedger, alloc: Global) -> Result<Outcome, Ledge
     })
 }
 
-/// How many places task 0 is told of, before place 1 joins and after.
-fn widen(ledger: &mut CountLedger) -> Result<(u8, u8), LedgerFault>
-    requires { StandsFor ledger.old 1 (opening 1) }
-{
-    let main = Caller {
-        task: TaskId(0),
-        scope: ScopeId(0),
-        inner: ScopeId(0),
-        place: Where::At(PlaceId(0)),
-    };
-    let before = ledger.census(main)?;
-    ledger.join(PlaceId(1));
-    let after = ledger.census(main)?;
-    Ok((before, after))
-}
-
 /// Task 0 calls place 1, and the host asks to release the root.
 fn call(ledger: &mut CountLedger) -> Result<(Born, Result<Outcome, LedgerFault>), LedgerFault>
     requires { StandsFor ledger.old 0 (opening 4) }
@@ -370,32 +306,9 @@ fn nearest_living_scope_adopts(rt: HostRuntime) -> Result<(), Fail> {
     assert_eq!(rt; told, (ScopeId(2), 1, 0, PlaceSet(4), 1));
     assert_eq!(rt; outcome.lost, PlaceSet(4));
     assert_eq!(rt; outcome.thrown.len(), 0);
-    Ok(())
-}
-
-#[test]
-fn two_losses_in_one_release(rt: HostRuntime) -> Result<(), Fail> {
     let mut ledger = CountLedger::open(rt.alloc(), 4)?;
     let told = lose_two(&mut ledger, rt.alloc())?;
     assert_eq!(rt; told, (ScopeId(2), 0, 0, PlaceSet(12), 1));
-    Ok(())
-}
-
-#[test]
-fn late_end_is_masked(rt: HostRuntime) -> Result<(), Fail> {
-    let mut ledger = CountLedger::open(rt.alloc(), 3)?;
-    let outcome = end_late(&mut ledger, rt.alloc())?;
-    assert_eq!(rt; (outcome.lost, outcome.masked), (PlaceSet(2), 1));
-    assert_eq!(rt; outcome.thrown.len(), 0);
-    Ok(())
-}
-
-#[test]
-fn held_fault_is_masked(rt: HostRuntime) -> Result<(), Fail> {
-    let mut ledger = CountLedger::open_for(rt.alloc(), 3, 0)?;
-    let outcome = end_early(&mut ledger, rt.alloc())?;
-    assert_eq!(rt; (outcome.lost, outcome.masked), (PlaceSet(2), 1));
-    assert_eq!(rt; outcome.thrown.len(), 0);
     Ok(())
 }
 
@@ -409,39 +322,14 @@ fn second_adoption_keeps_what_is_masked(rt: HostRuntime) -> Result<(), Fail> {
 }
 
 #[test]
-fn place_joins(rt: HostRuntime) -> Result<(), Fail> {
-    let mut ledger = CountLedger::open_for(rt.alloc(), 1, 1)?;
-    let told = widen(&mut ledger)?;
-    assert_eq!(rt; told, (1, 2));
-    Ok(())
-}
-
-#[test]
-fn ordinary_case(rt: HostRuntime) -> Result<(), Fail> {
-    let mut two = CountLedger::open(rt.alloc(), 2)?;
-    let told = pass(&mut two, rt.alloc(), 2)?;
+fn tasks_are_counted_where_they_are(rt: HostRuntime) -> Result<(), Fail> {
+    let mut ledger = CountLedger::open(rt.alloc(), 2)?;
+    let told = pass(&mut ledger, rt.alloc(), 2)?;
     assert_eq!(rt; told, (1, 1, 0, 0, true));
-    let mut sixteen = CountLedger::open(rt.alloc(), 16)?;
-    let told = pass(&mut sixteen, rt.alloc(), 16)?;
-    assert_eq!(rt; told, (1, 1, 0, 0, true));
-    Ok(())
-}
-
-#[test]
-fn loss_in_transit(rt: HostRuntime) -> Result<(), Fail> {
-    let mut two = CountLedger::open(rt.alloc(), 2)?;
-    let (early, transit, lost, adopter) = lose(&mut two, rt.alloc(), 2)?;
+    let mut ledger = CountLedger::open(rt.alloc(), 2)?;
+    let (early, transit, lost, adopter) = lose(&mut ledger, rt.alloc(), 2)?;
     assert!(rt; matches!(early, Err(LedgerFault::NotYet { place: PlaceId(1) })));
     assert_eq!(rt; (transit, lost, adopter), (0, PlaceSet(2), ScopeId(1)));
-    let mut sixteen = CountLedger::open(rt.alloc(), 16)?;
-    let (early, transit, lost, adopter) = lose(&mut sixteen, rt.alloc(), 16)?;
-    assert!(rt; matches!(early, Err(LedgerFault::NotYet { place: PlaceId(1) })));
-    assert_eq!(rt; (transit, lost, adopter), (0, PlaceSet(2), ScopeId(1)));
-    Ok(())
-}
-
-#[test]
-fn callee_hinders_the_root(rt: HostRuntime) -> Result<(), Fail> {
     let mut ledger = CountLedger::open(rt.alloc(), 4)?;
     let (born, early) = call(&mut ledger)?;
     assert_eq!(rt;

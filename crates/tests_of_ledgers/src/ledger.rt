@@ -48,39 +48,6 @@ fn moved<T: Send>(x: T) -> T
     x
 }
 
-#[test]
-fn a_keeper_opens_without_entries(rt: HostRuntime) -> Result<(), Fail> {
-    let (keeper, ticket) = opened(rt.alloc(), &calm(rt.alloc()))?;
-    let task = ticket.caller().task;
-    ticket.spent();
-    assert_eq!(rt; task, TaskId(0));
-    assert_eq!(rt; keeper.len(), 0);
-    assert_eq!(rt; keeper.deaths(), PlaceSet(0));
-    let (history, _ledger) = moved(keeper).into_history();
-    assert_eq!(rt; history.len(), 0);
-    Ok(())
-}
-
-#[test]
-fn requests_and_replies_may_be_moved(rt: HostRuntime) -> Result<(), Fail> {
-    let (_keeper, ticket) = opened(rt.alloc(), &calm(rt.alloc()))?;
-    let request = moved(Request {
-        ticket: AnyTicket::Running(ticket),
-        ask: Ask::Open,
-        batch: Batch::open(rt.alloc()),
-        path: None,
-    });
-    let reply = moved(Reply::NotYet {
-        place: PlaceId(1),
-        request,
-    });
-    match reply {
-        Reply::NotYet { place: _, request } => end(request),
-        _ => unreachable!(),
-    }
-    Ok(())
-}
-
 // Lets the main activity print, and then asks for the root's release, which has to wait for it.
 fn prints_and_waits(alloc: Global) -> Result<(u32, u32), NoMemory> {
     let (mut keeper, ticket) = opened(alloc, &calm(alloc))?;
@@ -107,10 +74,22 @@ fn prints_and_waits(alloc: Global) -> Result<(u32, u32), NoMemory> {
 }
 
 #[test]
-fn the_root_waits_for_the_main_activity(rt: HostRuntime) -> Result<(), Fail> {
+fn a_keeper_opens_empty_and_its_root_waits(rt: HostRuntime) -> Result<(), Fail> {
+    let (keeper, ticket) = opened(rt.alloc(), &calm(rt.alloc()))?;
+    let task = ticket.caller().task;
+    let request = moved(Request {
+        ticket: AnyTicket::Running(ticket),
+        ask: Ask::Open,
+        batch: Batch::open(rt.alloc()),
+        path: None,
+    });
+    end(request);
+    assert_eq!(rt; task, TaskId(0));
+    assert_eq!(rt; (keeper.len(), keeper.deaths()), (0, PlaceSet(0)));
+    let (history, _ledger) = moved(keeper).into_history();
+    assert_eq!(rt; history.len(), 0);
     let (entries, place) = prints_and_waits(rt.alloc())?;
-    assert_eq!(rt; entries, 1);
-    assert_eq!(rt; place, 0);
+    assert_eq!(rt; (entries, place), (1, 0));
     Ok(())
 }
 

@@ -1,4 +1,4 @@
-// The moves of a ticket, one that is let go in transit, and tickets that go to other threads.
+// Tickets that go to other threads and are lost there, and one that is let go in transit.
 ghost use Rattle.std.specs.Prelude.{◌≡◌};
 ghost use Rattle.rx_rules.specs.declared.tasks.Where.TheVariants.{At, Travel};
 
@@ -29,31 +29,6 @@ fn travels() -> Where
     }
 }
 
-#[test]
-fn a_ticket_tells_its_caller_after_each_move(rt: HostRuntime) {
-    let moving = Ticket::<InTransit>::issue(child(travels()));
-    assert_eq!(rt; moving.caller(), child(travels()));
-    let landed = moving.landed();
-    assert_eq!(rt; landed.caller(), child(Where::At(PlaceId(1))));
-    let opened = landed.opened(ScopeId(4));
-    assert_eq!(rt; opened.caller().inner, ScopeId(4));
-    assert_eq!(rt; opened.caller().scope, ScopeId(1));
-    let held = opened.waits();
-    assert_eq!(rt; held.caller().inner, ScopeId(4));
-    let resumed = held.resumed(ScopeId(1));
-    assert_eq!(rt; resumed.caller(), child(Where::At(PlaceId(1))));
-    resumed.spent();
-}
-
-#[test]
-fn one_in_transit_may_be_let_go(rt: HostRuntime) -> Result<(), Fail> {
-    let mut letters = Vec::new(rt.alloc());
-    letters.push(Ticket::<InTransit>::issue(child(travels())))?;
-    letters.push(Ticket::<InTransit>::issue(child(travels())))?;
-    assert_eq!(rt; letters.len(), 2);
-    Ok(())
-}
-
 // What any thread may be given.
 fn moved<T: Send>(x: T) -> T
     ensures { result ≡ x }
@@ -72,11 +47,15 @@ fn lost(t: AnyTicket) {
 }
 
 #[test]
-fn a_ticket_of_each_state_may_be_moved_and_lost(rt: HostRuntime) {
+fn a_ticket_of_each_state_may_be_moved_and_lost(rt: HostRuntime) -> Result<(), Fail> {
     let here = child(Where::At(PlaceId(1)));
     lost(moved(AnyTicket::Moving(Ticket::<InTransit>::issue(child(travels())))));
     lost(moved(AnyTicket::Running(Ticket::<Live>::issue(here))));
     lost(moved(AnyTicket::Held(Ticket::<Live>::issue(here).waits())));
     lost(AnyTicket::Host);
-    let _ = rt;
+    // one in transit may be let go
+    let mut letters = Vec::new(rt.alloc());
+    letters.push(Ticket::<InTransit>::issue(child(travels())))?;
+    assert_eq!(rt; letters.len(), 1);
+    Ok(())
 }

@@ -1,4 +1,4 @@
-// Worked histories, call by call, through the bound of the trait. And that ledgers may be moved between threads.
+// Worked histories, call by call, through the bound of the trait, over both ledgers. And that ledgers may be moved between threads.
 ghost use Rattle.std.specs.Prelude.{◌<◌, ℕ, pos, [], ◌∷◌, OnOk};
 ghost use Rattle.rx_base.specs.declared.values.Fault.TheVariants.{Thrown};
 ghost use Rattle.rx_rules.specs.declared.entries.Act.TheVariants.{Open, Spawn, Wait, End};
@@ -9,6 +9,7 @@ ghost use Rattle.rx_finish.specs.Callers.{MayAskEnd};
 ghost use Rattle.rx_tree.specs.Inside.Worked.{two_deep};
 
 use rx_base::{Fault, Faults, PlaceId, PlaceSet, ScopeId, TaskId};
+use rx_counts::CountLedger;
 use rx_tree::{Born, Caller, FinishLedger, LedgerFault, Outcome, TreeLedger, Where};
 use std::alloc::Global;
 use std::test::Fail;
@@ -235,44 +236,44 @@ fn dropped<L: FinishLedger>(
     Ok((outcome, root))
 }
 
+// Whether a release names these places and so many masked faults, and raises nothing.
+fn is_outcome(outcome: &Outcome, lost: PlaceSet, masked: u32) -> bool {
+    outcome.lost == lost && outcome.masked == masked && outcome.thrown.len() == 0
+}
+
 #[test]
-fn ordinary_case(rt: HostRuntime) -> Result<(), Fail> {
+fn an_ordinary_run_over_the_tree(rt: HostRuntime) -> Result<(), Fail> {
     let mut ledger = TreeLedger::open(rt.alloc(), 2)?;
     let (ready, outcome, root) = first_path(&mut ledger, rt.alloc())?;
     assert!(rt; ready);
-    assert_eq!(rt; outcome.lost, PlaceSet(0));
-    assert_eq!(rt; outcome.masked, 0);
-    assert_eq!(rt; outcome.thrown.len(), 0);
-    assert_eq!(rt; root.lost, PlaceSet(0));
-    assert_eq!(rt; root.masked, 0);
-    assert_eq!(rt; root.thrown.len(), 0);
+    assert!(rt; is_outcome(&outcome, PlaceSet(0), 0));
+    assert!(rt; is_outcome(&root, PlaceSet(0), 0));
     Ok(())
 }
 
 #[test]
-fn source_dies(rt: HostRuntime) -> Result<(), Fail> {
-    let mut ledger = TreeLedger::open(rt.alloc(), 3)?;
-    let arrived = source(&mut ledger, rt.alloc())?;
-    assert_eq!(rt;
-        arrived,
-        Err(LedgerFault::Lost {
-            place: PlaceId(1),
-            at: 6
-        })
-    );
+fn a_message_whose_source_dies_is_lost_in_both_ledgers(rt: HostRuntime) -> Result<(), Fail> {
+    let lost = Err(LedgerFault::Lost {
+        place: PlaceId(1),
+        at: 6,
+    });
+    let mut tree = TreeLedger::open(rt.alloc(), 3)?;
+    assert_eq!(rt; source(&mut tree, rt.alloc())?, lost);
+    let mut counts = CountLedger::open_for(rt.alloc(), 3, 0)?;
+    assert_eq!(rt; source(&mut counts, rt.alloc())?, lost);
     Ok(())
 }
 
 #[test]
-fn dropped_fault_is_counted(rt: HostRuntime) -> Result<(), Fail> {
-    let mut ledger = TreeLedger::open(rt.alloc(), 3)?;
-    let (outcome, root) = dropped(&mut ledger, rt.alloc())?;
-    assert_eq!(rt; outcome.lost, PlaceSet(2));
-    assert_eq!(rt; outcome.masked, 1);
-    assert_eq!(rt; outcome.thrown.len(), 0);
-    assert_eq!(rt; root.lost, PlaceSet(0));
-    assert_eq!(rt; root.masked, 0);
-    assert_eq!(rt; root.thrown.len(), 0);
+fn a_dropped_fault_is_counted_in_both_ledgers(rt: HostRuntime) -> Result<(), Fail> {
+    let mut tree = TreeLedger::open(rt.alloc(), 3)?;
+    let (outcome, root) = dropped(&mut tree, rt.alloc())?;
+    assert!(rt; is_outcome(&outcome, PlaceSet(2), 1));
+    assert!(rt; is_outcome(&root, PlaceSet(0), 0));
+    let mut counts = CountLedger::open_for(rt.alloc(), 3, 0)?;
+    let (outcome, root) = dropped(&mut counts, rt.alloc())?;
+    assert!(rt; is_outcome(&outcome, PlaceSet(2), 1));
+    assert!(rt; is_outcome(&root, PlaceSet(0), 0));
     Ok(())
 }
 
@@ -283,4 +284,5 @@ fn may_move<T: Send>() {}
 #[test]
 fn ledgers_may_be_moved(_rt: HostRuntime) {
     may_move::<TreeLedger>();
+    may_move::<CountLedger>();
 }

@@ -5,13 +5,13 @@ ghost use Rattle.rx_rules.specs.Terms.{Term, does};
 ghost use Rattle.rx_plan.specs.Next.{next_of};
 ghost use Rattle.rx_control.specs.Stands.{StandsFor};
 
-use rx_base::Fault::{HeapFull, NoPlace, Overflow, Stale, Thrown, WrongPlace};
+use rx_base::Fault::{HeapFull, NoPlace, Overflow, Stale, Thrown};
 use rx_base::{Fault, Faults, GlobalRef, NoMemory, Path, PlaceId, Value};
 use rx_check::{Program, check};
 use rx_control::Next::{Book, Cell, Local};
 use rx_control::Want::{Print, Release, Spawn, Wait};
-use rx_control::{CellOp, Control, Next, Variables, Want};
-use rx_script::{NameId, read_script};
+use rx_control::{CellOp, Control, Next, Want};
+use rx_script::read_script;
 use std::alloc::{AllocGlobal, Global};
 use std::process::Abort;
 use std::test::Fail;
@@ -281,6 +281,13 @@ const REFERENCE_AT_A_WRONG_PLACE_1: &[Step<'static>] = &[
 
 const REFERENCE_AT_A_WRONG_PLACE_2: &[Step<'static>] = &[(Local, &[1, 0, 0, 0], Nothing)];
 
+const REFERENCE_AT_A_WRONG_PLACE_3: &[Step<'static>] = &[
+    (Book(Want::At { to: THERE }), &[1, 0, 0], Nothing),
+    (Book(Release), &[], List(&[Overflow])),
+    (Local, &[], Nothing),
+    (Book(Print { value: 5 }), &[1, 1, 0], Nothing),
+];
+
 const LOCAL_FAULTS_1: &[Step<'static>] = &[(Local, &[0], Nothing)];
 
 const STORES_ANSWER_1: &[Step<'static>] = &[
@@ -338,6 +345,39 @@ const STORES_ANSWER_2: &[Step<'static>] = &[
     (Book(Print { value: 7 }), &[0, 1, 3], Nothing),
 ];
 
+// Scripts of the main activity alone, their steps, and the faults with which they end.
+const LOCAL_RUNS: &[(&[u8], &[Step<'static>], &[Fault])] = &[
+    (
+        b"print (9223372036854775807 + 1);",
+        LOCAL_FAULTS_1,
+        &[Overflow],
+    ),
+    (
+        b"set x = ((0 - 9223372036854775807) - 2);",
+        LOCAL_FAULTS_1,
+        &[Overflow],
+    ),
+    (
+        b"if (4294967296 * 2147483648) { } else { }",
+        LOCAL_FAULTS_1,
+        &[Overflow],
+    ),
+    (b"at 5 async { }", LOCAL_FAULTS_1, &[NoPlace]),
+    (b"at 2 { }", LOCAL_FAULTS_1, &[NoPlace]),
+    (b"at (0 - 1) { }", LOCAL_FAULTS_1, &[NoPlace]),
+    (b"throw (here - 7);", LOCAL_FAULTS_1, &[Thrown(-7)]),
+    (
+        b"new r = 3; forget r; new q = 3; get x = r[0];",
+        STORES_ANSWER_1,
+        &[Stale],
+    ),
+    (
+        b"try { new a = 4; } catch { new b = 4; put b[here] = 7; get x = b[0]; print x; }",
+        STORES_ANSWER_2,
+        &[],
+    ),
+];
+
 const NEW_TASKS_HAVE_COPIES_1: &[Step<'static>] = &[(Local, &[0], Nothing)];
 
 const NEW_TASKS_HAVE_COPIES_2: &[Step<'static>] = &[
@@ -373,69 +413,26 @@ const A_CENSUS_TELLS_OF_PLACES_4: &[Step<'static>] = &[
 // All expressions come before the home of the reference.
 #[test]
 fn reference_at_a_wrong_place(rt: HostRuntime) -> Result<(), Fail> {
-    for (bytes, fault) in [
-        (
-            b"new r = 1; try { at 1 { get x = r[0]; } } catch { print 5; }".as_slice(),
-            WrongPlace,
-        ),
-        (
-            b"new r = 1; try { at 1 { put r[0] = (9223372036854775807 + 1); } } catch { print 5; }",
-            Overflow,
-        ),
-    ] {
-        let p = program(rt.alloc(), bytes).expect(&rt, "a program");
-        let mut main = main_of(rt.alloc(), &p)?;
-        follow(&rt, &p, &mut main, HERE, REFERENCE_AT_A_WRONG_PLACE_1)?;
-        let mut callee = child_of(&rt, &p, &main)?;
-        follow(&rt, &p, &mut callee, THERE, REFERENCE_AT_A_WRONG_PLACE_2)?;
-        ends(&rt, &p, &mut callee, THERE, &[fault])?;
-        follow(
-            &rt,
-            &p,
-            &mut main,
-            HERE,
-            &[
-                (Book(Want::At { to: THERE }), &[1, 0, 0], Nothing),
-                (Book(Release), &[], List(&[fault])),
-                (Local, &[], Nothing),
-                (Book(Print { value: 5 }), &[1, 1, 0], Nothing),
-            ],
-        )?;
-        ends(&rt, &p, &mut main, HERE, &[])?;
-    }
+    let p = program(
+        rt.alloc(),
+        b"new r = 1; try { at 1 { put r[0] = (9223372036854775807 + 1); } } catch { print 5; }",
+    )
+    .expect(&rt, "a program");
+    let mut main = main_of(rt.alloc(), &p)?;
+    follow(&rt, &p, &mut main, HERE, REFERENCE_AT_A_WRONG_PLACE_1)?;
+    let mut callee = child_of(&rt, &p, &main)?;
+    follow(&rt, &p, &mut callee, THERE, REFERENCE_AT_A_WRONG_PLACE_2)?;
+    ends(&rt, &p, &mut callee, THERE, &[Overflow])?;
+    follow(&rt, &p, &mut main, HERE, REFERENCE_AT_A_WRONG_PLACE_3)?;
+    ends(&rt, &p, &mut main, HERE, &[])?;
     Ok(())
 }
 
 #[test]
-fn local_faults(rt: HostRuntime) -> Result<(), Fail> {
-    for (bytes, fault) in [
-        (b"print (9223372036854775807 + 1);".as_slice(), Overflow),
-        (b"set x = ((0 - 9223372036854775807) - 2);", Overflow),
-        (b"if (4294967296 * 2147483648) { } else { }", Overflow),
-        (b"at 5 async { }", NoPlace),
-        (b"at 2 { }", NoPlace),
-        (b"at (0 - 1) { }", NoPlace),
-        (b"throw (here - 7);", Thrown(-7)),
-    ] {
-        run(&rt, bytes, LOCAL_FAULTS_1, &[fault])?;
+fn local_faults_and_answers_of_stores(rt: HostRuntime) -> Result<(), Fail> {
+    for (bytes, steps, faults) in LOCAL_RUNS {
+        run(&rt, bytes, steps, faults)?;
     }
-    Ok(())
-}
-
-#[test]
-fn stores_answer(rt: HostRuntime) -> Result<(), Fail> {
-    run(
-        &rt,
-        b"new r = 3; forget r; new q = 3; get x = r[0];",
-        STORES_ANSWER_1,
-        &[Stale],
-    )?;
-    run(
-        &rt,
-        b"try { new a = 4; } catch { new b = 4; put b[here] = 7; get x = b[0]; print x; }",
-        STORES_ANSWER_2,
-        &[],
-    )?;
     Ok(())
 }
 
@@ -484,18 +481,4 @@ fn moved<T: Send>(t: T) -> T {
 
 fn moved_control(c: Control) -> Control {
     moved(c)
-}
-
-#[test]
-fn variables_hold_values(rt: HostRuntime) -> Result<(), Fail> {
-    let mut vars = Variables::none(rt.alloc(), PLACES);
-    vars.set(NameId(3), Value::Num(7))?;
-    let copy = vars.copy(rt.alloc())?;
-    vars.set(NameId(3), Value::Num(8))?;
-    vars.set(NameId(32), Value::Num(9))?;
-    assert_eq!(rt; copy.get(NameId(3)), Some(Value::Num(7)));
-    assert_eq!(rt; vars.get(NameId(3)), Some(Value::Num(8)));
-    assert_eq!(rt; vars.get(NameId(31)), None);
-    assert_eq!(rt; vars.get(NameId(32)), None);
-    Ok(())
 }

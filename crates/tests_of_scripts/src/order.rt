@@ -33,131 +33,122 @@ fn answers(
     Ok((before(&program, &x, &y), before(&program, &y, &x)))
 }
 
-#[test]
-fn tasks_and_finishes(rt: HostRuntime) -> Result<(), Fail> {
-    for (script, x, y, want) in [
-        (
-            b"print 1; print 2;".as_slice(),
-            [0].as_slice(),
-            [1].as_slice(),
-            (true, false),
-        ),
-        (b"print 1; print 2;", &[0], &[0], (false, false)),
-        (b"print 1; print 2;", &[2], &[3], (false, false)),
-        (b"print 1; print 2;", &[], &[0], (false, false)),
-        (
-            b"async { print 1; } print 2;",
-            &[0, 0],
-            &[1],
-            (false, false),
-        ),
-        (b"async { print 1; } print 2;", &[0], &[1], (false, false)),
-        (
-            b"at 1 async { print 1; } print 2;",
-            &[0, 0],
-            &[1],
-            (false, false),
-        ),
-        (b"print 1; async { print 2; }", &[0], &[1, 0], (true, false)),
-        (
-            b"async { print 1; print 2; }",
-            &[0, 0],
-            &[0, 1],
-            (true, false),
-        ),
-        (
-            b"finish { async { print 1; } } print 2;",
-            &[0, 0, 0],
-            &[1],
-            (true, false),
-        ),
-        (
-            b"async { finish { print 1; } } print 2;",
-            &[0, 0, 0],
-            &[1],
-            (false, false),
-        ),
-        (
-            b"finish { print 1; } print 2;",
-            &[0],
-            &[0, 0],
-            (false, false),
-        ),
-    ] {
-        assert_eq!(rt; answers(rt.alloc(), script, x, y)?, want);
-    }
-    Ok(())
-}
+// A script, two paths, and whether the first is before the second and the second before the first.
+type Row = (&'static [u8], &'static [u32], &'static [u32], (bool, bool));
+
+const ROWS: &[Row] = &[
+    (b"print 1; print 2;", &[0], &[1], (true, false)),
+    (b"print 1; print 2;", &[0], &[0], (false, false)),
+    (b"print 1; print 2;", &[2], &[3], (false, false)),
+    (b"print 1; print 2;", &[], &[0], (false, false)),
+    (
+        b"async { print 1; } print 2;",
+        &[0, 0],
+        &[1],
+        (false, false),
+    ),
+    (b"async { print 1; } print 2;", &[0], &[1], (false, false)),
+    (
+        b"at 1 async { print 1; } print 2;",
+        &[0, 0],
+        &[1],
+        (false, false),
+    ),
+    (b"print 1; async { print 2; }", &[0], &[1, 0], (true, false)),
+    (
+        b"async { print 1; print 2; }",
+        &[0, 0],
+        &[0, 1],
+        (true, false),
+    ),
+    (
+        b"finish { async { print 1; } } print 2;",
+        &[0, 0, 0],
+        &[1],
+        (true, false),
+    ),
+    (
+        b"async { finish { print 1; } } print 2;",
+        &[0, 0, 0],
+        &[1],
+        (false, false),
+    ),
+    (
+        b"finish { print 1; } print 2;",
+        &[0],
+        &[0, 0],
+        (false, false),
+    ),
+    (
+        b"try { at 1 { finish { at 2 async { print 1; } } } } catch dead { print 9; } print 2;",
+        &[0, 0, 0, 0, 0, 0],
+        &[1],
+        (true, false),
+    ),
+    (
+        b"if 1 { print 1; } else { print 2; }",
+        &[0, 0, 0],
+        &[0, 1, 0],
+        (false, false),
+    ),
+    (
+        b"if 1 { print 1; print 2; } else { }",
+        &[0, 0, 0],
+        &[0, 0, 1],
+        (true, false),
+    ),
+    (
+        b"if 1 { } else { print 1; } print 2;",
+        &[0, 1, 0],
+        &[1],
+        (true, false),
+    ),
+    (
+        b"repeat 3 { print 1; }",
+        &[0, 0, 0],
+        &[0, 2, 0],
+        (true, false),
+    ),
+    (
+        b"repeat 3 { print 1; print 2; }",
+        &[0, 1, 1],
+        &[0, 2, 0],
+        (true, false),
+    ),
+    (
+        b"repeat 3 { async { print 1; } }",
+        &[0, 0, 0, 0],
+        &[0, 2, 0],
+        (false, false),
+    ),
+    (
+        b"try { print 1; } catch { print 2; }",
+        &[0, 0, 0],
+        &[0, 1, 0],
+        (true, false),
+    ),
+    (
+        b"try { async { print 1; } } catch { print 2; }",
+        &[0, 0, 0, 0],
+        &[0, 1, 0],
+        (false, false),
+    ),
+    (
+        b"try { } catch { print 1; } print 2;",
+        &[0, 1, 0],
+        &[1],
+        (true, false),
+    ),
+    (b"at 1 { print 1; } print 2;", &[0], &[0, 0], (false, false)),
+    (b"set x = 1; print x;", &[0], &[1], (true, false)),
+    (b"census x; print x;", &[0], &[1], (true, false)),
+    (b"census x;", &[0], &[0, 0], (false, false)),
+];
 
 #[test]
-fn branches_turns_and_handlers(rt: HostRuntime) -> Result<(), Fail> {
-    for (script, x, y, want) in [
-        (
-            b"try { at 1 { finish { at 2 async { print 1; } } } } catch dead { print 9; } print 2;".as_slice(),
-            [0, 0, 0, 0, 0, 0].as_slice(),
-            [1].as_slice(),
-            (true, false),
-        ),
-        (
-            b"if 1 { print 1; } else { print 2; }",
-            &[0, 0, 0],
-            &[0, 1, 0],
-            (false, false),
-        ),
-        (
-            b"if 1 { print 1; print 2; } else { }",
-            &[0, 0, 0],
-            &[0, 0, 1],
-            (true, false),
-        ),
-        (
-            b"if 1 { } else { print 1; } print 2;",
-            &[0, 1, 0],
-            &[1],
-            (true, false),
-        ),
-        (
-            b"repeat 3 { print 1; }",
-            &[0, 0, 0],
-            &[0, 2, 0],
-            (true, false),
-        ),
-        (
-            b"repeat 3 { print 1; print 2; }",
-            &[0, 1, 1],
-            &[0, 2, 0],
-            (true, false),
-        ),
-        (
-            b"repeat 3 { async { print 1; } }",
-            &[0, 0, 0, 0],
-            &[0, 2, 0],
-            (false, false),
-        ),
-        (
-            b"try { print 1; } catch { print 2; }",
-            &[0, 0, 0],
-            &[0, 1, 0],
-            (true, false),
-        ),
-        (
-            b"try { async { print 1; } } catch { print 2; }",
-            &[0, 0, 0, 0],
-            &[0, 1, 0],
-            (false, false),
-        ),
-        (
-            b"try { } catch { print 1; } print 2;",
-            &[0, 1, 0],
-            &[1],
-            (true, false),
-        ),
-        (b"at 1 { print 1; } print 2;", &[0], &[0, 0], (false, false)),
-        (b"set x = 1; print x;", &[0], &[1], (true, false)),
-        (b"census x; print x;", &[0], &[1], (true, false)),
-        (b"census x;", &[0], &[0, 0], (false, false)),
-    ] {
-        assert_eq!(rt; answers(rt.alloc(), script, x, y)?, want);
+fn statements_stand_in_their_order(rt: HostRuntime) -> Result<(), Fail> {
+    for (script, x, y, want) in ROWS {
+        assert_eq!(rt; answers(rt.alloc(), script, x, y)?, *want);
     }
     Ok(())
 }

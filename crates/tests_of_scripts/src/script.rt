@@ -36,6 +36,93 @@ fn fault(alloc: Global, bytes: &[u8]) -> Option<u32> {
     }
 }
 
+// Scripts that go wrong, and where.
+const FAULTS: &[(&[u8], u32)] = &[
+    (b"print 7", 7),
+    (b"print 7; pri", 9),
+    (b"print 9223372036854775808;", 6),
+    (b"print 7 # a", 11),
+    (b"print 007;", 6),
+    (b"print 7a;", 6),
+    (b"set abcdefghijklmnopq = 1;", 4),
+    (b"print 7;,", 8),
+    (b"print 7; $", 9),
+    (b"census;", 6),
+    (b"census n = 1;", 9),
+    (b"x = 1;", 0),
+    (b"set 7 = 1;", 4),
+    (b"set if = 1;", 4),
+    (b"set x == 1;", 6),
+    (b"set x = );", 8),
+    (b"new x = 0;", 8),
+    (b"new x = 65537;", 8),
+    (b"repeat 1000001 { }", 7),
+    (b"get x = y z", 10),
+    (b"get x = y[1;", 11),
+    (b"print (1 2);", 9),
+    (b"print (1 + 2;", 12),
+    (b"at 0 finish { }", 5),
+    (b"async print", 6),
+    (b"async { } }", 10),
+    (b"async { finish { }", 18),
+    (b"if x { } print 7;", 9),
+    (b"if x { }", 8),
+    (b"if x { } else { } else { }", 18),
+    (b"try { } else { }", 8),
+    (b"try { } catch at { }", 14),
+    (b"try { } catch dead }", 19),
+];
+
+const SCRIPT: &[u8] = b"finish { at 1 async { print 7; } } print 8;";
+
+// For each length, where that much of the script goes wrong, if it does.
+const CUTS: &[Option<u32>] = &[
+    None,
+    Some(0),
+    Some(0),
+    Some(0),
+    Some(0),
+    Some(0),
+    Some(6),
+    Some(7),
+    Some(8),
+    Some(9),
+    Some(9),
+    Some(11),
+    Some(12),
+    Some(13),
+    Some(14),
+    Some(14),
+    Some(14),
+    Some(14),
+    Some(14),
+    Some(19),
+    Some(20),
+    Some(21),
+    Some(22),
+    Some(22),
+    Some(22),
+    Some(22),
+    Some(22),
+    Some(27),
+    Some(28),
+    Some(29),
+    Some(30),
+    Some(31),
+    Some(32),
+    Some(33),
+    None,
+    None,
+    Some(35),
+    Some(35),
+    Some(35),
+    Some(35),
+    Some(40),
+    Some(41),
+    Some(42),
+    None,
+];
+
 #[test]
 fn scripts_are_read(rt: HostRuntime) {
     let every =
@@ -55,43 +142,13 @@ fn scripts_are_read(rt: HostRuntime) {
 }
 
 #[test]
-fn faults_have_their_place(rt: HostRuntime) {
-    for (bytes, at) in [
-        (b"print 7".as_slice(), 7),
-        (b"print 7; pri".as_slice(), 9),
-        (b"print 9223372036854775808;".as_slice(), 6),
-        (b"print 7 # a".as_slice(), 11),
-        (b"print 007;".as_slice(), 6),
-        (b"print 7a;".as_slice(), 6),
-        (b"set abcdefghijklmnopq = 1;".as_slice(), 4),
-        (b"print 7;,".as_slice(), 8),
-        (b"print 7; $".as_slice(), 9),
-        (b"census;".as_slice(), 6),
-        (b"census n = 1;".as_slice(), 9),
-        (b"x = 1;".as_slice(), 0),
-        (b"set 7 = 1;".as_slice(), 4),
-        (b"set if = 1;".as_slice(), 4),
-        (b"set x == 1;".as_slice(), 6),
-        (b"set x = );".as_slice(), 8),
-        (b"new x = 0;".as_slice(), 8),
-        (b"new x = 65537;".as_slice(), 8),
-        (b"repeat 1000001 { }".as_slice(), 7),
-        (b"get x = y z".as_slice(), 10),
-        (b"get x = y[1;".as_slice(), 11),
-        (b"print (1 2);".as_slice(), 9),
-        (b"print (1 + 2;".as_slice(), 12),
-        (b"at 0 finish { }".as_slice(), 5),
-        (b"async print".as_slice(), 6),
-        (b"async { } }".as_slice(), 10),
-        (b"async { finish { }".as_slice(), 18),
-        (b"if x { } print 7;".as_slice(), 9),
-        (b"if x { }".as_slice(), 8),
-        (b"if x { } else { } else { }".as_slice(), 18),
-        (b"try { } else { }".as_slice(), 8),
-        (b"try { } catch at { }".as_slice(), 14),
-        (b"try { } catch dead }".as_slice(), 19),
-    ] {
-        assert_eq!(rt; fault(rt.alloc(), bytes), Some(at));
+fn faults_have_their_place_and_a_script_is_cut_at_every_length(rt: HostRuntime) {
+    for (bytes, at) in FAULTS {
+        assert_eq!(rt; fault(rt.alloc(), bytes), Some(*at));
+    }
+    for (len, at) in CUTS.iter().enumerate() {
+        let front = SCRIPT.get(..len).expect(&rt, "a front");
+        assert_eq!(rt; fault(rt.alloc(), front), *at);
     }
 }
 

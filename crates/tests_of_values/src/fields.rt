@@ -13,24 +13,7 @@ fn behind_first(line: &[u8]) -> Words<'_> {
 }
 
 #[test]
-fn bytes_are_cut_into_lines_and_words(rt: HostRuntime) {
-    assert!(rt;
-        first_line(b"0 end t0\n1 end") == Some((b"0 end t0".as_slice(), b"1 end".as_slice()))
-    );
-    assert!(rt; first_line(b"0 end t0").is_none());
-    let (first, mut words) = split_words(b"end t0  ");
-    assert!(rt; is_same(first, b"end"));
-    assert!(rt; !is_same(first, b"and"));
-    assert!(rt; words.next() == Some(b"t0".as_slice()));
-    assert!(rt; words.next() == Some(b"".as_slice()));
-    assert!(rt; !words.is_empty());
-    assert!(rt; words.next() == Some(b"".as_slice()));
-    assert!(rt; words.next().is_none());
-    assert!(rt; words.is_empty());
-}
-
-#[test]
-fn numbers_have_one_spelling(rt: HostRuntime) {
+fn numbers_have_one_spelling_and_fields_their_kind(rt: HostRuntime) -> Result<(), Fail> {
     for (line, natural, signed, count) in [
         (b"n 0".as_slice(), Some(0), Some(0), None),
         (b"n 16", Some(16), Some(16), Some(16)),
@@ -66,10 +49,6 @@ fn numbers_have_one_spelling(rt: HostRuntime) {
     assert!(rt; !is_number(b"00", 0));
     assert!(rt; after_short(b"12 end", 12).is_some());
     assert!(rt; after_short(b"12 end", 1).is_none());
-}
-
-#[test]
-fn fields_are_words_of_their_kind(rt: HostRuntime) -> Result<(), Fail> {
     assert_eq!(rt; place_field(&mut behind_first(b"n 2"), 3), Some(PlaceId(2)));
     assert_eq!(rt; place_field(&mut behind_first(b"n 3"), 3), None);
     assert_eq!(rt;
@@ -117,7 +96,20 @@ fn fields_are_words_of_their_kind(rt: HostRuntime) -> Result<(), Fail> {
 }
 
 #[test]
-fn parts_may_be_missing(rt: HostRuntime) -> Result<(), Fail> {
+fn lines_are_cut_and_parts_may_be_missing(rt: HostRuntime) -> Result<(), Fail> {
+    assert!(rt;
+        first_line(b"0 end t0\n1 end") == Some((b"0 end t0".as_slice(), b"1 end".as_slice()))
+    );
+    assert!(rt; first_line(b"0 end t0").is_none());
+    let (first, mut words) = split_words(b"end t0  ");
+    assert!(rt; is_same(first, b"end"));
+    assert!(rt; !is_same(first, b"and"));
+    assert!(rt; words.next() == Some(b"t0".as_slice()));
+    assert!(rt; words.next() == Some(b"".as_slice()));
+    assert!(rt; !words.is_empty());
+    assert!(rt; words.next() == Some(b"".as_slice()));
+    assert!(rt; words.next().is_none());
+    assert!(rt; words.is_empty());
     let mut words = behind_first(b"n lost 1 2 masked 10 thrown dead:1 code:-5 stale | 0.1 2");
     match outcome_part(rt.alloc(), &mut words, 3)? {
         Some((lost, masked, thrown)) => {

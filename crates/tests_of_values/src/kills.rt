@@ -44,62 +44,30 @@ fn only_the_one_spelling_is_read(rt: HostRuntime) {
 }
 
 #[test]
-fn two_kills_at_one_moment(rt: HostRuntime) -> Result<(), Fail> {
-    let mut list = KillList::open(rt.alloc());
-    list.push(planned(1, 4))?;
-    list.push(planned(2, 4))?;
-    list.push(planned(3, 9))?;
-    let joins = JoinList::open(rt.alloc());
-    let mut kills = Kills::open(rt.alloc(), &list, &joins, 4)?;
-    assert_eq!(rt; kills.due(3), None);
-    assert_eq!(rt; kills.due(4), Some(Due::Death(PlaceId(1))));
-    kills.done();
-    assert_eq!(rt; kills.due(5), Some(Due::Death(PlaceId(2))));
-    kills.done();
-    assert_eq!(rt; kills.due(8), None);
-    assert_eq!(rt; kills.due(9), Some(Due::Death(PlaceId(3))));
-    kills.done();
-    assert_eq!(rt; kills.due(u32::MAX), None);
-    Ok(())
-}
-
-#[test]
-fn a_place_joins_before_it_dies(rt: HostRuntime) -> Result<(), Fail> {
-    let mut list = KillList::open(rt.alloc());
-    list.push(planned(2, 0))?;
-    let mut joins = JoinList::open(rt.alloc());
-    joins.push(0)?;
-    let mut kills = Kills::open(rt.alloc(), &list, &joins, 2)?;
-    assert_eq!(rt; kills.due(0), Some(Due::Join(PlaceId(2))));
-    kills.done();
-    assert_eq!(rt; kills.due(1), Some(Due::Death(PlaceId(2))));
-    kills.done();
-    assert_eq!(rt; kills.due(u32::MAX), None);
-    Ok(())
-}
-
-#[test]
 fn joins_stand_among_kills(rt: HostRuntime) -> Result<(), Fail> {
     let mut list = KillList::open(rt.alloc());
     list.push(planned(1, 3))?;
-    list.push(planned(2, 7))?;
+    list.push(planned(2, 3))?;
+    list.push(planned(5, 8))?;
     let mut joins = JoinList::open(rt.alloc());
     joins.push(5)?;
     joins.push(5)?;
     joins.push(8)?;
     let mut kills = Kills::open(rt.alloc(), &list, &joins, 3)?;
-    assert_eq!(rt; kills.due(4), Some(Due::Death(PlaceId(1))));
-    kills.done();
-    assert_eq!(rt; kills.due(4), None);
-    assert_eq!(rt; kills.due(5), Some(Due::Join(PlaceId(3))));
-    kills.done();
-    assert_eq!(rt; kills.due(6), Some(Due::Join(PlaceId(4))));
-    kills.done();
-    assert_eq!(rt; kills.due(7), Some(Due::Death(PlaceId(2))));
-    kills.done();
-    assert_eq!(rt; kills.due(7), None);
-    assert_eq!(rt; kills.due(8), Some(Due::Join(PlaceId(5))));
-    kills.done();
-    assert_eq!(rt; kills.due(u32::MAX), None);
+    assert_eq!(rt; kills.due(2), None);
+    for (moment, due, before) in [
+        (4, Due::Death(PlaceId(1)), None),
+        (4, Due::Death(PlaceId(2)), Some(4)),
+        (5, Due::Join(PlaceId(3)), None),
+        (6, Due::Join(PlaceId(4)), Some(7)),
+        (8, Due::Join(PlaceId(5)), None),
+        (9, Due::Death(PlaceId(5)), Some(u32::MAX)),
+    ] {
+        assert_eq!(rt; kills.due(moment), Some(due));
+        kills.done();
+        if let Some(later) = before {
+            assert_eq!(rt; kills.due(later), None);
+        }
+    }
     Ok(())
 }

@@ -4,7 +4,7 @@ use rx_text::{put_natural, put_num, put_path, scan_num};
 use std::test::Fail;
 
 #[test]
-fn numbers_are_written_in_decimal(rt: HostRuntime) -> Result<(), Fail> {
+fn numbers_are_decimal_and_paths_are_joined_by_dots(rt: HostRuntime) -> Result<(), Fail> {
     for (n, text) in [
         (0, b"0".as_slice()),
         (7, b"7"),
@@ -16,11 +16,6 @@ fn numbers_are_written_in_decimal(rt: HostRuntime) -> Result<(), Fail> {
         put_num(&mut out, n)?;
         assert_eq!(rt; out.as_slice(), text, "at {n}");
     }
-    Ok(())
-}
-
-#[test]
-fn paths_are_joined_by_dots(rt: HostRuntime) -> Result<(), Fail> {
     let mut out = b"print ".to_vec(rt.alloc())?;
     let mut path = Path::open(rt.alloc());
     put_path(&mut out, &path)?;

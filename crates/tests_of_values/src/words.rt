@@ -1,4 +1,4 @@
-// The worked words, and the order of kills and joins.
+// The worked words, and what they give.
 use rx_base::{Kill, NoMemory, PlaceId, RxWord};
 use rx_words::{Command, PickWords, WordFault, read_live, read_words};
 use std::alloc::Global;
@@ -32,77 +32,62 @@ fn bad_word(alloc: Global, line: &[u8]) -> Result<Option<u32>, NoMemory> {
     }
 }
 
+// Words, and the number of the first bad one.
+const BAD_WORDS: &[(&[u8], Option<u32>)] = &[
+    (b"", Some(0)),
+    (b"stop", Some(0)),
+    (b"step more", Some(1)),
+    (b"check more", Some(1)),
+    (b"check", None),
+    (b"verify", None),
+    (b"verify --places 2", Some(1)),
+    (b"span", None),
+    (b"span verify", Some(1)),
+    (b"step --places 2 --kill 0@3", Some(4)),
+    (b"step --kill 1@1 --kill 1@2", Some(4)),
+    (b"step --kill 2@1", Some(2)),
+    (b"step --kill", Some(2)),
+    (b"step --places 17", Some(2)),
+    (b"step --heap 4096 --heap 1", Some(3)),
+    (b"step --heap 4096 --places", Some(4)),
+    (b"step --heap 0", Some(2)),
+    (b"step --places 02", Some(2)),
+    (b"step --pick", Some(2)),
+    (b"step --pick ", Some(2)),
+    (b"step --pick 1,", Some(2)),
+    (b"step --pick 1000001", Some(2)),
+    (b"step --pick 0 --seed 5", Some(3)),
+    (b"gen --seed 5 --seed 5", Some(3)),
+    (b"step --seed 18446744073709551616", Some(2)),
+    (b"gen --pick 0", Some(1)),
+    (b"step --size 1", Some(1)),
+    (b"gen", Some(1)),
+    (b"gen --size", Some(2)),
+    (b"gen --size 0", Some(2)),
+    (b"gen --size 10001", Some(2)),
+    // a kill is looked at only where no word is missing
+    (b"gen --kill 0@1", Some(3)),
+    (b"gen --kill 0@1 --size 1", Some(2)),
+    (b"step --places 2 --join 5 --kill 2@4", Some(6)),
+    (b"step --places 2 --join 5 --kill 2@5", None),
+    (b"step --places 16 --join 1", Some(4)),
+    (b"step --places 16 --join 1 --kill 0@1", Some(4)),
+    (b"step --places 16 --kill 0@1 --join 1", Some(4)),
+    // the place of a kill may join by a later word, at the second of two moments
+    (b"step --kill 3@6 --join 7 --join 5", Some(2)),
+    (b"step --kill 3@7 --join 7 --join 5", None),
+    (b"step --kill 4@7 --join 7 --join 5", Some(2)),
+    (b"step --join 1000001", Some(2)),
+    (b"step --join 05", Some(2)),
+    (b"step --join", Some(2)),
+    (b"gen --join 1 --size 1", Some(1)),
+    (b"check --join 1", Some(1)),
+];
+
 #[test]
 fn the_first_bad_word_is_told(rt: HostRuntime) -> Result<(), Fail> {
-    for (line, want) in [
-        (b"".as_slice(), Some(0)),
-        (b"stop", Some(0)),
-        (b"step more", Some(1)),
-        (b"check more", Some(1)),
-        (b"check", None),
-        (b"verify", None),
-        (b"verify --places 2", Some(1)),
-        (b"span", None),
-        (b"span verify", Some(1)),
-        (b"step --places 2 --kill 0@3", Some(4)),
-        (b"step --kill 1@1 --kill 1@2", Some(4)),
-        (b"step --kill 2@1", Some(2)),
-        (b"step --kill", Some(2)),
-        (b"step --places 17", Some(2)),
-        (b"step --heap 4096 --heap 1", Some(3)),
-        (b"step --heap 4096 --places", Some(4)),
-        (b"step --heap 0", Some(2)),
-        (b"step --places 02", Some(2)),
-    ] {
-        assert_eq!(rt; bad_word(rt.alloc(), line)?, want);
-    }
-    Ok(())
-}
-
-#[test]
-fn the_first_bad_word_of_a_schedule_is_told(rt: HostRuntime) -> Result<(), Fail> {
-    for (line, want) in [
-        (b"step --pick".as_slice(), Some(2)),
-        (b"step --pick ", Some(2)),
-        (b"step --pick 1,", Some(2)),
-        (b"step --pick 1000001", Some(2)),
-        (b"step --pick 0 --seed 5", Some(3)),
-        (b"gen --seed 5 --seed 5", Some(3)),
-        (b"step --seed 18446744073709551616", Some(2)),
-        (b"gen --pick 0", Some(1)),
-        (b"step --size 1", Some(1)),
-        (b"gen", Some(1)),
-        (b"gen --size", Some(2)),
-        (b"gen --size 0", Some(2)),
-        (b"gen --size 10001", Some(2)),
-        // a kill is looked at only where no word is missing
-        (b"gen --kill 0@1", Some(3)),
-        (b"gen --kill 0@1 --size 1", Some(2)),
-    ] {
-        assert_eq!(rt; bad_word(rt.alloc(), line)?, want);
-    }
-    Ok(())
-}
-
-#[test]
-fn the_first_bad_join_or_kill_is_told(rt: HostRuntime) -> Result<(), Fail> {
-    for (line, want) in [
-        (b"step --places 2 --join 5 --kill 2@4".as_slice(), Some(6)),
-        (b"step --places 2 --join 5 --kill 2@5", None),
-        (b"step --places 16 --join 1", Some(4)),
-        (b"step --places 16 --join 1 --kill 0@1", Some(4)),
-        (b"step --places 16 --kill 0@1 --join 1", Some(4)),
-        // the place of a kill may join by a later word, at the second of two moments
-        (b"step --kill 3@6 --join 7 --join 5", Some(2)),
-        (b"step --kill 3@7 --join 7 --join 5", None),
-        (b"step --kill 4@7 --join 7 --join 5", Some(2)),
-        (b"step --join 1000001", Some(2)),
-        (b"step --join 05", Some(2)),
-        (b"step --join", Some(2)),
-        (b"gen --join 1 --size 1", Some(1)),
-        (b"check --join 1", Some(1)),
-    ] {
-        assert_eq!(rt; bad_word(rt.alloc(), line)?, want);
+    for (line, want) in BAD_WORDS {
+        assert_eq!(rt; bad_word(rt.alloc(), line)?, *want);
     }
     Ok(())
 }
@@ -117,16 +102,6 @@ fn joins_of(alloc: Global, line: &[u8]) -> Result<Vec<u32>, NoMemory> {
         }
     }
     Ok(joins)
-}
-
-#[test]
-fn joins_stand_in_order(rt: HostRuntime) -> Result<(), Fail> {
-    let joins = joins_of(
-        rt.alloc(),
-        b"step --join 1000000 --join 5 --places 12 --join 0 --join 5",
-    )?;
-    assert_eq!(rt; joins.as_slice(), [0, 5, 5, 1_000_000].as_slice());
-    Ok(())
 }
 
 // The kills of the setup that words give, in their order, or none where they give none.
@@ -148,17 +123,6 @@ fn planned(place: u8, moment: u32) -> Kill {
     }
 }
 
-#[test]
-fn kills_stand_in_order(rt: HostRuntime) -> Result<(), Fail> {
-    let kills = kills_of(
-        rt.alloc(),
-        b"step --kill 2@13 --kill 3@12 --places 4 --kill 1@13",
-    )?;
-    let want = [planned(3, 12), planned(1, 13), planned(2, 13)];
-    assert_eq!(rt; kills.as_slice(), want.as_slice());
-    Ok(())
-}
-
 // The pick list that words give, or none where they give none.
 fn picks_of(alloc: Global, line: &[u8]) -> Result<Vec<u32>, NoMemory> {
     let list = made(alloc, line)?;
@@ -171,13 +135,6 @@ fn picks_of(alloc: Global, line: &[u8]) -> Result<Vec<u32>, NoMemory> {
     Ok(picks)
 }
 
-#[test]
-fn picks_stand_as_they_were_given(rt: HostRuntime) -> Result<(), Fail> {
-    let list = picks_of(rt.alloc(), b"step --pick 7,0,1000000")?;
-    assert_eq!(rt; list.as_slice(), [7, 0, 1_000_000].as_slice());
-    Ok(())
-}
-
 // The size and the seed that words give, or none where they give none.
 fn size_and_seed(alloc: Global, line: &[u8]) -> Result<(u32, Option<u64>), NoMemory> {
     let list = made(alloc, line)?;
@@ -188,66 +145,62 @@ fn size_and_seed(alloc: Global, line: &[u8]) -> Result<(u32, Option<u64>), NoMem
 }
 
 #[test]
-fn greatest_size_and_seed_are_given(rt: HostRuntime) -> Result<(), Fail> {
-    let (size, seed) = size_and_seed(rt.alloc(), b"gen --seed 18446744073709551615 --size 10000")?;
-    assert_eq!(rt; size, 10_000);
-    assert_eq!(rt; seed, Some(18_446_744_073_709_551_615));
+fn what_words_give_stands_in_order(rt: HostRuntime) -> Result<(), Fail> {
+    let alloc = rt.alloc();
+    let joins = joins_of(
+        alloc,
+        b"step --join 1000000 --join 5 --places 12 --join 0 --join 5",
+    )?;
+    assert_eq!(rt; joins.as_slice(), [0, 5, 5, 1_000_000].as_slice());
+    let kills = kills_of(
+        alloc,
+        b"step --kill 2@13 --kill 3@12 --places 4 --kill 1@13",
+    )?;
+    let want = [planned(3, 12), planned(1, 13), planned(2, 13)];
+    assert_eq!(rt; kills.as_slice(), want.as_slice());
+    let picks = picks_of(alloc, b"step --pick 7,0,1000000")?;
+    assert_eq!(rt; picks.as_slice(), [7, 0, 1_000_000].as_slice());
+    let told = size_and_seed(alloc, b"gen --seed 18446744073709551615 --size 10000")?;
+    assert_eq!(rt; told, (10_000, Some(18_446_744_073_709_551_615)));
     Ok(())
 }
 
-// The number of workers that the words of `live` give, or else the number of the bad word.
-fn workers_of(alloc: Global, line: &[u8]) -> Result<(u32, Option<u32>), NoMemory> {
+// How many workers the words of `live` give and with how many snapshots they watch it, 0 where they do not, or else the number of the
+// bad word. Other words give no worker.
+fn live_of(alloc: Global, line: &[u8]) -> Result<(u32, u32, Option<u32>), NoMemory> {
     let list = made(alloc, line)?;
     match read_live(alloc, &list) {
-        Ok(Some(live)) => Ok((live.workers, None)),
-        Ok(None) => Ok((0, None)),
-        Err(WordFault::Bad { word }) => Ok((0, Some(word))),
+        Ok(Some(live)) => Ok((live.workers, live.watch.unwrap_or(0), None)),
+        Ok(None) => Ok((0, 0, None)),
+        Err(WordFault::Bad { word }) => Ok((0, 0, Some(word))),
         Err(WordFault::NoMemory) => Err(NoMemory),
     }
 }
 
-// With how many snapshots the words of `live` watch it, 0 where they do not, or else the number of the bad word.
-fn watch_of(alloc: Global, line: &[u8]) -> Result<(u32, Option<u32>), NoMemory> {
-    let list = made(alloc, line)?;
-    match read_live(alloc, &list) {
-        Ok(Some(live)) => Ok((live.watch.unwrap_or(0), None)),
-        Ok(None) => Ok((0, None)),
-        Err(WordFault::Bad { word }) => Ok((0, Some(word))),
-        Err(WordFault::NoMemory) => Err(NoMemory),
-    }
-}
-
-#[test]
-fn words_of_watch(rt: HostRuntime) -> Result<(), Fail> {
-    for (line, watch, bad) in [
-        (b"live".as_slice(), 0, None),
-        (b"live --watch 1000", 1000, None),
-        (b"live --watch 0", 0, Some(2)),
-        (b"live --watch 1001", 0, Some(2)),
-        (b"live --watch", 0, Some(2)),
-        (b"live --watch 1 --watch 1", 0, Some(3)),
-    ] {
-        assert_eq!(rt; watch_of(rt.alloc(), line)?, (watch, bad));
-    }
-    assert!(rt; read_words(rt.alloc(), &made(rt.alloc(), b"step --watch 1")?).is_err());
-    Ok(())
-}
+// Words, and what they give `live`.
+const LIVE_WORDS: &[(&[u8], u32, u32, Option<u32>)] = &[
+    (b"live", 2, 0, None),
+    (b"live --watch 1000", 2, 1000, None),
+    (b"live --watch 0", 0, 0, Some(2)),
+    (b"live --watch 1001", 0, 0, Some(2)),
+    (b"live --watch", 0, 0, Some(2)),
+    (b"live --watch 1 --watch 1", 0, 0, Some(3)),
+    (b"step --workers 2", 0, 0, None),
+    (b"live --workers 8", 8, 0, None),
+    (b"live --workers 9", 0, 0, Some(2)),
+    (b"live --workers 0", 0, 0, Some(2)),
+    (b"live --pick 0", 0, 0, Some(1)),
+    (b"live --seed 0", 0, 0, Some(1)),
+    (b"live --kill 2@1", 0, 0, Some(2)),
+    (b"live --kill 2@1 --join 1", 2, 0, None),
+    (b"live --workers 1 --workers 1", 0, 0, Some(3)),
+];
 
 #[test]
 fn words_of_live(rt: HostRuntime) -> Result<(), Fail> {
-    for (line, workers, bad) in [
-        (b"live".as_slice(), 2, None),
-        (b"step --workers 2", 0, None),
-        (b"live --workers 8", 8, None),
-        (b"live --workers 9", 0, Some(2)),
-        (b"live --workers 0", 0, Some(2)),
-        (b"live --pick 0", 0, Some(1)),
-        (b"live --seed 0", 0, Some(1)),
-        (b"live --kill 2@1", 0, Some(2)),
-        (b"live --kill 2@1 --join 1", 2, None),
-        (b"live --workers 1 --workers 1", 0, Some(3)),
-    ] {
-        assert_eq!(rt; workers_of(rt.alloc(), line)?, (workers, bad));
+    for (line, workers, watch, bad) in LIVE_WORDS {
+        assert_eq!(rt; live_of(rt.alloc(), line)?, (*workers, *watch, *bad));
     }
+    assert!(rt; read_words(rt.alloc(), &made(rt.alloc(), b"step --watch 1")?).is_err());
     Ok(())
 }

@@ -19,7 +19,7 @@ Grants stands l l' who act answer =
     (room : ℕ) (T : Tree) → stands l room T → MayAskAct T who act
     → Decides answer (AllowedAct T who.task act) (stands l' room (made_act T who.task act))
 
--- the fault is no want of memory
+-- the fault is not that memory ran out
 abbrev pub IsRefusal : LedgerFault → Type 0
 IsRefusal (NotYet place) = Unit {0}
 IsRefusal (Lost place at) = Unit {0}

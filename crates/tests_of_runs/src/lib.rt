@@ -1,0 +1,31 @@
+//! Tests of stores, books, objects, workers and watches, of runs on one thread and on several, and of what reads, replays and judges a
+//! trace. Each module has the name of the crate that it tests. They stand apart, so that none of those crates is proved twice; nothing
+//! else is here.
+#![tactic(auto)]
+
+#[cfg(test)]
+mod answers;
+#[cfg(test)]
+mod book;
+#[cfg(test)]
+mod live;
+#[cfg(test)]
+mod machine;
+#[cfg(test)]
+mod monitor;
+#[cfg(test)]
+mod objects_worked;
+#[cfg(test)]
+mod reading;
+#[cfg(test)]
+mod replay;
+#[cfg(test)]
+mod span;
+#[cfg(test)]
+mod stations;
+#[cfg(test)]
+mod store;
+#[cfg(test)]
+mod threads;
+#[cfg(test)]
+mod watch;

@@ -1,0 +1,105 @@
+"""A finish, and the handles of the tasks that it starts."""
+
+from __future__ import annotations
+
+from typing import Any, Callable, Dict, List, Optional
+
+from . import pickles
+from .errors import DeadPlace, Misuse, RemoteError, bare, group, leaves, outcome
+from .place import Place, Task
+from .progress import ProgressLine, Tally
+
+
+class Handle:
+    """A task that a finish started. It tells how the task ended, once the finish is over."""
+
+    def __init__(self, place: int) -> None:
+        self.place = place
+        self._over = False
+        self._value: Optional[bytes] = None
+        self._faults: List[Exception] = []
+
+    @property
+    def lost(self) -> bool:
+        """Whether the task was lost: its end was not told before its place died."""
+        self._check()
+        return self._value is None and not self._faults
+
+    def result(self) -> Any:
+        """What the task returned. Raises what it raised, or DeadPlace where it was lost; losses that it raised are DeadPlaces."""
+        if self.lost:
+            raise DeadPlace(self.place)
+        if self._faults:
+            raise bare(group("a task", self._faults))
+        return pickles.unpack_value(self._value)
+
+    def _check(self) -> None:
+        if not self._over:
+            raise Misuse("how a task ended is known once its finish is over")
+
+
+class Finish:
+    """`with` it. Leaving the block waits for all tasks under it, and then raises its losses and what they threw."""
+
+    def __init__(self, place: Place, progress: bool = False) -> None:
+        self._place = place
+        self._task: Optional[Task] = None
+        self._handles: Dict[int, Handle] = {}
+        self._line = ProgressLine() if progress else None
+        self.watch = next(place.serial) if progress else 0      # by which the hub names this finish when it tells of progress
+
+    def __enter__(self) -> Finish:
+        with self._place.guard():
+            self._task = task = self._place.task()
+            self._place.tell("open", task.key, self.watch)
+            task.finishes.append(self)
+        return self
+
+    def spawn(self, place: int, fn: Callable, /, *args: Any, **kwargs: Any) -> Handle:
+        """Starts fn(*args, **kwargs) as a task at a place, and returns its handle at once."""
+        if self._place.task() is not self._task or self._task.finishes[-1:] != [self]:
+            raise Misuse("tasks are started by the innermost finish, in the task that opened it")
+        key = self._place.spawn(place, fn, args, kwargs, True)
+        handle = self._handles[key] = Handle(place)
+        return handle
+
+    def __exit__(self, kind: Any, fault: Optional[BaseException], trace: Any) -> None:
+        if fault is not None and not isinstance(fault, Exception) and self._task is self._place.main:
+            self._place.abort(f"{type(fault).__name__} in a finish")
+            return
+        body = [] if fault is None else [_as_exception(leaf) for leaf in leaves(fault)]
+        with self._place.guard():
+            self._check_turn()
+            lost, masked, thrown, ends = self._place.wait_for_release(self._task, "wait", self._task.key, len(body))
+            self._task.finishes.pop()
+        thrown[:len(body)] = body
+        self._tell_handles(ends, thrown)
+        if self._line is not None:
+            self._line.end()
+        if lost or thrown:
+            raise outcome("a finish", lost, masked, thrown) from None
+
+    def _check_turn(self) -> None:
+        if self._place.task() is not self._task or self._task.finishes[-1:] != [self]:
+            self._place.abort("a finish was left out of turn")
+            raise Misuse("a finish was left out of turn")
+
+    def _tell_handles(self, ends: List[tuple], thrown: List[Exception]) -> None:
+        for key, kind, what in ends:
+            handle = self._handles.get(key)
+            if handle is not None and kind == "value":
+                handle._value = what
+            elif handle is not None:
+                handle._faults = [thrown[at] for at in what]
+        for handle in self._handles.values():
+            handle._over = True
+
+    def show(self, tally: Tally) -> None:
+        """Shows how far the tasks are, where progress is wanted."""
+        if self._line is not None:
+            self._line.show(tally)
+
+
+def _as_exception(fault: BaseException) -> Exception:
+    """What a body ended with, as a fault: its SystemExit is one as any other."""
+    return fault if isinstance(fault, Exception) else RemoteError(type(fault).__name__, str(fault))

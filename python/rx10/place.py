@@ -1,0 +1,278 @@
+"""A place: its line to the hub, its tasks, and what a task may ask for."""
+
+from __future__ import annotations
+
+import contextvars
+import itertools
+import pickle
+import queue
+import socket
+import threading
+from typing import Any, Callable, Dict, List, NamedTuple, Optional, Tuple, TYPE_CHECKING
+
+from . import pickles, wire
+from .errors import Closed, CoordinatorLost, Faults, Misuse, bare, leaves, outcome
+from .pool import Pool
+from .version import VERSION
+
+if TYPE_CHECKING:
+    from .finish import Finish
+
+RECEIVE = 1 << 18
+STOPPED = {"closed": Closed, "coordinator": CoordinatorLost}
+
+current: contextvars.ContextVar[Task] = contextvars.ContextVar("the task that runs in this thread")
+
+
+class Task:
+    """A task that runs at this place. It is one thread."""
+
+    def __init__(self, key: int, place: Place, pooled: bool = True) -> None:
+        self.key, self.place, self.pooled = key, place, pooled
+        self.thread: Optional[int] = None
+        self.finishes: List[Finish] = []                        # those that it entered and has not left, the innermost last
+        self.answers: queue.SimpleQueue[tuple] = queue.SimpleQueue()
+
+
+class Outcome(NamedTuple):
+    """How a finish or a call went."""
+
+    lost: List[int]
+    masked: int
+    thrown: List[Optional[Exception]]       # None for those that the finish's own body raised
+    ends: List[tuple]                       # (key, "value", bytes) and (key, "threw", positions in `thrown`)
+
+
+class Guard:
+    """Ends the job where an interrupt leaves a call of rx10 in the driver: how far the call had come is not known then."""
+
+    def __init__(self, place: Place) -> None:
+        self._place = place
+
+    def __enter__(self) -> Guard:
+        return self
+
+    def __exit__(self, kind: Any, fault: Optional[BaseException], trace: Any) -> None:
+        if fault is not None and not isinstance(fault, Exception) and self._place.owner == threading.get_ident():
+            self._place.abort(f"{kind.__name__} in a call of rx10")
+
+
+class Place:
+    """The part of a job that runs in this process."""
+
+    def __init__(self, line: socket.socket, by_value: bool = False) -> None:
+        self.number = -1                                        # until the hub tells it
+        self.living: Tuple[int, ...] = ()
+        self.count = 0                                          # places that have joined, dead ones too
+        self.store: Dict[Any, Any] = {}
+        self.objects: Dict[int, Any] = {}                       # what a Ref of this place stands for
+        self.serial = itertools.count(1)                        # of tasks and of objects
+        self.tasks: Dict[int, Task] = {}
+        self.pool = Pool(1)
+        self.closed: Optional[Closed] = None                    # what calls raise once the job is over
+        self.failed = False
+        # At place 0 alone:
+        self.main: Optional[Task] = None
+        self.owner: Optional[int] = None                        # the thread of the main task
+        self.ready = threading.Event()                          # the places of the beginning are there, or the job is over
+        self.end_others: Callable[[str], None] = lambda why: None
+
+        self._line, self._by_value, self._lock = line, by_value, threading.Lock()
+        wire.close_in_children(line)
+
+    # The line.
+
+    def listen(self) -> None:
+        """Takes what the hub sends, until the job is over or the line ends."""
+        frames = wire.Frames()
+        while not self.closed:
+            try:
+                data = self._line.recv(RECEIVE)
+            except OSError:
+                data = b""
+            if not data:
+                break
+            for kind, *rest in frames.feed(data):
+                self._HANDLE[kind](self, *rest)
+
+    def tell(self, *message: Any) -> None:
+        """Sends a message to the hub."""
+        if self.closed:
+            raise self.closed
+        data = wire.frame(message)
+        try:
+            with self._lock:
+                self._line.sendall(data)
+        except OSError:
+            raise self.closed or Closed("the hub is gone") from None
+
+    def hang_up(self) -> None:
+        """Closes the line."""
+        self._line.close()
+
+    def _on_hello(self, number: int, living: Tuple[int, ...], count: int, threads: int) -> None:
+        self.number, self.living, self.count, self.pool.limit = number, living, count, threads
+
+    def _on_places(self, living: Tuple[int, ...], count: int) -> None:
+        self.living, self.count = living, count
+
+    def _on_ready(self, living: Tuple[int, ...], count: int) -> None:
+        self._on_places(living, count)
+        self.ready.set()
+
+    def _on_run(self, key: int, call: bytes, wanted: bool) -> None:
+        self._start(key, call, wanted)
+
+    def _on_answer(self, kind: str, key: int, *rest: Any) -> None:
+        task = self.tasks.get(key)
+        if task is not None:
+            task.answers.put((kind, *rest))
+
+    def _on_stop(self, kind: str, why: str, over: bool) -> None:
+        if not over:
+            self.failed = True
+            self.end_others(why)                                # so nothing overtakes them
+        self.close(STOPPED[kind](why))
+
+    _HANDLE: Dict[str, Callable[..., None]] = {
+        "hello": _on_hello, "places": _on_places, "ready": _on_ready, "run": _on_run, "stop": _on_stop,
+        "released": lambda self, *rest: self._on_answer("released", *rest),
+        "joined": lambda self, *rest: self._on_answer("joined", *rest),
+        "progress": lambda self, *rest: self._on_answer("progress", *rest)}
+
+    def close(self, why: Closed) -> None:
+        """The job is over for this place: those who wait learn it, and all later calls."""
+        self.closed = self.closed or why
+        self.ready.set()
+        for task in list(self.tasks.values()):
+            task.answers.put(("stop",))
+
+    def abort(self, why: str) -> None:
+        """Ends the job. At place 0 it returns when the other places have ended, as far as the engine can end them."""
+        try:
+            self.tell("abort", why)
+        except Closed:
+            pass
+        self.close(Closed(why))
+        self.end_others(why)
+
+    # What tasks ask for.
+
+    def guard(self) -> Guard:
+        """For the body of a call of rx10."""
+        return Guard(self)
+
+    def task(self) -> Task:
+        """The task that runs in this thread. Raises Misuse where none does."""
+        if self.closed:
+            raise self.closed
+        task = current.get(None)
+        if task is None and self.owner == threading.get_ident():
+            task = self.main
+        if task is None or task.place is not self or task.thread != threading.get_ident():
+            raise Misuse("this thread runs no task of the job")
+        return task
+
+    def check(self, place: int) -> None:
+        """Raises ValueError where there is no such place."""
+        if not isinstance(place, int) or not 0 <= place < self.count:
+            raise ValueError(f"there is no place {place!r}: {self.count} have joined")
+
+    def wait(self, task: Task, *message: Any) -> tuple:
+        """Sends what makes the task wait, and waits for the answer. Another task may run in its stead meanwhile."""
+        self.tell(*message)
+        if task.pooled:
+            self.pool.leave()
+        kind, *answer = task.answers.get()
+        while kind == "progress":
+            watch, tally = answer
+            for finish in task.finishes:
+                if finish.watch == watch:
+                    finish.show(tally)
+            kind, *answer = task.answers.get()
+        if task.pooled:
+            self.pool.enter_again()
+        if kind == "stop":
+            raise self.closed
+        return tuple(answer)
+
+    def wait_for_release(self, task: Task, *message: Any) -> Outcome:
+        """The same, for what a release answers."""
+        lost, masked, thrown, ends = self.wait(task, *message)
+        return Outcome(lost, masked, [data if data is None else pickles.unpack_fault(data) for data in thrown], ends)
+
+    def spawn(self, place: int, fn: Callable, args: tuple, kwargs: dict, wanted: bool) -> int:
+        """Starts a task and returns its key."""
+        self.check(place)
+        task = self.task()
+        call = pickles.pack_call(fn, args, kwargs, self._by_value)      # where this raises nothing was told
+        with self.guard():
+            key = self._new_key()
+            at_home = place == self.number
+            self.tell("spawn", task.key, key, place, None if at_home else call, wanted)
+            if at_home:
+                self._start(key, call, wanted)
+        return key
+
+    def at(self, place: int, fn: Callable, args: tuple, kwargs: dict) -> Any:
+        """Calls a place, and waits."""
+        self.check(place)
+        task = self.task()
+        call = pickles.pack_call(fn, args, kwargs, self._by_value)
+        if place == self.number:
+            return self._at_home(call)
+        with self.guard():
+            lost, masked, thrown, ends = self.wait_for_release(task, "call", task.key, self._new_key(), place, call)
+        if not lost and not thrown:
+            return pickles.unpack_value(ends[0][2])
+        raise bare(outcome(f"at({place})", lost, masked, thrown))
+
+    def _at_home(self, call: bytes) -> Any:
+        """The same task goes on, with copies of arguments and result."""
+        fn, args, kwargs = pickle.loads(call)
+        try:
+            value = fn(*args, **kwargs)
+        except Faults as fault:
+            raise outcome(f"at({self.number})", (), 0, leaves(fault)) from fault    # an inner finish's `lost` is not this call's
+        return pickles.unpack_value(pickles.pack_value(value, self._by_value))
+
+    def _new_key(self) -> int:
+        return self.number << 40 | next(self.serial)
+
+    # Tasks.
+
+    def _start(self, key: int, call: bytes, wanted: bool) -> None:
+        self.tasks[key] = task = Task(key, self)
+        self.pool.submit(lambda: contextvars.Context().run(self._run, task, call, wanted))
+
+    def _run(self, task: Task, call: bytes, wanted: bool) -> None:
+        if self.closed:
+            return
+        current.set(task)
+        task.thread = threading.get_ident()
+        thrown: List[bytes] = []
+        value = None
+        try:
+            fn, args, kwargs = pickle.loads(call)
+            value = fn(*args, **kwargs)
+            if task.finishes:
+                self.abort("a task ended inside a finish")
+            value = pickles.pack_value(value, self._by_value) if wanted else None
+        except BaseException as fault:
+            if fault is self.closed:
+                return
+            value = None
+            thrown = [pickles.pack_fault(leaf, self._by_value) for leaf in leaves(fault)]
+        del self.tasks[task.key]
+        try:
+            self.tell("end", task.key, thrown, value)           # the result and the end are one message
+        except Closed:
+            pass
+
+
+def serve(line: socket.socket, by_value: bool = False) -> Place:
+    """The life of a place other than place 0, up to the end of the job or of its line."""
+    here = Place(line, by_value)
+    here.tell("ready", VERSION)
+    here.listen()
+    return here

@@ -1,0 +1,235 @@
+"""A job, as its driver has it."""
+
+from __future__ import annotations
+
+import json
+import logging
+import os
+import pathlib
+import socket
+import subprocess
+import sys
+import threading
+from typing import Any, Dict, List, Optional, Sequence
+
+from . import calls, program, wire
+from .calls import Calls
+from .engines.base import Engine
+from .errors import Closed, CoordinatorLost, leaves, outcome
+from .place import Place, Task
+from .version import VERSION
+
+BACKLOG = 1 << 30               # bytes that may wait for a place
+TOP = pathlib.Path(__file__).resolve().parents[1]
+HUB = f"import sys; sys.path.insert(0, {str(TOP)!r}); from rx10.hub.loop import main; main()"
+
+log = logging.getLogger("rx10")
+
+
+class Runtime(Calls):
+    """A job. `with` it: the thread that enters is the main task, at place 0. The end waits for what no finish waited for, and ends all places."""
+
+    def __init__(self, engine: Engine, places: int, threads: int = 1, backlog: int = BACKLOG, record: Optional[str] = None) -> None:
+        """Takes the options that all engines have.
+
+        Args:
+            places: those of the beginning, this process among them.
+            threads: tasks of a place that run at a time; one that waits does not count.
+            backlog: bytes of messages that may wait for a place that does not read. One that is further behind is ended, and a warning
+                of the logger `rx10` says so.
+            record: a file for the hub's requests to the coordinator and the replies. `python -m rx10.trace` makes a trace of it.
+        """
+        if places < 1:
+            raise ValueError("a job has one place at least")
+        if threads < 1:
+            raise ValueError("a place runs one task at a time at least")
+        command = [program.find().path, "--places", "1"]
+        self._settings = {"command": command, "places": places, "threads": threads, "backlog": backlog, "python": VERSION, "record": record}
+        self._engine = engine
+        self._tags: Dict[int, Any] = {}
+        self._joined = threading.Condition()                    # over `_tags`
+        self._hub: Optional[subprocess.Popen] = None
+
+    # The life of a job.
+
+    def __enter__(self) -> Runtime:
+        if self._hub is not None:
+            raise Closed("a job is entered once")
+        self._control, far_control = socket.socketpair()
+        line, far_line = socket.socketpair()
+        self._control_lock = threading.Lock()
+        wire.close_in_children(self._control)
+        self._place = place = Place(line, self._engine.by_value)
+        place.number, place.pool.limit, place.owner = 0, self._settings["threads"], threading.get_ident()
+        place.end_others = self._end_others
+        place.main = place.tasks[0] = Task(0, place, pooled=False)
+        place.main.thread = place.owner
+        try:
+            with place.guard():
+                self._start(far_control, far_line)
+                place.ready.wait()
+            if place.closed:
+                raise place.closed
+        except BaseException:
+            self._close(False)
+            raise
+        calls.opened(self)
+        return self
+
+    def _start(self, *ends: socket.socket) -> None:
+        files = [end.fileno() for end in ends]
+        try:
+            self._hub = subprocess.Popen([sys.executable, "-S", "-c", HUB, *map(str, files), json.dumps(self._settings)], pass_fds=files)
+        finally:
+            for end in ends:
+                end.close()
+        threading.Thread(target=self._listen, name="rx10 place 0", daemon=True).start()
+        threading.Thread(target=self._serve, name="rx10 engine", daemon=True).start()
+
+    def __exit__(self, kind: Any, fault: Optional[BaseException], trace: Any) -> None:
+        graceful = False
+        try:
+            if self._place.closed:
+                if fault is None:
+                    raise self._place.closed                    # the body did not notice
+                return
+            if fault is not None and not isinstance(fault, Exception):
+                self._place.abort(f"{type(fault).__name__} in the job")
+                return
+            body = [] if fault is None else leaves(fault)
+            with self._place.guard():
+                self._place.tell("end", 0, [None] * len(body), None)
+                lost, masked, thrown, _ = self._place.wait_for_release(self._place.main, "root")
+            graceful = True
+            thrown[:len(body)] = body
+            if lost or len(thrown) > len(body):
+                raise outcome("the job", lost, masked, thrown) from fault
+        finally:
+            calls.closed(self)
+            self._close(graceful)
+
+    def _close(self, graceful: bool) -> None:
+        with self._place.guard():
+            self._engine.stop(graceful)
+            if self._hub is not None:
+                self._hub.wait()
+            self._control.close()
+            self._place.hang_up()
+            self._place.close(Closed("the job is over"))
+
+    def _end_others(self, why: str) -> None:
+        """Ends all other places, whatever the hub does: before a task of place 0 learns that the job failed, they have ended."""
+        self._tell_hub("abort", why)
+        self._engine.stop(False)
+
+    def _listen(self) -> None:
+        self._place.listen()
+        if not self._place.closed:
+            self._engine.stop(False)
+            self._place.close(CoordinatorLost("the hub ended"))
+
+    # The engine's side.
+
+    def _serve(self) -> None:
+        """Carries out what the hub wants of the engine. This one thread starts all places, since they end with the thread that did."""
+        try:
+            self._engine.start(self)
+            self._serve_hub()
+        except Closed as fault:
+            self._fail(str(fault))
+        except BaseException as fault:
+            self._fail(f"the engine failed: {fault!r}")
+        self._hub.wait()                                        # this thread stays as long as the places do
+
+    def _fail(self, why: str) -> None:
+        self._place.close(Closed(why))
+        self._tell_hub("abort", why)
+
+    def _serve_hub(self) -> None:
+        frames = wire.Frames()
+        while True:
+            try:
+                data = self._control.recv(1 << 16)
+            except OSError:
+                return                                          # the hub has ended, or the job is over here
+            if not data:
+                return
+            for kind, *rest in frames.feed(data):
+                self._FROM_HUB[kind](self, *rest)
+
+    def _on_joined(self, place: int, tag: Any) -> None:
+        with self._joined:
+            self._tags[place] = tag
+            self._joined.notify_all()
+
+    def _on_behind(self, place: int, waiting: int) -> None:
+        log.warning("place %d is ended: it does not read, and %d bytes wait for it", place, waiting)
+
+    _FROM_HUB = {"start": lambda self, joiner: self._engine.add(joiner), "ended": lambda self, tag: self._engine.ended(tag),
+                 "joined": _on_joined, "behind": _on_behind}
+
+    def _tell_hub(self, *message: Any, files: Sequence[int] = ()) -> None:
+        try:
+            with self._control_lock:
+                socket.send_fds(self._control, [wire.frame(message)], list(files))
+        except OSError:
+            pass                                                # the hub has ended, and its line says so
+
+    def connected(self, sock: socket.socket, pidfd: Optional[int], tag: Any, joiner: Optional[int]) -> None:
+        files = [sock.fileno()] + ([] if pidfd is None else [pidfd])
+        self._tell_hub("connected", tag, joiner, len(files), files=files)
+
+    def removed(self, tag: Any) -> None:
+        self._tell_hub("removed", tag)
+
+    def no_place(self, joiner: Optional[int], why: str) -> None:
+        self._tell_hub("no_place", joiner, why)
+
+    def tags(self) -> List[Any]:
+        with self._joined:
+            return list(self._tags.values())
+
+    # What the driver alone may ask.
+
+    def where(self, place: int) -> Any:
+        """What runs a place, as its engine tells it: the number of a process, or a number with a worker's address."""
+        self._place.check(place)
+        if place == 0:
+            return os.getpid()
+        with self._joined:
+            self._joined.wait_for(lambda: place in self._tags or self._place.closed)
+            return self._tags[place]
+
+    def is_of(self, task: Optional[Task]) -> bool:
+        """Whether a task is of this job; where there is none, whether this thread is the job's main task."""
+        return task.place is self._place if task is not None else self._place.owner == threading.get_ident()
+
+
+def local(places: int, threads: int = 1, **options: Any) -> Runtime:
+    """A job over processes of this machine. Place 0 is this process. The options are those of Runtime."""
+    from .engines.local import Local
+    return Runtime(Local(), places, threads, **options)
+
+
+def dask(client: Any, workers: Optional[Sequence[str]] = None, spare: Sequence[str] = (), host: Optional[str] = None, threads: int = 1,
+         **options: Any) -> Runtime:
+    """A job over the workers of a Dask cluster. Place 0 is this process, the workers are places 1, 2, ..
+
+    Args:
+        client: a distributed.Client.
+        workers: the addresses of the workers that are places at the beginning; all that there are, where left out.
+        spare: workers that may join later, as do those that come to the cluster.
+        host: the address at which the workers reach this process; the one by which it reaches the scheduler, where left out.
+    """
+    from .engines.dask import Dask
+    engine = Dask(client, workers, spare, host)
+    return Runtime(engine, 1 + len(engine.addresses), threads, **options)
+
+
+def launched(places: int, host: str = "127.0.0.1", port: int = 0, threads: int = 1, **options: Any) -> Runtime:
+    """A job over places that something else starts, such as mpirun, srun or ssh, each by `python -m rx10.serve HOST PORT`.
+
+    Here and there the environment has one RX10_TOKEN, 32 random hexadecimal digits: who shows it is a place.
+    """
+    from .engines.launched import Launched
+    return Runtime(Launched(host, port), places, threads, **options)

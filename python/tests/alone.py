@@ -1,0 +1,113 @@
+"""Runs a piece of a test in a process of its own, with a limit of time, and sees that no process is left behind.
+
+Every process that a test starts inherits a mark in its environment, so what is left is found wherever it has gone.
+"""
+
+import os
+import pathlib
+import signal
+import subprocess
+import sys
+import time
+import uuid
+
+HERE = pathlib.Path(__file__).resolve().parent
+PYTHON = HERE.parent                            # the folder with the package
+MARK = "RX10_TEST_MARK"
+SLOWER = float(os.environ.get("RX10_TEST_SLOWER", "1"))     # how many times longer a test may take than on a quiet machine
+LIMIT = 60 * SLOWER
+
+
+class Result:
+    """What came of a run."""
+
+    def __init__(self, status, output, left):
+        self.status, self.output, self.left = status, output, left
+
+    def check(self, test, status=0):
+        """Fails the test where the run ended otherwise, or left a process behind."""
+        test.assertEqual(self.status, status, self.output[-4000:])
+        test.assertEqual(self.left, [], "processes were left behind")
+
+
+def run(words, limit=LIMIT, env=None, stdin=None, grace=5 * SLOWER):
+    """Runs a command. Its status is None where it took too long."""
+    mark = uuid.uuid4().hex
+    env = {**os.environ, "PYTHONPATH": f"{PYTHON}{os.pathsep}{HERE}", "PYTHONDONTWRITEBYTECODE": "1", **(env or {}), MARK: mark}
+    process = subprocess.Popen(words, env=env, stdin=subprocess.PIPE, stdout=subprocess.PIPE, stderr=subprocess.STDOUT, text=True,
+                               start_new_session=True)
+    try:
+        output, _ = process.communicate(stdin or "", timeout=limit)
+        status = process.returncode
+    except subprocess.TimeoutExpired:
+        status = None
+        end(marked(mark))
+        output, _ = process.communicate()
+    until = time.monotonic() + grace
+    left = marked(mark)
+    while left and time.monotonic() < until:
+        time.sleep(0.05)
+        left = marked(mark)
+    names = [name_of(pid) for pid in left]
+    end(left)
+    return Result(status, output, names)
+
+
+def marked(mark):
+    """The processes with this mark."""
+    wanted = f"{MARK}={mark}".encode()
+    found = []
+    for pid in filter(str.isdigit, os.listdir("/proc")):
+        try:
+            with open(f"/proc/{pid}/environ", "rb") as file:
+                if wanted in file.read().split(b"\0") and is_alive(pid):
+                    found.append(int(pid))
+        except OSError:
+            pass
+    return found
+
+
+def is_alive(pid):
+    """Whether a process has not ended."""
+    try:
+        with open(f"/proc/{pid}/stat", encoding="utf-8", errors="replace") as file:
+            return file.read().rsplit(") ", 1)[1][0] not in "ZX"
+    except OSError:
+        return False
+
+
+def name_of(pid):
+    """A process's words."""
+    try:
+        with open(f"/proc/{pid}/cmdline", "rb") as file:
+            return f"{pid}: {file.read().replace(bytes(1), b' ').decode('utf-8', 'replace')[:200]}"
+    except OSError:
+        return str(pid)
+
+
+def end(pids):
+    """Kills processes that a test started."""
+    for pid in pids:
+        try:
+            os.kill(pid, signal.SIGKILL)
+        except ProcessLookupError:
+            pass
+
+
+def python_with(module):
+    """A Python that can import a module: this one, or that of the system; None where there is none."""
+    return next((python for python in (sys.executable, "/usr/bin/python3") if runs(python, f"import {module}")), None)
+
+
+def python_of(minor):
+    """A Python 3 of this minor version: on the path, or of pyenv; None where there is none."""
+    found = sorted(pathlib.Path.home().glob(f".pyenv/versions/3.{minor}.*/bin/python3"))
+    return next((str(python) for python in [f"python3.{minor}", *found] if runs(python, "")), None)
+
+
+def runs(python, code):
+    """Whether a Python is here and runs this."""
+    try:
+        return subprocess.run([python, "-c", code], stdout=subprocess.DEVNULL, stderr=subprocess.DEVNULL, check=False).returncode == 0
+    except OSError:
+        return False

@@ -1,0 +1,74 @@
+"""Wrong runtimes, each named for its mistake: a text of a file and what stands in its place. The tests must refuse each.
+
+They are refused by the driven hub, or else by random jobs. The first one is none: it must pass both.
+"""
+
+import pathlib
+import shutil
+import sys
+import tempfile
+
+import alone
+
+CONTROL = "nothing is wrong"
+MUTANTS = {
+    CONTROL: ("hub/coordinator.py", "BATCH = 16384 ", "BATCH = 16383 "),
+    "a finish goes on though its release is parked": (
+        "hub/core.py", '''        elif words[0] != "parked":
+            self._granted(task, words, "released")
+''', '''        elif words[0] == "parked":
+            self._send(task.place, ("released", task.key, [], 0, [], []))
+'''),
+    "a task's end is told before the task runs": (
+        "place.py", "            value = fn(*args, **kwargs)\n            if task.finishes:",
+        "            self.tell(\"end\", task.key, [], pickles.pack_value(None))\n            return fn(*args, **kwargs)\n"
+        "            if task.finishes:"),
+    "losses are not named": ("hub/core.py", "return release.lost, release.masked", "return [], release.masked"),
+    "all dead places are named": (
+        "hub/core.py", "return release.lost, release.masked",
+        "return (release.lost and [it for it in self.seats if self.seats[it].dead]), release.masked"),
+    "a task's faults but the first are dropped": ("hub/core.py", "for number in release.thrown:", "for number in release.thrown[:1]:"),
+    "a silent place is told dead": (
+        "hub/loop.py", "        more = self.core.take()\n",
+        "        more = self.core.take()\n        if len(self.core.scopes) == 3 and 2 in self.peers:\n            self.hang_up(self.peers[2])\n"),
+    "a loss is raised twice": ("errors.py", "[*map(DeadPlace, lost), *thrown]", "[*map(DeadPlace, lost), *map(DeadPlace, lost), *thrown]"),
+    "a call whose caller's place died runs all the same": ("hub/core.py", 'if words[0] == "landed":\n', "if True:\n"),
+    "a call leaves before the coordinator answered": (
+        "hub/core.py", '''            self._ask(f"arrive t{callee.number}", partial(self._landed, callee, call))
+''', '''            self._send(callee.place, ("run", callee.key, call, True))
+            self._ask(f"arrive t{callee.number}", lambda words: None)
+'''),
+    "a lost opener's results are kept": ("hub/core.py", "            scope.opener, scope.ends = None, []\n", ""),
+    "a loss frees nobody who waits": (
+        "hub/core.py", '        if words[0] == "freed":\n',
+        '        if words[0] == "freed" and "lost" in words:\n            return ""\n        if words[0] == "freed":\n'),
+    "what comes after a place's end is taken": (
+        "hub/core.py", "        seat.dead = True\n        seat.inbox.clear()\n", "        seat.dead = True\n"),
+    "a death is told before what the place had sent": (
+        "hub/core.py", '        self.receive(place, [("gone",)])', '        self.seats[place].inbox.appendleft(("gone",))'),
+    "a lost task counts as done": ("finish.py", "return self._value is None and not self._faults", "return False"),
+}
+SEED = "77"
+
+
+def refusal(name, runs, jobs):
+    """What refused the wrong runtime, or None."""
+    file, old, new = MUTANTS[name]
+    with tempfile.TemporaryDirectory(prefix="rx10-mutant-") as folder:
+        shutil.copytree(alone.PYTHON / "rx10", pathlib.Path(folder, "rx10"), ignore=shutil.ignore_patterns("__pycache__"))
+        path = pathlib.Path(folder, "rx10", file)
+        text = path.read_text(encoding="utf-8")
+        if text.count(old) != 1:
+            raise ValueError(f"{file} has {text.count(old)} times what is to be changed: {name}")
+        path.write_text(text.replace(old, new), encoding="utf-8")
+        env = {"PYTHONPATH": f"{folder}:{alone.HERE}", "TMPDIR": folder}
+        for words in (["driven.py", str(runs), SEED], ["jobs.py", "--jobs", str(jobs), "--seed", SEED, "--wide", "--first"]):
+            done = alone.run([sys.executable, str(alone.HERE / words[0]), *words[1:]], env=env)
+            if done.status != 0:
+                return f"{words[0]}: {done.output.strip().splitlines()[:1]}"
+    return None
+
+
+if __name__ == "__main__":
+    for each in MUTANTS:
+        print(f"{each}: {refusal(each, 3000, 25) or 'not refused'}", flush=True)

@@ -1,0 +1,53 @@
+#!/usr/bin/env python3
+"""Tests of the Python package. Run it from anywhere: python3 python/tests/run.py [NAME ..]
+
+It takes the coordinator that the package finds (RX10_COORDINATOR names one). Where there is none the model of these tests stands in for it,
+and that is said. What is not on this machine is skipped by name. RX10_TEST_SLOWER=N gives each test N times the time. A name is that of a
+test module, class or test, as `test_driven`. The last line is `N passed, N failed`.
+"""
+
+import os
+import pathlib
+import signal
+import sys
+import tempfile
+import unittest
+
+HERE = pathlib.Path(__file__).resolve().parent
+sys.dont_write_bytecode = True
+sys.path[:0] = [str(HERE.parent), str(HERE)]
+
+from rx10 import program      # noqa: E402
+
+
+def with_coordinator(folder):
+    """Has a coordinator for the tests."""
+    try:
+        found = program.find()
+        print(f"coordinator: {found.path} ({found.where})", flush=True)
+    except OSError as fault:
+        stand_in = pathlib.Path(folder, program.NAME)
+        stand_in.write_text(f'#!/bin/sh\nexec "{sys.executable}" "{HERE / "model.py"}" "$@"\n', encoding="utf-8")
+        stand_in.chmod(0o755)
+        os.environ["RX10_COORDINATOR"] = str(stand_in)
+        print(f"skipped: the proved coordinator, for which the model stands in: {fault}", flush=True)
+
+
+def main(names):
+    os.environ["PYTHONDONTWRITEBYTECODE"] = "1"
+    # (where the tests run in the background, a Ctrl-C is ignored from the start, and so it would be in all that they start)
+    signal.signal(signal.SIGINT, signal.default_int_handler)
+    with tempfile.TemporaryDirectory(prefix="rx10-tests-") as folder:
+        with_coordinator(folder)
+        loader = unittest.TestLoader()
+        tests = loader.loadTestsFromNames(names) if names else loader.discover(str(HERE))
+        result = unittest.TextTestRunner(stream=sys.stdout, verbosity=0).run(tests)
+    for test, why in result.skipped:
+        print(f"skipped: {test.id()}: {why}")
+    failed = len({it[0].id() for it in [*result.failures, *result.errors]}) + len(result.unexpectedSuccesses)
+    print(f"{result.testsRun - failed - len(result.skipped)} passed, {failed} failed")
+    return 1 if failed or not result.testsRun else 0
+
+
+if __name__ == "__main__":
+    sys.exit(main(sys.argv[1:]))

@@ -1,0 +1,34 @@
+"""Each wrong runtime is refused, and the right one is not."""
+
+import concurrent.futures
+import unittest
+
+from mutants import CONTROL, MUTANTS, refusal
+
+AT_A_TIME = 2
+RUNS, JOBS = 1000, 8
+
+
+class Mutants(unittest.TestCase):
+    @classmethod
+    def setUpClass(cls):
+        cls.pool = concurrent.futures.ThreadPoolExecutor(AT_A_TIME)
+        cls.refusals = {name: cls.pool.submit(refusal, name, RUNS, JOBS) for name in MUTANTS}
+
+    @classmethod
+    def tearDownClass(cls):
+        cls.pool.shutdown()
+
+
+def add(name):
+    def test(self):
+        said = self.refusals[name].result()
+        if name == CONTROL:
+            self.assertIsNone(said)
+        else:
+            self.assertIsNotNone(said)
+    setattr(Mutants, f"test_{name.replace(' ', '_')}", test)
+
+
+for each in MUTANTS:
+    add(each)

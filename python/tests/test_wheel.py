@@ -1,0 +1,53 @@
+"""The wheel: made by the standard library alone, installed into an empty environment without a network, and used there."""
+
+import os
+import pathlib
+import subprocess
+import sys
+import tempfile
+import unittest
+import zipfile
+
+import alone
+from rx10 import program
+
+OFFLINE = {"PYTHONPATH": "", "RX10_COORDINATOR": "", "PIP_NO_INDEX": "1", "PIP_DISABLE_PIP_VERSION_CHECK": "1", "PIP_CONFIG_FILE": os.devnull}
+
+
+class Wheel(unittest.TestCase):
+    def make(self, folder):
+        done = subprocess.run([sys.executable, alone.PYTHON / "make_wheel.py", folder, "--coordinator", program.find().path],
+                              capture_output=True, text=True, check=True)
+        return pathlib.Path(done.stdout.splitlines()[-1])
+
+    def test_the_same_bytes(self):
+        with tempfile.TemporaryDirectory() as one, tempfile.TemporaryDirectory() as other:
+            first, second = self.make(one), self.make(other)
+            self.assertEqual(first.read_bytes(), second.read_bytes())
+            with zipfile.ZipFile(first) as wheel:
+                names = wheel.namelist()
+                self.assertIn(f"rx10/{program.NAME}", names)
+                listed = wheel.read(names[-1]).decode().splitlines()
+        self.assertEqual([line.split(",")[0] for line in listed], names)
+
+    def test_nothing_to_put_in(self):
+        with tempfile.TemporaryDirectory() as folder:
+            done = subprocess.run([sys.executable, alone.PYTHON / "make_wheel.py", folder, "--coordinator", "/nowhere"], capture_output=True,
+                                  text=True, check=False)
+        self.assertEqual((done.returncode, done.stderr), (1, "make_wheel: there is no /nowhere\n"))
+
+    @unittest.skipIf(subprocess.run([sys.executable, "-c", "import ensurepip, venv"], stderr=subprocess.DEVNULL, check=False).returncode,
+                     "this Python has no ensurepip, with which an environment gets pip")
+    def test_an_empty_environment(self):
+        with tempfile.TemporaryDirectory() as folder:
+            place = pathlib.Path(folder, "env")
+            python, limit = str(place / "bin" / "python"), 180 * alone.SLOWER
+            for words in ([sys.executable, "-m", "venv", str(place)], [python, "-m", "pip", "install", str(self.make(folder))]):
+                alone.run(words, env=OFFLINE, limit=limit).check(self)
+            found = alone.run([python, "-m", "rx10"], env=OFFLINE)
+            found.check(self)
+            self.assertRegex(found.output, r"coordinator +\S*/env/lib/\S+/rx10/rx10-coordinator \(beside the package\): coordinator 1 places 1")
+            sweep = alone.run([python, str(alone.PYTHON / "examples" / "sweep.py"), "--kill"], env=OFFLINE)
+            sweep.check(self)
+            self.assertIn("100 points done, the sum is 328350", sweep.output)
+            self.assertRegex(sweep.output, r"lost places \(2")

@@ -50,5 +50,4 @@ def run(program, tally):
     line = told.decode("utf-8", "replace").strip()
     tally.tell("mutated inputs of seed %d" % tally.seed, None if status == 0 else "status %d, %s" % (status, line or "nothing is told"))
     tally.note("mutated inputs of seed %d: %s" % (tally.seed, line))
-    if program.has_live:
-        live_cases(program, tally)
+    live_cases(program, tally)

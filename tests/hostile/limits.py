@@ -8,11 +8,16 @@ import signal
 import subprocess
 import time
 
+from chains import span_answer
+from judges import RUN, differs
+from machine import run_of, step_answer
 from program import NO_MEMORY, Answer, complaint, is_front, shape_complaint, short
-from tables import answer_of, live_answers, script
+from tables import answer_of, live_answers, paired, script
 
 KIB = 1024
 LEAST_STACK = 64 * KIB      # with no environment and few words, which lie on the stack too; docs/trust.md says what was measured
+
+AMPLE = 64 * KIB            # KiB of address space in which each of these runs but those of `live` has all of its memory
 
 # Ends of what the system could not start: the starter's and the loader's; and where the stack is less than the least, the kernel's.
 NOT_STARTED = (126, 127)
@@ -73,26 +78,34 @@ def rows(program):
     for name, words in [("ordinary_case", "step"), ("at_waits_for_orphans", "step --places 3 --kill 1@6"), ("realistic_script", "check"),
                         ("realistic_script", "step --places 8 --kill 3@5 --seed 5"), ("none", "gen --size 400")]:
         found.append((words + " of " + name, words.split(" "), script(name), [answer_of(name, words)]))
-    if program.has_live:
-        for name, words in [("ordinary_case", "live"), ("at_waits_for_orphans", "live --places 3 --kill 1@6")]:
-            for workers in "14":
-                line = [*words.split(" "), "--workers", workers]
-                found.append((" ".join(line) + " of " + name, line, script(name), live_answers(name, words)))
+    for name, words in [("at_waits_for_orphans", "step --places 3 --kill 1@6"), ("realistic_script", "step --places 8 --kill 3@5 --seed 5")]:
+        run = run_of(words.split(" "), script(name))
+        given = paired(script(name), run.text())
+        for command, wanted in (("verify", RUN), ("span", span_answer(script(name), run.history))):
+            found.append(("%s of %s by %s" % (command, name, words), [command], given, [wanted]))
+    for name, words in [("ordinary_case", "live"), ("at_waits_for_orphans", "live --places 3 --kill 1@6")]:
+        for workers in "14":
+            line = [*words.split(" "), "--workers", workers]
+            found.append((" ".join(line) + " of " + name, line, script(name), live_answers(name, words)))
     return found
 
 
 def large(program):
     """Runs that want much memory. Their own answers are those of a run without limits."""
+    run = run_of(["step"], DEEP[5])
+    given = paired(DEEP[5], run.text())
     for words, stdin in ((["gen", "--size", "3000"], b""), (["step"], DEEP[5]), (["step", "--places", "4", "--kill", "1@2000"], DEEP[5])):
         yield " ".join(words) + " (large)", words, stdin, [program.run(words, stdin)]
+    for command, wanted in (("verify", RUN), ("span", span_answer(DEEP[5], run.history))):
+        yield command + " (large)", [command], given, [wanted]
 
 
-def limited(program, words, stdin, wanted, limit, ends):
-    """Its own answer, no memory, or one of these ends with nothing written."""
+def limited(program, words, stdin, wanted, limit, ends, others=(NO_MEMORY,)):
+    """Its own answer, one of the others, or one of these ends with nothing written."""
     answer = program.run(words, stdin, [limit])
     if answer.status in ends and not answer.out:
         return None
-    return complaint(answer, wanted, [NO_MEMORY])
+    return complaint(answer, wanted, others)
 
 
 def address_space(program, tally):
@@ -102,8 +115,9 @@ def address_space(program, tally):
         label, words, stdin, wanted = row
         sizes = [*range(1536, 4096, 256), *range(4096, 65537, 4096)] if k < len(tried) else [*range(4096, 32768, 4096), 65536]
         for size in sizes:
-            # (the loader needs room of its own, and takes none of the program's words)
-            cases.append(("%s in %d KiB" % (label, size), program, words, stdin, wanted, "as=%d" % (size * KIB), NOT_STARTED))
+            # (the loader needs room of its own, and takes none of the program's words; threads have stacks of 8 MiB)
+            others = [NO_MEMORY] if size < AMPLE or words[0] == "live" else []
+            cases.append(("%s in %d KiB" % (label, size), program, words, stdin, wanted, "as=%d" % (size * KIB), NOT_STARTED, others))
     tally.each(cases, limited)
 
 
@@ -138,13 +152,15 @@ def stack(program, tally):
             tried.append(("%s of %r.." % (command, text[:12]), [command], text, [Answer(status, b"", said)]))
     for text in DEEP:
         answer = program.run(["step"], text)
-        tally.tell("step of %r.." % text[:12], None if answer.status in (0, 1) else short(answer))
+        tally.tell("step of %r.." % text[:12], differs(answer, step_answer(["step"], text)))
         tried.append(("step of %r.." % text[:12], ["step"], text, [answer]))
+        tried.append(("verify of %r.." % text[:12], ["verify"], paired(text, answer.out), [RUN]))
     for k, (label, words, stdin, wanted) in enumerate(tried):
         sizes = (32, 40, 48, 56, 64, 96, 128, 256, 512, 1024) if k < 6 else (32, 64, 1024)
         for size in sizes:
+            small = size * KIB < LEAST_STACK
             cases.append(("%s on a stack of %d KiB" % (label, size), program, words, stdin, wanted, "stack=%d" % (size * KIB),
-                          NO_STACK if size * KIB < LEAST_STACK else ()))
+                          NO_STACK if small else (), [NO_MEMORY] if small else []))
     tally.each(cases, limited)
 
 
@@ -168,7 +184,8 @@ def ended(answer, wanted, raised):
     Where no answers are given, as of a long run with threads, a right one is one of the right form.
     """
     if wanted is None:
-        return None if answer.status == -raised and not answer.err else shape_complaint(answer, ["live"])
+        whole = answer.status in (0, 1) and shape_complaint(answer, ["live"]) is None
+        return None if whole or (answer.status == -raised and not answer.err) else short(answer)
     if answer in wanted:
         return None
     if answer.status == -raised and not answer.err and (is_front(answer.out, wanted) or answer.out in [each.out for each in wanted]):
@@ -194,7 +211,7 @@ def signals_at_calls(program, tally):
 def at_moment(program, words, stdin, wanted, raised, delay):
     """A signal comes some time after the start: before, in or after the run. All three are right."""
     line, environment = program.words(words)
-    source = program.folder / "moment"
+    source = program.folder / ("pair" if words[0] in ("verify", "span") else "moment")
     with open(source, "rb") as given:
         with subprocess.Popen(line, stdin=given if stdin else subprocess.DEVNULL, stdout=subprocess.PIPE, stderr=subprocess.PIPE,
                               env=environment) as started:
@@ -222,12 +239,13 @@ def signals_at_moments(program, tally):
     dice = random.Random(tally.seed)
     cases = []
     source = DEEP[5]
+    given = paired(source, run_of(["step"], source).text())
     (program.folder / "moment").write_bytes(source)
-    lines = [["step"], ["step", "--places", "4", "--kill", "1@2000"], ["gen", "--size", "1000"]]
-    if program.has_live:
-        lines.append(["live", "--places", "4", "--kill", "1@2000", "--workers", "4"])
+    (program.folder / "pair").write_bytes(given)
+    lines = [["step"], ["step", "--places", "4", "--kill", "1@2000"], ["gen", "--size", "1000"], ["verify"], ["span"],
+             ["live", "--places", "4", "--kill", "1@2000", "--workers", "4"]]
     for words in lines:
-        stdin = b"" if words[0] == "gen" else source
+        stdin = given if words[0] in ("verify", "span") else b"" if words[0] == "gen" else source
         wanted = None if words[0] == "live" else [program.run(words, stdin)]
         for _ in range(25):
             raised = dice.choice([*DEADLY, *DEADLY, *HARMLESS, signal.SIGSTOP])
@@ -238,8 +256,7 @@ def signals_at_moments(program, tally):
 
 def run(program, tally):
     address_space(program, tally)
-    if program.has_live:
-        live_address_space(program, tally)
+    live_address_space(program, tally)
     stack(program, tally)
     strange_words(program, tally)
     signals_at_calls(program, tally)

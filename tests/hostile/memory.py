@@ -4,7 +4,11 @@ Each run then gives its own answer, or `no memory` with nothing written; and the
 whose threads' own blocks libc keeps).
 """
 
-from program import NO_MEMORY, Answer, complaint, short
+from chains import span_answer
+from judges import RUN
+from looks import Watched
+from machine import run_of, step_answer
+from program import NO_MEMORY, complaint
 from tables import LONG_LIVE, answer_of, live_answers, long_live_complaint, pair, read_table, script
 
 LONGEST = b"print 7;".ljust(65536)
@@ -55,8 +59,8 @@ def add(program, cases, name, words, stdin, wanted, step):
     label = "%s of %s" % (" ".join(words), name)
     cases.append((label + ", undisturbed", program, words, stdin, wanted, {"alloc": 0}))
     assert total > 0, "no allocation is seen: " + label
-    # (of `live` one worker is tried at each allocation, and several at each third)
-    step = 3 if step == 1 and words[-1] == "4" else step
+    # (of `live` one and two workers are tried at each allocation, and four at each third)
+    step = 3 if step == 1 and "4" in words else step
     for n in range(1, total + 1, step):
         cases.append(("%s, allocation %d refused" % (label, n), program, words, stdin, wanted, {"alloc": n}))
     for n in range(1, total + 1, 10 * step):
@@ -66,28 +70,29 @@ def add(program, cases, name, words, stdin, wanted, step):
 def run(program, tally):
     cases = []
     for name, words, step in RUNS:
-        add(program, cases, name, words.split(" "), script(name), [answer_of(name, words)], step)
-    if program.has_verify:
-        for name, words, step in PAIRS:
-            add(program, cases, "%s by %s" % (name, words), ["verify"], pair(name, words), [Answer(0, b"run\n", b"")], step)
-            chain = program.run(["span"], pair(name, words))
-            tally.tell("the chain of %s by %s" % (name, words), None if chain.status == 0 else short(chain))
-            add(program, cases, "%s by %s" % (name, words), ["span"], pair(name, words), [chain], step)
-        for case in read_table("pairs.txt"):
-            if case.cut is None and case.answer.status == 1:
-                add(program, cases, case.name, case.words, case.stdin, [case.answer], 3)
-    longest = program.run(["step"], LONGEST)
-    tally.tell("the longest script", None if longest.status == 0 else str(longest.status))
-    add(program, cases, "the longest script", ["step"], LONGEST, [longest], 1)
-    if program.has_live:
-        for name, words in LIVE:
-            for workers in ("1", "4"):
-                line = [*words.split(" "), "--workers", workers]
-                wanted = live_answers(name, words)
-                add(program, cases, name, line, script(name), wanted, 1)
-                for n in range(1, 6):
-                    cases.append(("%s of %s, thread %d can't be started" % (" ".join(line), name, n), program, line, script(name), wanted,
-                                  {"thread": n}))
-        for workers in ("1", "4"):
-            add(program, cases, "realistic_script", [*LONG_LIVE, "--workers", workers], script("realistic_script"), LONG_LIVE, 50)
+        add(program, cases, name, words.split(" "), script(name), [answer_of(name, words)], 1 if tally.is_long else step)
+    for name, words, step in PAIRS:
+        step = 1 if tally.is_long else step
+        given, history = pair(name, words), run_of(words.split(" "), script(name)).history
+        add(program, cases, "%s by %s" % (name, words), ["verify"], given, [RUN], step)
+        add(program, cases, "%s by %s" % (name, words), ["span"], given, [span_answer(script(name), history)], step)
+    for case in read_table("pairs.txt"):
+        if case.cut is None and case.answer.status == 1:
+            add(program, cases, case.name, case.words, case.stdin, [case.answer], 3)
+    add(program, cases, "the longest script", ["step"], LONGEST, [step_answer(["step"], LONGEST)], 1)
+    for name, words in LIVE:
+        for workers in ("1", "2", "4"):
+            line = [*words.split(" "), "--workers", workers]
+            add_live(program, cases, name, line, live_answers(name, words))
+            if workers == "2":
+                add_live(program, cases, name, [*line, "--watch", "2"], Watched(live_answers(name, words), 2))
+    for workers in ("1", "4"):
+        add(program, cases, "realistic_script", [*LONG_LIVE, "--workers", workers], script("realistic_script"), LONG_LIVE, 50)
     tally.each(cases, refused)
+
+
+def add_live(program, cases, name, line, wanted):
+    """The cases of one run by workers: each allocation, and each thread."""
+    add(program, cases, name, line, script(name), wanted, 1)
+    for n in range(1, 6):
+        cases.append(("%s of %s, thread %d can't be started" % (" ".join(line), name, n), program, line, script(name), wanted, {"thread": n}))

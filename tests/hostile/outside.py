@@ -8,8 +8,12 @@ import signal
 import subprocess
 import threading
 
+from chains import span_answer
+from judges import RUN
+from looks import Watched
+from machine import run_of
 from program import READ_FAULT, SECONDS, TOO_LONG, WRITE_FAULT, Answer, complaint, short
-from tables import answer_of, live_answers, pair, script
+from tables import answer_of, live_answers, pair, paired, read_table, script
 
 ROWS = [("ordinary_case", "step"), ("at_waits_for_orphans", "step --places 3 --kill 1@6"), ("stale_reference", "step"),
         ("realistic_script", "check"), ("realistic_script", "step --places 8 --kill 3@5 --seed 5")]
@@ -19,13 +23,18 @@ ERRORS = [errno.EIO, errno.EINTR, errno.EAGAIN, errno.EBADF, errno.ENOSPC]
 def rows(program):
     """Name, words, input and right answers of the runs that are disturbed."""
     found = [(name, words.split(" "), script(name), [answer_of(name, words)]) for name, words in ROWS]
-    if program.has_verify:
-        given = pair("stale_reference", "step")
-        found += [("the pair of stale_reference", [command], given, [program.run([command], given)]) for command in ("verify", "span")]
-    if program.has_live:
-        for name, words in [("ordinary_case", "live"), ("at_waits_for_orphans", "live --places 3 --kill 1@6")]:
-            for workers in "14":
-                found.append((name, [*words.split(" "), "--workers", workers], script(name), live_answers(name, words)))
+    for name, words in (("stale_reference", "step"), ("ordinary_case", "step --kill 1@3")):
+        run = run_of(words.split(" "), script(name))
+        given = paired(script(name), run.text())
+        found.append(("the pair of %s by %s" % (name, words), ["verify"], given, [RUN]))
+        found.append(("the pair of %s by %s" % (name, words), ["span"], given, [span_answer(script(name), run.history)]))
+    flawed = next(case for case in read_table("pairs.txt") if case.cut is None and case.answer.status == 1)
+    found.append((flawed.name, flawed.words, flawed.stdin, [flawed.answer]))
+    for name, words in [("ordinary_case", "live"), ("at_waits_for_orphans", "live --places 3 --kill 1@6")]:
+        for workers in "14":
+            found.append((name, [*words.split(" "), "--workers", workers], script(name), live_answers(name, words)))
+        line = [*words.split(" "), "--workers", "2", "--watch", "2"]
+        found.append((name, line, script(name), Watched(live_answers(name, words), 2)))
     return found
 
 
@@ -57,15 +66,15 @@ def failing_calls(program, tally):
         for most in (1, 0):
             answer, counts = program.counted(words, stdin, read_max=most)
             tally.tell("%s, reads of %d bytes" % (label, most), complaint(answer, wanted))
-            step = 1 if name == "ordinary_case" or most == 0 else 13
+            step = 1 if tally.is_long or name == "ordinary_case" or most == 0 else 13
             for n in range(1, counts[1] + 1, step):
                 error = ERRORS[n % len(ERRORS)]
                 cases.append(("%s, read %d of %d bytes fails with %d" % (label, n, most, error), program, words, stdin, wanted, n, most,
                               error))
-        for most in (1, 64, 0) if (name, words) == ("ordinary_case", ["step"]) else (64, 0):
+        for most in (1, 64, 0) if words[0] != "live" and len(wanted[0].out) < 400 else (64, 0):
             answer, counts = program.counted(words, stdin, write_max=most)
             tally.tell("%s, writes of %d bytes" % (label, most), complaint(answer, wanted))
-            for n in range(1, counts[2] + 1, 1 if counts[2] < 300 else 61):
+            for n in range(1, counts[2] + 1, 1 if tally.is_long or counts[2] < 300 else 61):
                 # (of `live` texts of several lengths are right, so there may be no such call)
                 if words[0] == "live" and most and n > min(len(each.out) for each in wanted) // most:
                     continue
@@ -102,11 +111,10 @@ def strange_inputs(program, tally):
     os.set_blocking(reads, False)
     with os.fdopen(reads, "rb", 0) as waiting, os.fdopen(writes, "wb", 0):
         tally.tell("standard input has nothing for now", complaint(program.run(words, waiting), [READ_FAULT]))
-    if program.has_verify:
-        # (a longer trace would be read, but its last line is not the last)
-        for extra, wanted in ((0, 10), (1, 5), (70000, 5)):
-            answer = program.run(["verify"], pair("ordinary_case", "step").ljust(16777216 + extra, b"\n"))
-            tally.tell("a pair of 16,777,216 bytes and %d more" % extra, None if answer.status == wanted else short(answer))
+    # (a longer trace would be read, but its last line is not the last)
+    for extra, wanted in ((0, 10), (1, 5), (70000, 5)):
+        answer = program.run(["verify"], pair("ordinary_case", "step").ljust(16777216 + extra, b"\n"))
+        tally.tell("a pair of 16,777,216 bytes and %d more" % extra, None if answer.status == wanted else short(answer))
     for extra, wanted in ((0, 0), (1, 5), (2, 5), (70000, 5)):
         answer = program.run(words, b"print 7;".ljust(65536 + extra))
         tally.tell("65,536 bytes and %d more" % extra, None if answer.status == wanted else short(answer))
@@ -128,8 +136,10 @@ def closed_outputs(program, tally):
         with descriptor(path, flags) as out:
             tally.tell("standard output is %s" % path, complaint(written_to(program, words, stdin, out), [refused]))
             tally.tell("gen's is %s" % path, complaint(written_to(program, ["gen", "--size", "3"], b"", out), [refused]))
-            if program.has_live:
-                tally.tell("live's is %s" % path, complaint(written_to(program, ["live"], stdin, out), [refused]))
+            tally.tell("live's is %s" % path, complaint(written_to(program, ["live"], stdin, out), [refused]))
+            tally.tell("a watched run's is %s" % path, complaint(written_to(program, ["live", "--watch", "9"], stdin, out), [refused]))
+            for command in ("verify", "span"):
+                tally.tell("%s's is %s" % (command, path), complaint(written_to(program, [command], pair("ordinary_case", line), out), [refused]))
 
 
 def written_to(program, words, stdin, out, limits=()):

@@ -34,8 +34,6 @@ class Program:
         self.storm = self.built("storm.c", "storm.so", library)
         self.start = self.built("start.c", "start", [])
         self.hangs = 0
-        self.has_live = self.run(["live"], b"").status != 2
-        self.has_verify = self.run(["verify"], b"").status != 2
 
     def built(self, source, name, flags):
         made = str(self.folder / name)

@@ -9,7 +9,10 @@
 //   HOSTILE_WRITE_ZERO=n  the n-th write takes no byte and does not fail
 //   HOSTILE_TELL=1        writes to descriptor 2 fail        HOSTILE_THREAD=n      the n-th thread can't be started
 //   HOSTILE_SIGNAL=s      raises s at call HOSTILE_SIGNAL_AT of allocations, reads and writes together
-//   HOSTILE_COUNT=path    writes how many there were of allocations, reads, writes, threads, all calls, and blocks not given back
+//   HOSTILE_NAP=n         the thread sleeps a little at each n-th allocation, so that others come to work
+//   HOSTILE_LAST=path     the last word is what stands in this file: a word may have 100,000 numbers, and the system passes on 131,072 bytes
+//   HOSTILE_COUNT=path    writes how many there were of allocations, reads, writes, threads, all calls, blocks not given back, and threads
+//                         that allocated something
 #define _GNU_SOURCE
 #include <dlfcn.h>
 #include <errno.h>
@@ -32,8 +35,9 @@ ssize_t __write(int, const void *, size_t);
 
 static int armed;
 static long refused_alloc, refused_from, failed_read, failed_write, zero_write, failed_thread, read_max, write_max;
-static long raised, raised_at, error = EIO, mute;
-static atomic_long allocs, reads, writes, threads, calls, held;
+static long raised, raised_at, error = EIO, mute, nap;
+static atomic_long allocs, reads, writes, threads, calls, held, workers;
+static _Thread_local int works;
 
 static long number(const char *name) {
     const char *text = getenv(name);
@@ -49,6 +53,11 @@ static int refuses(void) {
     if (!armed) return 0;
     call();
     long n = atomic_fetch_add(&allocs, 1) + 1;
+    if (!works) {
+        works = 1;
+        atomic_fetch_add(&workers, 1);
+    }
+    if (nap && n % nap == 0) usleep(100);
     if (n == refused_alloc || (refused_from && n >= refused_from)) {
         errno = ENOMEM;
         return 1;
@@ -129,6 +138,7 @@ __attribute__((constructor)) static void arm(void) {
     raised = number("HOSTILE_SIGNAL");
     raised_at = number("HOSTILE_SIGNAL_AT");
     mute = number("HOSTILE_TELL");
+    nap = number("HOSTILE_NAP");
     if (number("HOSTILE_ERRNO")) error = number("HOSTILE_ERRNO");
     armed = 1;
 }
@@ -139,8 +149,32 @@ __attribute__((destructor)) static void count(void) {
     armed = 0;
     int fd = open(path, O_WRONLY | O_CREAT | O_TRUNC, 0600);
     if (fd < 0) return;
-    dprintf(fd, "%ld %ld %ld %ld %ld %ld\n", allocs, reads, writes, threads, calls, held);
+    dprintf(fd, "%ld %ld %ld %ld %ld %ld %ld\n", allocs, reads, writes, threads, calls, held, workers);
     close(fd);
+}
+
+static int (*program)(int, char **, char **);
+
+// The program, with its last word taken from a file where that is asked for.
+static int started(int argc, char **argv, char **envp) {
+    const char *path = getenv("HOSTILE_LAST");
+    static char word[1 << 20];
+    if (path) {
+        int fd = open(path, O_RDONLY);
+        ssize_t n = fd < 0 ? -1 : __read(fd, word, sizeof word - 1);
+        if (n < 0) return 126;
+        close(fd);
+        argv[argc - 1] = word;
+    }
+    return program(argc, argv, envp);
+}
+
+int __libc_start_main(int (*main)(int, char **, char **), int argc, char **argv, void (*init)(void), void (*fini)(void),
+                      void (*rtld_fini)(void), void *stack_end) {
+    int (*real)(int (*)(int, char **, char **), int, char **, void (*)(void), void (*)(void), void (*)(void), void *);
+    *(void **)&real = dlsym(RTLD_NEXT, "__libc_start_main");
+    program = main;
+    return real(started, argc, argv, init, fini, rtld_fini, stack_end);
 }
 
 // (a program with threads ends by this call)

@@ -587,7 +587,6 @@ static void hold_pair(const Answer *a, int is_span) {
     if (lines_left != chain || chain > statements || (chain == 0) != (statements == 0)) fail("a chain is not as long as it says");
 }
 
-static int has_verify;
 static long verdicts[12];
 
 // The pair, by `verify` and by `span`: they refuse the same pairs by the same line.
@@ -632,7 +631,6 @@ static void try_pair(Answer *trace, Answer *other) {
     count = kept_count;
 }
 
-static int has_live;
 static volatile sig_atomic_t stopped;
 
 static void stop(int signal) { stopped = signal; }
@@ -657,7 +655,7 @@ static void try_live(Answer *step, Answer *other) {
     if (with.alloc && is_no_memory(other)) return;
     if (step->status > 1 ? !is_same(step, other) : other->status > 1) fail("`live` and `step` differ in what they refuse");
     hold(other);
-    if (has_verify && one_in(2)) try_pair(other, step);
+    if (one_in(2)) try_pair(other, step);
 }
 
 static long statuses[6];
@@ -685,9 +683,8 @@ static void try_case(Answer *first, Answer *second) {
     if (first->status > 1 ? !is_same(first, second) : second->status != 0) fail("`check` and `step` differ in what they refuse");
     list[1] = kept;
     count = kept_count;
-    int is_live = has_live && one_in(8);
-    if (is_live) try_live(first, second);
-    else if (has_verify && one_in(6)) try_pair(first, second);
+    if (one_in(8)) try_live(first, second);
+    else if (one_in(6)) try_pair(first, second);
 }
 
 static void load(const char *path) {
@@ -725,13 +722,6 @@ static int storm(int argc, char **argv, char **envp) {
     struct sigaction gently = {.sa_handler = stop};
     sigaction(SIGTERM, &gently, NULL);
     sigaction(SIGINT, &gently, NULL);
-    count = 1;
-    list[1] = "live";
-    run(&both[0], (Trouble){0});
-    has_live = both[0].status != 2;
-    list[1] = "verify";
-    run(&both[0], (Trouble){0});
-    has_verify = both[0].status != 2;
     long seed = told("STORM_SEED", 1), from = told("STORM_FIRST", 0), most = told("STORM_CASES", 1L << 60);
     time_t end = time(NULL) + told("STORM_SECONDS", 1L << 40);
     for (number = from; number - from < most && !stopped && (number % 64 || time(NULL) < end); number++) {

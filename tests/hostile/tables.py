@@ -63,8 +63,12 @@ def pair(name, words, changes=(), told=None):
     lines = answer_of(name, words).out.decode().split("\n")[:-1]
     for number, text in sorted(changes, reverse=True):
         lines[number - 1:number] = [] if text is None else [text]
-    front = "rx10 pair %s\n" % (len(script(name)) if told is None else told)
-    return front.encode() + script(name) + "".join(line + "\n" for line in lines).encode()
+    return paired(script(name), "".join(line + "\n" for line in lines).encode(), told)
+
+
+def paired(text, trace, told=None):
+    """A script and a trace as one input; told is what the first line tells in place of the script's length."""
+    return b"rx10 pair %s\n" % (b"%d" % len(text) if told is None else told.encode()) + text + trace
 
 
 def answer_of(name, words):
@@ -99,11 +103,9 @@ def long_live_complaint(answer):
 
 def run(program, tally):
     """Every case of the tables with one answer, and each of `live` with one, two and eight workers."""
-    tables = ["answers.txt", "deaths.txt", "prefixes.txt", *(["pairs.txt"] if program.has_verify else [])]
+    tables = ["answers.txt", "deaths.txt", "prefixes.txt", "pairs.txt"]
     named = [(case.name, case) for table in tables for case in read_table(table)]
     tally.each(named, lambda case: complaint(program.run(case.words, case.stdin), [case.answer]))
-    if not program.has_live:
-        return
     pairs = sorted({(case.script, " ".join(case.words)) for case in read_table("live.txt")})
     named = [("%s of %s with %d workers" % (words, name, workers), name, words, workers)
              for name, words in pairs for workers in (1, 2, 8) for _ in range(5)]

@@ -1,0 +1,203 @@
+"""The coordinator: random sessions and random lines beside the model, noise, cut lines, refused memory, failing calls, closed pipes.
+
+Each line gets the model's answer; where memory is refused, `no memory` for a request that the model would allow, or the status 8; where a
+write fails, status 7 and a front of the right text.
+"""
+
+import copy
+import errno
+import random
+import subprocess
+import time
+
+import coordinator_model
+from coordinator_model import Model
+from program import WRITE_FAULT, Answer, short
+
+VERBS = ["open", "at", "spawn", "send", "arrive", "wait", "release", "end", "death", "join", "root"]
+WORDS = ["t0", "t1", "t2", "t01", "t", "s1", "0", "1", "15", "16", "255", "256", "00", "-1", "+1", "", " ", "\t", "t4294967295", "t4294967296",
+         "999999999", "1000000000", "t-1", "t1x", "\r", "x", "thrown", "T0"]
+
+
+def near_state(rng, model):
+    """A request that has a good chance of being allowed."""
+    moving = [task for task in model.tasks.values() if task.lost_at is None and not task.waits and task.source is None]
+    travelling = [task for task in model.tasks.values() if task.lost_at is None and task.source is not None]
+    waiting = [task for task in model.tasks.values() if task.lost_at is None and task.waits and task not in model.parked]
+    kinds = ["join", "death", "root"]
+    kinds += ["open", "at", "spawn", "send", "wait", "end"] * 6 if moving else []
+    kinds += ["arrive"] * 12 if travelling else []
+    kinds += ["release"] * 12 if waiting else []
+    verb = rng.choice(kinds)
+    if verb == "join":
+        return "join" if rng.random() < 0.3 else "death %d" % rng.randrange(17)
+    if verb == "death":
+        return "death %d" % rng.randrange(1, max(2, model.places)) if rng.random() < 0.3 else "join"
+    if verb == "root":
+        return "root"
+    pool = travelling if verb == "arrive" else waiting if verb == "release" else moving
+    number = rng.choice(pool).number if rng.random() < 0.95 else rng.randrange(model.next_task + 2)
+    if verb in ("at", "spawn", "send"):
+        return "%s t%d %d" % (verb, number, rng.randrange(model.places + (rng.random() < 0.1)))
+    faults = "".join(" %d" % rng.choice([0, 7, 42, 999999999]) for _ in range(rng.choice([0, 0, 0, 1, 3])))
+    return "%s t%d%s" % (verb, number, faults if verb in ("wait", "end") else "")
+
+
+def random_line(rng):
+    """A line of words that are often near to those of a request."""
+    words = [rng.choice(VERBS + ["", "Open", "opens"])] + [rng.choice(WORDS) for _ in range(rng.choice([0, 1, 1, 2, 2, 3, 5]))]
+    line = " ".join(words)
+    if rng.random() < 0.05:
+        line = "".join(chr(rng.randrange(256)) for _ in range(rng.randrange(30))).replace("\n", " ")
+    if rng.random() < 0.01:
+        line += " 1" * rng.choice([2040, 2044, 2045, 2046, 2047, 2048, 3000])
+    return line
+
+
+def session(seed, size):
+    """The requests of a session, and its answers, with the number of places that it opens with."""
+    rng = random.Random(seed)
+    places = rng.choice([1, 1, 2, 3, 4, 8, 16])
+    model = Model(places)
+    lines, replies = [], [model.greeting()]
+    strange = rng.choice([0.0, 0.02, 0.3])
+    for _ in range(size):
+        line = random_line(rng) if rng.random() < strange else near_state(rng, model)
+        lines.append(line)
+        replies += model.ask(line)
+    return places, text_of(lines), text_of(replies)
+
+
+def text_of(lines):
+    return "".join(line + "\n" for line in lines).encode("latin-1")
+
+
+def told(program, places, text, **disturbed):
+    """What the program answers to a text."""
+    return program.run(["--places", str(places)], text, **disturbed)
+
+
+def first_difference(wanted, got):
+    """A few words that tell where two answers part."""
+    for number, (a, b) in enumerate(zip(wanted.split(b"\n"), got.split(b"\n"))):
+        if a != b:
+            return "line %d of the answers: %r in place of %r" % (number + 1, b, a)
+    return "%d bytes in place of %d" % (len(got), len(wanted))
+
+
+def right(answer, wanted):
+    """None where the answer is this one, and the session ended well."""
+    if (answer.status, answer.err) != (0, b""):
+        return short(answer)
+    return None if answer.out == wanted else first_difference(wanted, answer.out)
+
+
+def sessions(program, tally, seconds, seed):
+    """Random sessions beside the model, for so many seconds."""
+    end, number, lines = time.monotonic() + seconds, 0, 0
+    while time.monotonic() < end:
+        places, text, wanted = session("%d/%d" % (seed, number), 400)
+        tally.tell("session %d/%d" % (seed, number), right(told(program, places, text), wanted))
+        lines += text.count(b"\n")
+        number += 1
+    tally.note("coordinator: %d random sessions, %d lines" % (number, lines))
+
+
+def noise(program, tally, seed):
+    """Bytes of no form, a line that never ends, many empty lines, and fronts of a session."""
+    rng = random.Random(seed)
+    places, text, _ = session("front", 40)
+    cases = [("noise", 1, bytes(rng.randrange(256) for _ in range(100_000))), ("no end", 1, b"open t0 " * 20_000), ("zeros", 1, bytes(70_000) + b"\n"),
+             ("empty", 3, b""), ("lines", 2, b"\n" * 70_000)]
+    cases += [("front %d" % cut, places, text[:cut]) for cut in range(0, len(text), 7)]
+    tally.each([(name, program, many, given) for name, many, given in cases],
+               lambda program, many, given: right(told(program, many, given), coordinator_model.answers(given, many)))
+
+
+# Where memory is refused.
+
+def refused_complaint(places, text, answer):
+    """None where each request has the model's answer, or `no memory` where the model allows it, or the session ends with status 8 and
+    a front of such answers. Each release that waited is told once, behind a later reply if memory ran out for it."""
+    model, late = Model(places), []
+    got = answer.out.decode("latin-1").split("\n")
+    whole = answer.status == 0 and not answer.err and got.pop() == ""
+    if not whole and (answer.status, answer.err) != (8, b"no memory\n"):
+        return short(answer)
+    if not got or not whole and not got[-1]:
+        return None if not whole else short(answer)
+    if got.pop(0) != model.greeting():
+        return short(answer)
+    for line in text.decode("latin-1").split("\n")[:-1]:
+        if not got:
+            return None if not whole else "the answer to %r is missing" % line
+        reply = got.pop(0)
+        if reply == "no memory":
+            if copy.deepcopy(model).ask(line)[0] in ("bad", "malformed"):
+                return "no memory for %r, which is not allowed" % line
+        else:
+            first, *freed = model.ask(line)
+            late += freed
+            if reply != first and (whole or got or not first.startswith(reply)):
+                return "%r in place of %r" % (reply, first)
+        while got and got[0].startswith("freed"):
+            if got[0] not in late:
+                return None if not whole and len(got) == 1 else "%r is told, and not right" % got[0]
+            late.remove(got.pop(0))
+    return None if not got and not (whole and late) else "%r is not told, %r is too much" % (late, got)
+
+
+def refused(program, places, text, refusal):
+    """What is wrong where this refusal comes (ALLOC or ALLOC_FROM, and a number)."""
+    answer, counts = program.counted(["--places", str(places)], text, **refusal)
+    wrong = refused_complaint(places, text, answer)
+    if wrong is None and (counts is None or counts[5] != 0):
+        return "%s blocks are not given back" % (counts and counts[5])
+    return wrong
+
+
+def memory(program, tally):
+    """Each allocation of a session is refused in turn, alone, or with all later ones."""
+    places, text, _ = session("memory", 1500)
+    _, counts = program.counted(["--places", str(places)], text, alloc=0)
+    cases = [("allocation %d refused (%s)" % (n, way), program, places, text, {way: n})
+             for way in ("alloc", "alloc_from") for n in range(1, counts[0] + 2)]
+    tally.each(cases, refused)
+    tally.note("coordinator: each of %d allocations was refused" % counts[0])
+
+
+# Where the outside fails.
+
+def failed(program, places, text, wanted, disturbed, status, err):
+    """None where the session ends with this status and a front of the right text, or is right where nothing failed."""
+    answer = told(program, places, text, **disturbed)
+    if answer == Answer(0, wanted, b""):
+        return None
+    if (answer.status, answer.err) == (status, err) and wanted.startswith(answer.out):
+        return None
+    return short(answer)
+
+
+def outside(program, tally):
+    """Each read and each write of a session fails; reads and writes are short; the output is full or closed."""
+    places, text, wanted = session("outside", 120)
+    cases = []
+    for n in range(1, 40):
+        for error in (errno.EIO, errno.EINTR, errno.ENOSPC):
+            cases.append(("read %d fails" % n, program, places, text, wanted, {"read": n, "read_max": 97, "errno": error}, 6, b"read fault\n"))
+            cases.append(("write %d fails" % n, program, places, text, wanted, {"write": n, "read_max": 97, "errno": error}, *WRITE_FAULT))
+    tally.each(cases, failed)
+    for most in (1, 2, 7, 100):
+        tally.tell("pieces of %d bytes" % most, right(told(program, places, text, read_max=most, write_max=most), wanted))
+    for name, out in [("a full disk", "/dev/full"), ("no output", None)]:
+        shell = ["sh", "-c", 'exec "$0" %s' % (">" + out if out else ">&-"), program.path]
+        done = subprocess.run(shell, input=text, capture_output=True, timeout=60, check=False)
+        tally.tell(name, None if (done.returncode, done.stderr) == WRITE_FAULT else short(Answer(done.returncode, done.stdout, done.stderr)))
+
+
+def run(program, tally):
+    """All parts, for the built program."""
+    noise(program, tally, tally.seed)
+    memory(program, tally)
+    outside(program, tally)
+    sessions(program, tally, tally.seconds, tally.seed)

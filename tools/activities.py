@@ -192,3 +192,22 @@ def counted(faults):
     """Faults in a row, with repeats counted: `dead:1 dead:2 x3`."""
     runs = [(it, len(list(same))) for it, same in itertools.groupby(faults)]
     return " ".join(it if many == 1 else "%s x%d" % (it, many) for it, many in runs)
+
+
+def life_in_words(it, story):
+    """What became of an activity, in one line."""
+    if it.starter is None:
+        text = "t%d, the main one, at place %d" % (it.number, it.place)
+    else:
+        text = "t%d at place %d, started by t%d at %d" % (it.number, it.place, it.starter, it.begin)
+    if it.born_struck:
+        return text + ", lost at once: the place was dead"
+    if it.travels():
+        text += ", travelled from place %d" % it.source + (", arrived at %d" % it.arrived if it.arrived is not None else "")
+    for begin, end in it.waits[:3]:
+        text += ", waited from %d" % begin + (" to %d" % end if end is not None else "")
+    if len(it.waits) > 3:
+        text += ", and %d times more" % (len(it.waits) - 3)
+    if it.struck is not None:
+        return text + ", lost at %d" % it.struck
+    return text + (", ended at %d" % it.ended if it.ended is not None else ", had not ended")

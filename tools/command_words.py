@@ -23,9 +23,11 @@ OPTIONS = {
     "verify": [],
     "span": [],
 }
+# What the launcher takes beside these.
+OWN_OPTIONS = {"step": ["--prints"], "live": ["--prints"], "gen": ["--script", "--trace"], "verify": ["--why"]}
 FILES = ("step", "live", "check", "verify", "span")
 PAIRS = ("verify", "span")
-OF_LAUNCHER = ("draw", "sweep", "explain", "install", "build", "help")
+OF_LAUNCHER = ("draw", "laws", "sweep", "explain", "help", "build", "test", "install", "package")
 
 
 def value_rule(option):
@@ -91,35 +93,47 @@ def near(word, known):
     return "; is `%s` meant?" % found[0] if found else ""
 
 
+def why_no_file(word):
+    """What is wrong with a word that stands where a file may stand, and is none that can be read."""
+    if os.path.isdir(word):
+        return "`%s` is a folder, and no file" % word
+    if os.path.islink(word):
+        return "`%s` is a link that leads to no file" % word
+    return "there is no file `%s` here" % word
+
+
 def why_option(words, k):
     """What is wrong with word k, where an option of the command must stand."""
     command, word = words[0], words[k]
     options = OPTIONS[command]
+    is_file = os.path.exists(word) and not os.path.isdir(word)
     if command in PAIRS and not word.startswith("-"):
-        missing = [it for it in words[1:3] if it != "-" and not os.path.isfile(it)]
-        return "there is no file `%s` here" % missing[0] if missing else "`%s` takes two files, a script and a trace" % command
+        missing = [it for it in words[1:3] if it != "-" and (not os.path.exists(it) or os.path.isdir(it))]
+        return why_no_file(missing[0]) if missing else "`%s` takes two files, a script and a trace" % command
+    if command in PAIRS and words[1:] == ["-", "-"]:
+        return "one of the two may be `-`, for standard input, and the other one must be a file"
     if word in options:
         if word in ("--seed", "--pick") and word not in words[1:k]:
             return "`--seed` and `--pick` exclude each other"
         return "`%s` stands twice" % word
-    if command in FILES and os.path.isfile(word):
-        return "a file must be the last word"
-    if command in FILES and k == len(words) - 1 and not word.startswith("-"):
-        return "there is no file `%s` here" % word
+    if command in FILES and (is_file or word == "-"):
+        return "`%s` takes one file" % command
     if word.startswith("--") and "=" in word and word.split("=")[0] in options:
         return "write `%s %s`: an option and its value are two words" % tuple(word.split("=", 1))
+    if command in FILES and not word.startswith("-"):
+        return why_no_file(word)
     if not options:
         return "`%s` takes no options" % command
-    return "`%s` has no option `%s`%s" % (command, word, near(word, options) or "; it has %s" % ", ".join(options))
+    return "`%s` has no option `%s`%s" % (command, word, near(word, [*options, *OWN_OPTIONS.get(command, ())]) or "; it has %s" % ", ".join(options))
 
 
 def why(words, k):
     """What is wrong with word k of a command, where the program answers `usage k`."""
     if k == 0:
-        commands = list(OPTIONS)
+        commands = [*OPTIONS, *OF_LAUNCHER]
         if not words:
             return "a command is missing: %s" % ", ".join(commands)
-        known = [it for it in (*commands, *OF_LAUNCHER) if it != words[0]]
+        known = [it for it in commands if it != words[0]]
         return "there is no command `%s`%s" % (words[0], near(words[0], known) or "; there are %s" % ", ".join(commands))
     if words[0] not in OPTIONS:
         return "this word is not known"

@@ -1,11 +1,11 @@
 #!/usr/bin/env python3
 """Tells a refusal of the program by its place: file, line, column, the line of the source with a mark, and the rule in words.
 
-usage: rx10 explain FILE              what is wrong with a script, or its work where nothing is
+usage: rx10 explain FILE              what is wrong with a script, or its work where nothing is; `-` is standard input
        rx10 explain FILE WORD..       the same of a command, as in: rx10 explain FILE step --kill 1@3
        rx10 explain NAME              what a status (0 to 10), a fault (stale) or an answer (bad) means
 
-The program says `syntax 21` or `bad 1 4`, and stays as it is; this tool adds the place to it. It is part of no claim of the repository.
+The program says `syntax 21` or `bad 1 4`, and stays as it is; this tool adds the place to it. Nothing of this is proved.
 """
 
 import os
@@ -14,6 +14,7 @@ import subprocess
 import sys
 
 import command_words
+import script_hints
 import script_text
 
 RULES = {
@@ -49,7 +50,8 @@ FAULTS = {
     "index": "the index is below 0, or not below the length of the block",
     "heapfull": "no hole of the place's heap has as many words as `new` asks for",
 }
-WIDEST = 120
+WIDEST, FAILED = 120, 125
+MOST_SCRIPT, MOST_PAIR = 65536, 16777216
 
 
 def place_of(text, at):
@@ -91,11 +93,12 @@ def any_of(wanted):
 def of_syntax(name, text, at):
     """A script that goes wrong at a byte."""
     token = next((it for it in script_text.tokens_of(text) if it.at == at), script_text.Token("end", "", at))
-    wanted = []
+    wanted, hints = [], []
     try:
         script_text.Reader(text).read()
     except script_text.Wrong as wrong:
-        wanted = wrong.wanted if wrong.token.at == at else []
+        if wrong.token.at == at:
+            wanted, hints = wrong.wanted, script_hints.hints(text, wrong)
     if token.kind == "end":
         shown = "the script ends here, though more must come"
         # (the mark stands behind the last line that has something)
@@ -105,7 +108,7 @@ def of_syntax(name, text, at):
         shown = "`%s` can't stand here" % seen if seen.isprintable() else "the byte %d can't stand here" % text[at]
     else:
         shown = "`%s` can't stand here" % (token.text if len(token.text) <= 40 else token.text[:40] + "..")
-    notes = [it for it in [script_text.fault_of(token)] if it]
+    notes = hints or [it for it in [script_text.fault_of(token)] if it]
     if token.text in script_text.KEYWORDS and wanted == ["a name"]:
         notes.append("`%s` is a word of the language, and no name" % token.text)
     message = "%s%s" % (shown, ": %s must come" % any_of(wanted) if wanted else "")
@@ -122,9 +125,11 @@ def of_rule(name, text, rule, node):
     if node >= len(reader.statements):
         return None
     if rule == 5:
-        statement = reader.statements[0]
-        notes = [RULES[5], "a `repeat` counts its block so many times"]
-        return marked(name, text, statement.at, len(statement.kind), "the script may do too much", notes)
+        work, works = script_text.work_of(block)
+        statement = script_text.greatest(block, works)
+        notes = [RULES[5], "the work of a `repeat` is 1 + turns * (1 + the work of its block)"]
+        told = "the work of the script is %s, and this statement has %s of it" % (format(work, ","), format(works[statement.at], ","))
+        return marked(name, text, statement.at, len(statement.kind), told, notes)
     at, why = script_text.culprit(block, node, rule, reader.statements)
     length = len(script_text.TOKEN.match(text, at).group())
     # (place_of tells a statement by its line; its number is the program's)
@@ -137,7 +142,7 @@ PAIR = re.compile(rb"rx10 pair (0|[1-9][0-9]{0,18})\n")
 def parts_of(text):
     """The script and the trace of a pair, or None where it is none."""
     head = PAIR.match(text)
-    if not head or int(head[1]) > 65536 or head.end() + int(head[1]) > len(text):
+    if not head or int(head[1]) > MOST_SCRIPT or head.end() + int(head[1]) > len(text):
         return None
     return text[head.end():head.end() + int(head[1])], text[head.end() + int(head[1]):]
 
@@ -145,24 +150,56 @@ def parts_of(text):
 def of_pair(name, text):
     """A text that is no pair."""
     head = PAIR.match(text)
-    if head and int(head[1]) > 65536:
-        return "%s: a script has 65,536 bytes at most, and this one has %d" % (name, int(head[1]))
+    if head and int(head[1]) > MOST_SCRIPT:
+        return "%s: a script has 65,536 bytes at most, and this one has %s" % (name, format(int(head[1]), ","))
     if head:
         return "%s: the first line tells of %d bytes of script, and %d follow" % (name, int(head[1]), len(text) - head.end())
+    if text.startswith(b"rx10 trace"):
+        return "%s is a trace, and the script is missing: `rx10 verify SCRIPT TRACE`" % name
+    try:
+        if script_text.Reader(text).read():
+            return "%s is a script, and the trace is missing: `rx10 verify SCRIPT TRACE`" % name
+    except script_text.Wrong:
+        pass
     return "%s: the input is no pair: its first line must be `rx10 pair N`, then come N bytes of a script, and then a trace" % name
+
+
+def of_long(name, text, words):
+    """An input that is too long. Of one that was read once so much is known as was kept: one byte more than it may have."""
+    most = MOST_PAIR if words and words[0] in command_words.PAIRS else MOST_SCRIPT
+    what = "a script with its trace" if most == MOST_PAIR else "a script"
+    size = "more" if text is None or len(text) <= most + 1 else format(len(text), ",")
+    return "%s has %s bytes, and %s may have %s" % (name, size, what, format(most, ",")) if size != "more" else \
+        "%s has more than the %s bytes that %s may have" % (name, format(most, ","), what)
+
+
+def entry_due(lines, number):
+    """The number of the entry that is due at a line of a trace, where that line has another one."""
+    if not 1 < number <= len(lines) or b"history" not in lines[:number] or b"journal 0" in lines[:number]:
+        return None
+    before, here = (re.match(rb"([0-9]{1,9}) ", it) for it in lines[number - 2:number])
+    due = int(before[1]) + 1 if before else 0 if lines[number - 2] == b"history" else None
+    return due if here and due is not None and int(here[1]) != due else None
 
 
 def of_line(name, text, number):
     """A trace that goes wrong at a line."""
-    start = 0
-    for _ in range(number - 1):
-        found = text.find(b"\n", start)
-        if found < 0:
-            break
-        start = found + 1
-    end = text.find(b"\n", start)
-    length = (len(text) if end < 0 else end) - start
-    return marked(name, text, start, length, "line %d of the trace can't stand here" % number, ["docs/trace.md has the lines"])
+    lines = text.split(b"\n")
+    start = sum(len(it) + 1 for it in lines[:number - 1])
+    line = lines[number - 1] if number <= len(lines) else b""
+    notes = ["docs/trace.md has the lines"]
+    due = entry_due(lines, number)
+    if line.endswith(b"\r"):
+        notes = ["the line ends with a carriage return (CRLF); the lines of a trace end with a newline alone"]
+    elif due is not None:
+        notes = ["entry %d is due here" % due]
+    elif number == 1 and not line.startswith(b"rx10 trace"):
+        notes = ["a trace begins with `rx10 trace 2`; `rx10 step FILE` writes one"]
+    elif number > 1 and line.startswith(b"seen "):
+        notes = ["the lines of `--watch` belong to no trace: `grep -v '^seen'` leaves them out"]
+    elif number >= len(lines) and not line:
+        notes = ["the trace ends here, before its last line `done`"]
+    return marked(name, text, min(start, len(text)), len(line), "line %d of the trace can't stand here" % number, notes)
 
 
 def explained(status, said, name, text, words, parted=False):
@@ -173,6 +210,8 @@ def explained(status, said, name, text, words, parted=False):
         return "rx10: %s\n  %s\n  `rx10 %s` tells the words" % (
             command_words.why(words, numbers[0]), command_words.shown(words, numbers[0]).replace("\n", "\n  "),
             "%s --help" % words[0] if words and words[0] in command_words.OPTIONS else "--help")
+    if status == 5:
+        return of_long(name, text, words)
     if text is None:
         return None
     if status == 9:
@@ -221,32 +260,57 @@ def after(parted, status, said, kept, name, *words):
         print(more, file=sys.stderr)
 
 
+def told(name, asked):
+    """Has the program look at a script, and gives its exit status, what it wrote, and what is to be said."""
+    text = sys.stdin.buffer.read() if name == "-" else read(name)
+    name = "standard input" if name == "-" else name
+    done = subprocess.run([os.environ["RX10_PROGRAM"], *asked], input=text, stdout=subprocess.PIPE, stderr=subprocess.PIPE, check=False)
+    said = done.stderr.decode("utf-8", "replace").strip()
+    if done.returncode in (0, 1):
+        return 0, "%s: nothing is wrong%s" % (name, "; " + done.stdout.decode().strip() if asked == ["check"] else ""), ""
+    return done.returncode, "", "\n".join(it for it in [said, explained(done.returncode, said, name, text, asked)] if it)
+
+
 def main(words):
     if words[:1] in (["--after"], ["--after-parts"]):
         after(words[0] == "--after-parts", *words[1:])
         return 0
     if not words or words[0] in ("-h", "--help"):
-        print(__doc__.split("\n\n")[1])
+        print(__doc__.split("\n\n")[1], flush=True)
         return 0 if words else 2
     found = meaning(words[0])
     if found and not os.path.exists(words[0]):
-        print(found)
+        print(found, flush=True)
         return 0
-    name = words[0]
     try:
-        text = read(name)
+        status, wrote, said = told(words[0], words[1:] or ["check"])
     except OSError as why:
-        print("rx10: can't read %s: %s" % (name, why.strerror), file=sys.stderr)
-        return 125
-    asked = words[1:] or ["check"]
-    done = subprocess.run([os.environ["RX10_PROGRAM"], *asked], input=text, stdout=subprocess.PIPE, stderr=subprocess.PIPE, check=False)
-    said = done.stderr.decode("utf-8", "replace").strip()
-    if done.returncode in (0, 1):
-        print("%s: nothing is wrong%s" % (name, "; " + done.stdout.decode().strip() if asked == ["check"] else ""))
-        return 0
-    print("\n".join(it for it in [said, explained(done.returncode, said, name, text, asked)] if it), file=sys.stderr)
-    return done.returncode
+        no_name = len(words) == 1 and "/" not in words[0] and "." not in words[0] and not os.path.exists(words[0])
+        hint = "; it is no status, answer or fault either" if no_name else ""
+        print("rx10: can't read %s: %s%s" % (words[0], why.strerror, hint), file=sys.stderr)
+        return FAILED
+    if said:
+        print(said, file=sys.stderr)
+    if wrote:
+        print(wrote, flush=True)
+    return status
+
+
+def guarded(words):
+    """main, with words for an end that can't be written and for Ctrl-C."""
+    try:
+        return main(words)
+    except BrokenPipeError:
+        status = 141
+    except KeyboardInterrupt:
+        return 130
+    except OSError as why:
+        print("rx10: standard output can't be written: %s" % why.strerror, file=sys.stderr)
+        status = FAILED
+    # (what could not be written is not tried once more at the end)
+    os.dup2(os.open(os.devnull, os.O_WRONLY), 1)
+    return status
 
 
 if __name__ == "__main__":
-    sys.exit(main(sys.argv[1:]))
+    sys.exit(guarded(sys.argv[1:]))

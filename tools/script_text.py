@@ -38,7 +38,7 @@ class Use:
 
 @dataclass
 class Statement:
-    """One statement: its first word, where it starts and ends, the names in it in order, and its blocks."""
+    """One statement: its first word, where it starts and ends, the names in it in order, its blocks, and where the last of them opens."""
 
     kind: str
     at: int
@@ -47,16 +47,17 @@ class Statement:
     uses: list = field(default_factory=list)
     deepest: int = 0
     too_deep: int = 0
+    turns: int = 1
+    brace: int = 0
     blocks: list = field(default_factory=list)
 
 
 class Wrong(Exception):
-    """The token that can't go on, and the words for what could stand there."""
+    """The token that can't go on, the words for what could stand there, the token before it, and the block that is open there, if any."""
 
-    def __init__(self, token, wanted):
+    def __init__(self, token, wanted, before, brace):
         super().__init__(token.at)
-        self.token = token
-        self.wanted = wanted
+        self.token, self.wanted, self.before, self.brace = token, wanted, before, brace
 
 
 def tokens_of(text):
@@ -90,6 +91,7 @@ class Reader:
         self.tokens = tokens_of(text)
         self.here = 0
         self.statements = []
+        self.open_blocks = []
 
     def peek(self):
         return self.tokens[self.here]
@@ -99,7 +101,8 @@ class Reader:
         return token.kind in ("word", "sign") and token.text == text and not fault_of(token)
 
     def fail(self, *wanted):
-        raise Wrong(self.peek(), list(wanted))
+        before = self.tokens[self.here - 1] if self.here else None
+        raise Wrong(self.peek(), list(wanted), before, self.open_blocks[-1][0].brace if self.open_blocks else None)
 
     def take(self, text):
         if not self.is_next(text):
@@ -177,22 +180,29 @@ class Reader:
             self.take_expression(statement)
         self.take(";")
 
+    def take_brace(self, statement, words=()):
+        """The `{` of a block, and before it perhaps one of these words."""
+        if self.peek().text in words and self.is_next(self.peek().text):
+            self.here += 1
+            words = ()
+        if not self.is_next("{"):
+            self.fail("`{`", *("`%s`" % it for it in words))
+        statement.brace = self.peek().at
+        self.here += 1
+
     def take_head(self, kind, statement):
         """What stands before the first block of a compound statement; gives the word between this block and a second one, if any."""
         if kind in ("at", "if"):
             self.take_expression(statement)
         if kind == "repeat":
             self.take_number(0, 1000000)
-        if kind == "at" and self.is_next("async"):
-            self.here += 1
-        if not self.is_next("{"):
-            self.fail("`{`", *(["`async`"] if kind == "at" else []))
-        self.here += 1
+            statement.turns = int(self.tokens[self.here - 1].text)
+        self.take_brace(statement, ["async"] if kind == "at" else [])
         return {"if": ["else"], "try": ["catch"]}.get(kind, [])
 
     def read(self):
         """All statements of the script, in the order of their first tokens."""
-        block, open_blocks = [], []
+        block, open_blocks = [], self.open_blocks
         while True:
             token = self.peek()
             if open_blocks and self.is_next("}"):
@@ -200,9 +210,7 @@ class Reader:
                 statement, block, more = open_blocks.pop()
                 if more:
                     self.take(more[0])
-                    if more[0] == "catch" and self.is_next("dead"):
-                        self.here += 1
-                    self.take("{")
+                    self.take_brace(statement, ["dead"] if more[0] == "catch" else [])
                     statement.blocks.append([])
                     open_blocks.append((statement, block, more[1:]))
                     block = statement.blocks[-1]
@@ -249,6 +257,35 @@ def statement_at(block, path):
                 path.pop(0)
             block = statement.blocks[0]
     return None
+
+
+def work_of(block):
+    """The work of a list of statements, and that of each statement in it by its start; without nested calls, as in Reader."""
+    works, order, waiting = {}, [], list(block)
+    while waiting:
+        statement = waiting.pop()
+        order.append(statement)
+        for it in statement.blocks:
+            waiting += it
+    for statement in reversed(order):
+        inside = [sum(works[it.at] for it in one) for one in statement.blocks]
+        if statement.kind == "repeat":
+            works[statement.at] = 1 + statement.turns * (1 + inside[0])
+        else:
+            works[statement.at] = 1 + (max(inside) if statement.kind == "if" else sum(inside))
+    return sum(works[it.at] for it in block), works
+
+
+def greatest(block, works):
+    """The statement with most of the work: the greatest of the list, and inside it, up to a `repeat`, the one with more than half of it."""
+    found = max(block, key=lambda it: works[it.at])
+    while found.kind != "repeat":
+        inside = [it for one in found.blocks for it in one]
+        most = max(inside, key=lambda it: works[it.at], default=None)
+        if most is None or 2 * works[most.at] <= works[found.at]:
+            break
+        found = most
+    return found
 
 
 def culprit(block, node, rule, statements):

@@ -4,65 +4,62 @@
 usage: rx10 sweep FILE [OPTION..]
 
 Each place but 0 dies at each moment of the run, a place that joins at each moment from then on, one death a run; and the script runs once
-without a death. Runs with the same exit status, prints, faults at the root, lost places and masked faults make one line of the table, with
-the least kills that lead to it.
+without these deaths. Runs with the same exit status, prints, faults at the root, lost places and masked faults make one line of the table,
+with the least kills that lead to it.
 
   --places N --heap W --kill P@M .. --join M .. --pick K,.. --seed S   as for step; these kills and joins are in every run
   --pairs            two deaths a run as well: every pair of places and moments
   --seeds N          all of this under each of the schedules of the seeds 0 to N - 1
   --no-deaths        no deaths but those of --kill: with --seeds, the schedules alone
+  --any-order        runs that print the same values in another order count as the same
+  --require TEXT     what each run must have, as in --require 'status=0 prints=42'. The fields are status, prints, thrown, lost and masked,
+                     with commas between values, and - for none. What breaks it is told by the words of the least such run
+  --max N            N runs at most: first those without a death, then single deaths, then pairs. Of the kind that does not fit as a whole
+                     so many as fit are made, evenly spread
   --jobs N           so many runs at a time; as many as there are processors where it is left out
   --expect FILE      compares the table with FILE, which an earlier sweep wrote, and shows what differs
 
-The table goes to standard output and is the same each time; progress goes to standard error. Exit status: 0; 1 where the table is not
-that of --expect; 2 to 8 where the program refuses; 125 where the sweep could not be made. This tool is part of no claim.
+The table goes to standard output and is the same each time. Standard error has the progress, and for a sweep of more than some seconds how
+long it may take. Ctrl-C ends the sweep with the table of the runs so far. FILE may be -, for standard input.
+
+Exit status: 0; 1 where a run breaks --require, or the table is not that of --expect; 2 to 8 where the words are bad or the program
+refuses; 125 where the sweep could not be made, 130 after Ctrl-C. This tool is not proved.
 """
 
 import argparse
-import collections
-import concurrent.futures
 import difflib
+import functools
 import os
-import subprocess
 import sys
 import tempfile
 import time
 
+import command_words
 import explain
-import trace_text
+import sweep_plan
+import sweep_runs
+import sweep_table
+from sweep_runs import Run
+from sweep_table import many
 
-FAILED = 125
-Outcome = collections.namedtuple("Outcome", "status prints thrown lost masked")
-
-
-class Refused(Exception):
-    """The program refused: its exit status, and what it said."""
-
-    def __init__(self, status, said, words):
-        super().__init__(said)
-        self.status, self.said, self.words = status, said, words
+FAILED, STOPPED = 125, 130
+LONG, VERY_LONG = 2, 60     # seconds from which on an estimate, and a warning, is told
+WORDS = ("--places", "--heap", "--pick", "--seed")
 
 
-def run(program, script, words):
-    """One run of the script in this open file: what came of it, and how many entries its history has."""
-    words = ["step", *words]
-    with open("/proc/self/fd/%d" % script.fileno(), "rb") as source:
-        done = subprocess.run([program, *words], stdin=source, stdout=subprocess.PIPE, stderr=subprocess.PIPE, check=False)
-    if done.returncode not in (0, 1):
-        raise Refused(done.returncode, done.stderr.decode("utf-8", "replace").strip(), words)
-    trace = trace_text.read_trace(done.stdout.decode())
-    root = trace.root()
-    lost = sorted({place for it in trace.entries for place in it.lost})
-    prints = tuple(it.value for it in trace.entries if it.kind == "print")
-    outcome = Outcome(done.returncode, prints, tuple(root.thrown), tuple(lost), sum(it.masked for it in trace.entries))
-    return outcome, len(trace.entries)
+def spoken(seconds):
+    """A time as one says it."""
+    for unit, size in (("h", 3600), ("min", 60)):
+        if seconds >= 2 * size:
+            return "%.0f %s" % (seconds / size, unit)
+    return "%.0f s" % seconds
 
 
 class Progress:
     """How far the sweep is, on standard error: one line that is written over on a terminal, else a line every ten seconds."""
 
     def __init__(self):
-        self.done, self.known, self.began = 0, 0, time.monotonic()
+        self.done, self.expected, self.began = 0, 0, time.monotonic()
         self.is_terminal = sys.stderr.isatty()
         self.next = self.began + (0.2 if self.is_terminal else 10)
 
@@ -72,7 +69,8 @@ class Progress:
         if now < self.next:
             return
         self.next = now + (0.1 if self.is_terminal else 10)
-        text = "%d of %d runs, %.0f s" % (self.done, self.known, now - self.began)
+        left = (now - self.began) / self.done * max(0, self.expected - self.done)
+        text = "%d of about %d runs, %s; about %s left" % (self.done, self.expected, spoken(now - self.began), spoken(left))
         print("\r\033[K" + text if self.is_terminal else "rx10: " + text, end="" if self.is_terminal else "\n", file=sys.stderr, flush=True)
 
     def end(self):
@@ -83,129 +81,186 @@ class Progress:
 class Sweep:
     """The runs of one script, and their groups."""
 
-    def __init__(self, program, script, given):
-        self.program, self.script, self.given = program, script, given
-        self.groups = {}
+    def __init__(self, program, script, given, base):
+        self.program, self.script, self.given, self.base = program, script, given, base
+        self.groups = sweep_table.Groups(given.any_order)
+        self.plan = sweep_plan.Plan(int(given.places or 2), map(int, given.join), {int(it.split("@")[0]) for it in given.kill})
+        self.firsts = [Run(seed, ()) for seed in ([None] if given.seeds is None else range(given.seeds))]
         self.progress = Progress()
-        self.moments = set()
-        self.base = []
-        for option in ("places", "heap", "pick", "seed"):
-            value = getattr(given, option)
-            if value is not None:
-                self.base += ["--%s" % option, value]
-        for join in given.join:
-            self.base += ["--join", join]
-        for kill in given.kill:
-            self.base += ["--kill", kill]
+        self.total, self.is_exact, self.is_stopped = 0, False, False
+        self.stages = []
 
-    def keys(self, moment):
-        """The places that may die at this moment: those that are there or join then, those that a `--kill` names left out."""
-        places = int(self.given.places or 2) + sum(int(it) <= moment for it in self.given.join)
-        named = {it.split("@")[0] for it in self.given.kill}
-        return [it for it in range(1, places) if str(it) not in named]
+    def estimate(self, length, seconds):
+        """Tells how many runs there may be and how long they take, by one run with so many entries that took so long."""
+        runs = len(self.firsts)
+        if not self.given.no_deaths:
+            pairs = self.plan.expected_pairs(length) if self.given.pairs else 0
+            runs *= 1 + self.plan.count_singles(length) + pairs
+        self.total = runs
+        made = min(runs, self.given.max or runs)
+        self.progress.expected = made
+        took = made * seconds / min(self.given.jobs, len(os.sched_getaffinity(0)))
+        if took >= LONG:
+            more = "; --max N makes N of them, and Ctrl-C ends it with the table so far" if took >= VERY_LONG else ""
+            warning = "this is a long sweep: " if took >= VERY_LONG else ""
+            print("rx10: %sabout %s, about %s%s" % (warning, many(made, "run"), spoken(took), more), file=sys.stderr, flush=True)
 
-    def all_of(self, pool, asked):
-        """Runs a list of (seed, kills) at once, and gives for each how many entries it had."""
-        self.progress.known += len(asked)
-        waiting = [pool.submit(run, self.program, self.script, self.words(*it)) for it in asked]
-        lengths = []
-        try:
-            for one, it in zip(asked, waiting):
-                outcome, length = it.result()
-                group = self.groups.setdefault(outcome, [])
-                group.append(one)
-                lengths.append(length)
-                self.progress.step()
-        finally:
-            for it in waiting:
-                it.cancel()
-        return lengths
-
-    def words(self, seed, kills):
-        words = list(self.base) if seed is None else [*self.base, "--seed", str(seed)]
-        for moment, place in kills:
-            words += ["--kill", "%d@%d" % (place, moment)]
-        return words
+    def stage(self, workers, name, sources):
+        """Makes these runs, or so many as may still be made, evenly spread; gives each with the number of its entries."""
+        total = sum(count for count, _ in sources)
+        left = total if self.given.max is None else min(total, self.given.max - self.progress.done)
+        made = []
+        for run, outcome, length in workers.results(sweep_plan.spread(sources, total, left)):
+            self.groups.add(run, outcome)
+            made.append((run, length))
+            self.progress.step()
+        self.stages.append("%s%d %s" % ("all " if len(made) == total > 1 else "" if len(made) == total else "%d of " % len(made), total, name))
+        return total, sorted(made, key=lambda it: (it[0].seed or 0, it[0].kills))
 
     def make(self):
-        """Makes all runs."""
-        seeds = [None] if self.given.seeds is None else list(range(self.given.seeds))
-        with concurrent.futures.ThreadPoolExecutor(self.given.jobs) as pool:
-            first = [(seed, ()) for seed in seeds]
-            lengths = self.all_of(pool, first)
-            if self.given.no_deaths:
-                return
-            singles = []
-            for (seed, _), length in zip(first, lengths):
-                singles += [(seed, ((moment, place),)) for moment in range(length) for place in self.keys(moment)]
-            lengths = self.all_of(pool, singles)
-            if self.given.pairs:
-                pairs = []
-                for (seed, (one,)), length in zip(singles, lengths):
-                    pairs += [(seed, (one, (moment, place))) for moment in range(one[0], length) for place in self.keys(moment)
-                              if place != one[1] and (moment, place) > one]
-                self.all_of(pool, pairs)
-
-    def least(self, runs):
-        """The least run of a group: fewest kills, then earliest, then of the least places."""
-        return min(runs, key=lambda it: (len(it[1]), it[1], it[0] or 0))
+        """Makes all runs, and knows in the end how many there are, where that can be known."""
+        plan = self.plan
+        with sweep_runs.Workers(self.given.jobs, self.program, self.script, self.base) as workers:
+            total, made = self.stage(workers, "without a death", [(len(self.firsts), lambda: self.firsts)])
+            if not self.given.no_deaths:
+                sources = [(plan.count_singles(length), functools.partial(plan.singles, run.seed, length)) for run, length in made]
+                is_whole = len(made) == total
+                singles, made = self.stage(workers, "single deaths", sources)
+                total += singles
+                if self.given.pairs:
+                    is_whole = is_whole and len(made) == singles
+                    sources = [(plan.count_pairs(run, length), functools.partial(plan.pairs, run, length)) for run, length in made]
+                    if is_whole:
+                        self.progress.expected = min(total + sum(count for count, _ in sources), self.given.max or sys.maxsize)
+                    total += self.stage(workers, "pairs", sources)[0]
+                self.is_exact = is_whole
+            else:
+                self.is_exact = True
+        if self.is_exact:
+            self.total = total
 
     def table(self):
-        """The table, one line for each group, that of the run without a death first, and then by the number of runs."""
-        runs = sum(map(len, self.groups.values()))
+        """The table: its head says how many runs there are, and how many of them were made where that is not all."""
+        runs = self.groups.runs()
         name = " ".join([os.path.basename(self.given.file), *self.base])
-        head = "%s: %s, %s" % (name, many(runs, "run"), many(len(self.groups), "outcome"))
-        rows = [("runs", "status", "prints", "thrown", "lost", "masked", "least words that lead to it")]
-        leasts = [(outcome, found, self.least(found)) for outcome, found in self.groups.items()]
-        for outcome, found, (seed, kills) in sorted(leasts, key=lambda it: (bool(it[2][1]), -len(it[1]), it[2][1], it[2][0] or 0)):
-            words = self.words(seed, kills)[len(self.base):]
-            rows.append((str(len(found)), str(outcome.status), listed(outcome.prints), listed(outcome.thrown), listed(outcome.lost),
-                         str(outcome.masked or "-"), " ".join(words) or "no death"))
-        # (a column in which nothing stands says nothing)
-        kept = [k for k in range(len(rows[0])) if k not in (3, 4, 5) or any(it[k] != "-" for it in rows[1:])]
-        widths = [max(len(it[k]) for it in rows) for k in kept]
-        lines = ["  ".join(it[k].rjust(w) if k == 0 else it[k].ljust(w) for k, w in zip(kept, widths)).rstrip() for it in rows]
-        return "\n".join([head, "", *lines]) + "\n"
+        made = many(runs, "run")
+        if self.is_stopped:
+            made = "stopped after %d of about %d runs" % (runs, max(self.total, runs))
+        elif self.given.max is not None and (runs < self.total or not self.is_exact):
+            made = "%d of %s%s (%s, evenly spread)" % (runs, "" if self.is_exact else "about ", many(self.total, "run"), ", ".join(self.stages))
+        order = ", prints in any order" if self.given.any_order else ""
+        head = "%s: %s, %s%s" % (name, made, many(len(self.groups.found), "outcome"), order)
+        with_lost = bool(self.given.kill) or not self.given.no_deaths
+        return "\n".join([head, "", *self.groups.lines(self.base, with_lost)]) + "\n"
 
 
-def many(number, what):
-    return "%d %s%s" % (number, what, "" if number == 1 else "s")
+class Words(argparse.ArgumentParser):
+    """The words of the sweep, with a hint at the option that was meant."""
 
+    def error(self, message):
+        print("rx10: %s\n  `rx10 sweep --help` tells the words" % message, file=sys.stderr)
+        sys.exit(2)
 
-def listed(values):
-    """Values in a row, with repeats counted: `1 2 2 2` is `1 2 x3`; a long row is cut."""
-    shown, last, count = [], None, 0
-    for it in [*map(str, values), None]:
-        if it == last:
-            count += 1
-            continue
-        if last is not None:
-            shown.append(last if count == 1 else "%s x%d" % (last, count))
-        last, count = it, 1
-    if len(shown) > 24:
-        shown = [*shown[:20], ".. %d more" % (len(shown) - 20)]
-    return " ".join(shown) or "-"
+    def taken(self, words):
+        given, more = self.parse_known_args(words)
+        if more:
+            known = [it for action in self._actions for it in action.option_strings]
+            self.error("`sweep` has no option `%s`%s" % (more[0], command_words.near(more[0], known))
+                       if more[0].startswith("-") else "`sweep` takes one file, and `%s` is one more" % more[0])
+        return given
 
 
 def arguments(words):
-    """The words of the sweep."""
-    usage = "rx10 sweep FILE [OPTION..]  (rx10 sweep --help tells them)"
-    parser = argparse.ArgumentParser(prog="rx10 sweep", usage=usage, add_help=False, allow_abbrev=False)
-    parser.add_argument("file")
-    for option in ("--places", "--heap", "--pick", "--seed", "--expect"):
+    """The words of the sweep, the text of --require read."""
+    parser = Words(prog="rx10 sweep", add_help=False, allow_abbrev=False)
+    parser.add_argument("file", metavar="FILE")
+    for option in (*WORDS, "--expect", "--require"):
         parser.add_argument(option)
-    parser.add_argument("--kill", action="append", default=[])
-    parser.add_argument("--join", action="append", default=[])
-    parser.add_argument("--pairs", action="store_true")
-    parser.add_argument("--no-deaths", action="store_true")
-    parser.add_argument("--seeds", type=int)
-    parser.add_argument("--jobs", type=int, default=len(os.sched_getaffinity(0)))
-    given = parser.parse_args(words)
-    if given.seeds is not None and (given.seeds < 1 or given.seed is not None or given.pick is not None):
-        parser.error("--seeds takes a number from 1, and excludes --seed and --pick")
-    if given.jobs < 1:
-        parser.error("--jobs takes a number from 1")
+    for option in ("--kill", "--join"):
+        parser.add_argument(option, action="append", default=[])
+    for option in ("--pairs", "--no-deaths", "--any-order"):
+        parser.add_argument(option, action="store_true")
+    for option in ("--seeds", "--jobs", "--max"):
+        parser.add_argument(option, type=int)
+    given = parser.taken(words)
+    if given.seeds is not None and (given.seed is not None or given.pick is not None):
+        parser.error("--seeds excludes --seed and --pick")
+    if given.pairs and given.no_deaths:
+        parser.error("--pairs and --no-deaths exclude each other")
+    for option in ("seeds", "jobs", "max"):
+        if getattr(given, option) is not None and getattr(given, option) < 1:
+            parser.error("--%s takes a number from 1" % option)
+    given.jobs = given.jobs or len(os.sched_getaffinity(0))
+    try:
+        given.require = given.require and sweep_table.Requirement(given.require, given.any_order)
+    except ValueError as why:
+        parser.error("--require: %s" % why)
     return given
+
+
+def base_of(given):
+    """The words that are in every run."""
+    base = []
+    for option in WORDS:
+        value = getattr(given, option[2:])
+        base += [option, value] if value is not None else []
+    for option, values in (("--join", given.join), ("--kill", given.kill)):
+        base += [it for value in values for it in (option, value)]
+    return base
+
+
+def source_of(name):
+    """The bytes of the script."""
+    if name != "-":
+        return explain.read(name)
+    if sys.stdin.isatty():
+        print("rx10: the script is read from the terminal; end it with Ctrl-D, or name a file: rx10 sweep FILE", file=sys.stderr)
+    return sys.stdin.buffer.read(1 << 25)
+
+
+def refused(refusal, given, base, text):
+    """Tells why the program refused, and gives the exit status."""
+    number = refusal.said.partition(" ")[2]
+    if refusal.status == 2 and number.isdigit():
+        words, k = [given.file, *base], int(number)
+        shown = command_words.shown(words, k, "rx10 sweep").replace("\n", "\n  ")
+        more = "rx10: %s\n  %s\n  `rx10 sweep --help` tells the words" % (command_words.why(refusal.words, k), shown)
+    else:
+        more = explain.explained(refusal.status, refusal.said, given.file, text, refusal.words)
+        more = "\n".join(it for it in (refusal.said, more) if it)
+    print(more or "rx10: the program ended with %d" % refusal.status, file=sys.stderr)
+    return refusal.status if refusal.status > 0 else FAILED
+
+
+def concluded(sweep, expected, given):
+    """The text for standard output, and the exit status: the table or what differs from it, and what became of --require."""
+    table, status = sweep.table(), 0
+    if expected is None or sweep.is_stopped:
+        text = table
+    elif table == expected:
+        text = "%s: as expected\n" % table.split("\n", 1)[0]
+    else:
+        lines = difflib.unified_diff(expected.splitlines(), table.splitlines(), given.expect, "this sweep", lineterm="")
+        text, status = "".join(it + "\n" for it in lines), 1
+    if given.require and sweep.groups.found:
+        is_met, told = given.require.judged(sweep.groups, sweep.base, given.file)
+        text, status = "%s\n%s\n" % (text, told), status if is_met else 1
+    return text, STOPPED if sweep.is_stopped else status
+
+
+def swept(sweep, expected, given):
+    """Makes the sweep: the text for standard output, and the exit status."""
+    began = time.monotonic()
+    # (bad words and a bad script are refused before anything is counted)
+    length = [sweep_runs.make(sweep.program, sweep.script, sweep.base)[1] for _ in range(3)][0]
+    sweep.estimate(length, (time.monotonic() - began) / 3)
+    try:
+        sweep.make()
+    except KeyboardInterrupt:
+        sweep.is_stopped = True
+    finally:
+        sweep.progress.end()
+    return concluded(sweep, expected, given)
 
 
 def main(words):
@@ -214,44 +269,43 @@ def main(words):
         return 0
     given = arguments(words)
     try:
-        text = explain.read(given.file)
+        text = source_of(given.file)
         expected = explain.read(given.expect).decode("utf-8", "replace") if given.expect else None
     except OSError as why:
-        print("rx10: can't read %s: %s" % (why.filename, why.strerror), file=sys.stderr)
+        print("rx10: can't read %s: %s" % (why.filename or given.file, why.strerror), file=sys.stderr)
         return FAILED
+    base = base_of(given)
     # (a copy, so that an edit meanwhile does not mix two scripts)
-    script = tempfile.TemporaryFile()
-    script.write(text)
-    script.flush()
-    sweep = Sweep(os.environ["RX10_PROGRAM"], script, given)
+    with tempfile.TemporaryFile() as script:
+        script.write(text)
+        script.flush()
+        try:
+            sweep_runs.make(os.environ["RX10_PROGRAM"], script, base)
+            told, status = swept(Sweep(os.environ["RX10_PROGRAM"], script, given, base), expected, given)
+        except sweep_runs.Refused as refusal:
+            return refused(refusal, given, base, text)
+        except (OSError, sweep_runs.NoTrace) as why:
+            print("rx10: the sweep could not be made: %s" % why, file=sys.stderr)
+            return FAILED
+    print(told, end="")
+    return status
+
+
+def run(words):
+    """main, with an end of its own where standard output can't be written or Ctrl-C comes early."""
     try:
-        # (bad words and a bad script are refused before anything is counted)
-        run(sweep.program, script, sweep.base)
-        sweep.make()
-    except Refused as refusal:
-        sweep.progress.end()
-        more = explain.explained(refusal.status, refusal.said, given.file, text, refusal.words)
-        print("\n".join(it for it in (refusal.said, more) if it), file=sys.stderr)
-        return refusal.status if refusal.status > 0 else FAILED
+        status = main(words)
+        sys.stdout.flush()
+        return status
     except KeyboardInterrupt:
-        sweep.progress.end()
-        return 130
-    except (OSError, trace_text.NoTrace) as why:
-        sweep.progress.end()
-        print("rx10: the sweep could not be made: %s" % why, file=sys.stderr)
+        return STOPPED
+    except OSError as why:
+        # (what is left in the buffer can't be written at the end either)
+        os.dup2(os.open(os.devnull, os.O_WRONLY), 1)
+        if not isinstance(why, BrokenPipeError):
+            print("rx10: can't write: %s" % why.strerror, file=sys.stderr)
         return FAILED
-    sweep.progress.end()
-    table = sweep.table()
-    if expected is None:
-        print(table, end="")
-        return 0
-    if table == expected:
-        print("%s: as expected" % table.split("\n", 1)[0])
-        return 0
-    lines = difflib.unified_diff(expected.splitlines(), table.splitlines(), given.expect, "this sweep", lineterm="")
-    print("\n".join(lines))
-    return 1
 
 
 if __name__ == "__main__":
-    sys.exit(main(sys.argv[1:]))
+    sys.exit(run(sys.argv[1:]))

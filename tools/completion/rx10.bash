@@ -4,13 +4,13 @@ _rx10() {
     local now=${COMP_WORDS[COMP_CWORD]} before=${COMP_WORDS[COMP_CWORD - 1]} command=${COMP_WORDS[1]} words=
     COMPREPLY=()
     if [ "$COMP_CWORD" -eq 1 ]; then
-        mapfile -t COMPREPLY < <(compgen -W 'step live check gen verify span draw sweep explain install build help --help --version' -- "$now")
+        mapfile -t COMPREPLY < <(compgen -W 'step live check gen verify span draw laws sweep explain build test install package help --help --version' -- "$now")
         return
     fi
     case $before in
         --places) words='1 2 3 4 5 6 7 8 9 10 11 12 13 14 15 16' ;;
         --workers) words='1 2 3 4 5 6 7 8' ;;
-        --expect | --script | --span | -o)
+        --expect | --script | --trace | --span | -o)
             compopt -o default
             return
             ;;
@@ -21,19 +21,20 @@ _rx10() {
         return
     fi
     case $command in
-        step) words='--places --heap --kill --join --pick --seed --help' ;;
-        live) words='--places --heap --kill --join --workers --watch --help' ;;
-        gen) words='--size --places --heap --kill --seed --help' ;;
-        check | verify | span) words='--help' ;;
-        draw) words='-o --script --span --columns --title --svg --perfetto --help' ;;
-        sweep) words='--places --heap --kill --join --pick --seed --pairs --seeds --no-deaths --jobs --expect --help' ;;
-        explain) words='--help' ;;
-        install)
+        step) words='--places --heap --kill --join --pick --seed --prints --help' ;;
+        live) words='--places --heap --kill --join --workers --watch --prints --help' ;;
+        gen) words='--size --places --heap --kill --seed --script --trace --help' ;;
+        verify) words='--why --help' ;;
+        check | span | laws) words='--help' ;;
+        draw) words='-o --script --span --columns --width --title --svg --perfetto --help' ;;
+        sweep) words='--places --heap --kill --join --pick --seed --pairs --seeds --no-deaths --any-order --require --max --jobs --expect --help' ;;
+        explain | build | test) words='--help' ;;
+        install | package)
             compopt -o filenames
             mapfile -t COMPREPLY < <(compgen -d -- "$now")
             return
             ;;
-        help) words='step live check gen verify span draw sweep explain install build' ;;
+        help) words='step live check gen verify span draw laws sweep explain build test install package' ;;
         *) return ;;
     esac
     case $now in
@@ -45,8 +46,8 @@ _rx10() {
             fi
             # scripts, traces, and folders on the way to them
             local ending=rx
-            [ "$command" = draw ] && ending=trace
-            case $command in verify | span) [ "$COMP_CWORD" -gt 2 ] && ending=trace ;; esac
+            case $command in draw | laws) ending=trace ;; esac
+            case $command in verify | span) [ "$COMP_CWORD" -gt 2 ] && [ "$before" != --why ] && ending=trace ;; esac
             [ "$command" = gen ] && return
             compopt -o filenames
             mapfile -t COMPREPLY < <(compgen -f -X "!*.$ending" -- "$now"; compgen -d -- "$now")

@@ -23,7 +23,7 @@ class Editor(unittest.TestCase):
         self.assertEqual(set(completed("rx10", "")), {*command_words.OPTIONS, *command_words.OF_LAUNCHER, "--help", "--version"})
         self.assertEqual(completed("rx10", "sw"), ["sweep"])
         for command, options in command_words.OPTIONS.items():
-            self.assertEqual(set(completed("rx10", command, "--")), {*options, "--help"})
+            self.assertEqual(set(completed("rx10", command, "--")), {*options, *command_words.OWN_OPTIONS.get(command, ()), "--help"})
         self.assertEqual(completed("./rx10", "step", "--kill", "1@3", "examples/he"), ["examples/hello.rx"])
         self.assertEqual(completed("./rx10", "draw", "examples/he"), ["examples/hello.trace"])
         self.assertEqual(completed("./rx10", "verify", "examples/he"), ["examples/hello.rx"])

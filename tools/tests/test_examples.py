@@ -62,7 +62,7 @@ class Examples(unittest.TestCase):
             if not trace.exists():
                 continue
             done = subprocess.run([TOP / "rx10", "draw", trace, "--svg", "-o", "-"], capture_output=True, timeout=60, check=False)
-            self.assertEqual(done.stdout.decode(), picture.read_text(), "make it again: ./rx10 draw %s --svg -o %s" % (trace, picture))
+            self.assertEqual(done.stdout.decode(), picture.read_text(), "make it again: ./rx10 draw %s -o %s" % (trace, picture))
 
 
 def add(path):

@@ -16,13 +16,19 @@ FAULTS = [
     ("if 1 { }\nprint 2;", "syntax 9", "x:2:1: `print` can't stand here: `else` must come", "^^^^^"),
     ("async { } }", "syntax 10", "x:1:11: `}` can't stand here: a statement must come", "          ^"),
     ("print \N{SNOWMAN};", "syntax 6", "x:1:7: `\N{SNOWMAN}` can't stand here: a number, a name, `here` or `(` must come", "      ^"),
+    ("at 1 async async { }", "syntax 11", "x:1:12: `async` can't stand here: `{` must come", " " * 11 + "^^^^^"),
+    ("at 1 print 7;", "syntax 5", "x:1:6: `print` can't stand here: `{` or `async` must come", "     ^^^^^"),
+    ("try { } catch deed { }", "syntax 14", "x:1:15: `deed` can't stand here: `{` or `dead` must come", " " * 14 + "^^^^"),
     ("print (7);", "syntax 8", "x:1:9: `)` can't stand here: `+`, `-`, `*`, `<` or `==` must come", "        ^"),
     ("print x;", "bad 1 0", "x:1:7: `x` is not known here", "      ^"),
     ("set x = 1;\n\tforget x;", "bad 2 1", "x:2:9: `x` is a number, and only a reference has words to read, write or forget", "\t       ^"),
     ("if 1 { set x = 1; } else { print x; }", "bad 1 2", "x:1:34: `x` is not known here", " " * 33 + "^"),
     ("new r = 1; set r = 2;", "bad 2 1", "x:1:16: `r` is a reference since its first assignment, and can't become a number",
      " " * 15 + "^"),
-    ("repeat 9 { repeat 11109 { } } print 1;", "bad 5 0", "x:1:1: the script may do too much", "^^^^^^"),
+    ("repeat 9 { repeat 11109 { } } print 1;", "bad 5 0",
+     "x:1:1: the work of the script is 100,001, and this statement has 100,000 of it", "^^^^^^"),
+    ("print 1; finish { async { repeat 1000000 { print 1; } } }", "bad 5 0",
+     "x:1:27: the work of the script is 2,000,004, and this statement has 2,000,001 of it", " " * 26 + "^^^^^^"),
     ("".join("set a%d = 1;" % i for i in range(33)), "bad 4 32", "x:1:379: `a32` is one name too many", None),
     ("finish { " * 33 + "print 1;" + " }" * 33, "bad 3 33", "x:1:298: this statement stands in 33 blocks", None),
     ("print " + "(" * 33 + "1" + " + 1)" * 33 + ";", "bad 3 0", "x:1:39: this expression has 33 parentheses in one another", None),
@@ -51,6 +57,38 @@ WORDS = [
     ("gen --places 3", 3, "`gen` needs `--size LINES`"),
     ("verify --places 2", 1, "`verify` takes no options"),
     ("span none.rx none.trace", 1, "there is no file `none.rx` here"),
+    ("step none.rx --places 3", 1, "there is no file `none.rx` here"),
+    ("step /", 1, "`/` is a folder, and no file"),
+    ("step --print", 1, "is `--prints` meant?"),
+    ("nonsense", 0, "draw, laws, sweep, explain"),
+]
+
+
+# A script that is none, and what its writer may have meant.
+HINTS = [
+    ("prin 7;", "is `print` meant?"),
+    ("x = 5;", "a value is given by `set x = ..;`"),
+    ("while 1 { }", "`repeat N { .. }` runs a block N times"),
+    ("else { }", "`else` follows the block of `if`"),
+    ("// a comment\nprint 7;", "a comment begins with `#`"),
+    ("print 1 + 2;", "an operation stands in parentheses: `(a + b)`"),
+    ("print (1 + 2 + 3);", "`((a + b) + c)`"),
+    ("print -5;", "`(0 - 5)`"),
+    ("print (1 > 2);", "write `(b < a)` for a > b"),
+    ("print r[0];", "`get x = r[..];`"),
+    ("print 7\nprint 8;", "the `;` is missing at the end of line 1"),
+    ("finish {\nasync {\nprint 1;\n}\n", "the `{` of line 1 is not closed"),
+    ("try { } catch deed { }", "is `dead` meant?"),
+    ("\ufeffprint 7;", "a byte order mark"),
+    ("rx10 trace 2\n", "this is a trace"),
+    ("Print 7;", "no capital letters"),
+]
+# Lines of a trace that is none, the bad one, and why it is bad.
+LINES = [
+    ("rx10 trace 2\r\nplaces 2 heap 256\r\n", 1, "carriage return"),
+    ("rx10 trace 2\nplaces 2 heap 256\nkills\njoins\nhistory\n0 open t0 s1 in s0 0\n2 wait t0 s1\n", 7, "entry 1 is due here"),
+    ("print 7;\n", 1, "a trace begins with `rx10 trace 2`"),
+    ("rx10 trace 2\ndone\nseen 0 scopes 1 live 1 travel 0\n", 3, "`grep -v '^seen'`"),
 ]
 
 
@@ -62,6 +100,26 @@ class Faults(unittest.TestCase):
                 self.assertEqual(shown.split("\n")[0], line)
                 if mark is not None:
                     self.assertEqual(shown.split("\n")[3].split("| ", 1)[1], mark)
+
+    def test_hints(self):
+        for script, hint in HINTS:
+            with self.subTest(script=script):
+                try:
+                    script_text.Reader(script.encode()).read()
+                except script_text.Wrong as wrong:
+                    self.assertIn(hint, explain.explained(3, "syntax %d" % wrong.token.at, "x", script.encode(), ["check"]))
+                else:
+                    self.fail("this is a script")
+
+    def test_lines_of_traces(self):
+        for trace, number, hint in LINES:
+            with self.subTest(trace=trace):
+                shown = explain.explained(10, "bad line %d" % number, "x", b"rx10 pair 0\n" + trace.encode(), ["verify"])
+                self.assertIn(hint, shown)
+
+    def test_what_is_too_long(self):
+        self.assertEqual(explain.explained(5, "too long", "x", b"#" * 70000, ["step"]), "x has 70,000 bytes, and a script may have 65,536")
+        self.assertIn("more than the 16,777,216 bytes", explain.explained(5, "too long", "x", b" " * 16777217, ["verify"]))
 
     def test_bad_words(self):
         for words, k, part in WORDS:

@@ -1,0 +1,147 @@
+"""Runs of a script for a sweep: a process each, started by several workers at a time, and what came of it.
+
+Most of what a short run costs is the start of a process. So a worker is a process of its own that starts the program without a shell or
+a copy of itself, and takes from the trace no more than the table needs.
+"""
+
+import collections
+import itertools
+import multiprocessing
+import multiprocessing.connection
+import os
+import re
+import signal
+
+Run = collections.namedtuple("Run", "seed kills")       # kills are pairs of a moment and a place
+Outcome = collections.namedtuple("Outcome", "status prints thrown lost masked")
+
+CHUNK = 16      # runs that a worker is handed at a time
+PIECE = 1 << 16
+ENVIRONMENT = dict(os.environb)
+TITLE = b"rx10 trace 2\n"
+TOLD = re.compile(rb"^(\d+) (?:print t\d+ (-?\d+)|release (host|t\d+) s\d+([^|\n]*))", re.M)
+
+
+class Refused(Exception):
+    """The program refused: its exit status, and what it said."""
+
+    def __init__(self, status, said, words):
+        super().__init__(status, said, words)
+        self.status, self.said, self.words = status, said, words
+
+
+class NoTrace(Exception):
+    """The program wrote something else than a whole trace."""
+
+
+def words_of(base, run):
+    """The words of this run: those of every run, its seed, its kills."""
+    words = list(base) if run.seed is None else [*base, "--seed", str(run.seed)]
+    for moment, place in run.kills:
+        words += ["--kill", "%d@%d" % (place, moment)]
+    return words
+
+
+def outcome_of(status, text):
+    """What came of a run that wrote this trace, and how many entries its history has."""
+    prints, lost, masked = [], set(), 0
+    for number, value, who, parts in TOLD.findall(text):
+        if not who:
+            prints.append(int(value))
+            continue
+        parts, _, thrown = parts.partition(b" thrown ")
+        parts, _, count = parts.partition(b" masked ")
+        masked += int(count or 0)
+        lost.update(map(int, parts.split()[1:]))
+        if who == b"host":
+            return Outcome(status, tuple(prints), tuple(thrown.decode().split()), tuple(sorted(lost)), masked), int(number) + 1
+    raise NoTrace("the root is never released")
+
+
+def make(program, script, words):
+    """Makes one run of the script in this open file: what came of it, and how many entries its history has."""
+    words = ["step", *words]
+    reader, writer = os.pipe()
+    actions = [(os.POSIX_SPAWN_OPEN, 0, "/proc/self/fd/%d" % script.fileno(), os.O_RDONLY, 0),
+               (os.POSIX_SPAWN_DUP2, writer, 1), (os.POSIX_SPAWN_DUP2, writer, 2)]
+    try:
+        process = os.posix_spawn(program, [program, *words], ENVIRONMENT, file_actions=actions)
+    finally:
+        os.close(writer)
+    pieces = []
+    while not pieces or pieces[-1]:
+        pieces.append(os.read(reader, PIECE))
+    os.close(reader)
+    text = b"".join(pieces)
+    # (its line on standard error comes with no trace, so one pipe serves for both)
+    status = os.waitstatus_to_exitcode(os.waitpid(process, 0)[1])
+    if status not in (0, 1):
+        raise Refused(status, text.decode("utf-8", "replace").strip(), words)
+    if not text.startswith(TITLE):
+        raise NoTrace("the program wrote no trace")
+    return outcome_of(status, text)
+
+
+def work(connection, others, program, script, base):
+    """A worker: answers each list of runs that it is handed, and ends where the other side has gone."""
+    signal.signal(signal.SIGINT, signal.SIG_IGN)
+    for it in others:
+        it.close()
+    try:
+        while True:
+            runs = connection.recv()
+            connection.send([make(program, script, words_of(base, run)) for run in runs])
+    except EOFError:
+        pass
+    except (Refused, NoTrace, OSError) as fault:
+        connection.send(fault)
+
+
+class Workers:
+    """Some workers, and the connection to each. They end with the `with` in which they stand."""
+
+    def __init__(self, count, program, script, base):
+        context = multiprocessing.get_context("fork")
+        self.connections, self.processes = [], []
+        for _ in range(count):
+            here, there = context.Pipe()
+            self.connections.append(here)
+            process = context.Process(target=work, args=(there, list(self.connections), program, script, base), daemon=True)
+            process.start()
+            there.close()
+            self.processes.append(process)
+
+    def __enter__(self):
+        return self
+
+    def __exit__(self, *_):
+        for process in self.processes:
+            process.terminate()
+        for process in self.processes:
+            process.join()
+
+    def results(self, runs):
+        """For each of these runs (run, outcome, number of entries), in the order in which they end."""
+        runs = iter(runs)
+        waiting = {it: collections.deque() for it in self.connections}
+
+        def hand_on(connection):
+            chunk = list(itertools.islice(runs, CHUNK))
+            if chunk:
+                connection.send(chunk)
+                waiting[connection].append(chunk)
+
+        # (a second list lies ready, so that no worker waits for this process)
+        for connection in [*self.connections, *self.connections]:
+            hand_on(connection)
+        while any(waiting.values()):
+            for connection in multiprocessing.connection.wait([it for it, chunks in waiting.items() if chunks]):
+                try:
+                    answers = connection.recv()
+                except EOFError:
+                    raise OSError("a worker of the sweep was ended") from None
+                if isinstance(answers, Exception):
+                    raise answers
+                hand_on(connection)
+                for run, (outcome, length) in zip(waiting[connection].popleft(), answers):
+                    yield run, outcome, length

@@ -1,0 +1,194 @@
+"""The pages say what the tree has: names of files, crates and definitions are there, and numbers that can be counted are right.
+
+A number in a sentence stands in CLAIMS: the page, a pattern of the sentence with a group for each number, and what counts each. Where a page
+no longer has the sentence, its row goes. `python3 tools/tests/test_docs.py --mend` writes the numbers that are counted into the pages.
+"""
+
+import functools
+import re
+import sys
+import unittest
+
+from places import TOP
+
+CRATES = TOP / "crates"
+PAGES = sorted([*TOP.glob("*.md"), *TOP.glob("docs/*.md"), *TOP.glob("tools/*.md"), *TOP.glob("bench/*.md"), *TOP.glob("tests/*/*.md")])
+NAMES = {it.name for it in CRATES.iterdir() if it.is_dir()}
+WORDS = "no one two three four five six seven eight nine ten eleven twelve thirteen fourteen fifteen sixteen seventeen eighteen".split()
+ENDINGS = "rt|antt|py|md|rx|trace|c|css|js|svg|txt|bash|json|edit"
+# Names of files that a page gives as what a reader may call his own, or that a command makes.
+OWN = {"first.py", "broken.rx", "supervisor.trace", "supervisor.html", "FILE.trace", "NAME.html", "NAME.trace", "both.trace", "both.html", "bench/gate.txt"}
+
+
+def page(name):
+    return (TOP / name).read_text()
+
+
+def files(crate, part):
+    """The files of a part of a crate, those that only list others among them."""
+    return [it for it in (CRATES / crate / part).rglob("*") if it.suffix in (".rt", ".antt")]
+
+
+@functools.lru_cache(maxsize=None)
+def trusted():
+    """The lines used of each file of the reading list, by its path under crates/."""
+    rows = re.findall(r"^\| `([\w/]+\.antt)` \| (\d+) \| (\d+) \|", page("docs/trust.md"), re.M)
+    return {file: (int(used), int(whole)) for file, used, whole in rows}
+
+
+def used(*ends):
+    """The lines used of all trusted files whose paths end so."""
+    found = [trusted()[it][0] for end in ends for it in trusted() if it.endswith(end)]
+    return sum(found) if len(found) >= len(ends) else "no such file in the reading list"
+
+
+def laws(crate):
+    """The public functions of a crate of laws."""
+    return sum(it.read_text().count("\npub fn ") for it in files(crate, "src"))
+
+
+@functools.lru_cache(maxsize=None)
+def bare_text(path):
+    """A file without comments and imports."""
+    text = path.read_text()
+    if path.suffix == ".rt":
+        return re.sub(r"(?m)^\s*(pub )?(ghost )?use [^;]*;", "", re.sub(r"//.*", "", text))
+    return re.sub(r"(?m)^(pub )?use [^\n]*(\n[ \t}][^\n]*)*", "", re.sub(r"(?m)(^|\s)--.*", "", text))
+
+
+@functools.lru_cache(maxsize=None)
+def naming(word):
+    """How many files name this word, in how many crates, in each part: with a small or a large letter, and with an `s` behind it or not."""
+    pattern, counts = re.compile(r"\b[%s%s]%ss?\b" % (word[0].lower(), word[0].upper(), word[1:])), []
+    for part in ("src", "specs", "proofs"):
+        found = {}
+        for crate in sorted(NAMES - {"tasks_by_hand"}):
+            if not crate.startswith("tests_of_"):
+                texts = [bare_text(it) for it in files(crate, part) if part != "src" or not re.search(r"tests?\.rt$|^worked|^texts", it.name)]
+                found[crate] = sum(bool(pattern.search(it)) for it in texts)
+        counts += [sum(found.values()), sum(it > 0 for it in found.values())]
+    return counts
+
+
+THEOREM, TRUST, CHANGING = "docs/theorem.md", "docs/trust.md", "docs/changing.md"
+CLAIMS = [
+    (THEOREM, r"`asked_any`.*?, (\d+) lines", lambda: used("rx_words/specs/Words.antt")),
+    (THEOREM, r"`Lexical.antt` and `Tokens.antt` of `crates/rx_token/specs/`, (\d+) lines", lambda: used("Lexical.antt", "Tokens.antt", "Grammar.antt")),
+    (THEOREM, r"`crates/rx_check/specs/Rules.antt`, (\d+) lines", lambda: used("rx_check/specs/Rules.antt")),
+    (THEOREM, r"\(`crates/rx_trace/specs/`, (\d+) lines\)", lambda: sum(used(it) for it in trusted() if it.startswith("rx_trace/"))),
+    (THEOREM, r"`crates/rx_gen/specs/Lines.antt`, (\d+) lines", lambda: used("rx_gen/specs/Lines.antt")),
+    (THEOREM, r"\(`Numbers.antt`, (\d+) lines\)", lambda: used("rx_gen/specs/Numbers.antt")),
+    (THEOREM, r"`crates/rx_watch/specs/Text.antt`, (\d+) lines", lambda: used("rx_watch/specs/Text.antt")),
+    (THEOREM, r"`Cases.antt` (\d+) lines, `Pair.antt` of `crates/rx_pair/specs/` (\d+), `Limits.antt` of `crates/rx_reading/specs/` (\d+)",
+     lambda: used("Cases.antt"), lambda: used("Pair.antt"), lambda: used("rx_reading/specs/Limits.antt")),
+    (THEOREM, r"with `Rooted.antt` of `crates/rx_runs/specs/`, (\d+) lines", lambda: used("Verdicts.antt", "Makes.antt", "Rooted.antt")),
+    (THEOREM, r"`Paths.antt` of `crates/rx_span/specs/`, (\d+) lines", lambda: used("rx_span/specs/Chains.antt", "rx_span/specs/Paths.antt")),
+    (THEOREM, r"`Entries.antt` (\d+) lines, `Tree.antt` (\d+), `Fold.antt` (\d+)",
+     *(lambda it=it: used("rx_rules/specs/%s.antt" % it) for it in ("Entries", "Tree", "Fold"))),
+    (THEOREM, r"`Plays.antt` (\d+) lines, `Terms.antt` (\d+)", *(lambda it=it: used("rx_rules/specs/%s.antt" % it) for it in ("Plays", "Terms"))),
+    (THEOREM, r"`Store.antt` (\d+) lines", lambda: used("rx_rules/specs/Store.antt")),
+    (THEOREM, r"`Laws.antt`, (\d+) lines in all", lambda: used("rx_rules/specs/Laws.antt")),
+    (THEOREM, r"`Order.antt`, (\d+) lines", lambda: used("rx_rules/specs/Order.antt")),
+    (THEOREM, r"(\d+) lines of the file say what turns", lambda: used("Picked.antt")),
+    (THEOREM, r"`crates/rx_picks/specs/Seeds.antt`, (\d+) lines", lambda: used("Seeds.antt")),
+    (TRUST, r"There are ([\d,]+) of them;", lambda: sum(it[0] for it in trusted().values())),
+    (TRUST, r"`rx_rules/specs/Examples.antt` \((\d+) lines\)", lambda: page("crates/rx_rules/specs/Examples.antt").count("\n")),
+    ("docs/proved.md", r"(\d+) more worked histories are whole runs, and (\d+) laws tell", lambda: laws("rx_worked") - 13, lambda: laws("rx_worked") - 24),
+    *((CHANGING, r"\| `%s` \| (\d+) in (\d+) crates \| (\d+) in (\d+) \| (\d+) in (\d+) \|" % word,
+       *(lambda word=word, it=it: naming(word)[it] for it in range(6))) for word in ("forget", "set", "print", "arrive", "death", "dead")),
+    (CHANGING, r"\| a crate: (\d+) \| (\d+) \| (\d+) \|", *(lambda it=it: len(files("rx_counts", it)) for it in ("src", "specs", "proofs"))),
+    (CHANGING, r"rx_tree\) has (\d+) source files, (\d+) of specs\s+and (\d+) of proofs",
+     *(lambda it=it: len(files("rx_tree", it)) for it in ("src", "specs", "proofs"))),
+    (CHANGING, r"rx_counts\) (\d+), (\d+) and (\d+)", *(lambda it=it: len(files("rx_counts", it)) for it in ("src", "specs", "proofs"))),
+    (CHANGING, r"with a file of specs each \((\d+) lines", lambda: sum(used(it) for it in trusted() if it.startswith("rx_trace/"))),
+    (CHANGING, r"all of rx_fields and rx_reading: (\d+) source files, (\d+) of specs",
+     *(lambda it=it: len(files("rx_fields", it)) + len(files("rx_reading", it)) for it in ("src", "specs"))),
+]
+
+
+def number(text):
+    """A number in digits or in words."""
+    return WORDS.index(text) if text in WORDS else int(text.replace(",", ""))
+
+
+class Numbers(unittest.TestCase):
+    def test_claims(self):
+        for name, pattern, *counts in CLAIMS:
+            with self.subTest(page=name, sentence=pattern):
+                found = re.search(pattern, page(name), re.S if r"\s" in pattern else 0)
+                self.assertIsNotNone(found, "the page no longer says this: mend or drop its row in CLAIMS")
+                self.assertEqual([number(it) for it in found.groups()], [it() for it in counts])
+
+    def test_reading_list(self):
+        for file, (_, whole) in trusted().items():
+            self.assertEqual((file, whole), (file, (CRATES / file).read_text().count("\n")))
+        for head, rows in re.findall(r"^#### .*\((\d+) lines\)\n(.*?)(?=^#)", page(TRUST), re.M | re.S):
+            self.assertEqual(int(head), sum(map(int, re.findall(r"^\| `[\w/]+\.antt` \| (\d+) \|", rows, re.M))), rows[:200])
+
+    def test_other_definitions(self):
+        claims = page(TRUST).partition("### Other claims")[2].partition("\n#")[0]
+        rows = re.findall(r"^\| (`[\w/]+\.antt`.*?) \| (\d+) \| ", claims, re.M)
+        for named, whole in rows:
+            first, *others = re.findall(r"`([\w/]+\.antt)`", named)
+            paths = [CRATES / first, *((CRATES / first).parent / it for it in others)]
+            self.assertEqual((named, int(whole)), (named, sum(it.read_text().count("\n") for it in paths)))
+        told = re.search(r"([\d,]+) in all\)", claims)
+        if told:
+            self.assertEqual(number(told[1]), sum(int(it[1]) for it in rows))
+
+
+class Names(unittest.TestCase):
+    def test_links(self):
+        for it in PAGES:
+            for link in re.findall(r"\]\(([^)#]+)[^)]*\)", it.read_text()):
+                if "://" not in link:
+                    self.assertTrue((it.parent / link).exists(), "%s has a link to %s" % (it.name, link))
+
+    def test_files(self):
+        known = {it.name for it in TOP.rglob("*") if "out" not in it.parts}
+        for it in PAGES:
+            for name in set(re.findall(r"`((?:[\w.-]+/)*[\w-]+\.(?:%s))`" % ENDINGS, it.read_text())):
+                if name in OWN:
+                    continue
+                is_there = (TOP / name).exists() or (CRATES / name).exists() or (it.parent / name).exists()
+                is_there = is_there or (any(TOP.glob("crates/*/" + name)) or any(TOP.glob("crates/*/*/" + name)) if "/" in name else name in known)
+                self.assertTrue(is_there, "%s names %s" % (it.name, name))
+
+    def test_crates(self):
+        for it in PAGES:
+            for name in set(re.findall(r"\b(?:rx|tests_of)_[a-z_]+\b(?!\.|\()", it.read_text())):
+                self.assertIn(name, NAMES, it.name)
+        stands = {it.split(":")[0]: it.split(":")[1].split() for it in page("crates.txt").splitlines() if ":" in it}
+        self.assertEqual(set(stands), NAMES)
+        rows = dict(re.findall(r"^\| (\w+) \| ((?:rx_\w+(?:, )?)+|nothing) \|", page("docs/architecture.md"), re.M))
+        for name in set(rows) & NAMES:
+            told = [] if rows[name] == "nothing" else rows[name].split(", ")
+            self.assertEqual((name, sorted(told)), (name, sorted(it for it in stands[name] if it in NAMES)))
+
+    def test_functions_of_claims(self):
+        for name, calls in re.findall(r"^\| (rx\w+) \| ([^|]*) \|", page("docs/proved.md"), re.M):
+            text = "".join(it.read_text() for it in files(name, "src"))
+            for call in re.findall(r"`([\w:]+)`", calls):
+                self.assertRegex(text, r"\b%s\b" % call.split("::")[-1], name)
+
+    def test_names_with_several_meanings(self):
+        for name, meanings in re.findall(r"^\| `(\w+)` \| (.*) \|$", page("docs/glossary.md").split("## Names of specs/")[-1], re.M):
+            for crate in re.findall(r"(?:^|; )(rx\w+): ", meanings):
+                text = "".join(it.read_text() for it in files(crate, "specs"))
+                self.assertRegex(text, r"\b%s\b" % name, "%s in %s" % (name, crate))
+
+
+def mend():
+    """Writes what is counted into the pages, where a number is another one."""
+    for name, pattern, *counts in CLAIMS:
+        text = page(name)
+        found = re.search(pattern, text, re.S if r"\s" in pattern else 0)
+        for group, count in reversed([*enumerate(counts, 1)] if found else []):
+            if number(found[group]) != count():
+                print("%s: %s is %s: %s" % (name, found[group], count(), found[0]))
+                text = text[:found.start(group)] + format(count(), ",") + text[found.end(group):]
+        (TOP / name).write_text(text)
+
+
+if __name__ == "__main__" and sys.argv[1:] == ["--mend"]:
+    mend()

@@ -36,6 +36,19 @@ def trusted():
     return {file: (int(used), int(whole)) for file, used, whole in rows}
 
 
+def claims():
+    """The rows of claims of the page of trust: the crate, its contracts, and the last column, with the files to read."""
+    rows = page("docs/trust.md").partition("## Every other claim")[2].partition("\n### ")[0]
+    return re.findall(r"^\| (rx\w+|tasks_by_hand) \| ([^|]*) \| .* \|([^|]*)\|$", rows, re.M)
+
+
+@functools.lru_cache(maxsize=None)
+def read_besides():
+    """The files, by path under crates/, and lines that the rows of claims name, in their order."""
+    found = [(crate, *it) for crate, _, files in claims() for it in re.findall(r"`([\w/]+\.antt)` (\d+)", files)]
+    return [(file if file.startswith("rx") else "%s/specs/%s" % (crate, file), int(lines)) for crate, file, lines in found]
+
+
 def used(*ends):
     """The lines used of all trusted files whose paths end so."""
     found = [trusted()[it][0] for end in ends for it in trusted() if it.endswith(end)]
@@ -91,9 +104,9 @@ CLAIMS = [
     (THEOREM, r"`Order.antt`, (\d+) lines", lambda: used("rx_rules/specs/Order.antt")),
     (THEOREM, r"(\d+) lines of the file say what turns", lambda: used("Picked.antt")),
     (THEOREM, r"`crates/rx_picks/specs/Seeds.antt`, (\d+) lines", lambda: used("Seeds.antt")),
-    (TRUST, r"There are ([\d,]+) of them;", lambda: sum(it[0] for it in trusted().values())),
-    (TRUST, r"`rx_rules/specs/Examples.antt` \((\d+) lines\)", lambda: page("crates/rx_rules/specs/Examples.antt").count("\n")),
-    ("docs/proved.md", r"(\d+) more worked histories are whole runs, and (\d+) laws tell", lambda: laws("rx_worked") - 13, lambda: laws("rx_worked") - 24),
+    (TRUST, r"There are\s+([\d,]+) used lines", lambda: sum(it[0] for it in trusted().values())),
+    (TRUST, r"with their lines \(([\d,]+) in\s+all\)", lambda: sum(it[1] for it in read_besides())),
+    (TRUST, r"(\d+) more worked histories are whole runs, and (\d+) laws tell", lambda: laws("rx_worked") - 13, lambda: laws("rx_worked") - 24),
     *((CHANGING, r"\| `%s` \| (\d+) in (\d+) crates \| (\d+) in (\d+) \| (\d+) in (\d+) \|" % word,
        *(lambda word=word, it=it: naming(word)[it] for it in range(6))) for word in ("forget", "set", "print", "arrive", "death", "dead")),
     (CHANGING, r"\| a crate: (\d+) \| (\d+) \| (\d+) \|", *(lambda it=it: len(files("rx_counts", it)) for it in ("src", "specs", "proofs"))),
@@ -122,19 +135,19 @@ class Numbers(unittest.TestCase):
     def test_reading_list(self):
         for file, (_, whole) in trusted().items():
             self.assertEqual((file, whole), (file, (CRATES / file).read_text().count("\n")))
-        for head, rows in re.findall(r"^#### .*\((\d+) lines\)\n(.*?)(?=^#)", page(TRUST), re.M | re.S):
-            self.assertEqual(int(head), sum(map(int, re.findall(r"^\| `[\w/]+\.antt` \| (\d+) \|", rows, re.M))), rows[:200])
+        groups = re.split(r"^\| \*\*[^|]*\*\* \| \*\*([\d,]+)\*\* \| \| \|$", page(TRUST).partition("## Every other claim")[0], flags=re.M)[1:]
+        self.assertTrue(groups)
+        for told, rows in zip(groups[::2], groups[1::2]):
+            self.assertEqual(number(told), sum(map(int, re.findall(r"^\| `[\w/]+\.antt` \| (\d+) \|", rows, re.M))), rows[:200])
 
     def test_other_definitions(self):
-        claims = page(TRUST).partition("### Other claims")[2].partition("\n#")[0]
-        rows = re.findall(r"^\| (`[\w/]+\.antt`.*?) \| (\d+) \| ", claims, re.M)
-        for named, whole in rows:
-            first, *others = re.findall(r"`([\w/]+\.antt)`", named)
-            paths = [CRATES / first, *((CRATES / first).parent / it for it in others)]
-            self.assertEqual((named, int(whole)), (named, sum(it.read_text().count("\n") for it in paths)))
-        told = re.search(r"([\d,]+) in all\)", claims)
-        if told:
-            self.assertEqual(number(told[1]), sum(int(it[1]) for it in rows))
+        for file, lines in read_besides():
+            self.assertEqual((file, lines), (file, (CRATES / file).read_text().count("\n")))
+        named = [it for it, _ in read_besides()]
+        self.assertEqual(sorted(named), sorted(set(named) - set(trusted())), "each file is named once")
+        for crate, _, files in claims():
+            for file in re.findall(r"`(\w+\.antt)`", files.partition("all of")[2].partition(";")[0]):
+                self.assertIn("%s/specs/%s" % (crate, file), trusted())
 
 
 class Names(unittest.TestCase):
@@ -166,7 +179,8 @@ class Names(unittest.TestCase):
             self.assertEqual((name, sorted(told)), (name, sorted(it for it in stands[name] if it in NAMES)))
 
     def test_functions_of_claims(self):
-        for name, calls in re.findall(r"^\| (rx\w+) \| ([^|]*) \|", page("docs/proved.md"), re.M):
+        self.assertTrue(claims())
+        for name, calls, _ in claims():
             text = "".join(it.read_text() for it in files(name, "src"))
             for call in re.findall(r"`([\w:]+)`", calls):
                 self.assertRegex(text, r"\b%s\b" % call.split("::")[-1], name)

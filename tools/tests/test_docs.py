@@ -100,7 +100,7 @@ CLAIMS = [
      *(lambda it=it: used("rx_rules/specs/%s.antt" % it) for it in ("Entries", "Tree", "Fold"))),
     (THEOREM, r"`Plays.antt` (\d+) lines, `Terms.antt` (\d+)", *(lambda it=it: used("rx_rules/specs/%s.antt" % it) for it in ("Plays", "Terms"))),
     (THEOREM, r"`Store.antt` (\d+) lines", lambda: used("rx_rules/specs/Store.antt")),
-    (THEOREM, r"`Laws.antt`, (\d+) lines in all", lambda: used("rx_rules/specs/Laws.antt")),
+    (THEOREM, r"hits take (\d+) lines of `Laws.antt`", lambda: used("rx_rules/specs/Laws.antt")),
     (THEOREM, r"`Order.antt`, (\d+) lines", lambda: used("rx_rules/specs/Order.antt")),
     (THEOREM, r"(\d+) lines of the file say what turns", lambda: used("Picked.antt")),
     (THEOREM, r"`crates/rx_picks/specs/Seeds.antt`, (\d+) lines", lambda: used("Seeds.antt")),

@@ -7,6 +7,7 @@ no longer has the sentence, its row goes. `python3 tools/tests/test_docs.py --me
 import functools
 import re
 import sys
+import textwrap
 import unittest
 
 from places import TOP
@@ -81,6 +82,17 @@ def naming(word):
                 found[crate] = sum(bool(pattern.search(it)) for it in texts)
         counts += [sum(found.values()), sum(it > 0 for it in found.values())]
     return counts
+
+
+def shared_names():
+    """The list of the names that `specs/` of two or more crates define, each with these crates."""
+    found = {}
+    for crate in sorted(it for it in NAMES if not it.startswith("tests_of_")):
+        for file in files(crate, "specs"):
+            for name in re.findall(r"^ *(?:\w+ pub|pub (?:record|data)) (\w+)", file.read_text(), re.M):
+                found.setdefault(name, {})[crate.removeprefix("rx_")] = True
+    listed = ", ".join("`%s` (%s)" % (name, ", ".join(found[name])) for name in sorted(found) if len(found[name]) > 1)
+    return textwrap.fill(listed, 148, break_on_hyphens=False) + "\n"
 
 
 THEOREM, TRUST, CHANGING = "docs/theorem.md", "docs/trust.md", "docs/changing.md"
@@ -185,11 +197,8 @@ class Names(unittest.TestCase):
             for call in re.findall(r"`([\w:]+)`", calls):
                 self.assertRegex(text, r"\b%s\b" % call.split("::")[-1], name)
 
-    def test_names_with_several_meanings(self):
-        for name, meanings in re.findall(r"^\| `(\w+)` \| (.*) \|$", page("docs/glossary.md").split("## Names of specs/")[-1], re.M):
-            for crate in re.findall(r"(?:^|; )(rx\w+): ", meanings):
-                text = "".join(it.read_text() for it in files(crate, "specs"))
-                self.assertRegex(text, r"\b%s\b" % name, "%s in %s" % (name, crate))
+    def test_names_in_several_crates(self):
+        self.assertEqual(page("docs/glossary.md").split("\n\n")[-1], shared_names(), "--mend writes this list anew")
 
 
 def mend():
@@ -202,6 +211,7 @@ def mend():
                 print("%s: %s is %s: %s" % (name, found[group], count(), found[0]))
                 text = text[:found.start(group)] + format(count(), ",") + text[found.end(group):]
         (TOP / name).write_text(text)
+    (TOP / "docs/glossary.md").write_text(page("docs/glossary.md").rpartition("\n\n")[0] + "\n\n" + shared_names())
 
 
 if __name__ == "__main__" and sys.argv[1:] == ["--mend"]:

@@ -37,7 +37,7 @@ def trusted():
     return {file: (int(used), int(whole)) for file, used, whole in rows}
 
 
-def claims():
+def claim_rows():
     """The rows of claims of the page of trust: the crate, its contracts, and the last column, with the files to read."""
     rows = page("docs/trust.md").partition("## Every other claim")[2].partition("\n### ")[0]
     return re.findall(r"^\| (rx\w+|tasks_by_hand) \| ([^|]*) \| .* \|([^|]*)\|$", rows, re.M)
@@ -46,7 +46,7 @@ def claims():
 @functools.lru_cache(maxsize=None)
 def read_besides():
     """The files, by path under crates/, and lines that the rows of claims name, in their order."""
-    found = [(crate, *it) for crate, _, files in claims() for it in re.findall(r"`([\w/]+\.antt)` (\d+)", files)]
+    found = [(crate, *it) for crate, _, files in claim_rows() for it in re.findall(r"`([\w/]+\.antt)` (\d+)", files)]
     return [(file if file.startswith("rx") else "%s/specs/%s" % (crate, file), int(lines)) for crate, file, lines in found]
 
 
@@ -157,8 +157,8 @@ class Numbers(unittest.TestCase):
             self.assertEqual((file, lines), (file, (CRATES / file).read_text().count("\n")))
         named = [it for it, _ in read_besides()]
         self.assertEqual(sorted(named), sorted(set(named) - set(trusted())), "each file is named once")
-        for crate, _, files in claims():
-            for file in re.findall(r"`(\w+\.antt)`", files.partition("all of")[2].partition(";")[0]):
+        for crate, _, besides in claim_rows():
+            for file in re.findall(r"`(\w+\.antt)`", besides.partition("all of")[2].partition(";")[0]):
                 self.assertIn("%s/specs/%s" % (crate, file), trusted())
 
 
@@ -168,6 +168,10 @@ class Names(unittest.TestCase):
             for link in re.findall(r"\]\(([^)#]+)[^)]*\)", it.read_text()):
                 if "://" not in link:
                     self.assertTrue((it.parent / link).exists(), "%s has a link to %s" % (it.name, link))
+            for link, head in re.findall(r"\]\(([^)#:]*)#([^)]+)\)", it.read_text()):
+                text = ((it.parent / link) if link else it).read_text()
+                heads = [re.sub(r"[^\w -]", "", told.lower()).replace(" ", "-") for told in re.findall(r"^#+ (.*)$", text, re.M)]
+                self.assertIn(head, heads, "%s has a link to a section of %s" % (it.name, link))
 
     def test_files(self):
         known = {it.name for it in TOP.rglob("*") if "out" not in it.parts}
@@ -191,8 +195,8 @@ class Names(unittest.TestCase):
             self.assertEqual((name, sorted(told)), (name, sorted(it for it in stands[name] if it in NAMES)))
 
     def test_functions_of_claims(self):
-        self.assertTrue(claims())
-        for name, calls, _ in claims():
+        self.assertTrue(claim_rows())
+        for name, calls, _ in claim_rows():
             text = "".join(it.read_text() for it in files(name, "src"))
             for call in re.findall(r"`([\w:]+)`", calls):
                 self.assertRegex(text, r"\b%s\b" % call.split("::")[-1], name)

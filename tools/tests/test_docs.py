@@ -20,6 +20,10 @@ ENDINGS = "rt|antt|py|md|rx|trace|c|css|js|svg|txt|bash|json|edit"
 # Names of files that a page gives as what a reader may call his own, or that a command makes.
 OWN = {"first.py", "broken.rx", "supervisor.trace", "supervisor.html", "FILE.trace", "NAME.html", "NAME.trace", "both.trace", "both.html", "bench/gate.txt"}
 
+# Files of specs/ that no claim names: they say what a type keeps, or serve private functions.
+UNNAMED = {"rx_audit/specs/Asks.antt", "rx_book/specs/Ties.antt", "rx_ledger/specs/Keeping.antt", "rx_lock/specs/Latched.antt",
+           "rx_machine/specs/Picking.antt", "rx_machine/specs/Slots.antt", "rx_rank/specs/Counts.antt", "rx_token/specs/Names.antt"}
+
 
 def page(name):
     return (TOP / name).read_text()
@@ -160,6 +164,8 @@ class Numbers(unittest.TestCase):
         for crate, _, besides in claim_rows():
             for file in re.findall(r"`(\w+\.antt)`", besides.partition("all of")[2].partition(";")[0]):
                 self.assertIn("%s/specs/%s" % (crate, file), trusted())
+        all_files = {str(it.relative_to(CRATES)) for it in CRATES.glob("*/specs/*.antt") if it.name not in ("Inside.antt", "Lib.antt")}
+        self.assertEqual(all_files - set(named) - set(trusted()), UNNAMED)
 
 
 class Names(unittest.TestCase):

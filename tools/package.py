@@ -18,7 +18,7 @@ import tempfile
 
 TOP = pathlib.Path(__file__).resolve().parent.parent
 FAILED = 125
-PAGES = "tutorial language semantics commands trace theorem trust proved costs glossary".split()
+PAGES = "tutorial language semantics commands trace theorem trust costs glossary".split()
 COMMANDS = "step live check gen verify span draw laws sweep explain".split()
 CONTROL = """Package: rx10
 Version: %s

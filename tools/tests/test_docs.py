@@ -99,7 +99,7 @@ def shared_names():
     return textwrap.fill(listed, 148, break_on_hyphens=False) + "\n"
 
 
-THEOREM, TRUST, CHANGING = "docs/theorem.md", "docs/trust.md", "docs/changing.md"
+THEOREM, TRUST, CHANGING = "docs/theorem.md", "docs/trust.md", "CONTRIBUTING.md"
 CLAIMS = [
     (THEOREM, r"`asked_any`.*?, (\d+) lines", lambda: used("rx_words/specs/Words.antt")),
     (THEOREM, r"`Lexical.antt` and `Tokens.antt` of `crates/rx_token/specs/`, (\d+) lines", lambda: used("Lexical.antt", "Tokens.antt", "Grammar.antt")),
@@ -126,12 +126,7 @@ CLAIMS = [
     *((CHANGING, r"\| `%s` \| (\d+) in (\d+) crates \| (\d+) in (\d+) \| (\d+) in (\d+) \|" % word,
        *(lambda word=word, it=it: naming(word)[it] for it in range(6))) for word in ("forget", "set", "print", "arrive", "death", "dead")),
     (CHANGING, r"\| a crate: (\d+) \| (\d+) \| (\d+) \|", *(lambda it=it: len(files("rx_counts", it)) for it in ("src", "specs", "proofs"))),
-    (CHANGING, r"rx_tree\) has (\d+) source files, (\d+) of specs\s+and (\d+) of proofs",
-     *(lambda it=it: len(files("rx_tree", it)) for it in ("src", "specs", "proofs"))),
-    (CHANGING, r"rx_counts\) (\d+), (\d+) and (\d+)", *(lambda it=it: len(files("rx_counts", it)) for it in ("src", "specs", "proofs"))),
-    (CHANGING, r"with a file of specs each \((\d+) lines", lambda: sum(used(it) for it in trusted() if it.startswith("rx_trace/"))),
-    (CHANGING, r"all of rx_fields and rx_reading: (\d+) source files, (\d+) of specs",
-     *(lambda it=it: len(files("rx_fields", it)) + len(files("rx_reading", it)) for it in ("src", "specs"))),
+    (CHANGING, r"with a file of specs for each\s+source\s+file \((\d+) lines", lambda: sum(used(it) for it in trusted() if it.startswith("rx_trace/"))),
 ]
 
 

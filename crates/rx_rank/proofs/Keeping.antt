@@ -1,12 +1,13 @@
 -- What the set keeps, in the words of its view.
-use Rattle.std.specs.Prelude.{◌≡◌, ℕ, suc, ◌+◌, ◌*◌, ◌/◌, ◌^◌, ◌<◌, ◌≤◌, List, [], ◌∷◌, length, slice_index, refl}
+use Rattle.std.specs.Prelude.{◌≡◌, ℕ, suc, ◌+◌, ◌*◌, ◌/◌, ◌^◌, ◌<◌, ◌≤◌, List, [], ◌∷◌, ◌++◌, length, take, drop, Option, Some, slice_get, slice_index, refl}
 use Rattle.std.proofs.Common.{arith, ap, sym, subst, ◌∙◌, inl, inr}
 use Rattle.std.proofs.lemmas.Bool.{cases_lt}
-use Rattle.std.proofs.lemmas.List.{length-drop}
+use Rattle.std.proofs.lemmas.List.{length-drop, take-append-le, take_all}
+use Rattle.std.proofs.lemmas.Option.{none-some, same_Some}
 use Rattle.std.proofs.Math.Nat.{pow-suc, pow-le-pow_right}
 use Rattle.rx_rank.specs.Numbers.{removed}
-use Rattle.rx_rank.specs.Counts.{numbers, leaves, IsTree, IsKept}
-use Rattle.rx_rank.proofs.Leaves.{empty, numbers-between, numbers-most, removed_none}
+use Rattle.rx_rank.specs.Counts.{numbers, leaves, IsTree, IsKept, IsSet}
+use Rattle.rx_rank.proofs.Leaves.{Between, empty, numbers-between, numbers-most, removed_none}
 use Rattle.rx_rank.proofs.Adding.{half-is, root-length}
 
 -- there is a tree where there is room
@@ -69,8 +70,28 @@ kept_within h k cs kept l = let e = root-length (2 ^ h) cs (kept_numbers h k cs 
 pub kept_room : (h k : ℕ) (cs : List ℕ) → IsKept h cs → k < length (numbers 0 (leaves cs)) → length cs / 2 ≡ 2 ^ h
 kept_room h k cs kept l = half-is (2 ^ h) cs (kept_numbers h k cs kept l).bare
 
+-- the least is below the room
+between-first : (a b x : ℕ) (ns : List ℕ) → Between a b ns → slice_get ns 0 ≡ Some x → x < b
+between-first a b x [] p e = absurd (none-some x e)
+between-first a b x (n ∷ ns) p e = let p1 = p.1 in let same : n ≡ x = same_Some n x e in omega arith
+
+pub kept_least : (h x : ℕ) (cs : List ℕ) → IsKept h cs → slice_get (numbers 0 (leaves cs)) 0 ≡ Some x → x < length cs / 2
+kept_least h x cs kept first =
+    let e = kept_even h cs kept in
+    let below = between-first 0 (0 + length (leaves cs)) x (numbers 0 (leaves cs)) (numbers-between 0 (leaves cs)) first in
+    omega arith
+
 -- past the room there is nothing to take out
 pub kept_removed : (h x : ℕ) (cs : List ℕ) → IsKept h cs → length cs / 2 ≤ x → removed x (numbers 0 (leaves cs)) ≡ numbers 0 (leaves cs)
 kept_removed h x cs kept l =
     let e = kept_even h cs kept in
     removed_none x 0 (0 + length (leaves cs)) (numbers 0 (leaves cs)) (inr (omega arith)) (numbers-between 0 (leaves cs))
+
+-- a list that is written back whole, and the set that it stands for then
+written_back : (old new : List ℕ) (n : ℕ) → n ≡ length old → length new ≡ length old → take n (new ++ drop (length new) old) ≡ new
+written_back old new n e same = take-append-le n new (drop (length new) old) (omega arith) ∙ take_all n new (omega arith)
+
+pub set_again : (h n : ℕ) (old new : List ℕ) (least : Option ℕ) → IsKept h old → n ≡ length old → length new ≡ length old → 0 < length old → IsTree (length new / 2) new
+    → least ≡ slice_get (numbers 0 (leaves new)) 0 → IsSet h (take n (new ++ drop (length new) old)) least
+set_again h n old new least kept e same some tree first =
+    subst (λ z. IsSet h z least) (sym (written_back old new n e same)) (record { kept = kept_again h old new kept some same tree; first = first })

@@ -1,3 +1,4 @@
 pub mod Leaves
 pub mod Adding
 pub mod Keeping
+pub mod Least

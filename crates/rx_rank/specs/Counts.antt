@@ -1,6 +1,6 @@
 -- How a list of counts stands for a set of numbers.
 use Rattle.std.specs.Prelude.{◌≡◌, ℕ, ◌+◌, ◌*◌, ◌/◌, ◌^◌, ◌<◌, ◌≤◌, ◌==◌}
-use Rattle.std.specs.Prelude.{Bool, true, false, List, [], ◌∷◌, if◌then◌else◌, length, drop, slice_index}
+use Rattle.std.specs.Prelude.{Bool, true, false, List, [], ◌∷◌, Option, if◌then◌else◌, length, drop, slice_index, slice_get}
 
 -- the second half of the list
 abbrev pub leaves : List ℕ → List ℕ
@@ -40,3 +40,8 @@ pub record IsTree (half : ℕ) (counts : List ℕ) : Type 0 where
 pub record IsKept (h : ℕ) (counts : List ℕ) : Type 0 where
   pub height : h < 32
   pub tree : 0 < length counts → IsTree (2 ^ h) counts
+
+-- the counts of a set, beside the least number of it
+pub record IsSet (h : ℕ) (counts : List ℕ) (least : Option ℕ) : Type 0 where
+  pub kept : IsKept h counts
+  pub first : least ≡ slice_get (numbers 0 (leaves counts)) 0

@@ -1,8 +1,8 @@
 // The set of numbers.
-ghost use Rattle.std.specs.Prelude.{◌≡◌, ℕ, ◌*◌, ◌/◌, ◌^◌, ◌<◌, ◌≤◌, [], Some, IfOk, OnOk, OnErr, length};
+ghost use Rattle.std.specs.Prelude.{◌≡◌, ℕ, ◌*◌, ◌/◌, ◌^◌, ◌<◌, ◌≤◌, List, [], Some, IfOk, OnOk, OnErr, length};
 ghost use Rattle.std.specs.Prelude.{slice_get};
 ghost use Rattle.rx_rank.specs.Numbers.{inserted, removed, marked, Ascends};
-ghost use Rattle.rx_rank.specs.Counts.{numbers, leaves, IsKept};
+ghost use Rattle.rx_rank.specs.Counts.{numbers, leaves, IsTree};
 
 use crate::counts::{grown, mark, nth};
 use rx_base::NoMemory;
@@ -19,18 +19,20 @@ pub struct Ranks {
     // A tree of counts of this height, or nothing where the room is 0.
     counts: Vec<u32>,
     height: u32,
+    // The least number of the set.
+    least: Option<u32>,
 }
 
 impl Model for Ranks {
     ghost use Rattle.std.specs.Prelude.{◌/◌, length};
     ghost use Rattle.rx_rank.specs.Numbers.{Numbers};
-    ghost use Rattle.rx_rank.specs.Counts.{numbers, leaves, IsKept};
+    ghost use Rattle.rx_rank.specs.Counts.{numbers, leaves, IsSet};
 
     ghost Value = { Numbers };
 
     ghost view = { λ r. record { members = numbers 0 (leaves r.counts.items); room = length r.counts.items / 2 } };
 
-    ghost invariant = { λ r. IsKept r.height r.counts.items };
+    ghost invariant = { λ r. IsSet r.height r.counts.items r.least };
 }
 
 impl Ranks {
@@ -42,6 +44,7 @@ impl Ranks {
             alloc,
             counts: Vec::new(alloc),
             height: 0,
+            least: None,
         }
     }
 
@@ -86,6 +89,7 @@ impl Ranks {
         ensures room { self.new.room ≡ self.old.room }
     {
         mark(&mut self.counts, x, true);
+        self.least = Some(lesser(self.least, x));
     }
 
     /// Puts a number below the room into the set, or takes it out.
@@ -108,6 +112,9 @@ impl Ranks {
     {
         if (x as usize) < self.counts.len() / 2 {
             mark(&mut self.counts, x, false);
+            if self.least == Some(x) {
+                self.least = first(&self.counts, self.height);
+            }
         }
     }
 
@@ -123,14 +130,39 @@ impl Ranks {
         }
     }
 
-    /// The k-th number in ascending order, from 0.
+    /// The k-th number in ascending order, from 0. The least is at hand.
     pub fn nth(&self, k: u32) -> u32
         requires { k < length self.now.members }
         ensures at { slice_get self.now.members k ≡ Some result }
         ensures below { result < self.now.room }
     {
-        nth(&self.counts, self.height, k)
+        match self.least {
+            Some(least) if k == 0 => least,
+            _ => nth(&self.counts, self.height, k),
+        }
     }
+}
+
+// The least number of a set once a number is put into it, by the least before.
+fn lesser(least: Option<u32>, x: u32) -> u32
+    ensures { (ns : List ℕ) → least ≡ slice_get ns 0 → Some result ≡ slice_get (inserted x ns) 0 }
+{
+    match least {
+        Some(before) if before < x => before,
+        _ => x,
+    }
+}
+
+// The least number of a tree of this height, if it has any.
+fn first(counts: &[u32], height: u32) -> Option<u32>
+    requires height { height < 32 }
+    requires tree { IsTree (2 ^ height) counts.now }
+    ensures { result ≡ slice_get (numbers 0 (leaves counts.now)) 0 }
+{
+    if counts[1] == 0 {
+        return None;
+    }
+    Some(nth(counts, height, 0))
 }
 
 // The least height of a tree that has room for the numbers below n.

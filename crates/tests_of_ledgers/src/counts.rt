@@ -5,6 +5,7 @@ ghost use Rattle.rx_rules.specs.Fold.{opening};
 ghost use Rattle.rx_counts.specs.Stands.{StandsFor};
 ghost use Rattle.rx_counts.specs.Inside.Nesting.{CanNest, HasThree, nested, two_deep, three_deep};
 
+use crate::same::same;
 use rx_base::{Fault, Faults, PlaceId, PlaceSet, ScopeId, TaskId};
 use rx_counts::CountLedger;
 use rx_finish::{Born, Caller, FinishLedger, LedgerFault, Outcome, Where};
@@ -303,12 +304,12 @@ fn call(ledger: &mut CountLedger) -> Result<(Born, Result<Outcome, LedgerFault>)
 fn nearest_living_scope_adopts(rt: HostRuntime) -> Result<(), Fail> {
     let mut ledger = CountLedger::open(rt.alloc(), 4)?;
     let (told, outcome) = adopt(&mut ledger, rt.alloc())?;
-    assert_eq!(rt; told, (ScopeId(2), 1, 0, PlaceSet(4), 1));
-    assert_eq!(rt; outcome.lost, PlaceSet(4));
-    assert_eq!(rt; outcome.thrown.len(), 0);
+    same(&rt, told, (ScopeId(2), 1, 0, PlaceSet(4), 1));
+    same(&rt, outcome.lost, PlaceSet(4));
+    assert!(rt; outcome.thrown.len() == 0);
     let mut ledger = CountLedger::open(rt.alloc(), 4)?;
     let told = lose_two(&mut ledger, rt.alloc())?;
-    assert_eq!(rt; told, (ScopeId(2), 0, 0, PlaceSet(12), 1));
+    same(&rt, told, (ScopeId(2), 0, 0, PlaceSet(12), 1));
     Ok(())
 }
 
@@ -316,8 +317,8 @@ fn nearest_living_scope_adopts(rt: HostRuntime) -> Result<(), Fail> {
 fn second_adoption_keeps_what_is_masked(rt: HostRuntime) -> Result<(), Fail> {
     let mut ledger = CountLedger::open(rt.alloc(), 4)?;
     let outcome = adopt_twice(&mut ledger, rt.alloc())?;
-    assert_eq!(rt; (outcome.lost, outcome.masked), (PlaceSet(6), 1));
-    assert_eq!(rt; outcome.thrown.len(), 0);
+    same(&rt, (outcome.lost, outcome.masked), (PlaceSet(6), 1));
+    assert!(rt; outcome.thrown.len() == 0);
     Ok(())
 }
 
@@ -325,21 +326,18 @@ fn second_adoption_keeps_what_is_masked(rt: HostRuntime) -> Result<(), Fail> {
 fn tasks_are_counted_where_they_are(rt: HostRuntime) -> Result<(), Fail> {
     let mut ledger = CountLedger::open(rt.alloc(), 2)?;
     let told = pass(&mut ledger, rt.alloc(), 2)?;
-    assert_eq!(rt; told, (1, 1, 0, 0, true));
+    same(&rt, told, (1, 1, 0, 0, true));
     let mut ledger = CountLedger::open(rt.alloc(), 2)?;
     let (early, transit, lost, adopter) = lose(&mut ledger, rt.alloc(), 2)?;
     assert!(rt; matches!(early, Err(LedgerFault::NotYet { place: PlaceId(1) })));
-    assert_eq!(rt; (transit, lost, adopter), (0, PlaceSet(2), ScopeId(1)));
+    same(&rt, (transit, lost, adopter), (0, PlaceSet(2), ScopeId(1)));
     let mut ledger = CountLedger::open(rt.alloc(), 4)?;
     let (born, early) = call(&mut ledger)?;
-    assert_eq!(rt;
-        born,
-        Born {
+    same(&rt, born, Born {
             child: TaskId(1),
             scope: ScopeId(1),
             lost: false
-        }
-    );
+        });
     assert!(rt; matches!(early, Err(LedgerFault::NotYet { place: PlaceId(0) })));
     Ok(())
 }

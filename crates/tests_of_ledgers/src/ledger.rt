@@ -4,6 +4,7 @@ ghost use Rattle.rx_rules.specs.Run.{Proper};
 ghost use Rattle.rx_history.specs.Setups.{given};
 ghost use Rattle.rx_ledger.specs.Answering.{main_caller};
 
+use crate::same::same;
 use rx_base::{Batch, NoMemory, Path, PlaceId, PlaceSet, TaskId};
 use rx_counts::CountLedger;
 use rx_history::{Ask, JoinList, KillList, Setup};
@@ -84,12 +85,12 @@ fn a_keeper_opens_empty_and_its_root_waits(rt: HostRuntime) -> Result<(), Fail> 
         path: None,
     });
     end(request);
-    assert_eq!(rt; task, TaskId(0));
-    assert_eq!(rt; (keeper.len(), keeper.deaths()), (0, PlaceSet(0)));
+    same(&rt, task, TaskId(0));
+    same(&rt, (keeper.len(), keeper.deaths()), (0, PlaceSet(0)));
     let (history, _ledger) = moved(keeper).into_history();
-    assert_eq!(rt; history.len(), 0);
+    assert!(rt; history.len() == 0);
     let (entries, place) = prints_and_waits(rt.alloc())?;
-    assert_eq!(rt; (entries, place), (1, 0));
+    same(&rt, (entries, place), (1, 0));
     Ok(())
 }
 

@@ -11,6 +11,7 @@ ghost use Rattle.rx_ledger.specs.GoingOn.{MayBegin, MayGoOn};
 ghost use Rattle.rx_ledger.specs.Kept.{Applied, IsHistory};
 ghost use Rattle.rx_ledger.specs.Owned.{own_told};
 
+use crate::same::same;
 use crate::ledger::{calm, end, finish, finish_child, opened};
 use rx_base::{Batch, Faults, Kill, NoMemory, Path, PlaceId, PlaceSet, TaskId};
 use rx_counts::CountLedger;
@@ -341,9 +342,9 @@ fn waits_for_one<R: Abort>(
 #[test]
 fn a_traveller_hinders_and_its_death_frees_the_scope(rt: HostRuntime) -> Result<(), Fail> {
     let hindered = waits_for_one(&rt, rt.alloc(), &calm(rt.alloc()))?;
-    assert_eq!(rt; hindered, (None, Some(PlaceId(1)), 3));
+    same(&rt, hindered, (None, Some(PlaceId(1)), 3));
     let freed = waits_for_one(&rt, rt.alloc(), &doomed(rt.alloc())?)?;
-    assert_eq!(rt; freed, (Some(PlaceSet(2)), Some(PlaceId(1)), 5));
+    same(&rt, freed, (Some(PlaceSet(2)), Some(PlaceId(1)), 5));
     Ok(())
 }
 
@@ -353,12 +354,12 @@ fn a_place_joins_before_the_entry(rt: HostRuntime) -> Result<(), Fail> {
     let path = first_path(alloc)?;
     let (mut keeper, ticket) = opened(alloc, &widening(alloc)?)?;
     let ticket = prints(&rt, alloc, &mut keeper, ticket, path);
-    assert_eq!(rt; keeper.len(), 2);
+    assert!(rt; keeper.len() == 2);
     let (ticket, places) = counts(&rt, alloc, &mut keeper, ticket);
     ticket.spent();
-    assert_eq!(rt; places, 2);
+    same(&rt, places, 2);
     let (history, _ledger) = keeper.into_history();
-    assert_eq!(rt; history.len(), 3);
+    assert!(rt; history.len() == 3);
     assert!(rt; matches!(history.item(0), Entry::Join { place: PlaceId(1) }));
     match history.item(1) {
         Entry::Step {
@@ -366,8 +367,8 @@ fn a_place_joins_before_the_entry(rt: HostRuntime) -> Result<(), Fail> {
             act: Act::Print { value: 4, path },
             batch: _,
         } => {
-            assert_eq!(rt; path.len(), 1);
-            assert_eq!(rt; path.item(0), 0);
+            assert!(rt; path.len() == 1);
+            same(&rt, path.item(0), 0);
         }
         _ => stop(&rt),
     }

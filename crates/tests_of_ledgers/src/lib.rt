@@ -11,6 +11,8 @@ mod ledger_worked;
 #[cfg(test)]
 mod mail;
 #[cfg(test)]
+mod same;
+#[cfg(test)]
 mod ticket;
 #[cfg(test)]
 mod tree;

@@ -1,6 +1,7 @@
 // Messages by two passes, a mailbox that is drained, and one to which two threads send.
 ghost use Rattle.std.specs.Prelude.{◌≡◌, ◌≤◌};
 
+use crate::same::same;
 use rx_base::{NoMemory, PlaceId, ScopeId, TaskId};
 use rx_finish::Caller;
 use rx_mail::{Carried, Mail, MailPass};
@@ -89,10 +90,10 @@ fn messages_come_in_order_and_what_is_left_is_drained(rt: HostRuntime) -> Result
     let none = taken(&rt, &mail, &mut a);
     let first = exchange(&rt, &mail, &mut a);
     let left = drained(&rt, mail, a)?;
-    assert_eq!(rt; (none, first), (0, Ok(1)));
-    assert_eq!(rt; left.len(), 2);
-    assert_eq!(rt; left[0].number, 2);
-    assert_eq!(rt; left[1].number, 3);
+    same(&rt, (none, first), (0, Ok(1)));
+    assert!(rt; left.len() == 2);
+    same(&rt, left[0].number, 2);
+    same(&rt, left[1].number, 3);
     Ok(())
 }
 
@@ -149,7 +150,7 @@ fn two_threads_send_each_message_once(rt: HostRuntime) -> Result<(), Fail> {
     let left = drained(&rt, mail, a)?;
     assert!(rt; x);
     assert!(rt; y);
-    assert_eq!(rt; left.len(), 20_000);
+    assert!(rt; left.len() == 20_000);
     assert!(rt; in_order(&left, 0));
     assert!(rt; in_order(&left, MANY));
     Ok(())

@@ -56,6 +56,6 @@ fn a_ticket_of_each_state_may_be_moved_and_lost(rt: HostRuntime) -> Result<(), F
     // one in transit may be let go
     let mut letters = Vec::new(rt.alloc());
     letters.push(Ticket::<InTransit>::issue(child(travels())))?;
-    assert_eq!(rt; letters.len(), 1);
+    assert!(rt; letters.len() == 1);
     Ok(())
 }

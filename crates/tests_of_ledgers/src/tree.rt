@@ -8,6 +8,7 @@ ghost use Rattle.rx_rules.specs.Fold.{opening};
 ghost use Rattle.rx_finish.specs.Callers.{MayAskEnd};
 ghost use Rattle.rx_tree.specs.Inside.Worked.{two_deep};
 
+use crate::same::same;
 use rx_base::{Fault, Faults, PlaceId, PlaceSet, ScopeId, TaskId};
 use rx_counts::CountLedger;
 use rx_tree::{Born, Caller, FinishLedger, LedgerFault, Outcome, TreeLedger, Where};
@@ -258,9 +259,9 @@ fn a_message_whose_source_dies_is_lost_in_both_ledgers(rt: HostRuntime) -> Resul
         at: 6,
     });
     let mut tree = TreeLedger::open(rt.alloc(), 3)?;
-    assert_eq!(rt; source(&mut tree, rt.alloc())?, lost);
+    same(&rt, source(&mut tree, rt.alloc())?, lost);
     let mut counts = CountLedger::open_for(rt.alloc(), 3, 0)?;
-    assert_eq!(rt; source(&mut counts, rt.alloc())?, lost);
+    same(&rt, source(&mut counts, rt.alloc())?, lost);
     Ok(())
 }
 

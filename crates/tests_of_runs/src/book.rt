@@ -7,6 +7,7 @@ ghost use Rattle.rx_book.specs.Passes.{word_of, note_word};
 
 mod event;
 
+use crate::same::same;
 use event::{Event, add, die};
 use rx_base::{PlaceId, PlaceSet};
 use rx_book::{BareBook, Book, Note, Object, Pass};
@@ -110,20 +111,20 @@ fn the_word_shows_length_and_deaths(rt: HostRuntime) -> Result<(), Fail> {
     let Ok((book, mut a)) = Book::open(&rt, rt.alloc(), Events::open(rt.alloc())) else {
         panic!(rt; "no memory")
     };
-    assert_eq!(rt; book.seen_len(&mut a), 0);
+    same(&rt, book.seen_len(&mut a), 0);
     assert!(rt; book.peek_deaths(&mut a) == PlaceSet(0));
     assert!(rt; book.call(&rt, &mut a, add(7)));
-    assert_eq!(rt; book.seen_len(&mut a), 1);
+    same(&rt, book.seen_len(&mut a), 1);
     let Ok(mut b) = book.split(&mut a) else {
         unreachable!()
     };
     assert!(rt; book.call(&rt, &mut b, die(3)));
-    assert_eq!(rt; book.seen_len(&mut a), 2);
+    same(&rt, book.seen_len(&mut a), 2);
     assert!(rt; book.peek_deaths(&mut a) == PlaceSet(8));
     assert!(rt; book.call(&rt, &mut b, die(5)));
     assert!(rt; book.peek_deaths(&mut a) == PlaceSet(40));
     let events = close(&rt, book, a);
-    assert_eq!(rt; events.all.len(), 3);
+    assert!(rt; events.all.len() == 3);
     Ok(())
 }
 
@@ -144,7 +145,7 @@ fn a_note_tells_another_caller(rt: HostRuntime) -> Result<(), Fail> {
     };
     book.meet(&mut c, note);
     let events = close(&rt, book, c);
-    assert_eq!(rt; events.all.len(), 1);
+    assert!(rt; events.all.len() == 1);
     assert!(rt; events.all[0].number == 7 && events.all[0].dead.is_none());
     Ok(())
 }
@@ -204,9 +205,9 @@ fn two_threads_add_a_hundred_each(rt: HostRuntime) -> Result<(), Fail> {
     assert!(rt; x.0 == 100 && y.0 == 100);
     book.meet(&mut a, x.1);
     book.meet(&mut a, y.1);
-    assert_eq!(rt; book.seen_len(&mut a), 200);
+    same(&rt, book.seen_len(&mut a), 200);
     let events = close(&rt, book, a);
-    assert_eq!(rt; events.all.len(), 200);
+    assert!(rt; events.all.len() == 200);
     assert!(rt; are_in_order(&events));
     Ok(())
 }

@@ -20,6 +20,8 @@ mod reading;
 #[cfg(test)]
 mod replay;
 #[cfg(test)]
+mod same;
+#[cfg(test)]
 mod span;
 #[cfg(test)]
 mod stations;

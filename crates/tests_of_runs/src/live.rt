@@ -3,6 +3,7 @@ ghost use Rattle.std.specs.Prelude.{◌≡◌, []};
 ghost use Rattle.rx_rules.specs.Run.{Proper};
 ghost use Rattle.rx_history.specs.Setups.{given};
 
+use crate::same::same;
 use rx_base::{CellGate, MeetGate};
 use rx_check::{Program, check};
 use rx_counts::CountLedger;
@@ -51,10 +52,10 @@ fn two_places_are_asked_at_one_time(rt: HostRuntime) -> Result<(), Fail> {
         panic!(rt; "no memory")
     };
     assert!(rt; gate.met());
-    assert_eq!(rt; history.len(), 8);
-    assert_eq!(rt; journals.len(), 2);
-    assert_eq!(rt; journals.item(0).len(), 1);
-    assert_eq!(rt; journals.item(1).len(), 1);
+    assert!(rt; history.len() == 8);
+    assert!(rt; journals.len() == 2);
+    assert!(rt; journals.item(0).len() == 1);
+    assert!(rt; journals.item(1).len() == 1);
     Ok(())
 }
 
@@ -76,9 +77,9 @@ fn a_reader_looks_while_workers_are_held(rt: HostRuntime) -> Result<(), Fail> {
             panic!(rt; "no memory")
         };
         assert!(rt; gate.met());
-        assert_eq!(rt; history.len(), 10);
-        assert_eq!(rt; watch.len(), 4);
-        assert_eq!(rt; watch.item(3).len, 10);
+        assert!(rt; history.len() == 10);
+        assert!(rt; watch.len() == 4);
+        same(&rt, watch.item(3).len, 10);
     }
     Ok(())
 }

@@ -5,6 +5,7 @@ ghost use Rattle.rx_rules.specs.Run.{Proper};
 ghost use Rattle.rx_history.specs.Setups.{given};
 ghost use Rattle.rx_machine.specs.Runs.{CanRun};
 
+use crate::same::same;
 use rx_base::{Kill, NoMemory, PlaceId};
 use rx_check::{Program, check, checked};
 use rx_counts::CountLedger;
@@ -185,18 +186,9 @@ fn a_loss_turn_by_turn_over_counts(rt: HostRuntime) -> Result<(), Fail> {
         panic!(rt; "no program")
     };
     let mut picks = ListPicks::open(alloc, &[])?;
-    assert_eq!(rt;
-        stops(&p, dying(alloc, &p)?, &mut picks, &[1, 2, 1]),
-        Some(3)
-    );
-    assert_eq!(rt;
-        runs_on(&p, dying(alloc, &p)?, &mut picks, &[1, 2, 1, 1])?,
-        Some(7)
-    );
-    assert_eq!(rt;
-        ends(&p, dying(alloc, &p)?, &mut picks, &[1, 2, 1, 1, 1, 0]),
-        Some(7)
-    );
+    same(&rt, stops(&p, dying(alloc, &p)?, &mut picks, &[1, 2, 1]), Some(3));
+    same(&rt, runs_on(&p, dying(alloc, &p)?, &mut picks, &[1, 2, 1, 1])?, Some(7));
+    same(&rt, ends(&p, dying(alloc, &p)?, &mut picks, &[1, 2, 1, 1, 1, 0]), Some(7));
     Ok(())
 }
 
@@ -207,9 +199,6 @@ fn a_call_of_a_joined_place_over_the_tree(rt: HostRuntime) -> Result<(), Fail> {
         panic!(rt; "no program")
     };
     let mut picks = ListPicks::open(alloc, &[])?;
-    assert_eq!(rt;
-        runs_on(&p, joining(alloc, &p)?, &mut picks, &[1, 1, 1])?,
-        Some(9)
-    );
+    same(&rt, runs_on(&p, joining(alloc, &p)?, &mut picks, &[1, 1, 1])?, Some(9));
     Ok(())
 }

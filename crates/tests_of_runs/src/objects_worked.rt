@@ -12,6 +12,7 @@ ghost use Rattle.rx_ledger.specs.Answering.{main_caller};
 ghost use Rattle.rx_objects.specs.Asking.{host_number};
 ghost use Rattle.rx_objects.specs.Ledger.{LedgerIsLegal};
 
+use crate::same::same;
 use rx_base::{Batch, NoGate, NoMemory, PlaceId, PlaceSet, TaskId, Value};
 use rx_book::{BareBook, Book, Pass};
 use rx_check::{Program, check};
@@ -371,13 +372,13 @@ fn the_ledger_answers_in_its_book(rt: HostRuntime) -> Result<(), Fail> {
         panic!(rt; "no program")
     };
     let (seen, kept) = ledger_scene(&rt, rt.alloc(), &program)?;
-    assert_eq!(rt; seen.before, 0);
+    same(&rt, seen.before, 0);
     assert!(rt; seen.dead == PlaceSet(0));
     assert!(rt; seen.opened);
-    assert_eq!(rt; seen.after, 1);
-    assert_eq!(rt; seen.split, 1);
+    same(&rt, seen.after, 1);
+    same(&rt, seen.split, 1);
     assert!(rt; seen.place == Some(HERE));
-    assert_eq!(rt; seen.notes, 0);
-    assert_eq!(rt; kept, 1);
+    same(&rt, seen.notes, 0);
+    same(&rt, kept, 1);
     Ok(())
 }

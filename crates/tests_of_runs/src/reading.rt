@@ -1,6 +1,7 @@
 // The worked texts, and their fronts.
 ghost use Rattle.std.specs.Prelude.{◌<◌, ◌^◌, length};
 
+use crate::same::same;
 use rx_reading::{TraceFault, read_trace};
 use rx_trace::write_trace;
 use std::alloc::Global;
@@ -53,12 +54,12 @@ fn texts_come_back_and_each_front_has_its_bad_line(rt: HostRuntime) {
     }
     let mut bad: u32 = 1;
     for i in 0..LOSS.len() {
-        assert_eq!(rt; bad_line(rt.alloc(), &LOSS[..i]), bad);
+        same(&rt, bad_line(rt.alloc(), &LOSS[..i]), bad);
         if LOSS[i] == b'\n' {
             bad = bad.saturating_add(1);
         }
     }
-    assert_eq!(rt; bad, 19);
+    same(&rt, bad, 19);
 }
 
 #[test]
@@ -98,6 +99,6 @@ fn bad_lines_are_counted_from_one(rt: HostRuntime) {
         (b"rx10 trace 2\nplaces 2 heap 1\nkills 2@4\njoins 5\n", 4),
         (b"rx10 trace 2\nplaces 2 heap 1\nkills 2@5\njoins 5\n", 5),
     ] {
-        assert_eq!(rt; bad_line(rt.alloc(), text), want);
+        same(&rt, bad_line(rt.alloc(), text), want);
     }
 }

@@ -1,4 +1,5 @@
 // Journals by hand: how far they are lawful.
+use crate::same::same;
 use rx_base::{GlobalRef, NoMemory, Path, PlaceId, TaskId};
 use rx_history::Journal;
 use rx_replay::lawful_events;
@@ -73,9 +74,9 @@ fn journal(rt: &HostRuntime, value: i64, home: u8) -> Result<Journal, NoMemory> 
 
 #[test]
 fn answers_are_compared(rt: HostRuntime) -> Result<(), Fail> {
-    assert_eq!(rt; lawful_events(rt.alloc(), 8, &journal(&rt, 7, 0)?)?, 6);
-    assert_eq!(rt; lawful_events(rt.alloc(), 8, &journal(&rt, 7, 3)?)?, 6);
-    assert_eq!(rt; lawful_events(rt.alloc(), 8, &journal(&rt, 8, 0)?)?, 2);
-    assert_eq!(rt; lawful_events(rt.alloc(), 1, &journal(&rt, 7, 0)?)?, 0);
+    same(&rt, lawful_events(rt.alloc(), 8, &journal(&rt, 7, 0)?)?, 6);
+    same(&rt, lawful_events(rt.alloc(), 8, &journal(&rt, 7, 3)?)?, 6);
+    same(&rt, lawful_events(rt.alloc(), 8, &journal(&rt, 8, 0)?)?, 2);
+    same(&rt, lawful_events(rt.alloc(), 1, &journal(&rt, 7, 0)?)?, 0);
     Ok(())
 }

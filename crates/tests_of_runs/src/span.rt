@@ -5,6 +5,7 @@ ghost use Rattle.rx_rules.specs.Order.{told, told_in};
 ghost use Rattle.rx_nodes.specs.Shape.{Stands};
 ghost use Rattle.rx_span.specs.Paths.{ArePaths};
 
+use crate::same::same;
 use rx_base::{Batch, NoMemory, Path, TaskId};
 use rx_check::{Program, check};
 use rx_history::{Act, Entry, History, JoinList, KillList, Setup};
@@ -88,9 +89,9 @@ fn two_statements_are_a_chain(rt: HostRuntime) -> Result<(), Fail> {
     let program = script(alloc)?;
     let history = history(alloc)?;
     let told = span(alloc, &program, &history)?;
-    assert_eq!(rt; told.statements, 2);
-    assert_eq!(rt; told.chain.len(), 2);
+    same(&rt, told.statements, 2);
+    assert!(rt; told.chain.len() == 2);
     let chain = counted::<Brand>(alloc, &program, &history, Blank::new(1))?;
-    assert_eq!(rt; chain, 2);
+    same(&rt, chain, 2);
     Ok(())
 }

@@ -5,6 +5,7 @@ ghost use Rattle.rx_rules.specs.Terms.{Term, does};
 ghost use Rattle.rx_plan.specs.Next.{next_of};
 ghost use Rattle.rx_control.specs.Stands.{StandsFor};
 
+use crate::same::same;
 use rx_base::Fault::{HeapFull, NoPlace, Overflow, Stale, Thrown};
 use rx_base::{Fault, Faults, GlobalRef, NoMemory, Path, PlaceId, Value};
 use rx_check::{Program, check};
@@ -160,7 +161,7 @@ fn waits(
 {
     let faults = listed(rt.alloc(), &task.take_faults(rt.alloc()))?;
     let wanted = listed(rt.alloc(), &raised(rt.alloc(), answer)?)?;
-    assert_eq!(rt; faults.as_slice(), wanted.as_slice());
+    same(rt, faults.as_slice(), wanted.as_slice());
     ledger_grants(rt.alloc(), p, task, Nothing)
 }
 
@@ -217,12 +218,12 @@ fn follow(
     ensures { OnOk result ((t : Term) × StandsFor p.now.script task.new t) }
 {
     for (next, path, answer) in steps {
-        assert_eq!(rt; task.next(p, here), *next, "at {path:?}");
+        same(rt, (*path, task.next(p, here)), (*path, *next));
         let begun = task.path(rt.alloc(), p)?;
         if let Some(path) = &begun {
             assert!(rt; task.begins(p, path));
         }
-        assert_eq!(rt; numbers(rt.alloc(), begun)?.as_slice(), *path);
+        same(rt, numbers(rt.alloc(), begun)?.as_slice(), *path);
         step(rt, p, task, here, *answer)?;
     }
     Ok(())
@@ -238,9 +239,9 @@ fn ends(
 ) -> Result<(), NoMemory>
     requires { (t : Term) × StandsFor p.now.script task.old t }
 {
-    assert_eq!(rt; task.next(p, here), Next::Done);
+    same(rt, task.next(p, here), Next::Done);
     let list = listed(rt.alloc(), &task.take_faults(rt.alloc()))?;
-    assert_eq!(rt; list.as_slice(), faults);
+    same(rt, list.as_slice(), faults);
     Ok(())
 }
 

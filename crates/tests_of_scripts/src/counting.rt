@@ -1,4 +1,5 @@
 // What no clause says: that numbers are written at all.
+use crate::same::same;
 use rx_base::{Batch, Faults, Path, PlaceId, PlaceSet, ScopeId, TaskId};
 use rx_gen::{counts, put_counts};
 use rx_history::{Act, Entry, History, JoinList, KillList, Setup};
@@ -62,9 +63,6 @@ fn numbers_of_a_history_are_written(rt: HostRuntime) -> Result<(), Fail> {
     });
     let mut out = b"before\n".to_vec(alloc)?;
     put_counts(&counts(&h), &mut out)?;
-    assert_eq!(rt;
-        out.as_slice(),
-        b"before\nentries 7\ntasks 2\nprints 1\ndeaths 1\nlosses 1\n".as_slice()
-    );
+    same(&rt, out.as_slice(), b"before\nentries 7\ntasks 2\nprints 1\ndeaths 1\nlosses 1\n".as_slice());
     Ok(())
 }

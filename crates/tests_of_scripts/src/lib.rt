@@ -11,6 +11,8 @@ mod counting;
 #[cfg(test)]
 mod order;
 #[cfg(test)]
+mod same;
+#[cfg(test)]
 mod script;
 #[cfg(test)]
 mod token;

@@ -1,4 +1,5 @@
 // What no clause says: the worked scripts, and paths that are in no order.
+use crate::same::same;
 use rx_base::{NoMemory, Path};
 use rx_check::check;
 use rx_order::before;
@@ -148,7 +149,7 @@ const ROWS: &[Row] = &[
 #[test]
 fn statements_stand_in_their_order(rt: HostRuntime) -> Result<(), Fail> {
     for (script, x, y, want) in ROWS {
-        assert_eq!(rt; answers(rt.alloc(), script, x, y)?, *want);
+        same(&rt, answers(rt.alloc(), script, x, y)?, *want);
     }
     Ok(())
 }

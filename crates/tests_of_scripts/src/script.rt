@@ -1,4 +1,5 @@
 // What no clause says: that scripts are read, where the worked faults are, and that deep nesting costs no stack.
+use crate::same::same;
 use rx_script::{ScriptFault, read_script, write_script};
 use std::alloc::Global;
 
@@ -137,31 +138,31 @@ fn scripts_are_read(rt: HostRuntime) {
         (b"repeat 0 { set x = 1; set y = x; } print x;".as_slice(), 2),
         (every.as_slice(), 16),
     ] {
-        assert_eq!(rt; statements(rt.alloc(), bytes), Some(count));
+        same(&rt, statements(rt.alloc(), bytes), Some(count));
     }
 }
 
 #[test]
 fn faults_have_their_place_and_a_script_is_cut_at_every_length(rt: HostRuntime) {
     for (bytes, at) in FAULTS {
-        assert_eq!(rt; fault(rt.alloc(), bytes), Some(*at));
+        same(&rt, fault(rt.alloc(), bytes), Some(*at));
     }
     for (len, at) in CUTS.iter().enumerate() {
         let front = SCRIPT.get(..len).expect(&rt, "a front");
-        assert_eq!(rt; fault(rt.alloc(), front), *at);
+        same(&rt, fault(rt.alloc(), front), *at);
     }
 }
 
 #[test]
 fn deep_nesting_is_answered(rt: HostRuntime) {
     let whole = nested(rt.alloc(), b"async{", 9_362, b"}").expect(&rt, "memory");
-    assert_eq!(rt; statements(rt.alloc(), &whole), Some(1));
+    same(&rt, statements(rt.alloc(), &whole), Some(1));
     let open = nested(rt.alloc(), b"async{", 10_922, b"").expect(&rt, "memory");
-    assert_eq!(rt; fault(rt.alloc(), &open), Some(65_532));
+    same(&rt, fault(rt.alloc(), &open), Some(65_532));
     let others = nested(rt.alloc(), b"if 1{}else{", 5_957, b"").expect(&rt, "memory");
-    assert_eq!(rt; fault(rt.alloc(), &others), Some(65_527));
+    same(&rt, fault(rt.alloc(), &others), Some(65_527));
     let firsts = nested(rt.alloc(), b"if 1{", 4_681, b"}else{}").expect(&rt, "memory");
-    assert_eq!(rt; statements(rt.alloc(), &firsts), Some(1));
+    same(&rt, statements(rt.alloc(), &firsts), Some(1));
 }
 
 #[test]
@@ -186,7 +187,7 @@ fn a_script_is_written_with_one_blank_between_two_tokens(
         let script = read_script(rt.alloc(), bytes)?;
         let mut out = Vec::new(rt.alloc());
         write_script(&script, &mut out)?;
-        assert_eq!(rt; out.as_slice(), text);
+        same(&rt, out.as_slice(), text);
     }
     Ok(())
 }

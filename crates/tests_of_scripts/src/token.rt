@@ -1,4 +1,5 @@
 // What no clause says: that bytes are scanned and tokens written.
+use crate::same::same;
 use rx_base::NoMemory;
 use rx_token::{Keyword, Op, Sign, Token, put_token, scan};
 
@@ -16,13 +17,13 @@ fn tokens_are_scanned_and_written(rt: HostRuntime) -> Result<(), NoMemory> {
         Token::Mark(Sign::CloseParen),
         Token::Mark(Sign::Semicolon),
     ];
-    assert_eq!(rt; scanned.tokens.as_slice(), tokens.as_slice());
+    same(&rt, scanned.tokens.as_slice(), tokens.as_slice());
     let starts: [u32; 10] = [11, 15, 16, 17, 18, 19, 21, 22, 23, 24];
-    assert_eq!(rt; scanned.starts.as_slice(), starts.as_slice());
+    same(&rt, scanned.starts.as_slice(), starts.as_slice());
     let mut text = Vec::new(rt.alloc());
     for token in &scanned.tokens {
         put_token(&mut text, &scanned.names, *token)?;
     }
-    assert_eq!(rt; text.as_slice(), b" set x = ( x == 2 ) ;".as_slice());
+    same(&rt, text.as_slice(), b" set x = ( x == 2 ) ;".as_slice());
     Ok(())
 }

@@ -1,42 +1,65 @@
 // What no clause says: that each call which takes memory can succeed, and how the std adapters meet readers and writers.
+use crate::same::same;
 use rx_base::{
-    Batch, CellGate, Failed, Fault, Faults, Gate, MeetGate, NoGate, Path, PlaceId, PlaceSet,
-    RxWord, Sink, Source, StdSink, StdSource,
+    Batch, CellGate, Failed, Fault, Faults, Gate, MeetGate, NoGate, NoMemory, Path, PlaceId,
+    PlaceSet, RxWord, Sink, Source, StdSink, StdSource,
 };
+use std::alloc::Global;
 use std::io::{Cursor, Read, Write};
 use std::test::Fail;
 use std::{io, thread};
 
-#[test]
-fn lists_find_memory(rt: HostRuntime) -> Result<(), Fail> {
-    let alloc = rt.alloc();
+// How many faults the two lists have, and the last of each.
+fn faults_joined(alloc: Global) -> Result<(usize, usize, Fault, Fault), NoMemory> {
     let mut faults = Faults::open(alloc);
     faults.push(Fault::Dead(PlaceId(1)))?;
     let mut more = faults.copy(alloc)?;
     more.push(Fault::Thrown(-1))?;
     let both = faults.joined(alloc, &more)?;
-    assert!(rt; faults.append(more).is_ok());
-    assert_eq!(rt; (faults.len(), both.len()), (3, 3));
-    assert_eq!(rt; faults.item(1), Fault::Dead(PlaceId(1)));
-    assert_eq!(rt; both.item(2), Fault::Thrown(-1));
+    if faults.append(more).is_err() || faults.len() != 3 || both.len() != 3 {
+        return Err(NoMemory);
+    }
+    Ok((faults.len(), both.len(), faults.item(1), both.item(2)))
+}
+
+// A path of nine numbers.
+fn long_path(alloc: Global) -> Result<Path, NoMemory> {
     let mut path = Path::open(alloc);
     for number in [2, 0, 4, 7, 1, 9, 3, 8, 5] {
         path.push(number)?;
     }
+    Ok(path)
+}
+
+// The copy of a batch of the empty path and the long one.
+fn batch_copied(alloc: Global) -> Result<Batch, NoMemory> {
     let mut batch = Batch::open(alloc);
     batch.push(Path::open(alloc))?;
+    let path = long_path(alloc)?;
     batch.push(path.copy(alloc)?)?;
-    let copy = batch.copy(alloc)?;
-    assert_eq!(rt; copy.len(), 2);
-    assert_eq!(rt; copy.item(0).len(), 0);
-    assert_eq!(rt;
-        copy.item(1).numbers(),
-        [2, 0, 4, 7, 1, 9, 3, 8, 5].as_slice()
+    batch.copy(alloc)
+}
+
+#[test]
+fn lists_find_memory(rt: HostRuntime) -> Result<(), Fail> {
+    let told = faults_joined(rt.alloc())?;
+    same(
+        &rt,
+        told,
+        (3, 3, Fault::Dead(PlaceId(1)), Fault::Thrown(-1)),
     );
-    let word = RxWord::from_bytes(alloc, b"--kill")?;
-    assert_eq!(rt; word.bytes(), b"--kill".as_slice());
+    let copy = batch_copied(rt.alloc())?;
+    assert!(rt; copy.len() == 2);
+    same(&rt, copy.item(0).len(), 0);
+    same(
+        &rt,
+        copy.item(1).numbers(),
+        [2, 0, 4, 7, 1, 9, 3, 8, 5].as_slice(),
+    );
+    let word = RxWord::from_bytes(rt.alloc(), b"--kill")?;
+    same(&rt, word.bytes(), b"--kill".as_slice());
     let set = PlaceSet::empty().with(PlaceId(0)).with(PlaceId(15));
-    assert_eq!(rt; set, PlaceSet(0x8001));
+    same(&rt, set, PlaceSet(0x8001));
     Ok(())
 }
 
@@ -74,21 +97,21 @@ impl Write for FailsFirst {
 fn adapters_pass_on_what_std_answers(rt: HostRuntime) {
     let mut buf = [0; 4];
     let mut source = StdSource::over(Cursor::new(b"abc".as_slice()));
-    assert_eq!(rt; source.read(&mut buf[..0]), Ok(0));
-    assert_eq!(rt; source.read(&mut buf), Ok(3));
-    assert_eq!(rt; buf, *b"abc\0");
-    assert_eq!(rt; source.read(&mut buf), Ok(0));
+    same(&rt, source.read(&mut buf[..0]), Ok(0));
+    same(&rt, source.read(&mut buf), Ok(3));
+    same(&rt, buf, *b"abc\0");
+    same(&rt, source.read(&mut buf), Ok(0));
     let mut source = StdSource::over(FailsFirst { failed: false });
-    assert_eq!(rt; source.read(&mut buf), Err(Failed));
-    assert_eq!(rt; source.read(&mut buf), Ok(0));
+    same(&rt, source.read(&mut buf), Err(Failed));
+    same(&rt, source.read(&mut buf), Ok(0));
 
     let mut sink = StdSink::over(Cursor::new([0; 3]));
-    assert_eq!(rt; sink.write(b"abcd"), Ok(3));
-    assert_eq!(rt; sink.write(b"d"), Err(Failed));
-    assert_eq!(rt; sink.write(b""), Ok(0));
+    same(&rt, sink.write(b"abcd"), Ok(3));
+    same(&rt, sink.write(b"d"), Err(Failed));
+    same(&rt, sink.write(b""), Ok(0));
     let mut sink = StdSink::over(FailsFirst { failed: false });
-    assert_eq!(rt; sink.write(b"d"), Err(Failed));
-    assert_eq!(rt; sink.write(b"d"), Ok(1));
+    same(&rt, sink.write(b"d"), Err(Failed));
+    same(&rt, sink.write(b"d"), Ok(1));
 }
 
 // Comes by with a turn and a store call.

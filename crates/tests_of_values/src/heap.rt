@@ -1,4 +1,5 @@
 // The worked examples of the region.
+use crate::same::same;
 use rx_heap::{Full, Heap, Hole};
 use std::test::Fail;
 
@@ -6,15 +7,15 @@ use std::test::Fail;
 fn front_hole(rt: HostRuntime) -> Result<(), Fail> {
     let mut heap = Heap::open(rt.alloc(), 8)?;
     let a = heap.take(4).expect(&rt, "a hole of 8");
-    assert_eq!(rt; a.start(), 0);
+    assert!(rt; a.start() == 0);
     let b = heap.take(4).expect(&rt, "a hole of 4");
-    assert_eq!(rt; b.start(), 4);
+    assert!(rt; b.start() == 4);
     heap.write(&a, 3, 7);
     heap.write(&b, 0, 8);
-    assert_eq!(rt; heap.read(&a, 3), 7);
-    assert_eq!(rt; heap.read(&b, 0), 8);
+    same(&rt, heap.read(&a, 3), 7);
+    same(&rt, heap.read(&b, 0), 8);
     heap.give(a);
-    assert_eq!(rt; heap.holes(), [Hole { start: 0, len: 4 }].as_slice());
+    same(&rt, heap.holes(), [Hole { start: 0, len: 4 }].as_slice());
     match heap.take(5) {
         Ok(c) => {
             heap.give(c);
@@ -23,7 +24,7 @@ fn front_hole(rt: HostRuntime) -> Result<(), Fail> {
         Err(Full) => {}
     }
     heap.give(b);
-    assert_eq!(rt; heap.holes(), [Hole { start: 0, len: 8 }].as_slice());
+    same(&rt, heap.holes(), [Hole { start: 0, len: 8 }].as_slice());
     Ok(())
 }
 
@@ -31,17 +32,18 @@ fn front_hole(rt: HostRuntime) -> Result<(), Fail> {
 fn three_blocks_of_two(rt: HostRuntime) -> Result<(), Fail> {
     let mut heap = Heap::open(rt.alloc(), 6)?;
     let a = heap.take(2).expect(&rt, "a hole of 6");
-    assert_eq!(rt; a.start(), 0);
+    assert!(rt; a.start() == 0);
     let b = heap.take(2).expect(&rt, "a hole of 4");
-    assert_eq!(rt; b.start(), 2);
+    assert!(rt; b.start() == 2);
     let c = heap.take(2).expect(&rt, "a hole of 2");
-    assert_eq!(rt; c.start(), 4);
-    assert_eq!(rt; c.len(), 2);
+    assert!(rt; c.start() == 4);
+    assert!(rt; c.len() == 2);
     heap.give(a);
     heap.give(c);
-    assert_eq!(rt;
+    same(
+        &rt,
         heap.holes(),
-        [Hole { start: 0, len: 2 }, Hole { start: 4, len: 2 }].as_slice()
+        [Hole { start: 0, len: 2 }, Hole { start: 4, len: 2 }].as_slice(),
     );
     match heap.take(3) {
         Ok(d) => {
@@ -51,6 +53,6 @@ fn three_blocks_of_two(rt: HostRuntime) -> Result<(), Fail> {
         Err(Full) => {}
     }
     heap.give(b);
-    assert_eq!(rt; heap.holes(), [Hole { start: 0, len: 6 }].as_slice());
+    same(&rt, heap.holes(), [Hole { start: 0, len: 6 }].as_slice());
     Ok(())
 }

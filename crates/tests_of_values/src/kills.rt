@@ -1,6 +1,7 @@
 // The worked spellings, and plans with more than one event at one moment.
 ghost use Rattle.std.specs.Prelude.{◌≡◌};
 
+use crate::same::same;
 use rx_base::{Kill, PlaceId};
 use rx_history::{JoinList, KillList};
 use rx_kills::{Due, Kills, read_kill};
@@ -33,12 +34,13 @@ fn only_the_one_spelling_is_read(rt: HostRuntime) {
         (b"1", None),
         (b"", None),
     ] {
-        assert_eq!(rt;
+        same(
+            &rt,
             read_kill(word),
             want.map(|w| Kill {
                 place: PlaceId(w.0),
-                moment: w.1
-            })
+                moment: w.1,
+            }),
         );
     }
 }
@@ -54,7 +56,7 @@ fn joins_stand_among_kills(rt: HostRuntime) -> Result<(), Fail> {
     joins.push(5)?;
     joins.push(8)?;
     let mut kills = Kills::open(rt.alloc(), &list, &joins, 3)?;
-    assert_eq!(rt; kills.due(2), None);
+    same(&rt, kills.due(2), None);
     for (moment, due, before) in [
         (4, Due::Death(PlaceId(1)), None),
         (4, Due::Death(PlaceId(2)), Some(4)),
@@ -63,10 +65,10 @@ fn joins_stand_among_kills(rt: HostRuntime) -> Result<(), Fail> {
         (8, Due::Join(PlaceId(5)), None),
         (9, Due::Death(PlaceId(5)), Some(u32::MAX)),
     ] {
-        assert_eq!(rt; kills.due(moment), Some(due));
+        assert!(rt; kills.due(moment) == Some(due));
         kills.done();
         if let Some(later) = before {
-            assert_eq!(rt; kills.due(later), None);
+            same(&rt, kills.due(later), None);
         }
     }
     Ok(())

@@ -19,6 +19,8 @@ mod picks;
 #[cfg(test)]
 mod rank;
 #[cfg(test)]
+mod same;
+#[cfg(test)]
 mod text;
 #[cfg(test)]
 mod words;

@@ -1,5 +1,6 @@
 ghost use Rattle.std.specs.Prelude.{◌≡◌, ◌≤◌};
 
+use crate::same::same;
 use rx_lock::{Fact, Lock};
 use std::hint::spin_loop;
 use std::sync::Wait;
@@ -44,7 +45,7 @@ fn threads_take_turns_and_a_sleeper_is_woken(rt: HostRuntime) -> Result<(), Fail
         );
         let (n, turn) = lock.lock(&rt);
         lock.close(turn);
-        assert_eq!(rt; n, sum);
+        same(&rt, n, sum);
     }
     Ok(())
 }

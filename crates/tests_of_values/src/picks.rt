@@ -1,4 +1,5 @@
 // What no clause says: that a list of picks can be opened, and that picks may be moved between threads.
+use crate::same::same;
 use rx_picks::{ListPicks, Picks, SeedPicks};
 use std::test::Fail;
 
@@ -12,11 +13,11 @@ fn picks_come_in_order(rt: HostRuntime) -> Result<(), Fail> {
     may_move::<SeedPicks>();
     let mut picks = ListPicks::open(rt.alloc(), &[3, 1])?;
     for pick in [3, 1, 0, 0] {
-        assert_eq!(rt; picks.next(), pick);
+        same(&rt, picks.next(), pick);
     }
     let mut picks = SeedPicks::open(5);
     for pick in [257_813_417, 4_216_695_592, 1_501_603_199] {
-        assert_eq!(rt; picks.next(), pick);
+        same(&rt, picks.next(), pick);
     }
     Ok(())
 }

@@ -1,4 +1,5 @@
 // Whether the definitions say what is meant, by numbers and texts from outside.
+use crate::same::same;
 use rx_base::Path;
 use rx_text::{put_natural, put_num, put_path, scan_num};
 use std::test::Fail;
@@ -14,18 +15,18 @@ fn numbers_are_decimal_and_paths_are_joined_by_dots(rt: HostRuntime) -> Result<(
     ] {
         let mut out = Vec::new(rt.alloc());
         put_num(&mut out, n)?;
-        assert_eq!(rt; out.as_slice(), text, "at {n}");
+        same(&rt, (n, out.as_slice()), (n, text));
     }
     let mut out = b"print ".to_vec(rt.alloc())?;
     let mut path = Path::open(rt.alloc());
     put_path(&mut out, &path)?;
-    assert_eq!(rt; out.as_slice(), b"print ".as_slice());
+    same(&rt, out.as_slice(), b"print ".as_slice());
     path.push(1)?;
     path.push(0)?;
     path.push(u32::MAX)?;
     put_path(&mut out, &path)?;
     put_natural(&mut out, 10)?;
-    assert_eq!(rt; out.as_slice(), b"print 1.0.429496729510".as_slice());
+    same(&rt, out.as_slice(), b"print 1.0.429496729510".as_slice());
     Ok(())
 }
 
@@ -52,8 +53,8 @@ fn only_the_one_spelling_is_scanned(rt: HostRuntime) {
         (b"-", None),
         (b"", None),
     ] {
-        assert_eq!(rt; scan_num(text, 0), want);
+        same(&rt, scan_num(text, 0), want);
     }
-    assert_eq!(rt; scan_num(b"0@12 ", 2), Some((12, 4)));
-    assert_eq!(rt; scan_num(b"0@12", 4), None);
+    same(&rt, scan_num(b"0@12 ", 2), Some((12, 4)));
+    same(&rt, scan_num(b"0@12", 4), None);
 }

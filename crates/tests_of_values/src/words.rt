@@ -1,4 +1,5 @@
 // The worked words, and what they give.
+use crate::same::same;
 use rx_base::{Kill, NoMemory, PlaceId, RxWord};
 use rx_words::{Command, PickWords, WordFault, read_live, read_words};
 use std::alloc::Global;
@@ -87,7 +88,7 @@ const BAD_WORDS: &[(&[u8], Option<u32>)] = &[
 #[test]
 fn the_first_bad_word_is_told(rt: HostRuntime) -> Result<(), Fail> {
     for (line, want) in BAD_WORDS {
-        assert_eq!(rt; bad_word(rt.alloc(), line)?, *want);
+        same(&rt, bad_word(rt.alloc(), line)?, *want);
     }
     Ok(())
 }
@@ -151,17 +152,17 @@ fn what_words_give_stands_in_order(rt: HostRuntime) -> Result<(), Fail> {
         alloc,
         b"step --join 1000000 --join 5 --places 12 --join 0 --join 5",
     )?;
-    assert_eq!(rt; joins.as_slice(), [0, 5, 5, 1_000_000].as_slice());
+    same(&rt, joins.as_slice(), [0, 5, 5, 1_000_000].as_slice());
     let kills = kills_of(
         alloc,
         b"step --kill 2@13 --kill 3@12 --places 4 --kill 1@13",
     )?;
     let want = [planned(3, 12), planned(1, 13), planned(2, 13)];
-    assert_eq!(rt; kills.as_slice(), want.as_slice());
+    same(&rt, kills.as_slice(), want.as_slice());
     let picks = picks_of(alloc, b"step --pick 7,0,1000000")?;
-    assert_eq!(rt; picks.as_slice(), [7, 0, 1_000_000].as_slice());
+    same(&rt, picks.as_slice(), [7, 0, 1_000_000].as_slice());
     let told = size_and_seed(alloc, b"gen --seed 18446744073709551615 --size 10000")?;
-    assert_eq!(rt; told, (10_000, Some(18_446_744_073_709_551_615)));
+    same(&rt, told, (10_000, Some(18_446_744_073_709_551_615)));
     Ok(())
 }
 
@@ -199,7 +200,7 @@ const LIVE_WORDS: &[(&[u8], u32, u32, Option<u32>)] = &[
 #[test]
 fn words_of_live(rt: HostRuntime) -> Result<(), Fail> {
     for (line, workers, watch, bad) in LIVE_WORDS {
-        assert_eq!(rt; live_of(rt.alloc(), line)?, (*workers, *watch, *bad));
+        same(&rt, live_of(rt.alloc(), line)?, (*workers, *watch, *bad));
     }
     assert!(rt; read_words(rt.alloc(), &made(rt.alloc(), b"step --watch 1")?).is_err());
     Ok(())

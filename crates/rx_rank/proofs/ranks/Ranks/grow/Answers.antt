@@ -11,6 +11,6 @@ returns-clause-doubles c =
     let h : ℕ = c.height_for-height.result in
     let room : length items / 2 ≡ c.args.self.now.room = ap (λ (z : Numbers). z.room) c.self.view_is in
     let below : length items / 2 < c.args.n = omega (arith, room, less) in
-    let twice = kept_doubles c.self.inside.height h c.args.n items c.self.invariant below c.height_for-height.ensures.room in
+    let twice = kept_doubles c.self.inside.height h c.args.n items c.self.invariant.kept below c.height_for-height.ensures.room in
     let same = half-is (2 ^ h) c.in_ok-self-inside.field-0.items c.in_ok-self-inside.ensures.tree.bare in
     omega (arith, room, twice, same)

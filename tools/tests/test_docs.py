@@ -7,7 +7,6 @@ no longer has the sentence, its row goes. `python3 tools/tests/test_docs.py --me
 import functools
 import re
 import sys
-import textwrap
 import unittest
 
 from places import TOP
@@ -88,17 +87,6 @@ def naming(word):
     return counts
 
 
-def shared_names():
-    """The list of the names that `specs/` of two or more crates define, each with these crates."""
-    found = {}
-    for crate in sorted(it for it in NAMES if not it.startswith("tests_of_")):
-        for file in files(crate, "specs"):
-            for name in re.findall(r"^ *(?:\w+ pub|pub (?:record|data)) (\w+)", file.read_text(), re.M):
-                found.setdefault(name, {})[crate.removeprefix("rx_")] = True
-    listed = ", ".join("`%s` (%s)" % (name, ", ".join(found[name])) for name in sorted(found) if len(found[name]) > 1)
-    return textwrap.fill(listed, 148, break_on_hyphens=False) + "\n"
-
-
 THEOREM, TRUST, CHANGING = "docs/theorem.md", "docs/trust.md", "CONTRIBUTING.md"
 CLAIMS = [
     (THEOREM, r"`asked_any`.*?, (\d+) lines", lambda: used("rx_words/specs/Words.antt")),
@@ -121,7 +109,7 @@ CLAIMS = [
     (THEOREM, r"(\d+) lines of the file say what turns", lambda: used("Picked.antt")),
     (THEOREM, r"`crates/rx_picks/specs/Seeds.antt`, (\d+) lines", lambda: used("Seeds.antt")),
     (TRUST, r"There are\s+([\d,]+) used lines", lambda: sum(it[0] for it in trusted().values())),
-    (TRUST, r"with their lines \(([\d,]+) in\s+all\)", lambda: sum(it[1] for it in read_besides())),
+    (TRUST, r"with\s+their\s+lines \(([\d,]+) in\s+all\)", lambda: sum(it[1] for it in read_besides())),
     (TRUST, r"(\d+) more worked histories are whole runs, and (\d+) laws tell", lambda: laws("rx_worked") - 13, lambda: laws("rx_worked") - 24),
     *((CHANGING, r"\| `%s` \| (\d+) in (\d+) crates \| (\d+) in (\d+) \| (\d+) in (\d+) \|" % word,
        *(lambda word=word, it=it: naming(word)[it] for it in range(6))) for word in ("forget", "set", "print", "arrive", "death", "dead")),
@@ -202,9 +190,6 @@ class Names(unittest.TestCase):
             for call in re.findall(r"`([\w:]+)`", calls):
                 self.assertRegex(text, r"\b%s\b" % call.split("::")[-1], name)
 
-    def test_names_in_several_crates(self):
-        self.assertEqual(page("docs/glossary.md").split("\n\n")[-1], shared_names(), "--mend writes this list anew")
-
 
 def mend():
     """Writes what is counted into the pages, where a number is another one."""
@@ -216,7 +201,6 @@ def mend():
                 print("%s: %s is %s: %s" % (name, found[group], count(), found[0]))
                 text = text[:found.start(group)] + format(count(), ",") + text[found.end(group):]
         (TOP / name).write_text(text)
-    (TOP / "docs/glossary.md").write_text(page("docs/glossary.md").rpartition("\n\n")[0] + "\n\n" + shared_names())
 
 
 if __name__ == "__main__" and sys.argv[1:] == ["--mend"]:

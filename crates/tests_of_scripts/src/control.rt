@@ -245,6 +245,21 @@ fn ends(
     Ok(())
 }
 
+/// Asserts that a task makes these steps and then ends with these faults.
+fn finishes(
+    rt: &(impl Abort + AllocGlobal),
+    p: &Program,
+    mut task: Control,
+    here: PlaceId,
+    steps: &[Step<'_>],
+    faults: &[Fault],
+) -> Result<(), NoMemory>
+    requires { (t : Term) × StandsFor p.now.script task t }
+{
+    follow(rt, p, &mut task, here, steps)?;
+    ends(rt, p, &mut task, here, faults)
+}
+
 /// Asserts that the main activity of a script makes these steps and then ends with these faults.
 fn run(
     rt: &(impl Abort + AllocGlobal),
@@ -253,9 +268,8 @@ fn run(
     faults: &[Fault],
 ) -> Result<(), NoMemory> {
     let p = program(rt.alloc(), bytes).expect(rt, "a program");
-    let mut task = main_of(rt.alloc(), &p)?;
-    follow(rt, &p, &mut task, HERE, steps)?;
-    ends(rt, &p, &mut task, HERE, faults)
+    let main = main_of(rt.alloc(), &p)?;
+    finishes(rt, &p, main, HERE, steps, faults)
 }
 
 // What the first block of a store is called, and the second.
@@ -411,6 +425,29 @@ const A_CENSUS_TELLS_OF_PLACES_4: &[Step<'static>] = &[
     (Book(Print { value: 3 }), &[2, 2], Nothing),
 ];
 
+// (The tests below keep what they own in one function and go through the steps in another: a `?` beside values that still live takes
+// seconds to prove.)
+fn calls_elsewhere(
+    rt: &(impl Abort + AllocGlobal),
+    p: &Program,
+    main: &mut Control,
+) -> Result<(), NoMemory>
+    requires { (t : Term) × StandsFor p.now.script main.old t }
+{
+    follow(rt, p, main, HERE, REFERENCE_AT_A_WRONG_PLACE_1)?;
+    let callee = child_of(rt, p, main)?;
+    finishes(
+        rt,
+        p,
+        callee,
+        THERE,
+        REFERENCE_AT_A_WRONG_PLACE_2,
+        &[Overflow],
+    )?;
+    follow(rt, p, main, HERE, REFERENCE_AT_A_WRONG_PLACE_3)?;
+    ends(rt, p, main, HERE, &[])
+}
+
 // All expressions come before the home of the reference.
 #[test]
 fn reference_at_a_wrong_place(rt: HostRuntime) -> Result<(), Fail> {
@@ -420,12 +457,7 @@ fn reference_at_a_wrong_place(rt: HostRuntime) -> Result<(), Fail> {
     )
     .expect(&rt, "a program");
     let mut main = main_of(rt.alloc(), &p)?;
-    follow(&rt, &p, &mut main, HERE, REFERENCE_AT_A_WRONG_PLACE_1)?;
-    let mut callee = child_of(&rt, &p, &main)?;
-    follow(&rt, &p, &mut callee, THERE, REFERENCE_AT_A_WRONG_PLACE_2)?;
-    ends(&rt, &p, &mut callee, THERE, &[Overflow])?;
-    follow(&rt, &p, &mut main, HERE, REFERENCE_AT_A_WRONG_PLACE_3)?;
-    ends(&rt, &p, &mut main, HERE, &[])?;
+    calls_elsewhere(&rt, &p, &mut main)?;
     Ok(())
 }
 
@@ -437,6 +469,21 @@ fn local_faults_and_answers_of_stores(rt: HostRuntime) -> Result<(), Fail> {
     Ok(())
 }
 
+fn starts_one(
+    rt: &(impl Abort + AllocGlobal),
+    p: &Program,
+    main: &mut Control,
+) -> Result<(), NoMemory>
+    requires { (t : Term) × StandsFor p.now.script main.old t }
+{
+    follow(rt, p, main, HERE, NEW_TASKS_HAVE_COPIES_1)?;
+    let task = child_of(rt, p, main)?;
+    follow(rt, p, main, HERE, NEW_TASKS_HAVE_COPIES_2)?;
+    finishes(rt, p, task, HERE, NEW_TASKS_HAVE_COPIES_3, &[])?;
+    follow(rt, p, main, HERE, NEW_TASKS_HAVE_COPIES_4)?;
+    ends(rt, p, main, HERE, &[])
+}
+
 #[test]
 fn new_tasks_have_copies(rt: HostRuntime) -> Result<(), Fail> {
     let p = program(
@@ -445,14 +492,24 @@ fn new_tasks_have_copies(rt: HostRuntime) -> Result<(), Fail> {
     )
     .expect(&rt, "a program");
     let mut main = main_of(rt.alloc(), &p)?;
-    follow(&rt, &p, &mut main, HERE, NEW_TASKS_HAVE_COPIES_1)?;
-    let mut task = child_of(&rt, &p, &main)?;
-    follow(&rt, &p, &mut main, HERE, NEW_TASKS_HAVE_COPIES_2)?;
-    follow(&rt, &p, &mut task, HERE, NEW_TASKS_HAVE_COPIES_3)?;
-    ends(&rt, &p, &mut task, HERE, &[])?;
-    follow(&rt, &p, &mut main, HERE, NEW_TASKS_HAVE_COPIES_4)?;
-    ends(&rt, &p, &mut main, HERE, &[])?;
+    starts_one(&rt, &p, &mut main)?;
     Ok(())
+}
+
+fn starts_two(
+    rt: &(impl Abort + AllocGlobal),
+    p: &Program,
+    main: &mut Control,
+) -> Result<(), NoMemory>
+    requires { (t : Term) × StandsFor p.now.script main.old t }
+{
+    let first = child_of(rt, p, main)?;
+    follow(rt, p, main, HERE, A_CENSUS_TELLS_OF_PLACES_1)?;
+    finishes(rt, p, first, HERE, A_CENSUS_TELLS_OF_PLACES_3, &[NoPlace])?;
+    let second = child_of(rt, p, main)?;
+    follow(rt, p, main, HERE, A_CENSUS_TELLS_OF_PLACES_2)?;
+    finishes(rt, p, second, PlaceId(2), A_CENSUS_TELLS_OF_PLACES_4, &[])?;
+    ends(rt, p, main, HERE, &[NoPlace])
 }
 
 // A census tells the task of places that have joined; another task knows what its starter knew.
@@ -464,15 +521,7 @@ fn a_census_tells_of_places(rt: HostRuntime) -> Result<(), Fail> {
     )
     .expect(&rt, "a program");
     let mut main = main_of(rt.alloc(), &p)?;
-    let mut first = child_of(&rt, &p, &main)?;
-    follow(&rt, &p, &mut main, HERE, A_CENSUS_TELLS_OF_PLACES_1)?;
-    let mut second = child_of(&rt, &p, &main)?;
-    follow(&rt, &p, &mut main, HERE, A_CENSUS_TELLS_OF_PLACES_2)?;
-    ends(&rt, &p, &mut main, HERE, &[NoPlace])?;
-    follow(&rt, &p, &mut first, HERE, A_CENSUS_TELLS_OF_PLACES_3)?;
-    ends(&rt, &p, &mut first, HERE, &[NoPlace])?;
-    follow(&rt, &p, &mut second, PlaceId(2), A_CENSUS_TELLS_OF_PLACES_4)?;
-    ends(&rt, &p, &mut second, PlaceId(2), &[])?;
+    starts_two(&rt, &p, &mut main)?;
     Ok(())
 }
 

@@ -63,6 +63,10 @@ fn numbers_of_a_history_are_written(rt: HostRuntime) -> Result<(), Fail> {
     });
     let mut out = b"before\n".to_vec(alloc)?;
     put_counts(&counts(&h), &mut out)?;
-    same(&rt, out.as_slice(), b"before\nentries 7\ntasks 2\nprints 1\ndeaths 1\nlosses 1\n".as_slice());
+    same(
+        &rt,
+        out.as_slice(),
+        b"before\nentries 7\ntasks 2\nprints 1\ndeaths 1\nlosses 1\n".as_slice(),
+    );
     Ok(())
 }

@@ -48,7 +48,7 @@ use Rattle.rx_objects.specs.declared.mentions.Mentions.{Mentions}
 use Rattle.rx_objects.specs.Ending.{entries_at}
 use Rattle.rx_objects.proofs.Staying.{entries_same}
 use Rattle.rx_activities.specs.declared.replies.Child.{Child}
-use Rattle.rx_activities.specs.declared.replies.Rest.{Rest}
+use Rattle.rx_activities.specs.declared.hand.Hand.{Hand}
 use Rattle.rx_activities.specs.Knowing.{StandsSo}
 use Rattle.rx_activities.specs.Inside.Births.{IsBorn, IsStarted}
 use Rattle.rx_activities.specs.Inside.Sending.{WasSent, SuitsStep, target, ChildFor, ChildMentioned, IsPrepared}
@@ -69,7 +69,7 @@ started L place to after shape control here pass seat m None child f h make = tt
 started L place to after shape control here pass seat m (Some t) None f h make = absurd f
 started L place to after shape control here pass seat m (Some t) (Some c) f h make = make t c refl f h.0 h.1
 
-module _ (L : BookName LedgerFixed) (rest : Rest) (reply : Reply) (child : Option Child) (code : Block) (st : Stands L.fixed.program.script code) (w : WasSent L.fixed.program.script L rest reply child) where
+module _ (L : BookName LedgerFixed) (rest : Hand) (reply : Reply) (child : Option Child) (code : Block) (st : Stands L.fixed.program.script code) (w : WasSent L.fixed.program.script L rest reply child) where
   abbrev f : LedgerFixed
   f = L.fixed
 
@@ -137,7 +137,7 @@ module _ (L : BookName LedgerFixed) (rest : Rest) (reply : Reply) (child : Optio
         (λ numbers. subst (MayStart (tree_of f.setup.places now.entries)) is (serves folds_there numbers)))
 
 -- after a call
-called_so : (L : BookName LedgerFixed) (rest : Rest) (ticket : Caller) (callee : Option AnyTicket) (child : Option Child) (code : Block) → Stands L.fixed.program.script code → WasSent L.fixed.program.script L rest (Called ticket callee) child → IsStarted L rest.place rest.pass callee child
+called_so : (L : BookName LedgerFixed) (rest : Hand) (ticket : Caller) (callee : Option AnyTicket) (child : Option Child) (code : Block) → Stands L.fixed.program.script code → WasSent L.fixed.program.script L rest (Called ticket callee) child → IsStarted L rest.place rest.pass callee child
 called_so L rest ticket callee child code st w =
     let reply : Reply = Called ticket callee in
     let kept : is_refusal reply ≡ false = refl in
@@ -149,7 +149,7 @@ called_so L rest ticket callee child code st w =
     callee a.callee_is (λ folds numbers. children_begin (given L.fixed.setup) (there L rest reply child code st w kept) (now L rest reply child code st w).entries w.op.request reply folds a numbers)
 
 -- after a start
-spawned_so : (L : BookName LedgerFixed) (rest : Rest) (ticket : Caller) (other : Option AnyTicket) (child : Option Child) (code : Block) → Stands L.fixed.program.script code → WasSent L.fixed.program.script L rest (Spawned ticket other) child → IsStarted L rest.place rest.pass other child
+spawned_so : (L : BookName LedgerFixed) (rest : Hand) (ticket : Caller) (other : Option AnyTicket) (child : Option Child) (code : Block) → Stands L.fixed.program.script code → WasSent L.fixed.program.script L rest (Spawned ticket other) child → IsStarted L rest.place rest.pass other child
 spawned_so L rest ticket other child code st w =
     let reply : Reply = Spawned ticket other in
     let kept : is_refusal reply ≡ false = refl in
@@ -161,10 +161,10 @@ spawned_so L rest ticket other child code st w =
     other a.started_is (λ folds numbers. children_begin (given L.fixed.setup) (there L rest reply child code st w kept) (now L rest reply child code st w).entries w.op.request reply folds a numbers)
 
 -- the same of a script that is the run's
-pub called_starts : (shape : Shape) (L : BookName LedgerFixed) (rest : Rest) (ticket : Caller) (callee : Option AnyTicket) (child : Option Child) (code : Block) → L.fixed.program.script ≡ shape → Stands shape code → WasSent shape L rest (Called ticket callee) child → IsStarted L rest.place rest.pass callee child
+pub called_starts : (shape : Shape) (L : BookName LedgerFixed) (rest : Hand) (ticket : Caller) (callee : Option AnyTicket) (child : Option Child) (code : Block) → L.fixed.program.script ≡ shape → Stands shape code → WasSent shape L rest (Called ticket callee) child → IsStarted L rest.place rest.pass callee child
 called_starts shape L rest ticket callee child code is st w =
     subst (λ (s : Shape). Stands s code → WasSent s L rest (Called ticket callee) child → IsStarted L rest.place rest.pass callee child) is (called_so L rest ticket callee child code) st w
 
-pub spawned_starts : (shape : Shape) (L : BookName LedgerFixed) (rest : Rest) (ticket : Caller) (other : Option AnyTicket) (child : Option Child) (code : Block) → L.fixed.program.script ≡ shape → Stands shape code → WasSent shape L rest (Spawned ticket other) child → IsStarted L rest.place rest.pass other child
+pub spawned_starts : (shape : Shape) (L : BookName LedgerFixed) (rest : Hand) (ticket : Caller) (other : Option AnyTicket) (child : Option Child) (code : Block) → L.fixed.program.script ≡ shape → Stands shape code → WasSent shape L rest (Spawned ticket other) child → IsStarted L rest.place rest.pass other child
 spawned_starts shape L rest ticket other child code is st w =
     subst (λ (s : Shape). Stands s code → WasSent s L rest (Spawned ticket other) child → IsStarted L rest.place rest.pass other child) is (spawned_so L rest ticket other child code) st w

@@ -69,7 +69,6 @@ use Rattle.rx_activities.specs.declared.hand.Hand.{Hand}
 use Rattle.rx_activities.specs.declared.hand.Started.{Started}
 use Rattle.rx_activities.specs.declared.hand.Started.TheVariants.{Here, Away as Leaves}
 use Rattle.rx_activities.specs.declared.replies.Child.{Child}
-use Rattle.rx_activities.specs.declared.replies.Rest.{Rest}
 use Rattle.rx_activities.specs.Knowing.{IsOfRun, IsSeatAt, StandsSo, Knows, since}
 use Rattle.rx_activities.specs.Starting.{ComesSo, Comes, Begins as BeginsAs}
 use Rattle.rx_activities.specs.Inside.Births.{IsWith, HasMet, IsBorn, IsAtStart, TravelsWith, StaysWith, StartsWith}
@@ -88,7 +87,7 @@ no_events t s none seated =
     cells-stay (λ x. None) (unseen (view_of s)) (view_of s).seen t refl
     (record { prefix = ((view_of s).seen, refl); long = omega arith; deaths = refl; own = sym none ∙ s.own }) seated
 
-module _ (L : BookName LedgerFixed) (rest : Rest) (reply : Reply) (child_of : Option Child) (w : WasSent L.fixed.program.script L rest reply child_of) where
+module _ (L : BookName LedgerFixed) (rest : Hand) (reply : Reply) (child_of : Option Child) (w : WasSent L.fixed.program.script L rest reply child_of) where
   abbrev f : LedgerFixed
   f = L.fixed
 

@@ -38,7 +38,7 @@ use Rattle.rx_parts_book.specs.declared.items.EventItem.{EventItem}
 use Rattle.rx_objects.specs.declared.ledger.LedgerFixed.{LedgerFixed}
 use Rattle.rx_objects.specs.Ending.{entries_at}
 use Rattle.rx_activities.specs.declared.replies.Child.{Child}
-use Rattle.rx_activities.specs.declared.replies.Rest.{Rest}
+use Rattle.rx_activities.specs.declared.hand.Hand.{Hand}
 use Rattle.rx_activities.specs.Knowing.{StandsSo, entries_seen, tree_seen}
 use Rattle.rx_activities.specs.Inside.Sending.{WasSent, WasCounted}
 use Rattle.rx_activities.proofs.Asked.{kinds_of}
@@ -49,7 +49,7 @@ use Rattle.rx_activities.proofs.GrantedReplies.{does_so, begins_so, next_is, gra
 use Rattle.rx_activities.proofs.Sent.{between, lines, before, behind, applied, of_run, entries_now, lines_are, folds_so}
 use Rattle.rx_activities.proofs.SentSo.{term_so, goes_on, one_act, knows_with}
 
-module _ (shape : Shape) (L : BookName LedgerFixed) (rest : Rest) (child : Option Child) (program : L.fixed.program.script ≡ shape) (ticket : Caller) (places : ℕ) (w : WasSent shape L rest (Counted ticket places) child) where
+module _ (shape : Shape) (L : BookName LedgerFixed) (rest : Hand) (child : Option Child) (program : L.fixed.program.script ≡ shape) (ticket : Caller) (places : ℕ) (w : WasSent shape L rest (Counted ticket places) child) where
   abbrev reply : Reply
   reply = Counted ticket places
 

@@ -36,7 +36,7 @@ use Rattle.rx_terms.proofs.SpineGrants.{GrantsSpine, spine-grant}
 use Rattle.rx_objects.specs.declared.ledger.LedgerFixed.{LedgerFixed}
 use Rattle.rx_objects.specs.Ending.{entries_at}
 use Rattle.rx_activities.specs.declared.replies.Child.{Child}
-use Rattle.rx_activities.specs.declared.replies.Rest.{Rest}
+use Rattle.rx_activities.specs.declared.hand.Hand.{Hand}
 use Rattle.rx_activities.specs.Knowing.{StandsSo, entries_seen, kinds_told}
 use Rattle.rx_activities.specs.Inside.Births.{IsStarted}
 use Rattle.rx_activities.specs.Inside.Sending.{SuitsStep, WasSent, WasGranted}
@@ -50,7 +50,7 @@ taken : (own rest : Owned) (x : ScopeId × Kind) → own ≡ x ∷ rest → drop
 taken own rest x h = ap (λ (o : Owned). drop 1 o) h
 
 -- What the step is, and what the term, its scopes and its waiting are after it, for given statements.
-module _ (shape : Shape) (L : BookName LedgerFixed) (rest : Rest) (reply : Reply) (child : Option Child) (w : WasSent shape L rest reply child) (program : L.fixed.program.script ≡ shape)
+module _ (shape : Shape) (L : BookName LedgerFixed) (rest : Hand) (reply : Reply) (child : Option Child) (w : WasSent shape L rest reply child) (program : L.fixed.program.script ≡ shape)
     (code : Block) (stands : Stands L.fixed.program.script code) (s : StandsSo code L w.hand w.knows.who.task) where
   abbrev d : Does
   d = does s.stand.vars w.hand.place.0 s.stand.term
@@ -86,7 +86,7 @@ module _ (shape : Shape) (L : BookName LedgerFixed) (rest : Rest) (reply : Reply
   now_own = own_now shape L rest reply child w program code stands s
 
 -- A finish was opened.
-module _ (shape : Shape) (L : BookName LedgerFixed) (rest : Rest) (child : Option Child) (program : L.fixed.program.script ≡ shape) (ticket : Caller) (scope : ScopeId) (w : WasSent shape L rest (Opened ticket scope) child) where
+module _ (shape : Shape) (L : BookName LedgerFixed) (rest : Hand) (child : Option Child) (program : L.fixed.program.script ≡ shape) (ticket : Caller) (scope : ScopeId) (w : WasSent shape L rest (Opened ticket scope) child) where
   opened_answer : Answered (before shape L rest (Opened ticket scope) child w) w.op.request (Opened ticket scope) (behind shape L rest (Opened ticket scope) child w)
   opened_answer = applied shape L rest (Opened ticket scope) child w
 
@@ -123,7 +123,7 @@ module _ (shape : Shape) (L : BookName LedgerFixed) (rest : Rest) (child : Optio
       (ap (λ (v : Caller). v.place) opened_answer.answers.ticket_is ∙ ap (λ (v : Caller). v.place) opened_who) opened_act refl opened_so tt
 
 -- A call was opened.
-module _ (shape : Shape) (L : BookName LedgerFixed) (rest : Rest) (child : Option Child) (program : L.fixed.program.script ≡ shape) (ticket : Caller) (callee : Option AnyTicket) (w : WasSent shape L rest (Called ticket callee) child) where
+module _ (shape : Shape) (L : BookName LedgerFixed) (rest : Hand) (child : Option Child) (program : L.fixed.program.script ≡ shape) (ticket : Caller) (callee : Option AnyTicket) (w : WasSent shape L rest (Called ticket callee) child) where
   called_answer : Answered (before shape L rest (Called ticket callee) child w) w.op.request (Called ticket callee) (behind shape L rest (Called ticket callee) child w)
   called_answer = applied shape L rest (Called ticket callee) child w
 
@@ -160,7 +160,7 @@ module _ (shape : Shape) (L : BookName LedgerFixed) (rest : Rest) (child : Optio
       (ap (λ (v : Caller). v.place) called_answer.answers.ticket_is ∙ ap (λ (v : Caller). v.place) called_who) called_act refl called_so begins
 
 -- A task was started.
-module _ (shape : Shape) (L : BookName LedgerFixed) (rest : Rest) (child : Option Child) (program : L.fixed.program.script ≡ shape) (ticket : Caller) (started : Option AnyTicket) (w : WasSent shape L rest (Spawned ticket started) child) where
+module _ (shape : Shape) (L : BookName LedgerFixed) (rest : Hand) (child : Option Child) (program : L.fixed.program.script ≡ shape) (ticket : Caller) (started : Option AnyTicket) (w : WasSent shape L rest (Spawned ticket started) child) where
   spawned_answer : Answered (before shape L rest (Spawned ticket started) child w) w.op.request (Spawned ticket started) (behind shape L rest (Spawned ticket started) child w)
   spawned_answer = applied shape L rest (Spawned ticket started) child w
 
@@ -197,7 +197,7 @@ module _ (shape : Shape) (L : BookName LedgerFixed) (rest : Rest) (child : Optio
       (ap (λ (v : Caller). v.place) spawned_answer.answers.ticket_is ∙ ap (λ (v : Caller). v.place) spawned_who) spawned_act refl spawned_so begins
 
 -- The task waits at its finish.
-module _ (shape : Shape) (L : BookName LedgerFixed) (rest : Rest) (child : Option Child) (program : L.fixed.program.script ≡ shape) (ticket : Caller) (w : WasSent shape L rest (Waited ticket) child) where
+module _ (shape : Shape) (L : BookName LedgerFixed) (rest : Hand) (child : Option Child) (program : L.fixed.program.script ≡ shape) (ticket : Caller) (w : WasSent shape L rest (Waited ticket) child) where
   waited_answer : Answered (before shape L rest (Waited ticket) child w) w.op.request (Waited ticket) (behind shape L rest (Waited ticket) child w)
   waited_answer = applied shape L rest (Waited ticket) child w
 
@@ -233,7 +233,7 @@ module _ (shape : Shape) (L : BookName LedgerFixed) (rest : Rest) (child : Optio
       (ap (λ (v : Caller). v.place) waited_answer.answers.ticket_is ∙ ap (λ (v : Caller). v.place) waited_who) waited_act refl waited_so tt
 
 -- A scope was released.
-module _ (shape : Shape) (L : BookName LedgerFixed) (rest : Rest) (child : Option Child) (program : L.fixed.program.script ≡ shape) (ticket : Caller) (outcome : Outcome) (w : WasSent shape L rest (Released ticket outcome) child) where
+module _ (shape : Shape) (L : BookName LedgerFixed) (rest : Hand) (child : Option Child) (program : L.fixed.program.script ≡ shape) (ticket : Caller) (outcome : Outcome) (w : WasSent shape L rest (Released ticket outcome) child) where
   released_answer : Answered (before shape L rest (Released ticket outcome) child w) w.op.request (Released ticket outcome) (behind shape L rest (Released ticket outcome) child w)
   released_answer = applied shape L rest (Released ticket outcome) child w
 
@@ -270,7 +270,7 @@ module _ (shape : Shape) (L : BookName LedgerFixed) (rest : Rest) (child : Optio
       (ap (λ (v : Caller). v.place) released_answer.answers.ticket_is ∙ ap (λ (v : Caller). v.place) released_who) released_act refl released_so tt
 
 -- A value was printed.
-module _ (shape : Shape) (L : BookName LedgerFixed) (rest : Rest) (child : Option Child) (program : L.fixed.program.script ≡ shape) (ticket : Caller) (w : WasSent shape L rest (Printed ticket) child) where
+module _ (shape : Shape) (L : BookName LedgerFixed) (rest : Hand) (child : Option Child) (program : L.fixed.program.script ≡ shape) (ticket : Caller) (w : WasSent shape L rest (Printed ticket) child) where
   printed_answer : Answered (before shape L rest (Printed ticket) child w) w.op.request (Printed ticket) (behind shape L rest (Printed ticket) child w)
   printed_answer = applied shape L rest (Printed ticket) child w
 

@@ -26,7 +26,7 @@ use Rattle.rx_parts_book.specs.declared.items.EventItem.{EventItem}
 use Rattle.rx_objects.specs.declared.ledger.LedgerFixed.{LedgerFixed}
 use Rattle.rx_objects.specs.Ending.{entries_at}
 use Rattle.rx_activities.specs.declared.replies.Child.{Child}
-use Rattle.rx_activities.specs.declared.replies.Rest.{Rest}
+use Rattle.rx_activities.specs.declared.hand.Hand.{Hand}
 use Rattle.rx_activities.specs.Knowing.{StandsSo, kinds_told}
 use Rattle.rx_activities.specs.Inside.Births.{IsStarted}
 use Rattle.rx_activities.specs.Inside.Sending.{WasSent, WasGranted}
@@ -36,17 +36,17 @@ use Rattle.rx_activities.proofs.Sent.{of_run}
 use Rattle.rx_activities.proofs.SentSo.{rise, term_so, knows_with}
 
 -- who asked is the activity's task
-pub who_is : (shape : Shape) (L : BookName LedgerFixed) (rest : Rest) (reply : Reply) (child : Option Child) (w : WasSent shape L rest reply child) (who : Caller) → asker w.op.request.ticket ≡ Some who → who ≡ w.knows.who
+pub who_is : (shape : Shape) (L : BookName LedgerFixed) (rest : Hand) (reply : Reply) (child : Option Child) (w : WasSent shape L rest reply child) (who : Caller) → asker w.op.request.ticket ≡ Some who → who ≡ w.knows.who
 who_is shape L rest reply child w who e = same_Some who w.knows.who (sym e ∙ (ap asker w.ticket ∙ w.knows.asks))
 
 -- what is granted, for given statements: the act, what the activity's term and ticket are after it, and for what its control stands
-pub record GrantedSo (shape : Shape) (L : BookName LedgerFixed) (rest : Rest) (reply : Reply) (child : Option Child) (w : WasSent shape L rest reply child) (code : Block) (s : StandsSo code L w.hand w.knows.who.task) (ticket : AnyTicket) (act : Act) : Type 0 where
+pub record GrantedSo (shape : Shape) (L : BookName LedgerFixed) (rest : Hand) (reply : Reply) (child : Option Child) (w : WasSent shape L rest reply child) (code : Block) (s : StandsSo code L w.hand w.knows.who.task) (ticket : AnyTicket) (act : Act) : Type 0 where
   pub act_is : OneAct code L w.hand w.knows.who.task s act (view_of rest.pass)
   pub goes : GoneOn code L w.hand w.knows.who.task s act (view_of rest.pass) ticket
   pub ready : (u : Term) × StandsFor shape rest.control.value u × ((fs : List Fault) → granted fs u ≡ granted fs s.stand.term)
   pub told : vars_told (does s.stand.vars w.hand.place.0 s.stand.term) act s.stand.vars ≡ s.stand.vars
 
-module _ (shape : Shape) (L : BookName LedgerFixed) (rest : Rest) (reply : Reply) (child : Option Child) (w : WasSent shape L rest reply child) (program : L.fixed.program.script ≡ shape) where
+module _ (shape : Shape) (L : BookName LedgerFixed) (rest : Hand) (reply : Reply) (child : Option Child) (w : WasSent shape L rest reply child) (program : L.fixed.program.script ≡ shape) where
   module _ (code : Block) (stands : Stands L.fixed.program.script code) (s : StandsSo code L w.hand w.knows.who.task) where
     abbrev pub Ready : Type 0
     Ready = (u : Term) × StandsFor shape rest.control.value u × ((fs : List Fault) → granted fs u ≡ granted fs s.stand.term)

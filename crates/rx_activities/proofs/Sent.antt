@@ -38,7 +38,7 @@ use Rattle.rx_objects.specs.Ending.{entries_at}
 use Rattle.rx_objects.proofs.Leaving.{entries_mapped}
 use Rattle.rx_objects.proofs.Staying.{item_by, items_stamped, all_hosts, items_length, entries_same, cancel}
 use Rattle.rx_activities.specs.declared.replies.Child.{Child}
-use Rattle.rx_activities.specs.declared.replies.Rest.{Rest}
+use Rattle.rx_activities.specs.declared.hand.Hand.{Hand}
 use Rattle.rx_activities.specs.Knowing.{IsOfRun, since, entries_seen}
 use Rattle.rx_activities.specs.Inside.Sending.{WasSent}
 use Rattle.rx_activities.proofs.Later.{entries_more}
@@ -47,7 +47,7 @@ entries_stamped : (c : List ℕ) (items : List EntryItem) → entries_at (stamp_
 entries_stamped c [] = refl
 entries_stamped c (x ∷ items) = ap (λ (l : List Entry). x.entry ∷ l) (entries_stamped c items)
 
-module _ (shape : Shape) (L : BookName LedgerFixed) (rest : Rest) (reply : Reply) (child : Option Child) (w : WasSent shape L rest reply child) where
+module _ (shape : Shape) (L : BookName LedgerFixed) (rest : Hand) (reply : Reply) (child : Option Child) (w : WasSent shape L rest reply child) where
   abbrev c : List ℕ
   c = (view_of w.hand.pass).number
 

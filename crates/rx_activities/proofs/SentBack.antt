@@ -48,7 +48,6 @@ use Rattle.rx_objects.specs.Ending.{entries_at}
 use Rattle.rx_objects.proofs.Staying.{item_by, all_hosts, cancel}
 use Rattle.rx_activities.specs.declared.hand.Hand.{Hand}
 use Rattle.rx_activities.specs.declared.replies.Child.{Child}
-use Rattle.rx_activities.specs.declared.replies.Rest.{Rest}
 use Rattle.rx_activities.specs.Knowing.{StandsSo, Knows, Serves, since, entries_seen, kinds_told}
 use Rattle.rx_activities.specs.Inside.Births.{IsWith}
 use Rattle.rx_activities.specs.Inside.Sending.{SuitsStep, WasSent}
@@ -77,7 +76,7 @@ held_serves T (Running who) h = absurd h
 held_serves T (Held who) h = (refl, h)
 held_serves T Host h = absurd h
 
-module _ (shape : Shape) (L : BookName LedgerFixed) (rest : Rest) (child : Option Child) (program : L.fixed.program.script ≡ shape) (place : PlaceId) (request : Request) (w : WasSent shape L rest (NotYet place request) child)
+module _ (shape : Shape) (L : BookName LedgerFixed) (rest : Hand) (child : Option Child) (program : L.fixed.program.script ≡ shape) (place : PlaceId) (request : Request) (w : WasSent shape L rest (NotYet place request) child)
     (h : Hand) (is : IsWith rest.control.value rest.place rest.pass rest.seat request.ticket request.batch h) where
   abbrev U : Given
   U = given L.fixed.setup

@@ -11,12 +11,12 @@ use Rattle.rx_ledger.specs.declared.asks.Reply.TheVariants.{Landed, RootDone}
 use Rattle.rx_ledger.specs.Kept.{Answered}
 use Rattle.rx_objects.specs.declared.ledger.LedgerFixed.{LedgerFixed}
 use Rattle.rx_activities.specs.declared.replies.Child.{Child}
-use Rattle.rx_activities.specs.declared.replies.Rest.{Rest}
+use Rattle.rx_activities.specs.declared.hand.Hand.{Hand}
 use Rattle.rx_activities.specs.Inside.Sending.{WasSent}
 use Rattle.rx_activities.proofs.GrantedReplies.{does_so}
 use Rattle.rx_activities.proofs.Sent.{before, behind, applied}
 
-module _ (shape : Shape) (L : BookName LedgerFixed) (rest : Rest) (child : Option Child) (program : L.fixed.program.script ≡ shape) (code : Block) (stands : Stands L.fixed.program.script code) where
+module _ (shape : Shape) (L : BookName LedgerFixed) (rest : Hand) (child : Option Child) (program : L.fixed.program.script ≡ shape) (code : Block) (stands : Stands L.fixed.program.script code) where
   pub never_lands : (ticket : Caller) → WasSent shape L rest (Landed ticket) child → ⊥
   never_lands ticket w =
       let a : Answered (before shape L rest (Landed ticket) child w) w.op.request (Landed ticket) (behind shape L rest (Landed ticket) child w) = applied shape L rest (Landed ticket) child w in

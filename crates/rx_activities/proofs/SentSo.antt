@@ -58,7 +58,6 @@ use Rattle.rx_objects.proofs.Fitting.{others_spare}
 use Rattle.rx_objects.proofs.Staying.{item_by, entries_same}
 use Rattle.rx_activities.specs.declared.hand.Hand.{Hand}
 use Rattle.rx_activities.specs.declared.replies.Child.{Child}
-use Rattle.rx_activities.specs.declared.replies.Rest.{Rest}
 use Rattle.rx_activities.specs.Knowing.{IsOfRun, IsSeatAt, StandsSo, Knows, entries_seen, tree_seen}
 use Rattle.rx_activities.specs.Inside.Births.{IsWith}
 use Rattle.rx_activities.specs.Inside.Sending.{SuitsStep, WasSent}
@@ -74,7 +73,7 @@ by_others (Running v) who e es h = subst (λ (x : Caller). Each (NotBy x.task) e
 by_others (Held v) who e es h = subst (λ (x : Caller). Each (NotBy x.task) es) (same_Some v who e) h
 by_others Host who e es h = absurd (let f : ⊥ = cc e in f)
 
-module _ (shape : Shape) (L : BookName LedgerFixed) (rest : Rest) (reply : Reply) (child : Option Child) (w : WasSent shape L rest reply child) where
+module _ (shape : Shape) (L : BookName LedgerFixed) (rest : Hand) (reply : Reply) (child : Option Child) (w : WasSent shape L rest reply child) where
   abbrev c : List ℕ
   c = (view_of w.hand.pass).number
 

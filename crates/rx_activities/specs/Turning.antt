@@ -5,9 +5,9 @@ use Rattle.rx_book.specs.Named.{BookName}
 use Rattle.rx_objects.specs.declared.ledger.LedgerFixed.{LedgerFixed}
 use Rattle.rx_activities.specs.declared.hand.Hand.{Hand}
 use Rattle.rx_activities.specs.declared.hand.Outcome.{Outcome}
-use Rattle.rx_activities.specs.declared.hand.Outcome.TheVariants.{Goes, Waits, Over, Failed}
-use Rattle.rx_activities.specs.declared.landing.Landing.{Landing}
-use Rattle.rx_activities.specs.declared.landing.Landing.TheVariants.{Landed, Lost, Failed as NoMemory}
+use Rattle.rx_activities.specs.declared.hand.Outcome.TheVariants.{Goes, Lost, Failed}
+use Rattle.rx_activities.specs.declared.hand.Answer.{Answer}
+use Rattle.rx_activities.specs.declared.hand.Answer.TheVariants.{Goes as GoesOn, Waits, Over, Failed as NoMemory}
 use Rattle.rx_activities.specs.Knowing.{IsOfRun, Knows}
 use Rattle.rx_activities.specs.Starting.{BeginsIf}
 
@@ -19,15 +19,15 @@ IsKnown p a = (L : BookName LedgerFixed) × (L.fixed.program ≡ p) × Knows L a
 abbrev pub StaysKnown : Checked → Hand → Hand → Type 0
 StaysKnown p a b = (L : BookName LedgerFixed) → L.fixed.program ≡ p → Knows L a → Knows L b
 
--- an activity that goes on, or waits, knows what it has to; the pass of one that is over is of the run
+-- an activity that goes on knows what it has to; the pass of one that is lost is of the run
 abbrev pub Leaves : BookName LedgerFixed → Outcome → Type 0
-Leaves L (Goes hand started) = Knows L hand × BeginsIf L started
-Leaves L (Waits hand) = Knows L hand
-Leaves L (Over pass) = IsOfRun L pass
+Leaves L (Goes hand) = Knows L hand
+Leaves L (Lost pass) = IsOfRun L pass
 Leaves L (Failed pass) = IsOfRun L pass
 
--- the same of an arrival
-abbrev pub Arrives : BookName LedgerFixed → Landing → Type 0
-Arrives L (Landed hand) = Knows L hand
-Arrives L (Lost pass) = IsOfRun L pass
-Arrives L (NoMemory pass) = IsOfRun L pass
+-- the same of the hand beside an answer of the ledger: one that goes on, or waits, knows what it has to
+abbrev pub LeavesHand : BookName LedgerFixed → Hand → Answer → Type 0
+LeavesHand L hand (GoesOn started) = Knows L hand × BeginsIf L started
+LeavesHand L hand Waits = Knows L hand
+LeavesHand L hand Over = IsOfRun L hand.pass
+LeavesHand L hand NoMemory = IsOfRun L hand.pass

@@ -5,23 +5,20 @@ ghost use Rattle.rx_check.specs.Checked.{Checked};
 ghost use Rattle.rx_plan.specs.declared.step.Next.{Next as Step};
 ghost use Rattle.rx_activities.specs.Knowing.{PlaceIs, IsNewSeat, Knows};
 ghost use Rattle.rx_activities.specs.Starting.{IsOpening, Begins};
-ghost use Rattle.rx_activities.specs.Turning.{Leaves};
+ghost use Rattle.rx_activities.specs.Turning.{Leaves, LeavesHand};
 ghost use Rattle.rx_activities.specs.Inside.Stepping.{IsNext};
-ghost use Rattle.rx_activities.specs.Inside.Sending.{IsCall};
 
-use crate::hand::{Hand, Journey, Outcome, Started};
-use crate::landing::Landing;
+use crate::hand::{Answer, Hand, Journey, Outcome, Started};
 use crate::naming::{LedgerPass, Naming};
-use rx_base::{Batch, PlaceId};
+use rx_base::PlaceId;
 use rx_book::{Book, Pass};
 use rx_check::{Program, checked};
 use rx_control::{Control, Next};
 use rx_objects::{LedgerObject, PlaceObject, Surroundings};
 use rx_parts_book::{EntryItem, EventItem};
-use rx_ticket::{AnyTicket, InTransit, Live, Ticket};
+use rx_ticket::{InTransit, Live, Ticket};
 use std::alloc::Global;
 use std::marker::{Model, PhantomData};
-use std::snapshot::Snapshot;
 use std::sync::Wait;
 
 /// An activity that is live. Contracts see its place. It may be moved to another thread. It has to be brought to its end, or given
@@ -114,18 +111,8 @@ impl<N: Naming> Activity<N> {
     {
         checked(p);
         rx_objects::objects_open();
-        let told = Snapshot::of(&seat);
         Activity {
-            hand: Hand {
-                control,
-                batch: Batch::open(alloc),
-                ticket: AnyTicket::Running(ticket),
-                place: PlaceId(0),
-                made: false,
-                pass,
-                seat,
-                told,
-            },
+            hand: Hand::fresh(alloc, control, ticket, PlaceId(0), pass, seat),
             polled: None,
             asked: None,
             of: PhantomData,
@@ -199,12 +186,12 @@ impl<N: Naming> Activity<N> {
         };
         match next {
             Next::Cell(op) => {
-                let outcome = hand.call_store(rt, alloc, p, ledger, place_book, op);
-                turn_of(outcome, seen, None)
+                turn_of_call(hand.call_store(rt, alloc, p, ledger, place_book, op))
             }
             other => {
-                let (outcome, asked) = hand.ask_now(rt, alloc, p, ledger, place_book, other);
-                turn_of(outcome, seen, Some(asked))
+                let asked = hand.look(ledger);
+                let answer = hand.call_ledger(rt, alloc, p, ledger, place_book, other);
+                turn_of_request(hand, answer, seen, asked)
             }
         }
     }
@@ -219,28 +206,6 @@ impl Hand {
         ensures next { (p : Checked) (next : Step) → IsNext p self.old next → IsNext p self.new next }
     {
         ledger.seen_len(&mut self.pass)
-    }
-
-    // Asks the ledger for what is next, and goes on by its answer. Beside it stands the number of entries of which it knew right before.
-    fn ask_now<S: Surroundings, R: Wait>(
-        mut self,
-        rt: &R,
-        alloc: Global,
-        p: &Program,
-        ledger: &Book<LedgerObject>,
-        place_book: &Book<PlaceObject<S>>,
-        next: Next,
-    ) -> (Outcome, u32)
-        requires program { ledger.now.fixed.program ≡ p.now }
-        requires place { PlaceIs ledger.now self.place place_book.now }
-        requires known { Knows ledger.now self }
-        requires next { IsNext p.now self next }
-        requires calls { IsCall next }
-        ensures { Leaves ledger.now result.0 }
-    {
-        let asked = self.look(ledger);
-        let outcome = self.call_ledger(rt, alloc, p, ledger, place_book, next);
-        (outcome, asked)
     }
 }
 
@@ -270,22 +235,36 @@ fn began_of<N: Naming>(started: Started) -> Began<N>
     }
 }
 
-// What a turn leaves, as it may be kept. One that waits asks again once the history has more entries than these, of which it knew
-// before its request: what others append after the answer is then not missed.
-fn turn_of<N: Naming>(outcome: Outcome, seen: u32, asked: Option<u32>) -> Turn<N>
+// What a store call leaves, as it may be kept.
+fn turn_of_call<N: Naming>(outcome: Outcome) -> Turn<N>
     requires { Leaves N.ledger outcome }
 {
     match outcome {
-        Outcome::Goes { hand, started } => Turn::Goes {
-            activity: activity_of(hand, None, asked),
+        Outcome::Goes { hand } => Turn::Goes {
+            activity: activity_of(hand, None, None),
+            began: None,
+        },
+        Outcome::Lost { pass } => Turn::Over(LedgerPass::of(pass)),
+        Outcome::Failed { pass } => Turn::Failed(LedgerPass::of(pass)),
+    }
+}
+
+// What a request leaves, as it may be kept. One that waits asks again once the history has more entries than these, of which it knew
+// before its request: what others append after the answer is then not missed.
+fn turn_of_request<N: Naming>(hand: Hand, answer: Answer, seen: u32, asked: u32) -> Turn<N>
+    requires { LeavesHand N.ledger hand answer }
+{
+    match answer {
+        Answer::Goes { started } => Turn::Goes {
+            activity: activity_of(hand, None, Some(asked)),
             began: match started {
                 Some(started) => Some(began_of(started)),
                 None => None,
             },
         },
-        Outcome::Waits { hand } => Turn::Waits(activity_of(hand, Some(seen), None)),
-        Outcome::Over { pass } => Turn::Over(LedgerPass::of(pass)),
-        Outcome::Failed { pass } => Turn::Failed(LedgerPass::of(pass)),
+        Answer::Waits => Turn::Waits(activity_of(hand, Some(seen), None)),
+        Answer::Over => Turn::Over(LedgerPass::of(hand.give_up())),
+        Answer::Failed => Turn::Failed(LedgerPass::of(hand.give_up())),
     }
 }
 
@@ -317,9 +296,9 @@ impl<N: Naming> Traveller<N> {
     {
         let Traveller { journey, of: _ } = self;
         match journey.land(rt, alloc, p, ledger, seat) {
-            Landing::Landed { hand } => Arrival::Landed(activity_of(hand, None, None)),
-            Landing::Lost { pass } => Arrival::Lost(LedgerPass::of(pass)),
-            Landing::Failed { pass } => Arrival::Failed(LedgerPass::of(pass)),
+            Outcome::Goes { hand } => Arrival::Landed(activity_of(hand, None, None)),
+            Outcome::Lost { pass } => Arrival::Lost(LedgerPass::of(pass)),
+            Outcome::Failed { pass } => Arrival::Failed(LedgerPass::of(pass)),
         }
     }
 }

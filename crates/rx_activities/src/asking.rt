@@ -8,14 +8,14 @@ ghost use Rattle.rx_plan.specs.Next.{next_of};
 ghost use Rattle.rx_book.specs.Passes.{view_of, word_of};
 ghost use Rattle.rx_objects.specs.Laws.{AsksLedger};
 ghost use Rattle.rx_activities.specs.Knowing.{Knows, PlaceIs};
-ghost use Rattle.rx_activities.specs.Turning.{Leaves};
+ghost use Rattle.rx_activities.specs.Turning.{LeavesHand};
 ghost use Rattle.rx_activities.specs.Inside.Stepping.{IsNext};
 ghost use Rattle.rx_activities.specs.Inside.Sending.{IsCall, SuitsStep, IsReady, target, ChildIs};
 ghost use Rattle.rx_activities.specs.Inside.Sending.{PassIsLeft, SeatIsLeft, NoteIs, MentionsAre, IsReplied};
 
-use crate::hand::{Hand, Outcome, failed};
-use crate::replies::{Child, Rest};
-use rx_base::{NoMemory, PlaceId};
+use crate::hand::{Answer, Hand};
+use crate::replies::Child;
+use rx_base::{Batch, NoMemory, PlaceId};
 use rx_book::{Book, Note, Pass};
 use rx_check::{Program, checked};
 use rx_control::{Control, Next, Want};
@@ -25,6 +25,7 @@ use rx_objects::{
     LedgerObject, LedgerOp, LedgerReply, Mentions, PlaceObject, Surroundings, ledger_op_fits,
 };
 use rx_parts_book::{EntryItem, EventItem};
+use rx_ticket::AnyTicket;
 use std::alloc::Global;
 use std::snapshot::Snapshot;
 use std::sync::Wait;
@@ -179,49 +180,48 @@ pub(crate) fn ask<R: Wait>(
 impl Hand {
     /// Asks the ledger for what is next, and goes on by its answer.
     pub(crate) fn call_ledger<S: Surroundings, R: Wait>(
-        self,
+        &mut self,
         rt: &R,
         alloc: Global,
         p: &Program,
         ledger: &Book<LedgerObject>,
         place_book: &Book<PlaceObject<S>>,
         next: Next,
-    ) -> Outcome
+    ) -> Answer
         requires program { ledger.now.fixed.program ≡ p.now }
-        requires place { PlaceIs ledger.now self.place place_book.now }
-        requires known { Knows ledger.now self }
-        requires next { IsNext p.now self next }
+        requires place { PlaceIs ledger.now self.old.place place_book.now }
+        requires known { Knows ledger.now self.old }
+        requires next { IsNext p.now self.old next }
         requires calls { IsCall next }
-        ensures { Leaves ledger.now result }
+        ensures { LeavesHand ledger.now self.new result }
     {
         checked(p);
-        let Hand {
-            mut control,
-            batch,
-            ticket,
-            place,
-            made,
-            mut pass,
-            mut seat,
-            told,
-        } = self;
-        let standing = control.as_ref();
+        let standing = self.control.as_ref();
         let Ok(path) = standing.path(alloc, p) else {
-            return failed(ticket, pass);
+            return Answer::Failed;
         };
         let prepared = child_of(
-            alloc, p, ledger, place_book, standing, place, next, &mut pass, &mut seat,
+            alloc,
+            p,
+            ledger,
+            place_book,
+            standing,
+            self.place,
+            next,
+            &mut self.pass,
+            &mut self.seat,
         );
         let Ok(child) = prepared else {
-            return failed(ticket, pass);
+            return Answer::Failed;
         };
-        let note = note_for(place_book, &mut seat, made);
-        let mentions = mentions_of(told, &pass, &seat, &child);
-        let ask_for = ask_of(alloc, control.as_mut(), next);
+        let note = note_for(place_book, &mut self.seat, self.made);
+        let told = std::mem::replace(&mut self.told, Snapshot::of(&self.seat));
+        let mentions = mentions_of(told, &self.pass, &self.seat, &child);
+        let ask_for = ask_of(alloc, self.control.as_mut(), next);
         let request = Request {
-            ticket,
+            ticket: std::mem::replace(&mut self.ticket, AnyTicket::Host),
             ask: ask_for,
-            batch,
+            batch: std::mem::replace(&mut self.batch, Batch::open(alloc)),
             path,
         };
         let op = LedgerOp {
@@ -229,13 +229,7 @@ impl Hand {
             note,
             mentions,
         };
-        let reply = ask(rt, p, ledger, &mut pass, op);
-        let rest = Rest {
-            control,
-            place,
-            pass,
-            seat,
-        };
-        rest.take(alloc, p, ledger, reply, child)
+        let reply = ask(rt, p, ledger, &mut self.pass, op);
+        self.take(alloc, p, ledger, reply, child)
     }
 }

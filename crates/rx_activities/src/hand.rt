@@ -1,11 +1,14 @@
 // What an activity holds, and what a turn leaves.
-ghost use Rattle.std.specs.Prelude.{◌≡◌};
+ghost use Rattle.std.specs.Prelude.{◌≡◌, []};
+ghost use Rattle.rx_ticket.specs.declared.tickets.AnyTicket.TheVariants.{Running};
+ghost use Rattle.rx_activities.specs.Inside.Births.{IsWith};
 
 use rx_base::{Batch, PlaceId};
 use rx_book::Pass;
 use rx_control::Control;
 use rx_parts_book::{EntryItem, EventItem};
-use rx_ticket::{AnyTicket, InTransit, Ticket};
+use rx_ticket::{AnyTicket, InTransit, Live, Ticket};
+use std::alloc::Global;
 use std::snapshot::Snapshot;
 
 /// What an activity at a place holds.
@@ -39,25 +42,26 @@ pub enum Started {
     Away(Journey),
 }
 
-/// What a turn leaves.
-pub enum Outcome {
+/// What a request to the ledger leaves, beside the hand.
+pub enum Answer {
     /// The activity goes on, and may have started another.
-    Goes {
-        hand: Hand,
-        started: Option<Started>,
-    },
+    Goes { started: Option<Started> },
     /// Its scope may not be released yet.
-    Waits {
-        hand: Hand,
-    },
+    Waits,
     /// It has ended, or was lost with its place.
-    Over {
-        pass: Pass<EntryItem>,
-    },
+    Over,
+    /// There was no memory.
+    Failed,
+}
+
+/// What a store call leaves, or an arrival.
+pub enum Outcome {
+    /// The activity goes on.
+    Goes { hand: Hand },
+    /// It was lost with its place.
+    Lost { pass: Pass<EntryItem> },
     /// There was no memory. Its ticket is spent.
-    Failed {
-        pass: Pass<EntryItem>,
-    },
+    Failed { pass: Pass<EntryItem> },
 }
 
 /// Spends a ticket of which nothing more is asked.
@@ -73,7 +77,7 @@ pub(crate) fn spend(ticket: AnyTicket) {
     }
 }
 
-/// What a turn leaves for which there was no memory: the ticket is spent, and the pass is kept.
+/// What a store call leaves for which there was no memory: the ticket is spent, and the pass is kept.
 pub(crate) fn failed(ticket: AnyTicket, pass: Pass<EntryItem>) -> Outcome
     ensures { result ≡ Outcome.Failed pass }
 {
@@ -82,6 +86,30 @@ pub(crate) fn failed(ticket: AnyTicket, pass: Pass<EntryItem>) -> Outcome
 }
 
 impl Hand {
+    /// An activity with this ticket, which has begun no statement, and whose entries name all its events.
+    pub(crate) fn fresh(
+        alloc: Global,
+        control: Box<Control>,
+        ticket: Ticket<Live>,
+        place: PlaceId,
+        pass: Pass<EntryItem>,
+        seat: Pass<EventItem>,
+    ) -> Hand
+        ensures { IsWith control.value place pass seat (Running ticket) [] result }
+    {
+        let told = Snapshot::of(&seat);
+        Hand {
+            control,
+            batch: Batch::open(alloc),
+            ticket: AnyTicket::Running(ticket),
+            place,
+            made: false,
+            pass,
+            seat,
+            told,
+        }
+    }
+
     /// Gives the activity up for lack of memory, or since its place has died, and keeps what it has seen of the ledger.
     pub(crate) fn give_up(self) -> Pass<EntryItem>
         ensures { result ≡ self.pass }

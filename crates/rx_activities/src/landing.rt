@@ -3,11 +3,10 @@ ghost use Rattle.std.specs.Prelude.{◌≡◌, None};
 ghost use Rattle.rx_finish.specs.Calls.{landing};
 ghost use Rattle.rx_activities.specs.Knowing.{IsNewSeat};
 ghost use Rattle.rx_activities.specs.Starting.{Comes};
-ghost use Rattle.rx_activities.specs.Turning.{Arrives};
+ghost use Rattle.rx_activities.specs.Turning.{Leaves};
 
 use crate::asking::ask;
-use crate::hand::{Hand, Journey, spend};
-use crate::replies::Rest;
+use crate::hand::{Hand, Journey, Outcome, failed};
 use rx_base::{Batch, PlaceId};
 use rx_book::{Book, Pass};
 use rx_check::Program;
@@ -32,15 +31,6 @@ fn target(place: Where) -> PlaceId
     }
 }
 
-/// What an arrival leaves.
-pub enum Landing {
-    Landed { hand: Hand },
-    /// The task was lost with its place.
-    Lost { pass: Pass<EntryItem> },
-    /// There was no memory. The ticket is spent.
-    Failed { pass: Pass<EntryItem> },
-}
-
 impl Journey {
     /// The place for which the task is on its way.
     pub(crate) fn target(&self) -> PlaceId
@@ -57,11 +47,11 @@ impl Journey {
         p: &Program,
         ledger: &Book<LedgerObject>,
         seat: Pass<EventItem>,
-    ) -> Landing
+    ) -> Outcome
         requires program { ledger.now.fixed.program ≡ p.now }
         requires comes { Comes ledger.now self }
         requires seat { IsNewSeat ledger.now (landing self.ticket.place) seat }
-        ensures { Arrives ledger.now result }
+        ensures { Leaves ledger.now result }
     {
         let place = self.target();
         let Journey {
@@ -87,22 +77,11 @@ impl Journey {
             mentions,
         };
         match ask(rt, p, ledger, &mut pass, op) {
-            Reply::Landed { ticket } => {
-                let rest = Rest {
-                    control,
-                    place,
-                    pass,
-                    seat,
-                };
-                Landing::Landed {
-                    hand: rest.with(AnyTicket::Running(ticket), Batch::open(alloc)),
-                }
-            }
-            Reply::Lost { place: _, at: _ } => Landing::Lost { pass },
-            Reply::NoMemory { request } => {
-                spend(request.into_ticket());
-                Landing::Failed { pass }
-            }
+            Reply::Landed { ticket } => Outcome::Goes {
+                hand: Hand::fresh(alloc, control, ticket, place, pass, seat),
+            },
+            Reply::Lost { place: _, at: _ } => Outcome::Lost { pass },
+            Reply::NoMemory { request } => failed(request.into_ticket(), pass),
             _ => unreachable!(),
         }
     }

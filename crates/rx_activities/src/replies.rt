@@ -2,11 +2,11 @@
 ghost use Rattle.std.specs.Prelude.{◌≡◌, None, Some};
 ghost use Rattle.rx_book.specs.Passes.{view_of, word_of};
 ghost use Rattle.rx_activities.specs.Starting.{BeginsIf};
-ghost use Rattle.rx_activities.specs.Turning.{Leaves};
+ghost use Rattle.rx_activities.specs.Turning.{LeavesHand};
 ghost use Rattle.rx_activities.specs.Inside.Sending.{WasSent, WasGranted, WasCounted};
 ghost use Rattle.rx_activities.specs.Inside.Births.{IsStarted, IsAtStart, StartsWith, IsWith};
 
-use crate::hand::{Hand, Journey, Outcome, Started, failed, spend};
+use crate::hand::{Answer, Hand, Journey, Started, spend};
 use rx_base::{Batch, Faults, PlaceId};
 use rx_book::{Book, Pass};
 use rx_check::{Program, checked};
@@ -26,15 +26,6 @@ pub struct Child {
     pub seat: Option<Pass<EventItem>>,
 }
 
-/// What an activity holds beside its ticket and its batch.
-#[derive(Drop)]
-pub struct Rest {
-    pub control: Box<Control>,
-    pub place: PlaceId,
-    pub pass: Pass<EntryItem>,
-    pub seat: Pass<EventItem>,
-}
-
 // Spends a ticket, where there is one.
 fn spend_if(ticket: Option<AnyTicket>) {
     match ticket {
@@ -43,33 +34,20 @@ fn spend_if(ticket: Option<AnyTicket>) {
     }
 }
 
-impl Rest {
-    // The activity with its ticket and what it has begun, where its entries name all its events.
-    pub(crate) fn with(self, ticket: AnyTicket, batch: Batch) -> Hand
-        ensures { IsWith self.control.value self.place self.pass self.seat ticket batch result }
+impl Hand {
+    // Keeps its ticket and what it has begun, where its entries name all its events.
+    fn keep(&mut self, ticket: AnyTicket, batch: Batch)
+        ensures { IsWith self.old.control.value self.old.place self.old.pass self.old.seat ticket batch self.new }
     {
-        let Rest {
-            control,
-            place,
-            pass,
-            seat,
-        } = self;
-        let told = Snapshot::of(&seat);
-        Hand {
-            control,
-            batch,
-            ticket,
-            place,
-            made: false,
-            pass,
-            seat,
-            told,
-        }
+        spend(std::mem::replace(&mut self.ticket, ticket));
+        self.batch = batch;
+        self.made = false;
+        self.told = Snapshot::of(&self.seat);
     }
 
     // Goes on behind a granted request, which raises these faults, with the ticket of the task that it started.
     fn go_on(
-        mut self,
+        &mut self,
         alloc: Global,
         p: &Program,
         ledger: &Book<LedgerObject>,
@@ -77,57 +55,55 @@ impl Rest {
         faults: Faults,
         started: Option<AnyTicket>,
         child: Option<Child>,
-    ) -> Outcome
+    ) -> Answer
         requires program { ledger.now.fixed.program ≡ p.now }
-        requires granted { WasGranted p.now.script ledger.now self ticket faults started child }
-        ensures { Leaves ledger.now result }
+        requires granted { WasGranted p.now.script ledger.now self.old ticket faults started child }
+        ensures { LeavesHand ledger.now self.new result }
     {
         if self.control.as_mut().resume(p, faults).is_err() {
+            spend(ticket);
             spend_if(started);
-            return failed(ticket, self.pass);
+            return Answer::Failed;
         }
         let started = start(alloc, ledger, self.place, &mut self.pass, started, child);
-        Outcome::Goes {
-            hand: self.with(ticket, Batch::open(alloc)),
-            started,
-        }
+        self.keep(ticket, Batch::open(alloc));
+        Answer::Goes { started }
     }
 
     // Goes on behind a census.
     fn count(
-        mut self,
+        &mut self,
         alloc: Global,
         p: &Program,
         ledger: &Book<LedgerObject>,
         ticket: AnyTicket,
         places: u8,
-    ) -> Outcome
+    ) -> Answer
         requires program { ledger.now.fixed.program ≡ p.now }
-        requires counted { WasCounted p.now.script ledger.now self ticket places }
-        ensures { Leaves ledger.now result }
+        requires counted { WasCounted p.now.script ledger.now self.old ticket places }
+        ensures { LeavesHand ledger.now self.new result }
     {
         let _ = ledger;
         if self.control.as_mut().census_done(p, places).is_err() {
-            return failed(ticket, self.pass);
+            spend(ticket);
+            return Answer::Failed;
         }
-        Outcome::Goes {
-            hand: self.with(ticket, Batch::open(alloc)),
-            started: None,
-        }
+        self.keep(ticket, Batch::open(alloc));
+        Answer::Goes { started: None }
     }
 
     /// Goes on by the ledger's answer.
     pub(crate) fn take(
-        self,
+        &mut self,
         alloc: Global,
         p: &Program,
         ledger: &Book<LedgerObject>,
         reply: Reply,
         child: Option<Child>,
-    ) -> Outcome
+    ) -> Answer
         requires program { ledger.now.fixed.program ≡ p.now }
-        requires sent { WasSent p.now.script ledger.now self reply child }
-        ensures { Leaves ledger.now result }
+        requires sent { WasSent p.now.script ledger.now self.old reply child }
+        ensures { LeavesHand ledger.now self.new result }
     {
         checked(p);
         let none = Faults::open(alloc);
@@ -184,7 +160,10 @@ impl Rest {
                 let ticket = AnyTicket::Running(ticket);
                 match faults_raised(alloc, outcome.lost, &outcome.thrown) {
                     Ok(faults) => self.go_on(alloc, p, ledger, ticket, faults, None, None),
-                    Err(_) => failed(ticket, self.pass),
+                    Err(_) => {
+                        spend(ticket);
+                        Answer::Failed
+                    }
                 }
             }
             Reply::Census { ticket, places } => {
@@ -197,13 +176,15 @@ impl Rest {
                     batch,
                     path: _,
                 } = request;
-                Outcome::Waits {
-                    hand: self.with(ticket, batch),
-                }
+                self.keep(ticket, batch);
+                Answer::Waits
             }
-            Reply::Ended => Outcome::Over { pass: self.pass },
-            Reply::Lost { place: _, at: _ } => Outcome::Over { pass: self.pass },
-            Reply::NoMemory { request } => failed(request.into_ticket(), self.pass),
+            Reply::Ended => Answer::Over,
+            Reply::Lost { place: _, at: _ } => Answer::Over,
+            Reply::NoMemory { request } => {
+                spend(request.into_ticket());
+                Answer::Failed
+            }
             Reply::Landed { ticket } => {
                 ticket.spent();
                 unreachable!()
@@ -264,13 +245,7 @@ fn begin(
             pass,
         }),
         (AnyTicket::Running(ticket), Some(seat)) => {
-            let rest = Rest {
-                control,
-                place,
-                pass,
-                seat,
-            };
-            Started::Here(rest.with(AnyTicket::Running(ticket), Batch::open(alloc)))
+            Started::Here(Hand::fresh(alloc, control, ticket, place, pass, seat))
         }
         _ => unreachable!(),
     }

@@ -89,7 +89,7 @@ fn parts_of(reply: PlaceReply) -> (Pass<EntryItem>, Option<Result<Option<Value>,
 }
 
 impl Hand {
-    /// Makes the store call that is next. An activity whose place has died makes none, and is over.
+    /// Makes the store call that is next. An activity whose place has died makes none, and is lost.
     pub(crate) fn call_store<S: Surroundings, R: Wait>(
         self,
         rt: &R,
@@ -120,7 +120,7 @@ impl Hand {
         } = self;
         let Some(stamp) = stamp_for(ledger, &mut pass, place) else {
             ticket.lost(place, 0);
-            return Outcome::Over { pass };
+            return Outcome::Lost { pass };
         };
         let Ok(path) = begin_call(alloc, p, control.as_ref(), &mut batch) else {
             return failed(ticket, pass);
@@ -138,19 +138,17 @@ impl Hand {
         if control.as_mut().cell_done(alloc, p, answer).is_err() {
             return failed(ticket, pass);
         }
-        let hand = Hand {
-            control,
-            batch,
-            ticket,
-            place,
-            made: true,
-            pass,
-            seat,
-            told,
-        };
         Outcome::Goes {
-            hand,
-            started: None,
+            hand: Hand {
+                control,
+                batch,
+                ticket,
+                place,
+                made: true,
+                pass,
+                seat,
+                told,
+            },
         }
     }
 }

@@ -36,7 +36,6 @@ use Rattle.rx_objects.specs.Ledger.{LedgerDoes, LedgerIsLegal}
 use Rattle.rx_objects.specs.Place.{shown}
 use Rattle.rx_activities.specs.declared.hand.Hand.{Hand}
 use Rattle.rx_activities.specs.declared.replies.Child.{Child}
-use Rattle.rx_activities.specs.declared.replies.Rest.{Rest}
 use Rattle.rx_activities.specs.Knowing.{Knows}
 use Rattle.rx_activities.specs.Inside.Births.{IsStarted, IsWith}
 
@@ -139,7 +138,7 @@ pub record IsReady (shape : Shape) (next : Next) (old new : Control) : Type 0 wh
   pub same : (next ≡ BookStep Wait → ⊥) → (next ≡ EndStep → ⊥) → new ≡ old
 
 -- what was sent for an activity a which knew what it has to, and what it holds with the answer
-pub record WasSent (shape : Shape) (L : BookName LedgerFixed) (rest : Rest) (reply : Reply) (child : Option Child) : Type 0 where
+pub record WasSent (shape : Shape) (L : BookName LedgerFixed) (rest : Hand) (reply : Reply) (child : Option Child) : Type 0 where
   pub hand : Hand
   pub knows : Knows L hand
   pub next : Next
@@ -161,7 +160,7 @@ pub record WasSent (shape : Shape) (L : BookName LedgerFixed) (rest : Rest) (rep
   pub replied : IsReplied L.fixed (view_of sent) op reply (view_of rest.pass)
 
 -- the request was granted, and raises these faults: once the control has gone on, the activity knows what it has to
-pub record WasGranted (shape : Shape) (L : BookName LedgerFixed) (rest : Rest) (ticket : AnyTicket) (faults : List Fault)
+pub record WasGranted (shape : Shape) (L : BookName LedgerFixed) (rest : Hand) (ticket : AnyTicket) (faults : List Fault)
     (started : Option AnyTicket) (child : Option Child) : Type 0 where
   pub term : Term
   pub stands : StandsFor shape rest.control.value term
@@ -172,7 +171,7 @@ pub record WasGranted (shape : Shape) (L : BookName LedgerFixed) (rest : Rest) (
   pub begins : IsStarted L rest.place rest.pass started child
 
 -- the census was granted, and tells so many places
-pub record WasCounted (shape : Shape) (L : BookName LedgerFixed) (rest : Rest) (ticket : AnyTicket) (places : ℕ) : Type 0 where
+pub record WasCounted (shape : Shape) (L : BookName LedgerFixed) (rest : Hand) (ticket : AnyTicket) (places : ℕ) : Type 0 where
   pub term : Term
   pub here : PlaceId
   pub stands : StandsFor shape rest.control.value term

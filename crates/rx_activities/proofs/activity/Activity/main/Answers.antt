@@ -1,4 +1,4 @@
-use Rattle.std.proofs.Common.{sym, subst, refl}
+use Rattle.std.proofs.Common.{sym, subst}
 use Rattle.rx_check.specs.Checked.{Checked}
 use Rattle.rx_nodes.specs.Shape.{Stands}
 use Rattle.rx_activities.proofs.BeganMain.{main_knows}
@@ -8,5 +8,4 @@ pub invariant_of-result : goal.invariant_of-result
 invariant_of-result g c =
     let b = c.checked.ensures in
     main_knows g.N.Naming.ledger c.args.control.value c.args.ticket c.args.pass c.args.seat c.requires.opening b.0
-    (subst (λ (q : Checked). Stands q.script b.0) (sym c.requires.program) b.1) b.2 _
-    (record { control = refl; place_is = refl; word = refl; view = refl; seat_is = refl; ticket_is = refl; batch_is = c.open.ensures; told = c.of-told.ensures; unmade = refl })
+    (subst (λ (q : Checked). Stands q.script b.0) (sym c.requires.program) b.1) b.2 c.fresh.result c.fresh.ensures

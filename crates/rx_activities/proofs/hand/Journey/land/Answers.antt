@@ -1,7 +1,6 @@
-use Rattle.std.proofs.Common.{sym, ◌∙◌, subst, refl, List, ℕ, None}
+use Rattle.std.proofs.Common.{sym, ◌∙◌, subst, refl, [], None}
 use Rattle.rx_base.specs.declared.ids.PlaceId.{PlaceId}
 use Rattle.rx_check.specs.Checked.{Checked}
-use Rattle.rx_finish.specs.Calls.{landing}
 use Rattle.rx_history.specs.declared.asks.Ask.TheVariants.{Arrive}
 use Rattle.rx_nodes.specs.Shape.{Stands}
 use Rattle.rx_objects.specs.declared.ledger.LedgerOp.{LedgerOp}
@@ -30,6 +29,5 @@ returns-in-Landed g c =
     } in
     landed_knows c.args.ledger.now c.args.self c.requires.comes c.args.seat c.requires.seat op
     (λ i. record { ticket = Moving c.args.self.ticket; ask = Arrive; batch = c.open.ensures i; path = None }) (c.of.ensures ∙ sym c.of-2.ensures) c.of-4.ensures c.in-Landed.ticket c.ask.new.pass c.in-Landed.ensures.own
-    c.in-Landed.ensures.replied c.with.result
-    (subst (λ (b : List (List ℕ)). IsWith c.args.self.control.value (landing c.args.self.ticket.place) c.ask.new.pass c.args.seat (Running c.in-Landed.ticket) b c.with.result) c.open-in-Landed.ensures
-    (subst (λ (p : PlaceId). IsWith c.args.self.control.value p c.ask.new.pass c.args.seat (Running c.in-Landed.ticket) c.open-in-Landed.result c.with.result) c.target-place.ensures c.with.ensures))
+    c.in-Landed.ensures.replied c.fresh.result
+    (subst (λ (p : PlaceId). IsWith c.args.self.control.value p c.ask.new.pass c.args.seat (Running c.in-Landed.ticket) [] c.fresh.result) c.target-place.ensures c.fresh.ensures)

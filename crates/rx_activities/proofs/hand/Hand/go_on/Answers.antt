@@ -3,7 +3,7 @@ use Rattle.rx_rules.specs.Terms.{Term, granted}
 use Rattle.rx_control.specs.declared.control.Control.{Control}
 use Rattle.rx_control.specs.Stands.{StandsFor}
 use Rattle.rx_ledger.proofs.Keepers.{ok_holds}
-use Rattle.rx_activities.proofs.replies.Rest.go_on.Goals as goal
+use Rattle.rx_activities.proofs.hand.Hand.go_on.Goals as goal
 
 pub resume-requires : goal.resume-requires
 resume-requires c =
@@ -13,8 +13,8 @@ resume-requires c =
 pub returns : goal.returns
 returns c =
     let fine = sym c.if-is_err.ensures.value in
-    let w = c.with.ensures in (
-      c.requires.granted.goes c.resume.new.self c.with.result (subst (λ (x : Control). (t : Term) → StandsFor c.args.p.now.script x t → StandsFor c.args.p.now.script c.resume.new.self (granted c.args.faults t)) c.as_mut.ensures.value (ok_holds c.resume.result _ fine c.resume.ensures.ok))
+    let w = c.keep.ensures in (
+      c.requires.granted.goes c.resume.new.self c.keep.new.self (subst (λ (x : Control). (t : Term) → StandsFor c.args.p.now.script x t → StandsFor c.args.p.now.script c.resume.new.self (granted c.args.faults t)) c.as_mut.ensures.value (ok_holds c.resume.result _ fine c.resume.ensures.ok))
           (ok_holds c.resume.result _ fine c.resume.ensures.vars ∙ ap (λ (x : Control). x.vars) c.as_mut.ensures.value)
           (record {
             control = w.control;

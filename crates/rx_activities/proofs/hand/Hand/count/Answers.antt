@@ -9,7 +9,7 @@ use Rattle.rx_plan.specs.declared.step.Want.TheVariants.{Census as WantCensus}
 use Rattle.rx_plan.specs.Next.{next_of}
 use Rattle.rx_control.specs.Stands.{StandsFor}
 use Rattle.rx_ledger.proofs.Keepers.{ok_holds}
-use Rattle.rx_activities.proofs.replies.Rest.count.Goals as goal
+use Rattle.rx_activities.proofs.hand.Hand.count.Goals as goal
 
 pub census_done-requires-clause-asks : goal.census_done-requires-clause-asks
 census_done-requires-clause-asks c =
@@ -27,8 +27,8 @@ census_done-requires-clause-known c = subst (λ (x : Control). x.vars.places ≤
 pub returns : goal.returns
 returns c =
     let fine = sym c.if-is_err.ensures.value in
-    let w = c.with.ensures in (
-      c.requires.counted.goes c.census_done.new.self c.with.result (subst (λ (x : Control). (t : Term) (here : PlaceId) → StandsFor c.args.p.now.script x t → next_of (does x.vars here.0 t) ≡ BookStep WantCensus → StandsFor c.args.p.now.script c.census_done.new.self (granted [] t)) c.as_mut.ensures.value
+    let w = c.keep.ensures in (
+      c.requires.counted.goes c.census_done.new.self c.keep.new.self (subst (λ (x : Control). (t : Term) (here : PlaceId) → StandsFor c.args.p.now.script x t → next_of (does x.vars here.0 t) ≡ BookStep WantCensus → StandsFor c.args.p.now.script c.census_done.new.self (granted [] t)) c.as_mut.ensures.value
           (ok_holds c.census_done.result _ fine c.census_done.ensures.stands))
           (subst (λ (x : Control). (t : Term) (here : PlaceId) (path : List ℕ) → StandsFor c.args.p.now.script x t → next_of (does x.vars here.0 t) ≡ BookStep WantCensus → c.census_done.new.self.vars ≡ vars_told (does x.vars here.0 t) (CensusAct c.args.places path) x.vars) c.as_mut.ensures.value
           (ok_holds c.census_done.result _ fine c.census_done.ensures.vars))

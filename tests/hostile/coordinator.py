@@ -1,10 +1,9 @@
 """The coordinator: random sessions and random lines beside the model, noise, cut lines, refused memory, failing calls, closed pipes.
 
-Each line gets the model's answer; where memory is refused, `no memory` for a request that the model would allow, or the status 8; where a
+Each line gets the model's answer; where memory is refused, `no memory` in its place, or the status 8 before anything is written; where a
 write fails, status 7 and a front of the right text.
 """
 
-import copy
 import errno
 import random
 import subprocess
@@ -116,41 +115,37 @@ def noise(program, tally, seed):
 
 # Where memory is refused.
 
-def refused_complaint(places, text, answer):
-    """None where each request has the model's answer, or `no memory` where the model allows it, or the session ends with status 8 and
-    a front of such answers. Each release that waited is told once, behind a later reply if memory ran out for it."""
-    model, late = Model(places), []
+def refused_complaint(places, text, answer, alone):
+    """None where each line has the model's answer, or `no memory`, or where nothing is written and the status is 8. Each release that
+    waited is told once, behind a later reply if memory ran out for it; and not at all where it is refused to the end."""
+    if (answer.status, answer.out, answer.err) == (8, b"", b"no memory\n"):
+        return None
     got = answer.out.decode("latin-1").split("\n")
-    whole = answer.status == 0 and not answer.err and got.pop() == ""
-    if not whole and (answer.status, answer.err) != (8, b"no memory\n"):
+    if (answer.status, answer.err) != (0, b"") or got.pop() != "":
         return short(answer)
-    if not got or not whole and not got[-1]:
-        return None if not whole else short(answer)
-    if got.pop(0) != model.greeting():
+    model, late = Model(places), []
+    if not got or got.pop(0) != model.greeting():
         return short(answer)
     for line in text.decode("latin-1").split("\n")[:-1]:
         if not got:
-            return None if not whole else "the answer to %r is missing" % line
+            return "the answer to %r is missing" % line
         reply = got.pop(0)
-        if reply == "no memory":
-            if copy.deepcopy(model).ask(line)[0] in ("bad", "malformed"):
-                return "no memory for %r, which is not allowed" % line
-        else:
+        if reply != "no memory":
             first, *freed = model.ask(line)
             late += freed
-            if reply != first and (whole or got or not first.startswith(reply)):
+            if reply != first:
                 return "%r in place of %r" % (reply, first)
         while got and got[0].startswith("freed"):
             if got[0] not in late:
-                return None if not whole and len(got) == 1 else "%r is told, and not right" % got[0]
+                return "%r is told, and not right" % got[0]
             late.remove(got.pop(0))
-    return None if not got and not (whole and late) else "%r is not told, %r is too much" % (late, got)
+    return "%r is not told, %r is too much" % (late, got) if got or late and alone else None
 
 
 def refused(program, places, text, refusal):
     """What is wrong where this refusal comes (ALLOC or ALLOC_FROM, and a number)."""
     answer, counts = program.counted(["--places", str(places)], text, **refusal)
-    wrong = refused_complaint(places, text, answer)
+    wrong = refused_complaint(places, text, answer, "alloc" in refusal)
     if wrong is None and (counts is None or counts[5] != 0):
         return "%s blocks are not given back" % (counts and counts[5])
     return wrong

@@ -1,2 +1,5 @@
-pub mod Still
 pub mod Faults
+pub mod Telling
+pub mod Cutting
+pub mod Going
+pub mod Serving

@@ -1,3 +1,5 @@
 pub mod Words
 pub mod Lines
 pub mod Replies
+pub mod Session
+pub mod Inside

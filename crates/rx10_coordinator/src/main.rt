@@ -3,7 +3,10 @@
 #![tactic(auto)]
 
 mod command;
+mod desk;
 mod lines;
+mod output;
+mod received;
 mod replies;
 mod serve;
 mod status;

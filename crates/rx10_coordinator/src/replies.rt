@@ -1,211 +1,197 @@
 // Replies as lines.
-ghost use Rattle.std.specs.Prelude.{◌≡◌, ◌<◌, ◌++◌, ◌∷◌, [], filter, OnOk, codes};
+ghost use Rattle.std.specs.Prelude.{◌<◌, ◌++◌, ◌∷◌, [], filter, codes};
 ghost use Rattle.std.specs.List.{flat_map};
 ghost use Rattle.rx_base.specs.Sets.{has_bit, members};
 ghost use Rattle.rx_trace.specs.Fields.{natural_field};
 ghost use Rattle.rx_trace.specs.Parts.{part_text, lost_part, masked_part};
 ghost use Rattle.rx10_coordinator.specs.Replies.{numbered, fault_text, outcome_text, lost_text, born_text, answer_text, answer_line};
 ghost use Rattle.rx10_coordinator.specs.Replies.{waiter_text, freed_line};
+ghost use Rattle.rx10_coordinator.specs.Inside.Telling.{Puts};
 
-use rx_base::{Fault, Faults, NoMemory, PlaceId, PlaceSet};
+use crate::output::Pending;
+use rx_base::{Fault, Faults, PlaceId, PlaceSet, Sink};
 use rx_coordinator::{Answer, Waiter};
 use rx_finish::{Born, Outcome};
-use rx_text::{put_natural, put_num};
 
-/// Appends the line of an answer.
-#[tactic(auto, using(std::proofs::Common::append_assoc))]
-pub(crate) fn put_answer(out: &mut Vec<u8>, answer: &Answer) -> Result<(), NoMemory>
-    ensures { OnOk result (out.new.items ≡ out.old.items ++ answer_line answer.now) }
+/// Tells the line of an answer.
+#[tactic(auto, using(crate::proofs::Telling::puts_then))]
+pub(crate) fn put_answer<K: Sink>(pending: &mut Pending, out: &mut K, answer: &Answer)
+    ensures { Puts K.written K.faults out.old pending.old out.new pending.new (answer_line answer.now) }
 {
-    put_answer_text(out, answer)?;
-    out.push(b'\n')?;
-    Ok(())
+    put_answer_text(pending, out, answer);
+    pending.put(out, b"\n");
 }
 
-// Appends what stands in that line.
-fn put_answer_text(out: &mut Vec<u8>, answer: &Answer) -> Result<(), NoMemory>
-    ensures { OnOk result (out.new.items ≡ out.old.items ++ answer_text answer.now) }
+// Tells what stands in that line.
+fn put_answer_text<K: Sink>(pending: &mut Pending, out: &mut K, answer: &Answer)
+    ensures { Puts K.written K.faults out.old pending.old out.new pending.new (answer_text answer.now) }
 {
     match answer {
-        Answer::Bad => put_text(out, b"bad"),
-        Answer::Full => put_text(out, b"full"),
-        Answer::NoMemory => put_text(out, b"no memory"),
-        Answer::NotYet { .. } => put_text(out, b"parked"),
-        Answer::Opened { scope } => put_numbered(out, b"opened s", scope.0),
-        Answer::Called { born } => put_born(out, b"called", *born),
-        Answer::Spawned { born } => put_born(out, b"spawned", *born),
-        Answer::Sent { born } => put_born(out, b"sent", *born),
-        Answer::Landed => put_text(out, b"landed"),
-        Answer::Waits => put_text(out, b"waits"),
-        Answer::Released { outcome } => put_released(out, outcome),
-        Answer::Ended => put_text(out, b"ended"),
-        Answer::Died => put_text(out, b"died"),
-        Answer::Joined { place } => put_numbered(out, b"joined ", u32::from(place.0)),
-        Answer::RootDone { outcome } => put_released(out, outcome),
+        Answer::Bad => pending.put(out, b"bad"),
+        Answer::Full => pending.put(out, b"full"),
+        Answer::NoMemory => pending.put(out, b"no memory"),
+        Answer::NotYet { .. } => pending.put(out, b"parked"),
+        Answer::Opened { scope } => put_numbered(pending, out, b"opened s", scope.0),
+        Answer::Called { born } => put_born(pending, out, b"called", *born),
+        Answer::Spawned { born } => put_born(pending, out, b"spawned", *born),
+        Answer::Sent { born } => put_born(pending, out, b"sent", *born),
+        Answer::Landed => pending.put(out, b"landed"),
+        Answer::Waits => pending.put(out, b"waits"),
+        Answer::Released { outcome } => put_released(pending, out, outcome),
+        Answer::Ended => pending.put(out, b"ended"),
+        Answer::Died => pending.put(out, b"died"),
+        Answer::Joined { place } => put_numbered(pending, out, b"joined ", u32::from(place.0)),
+        Answer::RootDone { outcome } => put_released(pending, out, outcome),
     }
 }
 
-/// Appends the line of a release that has waited.
-#[tactic(auto, using(std::proofs::Common::append_assoc))]
-pub(crate) fn put_freed(
-    out: &mut Vec<u8>,
+/// Tells the line of a release that has waited.
+#[tactic(auto, using(crate::proofs::Telling::puts_then))]
+pub(crate) fn put_freed<K: Sink>(
+    pending: &mut Pending,
+    out: &mut K,
     waiter: Waiter,
     outcome: &Outcome,
-) -> Result<(), NoMemory>
-    ensures { OnOk result (out.new.items ≡ out.old.items ++ freed_line waiter outcome.now) }
+)
+    ensures { Puts K.written K.faults out.old pending.old out.new pending.new (freed_line waiter outcome.now) }
 {
-    put_waiter(out, waiter)?;
-    put_outcome(out, outcome)?;
-    out.push(b'\n')?;
-    Ok(())
+    put_waiter(pending, out, waiter);
+    put_outcome(pending, out, outcome);
+    pending.put(out, b"\n");
 }
 
-// Appends who waited.
-fn put_waiter(out: &mut Vec<u8>, waiter: Waiter) -> Result<(), NoMemory>
-    ensures { OnOk result (out.new.items ≡ out.old.items ++ waiter_text waiter) }
+// Tells who waited.
+fn put_waiter<K: Sink>(pending: &mut Pending, out: &mut K, waiter: Waiter)
+    ensures { Puts K.written K.faults out.old pending.old out.new pending.new (waiter_text waiter) }
 {
     match waiter {
-        Waiter::Task(task) => put_numbered(out, b"freed t", task.0),
-        Waiter::Root => put_text(out, b"freed root"),
+        Waiter::Task(task) => put_numbered(pending, out, b"freed t", task.0),
+        Waiter::Root => pending.put(out, b"freed root"),
     }
 }
 
-// Appends a release.
-#[tactic(auto, using(std::proofs::Common::append_assoc))]
-fn put_released(out: &mut Vec<u8>, outcome: &Outcome) -> Result<(), NoMemory>
-    ensures { OnOk result (out.new.items ≡ out.old.items ++ codes "released" ++ outcome_text outcome.now) }
+// Tells a release.
+#[tactic(auto, using(crate::proofs::Telling::puts_then))]
+fn put_released<K: Sink>(pending: &mut Pending, out: &mut K, outcome: &Outcome)
+    ensures { Puts K.written K.faults out.old pending.old out.new pending.new (codes "released" ++ outcome_text outcome.now) }
 {
-    put_text(out, b"released")?;
-    put_outcome(out, outcome)
+    pending.put(out, b"released");
+    put_outcome(pending, out, outcome)
 }
 
-// Appends a task that was started, after the word for how.
-#[tactic(auto, using(std::proofs::Common::append_assoc))]
-fn put_born(out: &mut Vec<u8>, word: &[u8], born: Born) -> Result<(), NoMemory>
-    ensures { OnOk result (out.new.items ≡ out.old.items ++ born_text word.now born) }
+// Tells a task that was started, after the word for how.
+#[tactic(auto, using(crate::proofs::Telling::puts_then))]
+fn put_born<K: Sink>(pending: &mut Pending, out: &mut K, word: &[u8], born: Born)
+    ensures { Puts K.written K.faults out.old pending.old out.new pending.new (born_text word.now born) }
 {
-    put_text(out, word)?;
-    put_numbered(out, b" t", born.child.0)?;
-    put_numbered(out, b" in s", born.scope.0)?;
-    put_lost(out, born.lost)
+    pending.put(out, word);
+    put_numbered(pending, out, b" t", born.child.0);
+    put_numbered(pending, out, b" in s", born.scope.0);
+    put_lost(pending, out, born.lost)
 }
 
-// Appends that the place of a task is dead.
-fn put_lost(out: &mut Vec<u8>, lost: bool) -> Result<(), NoMemory>
-    ensures { OnOk result (out.new.items ≡ out.old.items ++ lost_text lost) }
+// Tells that the place of a task is dead.
+fn put_lost<K: Sink>(pending: &mut Pending, out: &mut K, lost: bool)
+    ensures { Puts K.written K.faults out.old pending.old out.new pending.new (lost_text lost) }
 {
     if lost {
-        put_text(out, b" lost")
-    } else {
-        put_text(out, b"")
+        pending.put(out, b" lost");
     }
 }
 
-// Appends what a release names.
-#[tactic(auto, using(std::proofs::Common::append_assoc))]
-fn put_outcome(out: &mut Vec<u8>, outcome: &Outcome) -> Result<(), NoMemory>
-    ensures { OnOk result (out.new.items ≡ out.old.items ++ outcome_text outcome.now) }
+// Tells what a release names.
+#[tactic(auto, using(crate::proofs::Telling::puts_then))]
+fn put_outcome<K: Sink>(pending: &mut Pending, out: &mut K, outcome: &Outcome)
+    ensures { Puts K.written K.faults out.old pending.old out.new pending.new (outcome_text outcome.now) }
 {
-    put_losses(out, outcome.lost)?;
-    put_masked(out, outcome.masked)?;
-    put_thrown(out, &outcome.thrown)
+    put_losses(pending, out, outcome.lost);
+    put_masked(pending, out, outcome.masked);
+    put_thrown(pending, out, &outcome.thrown)
 }
 
-// Appends the places that lost tasks.
-#[tactic(auto, using(std::proofs::Common::append_assoc))]
-fn put_losses(out: &mut Vec<u8>, lost: PlaceSet) -> Result<(), NoMemory>
-    ensures { OnOk result (out.new.items ≡ out.old.items ++ lost_part lost) }
+// Tells the places that lost tasks.
+#[tactic(auto, using(crate::proofs::Telling::puts_then))]
+fn put_losses<K: Sink>(pending: &mut Pending, out: &mut K, lost: PlaceSet)
+    ensures { Puts K.written K.faults out.old pending.old out.new pending.new (lost_part lost) }
 {
     if lost.0 == 0 {
-        return Ok(());
+        return;
     }
-    put_text(out, b" lost")?;
-    put_places(out, lost)
+    pending.put(out, b" lost");
+    put_places(pending, out, lost)
 }
 
-// Appends the places of a set, in ascending order.
-fn put_places(out: &mut Vec<u8>, set: PlaceSet) -> Result<(), NoMemory>
-    ensures { OnOk result (out.new.items ≡ out.old.items ++ flat_map natural_field (members set)) }
+// Tells the places of a set, in ascending order.
+fn put_places<K: Sink>(pending: &mut Pending, out: &mut K, set: PlaceSet)
+    ensures { Puts K.written K.faults out.old pending.old out.new pending.new (flat_map natural_field (members set)) }
 {
     for p in 0..16 {
-        put_place_if_member(out, set, PlaceId(p))?;
+        put_place_if_member(pending, out, set, PlaceId(p));
     }
-    Ok(())
 }
 
-// Appends the place if it is in the set, and else nothing.
-fn put_place_if_member(out: &mut Vec<u8>, set: PlaceSet, place: PlaceId) -> Result<(), NoMemory>
+// Tells the place if it is in the set, and else nothing.
+fn put_place_if_member<K: Sink>(pending: &mut Pending, out: &mut K, set: PlaceSet, place: PlaceId)
     requires { place.0 < 16 }
-    ensures { OnOk result (out.new.items ≡ out.old.items ++ flat_map natural_field (filter (has_bit set.0) (place.0 ∷ []))) }
+    ensures { Puts K.written K.faults out.old pending.old out.new pending.new (flat_map natural_field (filter (has_bit set.0) (place.0 ∷ []))) }
 {
     if set.contains(place) {
-        put_numbered(out, b" ", u32::from(place.0))
-    } else {
-        Ok(())
-    }
+        put_numbered(pending, out, b" ", u32::from(place.0));
+    } else {}
 }
 
-// Appends how many faults are masked.
-#[tactic(auto, using(std::proofs::Common::append_assoc), unfolding(rx_trace::specs::Parts::masked_part))]
-fn put_masked(out: &mut Vec<u8>, masked: u32) -> Result<(), NoMemory>
-    ensures { OnOk result (out.new.items ≡ out.old.items ++ masked_part masked) }
+// Tells how many faults are masked.
+#[tactic(auto, using(crate::proofs::Telling::puts_then), unfolding(rx_trace::specs::Parts::masked_part))]
+fn put_masked<K: Sink>(pending: &mut Pending, out: &mut K, masked: u32)
+    ensures { Puts K.written K.faults out.old pending.old out.new pending.new (masked_part masked) }
 {
     if masked == 0 {
-        return Ok(());
+        return;
     }
-    put_text(out, b" masked")?;
-    put_numbered(out, b" ", masked)
+    pending.put(out, b" masked");
+    put_numbered(pending, out, b" ", masked)
 }
 
-// Appends the faults that a release tells.
-#[tactic(auto, using(std::proofs::Common::append_assoc))]
-fn put_thrown(out: &mut Vec<u8>, thrown: &Faults) -> Result<(), NoMemory>
-    ensures { OnOk result (out.new.items ≡ out.old.items ++ part_text (codes " thrown") fault_text thrown.now) }
+// Tells the faults that a release tells.
+#[tactic(auto, using(crate::proofs::Telling::puts_then))]
+fn put_thrown<K: Sink>(pending: &mut Pending, out: &mut K, thrown: &Faults)
+    ensures { Puts K.written K.faults out.old pending.old out.new pending.new (part_text (codes " thrown") fault_text thrown.now) }
 {
     if thrown.len() == 0 {
-        return Ok(());
+        return;
     }
-    put_text(out, b" thrown")?;
-    put_faults(out, thrown)
+    pending.put(out, b" thrown");
+    put_faults(pending, out, thrown)
 }
 
-// Appends faults in their order.
-fn put_faults(out: &mut Vec<u8>, faults: &Faults) -> Result<(), NoMemory>
-    ensures { OnOk result (out.new.items ≡ out.old.items ++ flat_map fault_text faults.now) }
+// Tells faults in their order.
+fn put_faults<K: Sink>(pending: &mut Pending, out: &mut K, faults: &Faults)
+    ensures { Puts K.written K.faults out.old pending.old out.new pending.new (flat_map fault_text faults.now) }
 {
     for i in 0..faults.len() {
-        put_fault(out, faults.item(i))?;
+        put_fault(pending, out, faults.item(i));
     }
-    Ok(())
 }
 
-// Appends a fault.
-#[tactic(auto, using(std::proofs::Common::append_assoc))]
-fn put_fault(out: &mut Vec<u8>, fault: Fault) -> Result<(), NoMemory>
-    ensures { OnOk result (out.new.items ≡ out.old.items ++ fault_text fault) }
+// Tells a fault.
+#[tactic(auto, using(crate::proofs::Telling::puts_then))]
+fn put_fault<K: Sink>(pending: &mut Pending, out: &mut K, fault: Fault)
+    ensures { Puts K.written K.faults out.old pending.old out.new pending.new (fault_text fault) }
 {
     match fault {
         Fault::Thrown(value) => {
-            put_text(out, b" ")?;
-            put_num(out, value)
+            pending.put(out, b" ");
+            pending.put_number(out, value);
         }
-        _ => put_text(out, b" other"),
+        _ => pending.put(out, b" other"),
     }
 }
 
-// Appends a word with a number at its end.
-#[tactic(auto, using(std::proofs::Common::append_assoc))]
-fn put_numbered(out: &mut Vec<u8>, word: &[u8], n: u32) -> Result<(), NoMemory>
-    ensures { OnOk result (out.new.items ≡ out.old.items ++ numbered word.now n) }
+// Tells a word with a number at its end.
+#[tactic(auto, using(crate::proofs::Telling::puts_then))]
+fn put_numbered<K: Sink>(pending: &mut Pending, out: &mut K, word: &[u8], n: u32)
+    ensures { Puts K.written K.faults out.old pending.old out.new pending.new (numbered word.now n) }
 {
-    put_text(out, word)?;
-    put_natural(out, n)
-}
-
-// Appends a text as it is.
-fn put_text(out: &mut Vec<u8>, text: &[u8]) -> Result<(), NoMemory>
-    ensures { OnOk result (out.new.items ≡ out.old.items ++ text.now) }
-{
-    out.extend_from_slice(text)?;
-    Ok(())
+    pending.put(out, word);
+    pending.put_natural(out, n)
 }

@@ -88,11 +88,11 @@ WaitsStill T ws us n =
     (who : Waiter) → waiter_at ws n ≡ Some who → (waiter_at us n ≡ Some who) ⊎ (May T (request_of who) → ⊥)
 
 -- One who waited is released, and waits no more. Or all who wait have to wait on. Everyone else waits still.
-abbrev pub FreedIs : ℕ → List Entry → Freed → Parking → (List Entry → Type 0) → Parking → Type 0
-FreedIs p es (One who o) k S l =
-    (n : ℕ) × (waiter_at k.waiters n ≡ Some who) × (waiter_at l.waiters n ≡ None) × Asked p es (request_of who) (answer_to who o) S
-    × ((m : ℕ) → m ≢ n → WaitsStill (tree_of p es) k.waiters l.waiters m)
-FreedIs p es NoOne k S l =
-    S es × ((n : ℕ) (who : Waiter) → waiter_at l.waiters n ≡ Some who → HasToWait (tree_of p es) n who)
-    × ((m : ℕ) → WaitsStill (tree_of p es) k.waiters l.waiters m)
-FreedIs p es Short k S l = S es × ((m : ℕ) → WaitsStill (tree_of p es) k.waiters l.waiters m)
+abbrev pub FreedIs : ℕ → List Entry → Freed → Waiters → (List Entry → Type 0) → Waiters → Type 0
+FreedIs p es (One who o) ws S us =
+    (n : ℕ) × (waiter_at ws n ≡ Some who) × (waiter_at us n ≡ None) × Asked p es (request_of who) (answer_to who o) S
+    × ((m : ℕ) → m ≢ n → WaitsStill (tree_of p es) ws us m)
+FreedIs p es NoOne ws S us =
+    S es × ((n : ℕ) (who : Waiter) → waiter_at us n ≡ Some who → HasToWait (tree_of p es) n who)
+    × ((m : ℕ) → WaitsStill (tree_of p es) ws us m)
+FreedIs p es Short ws S us = S es × ((m : ℕ) → WaitsStill (tree_of p es) ws us m)

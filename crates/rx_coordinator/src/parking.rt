@@ -50,7 +50,8 @@ impl Parking {
     /// A coordinator of so many places, before the first entry. Nobody waits.
     pub fn open(alloc: Global, places: u8) -> Result<Parking, NoMemory>
         requires { (1 ≤ places) × (places ≤ 16) }
-        ensures { IfOk result (λ k. Parks k places []) }
+        ensures parks { IfOk result (λ k. Parks k places []) }
+        ensures none { IfOk result (λ k. (n : ℕ) → waiter_at k.waiters n ≡ None) }
     {
         let core = Coordinator::open(alloc, places)?;
         let waiters = Waiters::none(alloc);
@@ -183,7 +184,7 @@ impl Parking {
     /// Answers one release that waits and is possible now.
     pub fn free(&mut self) -> Freed
         requires { (p : ℕ) × (es : List Entry) × Parks self.old p es }
-        ensures { (p : ℕ) (es : List Entry) → Parks self.old p es → FreedIs p es result self.old (Parks self.new p) self.new }
+        ensures { (p : ℕ) (es : List Entry) → Parks self.old p es → FreedIs p es result self.old.waiters (Parks self.new p) self.new.waiters }
     {
         'turns: for _ in 0..u64::MAX {
             let Some((scope, waiter)) = self.next_due() else {

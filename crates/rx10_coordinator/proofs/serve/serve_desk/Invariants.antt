@@ -1,8 +1,15 @@
-use Rattle.std.specs.Prelude.{ℕ, List}
-use Rattle.rx_rules.specs.declared.entries.Entry.{Entry}
-use Rattle.rx_coordinator.specs.Parking.{Parks}
+use Rattle.std.proofs.Common.{◌≤◌, ℕ, List, [], length}
+use Rattle.std.specs.Prelude.{Option}
+use Rattle.std.specs.Io.KnownBytes.{Consumes}
+use Rattle.rx10_coordinator.specs.Inside.Desk.{Serves}
 use Rattle.rx10_coordinator.proofs.serve.serve_desk.Given as goal
 
--- the coordinator stands after some entries
+-- all that was read is answered
 abbrev pub invariant-chunks : goal.invariant-chunks
-invariant-chunks g l = (p : ℕ) × (es : List Entry) × Parks l.desk.parking p es
+invariant-chunks g l = record {
+  later : g.S.Source.faults l.fn.input ≤ g.S.Source.faults l.input;
+  served : (p : ℕ) (w : Option (List ℕ)) (f : ℕ)
+      → Serves p w f (g.K.Sink.written l.fn.out) (g.K.Sink.faults l.fn.out) l.fn.desk l.fn.received []
+      → (bytes : List ℕ) × Consumes (g.S.Source.left l.fn.input) (g.S.Source.left l.input) bytes × (l.counter ≤ length bytes)
+      × Serves p w f (g.K.Sink.written l.out) (g.K.Sink.faults l.out) l.desk l.received bytes;
+}

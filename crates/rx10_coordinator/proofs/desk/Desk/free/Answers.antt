@@ -1,0 +1,48 @@
+use Rattle.std.proofs.Common.{[], ◌∷◌, ◌++◌, refl, ap}
+use Rattle.rx10_coordinator.specs.Replies.{freed_line}
+use Rattle.rx10_coordinator.specs.Session.{freed_lines}
+use Rattle.rx10_coordinator.proofs.Telling.{with_none, told-as, joined}
+use Rattle.rx10_coordinator.proofs.Going.{frees, frees-more, lines-more, rests, wants, stops}
+use Rattle.rx10_coordinator.proofs.desk.Desk.free.Goals as goal
+
+pub freed-init : goal.freed-init
+freed-init g c = λ p b on. ([], b, refl, on, λ w f text now. with_none w f _ _ _ text now)
+
+pub free-requires : goal.free-requires
+free-requires g c =
+    let r = c.requires in
+    let so = c.freed.invariant r.0 r.1 r.2 in
+    (r.0, so.1.entries, so.3.parks)
+
+pub returns-in-NoOne : goal.returns-in-NoOne
+returns-in-NoOne g c = λ p b on.
+    let so = c.freed.invariant p b on in
+    let e = rests p so.1 _ _ so.3 (c.in-NoOne.ensures p so.1.entries so.3.parks) in
+    (so.0, e.0, (so.1, so.2, e.1), e.2, so.4)
+
+pub returns-in-Short : goal.returns-in-Short
+returns-in-Short g c = λ p b on.
+    let so = c.freed.invariant p b on in
+    let e = wants p so.1 _ _ so.3 (c.in-Short.ensures p so.1.entries so.3.parks) in
+    (so.0, e.0, (so.1, so.2, e.1), e.2, so.4)
+
+pub returns : goal.returns
+returns g c = λ p b on.
+    let so = c.freed.invariant p b on in
+    let e = stops p so.1 _ so.3 in
+    (so.0, e.0, (so.1, so.2, e.1), e.2, so.4)
+
+pub freed-preserved : goal.freed-preserved
+freed-preserved g c = λ p b on.
+    let so = c.freed.invariant p b on in
+    let who = c.in-One.waiter in
+    let o = c.in-One.outcome in
+    let e = frees p so.1 who o _ _ so.3 (c.in-One.ensures p so.1.entries so.3.parks) in (
+      so.0 ++ (who, o) ∷ [],
+      e.0,
+      frees-more p b so.0 so.1 e.0 who o so.2 e.1,
+      e.2,
+      λ w f text now.
+          told-as w f _ _ _ _ _ (ap (λ z. text ++ z) (lines-more so.0 who o))
+          (joined w f _ _ _ text (freed_lines so.0) (freed_line who o) (c.put_freed.ensures w f (text ++ freed_lines so.0) (so.4 w f text now))),
+    )

@@ -1,0 +1,11 @@
+use Rattle.std.proofs.Common.{ℕ, List, ◌++◌, take}
+use Rattle.std.specs.Prelude.{Option}
+use Rattle.rx10_coordinator.specs.Inside.Desk.{Serves}
+use Rattle.rx10_coordinator.proofs.serve.take_all.Given as goal
+
+-- the bytes so far were taken
+abbrev pub invariant-bytes : goal.invariant-bytes
+invariant-bytes g l =
+    (p : ℕ) (w : Option (List ℕ)) (f : ℕ) (given : List ℕ)
+    → Serves p w f (g.K.Sink.written l.fn.out) (g.K.Sink.faults l.fn.out) l.fn.desk l.fn.received given
+    → Serves p w f (g.K.Sink.written l.out) (g.K.Sink.faults l.out) l.desk l.received (given ++ take l.i l.bytes)

@@ -1,0 +1,40 @@
+-- A desk and the line that is read, in the middle of a session.
+use Rattle.std.specs.Prelude.{◌≡◌, ℕ, ◌≤◌, ◌<◌, List, [], ◌∷◌, ◌++◌, length, Option}
+use Rattle.rx_coordinator.specs.declared.parking.Parking.{Parking}
+use Rattle.rx_coordinator.specs.Parking.{Parks}
+use Rattle.rx_fields.specs.Words.{pieces}
+use Rattle.rx10_coordinator.specs.declared.received.Extent.{Extent}
+use Rattle.rx10_coordinator.specs.declared.received.Extent.TheVariants.{Whole, Long, Cut}
+use Rattle.rx10_coordinator.specs.declared.received.Received.{Received}
+use Rattle.rx10_coordinator.specs.declared.desk.Desk.{Desk}
+use Rattle.rx10_coordinator.specs.Session.{Between, IsOpen, AllAnswered, greeting}
+use Rattle.rx10_coordinator.specs.Inside.Telling.{Tells}
+
+-- the bytes that are kept of a line are all of it, or it has too many, or memory ran out
+abbrev pub Keeps : Extent → List ℕ → List ℕ → Type 0
+Keeps Whole bytes line = (bytes ≡ line) × (length line ≤ 4096)
+Keeps Long bytes line = 4096 < length line
+Keeps Cut bytes line = Unit {0}
+
+-- this is the line so far
+abbrev pub IsLine : Received → List ℕ → Type 0
+IsLine r line = Keeps r.extent r.bytes.items line
+
+-- the coordinator stands where the session stands
+pub record Holds (p : ℕ) (b : Between) (k : Parking) : Type 0 where
+  pub parks : Parks k p b.entries
+  pub waiters : b.waiters ≡ k.waiters
+
+-- all lines of these bytes are answered
+pub record Serves (p : ℕ) (w : Option (List ℕ)) (f : ℕ) (v : Option (List ℕ)) (g : ℕ) (d : Desk) (r : Received) (bytes : List ℕ) : Type 0 where
+  pub lines : List (List ℕ)
+  pub last : List ℕ
+  pub before : Between
+  pub after : Between
+  pub replies : List ℕ
+  pub cut : pieces 10 bytes ≡ lines ++ last ∷ []
+  pub opens : IsOpen before
+  pub answered : AllAnswered p before lines replies after
+  pub holds : Holds p after d.parking
+  pub reads : IsLine r last
+  pub tells : Tells w f v g d.pending (greeting p ++ replies)

@@ -27,6 +27,7 @@ refuses; 125 where the sweep could not be made, 130 after Ctrl-C. This tool is n
 """
 
 import argparse
+import contextlib
 import difflib
 import functools
 import os
@@ -250,10 +251,13 @@ def concluded(sweep, expected, given):
 
 def swept(sweep, expected, given):
     """Makes the sweep: the text for standard output, and the exit status."""
-    began = time.monotonic()
-    # (bad words and a bad script are refused before anything is counted)
-    length = [sweep_runs.make(sweep.program, sweep.script, sweep.base)[1] for _ in range(3)][0]
-    sweep.estimate(length, (time.monotonic() - began) / 3)
+    # (bad words and a bad script are refused before anything is counted; the first run also brings the program into memory)
+    with contextlib.closing(sweep_runs.Maker(sweep.program, sweep.script, sweep.base)) as maker:
+        _, length = maker.make(Run(None, ()))
+        began = time.monotonic()
+        for _ in range(3):
+            maker.make(Run(None, ()))
+        sweep.estimate(length, (time.monotonic() - began) / 3)
     try:
         sweep.make()
     except KeyboardInterrupt:
@@ -280,7 +284,6 @@ def main(words):
         script.write(text)
         script.flush()
         try:
-            sweep_runs.make(os.environ["RX10_PROGRAM"], script, base)
             told, status = swept(Sweep(os.environ["RX10_PROGRAM"], script, given, base), expected, given)
         except sweep_runs.Refused as refusal:
             return refused(refusal, given, base, text)

@@ -22,7 +22,6 @@ written. This tool is not proved: it shows what a trace says, and checks nothing
 """
 
 import argparse
-import json
 import pathlib
 import sys
 
@@ -158,7 +157,7 @@ def made_of(given):
     found = source_lines(given.script, script, trace) if given.script else None
     story = activities.Story(trace)
     if given.format == "json":
-        return json.dumps({"displayTimeUnit": "ns", "traceEvents": perfetto.events_of(story)})
+        return perfetto.document_of(story)
     if given.format == "svg":
         return paper.svg_file(story, given.columns, chain, given.width)
     title = given.title or ("trace" if given.trace == "-" else pathlib.Path(given.trace).stem)

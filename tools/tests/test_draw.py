@@ -134,31 +134,6 @@ class Pictures(unittest.TestCase):
         sizes = [float(it.getAttribute("font-size")) for it in whole.getElementsByTagName("text")]
         self.assertGreaterEqual(min(sizes) * points, 6)
 
-    def test_viewers(self):
-        found = json.loads(launch("draw", EXAMPLES / "adoption.trace", "--perfetto", "-o", "-").stdout)["traceEvents"]
-        bars = {it["name"]: (it["pid"], it["ts"], it["dur"]) for it in found if it["ph"] == "X" and it["name"] not in ("travels", "waits")}
-        self.assertEqual(bars["t3"], (3, 9, 6))
-        self.assertEqual(bars["t2 (lost)"], (2, 5, 8))
-        self.assertIn("place 2 dies", [it["name"] for it in found])
-
-    def test_viewers_have_few_tracks(self):
-        """A row has one activity at a time, and what is in it lies within it."""
-        done = launch("draw", EXAMPLES / "outlives.trace", "--perfetto", "-o", "-")
-        found = json.loads(done.stdout)["traceEvents"]
-        story = self.story("outlives.trace")
-        at_once = [max(sum(it.place == place and it.begin <= n <= it.over for it in story.activities.values())
-                       for n in range(-1, len(story.trace.entries))) for place in range(story.places)]
-        rows = {(it["pid"], it["tid"]) for it in found if it["ph"] == "X"}
-        self.assertEqual([sum(place == it for it, _ in rows) for place in range(story.places)], at_once)
-        for row in rows:
-            open_until = []
-            slices = [it for it in found if it["ph"] == "X" and (it["pid"], it["tid"]) == row]
-            for it in sorted(slices, key=lambda it: (it["ts"], -it["dur"])):
-                while open_until and open_until[-1] <= it["ts"]:
-                    open_until.pop()
-                self.assertTrue(not open_until or it["ts"] + it["dur"] <= open_until[-1], it)
-                open_until.append(it["ts"] + it["dur"])
-
     def test_the_ending_says_what_is_made(self):
         with tempfile.TemporaryDirectory(prefix="rx10 draw ") as room:
             for words, name, start in [([], "hello.html", "<!doctype"), (["-o", "a.svg"], "a.svg", "<svg"), (["-o", "a.JSON"], "a.JSON", "{"),

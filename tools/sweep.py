@@ -26,7 +26,6 @@ Exit status: 0; 1 where a run breaks --require, or the table is not that of --ex
 refuses; 125 where the sweep could not be made, 130 after Ctrl-C. This tool is not proved.
 """
 
-import argparse
 import contextlib
 import difflib
 import functools
@@ -36,14 +35,16 @@ import tempfile
 import time
 
 import command_words
+import ends
 import explain
+import inputs
+import options
 import sweep_plan
 import sweep_runs
 import sweep_table
 from sweep_runs import Run
 from sweep_table import many
 
-FAILED, STOPPED = 125, 130
 LONG, VERY_LONG = 2, 60     # seconds from which on an estimate, and a warning, is told
 WORDS = ("--places", "--heap", "--pick", "--seed")
 
@@ -155,25 +156,9 @@ class Sweep:
         return "\n".join([head, "", *self.groups.lines(self.base, with_lost)]) + "\n"
 
 
-class Words(argparse.ArgumentParser):
-    """The words of the sweep, with a hint at the option that was meant."""
-
-    def error(self, message):
-        print("rx10: %s\n  `rx10 sweep --help` tells the words" % message, file=sys.stderr)
-        sys.exit(2)
-
-    def taken(self, words):
-        given, more = self.parse_known_args(words)
-        if more:
-            known = [it for action in self._actions for it in action.option_strings]
-            self.error("`sweep` has no option `%s`%s" % (more[0], command_words.near(more[0], known))
-                       if more[0].startswith("-") else "`sweep` takes one file, and `%s` is one more" % more[0])
-        return given
-
-
 def arguments(words):
     """The words of the sweep, the text of --require read."""
-    parser = Words(prog="rx10 sweep", add_help=False, allow_abbrev=False)
+    parser = options.Parser("sweep")
     parser.add_argument("file", metavar="FILE")
     for option in (*WORDS, "--expect", "--require"):
         parser.add_argument(option)
@@ -210,15 +195,6 @@ def base_of(given):
     return base
 
 
-def source_of(name):
-    """The bytes of the script."""
-    if name != "-":
-        return explain.read(name)
-    if sys.stdin.isatty():
-        print("rx10: the script is read from the terminal; end it with Ctrl-D, or name a file: rx10 sweep FILE", file=sys.stderr)
-    return sys.stdin.buffer.read(1 << 25)
-
-
 def refused(refusal, given, base, text):
     """Tells why the program refused, and gives the exit status."""
     number = refusal.said.partition(" ")[2]
@@ -230,7 +206,7 @@ def refused(refusal, given, base, text):
         more = explain.explained(refusal.status, refusal.said, given.file, text, refusal.words)
         more = "\n".join(it for it in (refusal.said, more) if it)
     print(more or "rx10: the program ended with %d" % refusal.status, file=sys.stderr)
-    return refusal.status if refusal.status > 0 else FAILED
+    return refusal.status if refusal.status > 0 else ends.FAILED
 
 
 def concluded(sweep, expected, given):
@@ -246,7 +222,7 @@ def concluded(sweep, expected, given):
     if given.require and sweep.groups.found:
         is_met, told = given.require.judged(sweep.groups, sweep.base, given.file)
         text, status = "%s\n%s\n" % (text, told), status if is_met else 1
-    return text, STOPPED if sweep.is_stopped else status
+    return text, ends.STOPPED if sweep.is_stopped else status
 
 
 def swept(sweep, expected, given):
@@ -273,11 +249,11 @@ def main(words):
         return 0
     given = arguments(words)
     try:
-        text = source_of(given.file)
-        expected = explain.read(given.expect).decode("utf-8", "replace") if given.expect else None
+        text = inputs.read(given.file, "script", "sweep")
+        expected = inputs.read(given.expect).decode("utf-8", "replace") if given.expect else None
     except OSError as why:
         print("rx10: can't read %s: %s" % (why.filename or given.file, why.strerror), file=sys.stderr)
-        return FAILED
+        return ends.FAILED
     base = base_of(given)
     # (a copy, so that an edit meanwhile does not mix two scripts)
     with tempfile.TemporaryFile() as script:
@@ -289,26 +265,10 @@ def main(words):
             return refused(refusal, given, base, text)
         except (OSError, sweep_runs.NoTrace) as why:
             print("rx10: the sweep could not be made: %s" % why, file=sys.stderr)
-            return FAILED
+            return ends.FAILED
     print(told, end="")
     return status
 
 
-def run(words):
-    """main, with an end of its own where standard output can't be written or Ctrl-C comes early."""
-    try:
-        status = main(words)
-        sys.stdout.flush()
-        return status
-    except KeyboardInterrupt:
-        return STOPPED
-    except OSError as why:
-        # (what is left in the buffer can't be written at the end either)
-        os.dup2(os.open(os.devnull, os.O_WRONLY), 1)
-        if not isinstance(why, BrokenPipeError):
-            print("rx10: can't write: %s" % why.strerror, file=sys.stderr)
-        return FAILED
-
-
 if __name__ == "__main__":
-    sys.exit(run(sys.argv[1:]))
+    sys.exit(ends.guarded(main, sys.argv[1:]))

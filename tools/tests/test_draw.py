@@ -157,7 +157,7 @@ class Pictures(unittest.TestCase):
                           ["--width", "85"], ["--svg", "--width", "20"], ["--svg", "--width", "85", "--columns", "8"]):
                 done = launch("draw", EXAMPLES / "hello.trace", *words, cwd=room)
                 self.assertEqual((done.returncode, done.stdout), (2, ""), words)
-                self.assertIn("rx10 draw: error:", done.stderr)
+                self.assertIn("`rx10 draw --help` tells the words", done.stderr)
             self.assertEqual(len(list(pathlib.Path(room).iterdir())), made)
 
     def test_standard_input(self):
@@ -174,7 +174,7 @@ class Pictures(unittest.TestCase):
         self.assertIn("entry 0 tells the statement 2.0.0, and that is no `finish` there", done.stderr)
 
     def test_a_full_disk(self):
-        for out, said in [("/dev/full", "/dev/full"), ("-", "standard output")]:
+        for out, said in [("/dev/full", "/dev/full"), ("-", "standard output can't be written")]:
             with open("/dev/full", "wb") as full:
                 words = [TOP / "rx10", "draw", EXAMPLES / "hello.trace", "--svg", "-o", out]
                 done = subprocess.run(words, stdout=full, stderr=subprocess.PIPE, timeout=60, check=False)

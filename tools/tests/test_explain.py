@@ -82,6 +82,14 @@ HINTS = [
     ("\ufeffprint 7;", "a byte order mark"),
     ("rx10 trace 2\n", "this is a trace"),
     ("Print 7;", "no capital letters"),
+    ("if 1 { }\nprint 2;", "`else { }`"),
+    ("if 1 { } esle { }", "is `else` meant?"),
+    ("try { }\nprint 2;", "`catch dead { .. }`"),
+    ("print (1 <= 2);", "`(a < (b + 1))`"),
+    ("finish { } }", "no `{` is open here"),
+    ("print\u00a07;", "a no-break space"),
+    ("print \u201c7\u201d;", "there are no texts"),
+    ("p\0r\0i\0n\0t\0", "UTF-16"),
 ]
 # Lines of a trace that is none, the bad one, and why it is bad.
 LINES = [

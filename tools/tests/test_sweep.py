@@ -167,7 +167,7 @@ class Sweeps(unittest.TestCase):
             self.assertIn(told, done.stderr)
 
     def test_outputs_that_can_not_be_written(self):
-        for words, said in (["--help"], b"standard output could not be written"), ([str(EXAMPLES / "hello.rx")], b"can't write: No space left on device"):
+        for words, said in (["--help"], b"standard output could not be written"), ([str(EXAMPLES / "hello.rx")], b"standard output can't be written: No space left on device"):
             with open("/dev/full", "wb") as full:
                 done = subprocess.run([TOP / "rx10", "sweep", *words], stdout=full, stderr=subprocess.PIPE, check=False)
             self.assertEqual((done.returncode, done.stderr), (125, b"rx10: %s\n" % said))

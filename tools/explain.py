@@ -18,6 +18,7 @@ import ends
 import inputs
 import script_hints
 import script_text
+import trace_hints
 
 RULES = {
     1: "rule 1: each name that a statement uses is assigned before it, in its block or in one round it",
@@ -176,32 +177,12 @@ def of_long(name, text, words):
         "%s has more than the %s bytes that %s may have" % (name, format(most, ","), what)
 
 
-def entry_due(lines, number):
-    """The number of the entry that is due at a line of a trace, where that line has another one."""
-    if not 1 < number <= len(lines) or b"history" not in lines[:number] or b"journal 0" in lines[:number]:
-        return None
-    before, here = (re.match(rb"([0-9]{1,9}) ", it) for it in lines[number - 2:number])
-    due = int(before[1]) + 1 if before else 0 if lines[number - 2] == b"history" else None
-    return due if here and due is not None and int(here[1]) != due else None
-
-
 def of_line(name, text, number):
     """A trace that goes wrong at a line."""
     lines = text.split(b"\n")
     start = sum(len(it) + 1 for it in lines[:number - 1])
     line = lines[number - 1] if number <= len(lines) else b""
-    notes = ["docs/trace.md has the lines"]
-    due = entry_due(lines, number)
-    if line.endswith(b"\r"):
-        notes = ["the line ends with a carriage return (CRLF); the lines of a trace end with a newline alone"]
-    elif due is not None:
-        notes = ["entry %d is due here" % due]
-    elif number == 1 and not line.startswith(b"rx10 trace"):
-        notes = ["a trace begins with `rx10 trace 2`; `rx10 step FILE` writes one"]
-    elif number > 1 and line.startswith(b"seen "):
-        notes = ["the lines of `--watch` belong to no trace: `grep -v '^seen'` leaves them out"]
-    elif number >= len(lines) and not line:
-        notes = ["the trace ends here, before its last line `done`"]
+    notes = [trace_hints.notes(text, number)]
     return marked(name, text, min(start, len(text)), len(line), "line %d of the trace can't stand here" % number, notes)
 
 

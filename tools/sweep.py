@@ -116,7 +116,11 @@ class Sweep:
             self.groups.add(run, outcome)
             made.append((run, length))
             self.progress.step()
-        self.stages.append("%s%d %s" % ("all " if len(made) == total > 1 else "" if len(made) == total else "%d of " % len(made), total, name))
+        if len(made) < total:
+            part = "%d of %d" % (len(made), total) if made else "no"
+        else:
+            part = "all %d" % total if total > 1 else str(total)
+        self.stages.append("%s %s" % (part, name))
         return total, sorted(made, key=lambda it: (it[0].seed or 0, it[0].kills))
 
     def make(self):
@@ -178,7 +182,7 @@ def arguments(words):
             parser.error("--%s takes a number from 1" % option)
     given.jobs = given.jobs or len(os.sched_getaffinity(0))
     try:
-        given.require = given.require and sweep_table.Requirement(given.require, given.any_order)
+        given.require = None if given.require is None else sweep_table.Requirement(given.require, given.any_order)
     except ValueError as why:
         parser.error("--require: %s" % why)
     return given
@@ -251,6 +255,9 @@ def main(words):
     try:
         text = inputs.read(given.file, "script", "sweep")
         expected = inputs.read(given.expect).decode("utf-8", "replace") if given.expect else None
+        if expected is not None and not sweep_table.is_table(expected):
+            print("rx10: %s is no table that a sweep has written" % given.expect, file=sys.stderr)
+            return ends.FAILED
     except OSError as why:
         print("rx10: can't read %s: %s" % (why.filename or given.file, why.strerror), file=sys.stderr)
         return ends.FAILED

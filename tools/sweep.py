@@ -90,7 +90,7 @@ class Sweep:
         self.firsts = [Run(seed, ()) for seed in ([None] if given.seeds is None else range(given.seeds))]
         self.progress = Progress()
         self.total, self.is_exact, self.is_stopped = 0, False, False
-        self.stages = []
+        self.seconds, self.stages = 1, []
 
     def estimate(self, length, seconds):
         """Tells how many runs there may be and how long they take, by one run with so many entries that took so long."""
@@ -98,7 +98,7 @@ class Sweep:
         if not self.given.no_deaths:
             pairs = self.plan.expected_pairs(length) if self.given.pairs else 0
             runs *= 1 + self.plan.count_singles(length) + pairs
-        self.total = runs
+        self.total, self.seconds = runs, seconds
         made = min(runs, self.given.max or runs)
         self.progress.expected = made
         took = made * seconds / min(self.given.jobs, len(os.sched_getaffinity(0)))
@@ -126,7 +126,7 @@ class Sweep:
     def make(self):
         """Makes all runs, and knows in the end how many there are, where that can be known."""
         plan = self.plan
-        with sweep_runs.Workers(self.given.jobs, self.program, self.script, self.base) as workers:
+        with sweep_runs.Workers(self.given.jobs, self.seconds, self.program, self.script, self.base) as workers:
             total, made = self.stage(workers, "without a death", [(len(self.firsts), lambda: self.firsts)])
             if not self.given.no_deaths:
                 sources = [(plan.count_singles(length), functools.partial(plan.singles, run.seed, length)) for run, length in made]

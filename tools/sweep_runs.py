@@ -2,10 +2,11 @@
 
 Most of what a short run costs is the start of a process. So a worker is a process of its own that starts the program without a shell or
 a copy of itself, lets it write to a file in memory that it reads once the program has ended, and takes from the trace no more than the
-table needs.
+table needs. A worker stays on one processor, and the program with it: to be woken on another one costs more than a short run.
 """
 
 import collections
+import contextlib
 import itertools
 import multiprocessing
 import multiprocessing.connection
@@ -16,7 +17,8 @@ import signal
 Run = collections.namedtuple("Run", "seed kills")       # kills are pairs of a moment and a place
 Outcome = collections.namedtuple("Outcome", "status prints thrown lost masked")
 
-CHUNK = 16      # runs that a worker is handed at a time
+# A worker is handed so many runs at a time as take so many seconds, but one at least.
+MOST_AT_ONCE, SECONDS_AT_ONCE = 32, 0.03
 # (the program reads no variable; those for the system's loader may be needed to start it)
 ENVIRONMENT = {name: value for name, value in os.environb.items() if name.startswith(b"LD_")}
 TITLE = b"rx10 trace 2\n"
@@ -92,9 +94,11 @@ class Maker:
         return outcome_of(status, text)
 
 
-def work(connection, others, program, script, base):
+def work(connection, others, processor, program, script, base):
     """A worker: answers each list of runs that it is handed, and ends where the other side has gone."""
     signal.signal(signal.SIGINT, signal.SIG_IGN)
+    with contextlib.suppress(OSError):
+        os.sched_setaffinity(0, {processor})
     for it in others:
         it.close()
     maker = Maker(program, script, base)
@@ -108,15 +112,18 @@ def work(connection, others, program, script, base):
 
 
 class Workers:
-    """Some workers, and the connection to each. They end with the `with` in which they stand."""
+    """Some workers, and the connection to each; a run takes about so many seconds. They end with the `with` in which they stand."""
 
-    def __init__(self, count, program, script, base):
+    def __init__(self, count, seconds, program, script, base):
         context = multiprocessing.get_context("fork")
+        processors = sorted(os.sched_getaffinity(0))
+        self.at_once = max(1, min(MOST_AT_ONCE, int(SECONDS_AT_ONCE / seconds)))
         self.connections, self.processes = [], []
-        for _ in range(count):
+        for number in range(count):
             here, there = context.Pipe()
             self.connections.append(here)
-            process = context.Process(target=work, args=(there, list(self.connections), program, script, base), daemon=True)
+            given = there, list(self.connections), processors[number % len(processors)], program, script, base
+            process = context.Process(target=work, args=given, daemon=True)
             process.start()
             there.close()
             self.processes.append(process)
@@ -136,7 +143,7 @@ class Workers:
         waiting = {it: collections.deque() for it in self.connections}
 
         def hand_on(connection):
-            chunk = list(itertools.islice(runs, CHUNK))
+            chunk = list(itertools.islice(runs, self.at_once))
             if chunk:
                 connection.send(chunk)
                 waiting[connection].append(chunk)

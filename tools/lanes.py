@@ -203,11 +203,11 @@ class Strip:
                 continue
             place, top, height, _ = self.lanes[entry.place]
             self.put('<path class="%s" d="M%g %dv%d"/>', entry.kind, x, top, height)
-            # beside the line where there is room, and else before it, in the edge of the lane
-            words = ("✖ place %d dies" if entry.kind == "death" else "✚ place %d joins") % place
-            has_room = x + 8 + (LETTER + 0.6) * len(words) < self.width
-            at = ("", x + 8, top + 14) if has_room else (" end", x - 4, top + 8)
-            self.put('<text class="%s-word%s" x="%g" y="%d">%s</text>', entry.kind, *at, words)
+            # beside the line where there is room, in few words if need be, and else before it, in the edge of the lane
+            said = [("✖ place %d dies" % place, "✖ dies"), ("✚ place %d joins" % place, "✚ joins")][entry.kind == "join"]
+            words = next((it for it in said if x + 8 + (LETTER + 0.6) * len(it) < self.width), None)
+            at = ("", x + 8, top + 14) if words else (" end", x - 4, top + 8)
+            self.put('<text class="%s-word%s" x="%g" y="%d">%s</text>', entry.kind, *at, words or said[1])
 
     def draw_chain(self):
         """A line under the numbers, with a dot at each entry that tells a statement of the chain."""

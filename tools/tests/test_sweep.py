@@ -184,7 +184,7 @@ class Sweeps(unittest.TestCase):
             with subprocess.Popen(words, stdout=subprocess.PIPE, stderr=subprocess.PIPE,
                                   preexec_fn=lambda: signal.signal(signal.SIGINT, signal.SIG_DFL)) as started:
                 first = started.stderr.readline()
-                time.sleep(1.5)
+                time.sleep(2.5)
                 started.send_signal(signal.SIGINT)
                 out, _ = started.communicate(timeout=60)
         self.assertRegex(first, rb"^rx10: this is a long sweep: about \d+ runs, about \d+ h; --max N makes N of them, and Ctrl-C ends it")

@@ -39,6 +39,10 @@ def main(words):
         print("0 passed, 1 failed")
         return 1
     os.environ["RX10_PROGRAM"] = str(program)
+    # (the python3 of the launcher is this one: one that first looks for another costs more than many a test)
+    here = pathlib.Path(sys.executable).parent
+    if (here / "python3").exists():
+        os.environ["PATH"] = "%s:%s" % (here, os.environ.get("PATH", os.defpath))
     # (these are read where the tests are loaded)
     os.environ["PYTHONDONTWRITEBYTECODE"] = "1"
     sys.path[:0] = [str(HERE), str(HERE / "tests")]

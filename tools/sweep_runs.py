@@ -11,6 +11,7 @@ import itertools
 import multiprocessing
 import multiprocessing.connection
 import os
+import random
 import re
 import signal
 
@@ -116,7 +117,9 @@ class Workers:
 
     def __init__(self, count, seconds, program, script, base):
         context = multiprocessing.get_context("fork")
-        processors = sorted(os.sched_getaffinity(0))
+        # (in any order, so that of several sweeps with few workers not all begin on the same processor)
+        allowed = sorted(os.sched_getaffinity(0))
+        processors = random.sample(allowed, len(allowed))
         self.at_once = max(1, min(MOST_AT_ONCE, int(SECONDS_AT_ONCE / seconds)))
         self.connections, self.processes = [], []
         for number in range(count):

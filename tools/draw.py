@@ -143,7 +143,8 @@ def made_of(given):
     """What is to be written."""
     trace = trace_text.read_trace(inputs.read(given.trace, "trace", "draw").decode("utf-8", "replace"))
     script = inputs.read(given.script, "script", "draw TRACE --script") if given.script else None
-    chain = chain_of(given.span, inputs.read(given.span, "chain", "draw TRACE --span").decode("utf-8", "replace"), trace) if given.span else frozenset()
+    span = inputs.read(given.span, "chain", "draw TRACE --span").decode("utf-8", "replace") if given.span else None
+    chain = chain_of(given.span, span, trace) if given.span else frozenset()
     found = source_lines(given.script, script, trace) if given.script else None
     story = activities.Story(trace)
     if given.format == "json":

@@ -30,6 +30,7 @@ import contextlib
 import difflib
 import functools
 import os
+import resource
 import sys
 import tempfile
 import time
@@ -90,7 +91,7 @@ class Sweep:
         self.firsts = [Run(seed, ()) for seed in ([None] if given.seeds is None else range(given.seeds))]
         self.progress = Progress()
         self.total, self.is_exact, self.is_stopped = 0, False, False
-        self.seconds, self.stages = 1, []
+        self.seconds, self.stages = 1, []       # (of a processor, for a run)
 
     def estimate(self, length, seconds):
         """Tells how many runs there may be and how long they take, by one run with so many entries that took so long."""
@@ -98,7 +99,7 @@ class Sweep:
         if not self.given.no_deaths:
             pairs = self.plan.expected_pairs(length) if self.given.pairs else 0
             runs *= 1 + self.plan.count_singles(length) + pairs
-        self.total, self.seconds = runs, seconds
+        self.total = runs
         made = min(runs, self.given.max or runs)
         self.progress.expected = made
         took = made * seconds / min(self.given.jobs, len(os.sched_getaffinity(0)))
@@ -229,14 +230,21 @@ def concluded(sweep, expected, given):
     return text, ends.STOPPED if sweep.is_stopped else status
 
 
+def processor_time():
+    """The seconds that all runs so far have taken of a processor."""
+    used = resource.getrusage(resource.RUSAGE_CHILDREN)
+    return used.ru_utime + used.ru_stime
+
+
 def swept(sweep, expected, given):
     """Makes the sweep: the text for standard output, and the exit status."""
     # (bad words and a bad script are refused before anything is counted; the first run also brings the program into memory)
     with contextlib.closing(sweep_runs.Maker(sweep.program, sweep.script, sweep.base)) as maker:
         _, length = maker.make(Run(None, ()))
-        began = time.monotonic()
+        began, spent = time.monotonic(), processor_time()
         for _ in range(3):
             maker.make(Run(None, ()))
+        sweep.seconds = (processor_time() - spent) / 3
         sweep.estimate(length, (time.monotonic() - began) / 3)
     try:
         sweep.make()

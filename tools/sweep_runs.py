@@ -113,14 +113,14 @@ def work(connection, others, processor, program, script, base):
 
 
 class Workers:
-    """Some workers, and the connection to each; a run takes about so many seconds. They end with the `with` in which they stand."""
+    """Some workers, and the connection to each. They end with the `with` in which they stand. A run takes so many seconds of a processor."""
 
     def __init__(self, count, seconds, program, script, base):
         context = multiprocessing.get_context("fork")
         # (in any order, so that of several sweeps with few workers not all begin on the same processor)
         allowed = sorted(os.sched_getaffinity(0))
         processors = random.sample(allowed, len(allowed))
-        self.at_once = max(1, min(MOST_AT_ONCE, int(SECONDS_AT_ONCE / seconds)))
+        self.at_once = max(1, min(MOST_AT_ONCE, int(SECONDS_AT_ONCE / max(seconds, 1e-6))))
         self.connections, self.processes = [], []
         for number in range(count):
             here, there = context.Pipe()

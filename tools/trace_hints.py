@@ -46,13 +46,18 @@ def places_of(reader):
     return "the places of this trace are 0 to %d" % (reader.places - 1)
 
 
+def named_places(words):
+    """The numbers in `lost ..` and in the faults `dead:..` of these words."""
+    return re.findall(r" (?:dead:)?([0-9]+)(?= |\Z)", " ".join(words).split("masked")[0])
+
+
 def of_word(reader, words, shape, parts):
     """What is wrong with the words of an entry or event that should have this shape."""
     good, names = front(reader, words, shape), shape.split()
     left = words[good:]
     if good < len(names):
         rule = places_of(reader) if names[good] == "place" else RULES.get(names[good])
-    elif any(forms.is_number(it) and not reader.is_place(it) for it in re.findall(r" (?:dead:)?([0-9]+)(?= |\Z)", " ".join(left).split("masked")[0])):
+    elif any(forms.is_number(it) and not reader.is_place(it) for it in named_places(left)):
         rule = places_of(reader)
     else:
         rule = OF_PARTS.get(left[0]) if left else None
@@ -65,7 +70,7 @@ def of_entry(reader, words):
         return "entry %d is due here, or `journal 0` behind the last one" % reader.count
     if words[0] != str(reader.count):
         return "entry %d is due here" % reader.count
-    near = [(front(reader, words[1:], shape), shape, parts) for shape, parts in forms.ENTRIES if shape.split()[0] == words[1:2][0]] if words[1:] else []
+    near = [(front(reader, words[1:], shape), shape, parts) for shape, parts in forms.ENTRIES if words[1:2] == shape.split()[:1]]
     if not near:
         return "an entry is one of: %s" % ", ".join(dict.fromkeys(shape.split()[0] for shape, _ in forms.ENTRIES))
     return of_word(reader, words[1:], *max(near)[1:])

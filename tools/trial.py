@@ -12,6 +12,7 @@ import concurrent.futures
 import os
 import pathlib
 import re
+import signal
 import subprocess
 import sys
 import threading
@@ -112,4 +113,6 @@ def main(parts):
 
 
 if __name__ == "__main__":
+    # (however it is ended, its processes are too)
+    signal.signal(signal.SIGTERM, signal.default_int_handler)
     sys.exit(main(sys.argv[1:]))

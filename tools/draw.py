@@ -21,21 +21,20 @@ Exit status: 0; 1 where TRACE is no trace, or SCRIPT or SPAN is of another one; 
 written. This tool is not proved: it shows what a trace says, and checks nothing.
 """
 
-import argparse
-import json
 import pathlib
 import sys
 
 import activities
+import ends
 import explain
+import inputs
+import options
 import page
 import paper
 import perfetto
 import script_text
 import trace_text
 
-FAILED = 125
-STOPPED = 130
 FORMATS = ("html", "svg", "json")
 # A strip has at least so many entries.
 LEAST = 4
@@ -45,15 +44,6 @@ STATEMENTS = {"open": ["finish"], "at": ["at"], "spawn": ["async", "at"], "print
 
 class Wrong(Exception):
     """An input is not what it has to be."""
-
-
-def read(name):
-    """The bytes of a file, or of standard input where the name is `-`."""
-    if name != "-":
-        return pathlib.Path(name).read_bytes()
-    if sys.stdin.isatty():
-        print("rx10: the trace is read from the terminal; end it with Ctrl-D, or name a file", file=sys.stderr)
-    return sys.stdin.buffer.read()
 
 
 def source_lines(name, text, trace):
@@ -96,8 +86,7 @@ def chain_of(name, text, trace):
 
 
 def arguments(words):
-    usage = "rx10 draw [TRACE] [OPTION..]  (rx10 draw --help tells them)"
-    parser = argparse.ArgumentParser(prog="rx10 draw", usage=usage, add_help=False, allow_abbrev=False)
+    parser = options.Parser("draw")
     parser.add_argument("trace", nargs="?", default="-")
     parser.add_argument("-o", dest="out")
     parser.add_argument("--script")
@@ -108,7 +97,7 @@ def arguments(words):
     formats = parser.add_mutually_exclusive_group()
     formats.add_argument("--svg", action="store_const", const="svg", dest="format")
     formats.add_argument("--perfetto", action="store_const", const="json", dest="format")
-    given = parser.parse_args(words)
+    given = parser.taken(words)
     settle(given, parser.error)
     return given
 
@@ -152,13 +141,14 @@ def settle_columns(given, refuse):
 
 def made_of(given):
     """What is to be written."""
-    trace = trace_text.read_trace(read(given.trace).decode("utf-8", "replace"))
-    script = read(given.script) if given.script else None
-    chain = chain_of(given.span, read(given.span).decode("utf-8", "replace"), trace) if given.span else frozenset()
+    trace = trace_text.read_trace(inputs.read(given.trace, "trace", "draw").decode("utf-8", "replace"))
+    script = inputs.read(given.script, "script", "draw TRACE --script") if given.script else None
+    span = inputs.read(given.span, "chain", "draw TRACE --span").decode("utf-8", "replace") if given.span else None
+    chain = chain_of(given.span, span, trace) if given.span else frozenset()
     found = source_lines(given.script, script, trace) if given.script else None
     story = activities.Story(trace)
     if given.format == "json":
-        return json.dumps({"displayTimeUnit": "ns", "traceEvents": perfetto.events_of(story)})
+        return perfetto.document_of(story)
     if given.format == "svg":
         return paper.svg_file(story, given.columns, chain, given.width)
     title = given.title or ("trace" if given.trace == "-" else pathlib.Path(given.trace).stem)
@@ -194,17 +184,13 @@ def main(words):
     except Wrong as why:
         print("rx10: %s" % why, file=sys.stderr)
         return 1
-    except BrokenPipeError:
-        sys.stderr.close()
-        return 0
     except OSError as why:
+        if now == "standard output":
+            raise
         print("rx10: %s: %s" % (why.filename or now, why.strerror), file=sys.stderr)
-        return FAILED
+        return ends.FAILED
     return 0
 
 
 if __name__ == "__main__":
-    try:
-        sys.exit(main(sys.argv[1:]))
-    except KeyboardInterrupt:
-        sys.exit(STOPPED)
+    sys.exit(ends.guarded(main, sys.argv[1:]))

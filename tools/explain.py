@@ -14,8 +14,11 @@ import subprocess
 import sys
 
 import command_words
+import ends
+import inputs
 import script_hints
 import script_text
+import trace_hints
 
 RULES = {
     1: "rule 1: each name that a statement uses is assigned before it, in its block or in one round it",
@@ -50,7 +53,7 @@ FAULTS = {
     "index": "the index is below 0, or not below the length of the block",
     "heapfull": "no hole of the place's heap has as many words as `new` asks for",
 }
-WIDEST, FAILED = 120, 125
+WIDEST = 120
 MOST_SCRIPT, MOST_PAIR = 65536, 16777216
 
 
@@ -161,7 +164,8 @@ def of_pair(name, text):
             return "%s is a script, and the trace is missing: `rx10 verify SCRIPT TRACE`" % name
     except script_text.Wrong:
         pass
-    return "%s: the input is no pair: its first line must be `rx10 pair N`, then come N bytes of a script, and then a trace" % name
+    no_pair = "%s: the input is no pair: its first line must be `rx10 pair N`, then come N bytes of a script, and then a trace" % name
+    return no_pair if text else no_pair + "; or name two files: `rx10 verify SCRIPT TRACE`"
 
 
 def of_long(name, text, words):
@@ -173,32 +177,12 @@ def of_long(name, text, words):
         "%s has more than the %s bytes that %s may have" % (name, format(most, ","), what)
 
 
-def entry_due(lines, number):
-    """The number of the entry that is due at a line of a trace, where that line has another one."""
-    if not 1 < number <= len(lines) or b"history" not in lines[:number] or b"journal 0" in lines[:number]:
-        return None
-    before, here = (re.match(rb"([0-9]{1,9}) ", it) for it in lines[number - 2:number])
-    due = int(before[1]) + 1 if before else 0 if lines[number - 2] == b"history" else None
-    return due if here and due is not None and int(here[1]) != due else None
-
-
 def of_line(name, text, number):
     """A trace that goes wrong at a line."""
     lines = text.split(b"\n")
     start = sum(len(it) + 1 for it in lines[:number - 1])
     line = lines[number - 1] if number <= len(lines) else b""
-    notes = ["docs/trace.md has the lines"]
-    due = entry_due(lines, number)
-    if line.endswith(b"\r"):
-        notes = ["the line ends with a carriage return (CRLF); the lines of a trace end with a newline alone"]
-    elif due is not None:
-        notes = ["entry %d is due here" % due]
-    elif number == 1 and not line.startswith(b"rx10 trace"):
-        notes = ["a trace begins with `rx10 trace 2`; `rx10 step FILE` writes one"]
-    elif number > 1 and line.startswith(b"seen "):
-        notes = ["the lines of `--watch` belong to no trace: `grep -v '^seen'` leaves them out"]
-    elif number >= len(lines) and not line:
-        notes = ["the trace ends here, before its last line `done`"]
+    notes = [trace_hints.notes(text, number)]
     return marked(name, text, min(start, len(text)), len(line), "line %d of the trace can't stand here" % number, notes)
 
 
@@ -212,10 +196,10 @@ def explained(status, said, name, text, words, parted=False):
             "%s --help" % words[0] if words and words[0] in command_words.OPTIONS else "--help")
     if status == 5:
         return of_long(name, text, words)
+    if status == 9:
+        return of_pair(name, text or b"")
     if text is None:
         return None
-    if status == 9:
-        return of_pair(name, text)
     if words and words[0] in ("verify", "span"):
         parts = parts_of(text)
         if not parts:
@@ -244,15 +228,10 @@ def meaning(word):
     return None
 
 
-def read(path):
-    with open(path, "rb") as it:
-        return it.read(1 << 25)
-
-
 def after(parted, status, said, kept, name, *words):
     """Adds to a refusal of which the launcher tells."""
     try:
-        text = read(kept) if kept else None
+        text = inputs.read(kept) if kept else None
     except OSError:
         text = None
     more = explained(int(status), said, name, text, list(words), parted)
@@ -262,7 +241,7 @@ def after(parted, status, said, kept, name, *words):
 
 def told(name, asked):
     """Has the program look at a script, and gives its exit status, what it wrote, and what is to be said."""
-    text = sys.stdin.buffer.read() if name == "-" else read(name)
+    text = inputs.read(name, "script", "explain")
     name = "standard input" if name == "-" else name
     done = subprocess.run([os.environ["RX10_PROGRAM"], *asked], input=text, stdout=subprocess.PIPE, stderr=subprocess.PIPE, check=False)
     said = done.stderr.decode("utf-8", "replace").strip()
@@ -288,7 +267,7 @@ def main(words):
         no_name = len(words) == 1 and "/" not in words[0] and "." not in words[0] and not os.path.exists(words[0])
         hint = "; it is no status, answer or fault either" if no_name else ""
         print("rx10: can't read %s: %s%s" % (words[0], why.strerror, hint), file=sys.stderr)
-        return FAILED
+        return ends.FAILED
     if said:
         print(said, file=sys.stderr)
     if wrote:
@@ -296,21 +275,5 @@ def main(words):
     return status
 
 
-def guarded(words):
-    """main, with words for an end that can't be written and for Ctrl-C."""
-    try:
-        return main(words)
-    except BrokenPipeError:
-        status = 141
-    except KeyboardInterrupt:
-        return 130
-    except OSError as why:
-        print("rx10: standard output can't be written: %s" % why.strerror, file=sys.stderr)
-        status = FAILED
-    # (what could not be written is not tried once more at the end)
-    os.dup2(os.open(os.devnull, os.O_WRONLY), 1)
-    return status
-
-
 if __name__ == "__main__":
-    sys.exit(guarded(sys.argv[1:]))
+    sys.exit(ends.guarded(main, sys.argv[1:]))

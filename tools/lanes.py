@@ -203,11 +203,16 @@ class Strip:
                 continue
             place, top, height, _ = self.lanes[entry.place]
             self.put('<path class="%s" d="M%g %dv%d"/>', entry.kind, x, top, height)
-            # beside the line where there is room, and else before it, in the edge of the lane
-            words = ("✖ place %d dies" if entry.kind == "death" else "✚ place %d joins") % place
-            has_room = x + 8 + (LETTER + 0.6) * len(words) < self.width
-            at = ("", x + 8, top + 14) if has_room else (" end", x - 4, top + 8)
-            self.put('<text class="%s-word%s" x="%g" y="%d">%s</text>', entry.kind, *at, words)
+            # beside the line where there is room, in few words if need be, and else before it, in the edge of the lane
+            whole, short = ("✖ place %d dies" % place, "✖ dies") if entry.kind == "death" else ("✚ place %d joins" % place, "✚ joins")
+            room = (self.width - x) / (LETTER + 0.6)
+            if room > len(whole) + 1.25:
+                said, kind, at = whole, "", (x + 8, top + 14)
+            elif room > len(short) + 1:
+                said, kind, at = short, "", (x + 6, top + 14)
+            else:
+                said, kind, at = short, " end", (x - 4, top + 8)
+            self.put('<text class="%s-word%s" x="%g" y="%d">%s</text>', entry.kind, kind, *at, said)
 
     def draw_chain(self):
         """A line under the numbers, with a dot at each entry that tells a statement of the chain."""

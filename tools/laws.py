@@ -12,7 +12,9 @@ Exit status: 0 all of it holds, 1 something does not; 2 the words, 10 the text i
 
 import sys
 
+import ends
 import explain
+import inputs
 import trace_text
 from model import Refused
 from model.laws import History
@@ -53,10 +55,10 @@ def main(words):
         return 2
     name = "standard input" if words[0] == "-" else words[0]
     try:
-        text = sys.stdin.buffer.read() if words[0] == "-" else explain.read(words[0])
+        text = inputs.read(words[0], "trace", "laws")
     except OSError as why:
         print("rx10: can't read %s: %s" % (name, why.strerror), file=sys.stderr)
-        return 125
+        return ends.FAILED
     bad = first_bad_line(text.decode("latin-1"))
     if bad:
         print("bad line %d\n%s" % (bad, explain.of_line(name, text, bad)), file=sys.stderr)
@@ -69,4 +71,4 @@ def main(words):
 
 
 if __name__ == "__main__":
-    sys.exit(main(sys.argv[1:]))
+    sys.exit(ends.guarded(main, sys.argv[1:]))

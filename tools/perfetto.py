@@ -6,6 +6,7 @@ its waits and its scopes; an instant is a print, an end, a death; a flow leads f
 """
 
 import heapq
+import json
 
 import activities
 
@@ -28,54 +29,70 @@ def rows_of(story):
     return row_of
 
 
-def event(name, phase, ts, place, row, **more):
-    return {"name": name, "ph": phase, "ts": ts, "pid": place, "tid": row, **more}
+def named(what, place, row, **args):
+    """The event that gives a place or a row its name, or its place in the order."""
+    return {"name": what, "ph": "M", "pid": place, "tid": row, "args": args}
 
 
 def names_of(story, rows):
     """The events that give places and rows their names and their order."""
     for place in range(story.places):
-        yield event("process_name", "M", 0, place, 0, args={"name": "place %d" % place})
-        yield event("process_sort_index", "M", 0, place, 0, args={"sort_index": place})
+        yield named("process_name", place, 0, name="place %d" % place)
+        yield named("process_sort_index", place, 0, sort_index=place)
     for place, row in sorted({(it.place, rows[it.number]) for it in story.activities.values()}):
-        yield event("thread_name", "M", 0, place, row, args={"name": "row %d" % row})
-        yield event("thread_sort_index", "M", 0, place, row, args={"sort_index": row})
+        yield named("thread_name", place, row, name="row %d" % row)
+        yield named("thread_sort_index", place, row, sort_index=row)
+
+
+def event(name, kind, phase, ts, place, row, **more):
+    return {"name": name, "cat": kind, "ph": phase, "ts": ts, "pid": place, "tid": row, **more}
 
 
 def slices_of(it, story):
-    """The slices of an activity, each with its name, where it begins and ends, and what else is said of it."""
+    """The slices of an activity, each with its name, its kind, where it begins and ends, and what else is said of it."""
     begin, last = max(it.begin, 0), it.over
     life = {"from": it.source, "to": it.place, "life": activities.life_in_words(it, story)}
-    yield "t%d" % it.number + (" (lost)" if it.struck is not None else ""), begin, last + 1, {"args": life}
+    yield "t%d" % it.number + (" (lost)" if it.struck is not None else ""), "task", begin, last + 1, {"args": life}
     if it.arrived is None or it.arrived > begin:
-        yield "travels", begin, last if it.arrived is None else it.arrived, {}
+        yield "travels", "travel", begin, last if it.arrived is None else it.arrived, {}
     for scope in it.scopes:
         named = activities.names_of(scope.entry) if scope.entry else ""
-        yield "s%d %s%s" % (scope.number, scope.kind, named), scope.begin, last if scope.ended is None else min(last, scope.ended), {}
+        yield "s%d %s%s" % (scope.number, scope.kind, named), "scope", scope.begin, last if scope.ended is None else min(last, scope.ended), {}
     for start, end in it.waits:
-        yield "waits", start, last if end is None else end, {}
+        yield "waits", "wait", start, last if end is None else end, {}
+
+
+def activity_events(it, story, rows):
+    """The events of an activity: its slices, the flow from its start, and its writes to a store."""
+    here = it.place, rows[it.number]
+    for name, kind, begin, end, more in slices_of(it, story):
+        yield event(name, kind, "X", begin, *here, dur=max(end - begin, 0), **more)
+    if it.starter is not None:
+        starter = story.activities[it.starter]
+        yield event("start", "start", "s", it.begin, starter.place, rows[starter.number], id=it.number)
+        yield event("start", "start", "f", max(it.begin, it.arrived or 0), *here, id=it.number, bp="e")
+    for one in it.events:
+        yield event("store: " + " ".join(one.words), "store", "i", one.stamp, *here, s="t")
+
+
+def entry_event(entry, story, rows):
+    """What stands for an entry of the history: an instant in the row of its activity, or of a whole place."""
+    if entry.kind in ("death", "join"):
+        what = "place %d %s" % (entry.place, "dies" if entry.kind == "death" else "joins")
+        return event(what, entry.kind, "i", entry.number, entry.place, 0, s="p")
+    task = story.activities.get(entry.task, story.activities[0])
+    words = activities.in_words(entry, story)
+    return event(words, entry.kind, "i", entry.number, task.place, rows[task.number], s="t", args={"line": entry.line})
 
 
 def events_of(story):
-    """All events of the viewer, in no order."""
+    """All events of the viewer, in the order of their times; at one time what is around comes before what is in it."""
     rows = rows_of(story)
-    made = list(names_of(story, rows))
-    for it in story.activities.values():
-        here = it.place, rows[it.number]
-        for name, begin, end, more in slices_of(it, story):
-            made.append(event(name, "X", begin, *here, dur=max(end - begin, 0), **more))
-        if it.starter is not None:
-            starter = story.activities[it.starter]
-            made.append(event("start", "s", it.begin, starter.place, rows[starter.number], id=it.number, cat="start"))
-            made.append(event("start", "f", max(it.begin, it.arrived or 0), *here, id=it.number, cat="start", bp="e"))
-        for one in it.events:
-            made.append(event("store: " + " ".join(one.words), "i", one.stamp, *here, s="t"))
-    for entry in story.trace.entries:
-        if entry.kind in ("death", "join"):
-            what = "place %d %s" % (entry.place, "dies" if entry.kind == "death" else "joins")
-            made.append(event(what, "i", entry.number, entry.place, 0, s="p"))
-        else:
-            task = story.activities.get(entry.task, story.activities[0])
-            words = activities.in_words(entry, story)
-            made.append(event(words, "i", entry.number, task.place, rows[task.number], s="t", args={"line": entry.line}))
-    return made
+    made = [one for it in story.activities.values() for one in activity_events(it, story, rows)]
+    made += [entry_event(entry, story, rows) for entry in story.trace.entries]
+    return [*names_of(story, rows), *sorted(made, key=lambda it: it["ts"])]
+
+
+def document_of(story):
+    """The file of the viewer, as text."""
+    return json.dumps({"displayTimeUnit": "ns", "traceEvents": events_of(story)})

@@ -32,12 +32,20 @@ MARKS = [
     (b"\xff\xfe", "the file is in UTF-16: save it as UTF-8 or ASCII"),
     (b"\xfe\xff", "the file is in UTF-16: save it as UTF-8 or ASCII"),
 ]
+# Bytes in the midst of a script, and what an editor has put there.
+BYTES = [
+    (b"\xc2\xa0", "this is a no-break space: only the space, the tab and the end of a line stand between words"),
+    (b"\xe2\x80\x9c", "there are no texts: values are numbers"),
+    (b"\xe2\x80\x98", "there are no texts: values are numbers"),
+]
 OPERATIONS = ("+", "-", "*", "<", "==")
 
 
 def of_start(text):
     """Hints at a file that is no script from its first byte on."""
     found = [hint for mark, hint in MARKS if text.startswith(mark)]
+    if not found and b"\0" in text[:2]:
+        found.append("the file is in UTF-16: save it as UTF-8 or ASCII")
     if text.startswith(b"rx10 trace"):
         found.append("this is a trace: `rx10 draw FILE` shows it, and `rx10 verify SCRIPT TRACE` judges it")
     if text.startswith(b"rx10 pair"):
@@ -56,6 +64,8 @@ def of_statement(token, after):
             return ["`%s` follows the block of `%s`" % (token.text, "if" if token.text == "else" else "try")]
         near = difflib.get_close_matches(token.text, script_text.STARTS, 1)
         return ["is `%s` meant?" % near[0]] if near else []
+    if token.text == "}":
+        return ["no `{` is open here"]
     if token.text == ";":
         return ["there is no empty statement"]
     return []
@@ -65,6 +75,8 @@ def of_expression(token, before):
     """Hints where an expression must come."""
     if token.text == "-":
         return ["a number below 0 is written as a difference: `(0 - 5)`"]
+    if before and before.text == "<" and token.text == "=":
+        return ["there is no `<=`: write `(a < (b + 1))`"]
     if before and before.text in OPERATIONS and token.text in OPERATIONS:
         return ["one operation stands between two values"]
     if token.text in script_text.KEYWORDS:
@@ -80,6 +92,10 @@ def of_end(token, before, wanted):
         return ["a pair of parentheses holds one operation: `((a + b) %s c)`" % token.text]
     if "`*`" in wanted and token.text == ")":
         return ["a pair of parentheses holds an operation: leave it out here"]
+    if wanted == ["`else`"]:
+        return ["an `if` has an `else`, which may do nothing: `else { }`"]
+    if wanted == ["`catch`"]:
+        return ["a `try` has a `catch { .. }`, or a `catch dead { .. }` for lost places alone"]
     if token.text == "[":
         return ["a word of a block is read by `get x = %s[..];`" % (before.text if before and before.kind == "word" else "r")]
     return []
@@ -94,17 +110,21 @@ def hints(text, wrong):
             return found
     if token.kind == "other" and token.text in SIGNS:
         return [SIGNS[token.text]]
+    found = [hint for mark, hint in BYTES if token.kind == "other" and text.startswith(mark, token.at)]
+    if found:
+        return found
     tokens = script_text.tokens_of(text)
     after = next((it for it in tokens if it.at > token.at), tokens[-1])
-    if "a statement" in wanted:
+    named = [it.strip("`") for it in wanted if it.strip("`").isalpha() and it.startswith("`")]
+    near = difflib.get_close_matches(token.text, named, 1) if token.kind == "word" else []
+    if near:
+        found = ["is `%s` meant?" % near[0]]
+    elif "a statement" in wanted:
         found = of_statement(token, after)
     elif "`(`" in wanted:
         found = of_expression(token, before)
     else:
         found = of_end(token, before, wanted)
-    named = [it.strip("`") for it in wanted if it.strip("`").isalpha() and it.startswith("`")]
-    if not found and token.kind == "word" and named:
-        found = ["is `%s` meant?" % it for it in difflib.get_close_matches(token.text, named, 1)]
     return found + of_lines(text, wrong)
 
 

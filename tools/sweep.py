@@ -26,23 +26,26 @@ Exit status: 0; 1 where a run breaks --require, or the table is not that of --ex
 refuses; 125 where the sweep could not be made, 130 after Ctrl-C. This tool is not proved.
 """
 
-import argparse
+import contextlib
 import difflib
 import functools
 import os
+import resource
 import sys
 import tempfile
 import time
 
 import command_words
+import ends
 import explain
+import inputs
+import options
 import sweep_plan
 import sweep_runs
 import sweep_table
 from sweep_runs import Run
 from sweep_table import many
 
-FAILED, STOPPED = 125, 130
 LONG, VERY_LONG = 2, 60     # seconds from which on an estimate, and a warning, is told
 WORDS = ("--places", "--heap", "--pick", "--seed")
 
@@ -88,7 +91,7 @@ class Sweep:
         self.firsts = [Run(seed, ()) for seed in ([None] if given.seeds is None else range(given.seeds))]
         self.progress = Progress()
         self.total, self.is_exact, self.is_stopped = 0, False, False
-        self.stages = []
+        self.seconds, self.stages = 1, []       # (of a processor, for a run)
 
     def estimate(self, length, seconds):
         """Tells how many runs there may be and how long they take, by one run with so many entries that took so long."""
@@ -114,13 +117,17 @@ class Sweep:
             self.groups.add(run, outcome)
             made.append((run, length))
             self.progress.step()
-        self.stages.append("%s%d %s" % ("all " if len(made) == total > 1 else "" if len(made) == total else "%d of " % len(made), total, name))
+        if len(made) < total:
+            part = "%d of %d" % (len(made), total) if made else "no"
+        else:
+            part = "all %d" % total if total > 1 else str(total)
+        self.stages.append("%s %s" % (part, name))
         return total, sorted(made, key=lambda it: (it[0].seed or 0, it[0].kills))
 
     def make(self):
         """Makes all runs, and knows in the end how many there are, where that can be known."""
         plan = self.plan
-        with sweep_runs.Workers(self.given.jobs, self.program, self.script, self.base) as workers:
+        with sweep_runs.Workers(self.given.jobs, self.seconds, self.program, self.script, self.base) as workers:
             total, made = self.stage(workers, "without a death", [(len(self.firsts), lambda: self.firsts)])
             if not self.given.no_deaths:
                 sources = [(plan.count_singles(length), functools.partial(plan.singles, run.seed, length)) for run, length in made]
@@ -154,25 +161,9 @@ class Sweep:
         return "\n".join([head, "", *self.groups.lines(self.base, with_lost)]) + "\n"
 
 
-class Words(argparse.ArgumentParser):
-    """The words of the sweep, with a hint at the option that was meant."""
-
-    def error(self, message):
-        print("rx10: %s\n  `rx10 sweep --help` tells the words" % message, file=sys.stderr)
-        sys.exit(2)
-
-    def taken(self, words):
-        given, more = self.parse_known_args(words)
-        if more:
-            known = [it for action in self._actions for it in action.option_strings]
-            self.error("`sweep` has no option `%s`%s" % (more[0], command_words.near(more[0], known))
-                       if more[0].startswith("-") else "`sweep` takes one file, and `%s` is one more" % more[0])
-        return given
-
-
 def arguments(words):
     """The words of the sweep, the text of --require read."""
-    parser = Words(prog="rx10 sweep", add_help=False, allow_abbrev=False)
+    parser = options.Parser("sweep")
     parser.add_argument("file", metavar="FILE")
     for option in (*WORDS, "--expect", "--require"):
         parser.add_argument(option)
@@ -192,7 +183,7 @@ def arguments(words):
             parser.error("--%s takes a number from 1" % option)
     given.jobs = given.jobs or len(os.sched_getaffinity(0))
     try:
-        given.require = given.require and sweep_table.Requirement(given.require, given.any_order)
+        given.require = None if given.require is None else sweep_table.Requirement(given.require, given.any_order)
     except ValueError as why:
         parser.error("--require: %s" % why)
     return given
@@ -209,15 +200,6 @@ def base_of(given):
     return base
 
 
-def source_of(name):
-    """The bytes of the script."""
-    if name != "-":
-        return explain.read(name)
-    if sys.stdin.isatty():
-        print("rx10: the script is read from the terminal; end it with Ctrl-D, or name a file: rx10 sweep FILE", file=sys.stderr)
-    return sys.stdin.buffer.read(1 << 25)
-
-
 def refused(refusal, given, base, text):
     """Tells why the program refused, and gives the exit status."""
     number = refusal.said.partition(" ")[2]
@@ -229,7 +211,7 @@ def refused(refusal, given, base, text):
         more = explain.explained(refusal.status, refusal.said, given.file, text, refusal.words)
         more = "\n".join(it for it in (refusal.said, more) if it)
     print(more or "rx10: the program ended with %d" % refusal.status, file=sys.stderr)
-    return refusal.status if refusal.status > 0 else FAILED
+    return refusal.status if refusal.status > 0 else ends.FAILED
 
 
 def concluded(sweep, expected, given):
@@ -245,15 +227,25 @@ def concluded(sweep, expected, given):
     if given.require and sweep.groups.found:
         is_met, told = given.require.judged(sweep.groups, sweep.base, given.file)
         text, status = "%s\n%s\n" % (text, told), status if is_met else 1
-    return text, STOPPED if sweep.is_stopped else status
+    return text, ends.STOPPED if sweep.is_stopped else status
+
+
+def processor_time():
+    """The seconds that all runs so far have taken of a processor."""
+    used = resource.getrusage(resource.RUSAGE_CHILDREN)
+    return used.ru_utime + used.ru_stime
 
 
 def swept(sweep, expected, given):
     """Makes the sweep: the text for standard output, and the exit status."""
-    began = time.monotonic()
-    # (bad words and a bad script are refused before anything is counted)
-    length = [sweep_runs.make(sweep.program, sweep.script, sweep.base)[1] for _ in range(3)][0]
-    sweep.estimate(length, (time.monotonic() - began) / 3)
+    # (bad words and a bad script are refused before anything is counted; the first run also brings the program into memory)
+    with contextlib.closing(sweep_runs.Maker(sweep.program, sweep.script, sweep.base)) as maker:
+        _, length = maker.make(Run(None, ()))
+        began, spent = time.monotonic(), processor_time()
+        for _ in range(3):
+            maker.make(Run(None, ()))
+        sweep.seconds = (processor_time() - spent) / 3
+        sweep.estimate(length, (time.monotonic() - began) / 3)
     try:
         sweep.make()
     except KeyboardInterrupt:
@@ -269,43 +261,29 @@ def main(words):
         return 0
     given = arguments(words)
     try:
-        text = source_of(given.file)
-        expected = explain.read(given.expect).decode("utf-8", "replace") if given.expect else None
+        text = inputs.read(given.file, "script", "sweep")
+        expected = inputs.read(given.expect).decode("utf-8", "replace") if given.expect else None
+        if expected is not None and not sweep_table.is_table(expected):
+            print("rx10: %s is no table that a sweep has written" % given.expect, file=sys.stderr)
+            return ends.FAILED
     except OSError as why:
         print("rx10: can't read %s: %s" % (why.filename or given.file, why.strerror), file=sys.stderr)
-        return FAILED
+        return ends.FAILED
     base = base_of(given)
     # (a copy, so that an edit meanwhile does not mix two scripts)
     with tempfile.TemporaryFile() as script:
         script.write(text)
         script.flush()
         try:
-            sweep_runs.make(os.environ["RX10_PROGRAM"], script, base)
             told, status = swept(Sweep(os.environ["RX10_PROGRAM"], script, given, base), expected, given)
         except sweep_runs.Refused as refusal:
             return refused(refusal, given, base, text)
         except (OSError, sweep_runs.NoTrace) as why:
             print("rx10: the sweep could not be made: %s" % why, file=sys.stderr)
-            return FAILED
+            return ends.FAILED
     print(told, end="")
     return status
 
 
-def run(words):
-    """main, with an end of its own where standard output can't be written or Ctrl-C comes early."""
-    try:
-        status = main(words)
-        sys.stdout.flush()
-        return status
-    except KeyboardInterrupt:
-        return STOPPED
-    except OSError as why:
-        # (what is left in the buffer can't be written at the end either)
-        os.dup2(os.open(os.devnull, os.O_WRONLY), 1)
-        if not isinstance(why, BrokenPipeError):
-            print("rx10: can't write: %s" % why.strerror, file=sys.stderr)
-        return FAILED
-
-
 if __name__ == "__main__":
-    sys.exit(run(sys.argv[1:]))
+    sys.exit(ends.guarded(main, sys.argv[1:]))

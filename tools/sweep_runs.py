@@ -1,23 +1,27 @@
 """Runs of a script for a sweep: a process each, started by several workers at a time, and what came of it.
 
 Most of what a short run costs is the start of a process. So a worker is a process of its own that starts the program without a shell or
-a copy of itself, and takes from the trace no more than the table needs.
+a copy of itself, lets it write to a file in memory that it reads once the program has ended, and takes from the trace no more than the
+table needs. A worker stays on one processor, and the program with it: to be woken on another one costs more than a short run.
 """
 
 import collections
+import contextlib
 import itertools
 import multiprocessing
 import multiprocessing.connection
 import os
+import random
 import re
 import signal
 
 Run = collections.namedtuple("Run", "seed kills")       # kills are pairs of a moment and a place
 Outcome = collections.namedtuple("Outcome", "status prints thrown lost masked")
 
-CHUNK = 16      # runs that a worker is handed at a time
-PIECE = 1 << 16
-ENVIRONMENT = dict(os.environb)
+# A worker is handed so many runs at a time as take so many seconds, but one at least.
+MOST_AT_ONCE, SECONDS_AT_ONCE = 32, 0.03
+# (the program reads no variable; those for the system's loader may be needed to start it)
+ENVIRONMENT = {name: value for name, value in os.environb.items() if name.startswith(b"LD_")}
 TITLE = b"rx10 trace 2\n"
 TOLD = re.compile(rb"^(\d+) (?:print t\d+ (-?\d+)|release (host|t\d+) s\d+([^|\n]*))", re.M)
 
@@ -58,39 +62,50 @@ def outcome_of(status, text):
     raise NoTrace("the root is never released")
 
 
-def make(program, script, words):
-    """Makes one run of the script in this open file: what came of it, and how many entries its history has."""
-    words = ["step", *words]
-    reader, writer = os.pipe()
-    actions = [(os.POSIX_SPAWN_OPEN, 0, "/proc/self/fd/%d" % script.fileno(), os.O_RDONLY, 0),
-               (os.POSIX_SPAWN_DUP2, writer, 1), (os.POSIX_SPAWN_DUP2, writer, 2)]
-    try:
-        process = os.posix_spawn(program, [program, *words], ENVIRONMENT, file_actions=actions)
-    finally:
-        os.close(writer)
-    pieces = []
-    while not pieces or pieces[-1]:
-        pieces.append(os.read(reader, PIECE))
-    os.close(reader)
-    text = b"".join(pieces)
-    # (its line on standard error comes with no trace, so one pipe serves for both)
-    status = os.waitstatus_to_exitcode(os.waitpid(process, 0)[1])
-    if status not in (0, 1):
-        raise Refused(status, text.decode("utf-8", "replace").strip(), words)
-    if not text.startswith(TITLE):
-        raise NoTrace("the program wrote no trace")
-    return outcome_of(status, text)
+class Maker:
+    """Makes runs of the script in an open file, one after the other.
+
+    Its descriptors stay open, and are no other process's: each run reads the script from its start, and writes from the start of a file in
+    memory. What an earlier run has left there behind its end is not read.
+    """
+
+    def __init__(self, program, script, base):
+        self.program, self.base = program, base
+        self.script = os.open("/proc/self/fd/%d" % script.fileno(), os.O_RDONLY)
+        self.written = os.memfd_create("rx10")
+        # (a line on standard error comes with no trace, so one file serves for both)
+        self.actions = [(os.POSIX_SPAWN_DUP2, self.script, 0), (os.POSIX_SPAWN_DUP2, self.written, 1), (os.POSIX_SPAWN_DUP2, self.written, 2)]
+
+    def close(self):
+        os.close(self.script)
+        os.close(self.written)
+
+    def make(self, run):
+        """Makes this run: what came of it, and how many entries its history has."""
+        words = ["step", *words_of(self.base, run)]
+        os.lseek(self.script, 0, os.SEEK_SET)
+        os.lseek(self.written, 0, os.SEEK_SET)
+        process = os.posix_spawn(self.program, [self.program, *words], ENVIRONMENT, file_actions=self.actions)
+        status = os.waitstatus_to_exitcode(os.waitpid(process, 0)[1])
+        text = os.pread(self.written, os.lseek(self.written, 0, os.SEEK_CUR), 0)
+        if status not in (0, 1):
+            raise Refused(status, text.decode("utf-8", "replace").strip(), words)
+        if not text.startswith(TITLE):
+            raise NoTrace("the program wrote no trace")
+        return outcome_of(status, text)
 
 
-def work(connection, others, program, script, base):
+def work(connection, others, processor, program, script, base):
     """A worker: answers each list of runs that it is handed, and ends where the other side has gone."""
     signal.signal(signal.SIGINT, signal.SIG_IGN)
+    with contextlib.suppress(OSError):
+        os.sched_setaffinity(0, {processor})
     for it in others:
         it.close()
+    maker = Maker(program, script, base)
     try:
         while True:
-            runs = connection.recv()
-            connection.send([make(program, script, words_of(base, run)) for run in runs])
+            connection.send([maker.make(run) for run in connection.recv()])
     except EOFError:
         pass
     except (Refused, NoTrace, OSError) as fault:
@@ -98,15 +113,20 @@ def work(connection, others, program, script, base):
 
 
 class Workers:
-    """Some workers, and the connection to each. They end with the `with` in which they stand."""
+    """Some workers, and the connection to each. They end with the `with` in which they stand. A run takes so many seconds of a processor."""
 
-    def __init__(self, count, program, script, base):
+    def __init__(self, count, seconds, program, script, base):
         context = multiprocessing.get_context("fork")
+        # (in any order, so that of several sweeps with few workers not all begin on the same processor)
+        allowed = sorted(os.sched_getaffinity(0))
+        processors = random.sample(allowed, len(allowed))
+        self.at_once = max(1, min(MOST_AT_ONCE, int(SECONDS_AT_ONCE / max(seconds, 1e-6))))
         self.connections, self.processes = [], []
-        for _ in range(count):
+        for number in range(count):
             here, there = context.Pipe()
             self.connections.append(here)
-            process = context.Process(target=work, args=(there, list(self.connections), program, script, base), daemon=True)
+            given = there, list(self.connections), processors[number % len(processors)], program, script, base
+            process = context.Process(target=work, args=given, daemon=True)
             process.start()
             there.close()
             self.processes.append(process)
@@ -126,7 +146,7 @@ class Workers:
         waiting = {it: collections.deque() for it in self.connections}
 
         def hand_on(connection):
-            chunk = list(itertools.islice(runs, CHUNK))
+            chunk = list(itertools.islice(runs, self.at_once))
             if chunk:
                 connection.send(chunk)
                 waiting[connection].append(chunk)

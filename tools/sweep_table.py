@@ -1,6 +1,7 @@
 """What came of the runs of a sweep: groups with their least run, the table, and what every run must have."""
 
 import collections
+import re
 import shlex
 
 from sweep_runs import Outcome, words_of
@@ -44,6 +45,12 @@ class Groups:
         return ["  ".join(it[k].rjust(w) if k == 0 else it[k].ljust(w) for k, w in zip(kept, widths)).rstrip() for it in rows]
 
 
+def is_table(text):
+    """Whether a text begins as a table does."""
+    lines = text.split("\n")
+    return len(lines) > 3 and re.match(r".*: .*\b\d+ runs?\b.* outcomes?\b", lines[0]) is not None and lines[2].startswith("runs ")
+
+
 class Requirement:
     """What every run must have, as `status=0 prints=42`: values of some columns of the table."""
 
@@ -52,6 +59,8 @@ class Requirement:
         self.wanted = {}
         for word in text.split():
             field, equals, values = word.partition("=")
+            if "=" in values:
+                raise ValueError("`%s`: a blank stands between two fields" % word)
             if field not in Outcome._fields or not equals:
                 raise ValueError("`%s` is no FIELD=VALUES; the fields are %s" % (word, ", ".join(Outcome._fields)))
             if field in self.wanted:

@@ -12,6 +12,7 @@ import subprocess
 import sys
 
 import explain
+import inputs
 import script_text
 import trace_text
 from model.verdict import judge, tree_before
@@ -48,7 +49,7 @@ def reason(verdict, text, trace, name, trace_name):
 
 def main(path, name, trace_name):
     try:
-        pair = explain.read(path)
+        pair = inputs.read(path)
     except OSError:
         return
     done = subprocess.run([os.environ["RX10_PROGRAM"], "verify"], input=pair, capture_output=True, check=False)

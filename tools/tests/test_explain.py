@@ -4,6 +4,9 @@ import unittest
 
 import explain
 import script_text
+import trace_hints
+from model.lines import first_bad_line
+from places import EXAMPLES
 
 # A script, what the program says of it, and the first line and the mark of what is added.
 FAULTS = [
@@ -82,13 +85,35 @@ HINTS = [
     ("\ufeffprint 7;", "a byte order mark"),
     ("rx10 trace 2\n", "this is a trace"),
     ("Print 7;", "no capital letters"),
+    ("if 1 { }\nprint 2;", "`else { }`"),
+    ("if 1 { } esle { }", "is `else` meant?"),
+    ("try { }\nprint 2;", "`catch dead { .. }`"),
+    ("print (1 <= 2);", "`(a < (b + 1))`"),
+    ("finish { } }", "no `{` is open here"),
+    ("print\u00a07;", "a no-break space"),
+    ("print \u201c7\u201d;", "there are no texts"),
+    ("p\0r\0i\0n\0t\0", "UTF-16"),
 ]
 # Lines of a trace that is none, the bad one, and why it is bad.
+HEAD = "rx10 trace 2\nplaces 2 heap 256\nkills\njoins\nhistory\n"
 LINES = [
     ("rx10 trace 2\r\nplaces 2 heap 256\r\n", 1, "carriage return"),
     ("rx10 trace 2\nplaces 2 heap 256\nkills\njoins\nhistory\n0 open t0 s1 in s0 0\n2 wait t0 s1\n", 7, "entry 1 is due here"),
     ("print 7;\n", 1, "a trace begins with `rx10 trace 2`"),
-    ("rx10 trace 2\ndone\nseen 0 scopes 1 live 1 travel 0\n", 3, "`grep -v '^seen'`"),
+    (HEAD + "journal 0\njournal 1\ndone\nseen 0 scopes 1 live 1 travel 0\n", 9, "`grep -v '^seen'`"),
+    (HEAD + "journal 0\njournal 1\ndone\nmore\n", 9, "nothing may follow `done`"),
+    ("rx10 trace 2\nplaces 1 heap 0\n", 2, "heaps of 1 to 4096 words"),
+    (HEAD.replace("kills", "kills 2@3"), 4, "line 3 has place 2 die, and the places are 0 to 1"),
+    (HEAD + "0 hello\n", 6, "an entry is one of: open, at, spawn"),
+    (HEAD + "0 arrive t1 2\n", 6, "the form of this line is `arrive tN PLACE [| PATH..]`; the places of this trace are 0 to 1"),
+    (HEAD + "0 print t0 1 0,1\n", 6, "a path is numbers with points between them, as in 0.1"),
+    (HEAD + "0 release t0 s1 lost 2\n", 6, "the places of this trace are 0 to 1"),
+    (HEAD + "0 release t0 s1 lost 1 0\n", 6, "lost places stand in rising order"),
+    (HEAD + "0 release t0 s1 masked 0\n", 6, "what is masked is at least 1"),
+    (HEAD + "0 end t0 thrown code\n", 6, "a fault is dead:PLACE, code:VALUE, or one of overflow"),
+    (HEAD + "journal 0\n0 t0 0 make 4 at 0 1\n", 7, "`N tN N make N at N N PATH`"),
+    (HEAD + "journal 0\ndone\n", 7, "`journal 1` is due here, or event 0 of journal 0"),
+    (HEAD + "journal 0\njournal 1\ndone", 8, "no newline stands behind it"),
 ]
 
 
@@ -114,8 +139,20 @@ class Faults(unittest.TestCase):
     def test_lines_of_traces(self):
         for trace, number, hint in LINES:
             with self.subTest(trace=trace):
+                self.assertEqual(first_bad_line(trace), number)
                 shown = explain.explained(10, "bad line %d" % number, "x", b"rx10 pair 0\n" + trace.encode(), ["verify"])
                 self.assertIn(hint, shown)
+
+    def test_each_bad_line_has_a_reason(self):
+        lines = (EXAMPLES / "supervisor.trace").read_text().split("\n")
+        for number, line in enumerate(lines):
+            words = line.split(" ")
+            for k in range(len(words)):
+                for changed in (words[:k], words[:k] + words[k + 1:], [*words[:k], "x", *words[k + 1:]], [*words[:k], "99", *words[k:]]):
+                    text = "\n".join([*lines[:number], " ".join(changed), *lines[number + 1:]])
+                    bad = first_bad_line(text)
+                    if bad is not None:
+                        self.assertTrue(trace_hints.notes(text.encode(), bad))
 
     def test_what_is_too_long(self):
         self.assertEqual(explain.explained(5, "too long", "x", b"#" * 70000, ["step"]), "x has 70,000 bytes, and a script may have 65,536")

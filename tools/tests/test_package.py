@@ -67,7 +67,8 @@ class Installed(unittest.TestCase):
         bare.mkdir()
         for name in ("bash", "head", "mktemp", "readlink", "rm"):
             bare.joinpath(name).symlink_to(shutil.which(name))
-        self.assertEqual(self.run_in(room / "rx10", ["check"], b"print x;", PATH=str(bare)), (4, "", "bad 1 0\n"))
+        told = "bad 1 0\nrx10: python3 is not on the path; with it the place and the reason are told\n"
+        self.assertEqual(self.run_in(room / "rx10", ["check"], b"print x;", PATH=str(bare)), (4, "", told))
         self.assertEqual(self.run_in(room / "rx10", ["help", "draw"], PATH=str(bare)), (125, "", "rx10: draw needs python3\n"))
 
     def test_a_folder_in_the_way(self):

@@ -62,7 +62,7 @@ class Requirements(unittest.TestCase):
         self.assertTrue(sweep_table.Requirement("prints=2,1", True).is_met(self.FOUND._replace(prints=(1, 2))))
 
     def test_refused(self):
-        for text in ("", " ", "print=1", "status", "status=2", "status=-", "status=0 status=0", "prints=a", "lost=1;2", "masked=1,2"):
+        for text in ("", " ", "status=0,lost=-", "print=1", "status", "status=2", "status=-", "status=0 status=0", "prints=a", "lost=1;2", "masked=1,2"):
             with self.assertRaises(ValueError, msg=text):
                 sweep_table.Requirement(text, False)
 
@@ -136,7 +136,7 @@ class Sweeps(unittest.TestCase):
         done = launch("sweep", EXAMPLES / "hello.rx", "--places", "3", "--pairs", "--max", "40")
         self.assertIn("hello.rx --places 3: 40 of 120 runs (1 without a death, all 20 single deaths, 19 of 99 pairs, evenly spread), ", done.stdout)
         done = launch("sweep", EXAMPLES / "hello.rx", "--places", "3", "--pairs", "--max", "6")
-        self.assertIn("hello.rx --places 3: 6 of about 121 runs (1 without a death, 5 of 20 single deaths, ", done.stdout)
+        self.assertIn("hello.rx --places 3: 6 of about 121 runs (1 without a death, 5 of 20 single deaths, no pairs, ", done.stdout)
         self.assertEqual(launch("sweep", EXAMPLES / "hello.rx", "--max", "11").stdout, HELLO)
 
     def test_expect(self):
@@ -149,6 +149,9 @@ class Sweeps(unittest.TestCase):
             done = launch("sweep", EXAMPLES / "hello.rx", "--expect", kept)
             self.assertEqual(done.returncode, 1)
             self.assertIn("+   1  1       7", done.stdout)
+            done = launch("sweep", EXAMPLES / "hello.rx", "--expect", EXAMPLES / "hello.rx")
+            self.assertEqual((done.returncode, done.stdout), (125, ""))
+            self.assertIn("hello.rx is no table that a sweep has written", done.stderr)
 
     def test_refusals(self):
         done = launch("sweep", EXAMPLES / "hello.rx", "--places", "17")
@@ -161,13 +164,13 @@ class Sweeps(unittest.TestCase):
         self.assertEqual(done.returncode, 3)
         self.assertIn("hello.trace:1:1: ", done.stderr)
         for words, told in ((["--paris"], "is `--pairs` meant?"), (["--max", "0"], "from 1"), (["more"], "takes one file"),
-                            (["--pairs", "--no-deaths"], "exclude"), (["--seeds", "2", "--seed", "1"], "excludes")):
+                            (["--pairs", "--no-deaths"], "exclude"), (["--require", ""], "nothing is required"), (["--seeds", "2", "--seed", "1"], "excludes")):
             done = launch("sweep", EXAMPLES / "hello.rx", *words)
             self.assertEqual(done.returncode, 2, words)
             self.assertIn(told, done.stderr)
 
     def test_outputs_that_can_not_be_written(self):
-        for words, said in (["--help"], b"standard output could not be written"), ([str(EXAMPLES / "hello.rx")], b"can't write: No space left on device"):
+        for words, said in (["--help"], b"standard output could not be written"), ([str(EXAMPLES / "hello.rx")], b"standard output can't be written: No space left on device"):
             with open("/dev/full", "wb") as full:
                 done = subprocess.run([TOP / "rx10", "sweep", *words], stdout=full, stderr=subprocess.PIPE, check=False)
             self.assertEqual((done.returncode, done.stderr), (125, b"rx10: %s\n" % said))
@@ -181,7 +184,7 @@ class Sweeps(unittest.TestCase):
             with subprocess.Popen(words, stdout=subprocess.PIPE, stderr=subprocess.PIPE,
                                   preexec_fn=lambda: signal.signal(signal.SIGINT, signal.SIG_DFL)) as started:
                 first = started.stderr.readline()
-                time.sleep(1.5)
+                time.sleep(2.5)
                 started.send_signal(signal.SIGINT)
                 out, _ = started.communicate(timeout=60)
         self.assertRegex(first, rb"^rx10: this is a long sweep: about \d+ runs, about \d+ h; --max N makes N of them, and Ctrl-C ends it")

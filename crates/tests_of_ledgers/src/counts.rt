@@ -333,11 +333,15 @@ fn tasks_are_counted_where_they_are(rt: HostRuntime) -> Result<(), Fail> {
     same(&rt, (transit, lost, adopter), (0, PlaceSet(2), ScopeId(1)));
     let mut ledger = CountLedger::open(rt.alloc(), 4)?;
     let (born, early) = call(&mut ledger)?;
-    same(&rt, born, Born {
+    same(
+        &rt,
+        born,
+        Born {
             child: TaskId(1),
             scope: ScopeId(1),
-            lost: false
-        });
+            lost: false,
+        },
+    );
     assert!(rt; matches!(early, Err(LedgerFault::NotYet { place: PlaceId(0) })));
     Ok(())
 }

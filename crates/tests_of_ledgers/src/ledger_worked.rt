@@ -11,8 +11,8 @@ ghost use Rattle.rx_ledger.specs.GoingOn.{MayBegin, MayGoOn};
 ghost use Rattle.rx_ledger.specs.Kept.{Applied, IsHistory};
 ghost use Rattle.rx_ledger.specs.Owned.{own_told};
 
-use crate::same::same;
 use crate::ledger::{calm, end, finish, finish_child, opened};
+use crate::same::same;
 use rx_base::{Batch, Faults, Kill, NoMemory, Path, PlaceId, PlaceSet, TaskId};
 use rx_counts::CountLedger;
 use rx_history::{Ask, JoinList, KillList, Setup};

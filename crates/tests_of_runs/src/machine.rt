@@ -186,9 +186,21 @@ fn a_loss_turn_by_turn_over_counts(rt: HostRuntime) -> Result<(), Fail> {
         panic!(rt; "no program")
     };
     let mut picks = ListPicks::open(alloc, &[])?;
-    same(&rt, stops(&p, dying(alloc, &p)?, &mut picks, &[1, 2, 1]), Some(3));
-    same(&rt, runs_on(&p, dying(alloc, &p)?, &mut picks, &[1, 2, 1, 1])?, Some(7));
-    same(&rt, ends(&p, dying(alloc, &p)?, &mut picks, &[1, 2, 1, 1, 1, 0]), Some(7));
+    same(
+        &rt,
+        stops(&p, dying(alloc, &p)?, &mut picks, &[1, 2, 1]),
+        Some(3),
+    );
+    same(
+        &rt,
+        runs_on(&p, dying(alloc, &p)?, &mut picks, &[1, 2, 1, 1])?,
+        Some(7),
+    );
+    same(
+        &rt,
+        ends(&p, dying(alloc, &p)?, &mut picks, &[1, 2, 1, 1, 1, 0]),
+        Some(7),
+    );
     Ok(())
 }
 
@@ -199,6 +211,10 @@ fn a_call_of_a_joined_place_over_the_tree(rt: HostRuntime) -> Result<(), Fail> {
         panic!(rt; "no program")
     };
     let mut picks = ListPicks::open(alloc, &[])?;
-    same(&rt, runs_on(&p, joining(alloc, &p)?, &mut picks, &[1, 1, 1])?, Some(9));
+    same(
+        &rt,
+        runs_on(&p, joining(alloc, &p)?, &mut picks, &[1, 1, 1])?,
+        Some(9),
+    );
     Ok(())
 }

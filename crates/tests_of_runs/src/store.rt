@@ -30,18 +30,26 @@ fn stale_reference(rt: HostRuntime) -> Result<(), Fail> {
     let mut store = Store::open(rt.alloc(), HERE, 256)?;
     store.reserve(4)?;
     let r = store.make(mark(&rt, 0), 3).expect(&rt, "room for 3");
-    same(&rt, r, GlobalRef {
+    same(
+        &rt,
+        r,
+        GlobalRef {
             home: HERE,
             start: 0,
-            generation: 1
-        });
+            generation: 1,
+        },
+    );
     store.forget(mark(&rt, 0), r).expect(&rt, "a live block");
     let q = store.make(mark(&rt, 0), 3).expect(&rt, "room for 3");
-    same(&rt, q, GlobalRef {
+    same(
+        &rt,
+        q,
+        GlobalRef {
             home: HERE,
             start: 0,
-            generation: 2
-        });
+            generation: 2,
+        },
+    );
     same(&rt, store.get(mark(&rt, 0), r, 0), Err(StoreFault::Stale));
     let journal = store.into_journal();
     assert!(rt; journal.len() == 4);
@@ -65,19 +73,27 @@ fn full_heap(rt: HostRuntime) -> Result<(), Fail> {
     store.reserve(5)?;
     let a = store.make(mark(&rt, 0), 4).expect(&rt, "room for 4");
     let b = store.make(mark(&rt, 0), 4).expect(&rt, "room for 4");
-    same(&rt, b, GlobalRef {
+    same(
+        &rt,
+        b,
+        GlobalRef {
             home: HERE,
             start: 4,
-            generation: 2
-        });
+            generation: 2,
+        },
+    );
     store.forget(mark(&rt, 0), a).expect(&rt, "a live block");
     same(&rt, store.make(mark(&rt, 0), 5), Err(StoreFault::Full));
     let d = store.make(mark(&rt, 1), 4).expect(&rt, "room for 4");
-    same(&rt, d, GlobalRef {
+    same(
+        &rt,
+        d,
+        GlobalRef {
             home: HERE,
             start: 0,
-            generation: 3
-        });
+            generation: 3,
+        },
+    );
     expect_cell(&rt, store.journal(), 3, Cell::MakeFull { words: 5 });
     Ok(())
 }
@@ -104,7 +120,11 @@ fn closed_store(rt: HostRuntime) -> Result<(), Fail> {
         start: 0,
         generation: 1,
     };
-    same(&rt, store.put(mark(&rt, 4), r, 0, 8), Err(StoreFault::Closed));
+    same(
+        &rt,
+        store.put(mark(&rt, 4), r, 0, 8),
+        Err(StoreFault::Closed),
+    );
     assert!(rt; store.journal().len() == 1);
     Ok(())
 }

@@ -10,7 +10,7 @@ import trace_text
 from explain import parts_of
 from model.lines import first_bad_line
 from model.verdict import judge
-from program import Answer, short
+from program import Answer, outcomes, short
 
 EACH = 10           # traces of one script: as it was written, with some bytes changed, and damaged
 LONGEST = 600       # the entries of a run that is taken
@@ -57,12 +57,12 @@ def written(run, rng):
     return script, run(command + making.words_for(rng, places, length), script).out
 
 
-def judged_case(run, seed, number, counts):
-    """The script of this number and its traces. The verdicts are counted, by their first word."""
-    rng = random.Random("%d %d" % (seed, number))
+def judged_case(run, seed, number):
+    """What is wrong with the verdicts on the traces of the script of this number, or None; and the first words of the verdicts, counted."""
+    rng, counts = random.Random("%d %d" % (seed, number)), collections.Counter()
     found = written(run, rng)
     if found is None:
-        return None
+        return None, counts
     script, trace = found
     for k in range(EACH):
         text = pair(script, trace if k == 0 else damage.mutated(rng, trace) if k == 1 else damage.damaged(rng, trace.decode()).encode())
@@ -70,14 +70,17 @@ def judged_case(run, seed, number, counts):
         counts[(answer.out or answer.err).split()[0].decode()] += 1
         wrong = difference(run, text, answer)
         if wrong is not None or k == 0 and answer.status != 0:
-            return wrong or "a trace that was written is judged as none: %r" % text
-    return None
+            return wrong or "a trace that was written is judged as none: %r" % text, counts
+    return None, counts
 
 
 def run(program, tally):
     counts = collections.Counter()
-    scripts = max(1, int(20 * tally.seconds))
-    tally.each([("script %d of seed %d" % (k, tally.seed), program.run, tally.seed, k, counts) for k in range(scripts)], judged_case)
+    cases = [("script %d of seed %d" % (k, tally.seed), program.run, tally.seed, k) for k in range(max(1, int(20 * tally.seconds)))]
+    for (name, *_), outcome in zip(cases, outcomes(cases, judged_case)):
+        wrong, told = outcome if isinstance(outcome, tuple) else (outcome, {})
+        tally.tell(name, wrong)
+        counts.update(told)
     # the model is held to the table too, which was made without it
     known = [case for case in tables.read_table("pairs.txt") if case.words == ["verify"]]
     tally.each([(case.name, program.run, case.stdin, case.answer) for case in known], difference)

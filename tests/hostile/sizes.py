@@ -64,6 +64,8 @@ SIDE_BY_SIDE = {
     "all places and kills": (EVERYWHERE, [*ALL_PLACES, *KILLS, "--heap", "4096"]),
     "all places and kills, by the greatest seed": (EVERYWHERE, [*ALL_PLACES, *KILLS, "--seed", MOST_SEED]),
     "a thousand tasks": (b"finish { repeat 1000 { at 1 async { print here; } } }", ["--kill", "1@2500", "--seed", "1"]),
+    # so many wait at place 0 at one time, and as many are at work at place 1
+    "150 calls": (b"finish { repeat 150 { async { at 1 { repeat 160 { print here; } } } } }", []),
 }
 
 # Limits of scripts, with what is said of them just inside (None) and just outside.

@@ -57,12 +57,12 @@ def written(run, rng):
     return script, run(command + making.words_for(rng, places, length), script).out
 
 
-def judged_case(run, seed, number):
-    """What is wrong with the verdicts on the traces of the script of this number, or None; and the first words of the verdicts, counted."""
-    rng, counts = random.Random("%d %d" % (seed, number)), collections.Counter()
+def judged_case(run, seed, number, counts):
+    """What is wrong with the verdicts on the traces of the script of this number, or None. The verdicts are counted, by their first word."""
+    rng = random.Random("%d %d" % (seed, number))
     found = written(run, rng)
     if found is None:
-        return None, counts
+        return None
     script, trace = found
     for k in range(EACH):
         text = pair(script, trace if k == 0 else damage.mutated(rng, trace) if k == 1 else damage.damaged(rng, trace.decode()).encode())
@@ -70,14 +70,20 @@ def judged_case(run, seed, number):
         counts[(answer.out or answer.err).split()[0].decode()] += 1
         wrong = difference(run, text, answer)
         if wrong is not None or k == 0 and answer.status != 0:
-            return wrong or "a trace that was written is judged as none: %r" % text, counts
-    return None, counts
+            return wrong or "a trace that was written is judged as none: %r" % text
+    return None
+
+
+def counted_case(run, seed, number):
+    """The same, with the count."""
+    counts = collections.Counter()
+    return judged_case(run, seed, number, counts), counts
 
 
 def run(program, tally):
     counts = collections.Counter()
     cases = [("script %d of seed %d" % (k, tally.seed), program.run, tally.seed, k) for k in range(max(1, int(20 * tally.seconds)))]
-    for (name, *_), outcome in zip(cases, outcomes(cases, judged_case)):
+    for (name, *_), outcome in zip(cases, outcomes(cases, counted_case)):
         wrong, told = outcome if isinstance(outcome, tuple) else (outcome, {})
         tally.tell(name, wrong)
         counts.update(told)

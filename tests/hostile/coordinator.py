@@ -11,8 +11,9 @@ import time
 
 import coordinator_model
 from coordinator_model import Model
-from program import WRITE_FAULT, Answer, short
+from program import WRITE_FAULT, Answer, outcomes, short
 
+STREAMS = 4     # how many sessions run at one time
 VERBS = ["open", "at", "spawn", "send", "arrive", "wait", "release", "end", "death", "join", "root"]
 WORDS = ["t0", "t1", "t2", "t01", "t", "s1", "0", "1", "15", "16", "255", "256", "00", "-1", "+1", "", " ", "\t", "t4294967295", "t4294967296",
          "999999999", "1000000000", "t-1", "t1x", "\r", "x", "thrown", "T0"]
@@ -91,15 +92,33 @@ def right(answer, wanted):
     return None if answer.out == wanted else first_difference(wanted, answer.out)
 
 
-def sessions(program, tally, seconds, seed):
-    """Random sessions beside the model, for so many seconds."""
-    end, number, lines = time.monotonic() + seconds, 0, 0
+def some_sessions(program, seconds, seed, first):
+    """Each STREAMS-th random session from this one on, for so many seconds: how many, their lines, and the complaints with their numbers."""
+    end, number, lines, wrong = time.monotonic() + seconds, first, 0, []
     while time.monotonic() < end:
         places, text, wanted = session("%d/%d" % (seed, number), 400)
-        tally.tell("session %d/%d" % (seed, number), right(told(program, places, text), wanted))
+        found = right(told(program, places, text), wanted)
+        if found:
+            wrong.append((number, found))
         lines += text.count(b"\n")
-        number += 1
-    tally.note("coordinator: %d random sessions, %d lines" % (number, lines))
+        number += STREAMS
+    return (number - first) // STREAMS, lines, wrong
+
+
+def sessions(program, tally, seconds, seed):
+    """Random sessions beside the model, which take so many seconds of a processor."""
+    count, lines = 0, 0
+    cases = [("sessions of seed %d, from %d on" % (seed, first), program, seconds / STREAMS, seed, first) for first in range(STREAMS)]
+    for (name, *_), outcome in zip(cases, outcomes(cases, some_sessions)):
+        if isinstance(outcome, str):
+            tally.tell(name, outcome)
+            continue
+        for number, found in outcome[2]:
+            tally.tell("session %d/%d" % (seed, number), found)
+        for _ in range(outcome[0] - len(outcome[2])):
+            tally.tell(name, None)
+        count, lines = count + outcome[0], lines + outcome[1]
+    tally.note("coordinator: %d random sessions, %d lines" % (count, lines))
 
 
 def noise(program, tally, seed):

@@ -3,10 +3,12 @@
 import pathlib
 import subprocess
 
-from program import shape_complaint
+from program import outcomes, shape_complaint
 
 HERE = pathlib.Path(__file__).resolve().parent
 WORDS = 44      # those that storm.c asks for
+STORMS = 4      # how many run at one time
+APART = 1000000000      # between the numbers of their first cases
 
 
 def storm(program, seed, told, seconds):
@@ -27,13 +29,19 @@ def show(program, seed, number):
     return words.split(b"\n")[:-1], text
 
 
+def live_words(program, seed, number):
+    """The words by `live` and the input of a case, where it is one of `step` with right words and without picks; or None."""
+    words, text = show(program, seed, number)
+    if words[:1] != [b"step"] or b"--pick" in words or b"--seed" in words or program.run(words, text).status == 2:
+        return None
+    return [b"live", *words[1:], b"--workers", b"%d" % (1 + number % 8)], text
+
+
 def live_cases(program, tally):
     """Cases of the storm by `live`: the form of the answer, and what is refused is what `check` refuses."""
-    cases = []
-    for number in range(60):
-        words, text = show(program, tally.seed, number)
-        if words[:1] == [b"step"] and program.run(words, text).status != 2 and b"--pick" not in words and b"--seed" not in words:
-            cases.append(("case %d by live" % number, program, [b"live", *words[1:], b"--workers", b"%d" % (1 + number % 8)], text))
+    found = outcomes([("", program, tally.seed, number) for number in range(60)], live_words)
+    cases = [("case %d by live" % number, program, *it) for number, it in enumerate(found) if isinstance(it, tuple)]
+    tally.tell("cases by live", next((it for it in found if isinstance(it, str)), None if cases else "there are none"))
     tally.each(cases, live_case)
 
 
@@ -46,8 +54,12 @@ def live_case(program, words, text):
 
 
 def run(program, tally):
-    status, told = storm(program, tally.seed, {"seconds": int(tally.seconds)}, int(tally.seconds))
-    line = told.decode("utf-8", "replace").strip()
-    tally.tell("mutated inputs of seed %d" % tally.seed, None if status == 0 else "status %d, %s" % (status, line or "nothing is told"))
-    tally.note("mutated inputs of seed %d: %s" % (tally.seed, line))
+    seconds = max(1, round(tally.seconds / STORMS))
+    cases = [("mutated inputs of seed %d from case %d on" % (tally.seed, first), program, tally.seed, {"seconds": seconds, "first": first}, seconds)
+             for first in range(0, STORMS * APART, APART)]
+    for (name, *_), outcome in zip(cases, outcomes(cases, storm)):
+        status, told = outcome if isinstance(outcome, tuple) else (None, outcome.encode())
+        line = told.decode("utf-8", "replace").strip()
+        tally.tell(name, None if status == 0 else "status %s, %s" % (status, line or "nothing is told"))
+        tally.note("%s: %s" % (name, line))
     live_cases(program, tally)

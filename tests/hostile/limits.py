@@ -225,7 +225,7 @@ def at_moment(program, words, stdin, wanted, raised, delay):
             try:
                 out, err = started.communicate(timeout=program.patience())
             except subprocess.TimeoutExpired:
-                program.hangs += 1
+                program.hangs()
                 started.kill()
                 return "hangs after %s" % raised.name
     answer = Answer(started.returncode, out, err)

@@ -1,7 +1,7 @@
 """Refused memory: each allocation of a run is refused in turn, and threads can't be started.
 
 Each run then gives its own answer, or `no memory` with nothing written; and the program has given back what it took (not asked of `live`,
-whose threads' own blocks libc keeps).
+whose threads' own blocks libc keeps). Where a thread can't be started another does its work, so the answer is the run's own.
 """
 
 from chains import span_answer
@@ -43,7 +43,7 @@ def refused(program, words, stdin, wanted, refusal):
     answer, counts = program.counted(words, stdin, **refusal)
     if wanted is LONG_LIVE:
         return None if answer == NO_MEMORY else long_live_complaint(answer)
-    wrong = complaint(answer, wanted, [NO_MEMORY])
+    wrong = complaint(answer, wanted, [] if "thread" in refusal else [NO_MEMORY])
     if wrong is None and words[0] != "live":
         if counts is None:
             return "the library has counted nothing"

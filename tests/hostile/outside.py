@@ -150,7 +150,7 @@ def written_to(program, words, stdin, out, limits=()):
 
 def full_file(program, wanted, words, stdin, room, ignored):
     """A file may have so many bytes. Where the signal for this is ignored the write is short or fails; else it ends the program."""
-    path = program.folder / ("full-%d" % threading.get_ident())
+    path = program.folder / ("full-%d" % os.getpid())
     limits = ["file=%d" % room, *(["ignore=%d" % signal.SIGXFSZ] if ignored else [])]
     with open(path, "wb") as out:
         status, _, err = written_to(program, words, stdin, out, limits)

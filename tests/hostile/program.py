@@ -3,15 +3,17 @@
 import atexit
 import collections
 import concurrent.futures
+import multiprocessing
 import os
 import pathlib
 import shutil
 import subprocess
 import tempfile
-import threading
 
 HERE = pathlib.Path(__file__).resolve().parent
 SECONDS = 120       # a run that takes longer hangs; the longest of them takes about a second
+AT_ONCE = min(16, max(4, os.cpu_count() or 1))      # cases that run at one time
+FORKED = multiprocessing.get_context("fork")
 
 Answer = collections.namedtuple("Answer", "status out err")
 NO_MEMORY = Answer(8, b"", b"no memory\n")
@@ -33,7 +35,7 @@ class Program:
         self.refuse = self.built("refuse.c", "refuse.so", library)
         self.storm = self.built("storm.c", "storm.so", library)
         self.start = self.built("start.c", "start", [])
-        self.hangs = 0
+        self.hung = FORKED.Value("i", 0)        # by all processes that try cases
 
     def built(self, source, name, flags):
         made = str(self.folder / name)
@@ -48,7 +50,11 @@ class Program:
 
     def patience(self):
         """The seconds that a run may take: few where the program has hung some times, so that the end comes all the same."""
-        return SECONDS if self.hangs < 3 else 2
+        return SECONDS if self.hung.value < 3 else 2
+
+    def hangs(self):
+        with self.hung.get_lock():
+            self.hung.value += 1
 
     def run(self, words, stdin, limits=(), **told):
         """The answer to these words and this input (bytes, or an open file); its status is None where it hangs."""
@@ -57,20 +63,20 @@ class Program:
         try:
             done = subprocess.run(line, env=environment, capture_output=True, timeout=self.patience(), check=False, **given)
         except subprocess.TimeoutExpired as hung:
-            self.hangs += 1
+            self.hangs()
             return Answer(None, hung.stdout or b"", hung.stderr or b"")
         return Answer(done.returncode, done.stdout, done.stderr)
 
     def counted(self, words, stdin, **told):
         """The answer, and how many there were of allocations, reads, writes, threads and all calls, and of blocks not given back."""
-        path = self.folder / ("count-%d" % threading.get_ident())
+        path = self.folder / ("count-%d" % os.getpid())
         path.unlink(missing_ok=True)
         answer = self.run(words, stdin, count=path, **told)
         return answer, [int(word) for word in path.read_text().split()] if path.exists() else None
 
 
 class Tally:
-    """What passed and what failed. Cases run four at a time, since most of each is waiting for a process to start."""
+    """What passed and what failed. Cases run in several processes at one time, since the models compute as much as the program does."""
 
     def __init__(self):
         self.passed = self.failed = 0
@@ -86,17 +92,30 @@ class Tally:
 
     def each(self, cases, judge):
         """Tells of each case what the judge says of it: a complaint, or None. A case is a name and what the judge is given."""
-        with concurrent.futures.ThreadPoolExecutor(4) as pool:
-            for (name, *_), complaint in zip(cases, pool.map(lambda case: judged(judge, case[1:]), cases)):
-                self.tell(name, complaint)
+        for (name, *_), complaint in zip(cases, outcomes(cases, judge)):
+            self.tell(name, complaint)
 
     def note(self, text):
         self.notes.append(text)
 
 
-def judged(judge, arguments):
+def outcomes(cases, judge):
+    """What the judge says of each case, in their order; of one at which it fails, a complaint."""
+    # (each process has the cases and the judge from its beginning, so only numbers and what is said go between them)
+    piece = max(1, min(16, len(cases) // (16 * AT_ONCE)))
+    with concurrent.futures.ProcessPoolExecutor(AT_ONCE, FORKED, begin, (cases, judge)) as pool:
+        return list(pool.map(judged, range(len(cases)), chunksize=piece))
+
+
+def begin(cases, judge):
+    global tried
+    tried = cases, judge
+
+
+def judged(number):
+    cases, judge = tried
     try:
-        return judge(*arguments)
+        return judge(*cases[number][1:])
     except Exception as fault:      # a judge that fails is a failure, and the others go on
         return "%s: %s" % (type(fault).__name__, fault)
 

@@ -64,6 +64,8 @@ SIDE_BY_SIDE = {
     "all places and kills": (EVERYWHERE, [*ALL_PLACES, *KILLS, "--heap", "4096"]),
     "all places and kills, by the greatest seed": (EVERYWHERE, [*ALL_PLACES, *KILLS, "--seed", MOST_SEED]),
     "a thousand tasks": (b"finish { repeat 1000 { at 1 async { print here; } } }", ["--kill", "1@2500", "--seed", "1"]),
+    # so many wait at place 0 at one time, and as many are at work at place 1
+    "150 calls": (b"finish { repeat 150 { async { at 1 { repeat 160 { print here; } } } } }", []),
 }
 
 # Limits of scripts, with what is said of them just inside (None) and just outside.
@@ -136,14 +138,14 @@ def all_picks(program):
     return found or answered(program, ["step", "--pick", "x"], EIGHT, Answer(2, b"", b"usage 2\n"), last=kept)
 
 
-def all_of_gen(program):
-    """The longest generated script, whose work is half of what may be, on one place, and on all of them with a death of each."""
-    for options in (["--places", "1"], [*ALL_PLACES, "--heap", "4096", *KILLS, "--seed", MOST_SEED]):
-        words = ["gen", "--size", "10000", *options]
-        run = run_of(words, generated(10000, int(options[1])))
-        found = answered(program, words, b"", Answer(run.status(), run.numbers(), b""))
-        if found:
-            return found
+def longest_gen(program, options):
+    """The longest generated script, whose work is half of what may be."""
+    words = ["gen", "--size", "10000", *options]
+    run = run_of(words, generated(10000, int(options[1])))
+    return answered(program, words, b"", Answer(run.status(), run.numbers(), b""))
+
+
+def too_long_gen(program):
     return answered(program, ["gen", "--size", "10001"], b"", Answer(2, b"", b"usage 2\n"))
 
 
@@ -231,16 +233,19 @@ def workers_at_work(program, workers, watch):
 def run(program, tally):
     for name in IN_A_ROW:
         known(name)
-    tally.each([("%s, by `step`" % name, program, name) for name in IN_A_ROW], in_a_row)
-    tally.each([("%s, by `live` with %d workers" % (name, workers), program, name, workers) for name in IN_A_ROW
-                for workers in ((1, 8) if name in ("entries", "kills") else (8,))], live_in_a_row)
-    tally.each([("%s, by `step`" % name, program, name) for name in SIDE_BY_SIDE], side_by_side)
-    tally.each([("%s, by `live` with %d workers" % (name, workers), program, name, workers) for name in SIDE_BY_SIDE
-                for workers in (1, 2, 8)], live_side_by_side)
-    tally.each([("%s with a flaw at its end: %s" % ("a long trace", name), program, change, wanted) for name, change, wanted in LATE], late_flaw)
-    tally.each([("a script at a limit: %r.." % text[:20], program, text, refusal) for text, refusal in SCRIPTS], script_limit)
-    tally.each([("100,000 picks", program)], all_picks)
-    tally.each([("the longest generated script", program)], all_of_gen)
-    tally.each([("the longest pair", program)], longest_pair)
+    cases = [("the longest pair", longest_pair), ("100,000 picks", all_picks)]      # (those that take long come first)
+    cases += [("%s, by `live` with %d workers" % (name, workers), live_in_a_row, name, workers) for name in IN_A_ROW
+              for workers in ((1, 8) if name in ("entries", "kills") else (8,))]
+    cases += [("%s, by `step`" % name, in_a_row, name) for name in IN_A_ROW]
+    cases += [("a long trace with a flaw at its end: %s" % name, late_flaw, change, wanted) for name, change, wanted in LATE]
+    # (on one place, and on all of them with a death of each)
+    cases += [("the longest generated script, %s" % " ".join(options[:2]), longest_gen, options)
+              for options in (["--places", "1"], [*ALL_PLACES, "--heap", "4096", *KILLS, "--seed", MOST_SEED])]
+    cases += [("%s, by `step`" % name, side_by_side, name) for name in SIDE_BY_SIDE]
+    cases += [("%s, by `live` with %d workers" % (name, workers), live_side_by_side, name, workers) for name in SIDE_BY_SIDE
+              for workers in (1, 2, 8)]
+    cases += [("a script at a limit: %r.." % text[:20], script_limit, text, refusal) for text, refusal in SCRIPTS]
+    cases += [("a generated script that is too long", too_long_gen)]
+    tally.each(cases, lambda judge, *given: judge(program, *given))
     tally.each([("%d workers%s" % (workers, ", watched" if watch else ""), program, workers, watch)
                 for workers in (1, 2, 3, 8) for watch in (False, True)], workers_at_work)

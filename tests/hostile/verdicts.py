@@ -10,7 +10,7 @@ import trace_text
 from explain import parts_of
 from model.lines import first_bad_line
 from model.verdict import judge
-from program import Answer, short
+from program import Answer, outcomes, short
 
 EACH = 10           # traces of one script: as it was written, with some bytes changed, and damaged
 LONGEST = 600       # the entries of a run that is taken
@@ -58,7 +58,7 @@ def written(run, rng):
 
 
 def judged_case(run, seed, number, counts):
-    """The script of this number and its traces. The verdicts are counted, by their first word."""
+    """What is wrong with the verdicts on the traces of the script of this number, or None. The verdicts are counted, by their first word."""
     rng = random.Random("%d %d" % (seed, number))
     found = written(run, rng)
     if found is None:
@@ -74,10 +74,19 @@ def judged_case(run, seed, number, counts):
     return None
 
 
+def counted_case(run, seed, number):
+    """The same, with the count."""
+    counts = collections.Counter()
+    return judged_case(run, seed, number, counts), counts
+
+
 def run(program, tally):
     counts = collections.Counter()
-    scripts = max(1, int(20 * tally.seconds))
-    tally.each([("script %d of seed %d" % (k, tally.seed), program.run, tally.seed, k, counts) for k in range(scripts)], judged_case)
+    cases = [("script %d of seed %d" % (k, tally.seed), program.run, tally.seed, k) for k in range(max(1, int(20 * tally.seconds)))]
+    for (name, *_), outcome in zip(cases, outcomes(cases, counted_case)):
+        wrong, told = outcome if isinstance(outcome, tuple) else (outcome, {})
+        tally.tell(name, wrong)
+        counts.update(told)
     # the model is held to the table too, which was made without it
     known = [case for case in tables.read_table("pairs.txt") if case.words == ["verify"]]
     tally.each([(case.name, program.run, case.stdin, case.answer) for case in known], difference)

@@ -76,6 +76,7 @@ class Place:
         self.owner: Optional[int] = None                        # the thread of the main task
         self.ready = threading.Event()                          # the places of the beginning are there, or the job is over
         self.end_others: Callable[[str], None] = lambda why: None
+        self.await_end: Callable[[], None] = lambda: None
 
         self._line, self._by_value, self._lock = line, by_value, threading.Lock()
         wire.close_in_children(line)
@@ -104,6 +105,7 @@ class Place:
             with self._lock:
                 self._line.sendall(data)
         except OSError:
+            self.await_end()
             raise self.closed or Closed("the hub is gone") from None
 
     def hang_up(self) -> None:

@@ -60,7 +60,7 @@ class Launched(unittest.TestCase):
                 victim = rt.at(2, os.getpid)
                 try:
                     with rt.finish() as f:
-                        tasks = [f.spawn(p, time.sleep, 0.5) for p in (1, 2, 3)]
+                        tasks = [f.spawn(p, time.sleep, 300 if p == 2 else 0) for p in (1, 2, 3)]
                         os.kill(victim, signal.SIGKILL)
                 except rx10.DeadPlaces as lost:
                     assert lost.places == (2,) and [task.lost for task in tasks] == [False, True, False]
@@ -87,7 +87,7 @@ class Launched(unittest.TestCase):
                     with socket.create_connection(("127.0.0.1", PORT)) as sock:
                         sock.sendall(hello)
                         sock.shutdown(socket.SHUT_WR)
-                        sock.settimeout(30)
+                        sock.settimeout(300)
                         try:
                             assert sock.recv(1) == b"", hello
                         except ConnectionResetError:

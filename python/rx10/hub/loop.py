@@ -109,7 +109,10 @@ class Hub:
     # The driver's engine.
 
     def to_driver(self, *message: Any) -> None:
-        self.control.sendall(frame(message))
+        try:
+            self.control.sendall(frame(message))
+        except OSError:
+            raise Closed("the driver ended") from None
 
     def read_control(self) -> None:
         data, files, *_ = socket.recv_fds(self.control, 1 << 16, 64)

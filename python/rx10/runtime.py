@@ -8,7 +8,7 @@ import socket
 import subprocess
 import sys
 import threading
-from typing import Any, Dict, List, Optional, Sequence
+from typing import Any, Callable, Dict, List, Optional, Sequence
 
 from . import calls, program, wire
 from .calls import Calls
@@ -39,7 +39,8 @@ class Runtime(Calls):
         if threads < 1:
             raise ValueError("a place runs one task at a time at least")
         command = [program.find().path, "--places", "1"]
-        self._settings = {"command": command, "places": places, "threads": threads, "backlog": backlog, "python": VERSION, "record": record}
+        self._settings: Dict[str, Any] = {
+            "command": command, "places": places, "threads": threads, "backlog": backlog, "python": VERSION, "record": record}
         self._engine = engine
         self._tags: Dict[int, Any] = {}
         self._joined = threading.Condition()                    # over `_tags`
@@ -58,8 +59,8 @@ class Runtime(Calls):
         self._place = place = Place(line, self._engine.by_value)
         place.number, place.pool.limit, place.owner = 0, self._settings["threads"], threading.get_ident()
         place.end_others, place.await_end = self._end_others, self._await_end
-        place.main = place.tasks[0] = Task(0, place, pooled=False)
-        place.main.thread = place.owner
+        place.main = place.tasks[0] = self._main = Task(0, place, pooled=False)
+        self._main.thread = place.owner
         try:
             with place.guard():
                 self._start(far_control, far_line)
@@ -95,9 +96,8 @@ class Runtime(Calls):
             body = [] if fault is None else leaves(fault)
             with self._place.guard():
                 self._place.tell("end", 0, [None] * len(body), None)
-                lost, masked, thrown, _ = self._place.wait_for_release(self._place.main, "root")
+                lost, masked, thrown, _ = self._place.wait_for_release(self._main, body, "root")
             graceful = True
-            thrown[:len(body)] = body
             if lost or len(thrown) > len(body):
                 raise outcome("the job", lost, masked, thrown) from fault
         finally:
@@ -144,7 +144,8 @@ class Runtime(Calls):
             self._fail(str(fault))
         except BaseException as fault:
             self._fail(f"the engine failed: {fault!r}")
-        self._hub.wait()                                        # this thread stays as long as the places do
+        if self._hub is not None:
+            self._hub.wait()                                    # this thread stays as long as the places do
 
     def _fail(self, why: str) -> None:
         self._place.close(Closed(why))
@@ -171,8 +172,9 @@ class Runtime(Calls):
         import logging
         logging.getLogger("rx10").warning("place %d is ended: it does not read, and %d bytes wait for it", place, waiting)
 
-    _FROM_HUB = {"start": lambda self, joiner: self._engine.add(joiner), "ended": lambda self, tag: self._engine.ended(tag),
-                 "joined": _on_joined, "behind": _on_behind}
+    _FROM_HUB: Dict[str, Callable[..., None]] = {
+        "start": lambda self, joiner: self._engine.add(joiner), "ended": lambda self, tag: self._engine.ended(tag),
+        "joined": _on_joined, "behind": _on_behind}
 
     def _tell_hub(self, *message: Any, files: Sequence[int] = ()) -> None:
         try:
@@ -204,7 +206,7 @@ class Runtime(Calls):
             return os.getpid()
         with self._joined:
             self._joined.wait_for(lambda: place in self._tags or self._place.closed)
-            if place not in self._tags:
+            if self._place.closed and place not in self._tags:
                 raise self._place.closed
             return self._tags[place]
 

@@ -227,6 +227,7 @@ def killed_while_it_starts():
 def start_and_kill(process):
     process.start()
     kill(process.pid)
+    return process.pid
 
 
 # What tasks raise and return.
@@ -724,6 +725,11 @@ def spawn_without_a_finish():
         with rx10.local(places=2) as rt:
             rt.spawn(1, throw, ValueError)
             rx10.spawn(1, nap, 0.1)
+    with raises(rx10.Faults, ValueError, KeyError):         # in the order of their ends
+        with rx10.local(places=2) as rt:
+            rt.spawn(1, throw, ValueError)
+            rt.at(1, same, 0)                               # so that it has ended
+            raise KeyError
 
 
 @situation

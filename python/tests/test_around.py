@@ -104,17 +104,30 @@ class Launched(unittest.TestCase):
         self.assertIn("set RX10_TOKEN to 32 random hexadecimal digits", done.output)
 
     def test_another_python(self):
-        others = [python for minor, python in VERSIONS.items() if python and minor != sys.version_info.minor]
-        if not others:
-            self.skipTest("there is no Python of another version")
-        done = self.play("""
+        self.play_other("""
             try:
                 with rx10.launched(places=2, port=PORT) as rt:
                     raise AssertionError("it started")
             except rx10.Closed as fault:
                 assert "they must be the same" in str(fault), fault
                 print("well")
-            """, places=1, python=others[0])
+            """)
+
+    def test_another_python_that_joins(self):
+        self.play_other("""
+            with rx10.launched(places=1, port=PORT) as rt:
+                try:
+                    rt.join()
+                except rx10.Misuse as fault:
+                    assert "they must be the same" in str(fault), fault
+                    print("well", rt.places())
+            """)
+
+    def play_other(self, body):
+        others = [python for minor, python in VERSIONS.items() if python and minor != sys.version_info.minor]
+        if not others:
+            self.skipTest("there is no Python of another version")
+        done = self.play(body, places=1, python=others[0])
         done.check(self)
         self.assertIn("well", done.output)
 

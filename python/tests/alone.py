@@ -13,7 +13,7 @@ import time
 HERE = pathlib.Path(__file__).resolve().parent
 PYTHON = HERE.parent                            # the folder with the package
 MARK = "RX10_TEST_MARK"
-LIMIT = 300                                     # seconds after which a test is taken to hang, however busy the machine is
+LIMIT = 600                                     # seconds after which a test is taken to hang, however busy the machine is
 GRACE = 60                                      # seconds in which a job's processes end after it
 # Each process of a test starts without what is installed beside Python: some thousand are started, and that is most of their time.
 BARE = [sys.executable, "-S"]

@@ -19,7 +19,7 @@ from plans import Map, plan
 from players import Planned, make
 from verdict import Records, Verdict, replay
 
-LIMIT = 200                     # seconds after which a job is taken to hang
+LIMIT = 500                     # seconds after which a job is taken to hang
 
 
 class Local:

@@ -2,23 +2,21 @@
 
 from __future__ import annotations
 
-import builtins
+import sys
 from typing import Iterable, List, Sequence, Tuple
 
+if sys.version_info >= (3, 11):
+    _Group = ExceptionGroup
+else:
+    class _Group(Exception):
+        """As much of ExceptionGroup as rx10 needs."""
 
-class _Group(Exception):
-    """As much of ExceptionGroup as rx10 needs, before Python 3.11."""
+        def __init__(self, message: str, exceptions: Sequence[BaseException]) -> None:
+            super().__init__(message, exceptions)
+            self.message, self.exceptions = message, tuple(exceptions)
 
-    def __new__(cls, message: str, exceptions: Sequence[BaseException]) -> _Group:
-        self = super().__new__(cls, message, exceptions)
-        self.message, self.exceptions = message, tuple(exceptions)
-        return self
-
-    def __str__(self) -> str:
-        return f"{self.message} ({'; '.join(f'{type(e).__name__}: {e}' for e in self.exceptions)})"
-
-
-_ExceptionGroup = getattr(builtins, "ExceptionGroup", _Group)
+        def __str__(self) -> str:
+            return f"{self.message} ({'; '.join(f'{type(e).__name__}: {e}' for e in self.exceptions)})"
 
 
 class DeadPlace(Exception):
@@ -32,7 +30,7 @@ class DeadPlace(Exception):
         return f"work was lost at place {self.place}"
 
 
-class Faults(_ExceptionGroup):
+class Faults(_Group):
     """What a finish raises: its losses in ascending order, then what its body raised, then what its tasks raised.
 
     Attributes:
@@ -54,7 +52,7 @@ class DeadPlaces(Faults):
     @property
     def places(self) -> Tuple[int, ...]:
         """The places at which work was lost, in ascending order."""
-        return tuple(sorted({loss.place for loss in self.exceptions}))
+        return tuple(sorted({loss.place for loss in self.exceptions if isinstance(loss, DeadPlace)}))
 
 
 def group(message: str, parts: Iterable[BaseException]) -> Faults:
@@ -73,7 +71,7 @@ def outcome(who: str, lost: Sequence[int], masked: int, thrown: Sequence[BaseExc
     return raised
 
 
-def bare(raised: Faults) -> Exception:
+def bare(raised: Faults) -> BaseException:
     """What a call raises in place of a group: its one part, where there is one and that is no loss."""
     return raised.exceptions[0] if len(raised.exceptions) == 1 and not isinstance(raised, DeadPlaces) else raised
 

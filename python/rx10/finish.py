@@ -17,7 +17,7 @@ class Handle:
         self.place = place
         self._over = False
         self._value: Optional[bytes] = None
-        self._faults: List[Exception] = []
+        self._faults: List[BaseException] = []
 
     @property
     def lost(self) -> bool:
@@ -27,10 +27,11 @@ class Handle:
 
     def result(self) -> Any:
         """What the task returned. Raises what it raised, or DeadPlace where it was lost; losses that it raised are DeadPlaces."""
-        if self.lost:
-            raise DeadPlace(self.place)
+        self._check()
         if self._faults:
             raise bare(group("a task", self._faults))
+        if self._value is None:
+            raise DeadPlace(self.place)
         return pickles.unpack_value(self._value)
 
     def _check(self) -> None:
@@ -57,7 +58,8 @@ class Finish:
 
     def spawn(self, place: int, fn: Callable, /, *args: Any, **kwargs: Any) -> Handle:
         """Starts fn(*args, **kwargs) as a task at a place, and returns its handle at once."""
-        if self._place.task() is not self._task or self._task.finishes[-1:] != [self]:
+        task = self._place.task()
+        if task is not self._task or task.finishes[-1:] != [self]:
             raise Misuse("tasks are started by the innermost finish, in the task that opened it")
         key = self._place.spawn(place, fn, args, kwargs, True)
         handle = self._handles[key] = Handle(place)
@@ -69,22 +71,23 @@ class Finish:
             return
         body = [] if fault is None else [_as_exception(leaf) for leaf in leaves(fault)]
         with self._place.guard():
-            self._check_turn()
-            lost, masked, thrown, ends = self._place.wait_for_release(self._task, "wait", self._task.key, len(body))
-            self._task.finishes.pop()
-        thrown[:len(body)] = body
+            task = self._task_in_turn()
+            lost, masked, thrown, ends = self._place.wait_for_release(task, body, "wait", task.key, len(body))
+            task.finishes.pop()
         self._tell_handles(ends, thrown)
         if self._line is not None:
             self._line.end()
         if lost or thrown:
             raise outcome("a finish", lost, masked, thrown) from None
 
-    def _check_turn(self) -> None:
-        if self._place.task() is not self._task or self._task.finishes[-1:] != [self]:
+    def _task_in_turn(self) -> Task:
+        task = self._place.task()
+        if task is not self._task or task.finishes[-1:] != [self]:
             self._place.abort("a finish was left out of turn")
             raise Misuse("a finish was left out of turn")
+        return task
 
-    def _tell_handles(self, ends: List[tuple], thrown: List[Exception]) -> None:
+    def _tell_handles(self, ends: List[tuple], thrown: List[BaseException]) -> None:
         for key, kind, what in ends:
             handle = self._handles.get(key)
             if handle is not None and kind == "value":

@@ -37,15 +37,17 @@ def pack(thing: Any, by_value: bool = False) -> bytes:
 
     `by_value`: what the main module defines goes along, since the other end has another main module.
     """
-    by_value = by_value or not main_has_file()
-    if by_value and cloudpickle():
-        return cloudpickle().dumps(thing, PROTOCOL)
+    if by_value or not main_has_file():
+        module = cloudpickle()
+        if module is not None:
+            return module.dumps(thing, PROTOCOL)
     try:
         return pickle.dumps(thing, PROTOCOL)
     except Exception:
-        if not cloudpickle():
+        module = cloudpickle()
+        if module is None:
             raise
-        return cloudpickle().dumps(thing, PROTOCOL)
+        return module.dumps(thing, PROTOCOL)
 
 
 def pack_call(fn: Callable, args: tuple, kwargs: dict, by_value: bool) -> bytes:

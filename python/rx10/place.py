@@ -8,7 +8,7 @@ import pickle
 import queue
 import socket
 import threading
-from typing import Any, Callable, Dict, List, NamedTuple, Optional, Tuple, TYPE_CHECKING
+from typing import Any, Callable, Dict, Iterable, List, NamedTuple, Optional, Tuple, TYPE_CHECKING
 
 from . import pickles, wire
 from .errors import Closed, CoordinatorLost, Faults, Misuse, bare, leaves, outcome
@@ -39,7 +39,7 @@ class Outcome(NamedTuple):
 
     lost: List[int]
     masked: int
-    thrown: List[Optional[Exception]]       # None for those that the finish's own body raised
+    thrown: List[BaseException]
     ends: List[tuple]                       # (key, "value", bytes) and (key, "threw", positions in `thrown`)
 
 
@@ -76,6 +76,7 @@ class Place:
         self.owner: Optional[int] = None                        # the thread of the main task
         self.ready = threading.Event()                          # the places of the beginning are there, or the job is over
         self.end_others: Callable[[str], None] = lambda why: None
+        self.await_end: Callable[[], None] = lambda: None
 
         self._line, self._by_value, self._lock = line, by_value, threading.Lock()
         wire.close_in_children(line)
@@ -104,6 +105,7 @@ class Place:
             with self._lock:
                 self._line.sendall(data)
         except OSError:
+            self.await_end()
             raise self.closed or Closed("the hub is gone") from None
 
     def hang_up(self) -> None:
@@ -193,13 +195,14 @@ class Place:
         if task.pooled:
             self.pool.enter_again()
         if kind == "stop":
-            raise self.closed
+            raise self.closed or Closed("the job is over")
         return tuple(answer)
 
-    def wait_for_release(self, task: Task, *message: Any) -> Outcome:
-        """The same, for what a release answers."""
+    def wait_for_release(self, task: Task, body: Iterable[BaseException], *message: Any) -> Outcome:
+        """The same, for what a release answers. `body`: what a finish's own body raised, of which the hub knows the count alone."""
         lost, masked, thrown, ends = self.wait(task, *message)
-        return Outcome(lost, masked, [data if data is None else pickles.unpack_fault(data) for data in thrown], ends)
+        own = iter(body)
+        return Outcome(lost, masked, [next(own) if data is None else pickles.unpack_fault(data) for data in thrown], ends)
 
     def spawn(self, place: int, fn: Callable, args: tuple, kwargs: dict, wanted: bool) -> int:
         """Starts a task and returns its key."""
@@ -222,7 +225,7 @@ class Place:
         if place == self.number:
             return self._at_home(call)
         with self.guard():
-            lost, masked, thrown, ends = self.wait_for_release(task, "call", task.key, self._new_key(), place, call)
+            lost, masked, thrown, ends = self.wait_for_release(task, (), "call", task.key, self._new_key(), place, call)
         if not lost and not thrown:
             return pickles.unpack_value(ends[0][2])
         raise bare(outcome(f"at({place})", lost, masked, thrown))

@@ -3,12 +3,11 @@
 from __future__ import annotations
 
 import os
-import pathlib
-import shutil
 from typing import Iterator, NamedTuple, Tuple
 
 NAME = "rx10-coordinator"
-HERE = pathlib.Path(__file__).resolve().parent
+HERE = os.path.dirname(os.path.abspath(__file__))
+TOP = os.path.dirname(os.path.dirname(HERE))                    # of the repository, where the package stands in it
 
 
 class Program(NamedTuple):
@@ -20,13 +19,14 @@ class Program(NamedTuple):
 
 def places_to_look() -> Iterator[Tuple[str, str]]:
     """Paths, the first choice first, each with how it is found. What RX10_COORDINATOR names is the only choice."""
+    import shutil                                               # the driver alone looks, and places need not wait for it
     named = os.environ.get("RX10_COORDINATOR")
     if named:
         yield named, "RX10_COORDINATOR"
         return
-    yield str(HERE / NAME), "beside the package"
+    yield os.path.join(HERE, NAME), "beside the package"
     yield shutil.which(NAME) or "", "on the path"
-    yield str(HERE.parents[1] / "crates" / "rx10_coordinator" / "out" / "rx10_coordinator"), "built in the repository"
+    yield os.path.join(TOP, "crates", "rx10_coordinator", "out", "rx10_coordinator"), "built in the repository"
 
 
 def find() -> Program:

@@ -3,14 +3,12 @@
 from __future__ import annotations
 
 import json
-import logging
 import os
-import pathlib
 import socket
 import subprocess
 import sys
 import threading
-from typing import Any, Dict, List, Optional, Sequence
+from typing import Any, Callable, Dict, List, Optional, Sequence
 
 from . import calls, program, wire
 from .calls import Calls
@@ -20,10 +18,7 @@ from .place import Place, Task
 from .version import VERSION
 
 BACKLOG = 1 << 30               # bytes that may wait for a place
-TOP = pathlib.Path(__file__).resolve().parents[1]
-HUB = f"import sys; sys.path.insert(0, {str(TOP)!r}); from rx10.hub.loop import main; main()"
-
-log = logging.getLogger("rx10")
+HUB = f"import sys; sys.path.insert(0, {os.path.dirname(program.HERE)!r}); from rx10.hub.loop import main; main()"
 
 
 class Runtime(Calls):
@@ -44,11 +39,13 @@ class Runtime(Calls):
         if threads < 1:
             raise ValueError("a place runs one task at a time at least")
         command = [program.find().path, "--places", "1"]
-        self._settings = {"command": command, "places": places, "threads": threads, "backlog": backlog, "python": VERSION, "record": record}
+        self._settings: Dict[str, Any] = {
+            "command": command, "places": places, "threads": threads, "backlog": backlog, "python": VERSION, "record": record}
         self._engine = engine
         self._tags: Dict[int, Any] = {}
         self._joined = threading.Condition()                    # over `_tags`
         self._hub: Optional[subprocess.Popen] = None
+        self._listener = threading.Thread(target=self._listen, name="rx10 place 0", daemon=True)
 
     # The life of a job.
 
@@ -61,9 +58,9 @@ class Runtime(Calls):
         wire.close_in_children(self._control)
         self._place = place = Place(line, self._engine.by_value)
         place.number, place.pool.limit, place.owner = 0, self._settings["threads"], threading.get_ident()
-        place.end_others = self._end_others
-        place.main = place.tasks[0] = Task(0, place, pooled=False)
-        place.main.thread = place.owner
+        place.end_others, place.await_end = self._end_others, self._await_end
+        place.main = place.tasks[0] = self._main = Task(0, place, pooled=False)
+        self._main.thread = place.owner
         try:
             with place.guard():
                 self._start(far_control, far_line)
@@ -83,7 +80,7 @@ class Runtime(Calls):
         finally:
             for end in ends:
                 end.close()
-        threading.Thread(target=self._listen, name="rx10 place 0", daemon=True).start()
+        self._listener.start()
         threading.Thread(target=self._serve, name="rx10 engine", daemon=True).start()
 
     def __exit__(self, kind: Any, fault: Optional[BaseException], trace: Any) -> None:
@@ -99,9 +96,8 @@ class Runtime(Calls):
             body = [] if fault is None else leaves(fault)
             with self._place.guard():
                 self._place.tell("end", 0, [None] * len(body), None)
-                lost, masked, thrown, _ = self._place.wait_for_release(self._place.main, "root")
+                lost, masked, thrown, _ = self._place.wait_for_release(self._main, body, "root")
             graceful = True
-            thrown[:len(body)] = body
             if lost or len(thrown) > len(body):
                 raise outcome("the job", lost, masked, thrown) from fault
         finally:
@@ -123,10 +119,19 @@ class Runtime(Calls):
         self._engine.stop(False)
 
     def _listen(self) -> None:
-        self._place.listen()
-        if not self._place.closed:
-            self._engine.stop(False)
-            self._place.close(CoordinatorLost("the hub ended"))
+        try:
+            self._place.listen()
+        finally:
+            if not self._place.closed:
+                self._engine.stop(False)
+                self._place.close(CoordinatorLost("the hub ended"))
+            with self._joined:
+                self._joined.notify_all()
+
+    def _await_end(self) -> None:
+        """The hub takes no more messages. Returns once that is known here, and all other places have ended."""
+        if self._listener.is_alive():                           # in a forked child it is not
+            self._listener.join()
 
     # The engine's side.
 
@@ -139,7 +144,8 @@ class Runtime(Calls):
             self._fail(str(fault))
         except BaseException as fault:
             self._fail(f"the engine failed: {fault!r}")
-        self._hub.wait()                                        # this thread stays as long as the places do
+        if self._hub is not None:
+            self._hub.wait()                                    # this thread stays as long as the places do
 
     def _fail(self, why: str) -> None:
         self._place.close(Closed(why))
@@ -163,10 +169,12 @@ class Runtime(Calls):
             self._joined.notify_all()
 
     def _on_behind(self, place: int, waiting: int) -> None:
-        log.warning("place %d is ended: it does not read, and %d bytes wait for it", place, waiting)
+        import logging
+        logging.getLogger("rx10").warning("place %d is ended: it does not read, and %d bytes wait for it", place, waiting)
 
-    _FROM_HUB = {"start": lambda self, joiner: self._engine.add(joiner), "ended": lambda self, tag: self._engine.ended(tag),
-                 "joined": _on_joined, "behind": _on_behind}
+    _FROM_HUB: Dict[str, Callable[..., None]] = {
+        "start": lambda self, joiner: self._engine.add(joiner), "ended": lambda self, tag: self._engine.ended(tag),
+        "joined": _on_joined, "behind": _on_behind}
 
     def _tell_hub(self, *message: Any, files: Sequence[int] = ()) -> None:
         try:
@@ -198,6 +206,8 @@ class Runtime(Calls):
             return os.getpid()
         with self._joined:
             self._joined.wait_for(lambda: place in self._tags or self._place.closed)
+            if self._place.closed and place not in self._tags:
+                raise self._place.closed
             return self._tags[place]
 
     def is_of(self, task: Optional[Task]) -> bool:

@@ -9,13 +9,14 @@ import signal
 import subprocess
 import sys
 import time
-import uuid
 
 HERE = pathlib.Path(__file__).resolve().parent
 PYTHON = HERE.parent                            # the folder with the package
 MARK = "RX10_TEST_MARK"
-SLOWER = float(os.environ.get("RX10_TEST_SLOWER", "1"))     # how many times longer a test may take than on a quiet machine
-LIMIT = 60 * SLOWER
+LIMIT = 600                                     # seconds after which a test is taken to hang, however busy the machine is
+GRACE = 60                                      # seconds in which a job's processes end after it
+# Each process of a test starts without what is installed beside Python: some thousand are started, and that is most of their time.
+BARE = [sys.executable, "-S"]
 
 
 class Result:
@@ -30,10 +31,10 @@ class Result:
         test.assertEqual(self.left, [], "processes were left behind")
 
 
-def run(words, limit=LIMIT, env=None, stdin=None, grace=5 * SLOWER):
+def run(words, limit=LIMIT, env=None, stdin=None):
     """Runs a command. Its status is None where it took too long."""
-    mark = uuid.uuid4().hex
-    env = {**os.environ, "PYTHONPATH": f"{PYTHON}{os.pathsep}{HERE}", "PYTHONDONTWRITEBYTECODE": "1", **(env or {}), MARK: mark}
+    mark = os.urandom(16).hex()
+    env = {**os.environ, "PYTHONPATH": f"{PYTHON}{os.pathsep}{HERE}", **(env or {}), MARK: mark}
     process = subprocess.Popen(words, env=env, stdin=subprocess.PIPE, stdout=subprocess.PIPE, stderr=subprocess.STDOUT, text=True,
                                start_new_session=True)
     try:
@@ -43,7 +44,7 @@ def run(words, limit=LIMIT, env=None, stdin=None, grace=5 * SLOWER):
         status = None
         end(marked(mark))
         output, _ = process.communicate()
-    until = time.monotonic() + grace
+    until = time.monotonic() + GRACE
     left = marked(mark)
     while left and time.monotonic() < until:
         time.sleep(0.05)
@@ -96,13 +97,15 @@ def end(pids):
 
 def python_with(module):
     """A Python that can import a module: this one, or that of the system; None where there is none."""
-    return next((python for python in (sys.executable, "/usr/bin/python3") if runs(python, f"import {module}")), None)
+    code = f"import importlib.util, sys; sys.exit(importlib.util.find_spec({module!r}) is None)"
+    return next((python for python in (sys.executable, "/usr/bin/python3") if runs(python, code)), None)
 
 
 def python_of(minor):
     """A Python 3 of this minor version: on the path, or of pyenv; None where there is none."""
     found = sorted(pathlib.Path.home().glob(f".pyenv/versions/3.{minor}.*/bin/python3"))
-    return next((str(python) for python in [f"python3.{minor}", *found] if runs(python, "")), None)
+    mine = [sys.executable] if sys.version_info[1] == minor else []
+    return next((str(python) for python in [*mine, *found, f"python3.{minor}"] if runs(python, "")), None)
 
 
 def runs(python, code):

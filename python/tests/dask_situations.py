@@ -12,11 +12,11 @@ import tempfile
 import time
 
 import rx10
-from situations import kill, nap, raises, same
+from alone import LIMIT
+from situations import kill, nap, raises, same, touch, wait_for, wait_until
 
 SITUATIONS = {}                                     # by name
-LIMIT = 30 * float(os.environ.get("RX10_TEST_SLOWER", "1"))
-HERE = os.path.dirname(os.path.abspath(__file__))
+TTL = 10                                            # seconds without a heartbeat, after which the scheduler gives a worker up
 
 
 def situation(fn):
@@ -68,13 +68,6 @@ def end(processes):
             process.wait()
 
 
-def wait_for(what):
-    until = time.monotonic() + LIMIT
-    while not what():
-        assert time.monotonic() < until, "it did not come"
-        time.sleep(0.05)
-
-
 def tasks_of_dask(client):
     return client.run_on_scheduler(lambda dask_scheduler: [key for key in dask_scheduler.tasks if key.startswith("rx10")])
 
@@ -100,9 +93,9 @@ def stands_still(path):
     """Waits until a file grows no more."""
     def still():
         before = size(path)
-        time.sleep(0.5)
+        time.sleep(1)
         return size(path) == before
-    wait_for(still)
+    wait_until(still)
 
 
 @situation
@@ -113,10 +106,10 @@ def results_and_losses():
             worker = rt.at(1, os.getpid)
             with raises(rx10.DeadPlaces, 1):
                 with rt.finish() as f:
-                    lost, well = f.spawn(1, nap, 60), f.spawn(2, same, 7)
+                    lost, well = f.spawn(1, nap, LIMIT), f.spawn(2, same, 7)
                     kill(worker)
             assert lost.lost and well.result() == 7
-        wait_for(lambda: not tasks_of_dask(client) and not plugins(client))
+        wait_until(lambda: not tasks_of_dask(client) and not plugins(client))
 
 
 @situation
@@ -126,9 +119,9 @@ def killed_and_back_at_the_same_address():
         worker = rt.at(1, os.getpid)
         with raises(rx10.DeadPlaces, 1):
             with rt.finish() as f:
-                f.spawn(1, nap, 60)
+                f.spawn(1, nap, LIMIT)
                 kill(worker)
-        wait_for(lambda: can_join(rt))
+        wait_until(lambda: can_join(rt))
         assert rt.places() == (0, 2, 3) and rt.at(3, same, 8) == 8
         assert rt.where(3)[1] == address and rt.where(3)[0] != number
 
@@ -146,7 +139,7 @@ def retired():
     with cluster() as (client, _), rx10.dask(client) as rt:
         with raises(rx10.DeadPlaces, 1):
             with rt.finish() as f:
-                f.spawn(1, nap, 60)
+                f.spawn(1, nap, LIMIT)
                 time.sleep(0.3)
                 client.retire_workers([rt.where(1)[1]])
         assert rt.places() == (0, 2)
@@ -157,8 +150,8 @@ def restarted():
     with cluster(nannies=True) as (client, _), rx10.dask(client) as rt:
         with raises(rx10.DeadPlaces, 1, 2):
             with rt.finish() as f:
-                f.spawn(1, nap, 60)
-                f.spawn(2, nap, 60)
+                f.spawn(1, nap, LIMIT)
+                f.spawn(2, nap, LIMIT)
                 time.sleep(0.3)
                 client.restart()
         assert rt.places() == (0,)
@@ -167,12 +160,12 @@ def restarted():
 @situation
 def silent_past_its_time():
     """The scheduler gives the worker up after a time without a heartbeat. Then it wakes up, and its task stops."""
-    with tempfile.TemporaryDirectory() as folder, cluster(ttl=f"{LIMIT / 10}s") as (client, _), rx10.dask(client) as rt:
+    with tempfile.TemporaryDirectory() as folder, cluster(ttl=f"{TTL}s") as (client, _), rx10.dask(client) as rt:
         worker, path = rt.at(1, os.getpid), os.path.join(folder, "lines")
         with raises(rx10.DeadPlaces, 1):
             with rt.finish() as f:
-                f.spawn(1, count, path, 600)
-                wait_for(lambda: size(path))
+                f.spawn(1, count, path, LIMIT)
+                wait_until(lambda: size(path))
                 os.kill(worker, signal.SIGSTOP)
         os.kill(worker, signal.SIGCONT)
         stands_still(path)
@@ -184,28 +177,29 @@ def told_dead_while_it_runs():
         path = os.path.join(folder, "lines")
         with raises(rx10.DeadPlaces, 1):
             with rt.finish() as f:
-                f.spawn(1, count, path, 600)
-                wait_for(lambda: size(path))
+                f.spawn(1, count, path, LIMIT)
+                wait_until(lambda: size(path))
                 rt.kill(1)
         stands_still(path)
-        path = os.path.join(folder, "refused")
         with raises(rx10.DeadPlaces, 2):
             with rt.finish() as f:
-                f.spawn(2, nap_and_call, path)
-                time.sleep(0.3)
+                f.spawn(2, call_again_and_again, folder)
+                wait_for(folder, "runs")
                 rt.kill(2)
-        wait_for(lambda: size(path))
+        wait_for(folder, "refused")
 
 
-def nap_and_call(path):
+def call_again_and_again(folder):
     """A place that was told dead may do nothing more in the job."""
+    touch(folder, "runs")
     try:
-        time.sleep(2)
-        rx10.at(0, same, 1)
-    except BaseException as fault:
-        with open(path, "w", encoding="ascii") as file:
-            file.write(type(fault).__name__)
-        raise
+        try:
+            while True:
+                rx10.at(0, same, 1)
+        finally:
+            touch(folder, "refused")
+    finally:                                        # the first `finally` may be where the task is stopped
+        touch(folder, "refused")
 
 
 DRIVER = """
@@ -215,8 +209,8 @@ from distributed import Client
 if __name__ == "__main__":
     with rx10.dask(Client(sys.argv[1])) as rt:
         with rt.finish() as f:
-            f.spawn(1, dask_situations.count, sys.argv[2], 600)
-            dask_situations.wait_for(lambda: dask_situations.size(sys.argv[2]))
+            f.spawn(1, dask_situations.count, sys.argv[2], 300)
+            dask_situations.wait_until(lambda: dask_situations.size(sys.argv[2]))
             os.kill(os.getpid(), 9)
 """
 
@@ -228,7 +222,7 @@ def driver_killed():
         done = subprocess.run([sys.executable, "-c", DRIVER, client.scheduler.address, path], check=False)
         assert done.returncode == -signal.SIGKILL
         stands_still(path)
-        wait_for(lambda: not tasks_of_dask(client) and not plugins(client))
+        wait_until(lambda: not tasks_of_dask(client) and not plugins(client))
         with rx10.dask(client) as rt:
             assert rt.at(1, same, 4) == 4 and rt.at(2, same, 5) == 5
 
@@ -239,9 +233,9 @@ def scheduler_killed():
     with cluster() as (client, scheduler), rx10.dask(client) as rt:
         with raises(rx10.DeadPlaces, 1):
             with rt.finish() as f:
-                f.spawn(1, nap, 600)
+                f.spawn(1, nap, LIMIT)
                 well = f.spawn(2, same, 4)
-                time.sleep(0.3)
+                rt.at(2, same, 0)                   # so that it has ended
                 scheduler.kill()
         assert well.result() == 4
 

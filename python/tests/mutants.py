@@ -1,20 +1,20 @@
 """Wrong runtimes, each named for its mistake: a text of a file and what stands in its place. The tests must refuse each.
 
-They are refused by the driven hub, or else by random jobs. The first one is none: it must pass both.
+Those of the core are refused by the driven core, or else by random jobs, as all others are. The first one is none: it must pass both.
 """
 
 import pathlib
 import shutil
-import sys
 import tempfile
 
 import alone
 
 CONTROL = "nothing is wrong"
+CORE = "hub/core.py"
 MUTANTS = {
-    CONTROL: ("hub/coordinator.py", "BATCH = 16384 ", "BATCH = 16383 "),
+    CONTROL: (CORE, "MOST_FAULTS = 10**9 ", "MOST_FAULTS = 10**8 "),
     "a finish goes on though its release is parked": (
-        "hub/core.py", '''        elif words[0] != "parked":
+        CORE, '''        elif words[0] != "parked":
             self._granted(task, words, "released")
 ''', '''        elif words[0] == "parked":
             self._send(task.place, ("released", task.key, [], 0, [], []))
@@ -23,29 +23,29 @@ MUTANTS = {
         "place.py", "            value = fn(*args, **kwargs)\n            if task.finishes:",
         "            self.tell(\"end\", task.key, [], pickles.pack_value(None))\n            return fn(*args, **kwargs)\n"
         "            if task.finishes:"),
-    "losses are not named": ("hub/core.py", "return release.lost, release.masked", "return [], release.masked"),
+    "losses are not named": (CORE, "return release.lost, release.masked", "return [], release.masked"),
     "all dead places are named": (
-        "hub/core.py", "return release.lost, release.masked",
+        CORE, "return release.lost, release.masked",
         "return (release.lost and [it for it in self.seats if self.seats[it].dead]), release.masked"),
-    "a task's faults but the first are dropped": ("hub/core.py", "for number in release.thrown:", "for number in release.thrown[:1]:"),
+    "a task's faults but the first are dropped": (CORE, "for number in release.thrown:", "for number in release.thrown[:1]:"),
     "a silent place is told dead": (
         "hub/loop.py", "        more = self.core.take()\n",
         "        more = self.core.take()\n        if len(self.core.scopes) == 3 and 2 in self.peers:\n            self.hang_up(self.peers[2])\n"),
     "a loss is raised twice": ("errors.py", "[*map(DeadPlace, lost), *thrown]", "[*map(DeadPlace, lost), *map(DeadPlace, lost), *thrown]"),
-    "a call whose caller's place died runs all the same": ("hub/core.py", 'if words[0] == "landed":\n', "if True:\n"),
+    "a call whose caller's place died runs all the same": (CORE, 'if words[0] == "landed":\n', "if True:\n"),
     "a call leaves before the coordinator answered": (
-        "hub/core.py", '''            self._ask(f"arrive t{callee.number}", partial(self._landed, callee, call))
+        CORE, '''            self._ask(f"arrive t{callee.number}", partial(self._landed, callee, call))
 ''', '''            self._send(callee.place, ("run", callee.key, call, True))
             self._ask(f"arrive t{callee.number}", lambda words: None)
 '''),
-    "a lost opener's results are kept": ("hub/core.py", "            scope.opener, scope.ends = None, []\n", ""),
+    "a lost opener's results are kept": (CORE, "            scope.opener, scope.ends = None, []\n", ""),
     "a loss frees nobody who waits": (
-        "hub/core.py", '        if words[0] == "freed":\n',
+        CORE, '        if words[0] == "freed":\n',
         '        if words[0] == "freed" and "lost" in words:\n            return ""\n        if words[0] == "freed":\n'),
     "what comes after a place's end is taken": (
-        "hub/core.py", "        seat.dead = True\n        seat.inbox.clear()\n", "        seat.dead = True\n"),
+        CORE, "        seat.dead = True\n        seat.inbox.clear()\n", "        seat.dead = True\n"),
     "a death is told before what the place had sent": (
-        "hub/core.py", '        self.receive(place, [("gone",)])', '        self.seats[place].inbox.appendleft(("gone",))'),
+        CORE, '        self.receive(place, [("gone",)])', '        self.seats[place].inbox.appendleft(("gone",))'),
     "a lost task counts as done": ("finish.py", "return self._value is None and not self._faults", "return False"),
 }
 SEED = "77"
@@ -62,8 +62,9 @@ def refusal(name, runs, jobs):
             raise ValueError(f"{file} has {text.count(old)} times what is to be changed: {name}")
         path.write_text(text.replace(old, new), encoding="utf-8")
         env = {"PYTHONPATH": f"{folder}:{alone.HERE}", "TMPDIR": folder}
-        for words in (["driven.py", str(runs), SEED], ["jobs.py", "--jobs", str(jobs), "--seed", SEED, "--wide", "--first"]):
-            done = alone.run([sys.executable, str(alone.HERE / words[0]), *words[1:]], env=env)
+        driven = [["driven", str(runs), SEED]] if file == CORE else []
+        for words in [*driven, ["jobs", "--jobs", str(jobs), "--seed", SEED, "--wide", "--first"]]:
+            done = alone.run([*alone.BARE, "-m", *words], env=env)
             if done.status != 0:
                 return f"{words[0]}: {done.output.strip().splitlines()[:1]}"
     return None

@@ -4,14 +4,13 @@ A step is a tuple: ("sleep", seconds), ("spin", seconds), ("throw", number), ("d
 catches) or ("at", name, node, catches). `catches` is "all", "dead" or "none": what of a scope's faults is caught behind it.
 """
 
-import dataclasses
+from typing import NamedTuple
 
 MOST_DEPTH = 7
 CATCHES = ["all", "dead", "none"]
 
 
-@dataclasses.dataclass
-class Node:
+class Node(NamedTuple):
     """A task of a plan."""
 
     number: int
@@ -59,9 +58,8 @@ class Planner:
 
     def node(self, depth):
         self.tasks += 1
-        node = Node(self.tasks, self.rng.randrange(self.places), [])
-        node.steps = self.steps(depth + 1, False, node.place)
-        return node
+        number, place = self.tasks, self.rng.randrange(self.places)
+        return Node(number, place, self.steps(depth + 1, False, place))
 
 
 def plan(rng, places, wide):
@@ -73,8 +71,7 @@ def plan(rng, places, wide):
             return steps
 
 
-@dataclasses.dataclass
-class Seen:
+class Seen(NamedTuple):
     """A task of a plan, with the scopes that it is under, the innermost first, and the task that starts it (0 is the main task)."""
 
     node: Node

@@ -2,8 +2,9 @@
 """Tests of the Python package. Run it from anywhere: python3 python/tests/run.py [NAME ..]
 
 It takes the coordinator that the package finds (RX10_COORDINATOR names one). Where there is none the model of these tests stands in for it,
-and that is said. What is not on this machine is skipped by name. RX10_TEST_SLOWER=N gives each test N times the time. A name is that of a
-test module, class or test, as `test_driven`. The last line is `N passed, N failed`.
+and that is said. What is not on this machine is skipped by name; nothing is installed. No terminal is needed, and the machine may be busy:
+what a test waits for ends the wait, and no test measures speed. A name is that of a test module, class or test, as `test_driven`. The last
+line is `N passed, N failed`.
 """
 
 import os
@@ -13,8 +14,11 @@ import sys
 import tempfile
 import unittest
 
+if sys.version_info < (3, 9):
+    print("skipped: the tests of the Python package: it needs Python 3.9, and this is %d.%d" % sys.version_info[:2])
+    sys.exit(0)
+
 HERE = pathlib.Path(__file__).resolve().parent
-sys.dont_write_bytecode = True
 sys.path[:0] = [str(HERE.parent), str(HERE)]
 
 from rx10 import program      # noqa: E402
@@ -34,7 +38,7 @@ def with_coordinator(folder):
 
 
 def main(names):
-    os.environ["PYTHONDONTWRITEBYTECODE"] = "1"
+    os.environ.pop("PYTHONDONTWRITEBYTECODE", None)             # some thousand processes would each compile the package anew
     # (where the tests run in the background, a Ctrl-C is ignored from the start, and so it would be in all that they start)
     signal.signal(signal.SIGINT, signal.default_int_handler)
     with tempfile.TemporaryDirectory(prefix="rx10-tests-") as folder:

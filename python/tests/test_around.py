@@ -60,7 +60,7 @@ class Launched(unittest.TestCase):
                 victim = rt.at(2, os.getpid)
                 try:
                     with rt.finish() as f:
-                        tasks = [f.spawn(p, time.sleep, 0.5) for p in (1, 2, 3)]
+                        tasks = [f.spawn(p, time.sleep, 300 if p == 2 else 0) for p in (1, 2, 3)]
                         os.kill(victim, signal.SIGKILL)
                 except rx10.DeadPlaces as lost:
                     assert lost.places == (2,) and [task.lost for task in tasks] == [False, True, False]
@@ -87,7 +87,7 @@ class Launched(unittest.TestCase):
                     with socket.create_connection(("127.0.0.1", PORT)) as sock:
                         sock.sendall(hello)
                         sock.shutdown(socket.SHUT_WR)
-                        sock.settimeout(30)
+                        sock.settimeout(300)
                         try:
                             assert sock.recv(1) == b"", hello
                         except ConnectionResetError:
@@ -104,17 +104,30 @@ class Launched(unittest.TestCase):
         self.assertIn("set RX10_TOKEN to 32 random hexadecimal digits", done.output)
 
     def test_another_python(self):
-        others = [python for minor, python in VERSIONS.items() if python and minor != sys.version_info.minor]
-        if not others:
-            self.skipTest("there is no Python of another version")
-        done = self.play("""
+        self.play_other("""
             try:
                 with rx10.launched(places=2, port=PORT) as rt:
                     raise AssertionError("it started")
             except rx10.Closed as fault:
                 assert "they must be the same" in str(fault), fault
                 print("well")
-            """, places=1, python=others[0])
+            """)
+
+    def test_another_python_that_joins(self):
+        self.play_other("""
+            with rx10.launched(places=1, port=PORT) as rt:
+                try:
+                    rt.join()
+                except rx10.Misuse as fault:
+                    assert "they must be the same" in str(fault), fault
+                    print("well", rt.places())
+            """)
+
+    def play_other(self, body):
+        others = [python for minor, python in VERSIONS.items() if python and minor != sys.version_info.minor]
+        if not others:
+            self.skipTest("there is no Python of another version")
+        done = self.play(body, places=1, python=others[0])
         done.check(self)
         self.assertIn("well", done.output)
 

@@ -42,7 +42,7 @@ class Cut(unittest.TestCase):
                          f"-n {space} link set {far} up"):
                 subprocess.run(["ip", *line.split()], check=True)
             start = f"ip netns exec {space} {sys.executable} -m rx10.serve 10.99.0.1 {port} & "
-            done = alone.run(["sh", "-c", f"{start} {sys.executable} - {port} {near}; status=$?; wait; exit $status"], limit=120 * alone.SLOWER,
+            done = alone.run(["sh", "-c", f"{start} {sys.executable} - {port} {near}; status=$?; wait; exit $status"],
                              env={"RX10_TOKEN": secrets.token_hex(16)}, stdin=DRIVER)
         finally:
             for line in (f"link del {near}", f"netns del {space}"):

@@ -17,13 +17,13 @@ class OverDask(unittest.TestCase):
     @classmethod
     def setUpClass(cls):
         cls.pool = concurrent.futures.ThreadPoolExecutor(AT_A_TIME)
-        cls.results = {"jobs": cls.run_it("jobs.py", "--dask", "--jobs", JOBS, "--seed", "5"),
-                       "sweep": cls.run_it("../examples/sweep.py", "--dask", "--kill")}
-        cls.results.update((name, cls.run_it("dask_situations.py", name)) for name in SITUATIONS)
+        cls.results = {"jobs": cls.run_it("-m", "jobs", "--dask", "--jobs", JOBS, "--seed", "5", limit=alone.LIMIT * (1 + int(JOBS))),
+                       "sweep": cls.run_it(str(alone.PYTHON / "examples" / "sweep.py"), "--dask", "--kill")}
+        cls.results.update((name, cls.run_it("-m", "dask_situations", name)) for name in SITUATIONS)
 
     @classmethod
-    def run_it(cls, file, *words):
-        return cls.pool.submit(alone.run, [PYTHON, str(alone.HERE / file), *words], limit=120 * alone.SLOWER)
+    def run_it(cls, *words, limit=alone.LIMIT):
+        return cls.pool.submit(alone.run, [PYTHON, *words], limit)
 
     @classmethod
     def tearDownClass(cls):

@@ -5,7 +5,7 @@ import unittest
 
 import driven
 
-RUNS = int(os.environ.get("RX10_DRIVEN_RUNS", "5000"))
+RUNS = int(os.environ.get("RX10_DRIVEN_RUNS", "3000"))
 
 
 class Driven(unittest.TestCase):

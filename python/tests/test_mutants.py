@@ -6,14 +6,15 @@ import unittest
 from mutants import CONTROL, MUTANTS, refusal
 
 AT_A_TIME = 2
-RUNS, JOBS = 1000, 8
+RUNS, JOBS = 500, 8             # of a wrong runtime at most: most are refused by the first few
+FEW = 2                         # jobs of the right one, which other tests try
 
 
 class Mutants(unittest.TestCase):
     @classmethod
     def setUpClass(cls):
         cls.pool = concurrent.futures.ThreadPoolExecutor(AT_A_TIME)
-        cls.refusals = {name: cls.pool.submit(refusal, name, RUNS, JOBS) for name in MUTANTS}
+        cls.refusals = {name: cls.pool.submit(refusal, name, RUNS, FEW if name == CONTROL else JOBS) for name in MUTANTS}
 
     @classmethod
     def tearDownClass(cls):

@@ -1,9 +1,7 @@
 """Each situation of situations.py ends as it should, and leaves no process behind."""
 
 import concurrent.futures
-import pathlib
 import signal
-import sys
 import unittest
 
 import alone
@@ -14,7 +12,7 @@ KILLED = {"driver_killed", "driver_killed_and_its_child_lives"}
 
 
 def run(name):
-    return alone.run([sys.executable, str(pathlib.Path(__file__).with_name("situations.py")), name])
+    return alone.run([*alone.BARE, "-m", "situations", name])
 
 
 class Situations(unittest.TestCase):
@@ -33,7 +31,7 @@ def add(name):
         result = self.results[name].result()
         result.check(self, -signal.SIGKILL if name in KILLED else 0)
         if name == "driver_killed_and_its_child_lives":
-            self.assertIn("left: []", result.output)
+            self.assertIn("none is left", result.output)
     setattr(Situations, f"test_{name}", test)
 
 

@@ -36,14 +36,13 @@ class Wheel(unittest.TestCase):
                                   text=True, check=False)
         self.assertEqual((done.returncode, done.stderr), (1, "make_wheel: there is no /nowhere\n"))
 
-    @unittest.skipIf(subprocess.run([sys.executable, "-c", "import ensurepip, venv"], stderr=subprocess.DEVNULL, check=False).returncode,
-                     "this Python has no ensurepip, with which an environment gets pip")
+    @unittest.skipUnless(alone.runs(sys.executable, "import pip, venv"), "this Python has no pip, which installs the wheel, or no venv")
     def test_an_empty_environment(self):
         with tempfile.TemporaryDirectory() as folder:
             place = pathlib.Path(folder, "env")
-            python, limit = str(place / "bin" / "python"), 180 * alone.SLOWER
-            for words in ([sys.executable, "-m", "venv", str(place)], [python, "-m", "pip", "install", str(self.make(folder))]):
-                alone.run(words, env=OFFLINE, limit=limit).check(self)
+            python = str(place / "bin" / "python")
+            for words in (["venv", "--without-pip", str(place)], ["pip", "--python", python, "install", str(self.make(folder))]):
+                alone.run([sys.executable, "-m", *words], env=OFFLINE).check(self)
             found = alone.run([python, "-m", "rx10"], env=OFFLINE)
             found.check(self)
             self.assertRegex(found.output, r"coordinator +\S*/env/lib/\S+/rx10/rx10-coordinator \(beside the package\): coordinator 1 places 1")

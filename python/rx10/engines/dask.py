@@ -9,7 +9,6 @@ from __future__ import annotations
 import asyncio
 import ctypes
 import itertools
-import os
 import secrets
 import socket
 import threading
@@ -23,7 +22,7 @@ from .door import TOKEN, Door, knock
 try:
     from distributed import SchedulerPlugin
 except ImportError:
-    SchedulerPlugin = object
+    SchedulerPlugin = object    # type: ignore
 
 GONE = "this place was told dead, or the driver is gone"
 

@@ -60,11 +60,11 @@ class Local(Engine):
                 if self._stopped:
                     return
                 process = self._context.Process(target=main, args=(far, os.getpid()), name="rx10 place")
-                self._start(process)
-                self._processes[process.pid] = process
+                pid = self._start(process)
+                self._processes[pid] = process
                 if hasattr(os, "pidfd_open"):
-                    pidfd = os.pidfd_open(process.pid)
-            self._job.connected(near, pidfd, process.pid, joiner)
+                    pidfd = os.pidfd_open(pid)
+            self._job.connected(near, pidfd, pid, joiner)
         finally:
             near.close()
             far.close()
@@ -72,8 +72,8 @@ class Local(Engine):
                 os.close(pidfd)
 
     @staticmethod
-    def _start(process: multiprocessing.process.BaseProcess) -> None:
-        """Starts a process, which imports the main module. Where that has no file it must not look for one."""
+    def _start(process: multiprocessing.process.BaseProcess) -> int:
+        """Starts a process, which imports the main module, and returns its number. Where that module has no file it must not look for one."""
         module = sys.modules["__main__"]
         name = None if pickles.main_has_file() else module.__dict__.pop("__file__", None)
         try:
@@ -81,6 +81,8 @@ class Local(Engine):
         finally:
             if name is not None:
                 module.__file__ = name
+        assert process.pid is not None
+        return process.pid
 
     def ended(self, tag: int) -> None:
         with self._lock:

@@ -14,8 +14,8 @@ class Task:
     def __init__(self, key: int, place: int, wanted: bool) -> None:
         self.key, self.place = key, place
         self.wanted = wanted                                    # whether somebody may ask how it ended
-        self.number: Optional[int] = None                       # the coordinator's, once it is known
-        self.scope: Optional[Scope] = None                      # the one that it hangs under
+        self.number: Optional[int] = None                       # the coordinator's, once it is known, and from then on
+        self.scope: Scope                                       # the one that it hangs under
         self.scopes: List[Scope] = []                           # those that it opened, the innermost last
 
 

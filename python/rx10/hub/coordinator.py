@@ -21,8 +21,9 @@ class Coordinator:
             self._process = subprocess.Popen(command, stdin=subprocess.PIPE, stdout=subprocess.PIPE, bufsize=0)
         except OSError as fault:
             raise Closed(f"the coordinator {command[0]} cannot be started: {fault}") from None
-        self.replies = self._process.stdout.fileno()            # readable where lines have come
-        self._requests = self._process.stdin.fileno()
+        assert self._process.stdin is not None and self._process.stdout is not None
+        self._pipes = self._process.stdin, self._process.stdout
+        self._requests, self.replies = (pipe.fileno() for pipe in self._pipes)      # `replies` is readable where lines have come
         self._unsent, self._received = bytearray(), b""
         self.due = 0                                            # replies to the batch that was sent last
 
@@ -53,8 +54,9 @@ class Coordinator:
 
     def close(self, graceful: bool) -> None:
         """Ends the coordinator."""
-        self._process.stdin.close()
+        requests, replies = self._pipes
+        requests.close()
         if not graceful:
             self._process.kill()
         self._process.wait()
-        self._process.stdout.close()
+        replies.close()

@@ -15,7 +15,7 @@ from __future__ import annotations
 
 import collections
 from functools import partial
-from typing import Any, Callable, Deque, Dict, Iterable, List, NamedTuple, Optional, Protocol, Set, Tuple
+from typing import Any, Callable, Deque, Dict, Iterable, List, NamedTuple, Optional, Protocol, Sequence, Set, Tuple
 
 from ..errors import Closed
 from .books import Release, Scope, Seat, Task, read_greeting, read_release
@@ -63,7 +63,7 @@ class Core:
         main = Task(MAIN, 0, False)
         main.number, main.scope = 0, self.root
         self.tasks: Dict[int, Task] = {MAIN: main}              # by key: those that are neither over nor struck
-        self.numbers: Dict[int, Task] = {0: main}               # the same by the coordinator's number, once it is known
+        self.numbers: Dict[Optional[int], Task] = {0: main}     # the same by the coordinator's number, once it is known
         self.scopes: Dict[int, Scope] = {0: self.root}
         self.faults: Dict[int, Tuple[Optional[bytes], ...]] = {}
         self.watched: Set[Scope] = set()
@@ -315,7 +315,7 @@ class Core:
         if self._granted(task, words, "waits"):
             task.scopes[-1].faults += numbers
 
-    def _new_faults(self, blobs: List[Optional[bytes]]) -> List[int]:
+    def _new_faults(self, blobs: Sequence[Optional[bytes]]) -> List[int]:
         """Numbers for faults. Where they would not fit into a line, the last number stands for all that are left."""
         parts: List[Tuple[Optional[bytes], ...]] = [(blob,) for blob in blobs]
         if len(parts) > self._faults_in_line:
@@ -336,7 +336,8 @@ class Core:
 
     def _release(self, task: Task, words: Words) -> None:
         scope = task.scopes.pop()
-        scope.parent.below.discard(scope)
+        if scope.parent is not None:
+            scope.parent.below.discard(scope)
         self._drop(scope)
         self._tell_progress(scope)
         self.watched.discard(scope)
@@ -358,7 +359,8 @@ class Core:
             blobs = self.faults.pop(number)
             where[number] = range(len(thrown), len(thrown) + len(blobs))
             thrown.extend(blobs)
-        ends = [(key, "threw", [i for number in what for i in where[number]]) if kind == "threw" else (key, kind, what)
+        ends: List[tuple] = [
+            (key, "threw", [i for number in what for i in where[number]]) if kind == "threw" else (key, kind, what)
                 for key, kind, what in scope.ends]
         return release.lost, release.masked, thrown, ends
 
@@ -407,8 +409,9 @@ class Core:
     def _take_abort(self, _place: int, why: str) -> None:
         raise Closed(why)
 
-    _OF_PLACES = {"gone": _take_gone, "kill": _take_kill, "abort": _take_abort, "root": _take_root}
-    _OF_TASKS = {"open": _take_open, "spawn": _take_spawn, "call": _take_call, "wait": _take_wait, "end": _take_end, "join": _take_join}
+    _OF_PLACES: Dict[str, Callable[..., None]] = {"gone": _take_gone, "kill": _take_kill, "abort": _take_abort, "root": _take_root}
+    _OF_TASKS: Dict[str, Callable[..., None]] = {
+        "open": _take_open, "spawn": _take_spawn, "call": _take_call, "wait": _take_wait, "end": _take_end, "join": _take_join}
 
     # What places are told.
 

@@ -10,13 +10,13 @@ import selectors
 import socket
 import sys
 import time
-from typing import Any, Deque, Dict, List, NamedTuple, Optional, Set, TextIO
+from typing import Any, Callable, Deque, Dict, List, NamedTuple, Optional, Set, TextIO
 
 from ..errors import Closed, CoordinatorLost
 from ..wire import Frames, frame
 from .coordinator import Coordinator
 from .core import Core, Options
-from .peer import RECEIVE, Peer
+from .peer import Peer
 
 PROGRESS = 0.2                  # seconds between two tellings of how far a watched finish is
 NOT_STARTED = ("a place ended while it started. If it says above that the main module has no guard, put what starts the job under "
@@ -109,7 +109,10 @@ class Hub:
     # The driver's engine.
 
     def to_driver(self, *message: Any) -> None:
-        self.control.sendall(frame(message))
+        try:
+            self.control.sendall(frame(message))
+        except OSError:
+            raise Closed("the driver ended") from None
 
     def read_control(self) -> None:
         data, files, *_ = socket.recv_fds(self.control, 1 << 16, 64)
@@ -140,7 +143,8 @@ class Hub:
     def on_abort(self, why: str) -> None:
         raise Closed(why)
 
-    _CONTROL = {"connected": on_connected, "removed": on_removed, "no_place": on_no_place, "abort": on_abort}
+    _CONTROL: Dict[str, Callable[..., None]] = {
+        "connected": on_connected, "removed": on_removed, "no_place": on_no_place, "abort": on_abort}
 
     # Lines.
 

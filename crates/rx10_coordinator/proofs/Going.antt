@@ -1,21 +1,18 @@
 -- A session goes on.
-use Rattle.std.proofs.Common.{◌≡◌, ℕ, Bool, true, false, ◌||◌, List, [], ◌∷◌, ◌++◌, refl, ap, sym, ◌∙◌, subst, append_assoc, append-nil, inl, inr, Some, None}
-use Rattle.std.specs.List.{flat_map}
+use Rattle.std.proofs.Common.{◌≡◌, ℕ, true, ◌||◌, List, [], ◌∷◌, ◌++◌, refl, ap, sym, ◌∙◌, subst, append_assoc, append-nil, inl, inr}
 use Rattle.rx_base.specs.declared.ids.TaskId.{TaskId}
 use Rattle.rx_rules.specs.declared.entries.Entry.{Entry}
-use Rattle.rx_rules.specs.Fold.{tree_of}
 use Rattle.rx_finish.specs.declared.ledger.Outcome.{Outcome}
 use Rattle.rx_coordinator.specs.declared.requests.Request.{Request}
-use Rattle.rx_coordinator.specs.declared.requests.Request.TheVariants.{Send, Release, Root as RootRelease}
+use Rattle.rx_coordinator.specs.declared.requests.Request.TheVariants.{Send}
 use Rattle.rx_coordinator.specs.declared.requests.Answer.{Answer}
-use Rattle.rx_coordinator.specs.declared.requests.Answer.TheVariants.{Bad, Full, NoMemory, NotYet, Sent, Released, RootDone}
+use Rattle.rx_coordinator.specs.declared.requests.Answer.TheVariants.{Bad, Full, NoMemory, NotYet, Sent}
 use Rattle.rx_coordinator.specs.declared.waiters.Waiter.{Waiter}
-use Rattle.rx_coordinator.specs.declared.waiters.Waiter.TheVariants.{Task, Root}
 use Rattle.rx_coordinator.specs.declared.waiters.Waiters.{Waiters}
 use Rattle.rx_coordinator.specs.declared.parking.Parking.{Parking}
 use Rattle.rx_coordinator.specs.declared.parking.Freed.TheVariants.{One, NoOne, Short}
 use Rattle.rx_coordinator.specs.Stands.{Asked, Landing}
-use Rattle.rx_coordinator.specs.Parking.{Parks, AskedBeside, FreedIs, IsParked, waiter_of, Puts as PutsWaiter, request_of, answer_to}
+use Rattle.rx_coordinator.specs.Parking.{Parks, AskedBeside, FreedIs, request_of, answer_to}
 use Rattle.rx10_coordinator.specs.Replies.{freed_line}
 use Rattle.rx10_coordinator.specs.Session.{Between, Are, Asks, Frees, FreesEach, Rests, freed_lines, Answered, AllAnswered, ran_out}
 use Rattle.rx10_coordinator.specs.Inside.Desk.{Holds}
@@ -46,20 +43,20 @@ pub asks : (p : ℕ) (b : Between) (q : Request) (a : Answer) (k l : Parking) �
 asks p b q a k l on h =
     let r = beside p b.entries q k.waiters l.waiters a (Parks l p) h in
     let c : Between = record { entries = r.0; waiters = l.waiters; is_short = b.is_short || ran_out a } in
-    (c, record { asked = subst (λ (ws : Waiters). AskedBeside p b.entries q ws a (Are r.0) l.waiters) (sym on.waiters) r.1; short = refl }, record { parks = r.2; waiters = refl })
+    (c, record { asked = subst (λ (ws : Waiters). AskedBeside p b.entries q ws a (Are r.0) l.waiters) (sym on.waiters) r.1; there = r.2.all.there; short = refl }, record { parks = r.2; waiters = refl })
 
 -- a release that has waited is done
 pub frees : (p : ℕ) (b : Between) (who : Waiter) (o : Outcome) (k l : Parking) → Holds p b k → FreedIs p b.entries (One who o) k.waiters (Parks l p) l.waiters → (c : Between) × Frees p b who o c × Holds p c l
 frees p b who o k l on h =
     let r = asked p b.entries (request_of who) (answer_to who o) (Parks l p) h.3 in
     let c : Between = record { entries = r.0; waiters = l.waiters; is_short = b.is_short } in
-    (c, record { freed = subst (λ (ws : Waiters). FreedIs p b.entries (One who o) ws (Are r.0) l.waiters) (sym on.waiters) (h.0, h.1, h.2, r.1, h.4); short = refl }, record { parks = r.2; waiters = refl })
+    (c, record { freed = subst (λ (ws : Waiters). FreedIs p b.entries (One who o) ws (Are r.0) l.waiters) (sym on.waiters) (h.0, h.1, h.2, r.1, h.4, h.5); short = refl }, record { parks = r.2; waiters = refl })
 
 -- none is possible
 pub rests : (p : ℕ) (b : Between) (k l : Parking) → Holds p b k → FreedIs p b.entries NoOne k.waiters (Parks l p) l.waiters → (c : Between) × Rests p b c × Holds p c l
 rests p b k l on h =
     let c : Between = record { entries = b.entries; waiters = l.waiters; is_short = b.is_short } in
-    (c, inl (subst (λ (ws : Waiters). FreedIs p b.entries NoOne ws (Are b.entries) l.waiters) (sym on.waiters) (refl, h.1, h.2), refl), record { parks = h.0; waiters = refl })
+    (c, inl (subst (λ (ws : Waiters). FreedIs p b.entries NoOne ws (Are b.entries) l.waiters) (sym on.waiters) (refl, h.1), refl), record { parks = h.0; waiters = refl })
 
 -- memory or numbers ran out
 pub wants : (p : ℕ) (b : Between) (k l : Parking) → Holds p b k → FreedIs p b.entries Short k.waiters (Parks l p) l.waiters → (c : Between) × Rests p b c × Holds p c l
@@ -69,7 +66,7 @@ wants p b k l on h =
 
 -- or the loop has made all its turns
 pub stops : (p : ℕ) (b : Between) (k : Parking) → Holds p b k → (c : Between) × Rests p b c × Holds p c k
-stops p b k on = wants p b k k on (on.parks, λ m who e. inl e)
+stops p b k on = wants p b k k on (on.parks, λ m. inl refl)
 
 -- one release more
 pub frees-more : (p : ℕ) (b : Between) (xs : List (Waiter × Outcome)) (c d : Between) (who : Waiter) (o : Outcome) → FreesEach p b xs c → Frees p c who o d → FreesEach p b (xs ++ (who, o) ∷ []) d

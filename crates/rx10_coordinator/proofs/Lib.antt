@@ -3,3 +3,4 @@ pub mod Telling
 pub mod Cutting
 pub mod Going
 pub mod Serving
+pub mod Lawful

@@ -1,6 +1,6 @@
 -- What was served.
 use Rattle.std.specs.Prelude.{Bool, true, false, ◌⊎◌, ◌-◌, ◌^◌}
-use Rattle.std.proofs.Common.{◌≡◌, ℕ, ◌+◌, ◌≤◌, ◌<◌, List, [], ◌∷◌, ◌++◌, length, take, length-append, length-take, Option, Some, None, refl, ap, sym, ◌∙◌, subst, append-nil, inl, inr, arith}
+use Rattle.std.proofs.Common.{◌≡◌, ℕ, ◌+◌, ◌≤◌, List, [], ◌++◌, length, take, length-append, length-take, Option, refl, sym, ◌∙◌, subst, append-nil, inl, inr, arith}
 use Rattle.std.specs.Io.KnownBytes.{Consumes, IsAtEnd}
 use Rattle.std.proofs.KnownBytes.{Appends-nil, Consumes-trans}
 use Rattle.rx_base.specs.Outside.{Rose}
@@ -11,7 +11,7 @@ use Rattle.rx10_coordinator.specs.declared.received.Received.{Received}
 use Rattle.rx10_coordinator.specs.declared.status.Status.{Status}
 use Rattle.rx10_coordinator.specs.declared.status.Status.TheVariants.{Done, ReadFault, WriteFault}
 use Rattle.rx10_coordinator.specs.Session.{Between, IsOpen, Served, greeting}
-use Rattle.rx10_coordinator.specs.Inside.Telling.{Tells, Puts, IsLeft}
+use Rattle.rx10_coordinator.specs.Inside.Telling.{Tells, IsLeft}
 use Rattle.rx10_coordinator.specs.Inside.Desk.{Holds, Serves, IsLine}
 use Rattle.rx10_coordinator.proofs.Telling.{without}
 

@@ -1,7 +1,7 @@
 -- Pieces of a text that are told one after another.
-use Rattle.std.proofs.Common.{◌≡◌, ℕ, ◌≤◌, ◌<◌, ◌+◌, ◌-◌, ◌^◌, min, Bool, true, false, List, [], ◌∷◌, ◌++◌, length, take, drop, Option, Some, None, refl, ap, sym, ◌∙◌, subst, append_assoc, append-nil, take-append-drop, length-drop, length-append, arith}
+use Rattle.std.proofs.Common.{◌≡◌, ℕ, ◌≤◌, ◌<◌, ◌+◌, ◌-◌, Bool, true, false, List, [], ◌++◌, length, take, drop, Option, ap, sym, ◌∙◌, subst, append_assoc, append-nil, take-append-drop, length-drop, length-append, arith}
 use Rattle.std.specs.Io.KnownBytes.{Appends}
-use Rattle.std.proofs.KnownBytes.{Appends-nil, Appends-trans}
+use Rattle.std.proofs.KnownBytes.{Appends-trans}
 use Rattle.rx_base.specs.Outside.{Rose}
 use Rattle.rx10_coordinator.specs.declared.output.Pending.{Pending}
 use Rattle.rx10_coordinator.specs.Inside.Telling.{IsLeft, Tells, Puts}

@@ -6,6 +6,7 @@ use Rattle.rx_base.specs.Outside.{Rose}
 use Rattle.rx_text.specs.Numbers.{natural_text}
 use Rattle.rx_fields.specs.Words.{pieces}
 use Rattle.rx_rules.specs.declared.entries.Entry.{Entry}
+use Rattle.rx_rules.specs.Fold.{tree_of}
 use Rattle.rx_finish.specs.declared.ledger.Outcome.{Outcome}
 use Rattle.rx_coordinator.specs.declared.requests.Request.{Request}
 use Rattle.rx_coordinator.specs.declared.requests.Answer.{Answer}
@@ -14,7 +15,7 @@ use Rattle.rx_coordinator.specs.declared.waiters.Waiter.{Waiter}
 use Rattle.rx_coordinator.specs.declared.waiters.Waiters.{Waiters}
 use Rattle.rx_coordinator.specs.declared.parking.Freed.TheVariants.{One, NoOne, Short}
 use Rattle.rx_coordinator.specs.Waiters.{waiter_at}
-use Rattle.rx_coordinator.specs.Parking.{AskedBeside, FreedIs}
+use Rattle.rx_coordinator.specs.Parking.{AskedBeside, FreedIs, WaitsThere}
 use Rattle.rx10_coordinator.specs.declared.status.Status.{Status}
 use Rattle.rx10_coordinator.specs.declared.status.Status.TheVariants.{Done, WriteFault}
 use Rattle.rx10_coordinator.specs.Lines.{line_request}
@@ -42,9 +43,10 @@ ran_out Full = true
 ran_out NoMemory = true
 ran_out _ = false
 
--- a request has this answer
+-- A request has this answer, and whoever waits then does so where the tree says.
 pub record Asks (p : ℕ) (b : Between) (q : Request) (a : Answer) (c : Between) : Type 0 where
   pub asked : AskedBeside p b.entries q b.waiters a (Are c.entries) c.waiters
+  pub there : (n : ℕ) (who : Waiter) → waiter_at c.waiters n ≡ Some who → WaitsThere (tree_of p c.entries) n who
   pub short : c.is_short ≡ (b.is_short || ran_out a)
 
 -- a release that has waited has this outcome

@@ -1,15 +1,18 @@
 //! The program `rx10-coordinator`: it reads requests as lines and writes replies as lines. docs/coordinator.md states each line. It
-//! stands on rx_coordinator, which keeps the tree and answers requests, and on rx_fields and rx_text, which read and write words.
+//! stands on rx_coordinator, which keeps the tree and answers requests, and on rx_fields and rx_text, which read and write words. `serve` is
+//! the whole of it over any source and sink, and its contract is the theorem; `laws` says what holds of every session. `main` makes the
+//! source and the sink of what the system gives, and says the status.
 #![tactic(auto)]
 
 mod command;
 mod desk;
+pub mod laws;
 mod lines;
 mod output;
 mod received;
 mod replies;
-mod serve;
-mod status;
+pub mod serve;
+pub mod status;
 
 use command::Command;
 use rx_base::{NoMemory, StdSink, StdSource};

@@ -2,7 +2,7 @@
 
 /// What became of a session, or of another command.
 #[derive(Clone, Copy)]
-pub(crate) enum Status {
+pub enum Status {
     /// The input has ended, and each line of it was answered.
     Done,
     /// The words of the command are none.

@@ -6,3 +6,4 @@ pub mod Acting
 pub mod Allowing
 pub mod Waiting
 pub mod Moves
+pub mod Rows

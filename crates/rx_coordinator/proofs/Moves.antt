@@ -1,8 +1,8 @@
 -- What each request does to those who wait.
-use Rattle.std.specs.Prelude.{◌≡◌, ◌≢◌, ◌⊎◌, ℕ, ◌<◌, ◌==◌, Bool, true, false, not, ◌&&◌, cond, List, [], ◌∷◌, ◌++◌, length, Some, None, is_some, refl}
+use Rattle.std.specs.Prelude.{◌≡◌, ◌≢◌, ◌⊎◌, ℕ, ◌<◌, ◌==◌, Bool, true, false, not, ◌&&◌, cond, List, [], ◌∷◌, ◌++◌, length, Option, Some, None, is_some, refl}
 use Rattle.std.specs.List.{find}
 use Rattle.std.proofs.Common.{ap, ◌∙◌, sym, subst, arith, inl, inr}
-use Rattle.std.proofs.lemmas.Bool.{true≢false, eqb-true, eqb-false, ne_eqb, cases_lt}
+use Rattle.std.proofs.lemmas.Bool.{true≢false, eq-eqb, eqb-true, eqb-false, ne_eqb, cases_lt}
 use Rattle.rx_base.specs.declared.ids.TaskId.{TaskId}
 use Rattle.rx_base.specs.declared.ids.ScopeId.{ScopeId}
 use Rattle.rx_base.specs.declared.ids.PlaceId.{PlaceId}
@@ -43,9 +43,9 @@ use Rattle.rx_coordinator.specs.Telling.{seat_of, seat_told}
 use Rattle.rx_coordinator.specs.Waiters.{waiter_at, IsDue}
 use Rattle.rx_coordinator.specs.Seats.{seat_at}
 use Rattle.rx_coordinator.specs.Inside.Rows.{held_in, scope_in}
-use Rattle.rx_coordinator.specs.Inside.Walks.{AllThere, AllDue, NextDue, ParkedIs}
+use Rattle.rx_coordinator.specs.Inside.Walks.{AllThere, AllDue, NextDue, ParkedIs, IsLeft}
 use Rattle.rx_coordinator.specs.Stands.{Stands, Asked, Landing, Awaits, May, Busy}
-use Rattle.rx_coordinator.specs.Parking.{AllWait, Parks, WaitsThere, HasToWait, IsParked, Puts, AskedBeside, WaitsStill, waiter_of, request_of, answer_to, scope_numbered}
+use Rattle.rx_coordinator.specs.Parking.{AllWait, Parks, WaitsThere, HasToWait, IsParked, Puts, AskedBeside, PassedBy, waiter_of, request_of, answer_to, scope_numbered}
 use Rattle.rx_coordinator.proofs.Finding.{found_changed}
 use Rattle.rx_coordinator.proofs.Telling.{told_some, free_stays, own_open, own_call, own_spawn, own_arrive, own_wait}
 use Rattle.rx_coordinator.proofs.Asking.{Seated, seated}
@@ -457,23 +457,19 @@ others_beside p es (Arrive t) a c ws d r h f g i j k = inr ((λ x. absurd x), as
 others_beside p es (Wait t thrown) a c ws d r h f g i j k = inr ((λ x. absurd x), asked_moving p es c ws d r h (Wait t thrown) a tt k, λ n. refl)
 others_beside p es Join a c ws d r h f g i j k = inr ((λ x. absurd x), asked_moving p es c ws d r h Join a tt k, λ n. refl)
 
--- Who waits still.
+-- Who was passed by.
 
-pub all_still : (T : Tree) (ws us : Waiters) → ((n : ℕ) → waiter_at us n ≡ waiter_at ws n) → (m : ℕ) → WaitsStill T ws us m
-all_still T ws us same m who e = inl (same m ∙ e)
+pub passed_same : (T : Tree) (n : ℕ) (x y : Option Waiter) → y ≡ x → ((who : Waiter) → y ≡ Some who → HasToWait T n who) → PassedBy T n x y
+passed_same T n None y e h = e
+passed_same T n (Some who) y e h = inl (h who e, e)
 
-pub others_still : (T : Tree) (ws us : Waiters) (s : ScopeId) → ((n : ℕ) → waiter_at us n ≡ cond (n == s.0) None (waiter_at ws n)) → (m : ℕ) → m ≢ s.0 → WaitsStill T ws us m
-others_still T ws us s left m apart who e = inl (left m ∙ (ap (λ (b : Bool). cond b None (waiter_at ws m)) (ne_eqb m s.0 apart) ∙ e))
+pub passed_gone : (T : Tree) (n : ℕ) (x y : Option Waiter) (who : Waiter) → x ≡ Some who → (May T (request_of who) → ⊥) → y ≡ None → PassedBy T n x y
+passed_gone T n None y who e bad none = absurd (let v : ⊥ = cc in v)
+passed_gone T n (Some z) y who e bad none = inr ((let same : who ≡ z = cc in subst (λ (v : Waiter). May T (request_of v) → ⊥) same bad), none)
 
-pub bad_still : (T : Tree) (ws us : Waiters) (s : ScopeId) (z : Waiter) → waiter_at ws s.0 ≡ Some z → (May T (request_of z) → ⊥) → ((n : ℕ) → waiter_at us n ≡ cond (n == s.0) None (waiter_at ws n)) → (m : ℕ) → WaitsStill T ws us m
-bad_still T ws us s z at bad left m who e =
-    (elim (m == s.0) as (λ b. m == s.0 ≡ b → (waiter_at us m ≡ Some who) ⊎ (May T (request_of who) → ⊥)) [
-      | true ↦ λ w.
-          let both : Some z ≡ Some who = sym at ∙ (ap (waiter_at ws) (sym (eqb-true m s.0 w)) ∙ e) in
-          let same : z ≡ who = cc in
-          inr (subst (λ (y : Waiter). May T (request_of y) → ⊥) same bad)
-      | false ↦ λ w. others_still T ws us s left m (eqb-false m s.0 w) who e
-    ]) refl
+-- a row that is left is the same, or none
+pub left_other : (n : ℕ) (ws us : Waiters) → IsLeft n ws us → (m : ℕ) → m ≢ n → waiter_at us m ≡ waiter_at ws m
+left_other n ws us left m apart = left m ∙ ap (λ (b : Bool). cond b None (waiter_at ws m)) (ne_eqb m n apart)
 
-pub still_on : (T : Tree) (ws us vs : Waiters) (m : ℕ) → WaitsStill T ws us m → WaitsStill T us vs m → WaitsStill T ws vs m
-still_on T ws us vs m a b who e = elim (a who e) [ inl i ↦ b who i | inr n ↦ inr n ]
+pub left_none : (n : ℕ) (ws us : Waiters) → IsLeft n ws us → waiter_at us n ≡ None
+left_none n ws us left = left n ∙ ap (λ (b : Bool). cond b None (waiter_at ws n)) (eq-eqb n n refl)

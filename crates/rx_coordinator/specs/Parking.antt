@@ -82,17 +82,19 @@ abbrev pub answer_to : Waiter → Outcome → Answer
 answer_to (Task t) o = Released o
 answer_to Host o = RootDone o
 
--- who waited waits still, unless it may not ask any more, since a death struck it
-abbrev pub WaitsStill : Tree → Waiters → Waiters → ℕ → Type 0
-WaitsStill T ws us n =
-    (who : Waiter) → waiter_at ws n ≡ Some who → (waiter_at us n ≡ Some who) ⊎ (May T (request_of who) → ⊥)
+-- Whoever waits for scope n and has to wait on waits on. Who may not ask any more, since a death struck it, waits no more.
+abbrev pub PassedBy : Tree → ℕ → Option Waiter → Option Waiter → Type 0
+PassedBy T n None now = now ≡ None
+PassedBy T n (Some who) now =
+    (HasToWait T n who × (now ≡ Some who)) ⊎ ((May T (request_of who) → ⊥) × (now ≡ None))
 
--- One who waited is released, and waits no more. Or all who wait have to wait on. Everyone else waits still.
+-- Of those who wait the first that is possible, by the numbers of their scopes, is released and waits no more; those before it were passed
+-- by, and those after it wait still. Or all were passed by. Or memory or numbers ran out for one.
 abbrev pub FreedIs : ℕ → List Entry → Freed → Waiters → (List Entry → Type 0) → Waiters → Type 0
 FreedIs p es (One who o) ws S us =
     (n : ℕ) × (waiter_at ws n ≡ Some who) × (waiter_at us n ≡ None) × Asked p es (request_of who) (answer_to who o) S
-    × ((m : ℕ) → m ≢ n → WaitsStill (tree_of p es) ws us m)
-FreedIs p es NoOne ws S us =
-    S es × ((n : ℕ) (who : Waiter) → waiter_at us n ≡ Some who → HasToWait (tree_of p es) n who)
-    × ((m : ℕ) → WaitsStill (tree_of p es) ws us m)
-FreedIs p es Short ws S us = S es × ((m : ℕ) → WaitsStill (tree_of p es) ws us m)
+    × ((m : ℕ) → m < n → PassedBy (tree_of p es) m (waiter_at ws m) (waiter_at us m))
+    × ((m : ℕ) → n < m → waiter_at us m ≡ waiter_at ws m)
+FreedIs p es NoOne ws S us = S es × ((m : ℕ) → PassedBy (tree_of p es) m (waiter_at ws m) (waiter_at us m))
+FreedIs p es Short ws S us =
+    S es × ((m : ℕ) → (waiter_at us m ≡ waiter_at ws m) ⊎ PassedBy (tree_of p es) m (waiter_at ws m) (waiter_at us m))

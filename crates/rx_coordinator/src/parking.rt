@@ -5,6 +5,7 @@ ghost use Rattle.rx_rules.specs.Tree.{the_root, on_chain};
 ghost use Rattle.rx_rules.specs.Fold.{tree_of};
 ghost use Rattle.rx_coordinator.specs.declared.requests.Request.TheVariants.{Release, End, Death, Root};
 ghost use Rattle.rx_coordinator.specs.declared.waiters.Waiter.TheVariants.{Root as Host};
+ghost use Rattle.rx_coordinator.specs.declared.parking.Retried.TheVariants.{Passed};
 ghost use Rattle.rx_coordinator.specs.Stands.{Stands, Asked};
 ghost use Rattle.rx_coordinator.specs.Waiters.{waiter_at, IsDue};
 ghost use Rattle.rx_coordinator.specs.Parking.{Parks, AskedBeside, FreedIs, request_of};
@@ -218,7 +219,7 @@ impl Parking {
     fn retry(&mut self, scope: ScopeId, waiter: Waiter) -> Retried
         requires parks { (p : ℕ) × (es : List Entry) × Parks self.old p es }
         requires next { NextDue self.old.waiters self.old.due (Some (scope, waiter)) }
-        ensures fewer { (n : ℕ) (who : Waiter) → waiter_at self.new.waiters n ≡ Some who → waiter_at self.old.waiters n ≡ Some who }
+        ensures later { result ≡ Passed → (n : ℕ) → IsDue self.new.due n → scope.0 ≤ n }
         ensures parks { (p : ℕ) (es : List Entry) → Parks self.old p es
             → RetriedIs p es scope.0 waiter result self.old.waiters (Parks self.new p) self.new.waiters }
     {

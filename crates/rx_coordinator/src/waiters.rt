@@ -118,7 +118,8 @@ impl Due {
 
     /// Without this scope and those before it.
     pub fn past(self, scope: ScopeId) -> Due
-        ensures { (n : ℕ) → IsDue self n → IsDue self scope.0 → scope.0 < n → IsDue result n }
+        ensures kept { (n : ℕ) → IsDue self n → IsDue self scope.0 → scope.0 < n → IsDue result n }
+        ensures later { (n : ℕ) → IsDue result n → scope.0 ≤ n }
     {
         match self {
             Due::From(_) => Due::From(ScopeId(scope.0.saturating_add(1))),

@@ -1,5 +1,5 @@
 -- The walk from a scope up to the first one for which someone waits.
-use Rattle.std.specs.Prelude.{◌≡◌, ◌≢◌, ◌⊎◌, ℕ, ◌<◌, ◌==◌, true, cond, List, Option, Some, None}
+use Rattle.std.specs.Prelude.{◌≡◌, ◌⊎◌, ℕ, ◌<◌, ◌==◌, true, cond, List, Option, Some, None}
 use Rattle.rx_base.specs.declared.ids.ScopeId.{ScopeId}
 use Rattle.rx_base.specs.declared.ids.PlaceId.{PlaceId}
 use Rattle.rx_rules.specs.declared.entries.Entry.{Entry}
@@ -12,9 +12,9 @@ use Rattle.rx_coordinator.specs.declared.requests.Answer.{Answer}
 use Rattle.rx_coordinator.specs.declared.requests.Answer.TheVariants.{NotYet, NoMemory}
 use Rattle.rx_coordinator.specs.declared.parking.Retried.{Retried}
 use Rattle.rx_coordinator.specs.declared.parking.Retried.TheVariants.{Freed, Passed, Short}
-use Rattle.rx_coordinator.specs.Stands.{Asked}
+use Rattle.rx_coordinator.specs.Stands.{Asked, May}
 use Rattle.rx_coordinator.specs.Waiters.{waiter_at, IsDue}
-use Rattle.rx_coordinator.specs.Parking.{WaitsThere, IsThere, WaitsStill, scope_numbered, request_of, answer_to}
+use Rattle.rx_coordinator.specs.Parking.{WaitsThere, IsThere, scope_numbered, request_of, answer_to}
 
 -- each scope on the chain from `from` for which someone waits is on the chain from `to`
 abbrev pub AllAbove : Tree → Waiters → ScopeId → ScopeId → Type 0
@@ -43,12 +43,19 @@ NextDue ws due (Some x) =
     IsDue due x.0.0 × (waiter_at ws x.0.0 ≡ Some x.1) × ((n : ℕ) → IsDue due n → n < x.0.0 → waiter_at ws n ≡ None)
 NextDue ws due None = (n : ℕ) → IsDue due n → waiter_at ws n ≡ None
 
--- who asked again is released and waits no more, or has to wait on; everyone else waits still
+-- no row has changed, or that of one scope was taken away
+abbrev pub IsSame : Waiters → Waiters → Type 0
+IsSame ws us = (m : ℕ) → waiter_at us m ≡ waiter_at ws m
+
+abbrev pub IsLeft : ℕ → Waiters → Waiters → Type 0
+IsLeft n ws us = (m : ℕ) → waiter_at us m ≡ cond (m == n) None (waiter_at ws m)
+
+-- who asked again is released and waits no more, or has to wait on, or may not ask any more and waits no more
 abbrev pub RetriedIs : ℕ → List Entry → ℕ → Waiter → Retried → Waiters → (List Entry → Type 0) → Waiters → Type 0
-RetriedIs p es n who (Freed o) ws S us =
-    (waiter_at us n ≡ None) × Asked p es (request_of who) (answer_to who o) S × ((m : ℕ) → m ≢ n → WaitsStill (tree_of p es) ws us m)
-RetriedIs p es n who Passed ws S us = S es × ((m : ℕ) → WaitsStill (tree_of p es) ws us m)
-RetriedIs p es n who Short ws S us = S es × ((m : ℕ) → WaitsStill (tree_of p es) ws us m)
+RetriedIs p es n who (Freed o) ws S us = Asked p es (request_of who) (answer_to who o) S × IsLeft n ws us
+RetriedIs p es n who Passed ws S us =
+    S es × (IsSame ws us ⊎ ((May (tree_of p es) (request_of who) → ⊥) × IsLeft n ws us))
+RetriedIs p es n who Short ws S us = S es × IsSame ws us
 
 -- who has to wait is put to those who wait, or memory ran out
 abbrev pub ParkedIs : ScopeId → Waiter → PlaceId → Waiters → Answer → Waiters → Type 0

@@ -1,4 +1,4 @@
-use Rattle.std.proofs.Common.{ℕ, ◌≤◌, ◌+◌, List, ◌++◌, [], take, length, length-append, length-take, refl, sym, ◌∙◌, arith, inl, inr, true, false}
+use Rattle.std.proofs.Common.{◌+◌, ◌++◌, [], take, arith, inl, inr}
 use Rattle.std.proofs.KnownBytes.{Consumes-nil, Consumes-trans, Consumes-kept}
 use Rattle.rx10_coordinator.proofs.Serving.{wrote, served, unwritten, read-none, read-more, not-done}
 use Rattle.rx10_coordinator.proofs.serve.serve_desk.Goals as goal

@@ -1,5 +1,4 @@
-use Rattle.std.proofs.Common.{[], ap, sym, ◌∙◌, append-nil, subst, refl, ◌++◌, List, ℕ}
-use Rattle.rx10_coordinator.specs.Inside.Telling.{Tells}
+use Rattle.std.proofs.Common.{[], append-nil, refl}
 use Rattle.rx10_coordinator.proofs.Telling.{kept, without}
 use Rattle.rx10_coordinator.proofs.output.Pending.put.Goals as goal
 

@@ -1,15 +1,18 @@
-use Rattle.std.specs.Prelude.{◌≡◌, ℕ, List, Some}
+use Rattle.std.specs.Prelude.{◌≡◌, ◌⊎◌, ℕ, ◌≤◌, List, Some, None}
 use Rattle.rx_rules.specs.declared.entries.Entry.{Entry}
 use Rattle.rx_rules.specs.Fold.{tree_of}
 use Rattle.rx_coordinator.specs.declared.waiters.Waiter.{Waiter}
-use Rattle.rx_coordinator.specs.Waiters.{waiter_at}
-use Rattle.rx_coordinator.specs.Parking.{Parks, WaitsStill}
+use Rattle.rx_coordinator.specs.Stands.{May}
+use Rattle.rx_coordinator.specs.Waiters.{waiter_at, IsDue}
+use Rattle.rx_coordinator.specs.Parking.{Parks, request_of}
 use Rattle.rx_coordinator.proofs.parking.Parking.free.Given as goal
 
--- nothing but who waits has changed, and nobody has come
+-- nothing but who waits has changed: nobody has come, and those who left are before all that are due
 abbrev pub invariant-turns : goal.invariant-turns
 invariant-turns l = record {
   on : (p : ℕ) (es : List Entry) → Parks l.fn.self p es → Parks l.self p es;
-  still : (p : ℕ) (es : List Entry) → Parks l.fn.self p es → (m : ℕ) → WaitsStill (tree_of p es) l.fn.self.waiters l.self.waiters m;
-  fewer : (n : ℕ) (who : Waiter) → waiter_at l.self.waiters n ≡ Some who → waiter_at l.fn.self.waiters n ≡ Some who;
+  rows : (p : ℕ) (es : List Entry) → Parks l.fn.self p es → (m : ℕ)
+      → (waiter_at l.self.waiters m ≡ waiter_at l.fn.self.waiters m)
+      ⊎ ((who : Waiter) × (waiter_at l.fn.self.waiters m ≡ Some who) × (May (tree_of p es) (request_of who) → ⊥)
+      × (waiter_at l.self.waiters m ≡ None) × ((k : ℕ) → IsDue l.self.due k → m ≤ k));
 }

@@ -1,21 +1,21 @@
 use Rattle.rx_rules.specs.Fold.{tree_of}
-use Rattle.std.proofs.Common.{ℕ, ◌≡◌, Bool, None, refl, sym, ◌∙◌, ap, subst}
+use Rattle.std.proofs.Common.{ℕ, ◌≡◌, None, refl, sym, ◌∙◌, ap, subst, inl, inr}
 use Rattle.rx_base.specs.declared.ids.ScopeId.{ScopeId}
 use Rattle.rx_coordinator.specs.declared.parking.Parking.{Parking}
 use Rattle.rx_coordinator.specs.Stands.{Stands, Asked}
 use Rattle.rx_coordinator.specs.Waiters.{waiter_at, IsDue}
 use Rattle.rx_coordinator.specs.Parking.{Parks}
 use Rattle.std.specs.Prelude.{cond, ◌==◌}
-use Rattle.std.proofs.lemmas.Bool.{eq-eqb}
+use Rattle.rx_coordinator.specs.declared.parking.Retried.{Retried}
+use Rattle.rx_coordinator.specs.declared.parking.Retried.TheVariants.{Short, Passed}
 use Rattle.rx_coordinator.specs.declared.waiters.Waiters.{Waiters}
 use Rattle.rx_coordinator.specs.declared.waiters.Due.{Due}
 use Rattle.rx_coordinator.specs.Parking.{request_of, answer_to}
-use Rattle.rx_coordinator.proofs.Moves.{Kept, kept, freed_told, released_is, root_is, waits_on, drops, short_told, all_still, others_still, bad_still}
+use Rattle.rx_coordinator.proofs.Moves.{Kept, kept, freed_told, released_is, root_is, waits_on, drops, short_told}
 use Rattle.rx_coordinator.proofs.parking.Parking.retry.Goals as goal
 
--- the row is none after it was taken away
-left_none : (ws us : Waiters) (s : ScopeId) → ((n : ℕ) → waiter_at us n ≡ cond (n == s.0) None (waiter_at ws n)) → waiter_at us s.0 ≡ None
-left_none ws us s left = left s.0 ∙ ap (λ (b : Bool). cond b None (waiter_at ws s.0)) (eq-eqb s.0 s.0 refl)
+no_pass : Short ≡ Passed → ⊥
+no_pass e = cc
 
 pub returns-in-Released-clause-parks : goal.returns-in-Released-clause-parks
 returns-in-Released-clause-parks c = λ p es k.
@@ -24,10 +24,9 @@ returns-in-Released-clause-parks c = λ p es k.
     let same = c.ask_again.ensures.same in
     let a = c.in-Released.ensures.asked p es k.stands in
     let left : (n : ℕ) → waiter_at c.leave.new.self n ≡ cond (n == c.args.scope.0) None (waiter_at old.waiters n) = λ n. c.leave.ensures n ∙ ap (λ (x : Parking). cond (n == c.args.scope.0) None (waiter_at x.waiters n)) same in (
-      left_none old.waiters c.leave.new.self c.args.scope left,
       subst (λ (e : Due). Asked p es (request_of c.args.waiter) (answer_to c.args.waiter c.in-Released.outcome) (Kept l.core c.leave.new.self e p)) (sym (ap (λ (x : Parking). x.due) same))
           (freed_told p es old.waiters old.due k.all k.stands.tree.reached l.core c.args.scope c.args.waiter c.requires.next c.leave.new.self left c.in-Released.outcome c.args.waiter refl (released_is p es c.args.waiter c.in-Released.outcome _ a)),
-      others_still (tree_of p es) old.waiters c.leave.new.self c.args.scope left,
+      left,
     )
 
 pub returns-in-RootDone-clause-parks : goal.returns-in-RootDone-clause-parks
@@ -38,10 +37,9 @@ returns-in-RootDone-clause-parks c = λ p es k.
     let us = c.leave-in-RootDone.new.self in
     let a = c.in-RootDone.ensures.asked p es k.stands in
     let left : (n : ℕ) → waiter_at us n ≡ cond (n == c.args.scope.0) None (waiter_at old.waiters n) = λ n. c.leave-in-RootDone.ensures n ∙ ap (λ (x : Parking). cond (n == c.args.scope.0) None (waiter_at x.waiters n)) same in (
-      left_none old.waiters us c.args.scope left,
       subst (λ (e : Due). Asked p es (request_of c.args.waiter) (answer_to c.args.waiter c.in-RootDone.outcome) (Kept l.core us e p)) (sym (ap (λ (x : Parking). x.due) same))
           (freed_told p es old.waiters old.due k.all k.stands.tree.reached l.core c.args.scope c.args.waiter c.requires.next us left c.in-RootDone.outcome c.args.waiter refl (root_is p es c.args.waiter c.in-RootDone.outcome _ a)),
-      others_still (tree_of p es) old.waiters us c.args.scope left,
+      left,
     )
 
 pub returns-in-NotYet-clause-parks : goal.returns-in-NotYet-clause-parks
@@ -53,8 +51,8 @@ returns-in-NotYet-clause-parks c = λ p es k.
     let due : (n : ℕ) → IsDue old.due n → IsDue l.due n = λ n. subst (λ (x : Due). IsDue x n) (sym (ap (λ (x : Parking). x.due) same)) in
     let a = c.in-NotYet.ensures.asked p es k.stands in (
       subst (λ (ws : Waiters). Kept l.core ws e p es) (sym (ap (λ (x : Parking). x.waiters) same))
-          (waits_on p es old.waiters old.due k.all k.stands.tree.reached l.core c.args.scope c.args.waiter c.requires.next e (λ n i j low. c.past-self.ensures n (due n i) (due c.args.scope.0 j) low) c.in-NotYet.place a),
-      all_still (tree_of p es) old.waiters l.waiters (λ n. ap (λ (x : Parking). waiter_at x.waiters n) same),
+          (waits_on p es old.waiters old.due k.all k.stands.tree.reached l.core c.args.scope c.args.waiter c.requires.next e (λ n i j low. c.past-self.ensures.kept n (due n i) (due c.args.scope.0 j) low) c.in-NotYet.place a),
+      inl (λ n. ap (λ (x : Parking). waiter_at x.waiters n) same),
     )
 
 pub returns-in-Bad-clause-parks : goal.returns-in-Bad-clause-parks
@@ -67,7 +65,7 @@ returns-in-Bad-clause-parks c = λ p es k.
     let due : (n : ℕ) → IsDue old.due n → IsDue l.due n = λ n. subst (λ (x : Due). IsDue x n) (sym (ap (λ (x : Parking). x.due) same)) in
     let a = c.in-Bad.ensures.asked p es k.stands in
     let left : (n : ℕ) → waiter_at us n ≡ cond (n == c.args.scope.0) None (waiter_at old.waiters n) = λ n. c.leave-in-Bad.ensures n ∙ ap (λ (x : Parking). cond (n == c.args.scope.0) None (waiter_at x.waiters n)) same in
-    (drops p es old.waiters old.due k.all k.stands.tree.reached l.core c.args.scope c.args.waiter c.requires.next us left e (λ n i j low. c.past-self-in-Bad.ensures n (due n i) (due c.args.scope.0 j) low) a, bad_still (tree_of p es) old.waiters us c.args.scope c.args.waiter c.requires.next.1 a.0 left)
+    (drops p es old.waiters old.due k.all k.stands.tree.reached l.core c.args.scope c.args.waiter c.requires.next us left e (λ n i j low. c.past-self-in-Bad.ensures.kept n (due n i) (due c.args.scope.0 j) low) a, inr (a.0, left))
 
 pub returns-in_default : goal.returns-in_default
 returns-in_default c =
@@ -75,8 +73,8 @@ returns-in_default c =
     let l = c.ask_again.new.self in
     let same = c.ask_again.ensures.same in
     record {
-      fewer = λ n who e. ap (λ (x : Parking). waiter_at x.waiters n) (sym same) ∙ e;
+      later = λ e. absurd (no_pass e);
       parks = λ p es k.
           let st = short_told p es c.args.waiter c.ask_again.result (Stands l.core p) c.in_default.not-Bad c.in_default.not-NotYet c.in_default.not-Released c.in_default.not-RootDone (c.ask_again.ensures.asked p es k.stands) in
-          (subst (λ (x : Parking). Parks x p es) (sym same) (kept l.core old.waiters old.due p es st k.all), all_still (tree_of p es) old.waiters l.waiters (λ n. ap (λ (x : Parking). waiter_at x.waiters n) same));
+          (subst (λ (x : Parking). Parks x p es) (sym same) (kept l.core old.waiters old.due p es st k.all), λ n. ap (λ (x : Parking). waiter_at x.waiters n) same);
     }

@@ -1,0 +1,19 @@
+// What holds of every session.
+ghost use Rattle.std.specs.Prelude.{◌≡◌, ◌≤◌, ℕ, List, Some, slice_get};
+ghost use Rattle.rx_rules.specs.declared.entries.Entry.{Entry};
+ghost use Rattle.rx_rules.specs.Laws.{NoEarlyRelease, LossExact};
+ghost use Rattle.rx_rules.specs.Inversions.{MaskedMeansLost};
+ghost use Rattle.rx10_coordinator.specs.Session.{IsSession};
+
+/// A law of contracts: whatever the input is, nothing that a session tells of was released early, each release names exactly the places
+/// that lost its tasks, and masked faults come with losses.
+pub fn sessions_keep_the_laws()
+    ensures early { (p : ℕ) (bytes text : List ℕ) → 1 ≤ p → p ≤ 16 → (s : IsSession p bytes text) → NoEarlyRelease s.after.entries }
+    ensures exact { (p : ℕ) (bytes text : List ℕ) → 1 ≤ p → p ≤ 16 → (s : IsSession p bytes text) → LossExact s.after.entries }
+    ensures masked { (p : ℕ) (bytes text : List ℕ) → 1 ≤ p → p ≤ 16 → (s : IsSession p bytes text)
+        → (i : ℕ) (e : Entry) → slice_get s.after.entries i ≡ Some e → MaskedMeansLost e }
+{
+    rx_laws::nothing_is_early();
+    rx_laws::losses_are_exact();
+    rx_laws::masked_is_lost();
+}

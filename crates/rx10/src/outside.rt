@@ -1,10 +1,10 @@
-// Reads a source to its end, and writes a whole text.
-ghost use Rattle.std.specs.Prelude.{◌≡◌, ◌+◌, ◌<◌, ◌≤◌, ◌^◌, ℕ, List, length, take, IfOk, OnOk, OnErr, IsErrOf};
-ghost use Rattle.std.specs.Io.KnownBytes.{Consumes, Appends, IsAtEnd};
+// Reads a source to its end.
+ghost use Rattle.std.specs.Prelude.{◌≡◌, ◌+◌, ◌<◌, ◌≤◌, ◌^◌, ℕ, List, length, take, IfOk, IsErrOf};
+ghost use Rattle.std.specs.Io.KnownBytes.{Consumes, IsAtEnd};
 ghost use Rattle.rx_base.specs.Outside.{Rose};
 ghost use Rattle.rx10.specs.declared.outside.ReadStop.TheVariants.{NoMemory, TooLong, Fault};
 
-use rx_base::{Failed, Sink, Source};
+use rx_base::{Failed, Source};
 use std::alloc::{AllocError, Global};
 
 // Why reading stopped before the end.
@@ -53,21 +53,4 @@ pub(crate) fn read_all<S: Source>(
         }
     }
     Err(ReadStop::TooLong)
-}
-
-// Writes all bytes. After a fault a proper front of them is written.
-pub(crate) fn write_all<K: Sink>(out: &mut K, bytes: &[u8]) -> Result<(), Failed>
-    ensures whole { OnOk result (Appends (K.written out.old) (K.written out.new) bytes.now) }
-    ensures front { OnErr result ((n : ℕ) × (n < length bytes.now) × Appends (K.written out.old) (K.written out.new) (take n bytes.now)) }
-    ensures fault { OnErr result (Rose (K.faults out.old) (K.faults out.new)) }
-    ensures later { K.faults out.old ≤ K.faults out.new }
-{
-    let mut done = 0;
-    'writes: while done < bytes.len() {
-        match out.write(&bytes[done..]) {
-            Ok(count) => done += count,
-            Err(Failed) => return Err(Failed),
-        }
-    }
-    Ok(())
 }

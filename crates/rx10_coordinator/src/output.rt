@@ -1,18 +1,16 @@
 // What is written.
-ghost use Rattle.std.specs.Prelude.{◌≡◌, ◌<◌, ◌≤◌, ℕ, List, [], ◌∷◌, true, false, length, take, OnOk, OnErr};
-ghost use Rattle.std.specs.Io.KnownBytes.{Appends};
-ghost use Rattle.rx_base.specs.Outside.{Rose};
+ghost use Rattle.std.specs.Prelude.{◌≡◌, [], true, false};
 ghost use Rattle.rx_text.specs.Numbers.{natural_text, number_text};
 ghost use Rattle.rx10_coordinator.specs.Inside.Telling.{Puts};
 
 use itoa::Buffer;
-use rx_base::{Failed, Sink};
+use rx_base::{Failed, Sink, write_all};
 use std::alloc::Global;
 
 // How many bytes are kept, at least, before they are written.
 const KEPT: usize = 65_536;
 
-/// Text that is told, and not written yet. No call wants memory: where there is none, a piece is written at once. After a write that
+/// Text that is told, and not written yet. No call fails for memory: where there is none, a piece is written at once. After a write that
 /// failed nothing more is written.
 #[derive(Drop)]
 pub(crate) struct Pending {
@@ -109,21 +107,4 @@ impl Pending {
             Err(Failed) => self.is_failed = true,
         }
     }
-}
-
-/// Writes all bytes. After a fault a proper front of them is written.
-pub(crate) fn write_all<K: Sink>(out: &mut K, bytes: &[u8]) -> Result<(), Failed>
-    ensures whole { OnOk result (Appends (K.written out.old) (K.written out.new) bytes.now) }
-    ensures front { OnErr result ((n : ℕ) × (n < length bytes.now) × Appends (K.written out.old) (K.written out.new) (take n bytes.now)) }
-    ensures fault { OnErr result (Rose (K.faults out.old) (K.faults out.new)) }
-    ensures later { K.faults out.old ≤ K.faults out.new }
-{
-    let mut done = 0;
-    'writes: while done < bytes.len() {
-        match out.write(&bytes[done..]) {
-            Ok(count) => done += count,
-            Err(Failed) => return Err(Failed),
-        }
-    }
-    Ok(())
 }

@@ -6,10 +6,9 @@ ghost use Rattle.rx10_coordinator.specs.Session.{Served};
 ghost use Rattle.rx10_coordinator.specs.Inside.Desk.{Serves};
 
 use crate::desk::Desk;
-use crate::output::write_all;
 use crate::received::Received;
 use crate::status::Status;
-use rx_base::{Failed, NoMemory, Sink, Source};
+use rx_base::{Failed, NoMemory, Sink, Source, write_all};
 use std::alloc::Global;
 
 // How many bytes are read at once.

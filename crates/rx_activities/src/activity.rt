@@ -150,7 +150,7 @@ impl<N: Naming> Activity<N> {
     }
 
     /// Makes the local steps up to the next call of a book, and that call: of the place's book or of the ledger's. An activity that
-    /// waits asks the ledger again only where the history may have grown. It owes no return.
+    /// waits asks the ledger again only where the history may have grown.
     pub fn turn<S: Surroundings, R: Wait>(
         self,
         rt: &R,

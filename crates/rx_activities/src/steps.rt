@@ -61,8 +61,7 @@ impl Hand {
         local_step(alloc, p, self.place, self.control.as_mut(), &mut self.batch)
     }
 
-    /// Makes the local steps up to the next call of a book, and tells which that is. It owes no return. A refusal leaves the
-    /// ticket and the passes.
+    /// Makes the local steps up to the next call of a book, and tells which that is. A refusal leaves the ticket and the passes.
     pub(crate) fn run_on<R: Wait>(
         &mut self,
         rt: &R,

@@ -28,7 +28,7 @@ abbrev pub IsNoPair : List ℕ → Type 0
 IsNoPair bytes = (script trace : List ℕ) → IsPair bytes script trace → ⊥
 
 -- Why bytes are nothing to judge. Each cause but the first says that the bytes are a pair, and the last that its script meets the
--- rules, so no two of them stand at once. Want of memory has no cause.
+-- rules, so no two of them stand at once. Running out of memory has no cause.
 abbrev pub IsCaseFault : CaseFault → List ℕ → Type 0
 IsCaseFault Pair bytes = IsNoPair bytes
 IsCaseFault (Syntax at) bytes =

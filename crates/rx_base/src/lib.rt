@@ -22,7 +22,7 @@ pub use gate::{CellGate, Gate, MeetGate, NoGate};
 pub use ids::{GlobalRef, Kill, PlaceId, ScopeId, TaskId};
 pub use lists::{Batch, Faults, Path};
 pub use memory::{MemSink, MemSource};
-pub use outside::{Sink, Source};
+pub use outside::{Sink, Source, write_all};
 pub use place_set::{PlaceSet, members_make_the_set};
 pub use standard::{StdSink, StdSource};
 pub use values::{Fault, Value};

@@ -1,8 +1,8 @@
 // What the program reads from and writes to, by what is known of its bytes and by a count of faults.
-ghost use Rattle.std.specs.Prelude.{List, ℕ, Option};
+ghost use Rattle.std.specs.Prelude.{◌<◌, ◌≤◌, ℕ, List, Option, length, take, OnOk, OnErr};
 ghost use Rattle.std.specs.Io.{ReadsAtMost, WritesAtMost};
-ghost use Rattle.std.specs.Io.KnownBytes.{ReadConsumes, WriteAppends};
-ghost use Rattle.rx_base.specs.Outside.{HasCause, TakesOne};
+ghost use Rattle.std.specs.Io.KnownBytes.{ReadConsumes, WriteAppends, Appends};
+ghost use Rattle.rx_base.specs.Outside.{HasCause, TakesOne, Rose};
 
 use crate::Failed;
 
@@ -35,4 +35,21 @@ pub trait Sink {
         ensures bytes { WriteAppends (written self.old) (written self.new) result bytes.now }
         ensures one { TakesOne result bytes.now }
         ensures cause { HasCause (faults self.old) (faults self.new) result };
+}
+
+/// Writes all bytes. After a fault a proper front of them is written.
+pub fn write_all<K: Sink>(out: &mut K, bytes: &[u8]) -> Result<(), Failed>
+    ensures whole { OnOk result (Appends (K.written out.old) (K.written out.new) bytes.now) }
+    ensures front { OnErr result ((n : ℕ) × (n < length bytes.now) × Appends (K.written out.old) (K.written out.new) (take n bytes.now)) }
+    ensures fault { OnErr result (Rose (K.faults out.old) (K.faults out.new)) }
+    ensures later { K.faults out.old ≤ K.faults out.new }
+{
+    let mut done = 0;
+    'writes: while done < bytes.len() {
+        match out.write(&bytes[done..]) {
+            Ok(count) => done += count,
+            Err(Failed) => return Err(Failed),
+        }
+    }
+    Ok(())
 }

@@ -92,7 +92,8 @@ pub trait FinishLedger: Drop {
         requires { (room : ℕ) × (T : Tree) × stands self.now room T × MayAskRelease T who }
         ensures { (room : ℕ) (T : Tree) → stands self.now room T → MayAskRelease T who → result ≡ is_ready T who };
 
-    /// Releases the caller's innermost scope, at which it waits. `NotYet` comes exactly where an unstruck task is under it.
+    /// Releases the caller's innermost scope, at which it waits. `NotYet` comes exactly where the caller is unstruck and an unstruck
+    /// task is under the scope.
     fn release(&mut self, who: Caller) -> Result<Outcome, LedgerFault>
         requires { (room : ℕ) × (T : Tree) × stands self.old room T × MayAskRelease T who }
         ensures { (room : ℕ) (T : Tree) → stands self.old room T → MayAskRelease T who → ReleaseReply T who result (stands self.new room) };

@@ -17,7 +17,7 @@ use std::alloc::Global;
 use std::io::{self, Write};
 use std::process::ExitCode;
 
-/// A task with its ticket. A ticket can be neither copied nor dropped, and so it is with a job.
+/// A task with its ticket. An `AnyTicket` can be neither copied nor dropped, and so it is with a job.
 pub struct Job {
     task: AnyTicket,
     /// Whether it is inside a finish that it has opened.

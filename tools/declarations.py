@@ -102,10 +102,10 @@ class Reader:
     def look(self):
         return self.tokens[self.at] if self.at < len(self.tokens) else ""
 
-    def take(self, wanted=None):
+    def take(self):
         it = self.look()
-        if not it or wanted not in (None, it):
-            raise Unread("%s must come after: %s" % (wanted or "more", joined(self.tokens[max(self.at - 12, 0):self.at])))
+        if not it:
+            raise Unread("more must come after: %s" % joined(self.tokens[-12:]))
         self.at += 1
         return it
 
@@ -218,7 +218,9 @@ class Reader:
                 return
 
     def structure(self):
-        name, generics, opening = self.take(), self.generics(), self.look()
+        name, generics = self.take(), self.generics()
+        self.until("(", "{", ";")
+        opening = self.look()
         body = [opening, *self.public_fields(), CLOSING[opening]] if opening in ("(", "{") else []
         self.skips(";")
         return Item("struct", name, generics, body)

@@ -71,7 +71,7 @@ class Crate:
         return crates()[first].follow(rest) if first in crates() else None
 
     def all_declared(self):
-        return [it for file in sorted(self.folder.glob("*.rt")) for it in self.declared_in(file.name)]
+        return [it for file in sorted(self.folder.rglob("*.rt")) for it in self.declared_in(file.relative_to(self.folder))]
 
     def calls_of(self, kind, generics):
         """The public calls of a type of this crate, by name. The type is given by tokens, with these parameters of its own."""

@@ -168,7 +168,7 @@ class List:
         listed = [(crate, replaced(item, table)) for crate, items in self.listed.items() for item in items]
         found = [it for crate, item in listed for it in compared(crate, item, table)]
         for name, (crate, kind) in self.given.items():
-            at = crates()[crate].find(name)
+            at = crates()[crate].find(name) if crate in crates() else None
             if not at or len(split(at[1].generics, ",")) != len(arguments(kind)):
                 found.append(Difference(crate, name, "no type with the arguments of %s" % joined(kind)))
         return {it.key: it for it in found}

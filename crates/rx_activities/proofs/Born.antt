@@ -401,7 +401,7 @@ module _ (L : BookName LedgerFixed) (rest : Hand) (reply : Reply) (child_of : Op
             → StaysWith rest.place live ch.control.value met (Some sp) x → BeginsAs L x
         begins sp is_seat word view met (Here hand) h so =
             knows met h together sp is_seat word view
-            (λ few. served met h (λ T. MayAskMoving T (fresh_caller new scope (Stays to))) (λ numbers. subst (λ (t : AnyTicket). MayStart (tree_of places now.entries) (Some t)) is (serves numbers)) few) hand so
+            (λ few. served met h (λ T. MayAskMoving T (fresh_caller new scope (Stays to))) (λ numbers. subst (λ (t : AnyTicket). MayStart (tree_of places now.entries) (Some t)) is (serves numbers)) few) hand.value so
         begins sp is_seat word view met (Leaves j) h so = absurd so
 
         with_seat : (o : Option (Pass EventItem)) → ch.seat ≡ o → SeatIsNew true a.seat o → IsBorn L rest.place rest.pass ticket ch

@@ -21,3 +21,4 @@ pub mod Stored
 pub mod BeganMain
 pub mod Landed
 pub mod Crosses
+pub mod Kept

@@ -55,7 +55,7 @@ pub record Comes (L : BookName LedgerFixed) (j : Journey) : Type 0 where
 
 -- what is known of a task that was started at its starter's place, or that leaves it
 abbrev pub Begins : BookName LedgerFixed → Started → Type 0
-Begins L (Here hand) = Knows L hand
+Begins L (Here hand) = Knows L hand.value
 Begins L (Leaves journey) = Comes L journey
 
 abbrev pub BeginsIf : BookName LedgerFixed → Option Started → Type 0

@@ -3,7 +3,7 @@ ghost use Rattle.std.specs.Prelude.{◌≡◌, ◌<◌};
 ghost use Rattle.rx_finish.specs.Calls.{landing};
 ghost use Rattle.rx_check.specs.Checked.{Checked};
 ghost use Rattle.rx_plan.specs.declared.step.Next.{Next as Step};
-ghost use Rattle.rx_activities.specs.Knowing.{PlaceIs, IsNewSeat, Knows};
+ghost use Rattle.rx_activities.specs.Knowing.{PlaceIs, IsNewSeat, IsOfRun, Knows};
 ghost use Rattle.rx_activities.specs.Starting.{IsOpening, Begins};
 ghost use Rattle.rx_activities.specs.Turning.{Leaves, LeavesHand};
 ghost use Rattle.rx_activities.specs.Inside.Stepping.{IsNext};
@@ -24,7 +24,8 @@ use std::sync::Wait;
 /// An activity that is live. Contracts see its place. It may be moved to another thread. It has to be brought to its end, or given
 /// up.
 pub struct Activity<N: Naming> {
-    hand: Hand,
+    // In a block. Where there was no memory for that of the main activity, the pass that is left of it.
+    hand: Result<Box<Hand>, Pass<EntryItem>>,
     // The number of entries of which it knew before it asked for a release that was not yet allowed.
     polled: Option<u32>,
     // The number of entries of which it knew right before its last request, where it goes on behind one.
@@ -34,13 +35,13 @@ pub struct Activity<N: Naming> {
 
 impl<N: Naming> Model for Activity<N> {
     ghost use Rattle.rx_base.specs.declared.ids.PlaceId.{PlaceId};
-    ghost use Rattle.rx_activities.specs.Knowing.{Knows};
+    ghost use Rattle.rx_activities.specs.Turning.{place_kept, IsKept};
 
     ghost Value = { PlaceId };
 
-    ghost view = { λ a. a.hand.place };
+    ghost view = { λ a. place_kept a.hand };
 
-    ghost invariant = { λ a. Knows N.ledger a.hand };
+    ghost invariant = { λ a. IsKept N.ledger a.hand };
 }
 
 /// An activity on its way. Contracts see the place for which it is. It may be moved to another thread, and may be dropped.
@@ -96,7 +97,8 @@ pub enum Arrival<N: Naming> {
 }
 
 impl<N: Naming> Activity<N> {
-    /// The main activity of a run, at place 0, by the first passes of the ledger's book and of the book of place 0.
+    /// The main activity of a run, at place 0, by the first passes of the ledger's book and of the book of place 0. Where there is no
+    /// memory for its block, its first turn says so.
     pub fn main(
         alloc: Global,
         p: &Program,
@@ -112,7 +114,7 @@ impl<N: Naming> Activity<N> {
         checked(p);
         rx_objects::objects_open();
         Activity {
-            hand: Hand::fresh(alloc, control, ticket, PlaceId(0), pass, seat),
+            hand: Hand::fresh(alloc, control, ticket, PlaceId(0), pass, seat).boxed(alloc),
             polled: None,
             asked: None,
             of: PhantomData,
@@ -123,7 +125,10 @@ impl<N: Naming> Activity<N> {
     pub fn place(&self) -> PlaceId
         ensures { result ≡ self.now }
     {
-        self.hand.place
+        match &self.hand {
+            Ok(hand) => hand.place,
+            Err(_) => PlaceId(0),
+        }
     }
 
     /// Gives the activity up, and keeps what it has seen of the ledger. Its ticket is spent.
@@ -134,7 +139,10 @@ impl<N: Naming> Activity<N> {
             asked: _,
             of: _,
         } = self;
-        LedgerPass::of(hand.give_up())
+        match hand {
+            Ok(hand) => given_up(hand),
+            Err(pass) => LedgerPass::of(pass),
+        }
     }
 
     /// Whether the history has grown by more than an entry since right before its last request, where it goes on behind one: then others
@@ -143,9 +151,12 @@ impl<N: Naming> Activity<N> {
         requires { ledger.now ≡ N.ledger }
         ensures { self.new ≡ self.old }
     {
-        match self.asked {
-            Some(asked) => self.hand.look(ledger) > asked.saturating_add(1),
-            None => false,
+        let Some(asked) = self.asked else {
+            return false;
+        };
+        match &mut self.hand {
+            Ok(hand) => hand.look(ledger) > asked.saturating_add(1),
+            Err(_) => false,
         }
     }
 
@@ -164,35 +175,50 @@ impl<N: Naming> Activity<N> {
         requires place { PlaceIs N.ledger self place_book.now }
     {
         let Activity {
-            mut hand,
+            hand,
             polled,
             asked: _,
-            of,
+            of: _,
         } = self;
-        let seen = hand.look(ledger);
-        if polled == Some(seen) {
-            return Turn::Waits(Activity {
-                hand,
-                polled,
-                asked: None,
-                of,
-            });
+        match hand {
+            Ok(hand) => make_turn(hand, polled, rt, alloc, p, ledger, place_book),
+            Err(pass) => Turn::Failed(LedgerPass::of(pass)),
         }
-        let next = match hand.run_on(rt, alloc, p) {
-            Ok(next) => next,
-            Err(_) => {
-                return Turn::Failed(LedgerPass::of(hand.give_up()));
-            }
-        };
-        match next {
-            Next::Cell(op) => {
-                turn_of_call(hand.call_store(rt, alloc, p, ledger, place_book, op))
-            }
-            other => {
-                let asked = hand.look(ledger);
-                let answer = hand.call_ledger(rt, alloc, p, ledger, place_book, other);
-                turn_of_request(hand, answer, seen, asked)
-            }
+    }
+}
+
+// Makes a turn, of an activity that asked in vain when it knew of so many entries.
+fn make_turn<N: Naming, S: Surroundings, R: Wait>(
+    mut hand: Box<Hand>,
+    polled: Option<u32>,
+    rt: &R,
+    alloc: Global,
+    p: &Program,
+    ledger: &Book<LedgerObject>,
+    place_book: &Book<PlaceObject<S>>,
+) -> Turn<N>
+    requires ledger { ledger.now ≡ N.ledger }
+    requires program { ledger.now.fixed.program ≡ p.now }
+    requires place { PlaceIs ledger.now hand.value.place place_book.now }
+    requires known { Knows ledger.now hand.value }
+{
+    let seen = hand.look(ledger);
+    if polled == Some(seen) {
+        return Turn::Waits(activity_of(hand, polled, None));
+    }
+    let next = match hand.run_on(rt, alloc, p) {
+        Ok(next) => next,
+        Err(_) => return Turn::Failed(given_up(hand)),
+    };
+    match next {
+        Next::Cell(op) => {
+            let hand = Box::into_inner(hand);
+            turn_of_call(hand.call_store(rt, alloc, p, ledger, place_book, op))
+        }
+        other => {
+            let asked = hand.look(ledger);
+            let answer = hand.call_ledger(rt, alloc, p, ledger, place_book, other);
+            turn_of_request(hand, answer, seen, asked)
         }
     }
 }
@@ -209,13 +235,20 @@ impl Hand {
     }
 }
 
+// What an activity leaves that is given up.
+fn given_up<N: Naming>(hand: Box<Hand>) -> LedgerPass<N>
+    requires { IsOfRun N.ledger hand.value.pass }
+{
+    LedgerPass::of(Box::into_inner(hand).give_up())
+}
+
 // The activity of a hand.
-fn activity_of<N: Naming>(hand: Hand, polled: Option<u32>, asked: Option<u32>) -> Activity<N>
-    requires { Knows N.ledger hand }
-    ensures { result ≡ hand.place }
+fn activity_of<N: Naming>(hand: Box<Hand>, polled: Option<u32>, asked: Option<u32>) -> Activity<N>
+    requires { Knows N.ledger hand.value }
+    ensures { result ≡ hand.value.place }
 {
     Activity {
-        hand,
+        hand: Ok(hand),
         polled,
         asked,
         of: PhantomData,
@@ -251,8 +284,8 @@ fn turn_of_call<N: Naming>(outcome: Outcome) -> Turn<N>
 
 // What a request leaves, as it may be kept. One that waits asks again once the history has more entries than these, of which it knew
 // before its request: what others append after the answer is then not missed.
-fn turn_of_request<N: Naming>(hand: Hand, answer: Answer, seen: u32, asked: u32) -> Turn<N>
-    requires { LeavesHand N.ledger hand answer }
+fn turn_of_request<N: Naming>(hand: Box<Hand>, answer: Answer, seen: u32, asked: u32) -> Turn<N>
+    requires { LeavesHand N.ledger hand.value answer }
 {
     match answer {
         Answer::Goes { started } => Turn::Goes {
@@ -263,8 +296,8 @@ fn turn_of_request<N: Naming>(hand: Hand, answer: Answer, seen: u32, asked: u32)
             },
         },
         Answer::Waits => Turn::Waits(activity_of(hand, Some(seen), None)),
-        Answer::Over => Turn::Over(LedgerPass::of(hand.give_up())),
-        Answer::Failed => Turn::Failed(LedgerPass::of(hand.give_up())),
+        Answer::Over => Turn::Over(given_up(hand)),
+        Answer::Failed => Turn::Failed(given_up(hand)),
     }
 }
 

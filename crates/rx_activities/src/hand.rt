@@ -1,6 +1,10 @@
 // What an activity holds, and what a turn leaves.
-ghost use Rattle.std.specs.Prelude.{◌≡◌, []};
+ghost use Rattle.std.specs.Prelude.{◌≡◌, [], IfErr, IfOk};
+ghost use Rattle.rx_book.specs.Named.{BookName};
+ghost use Rattle.rx_objects.specs.declared.ledger.LedgerFixed.{LedgerFixed};
 ghost use Rattle.rx_ticket.specs.declared.tickets.AnyTicket.TheVariants.{Running};
+ghost use Rattle.rx_activities.specs.Knowing.{Knows};
+ghost use Rattle.rx_activities.specs.Turning.{Leaves};
 ghost use Rattle.rx_activities.specs.Inside.Births.{IsWith};
 
 use rx_base::{Batch, PlaceId};
@@ -8,7 +12,7 @@ use rx_book::Pass;
 use rx_control::Control;
 use rx_parts_book::{EntryItem, EventItem};
 use rx_ticket::{AnyTicket, InTransit, Live, Ticket};
-use std::alloc::Global;
+use std::alloc::{AllocFailed, Global};
 use std::snapshot::Snapshot;
 
 /// What an activity at a place holds.
@@ -38,7 +42,7 @@ pub struct Journey {
 
 /// A task that was started, at its starter's place or for another.
 pub enum Started {
-    Here(Hand),
+    Here(Box<Hand>),
     Away(Journey),
 }
 
@@ -57,7 +61,7 @@ pub enum Answer {
 /// What a store call leaves, or an arrival.
 pub enum Outcome {
     /// The activity goes on.
-    Goes { hand: Hand },
+    Goes { hand: Box<Hand> },
     /// It was lost with its place.
     Lost { pass: Pass<EntryItem> },
     /// There was no memory. Its ticket is spent.
@@ -107,6 +111,27 @@ impl Hand {
             pass,
             seat,
             told,
+        }
+    }
+
+    /// Puts the activity into a block. Where there is no memory for it the activity is given up.
+    pub(crate) fn boxed(self, alloc: Global) -> Result<Box<Hand>, Pass<EntryItem>>
+        ensures hand { IfOk result (λ b. b.value ≡ self) }
+        ensures pass { IfErr result (λ p. p ≡ self.pass) }
+    {
+        match Box::new(alloc, self) {
+            Ok(hand) => Ok(hand),
+            Err(AllocFailed { value }) => Err(value.give_up()),
+        }
+    }
+
+    /// What a store call leaves, or an arrival, by which the activity goes on where there is memory for its block.
+    pub(crate) fn goes(self, alloc: Global) -> Outcome
+        ensures { (L : BookName LedgerFixed) → Knows L self → Leaves L result }
+    {
+        match self.boxed(alloc) {
+            Ok(hand) => Outcome::Goes { hand },
+            Err(pass) => Outcome::Failed { pass },
         }
     }
 

@@ -77,9 +77,9 @@ impl Journey {
             mentions,
         };
         match ask(rt, p, ledger, &mut pass, op) {
-            Reply::Landed { ticket } => Outcome::Goes {
-                hand: Hand::fresh(alloc, control, ticket, place, pass, seat),
-            },
+            Reply::Landed { ticket } => {
+                Hand::fresh(alloc, control, ticket, place, pass, seat).goes(alloc)
+            }
             Reply::Lost { place: _, at: _ } => Outcome::Lost { pass },
             Reply::NoMemory { request } => failed(request.into_ticket(), pass),
             _ => unreachable!(),

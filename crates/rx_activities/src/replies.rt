@@ -1,5 +1,5 @@
 // How an activity goes on by the ledger's answer.
-ghost use Rattle.std.specs.Prelude.{◌≡◌, None, Some};
+ghost use Rattle.std.specs.Prelude.{◌≡◌, None, Some, IfOk};
 ghost use Rattle.rx_book.specs.Passes.{view_of, word_of};
 ghost use Rattle.rx_activities.specs.Starting.{BeginsIf};
 ghost use Rattle.rx_activities.specs.Turning.{LeavesHand};
@@ -7,7 +7,7 @@ ghost use Rattle.rx_activities.specs.Inside.Sending.{WasSent, WasGranted, WasCou
 ghost use Rattle.rx_activities.specs.Inside.Births.{IsStarted, IsAtStart, StartsWith, IsWith};
 
 use crate::hand::{Answer, Hand, Journey, Started, spend};
-use rx_base::{Batch, Faults, PlaceId};
+use rx_base::{Batch, Faults, NoMemory, PlaceId};
 use rx_book::{Book, Pass};
 use rx_check::{Program, checked};
 use rx_control::{Control, faults_raised};
@@ -65,7 +65,10 @@ impl Hand {
             spend_if(started);
             return Answer::Failed;
         }
-        let started = start(alloc, ledger, self.place, &mut self.pass, started, child);
+        let Ok(started) = start(alloc, ledger, self.place, &mut self.pass, started, child) else {
+            spend(ticket);
+            return Answer::Failed;
+        };
         self.keep(ticket, Batch::open(alloc));
         Answer::Goes { started }
     }
@@ -202,14 +205,14 @@ fn start(
     pass: &mut Pass<EntryItem>,
     ticket: Option<AnyTicket>,
     child: Option<Child>,
-) -> Option<Started>
+) -> Result<Option<Started>, NoMemory>
     requires pass { word_of pass.old ≡ ledger.now.word }
     requires child { IsStarted ledger.now place pass.old ticket child }
     ensures same { (word_of pass.new ≡ word_of pass.old) × (view_of pass.new ≡ view_of pass.old) }
-    ensures begins { BeginsIf ledger.now result }
+    ensures begins { IfOk result (BeginsIf ledger.now) }
 {
     match (ticket, child) {
-        (None, _) => None,
+        (None, _) => Ok(None),
         (Some(ticket), Some(child)) => {
             let Child {
                 control,
@@ -220,7 +223,7 @@ fn start(
                 unreachable!()
             };
             ledger.meet(&mut own, note);
-            Some(begin(alloc, place, ticket, control, own, seat))
+            Ok(Some(begin(alloc, place, ticket, control, own, seat)?))
         }
         (Some(_), None) => unreachable!(),
     }
@@ -234,18 +237,21 @@ fn begin(
     control: Box<Control>,
     pass: Pass<EntryItem>,
     seat: Option<Pass<EventItem>>,
-) -> Started
+) -> Result<Started, NoMemory>
     requires { IsAtStart ticket seat }
-    ensures { StartsWith place ticket control.value pass seat result }
+    ensures { IfOk result (StartsWith place ticket control.value pass seat) }
 {
     match (ticket, seat) {
-        (AnyTicket::Moving(ticket), _) => Started::Away(Journey {
+        (AnyTicket::Moving(ticket), _) => Ok(Started::Away(Journey {
             control,
             ticket,
             pass,
-        }),
+        })),
         (AnyTicket::Running(ticket), Some(seat)) => {
-            Started::Here(Hand::fresh(alloc, control, ticket, place, pass, seat))
+            match Hand::fresh(alloc, control, ticket, place, pass, seat).boxed(alloc) {
+                Ok(hand) => Ok(Started::Here(hand)),
+                Err(_) => Err(NoMemory),
+            }
         }
         _ => unreachable!(),
     }

@@ -138,17 +138,16 @@ impl Hand {
         if control.as_mut().cell_done(alloc, p, answer).is_err() {
             return failed(ticket, pass);
         }
-        Outcome::Goes {
-            hand: Hand {
-                control,
-                batch,
-                ticket,
-                place,
-                made: true,
-                pass,
-                seat,
-                told,
-            },
-        }
+        let hand = Hand {
+            control,
+            batch,
+            ticket,
+            place,
+            made: true,
+            pass,
+            seat,
+            told,
+        };
+        hand.goes(alloc)
     }
 }

@@ -49,7 +49,7 @@ TravelsWith who c pass (Away j) = (j.control.value ≡ c) × (j.ticket ≡ who) 
 
 abbrev pub StaysWith : PlaceId → AnyTicket → Control → Pass EntryItem → Option (Pass EventItem) → Started → Type 0
 StaysWith place ticket c pass None s = ⊥
-StaysWith place ticket c pass (Some seat) (Here hand) = IsWith c place pass seat ticket [] hand
+StaysWith place ticket c pass (Some seat) (Here hand) = IsWith c place pass seat ticket [] hand.value
 StaysWith place ticket c pass (Some seat) (Away j) = ⊥
 
 abbrev pub StartsWith : PlaceId → AnyTicket → Control → Pass EntryItem → Option (Pass EventItem) → Started → Type 0

@@ -4,10 +4,10 @@ use Rattle.rx_activities.specs.declared.replies.Child.{Child}
 use Rattle.rx_activities.specs.Inside.Births.{IsBorn, IsStarted}
 use Rattle.rx_activities.proofs.replies.start.Goals as goal
 
-pub returns-in-Ok-clause-begins : goal.returns-in-Ok-clause-begins
-returns-in-Ok-clause-begins c =
+pub returns-in_ok-begin-in-Some-Some-clause-begins : goal.returns-in_ok-begin-in-Some-Some-clause-begins
+returns-in_ok-begin-in-Some-Some-clause-begins c =
     let arm = c.in-Some-Some in
     let born : IsBorn c.args.ledger.now c.args.place c.args.pass.now c.in-Some-Some.ticket c.in-Some-Some.child =
     subst (λ (o : Option Child). IsStarted c.args.ledger.now c.args.place c.args.pass.now (Some c.in-Some-Some.ticket) o) arm.is-1
     (subst (λ (o : Option AnyTicket). IsStarted c.args.ledger.now c.args.place c.args.pass.now o c.args.child) arm.is-0 c.requires.child) in
-    born.begins c.meet.new.pass c.begin.result (record { word = c.meet.ensures.own; note = c.in-Ok.note; noted = c.in-Ok.ensures.seen; meets = c.meet.ensures.met }) c.begin.ensures
+    born.begins c.meet.new.pass _ (record { word = c.meet.ensures.own; note = c.in-Ok.note; noted = c.in-Ok.ensures.seen; meets = c.meet.ensures.met }) c.in_ok-begin-in-Some-Some.ensures

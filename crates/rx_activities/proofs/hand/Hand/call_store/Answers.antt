@@ -82,7 +82,8 @@ returns g c =
     let ok = subst (λ (x : Control). (u : Term) (y : List ℕ) → StandsFor p.script x u → begins u ≡ Some y → StandsFor p.script c.cell_done.new.self (answered (answer_of (receives u) c.in-Some-answer.answer) u) × (c.cell_done.new.self.vars ≡ vars_after (answer_of (receives u) c.in-Some-answer.answer) x.vars)) c.as_mut.ensures.value
     (ok_so c.cell_done.result (sym c.is_err.ensures.value ∙ c.if-is_err.false) c.cell_done.ensures.ok) in
     let begun = paths t.0 t.1 t.2 t.3 in
-    stored_knows L a k q c.in-Some.ensures.own c.in-Some.ensures.looked place.fixed.words c.in-Some.stamp c.in-Ok.path c.args.op c.in-Some.ensures.above _ c.in-Some-answer.answer came c.call-reply.new.pass called c.terms_sink.ensures
+    c.goes.ensures L
+    (stored_knows L a k q c.in-Some.ensures.own c.in-Some.ensures.looked place.fixed.words c.in-Some.stamp c.in-Ok.path c.args.op c.in-Some.ensures.above _ c.in-Some-answer.answer came c.call-reply.new.pass called c.terms_sink.ensures
     (record a.control { value = c.cell_done.new.self }) c.begin_call.new.batch c.call-reply.ensures.own (next_in_run p L a k c.requires.program c.args.op c.requires.next) path
     (λ u y s e. (let r = ok u y (of_program p L a k c.requires.program c.args.op c.requires.next a.control.value u s) e in (of_run p L a k c.requires.program c.args.op c.requires.next c.cell_done.new.self _ r.0, r.1)))
-    (begun.1 ∙ ap (λ (y : List ℕ). a.batch ++ y ∷ []) (sym begun.0))
+    (begun.1 ∙ ap (λ (y : List ℕ). a.batch ++ y ∷ []) (sym begun.0)))

@@ -19,13 +19,13 @@ returns c =
           (record {
             control = w.control;
             place_is = w.place_is;
-            word = w.word ∙ c.start-started.ensures.same.0;
-            view = w.view ∙ c.start-started.ensures.same.1;
+            word = w.word ∙ c.start.ensures.same.0;
+            view = w.view ∙ c.start.ensures.same.1;
             seat_is = w.seat_is;
             ticket_is = w.ticket_is;
             batch_is = w.batch_is ∙ c.open.ensures;
             told = w.told;
             unmade = w.unmade;
           }),
-      c.start-started.ensures.begins,
+      c.in-Ok.ensures.begins,
     )

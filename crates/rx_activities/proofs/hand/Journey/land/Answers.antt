@@ -27,7 +27,8 @@ returns-in-Landed g c =
       note = None;
       mentions = record { before = c.of.result; now = c.of-2.result; child = c.of-3.result; seat = c.of-4.result };
     } in
-    landed_knows c.args.ledger.now c.args.self c.requires.comes c.args.seat c.requires.seat op
+    c.goes.ensures c.args.ledger.now
+    (landed_knows c.args.ledger.now c.args.self c.requires.comes c.args.seat c.requires.seat op
     (λ i. record { ticket = Moving c.args.self.ticket; ask = Arrive; batch = c.open.ensures i; path = None }) (c.of.ensures ∙ sym c.of-2.ensures) c.of-4.ensures c.in-Landed.ticket c.ask.new.pass c.in-Landed.ensures.own
     c.in-Landed.ensures.replied c.fresh.result
-    (subst (λ (p : PlaceId). IsWith c.args.self.control.value p c.ask.new.pass c.args.seat (Running c.in-Landed.ticket) [] c.fresh.result) c.target-place.ensures c.fresh.ensures)
+    (subst (λ (p : PlaceId). IsWith c.args.self.control.value p c.ask.new.pass c.args.seat (Running c.in-Landed.ticket) [] c.fresh.result) c.target-place.ensures c.fresh.ensures))

@@ -1,0 +1,21 @@
+-- An activity that was put into its block.
+use Rattle.std.specs.Prelude.{◌≡◌, Result, Ok, Err, IfOk, IfErr, refl}
+use Rattle.std.proofs.Common.{ap, sym, ◌∙◌, subst}
+use Rattle.std.specs.Global.{Box}
+use Rattle.rx_book.specs.Named.{BookName}
+use Rattle.rx_book.specs.declared.passes.Pass.{Pass}
+use Rattle.rx_parts_book.specs.declared.items.EntryItem.{EntryItem}
+use Rattle.rx_objects.specs.declared.ledger.LedgerFixed.{LedgerFixed}
+use Rattle.rx_activities.specs.declared.hand.Hand.{Hand}
+use Rattle.rx_activities.specs.Knowing.{IsOfRun, Knows}
+use Rattle.rx_activities.specs.Turning.{place_kept, IsKept}
+
+-- it knows what it knew, or its pass is of the run
+pub kept_so : (L : BookName LedgerFixed) (hand : Hand) (r : Result (Box Hand) (Pass EntryItem)) → IfOk r (λ b. b.value ≡ hand) → IfErr r (λ p. p ≡ hand.pass) → Knows L hand → IsKept L r
+kept_so L hand (Ok b) is left k = subst (Knows L) (sym is) k
+kept_so L hand (Err p) is left k = subst (IsOfRun L) (sym left) k.pass
+
+-- at place 0
+pub kept_place : (hand : Hand) (r : Result (Box Hand) (Pass EntryItem)) → IfOk r (λ b. b.value ≡ hand) → hand.place ≡ record { 0 = 0 } → place_kept r ≡ record { 0 = 0 }
+kept_place hand (Ok b) is at = ap (λ (h : Hand). h.place) is ∙ at
+kept_place hand (Err p) is at = refl

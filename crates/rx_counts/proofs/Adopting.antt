@@ -34,5 +34,5 @@ leads T s g (Some u) h e found base num = meets_step T.tasks T.next_scope T.scop
 
 pub scope_adopted : {room : ℕ} (l : CountLedger) (T : Tree) (s : ScopeId) → StandsFor l room T → HasScope T s → is_some (keeper (stands_home T.dead) T.scopes (Some s)) ≡ true
 scope_adopted l T s st h =
-    let k : Kept l.width T l.scopes.items s.0 = scope_record l T s st h in
+    let k : Kept l.width T l.scopes s.0 = scope_record l T s st h in
     keeper_known T s (sound st.reached) (leads T s k.scope k.scope.parent (sound st.reached) refl k.stands (each_found (λ g. g.parent ≡ None → g.number.0 ≡ 0) (has_number s.0) T.scopes k.scope (based st.reached) k.stands) k.number)

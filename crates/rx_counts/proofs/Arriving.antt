@@ -111,7 +111,7 @@ one_landed l T who g f s none at_place =
     (same_tasks l.totals (length T.scopes) T.tasks (x ∷ others who.task T.tasks) (count_out who.task T.next_task T.tasks x h.tasks_fall f.at.stands) (are l.totals T s.fit.totals))
 
 -- the ledger that has the new records stands for the new tree
-pub arrived : {room : ℕ} (l m : CountLedger) (T : Tree) (who : Caller) (qs : List (Option (Box Record))) (k : ℕ) → StandsFor l room T → MayAskArrive T who → (f : Free T who Travels) → keeper (stands_home T.dead) T.scopes (Some who.scope) ≡ Some k → m.places ≡ l.places → m.width ≡ l.width → m.dead ≡ l.dead → m.next_task ≡ l.next_task → m.next_scope ≡ l.next_scope → m.totals ≡ lands l.totals → Changed (in_sums (less who.place)) k l.scopes.items qs → Changed (in_sums (more (At (landing who.place)))) k qs m.scopes.items → ArriveReply T who (Ok tt) (StandsFor m room)
+pub arrived : {room : ℕ} (l m : CountLedger) (T : Tree) (who : Caller) (qs : List (Option (Box Record))) (k : ℕ) → StandsFor l room T → MayAskArrive T who → (f : Free T who Travels) → keeper (stands_home T.dead) T.scopes (Some who.scope) ≡ Some k → m.places ≡ l.places → m.width ≡ l.width → m.dead ≡ l.dead → m.next_task ≡ l.next_task → m.next_scope ≡ l.next_scope → m.totals ≡ lands l.totals → Changed (in_sums (less who.place)) k l.scopes qs → Changed (in_sums (more (At (landing who.place)))) k qs m.scopes → ArriveReply T who (Ok tt) (StandsFor m room)
 arrived l m T who qs k s may f at places width dead next_task next_scope totals c d =
     let h : Sound T = sound s.reached in
     let x : Task = f.at.task in
@@ -135,14 +135,14 @@ arrived l m T who qs k s may f at places width dead next_task next_scope totals 
                       (one_landed l T who g f s f.unstruck refl).1);
                   numbers = d.len ∙ c.len ∙ s.fit.numbers;
                   scopes =
-                      as_wide l.width m.width (stands_home T.dead) T.scopes (change_first (is_task who.task) g T.tasks) m.scopes.items width
-                      (all_same _ (stands_home T.dead) T.scopes (g x ∷ others who.task T.tasks) (change_first (is_task who.task) g T.tasks) m.scopes.items (count_back who.task T.next_task T.tasks x g h.tasks_fall f.at.stands)
-                      (all_join _ (stands_home T.dead) T.scopes (others who.task T.tasks) (g x) k qs m.scopes.items (ap (λ (u : ScopeId). keeper (stands_home T.dead) T.scopes (Some u)) f.at.says.under ∙ at) f.unstruck
-                      (has_cell _ (stands_home T.dead) T.next_scope T.scopes (others who.task T.tasks) qs k (Some who.scope) (At (landing who.place)) h.falls at (landing_inside l.width who.place (place_in T who Travels h (wide l T s) f)) (left_over _ T who Travels l.scopes.items qs k h f at c s.fit.scopes))
-                      d (left_over _ T who Travels l.scopes.items qs k h f at c s.fit.scopes)));
+                      as_wide l.width m.width (stands_home T.dead) T.scopes (change_first (is_task who.task) g T.tasks) m.scopes width
+                      (all_same _ (stands_home T.dead) T.scopes (g x ∷ others who.task T.tasks) (change_first (is_task who.task) g T.tasks) m.scopes (count_back who.task T.next_task T.tasks x g h.tasks_fall f.at.stands)
+                      (all_join _ (stands_home T.dead) T.scopes (others who.task T.tasks) (g x) k qs m.scopes (ap (λ (u : ScopeId). keeper (stands_home T.dead) T.scopes (Some u)) f.at.says.under ∙ at) f.unstruck
+                      (has_cell _ (stands_home T.dead) T.next_scope T.scopes (others who.task T.tasks) qs k (Some who.scope) (At (landing who.place)) h.falls at (landing_inside l.width who.place (place_in T who Travels h (wide l T s) f)) (left_over _ T who Travels l.scopes qs k h f at c s.fit.scopes))
+                      d (left_over _ T who Travels l.scopes qs k h f at c s.fit.scopes)));
                   masked =
-                      masked_changed (stands_home T.dead) T.scopes (in_sums (more (At (landing who.place)))) k qs m.scopes.items (λ r. refl) d
-                      (masked_changed (stands_home T.dead) T.scopes (in_sums (less who.place)) k l.scopes.items qs (λ r. refl) c s.fit.masked);
+                      masked_changed (stands_home T.dead) T.scopes (in_sums (more (At (landing who.place)))) k qs m.scopes (λ r. refl) d
+                      (masked_changed (stands_home T.dead) T.scopes (in_sums (less who.place)) k l.scopes qs (λ r. refl) c s.fit.masked);
                 };
             has_room = room_kept l m T (made_act T who.task (Arrive (landing who.place))) width refl s.has_room;
           };

@@ -64,14 +64,14 @@ fit_shaped size T keeps rs h fit =
       shapes = λ n. both_more (RecordOf size keeps T.scopes T.tasks) (ShapeOf T.scopes) (record_at rs n) (find (has_number n) T.scopes) (λ r g e a. a.shape) (fit n);
     }
 
-pub shaped : {room : ℕ} (l : CountLedger) (T : Tree) → StandsFor l room T → IsShaped T l.scopes.items
-shaped l T s = fit_shaped _ T (stands_home T.dead) l.scopes.items (sound s.reached) s.fit.scopes
+pub shaped : {room : ℕ} (l : CountLedger) (T : Tree) → StandsFor l room T → IsShaped T l.scopes
+shaped l T s = fit_shaped _ T (stands_home T.dead) l.scopes (sound s.reached) s.fit.scopes
 
 -- the walk by records is the walk in the tree
-pub keeper_found : {room : ℕ} (l : CountLedger) (T : Tree) (s : ScopeId) (o : Option ScopeId) (rs : List (Option (Box Record))) → StandsFor l room T → rs ≡ l.scopes.items → ((U : Tree) → IsShaped U rs → option_map (λ k. k.0) o ≡ keeper (stands_home l.dead) U.scopes (Some s)) → option_map (λ k. k.0) o ≡ keeper (stands_home T.dead) T.scopes (Some s)
+pub keeper_found : {room : ℕ} (l : CountLedger) (T : Tree) (s : ScopeId) (o : Option ScopeId) (rs : List (Option (Box Record))) → StandsFor l room T → rs ≡ l.scopes → ((U : Tree) → IsShaped U rs → option_map (λ k. k.0) o ≡ keeper (stands_home l.dead) U.scopes (Some s)) → option_map (λ k. k.0) o ≡ keeper (stands_home T.dead) T.scopes (Some s)
 keeper_found l T s o rs h e walk = walk T (subst (IsShaped T) (sym e) (shaped l T h)) ∙ ap (λ d. keeper (stands_home d) T.scopes (Some s)) h.fit.dead
 
-pub keeper_some : {room : ℕ} (l : CountLedger) (T : Tree) (s k : ScopeId) (rs : List (Option (Box Record))) → StandsFor l room T → rs ≡ l.scopes.items → ((U : Tree) → IsShaped U rs → Some k.0 ≡ keeper (stands_home l.dead) U.scopes (Some s)) → keeper (stands_home T.dead) T.scopes (Some s) ≡ Some k.0
+pub keeper_some : {room : ℕ} (l : CountLedger) (T : Tree) (s k : ScopeId) (rs : List (Option (Box Record))) → StandsFor l room T → rs ≡ l.scopes → ((U : Tree) → IsShaped U rs → Some k.0 ≡ keeper (stands_home l.dead) U.scopes (Some s)) → keeper (stands_home T.dead) T.scopes (Some s) ≡ Some k.0
 keeper_some l T s k rs h e walk = sym (walk T (subst (IsShaped T) (sym e) (shaped l T h)) ∙ ap (λ d. keeper (stands_home d) T.scopes (Some s)) h.fit.dead)
 
 pub below_length : (rs : List (Option (Box Record))) (k : ℕ) (r : Record) → record_at rs k ≡ Some r → k < length rs
@@ -148,15 +148,15 @@ pub scope_rooted : (T : Tree) (who : Caller) (P : Task → Type 0) → Sound T �
 scope_rooted T who P h f = subst (λ (u : ScopeId). meets the_root T.scopes (Some u) ≡ true) f.at.says.under (fits_of T who.task f.at.task h f.at.stands).rooted
 
 -- the record of the scope that it hangs under
-pub scope_kept : {room : ℕ} (l : CountLedger) (T : Tree) (who : Caller) (P : Task → Type 0) → StandsFor l room T → (f : Free T who P) → Kept l.width T l.scopes.items who.scope.0
-scope_kept l T who P s f = kept_some T l.scopes.items who.scope.0 s.fit.scopes (find (has_number who.scope.0) T.scopes) refl (met_found the_root T.scopes who.scope (scope_rooted T who P (sound s.reached) f))
+pub scope_kept : {room : ℕ} (l : CountLedger) (T : Tree) (who : Caller) (P : Task → Type 0) → StandsFor l room T → (f : Free T who P) → Kept l.width T l.scopes who.scope.0
+scope_kept l T who P s f = kept_some T l.scopes who.scope.0 s.fit.scopes (find (has_number who.scope.0) T.scopes) refl (met_found the_root T.scopes who.scope (scope_rooted T who P (sound s.reached) f))
 
 -- a missing record is that of no scope
 pub missing : {size : ℕ} (T : Tree) (rs : List (Option (Box Record))) (k : ℕ) → Kept size T rs k → record_at rs k ≡ None → ⊥
 missing T rs k q e = let f = q.found in cc
 
 -- a ledger with the same records stands for the same trees
-pub same_fit : (l m : CountLedger) (T : Tree) → Fit l T → m.places ≡ l.places → m.width ≡ l.width → m.dead ≡ l.dead → m.next_task ≡ l.next_task → m.next_scope ≡ l.next_scope → m.totals ≡ l.totals → length m.scopes.items ≡ length l.scopes.items → ((n : ℕ) → record_at m.scopes.items n ≡ record_at l.scopes.items n) → Fit m T
+pub same_fit : (l m : CountLedger) (T : Tree) → Fit l T → m.places ≡ l.places → m.width ≡ l.width → m.dead ≡ l.dead → m.next_task ≡ l.next_task → m.next_scope ≡ l.next_scope → m.totals ≡ l.totals → length m.scopes ≡ length l.scopes → ((n : ℕ) → record_at m.scopes n ≡ record_at l.scopes n) → Fit m T
 same_fit l m T h places width dead next_task next_scope totals len same =
     record {
       places = places ∙ h.places;
@@ -165,11 +165,11 @@ same_fit l m T h places width dead next_task next_scope totals len same =
       next_scope = next_scope ∙ h.next_scope;
       totals = totals ∙ h.totals;
       numbers = len ∙ h.numbers;
-      scopes = as_wide l.width m.width (stands_home T.dead) T.scopes T.tasks m.scopes.items width (λ n. subst (λ o. Both (RecordOf l.width (stands_home T.dead) T.scopes T.tasks) o (find (has_number n) T.scopes)) (sym (same n)) (h.scopes n));
+      scopes = as_wide l.width m.width (stands_home T.dead) T.scopes T.tasks m.scopes width (λ n. subst (λ o. Both (RecordOf l.width (stands_home T.dead) T.scopes T.tasks) o (find (has_number n) T.scopes)) (sym (same n)) (h.scopes n));
       masked = λ n. subst (λ o. IfSome o (λ r. r.sums.masked ≡ masked_of (stands_home T.dead) T.scopes n)) (sym (same n)) (h.masked n);
     }
 
-pub same_records : {room : ℕ} (l m : CountLedger) (T : Tree) → StandsFor l room T → m.places ≡ l.places → m.width ≡ l.width → m.dead ≡ l.dead → m.next_task ≡ l.next_task → m.next_scope ≡ l.next_scope → m.totals ≡ l.totals → m.scopes.items ≡ l.scopes.items → StandsFor m room T
+pub same_records : {room : ℕ} (l m : CountLedger) (T : Tree) → StandsFor l room T → m.places ≡ l.places → m.width ≡ l.width → m.dead ≡ l.dead → m.next_task ≡ l.next_task → m.next_scope ≡ l.next_scope → m.totals ≡ l.totals → m.scopes ≡ l.scopes → StandsFor m room T
 same_records l m T h places width dead next_task next_scope totals items = record { reached = h.reached; fit = same_fit l m T h.fit places width dead next_task next_scope totals (ap length items) (λ n. ap (λ xs. record_at xs n) items); has_room = room_kept l m T T width refl h.has_room }
 
 pub open_refused : (T : Tree) (who : Caller) (f : LedgerFault) (S : Tree → Type 0) → f ≡ NoMemory → IsUnstruck T who → S T → OpenReply T who (Err f) S

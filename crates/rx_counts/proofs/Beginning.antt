@@ -42,9 +42,9 @@ first = record { number = record { 0 = 0 }; under = root_id; place = At zero_pla
 nothing_fits : (size : ℕ) (keeps : Scope → Bool) (n : ℕ) → Both (RecordOf size keeps [] []) (record_at [] n) (find (has_number n) [])
 nothing_fits size keeps n = tt
 
-pub opened_first : (room : ℕ) (m : CountLedger) (places size : ℕ) (r : Record) (zero_ : Sums) (rs : List (Option (Box Record))) → rs ≡ [] → 1 ≤ places → places ≤ size → size ≤ 16 → room + places ≤ size → m.places ≡ places → m.width ≡ size → m.dead ≡ replicate 16 None → m.next_task ≡ 1 → m.next_scope ≡ 1 → m.totals ≡ record { scopes = 1; live = 1; travel = 0 } → r.kind ≡ Finish → r.home ≡ zero_place → r.parent ≡ None → r.finish ≡ root_id → IsZero size zero_ → r.sums ≡ more (At zero_place) zero_ → r.body ≡ [] → r.ends ≡ [] → Pushed r rs m.scopes.items → StandsFor m room (opening places)
+pub opened_first : (room : ℕ) (m : CountLedger) (places size : ℕ) (r : Record) (zero_ : Sums) (rs : List (Option (Box Record))) → rs ≡ [] → 1 ≤ places → places ≤ size → size ≤ 16 → room + places ≤ size → m.places ≡ places → m.width ≡ size → m.dead ≡ replicate 16 None → m.next_task ≡ 1 → m.next_scope ≡ 1 → m.totals ≡ record { scopes = 1; live = 1; travel = 0 } → r.kind ≡ Finish → r.home ≡ zero_place → r.parent ≡ None → r.finish ≡ root_id → IsZero size zero_ → r.sums ≡ more (At zero_place) zero_ → r.body ≡ [] → r.ends ≡ [] → Pushed r rs m.scopes → StandsFor m room (opening places)
 opened_first room m places size r zero_ rs empty lo hi most fits same_places width dead next_task next_scope totals kind home parent finish z sums body ends pushed =
-    let p : Pushed r [] m.scopes.items = subst (λ (xs : List (Option (Box Record))). Pushed r xs m.scopes.items) empty pushed in
+    let p : Pushed r [] m.scopes = subst (λ (xs : List (Option (Box Record))). Pushed r xs m.scopes) empty pushed in
     let T : Tree = opening places in
     let keeps : Scope → Bool = stands_home T.dead in
     let new : IsNew r root [] = record { kind = kind; home = home; parent = parent; finish = ap (λ (v : ScopeId). Some v.0) (sym finish); body = body; ends = ends } in
@@ -61,10 +61,10 @@ opened_first room m places size r zero_ rs empty lo hi most fits same_places wid
             totals = totals;
             numbers = p.len;
             scopes =
-                as_wide size m.width keeps (root ∷ []) (first ∷ []) m.scopes.items width
-                (all_opened keeps root [] [] (first ∷ []) [] m.scopes.items r refl tt (λ q n low old. absurd (omega arith)) p
+                as_wide size m.width keeps (root ∷ []) (first ∷ []) m.scopes width
+                (all_opened keeps root [] [] (first ∷ []) [] m.scopes r refl tt (λ q n low old. absurd (omega arith)) p
                 (record_new keeps root [] (first ∷ []) r new (ap (λ (v : Sums). v.places) sums ∙ z.places) (subst (λ (v : Sums). SumsOf keeps (root ∷ []) (first ∷ []) v 0) (sym sums) one_)) (nothing_fits size keeps));
-            masked = masked_opened keeps root [] [] m.scopes.items r refl tt refl (ap (λ (v : Sums). v.masked) sums ∙ z.masked) p (λ n. tt);
+            masked = masked_opened keeps root [] [] m.scopes r refl tt refl (ap (λ (v : Sums). v.masked) sums ∙ z.masked) p (λ n. tt);
           };
       has_room = record { width = (let a = width in omega arith); few = (let a = width in omega arith) };
     }

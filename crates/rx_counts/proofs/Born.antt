@@ -42,11 +42,11 @@ use Rattle.rx_counts.specs.Inside.Totalling.{more_scopes}
 use Rattle.rx_counts.proofs.Totalling.{are, totals_are, one_scope}
 
 -- the record of the inner scope
-pub inner_kept : {room : ℕ} (l : CountLedger) (T : Tree) (who : Caller) (P : Task → Type 0) → StandsFor l room T → (f : Free T who P) → Kept l.width T l.scopes.items who.inner.0
+pub inner_kept : {room : ℕ} (l : CountLedger) (T : Tree) (who : Caller) (P : Task → Type 0) → StandsFor l room T → (f : Free T who P) → Kept l.width T l.scopes who.inner.0
 inner_kept l T who P s f =
     let h : Sound T = sound s.reached in
     let m : meets the_root T.scopes (Some who.inner) ≡ true = subst (λ (u : ScopeId). meets the_root T.scopes (Some u) ≡ true) f.at.inner_is (inner_fits T who.task f.at.task h f.at.stands).rooted in
-    kept_some T l.scopes.items who.inner.0 s.fit.scopes (find (has_number who.inner.0) T.scopes) refl (met_found the_root T.scopes who.inner m)
+    kept_some T l.scopes who.inner.0 s.fit.scopes (find (has_number who.inner.0) T.scopes) refl (met_found the_root T.scopes who.inner m)
 
 pub inner_rooted : (T : Tree) (who : Caller) (P : Task → Type 0) → Sound T → (f : Free T who P) → meets the_root T.scopes (Some who.inner) ≡ true
 inner_rooted T who P h f = subst (λ (u : ScopeId). meets the_root T.scopes (Some u) ≡ true) f.at.inner_is (inner_fits T who.task f.at.task h f.at.stands).rooted
@@ -59,9 +59,9 @@ governing_is gs want n e =
     ]) (keeper_is finishes gs want ∙ e)
 
 -- the finish that the record of the inner scope names is the governing one
-pub finish_known : {room : ℕ} (l : CountLedger) (T : Tree) (who : Caller) (P : Task → Type 0) (n : ScopeId) → StandsFor l room T → Free T who P → IfSome (record_at l.scopes.items who.inner.0) (λ r. n ≡ r.finish) → keeper finishes T.scopes (Some who.inner) ≡ Some n.0
+pub finish_known : {room : ℕ} (l : CountLedger) (T : Tree) (who : Caller) (P : Task → Type 0) (n : ScopeId) → StandsFor l room T → Free T who P → IfSome (record_at l.scopes who.inner.0) (λ r. n ≡ r.finish) → keeper finishes T.scopes (Some who.inner) ≡ Some n.0
 finish_known l T who P n s f e =
-    let k : Kept l.width T l.scopes.items who.inner.0 = inner_kept l T who P s f in
+    let k : Kept l.width T l.scopes who.inner.0 = inner_kept l T who P s f in
     let same : n ≡ k.kept.finish = subst (λ o. IfSome o (λ r. n ≡ r.finish)) k.found e in
     subst (λ (v : ScopeId). keeper finishes T.scopes (Some v) ≡ Some n.0) (scope-is k.scope.number who.inner k.number) (k.fits.shape.finish ∙ ap (λ (v : ScopeId). Some v.0) (sym same))
 
@@ -98,7 +98,7 @@ finish_self g gs e = rw (eq-eqb g.number.0 g.number.0 refl, e)
 pub finish_up : (g : Scope) (gs : List Scope) → finishes g ≡ false → keeper finishes (g ∷ gs) (Some g.number) ≡ keeper finishes gs g.parent
 finish_up g gs e = rw (eq-eqb g.number.0 g.number.0 refl, e)
 
-pub opened_stands : {room : ℕ} (l m : CountLedger) (T : Tree) (who : Caller) (s : ScopeId) (r : Record) → StandsFor l room T → MayAskMoving T who → blow_at l.dead who.place ≡ None → (f : Free T who IsMoving) → s.0 ≡ l.next_scope → r.kind ≡ Finish → r.home ≡ place_number who.place → r.parent ≡ Some who.inner → r.finish ≡ s → IsZero l.width r.sums → r.body ≡ [] → r.ends ≡ [] → m.places ≡ l.places → m.width ≡ l.width → m.dead ≡ l.dead → m.next_task ≡ l.next_task → m.next_scope ≡ l.next_scope + 1 → m.totals ≡ more_scopes l.totals → Pushed r l.scopes.items m.scopes.items → OpenReply T who (Ok s) (StandsFor m room)
+pub opened_stands : {room : ℕ} (l m : CountLedger) (T : Tree) (who : Caller) (s : ScopeId) (r : Record) → StandsFor l room T → MayAskMoving T who → blow_at l.dead who.place ≡ None → (f : Free T who IsMoving) → s.0 ≡ l.next_scope → r.kind ≡ Finish → r.home ≡ place_number who.place → r.parent ≡ Some who.inner → r.finish ≡ s → IsZero l.width r.sums → r.body ≡ [] → r.ends ≡ [] → m.places ≡ l.places → m.width ≡ l.width → m.dead ≡ l.dead → m.next_task ≡ l.next_task → m.next_scope ≡ l.next_scope + 1 → m.totals ≡ more_scopes l.totals → Pushed r l.scopes m.scopes → OpenReply T who (Ok s) (StandsFor m room)
 opened_stands l m T who s r st may blow f next kind home parent finish zero body ends places width dead next_task next_scope totals p =
     let h : Sound T = sound st.reached in
     let number : s.0 ≡ T.next_scope = next ∙ st.fit.next_scope in
@@ -123,11 +123,11 @@ opened_stands l m T who s r st may blow f next kind home parent finish zero body
                   totals = totals ∙ totals_are (more_scopes l.totals) (made_act T who.task (Open s who.inner [])) (one_scope l.totals (length T.scopes) T.tasks (are l.totals T st.fit.totals));
                   numbers = (let q = st.fit.numbers in let v = p.len in omega arith);
                   scopes =
-                      as_wide l.width m.width (stands_home T.dead) (g ∷ T.scopes) T.tasks m.scopes.items width
-                      (all_opened (stands_home T.dead) g T.scopes T.tasks T.tasks l.scopes.items m.scopes.items r (st.fit.numbers ∙ sym number) falls
+                      as_wide l.width m.width (stands_home T.dead) (g ∷ T.scopes) T.tasks m.scopes width
+                      (all_opened (stands_home T.dead) g T.scopes T.tasks T.tasks l.scopes m.scopes r (st.fit.numbers ∙ sym number) falls
                       (λ q n below old. sums_further (stands_home T.dead) g T.scopes T.tasks q n falls low lives old) p
                       (record_new (stands_home T.dead) g T.scopes T.tasks r new zero.places (sums_fresh (stands_home T.dead) g T.scopes T.tasks r.sums falls low lives l.width zero)) st.fit.scopes);
-                  masked = masked_opened (stands_home T.dead) g T.scopes l.scopes.items m.scopes.items r (st.fit.numbers ∙ sym number) falls lives zero.masked p st.fit.masked;
+                  masked = masked_opened (stands_home T.dead) g T.scopes l.scopes m.scopes r (st.fit.numbers ∙ sym number) falls lives zero.masked p st.fit.masked;
                 };
             has_room = room_kept l m T (made_act T who.task (Open s who.inner [])) width refl st.has_room;
           };

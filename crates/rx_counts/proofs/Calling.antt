@@ -66,7 +66,7 @@ sums_callee T keeps gs ts child s from to q p true e here cell lost joins h =
 sums_callee T keeps gs ts child s from to q p false e here cell lost joins h =
     subst (λ (v : Sums). SumsOf keeps gs (born T child s from to ∷ ts) v s.0) (sym (joins refl)) (join_here keeps gs ts (born T child s from to) q s.0 here (struck_none T child s from to (sym e)) cell h)
 
-pub called_stands : {room : ℕ} (l m : CountLedger) (T : Tree) (who : Caller) (to : PlaceId) (s : ScopeId) (child : TaskId) (r : Record) (zero : Sums) (b : Bool) → StandsFor l room T → MayAskTo T who to → blow_at l.dead who.place ≡ None → (f : Free T who IsMoving) → s.0 ≡ l.next_scope → child.0 ≡ l.next_task → r.kind ≡ Call → r.home ≡ place_number who.place → r.parent ≡ Some who.inner → keeper finishes T.scopes (Some who.inner) ≡ Some r.finish.0 → IsZero l.width zero → b ≡ not (is_none (death_blow l.dead to)) → (b ≡ true → (r.sums ≡ with_lost r.sums.lost zero) × ((i : ℕ) → i < 16 → has_bit r.sums.lost.0 i ≡ (has_bit zero.lost.0 i || (to.0 == i)))) → (b ≡ false → r.sums ≡ more (start (place_number who.place) to) zero) → r.body ≡ [] → r.ends ≡ [] → m.places ≡ l.places → m.width ≡ l.width → m.dead ≡ l.dead → m.next_task ≡ l.next_task + 1 → m.next_scope ≡ l.next_scope + 1 → m.totals ≡ more_tasks b (start (place_number who.place) to) (more_scopes l.totals) → Pushed r l.scopes.items m.scopes.items → CallReply T who to (Ok (record { child = child; scope = s; lost = b })) (StandsFor m room)
+pub called_stands : {room : ℕ} (l m : CountLedger) (T : Tree) (who : Caller) (to : PlaceId) (s : ScopeId) (child : TaskId) (r : Record) (zero : Sums) (b : Bool) → StandsFor l room T → MayAskTo T who to → blow_at l.dead who.place ≡ None → (f : Free T who IsMoving) → s.0 ≡ l.next_scope → child.0 ≡ l.next_task → r.kind ≡ Call → r.home ≡ place_number who.place → r.parent ≡ Some who.inner → keeper finishes T.scopes (Some who.inner) ≡ Some r.finish.0 → IsZero l.width zero → b ≡ not (is_none (death_blow l.dead to)) → (b ≡ true → (r.sums ≡ with_lost r.sums.lost zero) × ((i : ℕ) → i < 16 → has_bit r.sums.lost.0 i ≡ (has_bit zero.lost.0 i || (to.0 == i)))) → (b ≡ false → r.sums ≡ more (start (place_number who.place) to) zero) → r.body ≡ [] → r.ends ≡ [] → m.places ≡ l.places → m.width ≡ l.width → m.dead ≡ l.dead → m.next_task ≡ l.next_task + 1 → m.next_scope ≡ l.next_scope + 1 → m.totals ≡ more_tasks b (start (place_number who.place) to) (more_scopes l.totals) → Pushed r l.scopes m.scopes → CallReply T who to (Ok (record { child = child; scope = s; lost = b })) (StandsFor m room)
 called_stands l m T who to s child r zero b st may blow f next num kind home parent fin is_zero e lost joins body ends places width dead next_task next_scope totals p =
     let h : Sound T = sound st.reached in
     let keeps : Scope → Bool = stands_home T.dead in
@@ -103,12 +103,12 @@ called_stands l m T who to s child r zero b st may blow f next num kind home par
                         (one_scope l.totals (length T.scopes) T.tasks (are l.totals T st.fit.totals))));
                     numbers = (let q = st.fit.numbers in let v = p.len in omega arith);
                     scopes =
-                        as_wide l.width m.width keeps (g ∷ T.scopes) (change_first (is_task who.task) waiting (y ∷ T.tasks)) m.scopes.items width
-                        (all_waits _ keeps (g ∷ T.scopes) (y ∷ T.tasks) who.task true m.scopes.items
-                        (all_opened keeps g T.scopes T.tasks (y ∷ T.tasks) l.scopes.items m.scopes.items r (st.fit.numbers ∙ sym number) falls
+                        as_wide l.width m.width keeps (g ∷ T.scopes) (change_first (is_task who.task) waiting (y ∷ T.tasks)) m.scopes width
+                        (all_waits _ keeps (g ∷ T.scopes) (y ∷ T.tasks) who.task true m.scopes
+                        (all_opened keeps g T.scopes T.tasks (y ∷ T.tasks) l.scopes m.scopes r (st.fit.numbers ∙ sym number) falls
                         (λ q n below old. join_other keeps (g ∷ T.scopes) T.tasks y q n (ap (is_number n) own ∙ ne_eqb s.0 n (λ v. absurd (omega arith))) (sums_further keeps g T.scopes T.tasks q n falls low lives old)) p
                         (record_new keeps g T.scopes (y ∷ T.tasks) r new (same_places to (start from to) zero r.sums b (λ v. (lost v).0) joins ∙ is_zero.places) mine) st.fit.scopes));
-                    masked = masked_opened keeps g T.scopes l.scopes.items m.scopes.items r (st.fit.numbers ∙ sym number) falls lives (same_masked (start from to) zero r.sums b (λ v. (lost v).0) joins ∙ is_zero.masked) p st.fit.masked;
+                    masked = masked_opened keeps g T.scopes l.scopes m.scopes r (st.fit.numbers ∙ sym number) falls lives (same_masked (start from to) zero r.sums b (λ v. (lost v).0) joins ∙ is_zero.masked) p st.fit.masked;
                   };
               has_room = room_kept l m T (made_act T who.task (Calls from to s who.inner child [])) width refl st.has_room;
             };

@@ -78,22 +78,22 @@ lost_is T g p = any_same (λ x. was_lost_at p x && counts_at T g x) (λ x. was_l
 
 -- The accessors.
 
-pub scope_record : {room : ℕ} (l : CountLedger) (T : Tree) (s : ScopeId) → StandsFor l room T → HasScope T s → Kept l.width T l.scopes.items s.0
-scope_record l T s st h = kept_some T l.scopes.items s.0 st.fit.scopes (find (has_number s.0) T.scopes) refl h
+pub scope_record : {room : ℕ} (l : CountLedger) (T : Tree) (s : ScopeId) → StandsFor l room T → HasScope T s → Kept l.width T l.scopes s.0
+scope_record l T s st h = kept_some T l.scopes s.0 st.fit.scopes (find (has_number s.0) T.scopes) refl h
 
-pub cell_told : {room : ℕ} (l : CountLedger) (T : Tree) (s : ScopeId) (w : Where) (n : ℕ) → StandsFor l room T → HasScope T s → IfSome (record_at l.scopes.items s.0) (λ r. n ≡ count_in r.sums w) → n ≡ count_of (stands_home T.dead) T.scopes T.tasks s.0 w
+pub cell_told : {room : ℕ} (l : CountLedger) (T : Tree) (s : ScopeId) (w : Where) (n : ℕ) → StandsFor l room T → HasScope T s → IfSome (record_at l.scopes s.0) (λ r. n ≡ count_in r.sums w) → n ≡ count_of (stands_home T.dead) T.scopes T.tasks s.0 w
 cell_told l T s w n st h e =
-    let k : Kept l.width T l.scopes.items s.0 = scope_record l T s st h in
+    let k : Kept l.width T l.scopes s.0 = scope_record l T s st h in
     subst (λ o. IfSome o (λ r. n ≡ count_in r.sums w)) k.found e ∙ k.fits.sums.counts w ∙ ap (λ (m : ℕ). count_of (stands_home T.dead) T.scopes T.tasks m w) k.number
 
-pub lost_told : {room : ℕ} (l : CountLedger) (T : Tree) (s : ScopeId) (r : Record) → StandsFor l room T → HasScope T s → record_at l.scopes.items s.0 ≡ Some r → members r.sums.lost ≡ lost_at T s
+pub lost_told : {room : ℕ} (l : CountLedger) (T : Tree) (s : ScopeId) (r : Record) → StandsFor l room T → HasScope T s → record_at l.scopes s.0 ≡ Some r → members r.sums.lost ≡ lost_at T s
 lost_told l T s r st h e =
-    let k : Kept l.width T l.scopes.items s.0 = scope_record l T s st h in
+    let k : Kept l.width T l.scopes s.0 = scope_record l T s st h in
     let same : k.kept ≡ r = (let f = k.found in cc) in
     filter_same (has_bit r.sums.lost.0) (λ p. list_any (λ x. was_lost_at p x && counts_at T s x) T.tasks) all_places
     (each_more (λ (p : ℕ). p < 16) _ (λ (p : ℕ) low. ap (λ (v : Record). has_bit v.sums.lost.0 p) (sym same) ∙ k.fits.sums.lost p low ∙ ap (λ (m : ℕ). list_any (λ x. was_lost_at p x && kept_at (stands_home T.dead) T.scopes m x) T.tasks) k.number ∙ sym (lost_is T s p)) all_places places_low)
 
-pub scope_missing : {room : ℕ} (l : CountLedger) (T : Tree) (s : ScopeId) → StandsFor l room T → HasScope T s → record_at l.scopes.items s.0 ≡ None → ⊥
+pub scope_missing : {room : ℕ} (l : CountLedger) (T : Tree) (s : ScopeId) → StandsFor l room T → HasScope T s → record_at l.scopes s.0 ≡ None → ⊥
 scope_missing l T s st h e = let f = (scope_record l T s st h).found in cc
 
 -- The relation of the ledger in the words of the rules.
@@ -119,7 +119,7 @@ counts_stand l room T st =
       next_task = st.fit.next_task;
       next_scope = st.fit.next_scope;
       scopes = λ n.
-          counted T n (record_at l.scopes.items n) (find (has_number n) T.scopes) (both_known (RecordOf l.width (stands_home T.dead) T.scopes T.tasks) (λ r g. CountsOf T (counts_of n r) g) (record_at l.scopes.items n) (find (has_number n) T.scopes)
+          counted T n (record_at l.scopes n) (find (has_number n) T.scopes) (both_known (RecordOf l.width (stands_home T.dead) T.scopes T.tasks) (λ r g. CountsOf T (counts_of n r) g) (record_at l.scopes n) (find (has_number n) T.scopes)
           (λ r g kept found a.
           record {
             number = ap (λ (m : ℕ). let q : ScopeId = record { 0 = m } in q) (sym (number_is n T.scopes g found));

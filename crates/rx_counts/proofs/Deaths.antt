@@ -43,12 +43,12 @@ home_after dead d n g inside =
       | false ↦ λ e. ap is_none (get_or-set_other dead d.0 g.home.0 (Some n) None (eqb-false g.home.0 d.0 e)) ∙ sym (and-true (stands_home dead g))
     ]) refl
 
-pub strike_ok : {room : ℕ} (l : CountLedger) (T : Tree) (d : PlaceId) (n : ℕ) → StandsFor l room T → MayStrike T d n → (d.0 < 16) × ((m : ℕ) → IfSome (record_at l.scopes.items m) (MayHit d))
+pub strike_ok : {room : ℕ} (l : CountLedger) (T : Tree) (d : PlaceId) (n : ℕ) → StandsFor l room T → MayStrike T d n → (d.0 < 16) × ((m : ℕ) → IfSome (record_at l.scopes m) (MayHit d))
 strike_ok l T d n st may =
     let h : Sound T = sound st.reached in
     let a = may.dies.0 in
     let b = h.few in
-    (omega arith, may_hit _ d (stands_home T.dead) T.scopes T.tasks l.scopes.items st.fit.scopes)
+    (omega arith, may_hit _ d (stands_home T.dead) T.scopes T.tasks l.scopes st.fit.scopes)
 
 same_length : (b : Blow) (ts : List Task) → length (map (hit b) ts) ≡ length ts
 same_length b [] = refl
@@ -59,7 +59,7 @@ until_zero keeps d [] = tt
 until_zero keeps d (k ∷ ks) = (sym (ap (λ b. keeps k && not ((k.home.0 == d.0) && b)) (le-ltb k.number.0 0 (omega arith)) ∙ ap (λ b. keeps k && not b) (and-false (k.home.0 == d.0)) ∙ and-true (keeps k)), until_zero keeps d ks)
 
 -- where the hand-over begins
-pub begins : {room : ℕ} (l : CountLedger) (T : Tree) (d : PlaceId) (n : ℕ) (qs : List (Option (Box Record))) → StandsFor l room T → MayStrike T d n → l.next_task < 2 ^ 32 → l.next_scope < 2 ^ 32 → ((m : ℕ) → Pairs (StrikesRecord d) (record_at l.scopes.items m) (record_at qs m)) → Passing l.width (strike (record { place = d; entry = n }) T) (stands_home T.dead) (slice_set l.dead d.0 (Some n)) d 0 qs
+pub begins : {room : ℕ} (l : CountLedger) (T : Tree) (d : PlaceId) (n : ℕ) (qs : List (Option (Box Record))) → StandsFor l room T → MayStrike T d n → l.next_task < 2 ^ 32 → l.next_scope < 2 ^ 32 → ((m : ℕ) → Pairs (StrikesRecord d) (record_at l.scopes m) (record_at qs m)) → Passing l.width (strike (record { place = d; entry = n }) T) (stands_home T.dead) (slice_set l.dead d.0 (Some n)) d 0 qs
 begins l T d n qs st may few_t few_s struck =
     let b : Blow = record { place = d; entry = n } in
     let h : Sound T = sound st.reached in
@@ -68,7 +68,7 @@ begins l T d n qs st may few_t few_s struck =
     let k : Sound U = sound after in
     let cells : length T.dead ≡ 16 = h.cells in
     let inside : d.0 < length T.dead = (let a = may.dies.0 in let c = h.few in omega arith) in
-    let fit : RecordsFit l.width (stands_home T.dead) T.scopes (map (hit b) T.tasks) qs = all_strike _ b (stands_home T.dead) T.scopes T.tasks l.scopes.items qs struck st.fit.scopes in
+    let fit : RecordsFit l.width (stands_home T.dead) T.scopes (map (hit b) T.tasks) qs = all_strike _ b (stands_home T.dead) T.scopes T.tasks l.scopes qs struck st.fit.scopes in
     record {
       shaped = fit_shaped _ U (stands_home T.dead) qs k fit;
       after = λ g. ap (λ ds. stands_home (slice_set ds d.0 (Some n)) g) st.fit.dead ∙ home_after T.dead d n g inside;
@@ -80,7 +80,7 @@ begins l T d n qs st may few_t few_s struck =
       fit = all_keeps _ (stands_home T.dead) (given_until (stands_home T.dead) d 0) T.scopes (map (hit b) T.tasks) qs (until_zero (stands_home T.dead) d T.scopes) (λ m g found. each_found (λ g. stands_home T.dead g ≡ given_until (stands_home T.dead) d 0 g) (has_number m) T.scopes g (until_zero (stands_home T.dead) d T.scopes) found) fit;
       masked =
           masked_keeps (stands_home T.dead) (given_until (stands_home T.dead) d 0) T.scopes qs (until_zero (stands_home T.dead) d T.scopes)
-          (masked_pairs (stands_home T.dead) T.scopes (StrikesRecord d) l.scopes.items qs (λ r q a. a.1.masked) struck st.fit.masked);
+          (masked_pairs (stands_home T.dead) T.scopes (StrikesRecord d) l.scopes qs (λ r q a. a.1.masked) struck st.fit.masked);
     }
 
 until_last : (dead now : List (Option ℕ)) (d : PlaceId) (i : ℕ) (gs : List Scope) → ((g : Scope) → stands_home now g ≡ (stands_home dead g && not (g.home.0 == d.0))) → Each (λ g. g.number.0 < i) gs → Each (λ k. given_until (stands_home dead) d i k ≡ stands_home now k) gs
@@ -91,13 +91,13 @@ until_last dead now d i (k ∷ ks) after low = (
 )
 
 -- the totals after the strike
-pub strikes : {room : ℕ} (l : CountLedger) (T : Tree) (b : Blow) → StandsFor l room T → CanDie (toll_below b.place l.scopes.items (length l.scopes.items)) l.totals × AreOf (dies (toll_below b.place l.scopes.items (length l.scopes.items)) l.totals) (length T.scopes) (map (hit b) T.tasks)
+pub strikes : {room : ℕ} (l : CountLedger) (T : Tree) (b : Blow) → StandsFor l room T → CanDie (toll_below b.place l.scopes (length l.scopes)) l.totals × AreOf (dies (toll_below b.place l.scopes (length l.scopes)) l.totals) (length T.scopes) (map (hit b) T.tasks)
 strikes l T b st =
-    one_dies l.totals (length T.scopes) b T.tasks (toll_below b.place l.scopes.items (length l.scopes.items))
-    (toll_is _ T b.place l.scopes.items (sound st.reached) st.fit.scopes) (are l.totals T st.fit.totals)
+    one_dies l.totals (length T.scopes) b T.tasks (toll_below b.place l.scopes (length l.scopes))
+    (toll_is _ T b.place l.scopes (sound st.reached) st.fit.scopes) (are l.totals T st.fit.totals)
 
 -- and where it ends
-pub died : {room : ℕ} (l m : CountLedger) (T : Tree) (d : PlaceId) (n i : ℕ) → StandsFor l room T → MayStrike T d n → i ≡ length l.scopes.items → m.places ≡ l.places → m.width ≡ l.width → m.dead ≡ slice_set l.dead d.0 (Some n) → m.next_task ≡ l.next_task → m.next_scope ≡ l.next_scope → m.totals ≡ dies (toll_below d l.scopes.items (length l.scopes.items)) l.totals → length m.scopes.items ≡ length l.scopes.items → Passing l.width (strike (record { place = d; entry = n }) T) (stands_home T.dead) (slice_set l.dead d.0 (Some n)) d i m.scopes.items → StandsFor m room (strike (record { place = d; entry = n }) T)
+pub died : {room : ℕ} (l m : CountLedger) (T : Tree) (d : PlaceId) (n i : ℕ) → StandsFor l room T → MayStrike T d n → i ≡ length l.scopes → m.places ≡ l.places → m.width ≡ l.width → m.dead ≡ slice_set l.dead d.0 (Some n) → m.next_task ≡ l.next_task → m.next_scope ≡ l.next_scope → m.totals ≡ dies (toll_below d l.scopes (length l.scopes)) l.totals → length m.scopes ≡ length l.scopes → Passing l.width (strike (record { place = d; entry = n }) T) (stands_home T.dead) (slice_set l.dead d.0 (Some n)) d i m.scopes → StandsFor m room (strike (record { place = d; entry = n }) T)
 died l m T d n i st may is places width dead next_task next_scope totals len p =
     let b : Blow = record { place = d; entry = n } in
     let h : Sound T = sound st.reached in
@@ -113,10 +113,10 @@ died l m T d n i st may is places width dead next_task next_scope totals len p =
             dead = dead ∙ same_dead;
             next_task = next_task ∙ st.fit.next_task;
             next_scope = next_scope ∙ st.fit.next_scope;
-            totals = totals ∙ totals_are (dies (toll_below d l.scopes.items (length l.scopes.items)) l.totals) U (strikes l T b st).1;
+            totals = totals ∙ totals_are (dies (toll_below d l.scopes (length l.scopes)) l.totals) U (strikes l T b st).1;
             numbers = len ∙ st.fit.numbers;
-            scopes = as_wide l.width m.width (stands_home U.dead) T.scopes U.tasks m.scopes.items width (all_keeps _ (given_until (stands_home T.dead) d i) (stands_home U.dead) T.scopes U.tasks m.scopes.items same (λ j g found. each_found (λ k. given_until (stands_home T.dead) d i k ≡ stands_home U.dead k) (has_number j) T.scopes g same found) p.fit);
-            masked = masked_keeps (given_until (stands_home T.dead) d i) (stands_home U.dead) T.scopes m.scopes.items same p.masked;
+            scopes = as_wide l.width m.width (stands_home U.dead) T.scopes U.tasks m.scopes width (all_keeps _ (given_until (stands_home T.dead) d i) (stands_home U.dead) T.scopes U.tasks m.scopes same (λ j g found. each_found (λ k. given_until (stands_home T.dead) d i k ≡ stands_home U.dead k) (has_number j) T.scopes g same found) p.fit);
+            masked = masked_keeps (given_until (stands_home T.dead) d i) (stands_home U.dead) T.scopes m.scopes same p.masked;
           };
       has_room = room_kept l m T U width refl st.has_room;
     }

@@ -72,14 +72,14 @@ one_ended l T who f st =
     one_ends l.totals (length T.scopes) (others who.task T.tasks) x f.unstruck (ap does_travel f.at.allowed.moving.is_at)
     (same_tasks l.totals (length T.scopes) T.tasks (x ∷ others who.task T.tasks) (count_out who.task T.next_task T.tasks x h.tasks_fall f.at.stands) (are l.totals T st.fit.totals))
 
-pub ended : {room : ℕ} (l m : CountLedger) (T : Tree) (who : Caller) (thrown : List Fault) (k : ScopeId) (qs ps : List (Option (Box Record))) → StandsFor l room T → MayAskEnd T who → (f : Free T who (IsBare T who)) → keeper (stands_home T.dead) T.scopes (Some who.scope) ≡ Some k.0 → m.places ≡ l.places → m.width ≡ l.width → m.dead ≡ l.dead → m.next_task ≡ l.next_task → m.next_scope ≡ l.next_scope → m.totals ≡ ends l.totals → Changed (ends_if (k.0 == who.scope.0) thrown) who.scope.0 l.scopes.items qs → Changed (in_sums (masking (cond (k.0 == who.scope.0) 0 (length thrown)))) k.0 qs ps → Changed (in_sums (less who.place)) k.0 ps m.scopes.items → EndReply T who thrown (Ok tt) (StandsFor m room)
+pub ended : {room : ℕ} (l m : CountLedger) (T : Tree) (who : Caller) (thrown : List Fault) (k : ScopeId) (qs ps : List (Option (Box Record))) → StandsFor l room T → MayAskEnd T who → (f : Free T who (IsBare T who)) → keeper (stands_home T.dead) T.scopes (Some who.scope) ≡ Some k.0 → m.places ≡ l.places → m.width ≡ l.width → m.dead ≡ l.dead → m.next_task ≡ l.next_task → m.next_scope ≡ l.next_scope → m.totals ≡ ends l.totals → Changed (ends_if (k.0 == who.scope.0) thrown) who.scope.0 l.scopes qs → Changed (in_sums (masking (cond (k.0 == who.scope.0) 0 (length thrown)))) k.0 qs ps → Changed (in_sums (less who.place)) k.0 ps m.scopes → EndReply T who thrown (Ok tt) (StandsFor m room)
 ended l m T who thrown k qs ps st may f at places width dead next_task next_scope totals c x d =
     let h : Sound T = sound st.reached in
     let keeps : Scope → Bool = stands_home T.dead in
     let a = end_allowed T who thrown st.reached may (unstruck_of T who (IsBare T who) f) in
     let is = ended_is T who (IsBare T who) thrown st.reached may (unstruck_of T who (IsBare T who) f) in
     let noted : RecordsFit l.width keeps (change_first (is_scope who.scope) (faulted (λ g. g.body) (λ g. g.ends ++ thrown)) T.scopes) T.tasks qs =
-    all_faulted (λ g. g.body) (λ g. g.ends ++ thrown) who.scope keeps (λ g. refl) _ T.scopes T.tasks (ends_if (k.0 == who.scope.0) thrown) l.scopes.items qs (λ r. (refl, refl, refl, refl, refl))
+    all_faulted (λ g. g.body) (λ g. g.ends ++ thrown) who.scope keeps (λ g. refl) _ T.scopes T.tasks (ends_if (k.0 == who.scope.0) thrown) l.scopes qs (λ r. (refl, refl, refl, refl, refl))
     (λ r g found live was. (was.0, ap (λ b. cond b (r.ends ++ thrown) r.ends) (own_keeper T who.scope g k.0 h found live at) ∙ ap (λ xs. xs ++ thrown) was.1)) c st.fit.scopes
     in
     let first : RecordsFit l.width keeps (change_first (is_scope who.scope) (faulted (λ g. g.body) (λ g. g.ends ++ thrown)) T.scopes) T.tasks ps =
@@ -105,11 +105,11 @@ ended l m T who thrown k qs ps st may f at places width dead next_task next_scop
                       (record { scopes = left.scopes ∙ sym (length_change (is_scope who.scope) (faulted (λ g. g.body) (λ g. g.ends ++ thrown)) T.scopes); live = left.live; travel = left.travel }));
                   numbers = d.len ∙ x.len ∙ c.len ∙ st.fit.numbers;
                   scopes =
-                      as_wide l.width m.width keeps (change_first (is_scope who.scope) (faulted (λ g. g.body) (λ g. g.ends ++ thrown)) T.scopes) (others who.task T.tasks) m.scopes.items width
-                      (left_in _ T who (IsBare T who) keeps (change_first (is_scope who.scope) (faulted (λ g. g.body) (λ g. g.ends ++ thrown)) T.scopes) ps m.scopes.items k.0 h f at2 d first);
+                      as_wide l.width m.width keeps (change_first (is_scope who.scope) (faulted (λ g. g.body) (λ g. g.ends ++ thrown)) T.scopes) (others who.task T.tasks) m.scopes width
+                      (left_in _ T who (IsBare T who) keeps (change_first (is_scope who.scope) (faulted (λ g. g.body) (λ g. g.ends ++ thrown)) T.scopes) ps m.scopes k.0 h f at2 d first);
                   masked =
-                      masked_changed keeps (change_first (is_scope who.scope) (faulted (λ g. g.body) (λ g. g.ends ++ thrown)) T.scopes) (in_sums (less who.place)) k.0 ps m.scopes.items (λ r. refl) d
-                      (masked_ended T.tasks keeps T.next_scope T.scopes who.scope own.scope thrown k.0 l.scopes.items qs ps (ends_if (k.0 == who.scope.0) thrown) h.falls h.opened (λ v. refl) own.stands at (λ r. refl) c x st.fit.masked);
+                      masked_changed keeps (change_first (is_scope who.scope) (faulted (λ g. g.body) (λ g. g.ends ++ thrown)) T.scopes) (in_sums (less who.place)) k.0 ps m.scopes (λ r. refl) d
+                      (masked_ended T.tasks keeps T.next_scope T.scopes who.scope own.scope thrown k.0 l.scopes qs ps (ends_if (k.0 == who.scope.0) thrown) h.falls h.opened (λ v. refl) own.stands at (λ r. refl) c x st.fit.masked);
                 });
             has_room = room_kept l m T (made_act T who.task (End thrown)) width (ap (λ (v : Tree). v.places) is) st.has_room;
           };
@@ -126,5 +126,5 @@ same_pointwise s rs qs c n =
     map_id (Some r) = refl
     map_id None = refl
 
-pub end_unchanged : {room : ℕ} (l m : CountLedger) (T : Tree) (who : Caller) → StandsFor l room T → m.places ≡ l.places → m.width ≡ l.width → m.dead ≡ l.dead → m.next_task ≡ l.next_task → m.next_scope ≡ l.next_scope → m.totals ≡ l.totals → Changed (λ r. r) who.scope.0 l.scopes.items m.scopes.items → StandsFor m room T
-end_unchanged l m T who st places width dead next_task next_scope totals c = record { reached = st.reached; fit = same_fit l m T st.fit places width dead next_task next_scope totals c.len (same_pointwise who.scope.0 l.scopes.items m.scopes.items c); has_room = room_kept l m T T width refl st.has_room }
+pub end_unchanged : {room : ℕ} (l m : CountLedger) (T : Tree) (who : Caller) → StandsFor l room T → m.places ≡ l.places → m.width ≡ l.width → m.dead ≡ l.dead → m.next_task ≡ l.next_task → m.next_scope ≡ l.next_scope → m.totals ≡ l.totals → Changed (λ r. r) who.scope.0 l.scopes m.scopes → StandsFor m room T
+end_unchanged l m T who st places width dead next_task next_scope totals c = record { reached = st.reached; fit = same_fit l m T st.fit places width dead next_task next_scope totals c.len (same_pointwise who.scope.0 l.scopes m.scopes c); has_room = room_kept l m T T width refl st.has_room }

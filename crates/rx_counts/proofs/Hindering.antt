@@ -87,11 +87,11 @@ by_cell T s q p i sums low up by_place =
     (by_place ∙ sym (unslot_landing q.places i))
 
 -- so a place is found that hinders
-pub hindered : {room : ℕ} (l : CountLedger) (T : Tree) (s : ScopeId) (r : Record) (p : PlaceId) → StandsFor l room T → IsLast T s → record_at l.scopes.items s.0 ≡ Some r → 0 < r.sums.total → Hides r.sums.places r.sums.counts p → IsHindered T s p
+pub hindered : {room : ℕ} (l : CountLedger) (T : Tree) (s : ScopeId) (r : Record) (p : PlaceId) → StandsFor l room T → IsLast T s → record_at l.scopes s.0 ≡ Some r → 0 < r.sums.total → Hides r.sums.places r.sums.counts p → IsHindered T s p
 hindered l T s r p st i e pos hides =
     let h : Sound T = sound st.reached in
     let keeps : Scope → Bool = stands_home T.dead in
-    let k : Kept l.width T l.scopes.items s.0 = last_kept l T s st i in
+    let k : Kept l.width T l.scopes s.0 = last_kept l T s st i in
     let same : k.kept ≡ r = (let f = k.found in cc) in
     let sums : SumsOf keeps T.scopes T.tasks r.sums s.0 = subst (λ (v : Record). SumsOf keeps T.scopes T.tasks v.sums s.0) same (subst (SumsOf keeps T.scopes T.tasks k.kept.sums) k.number k.fits.sums) in
     let cell = some_cell T keeps r s.0 h sums pos in
@@ -140,11 +140,11 @@ pub record Outcomes (T : Tree) (s : ScopeId) (r : Record) : Type 0 where
   pub masked : r.sums.masked ≡ masked_under T s
   pub orphans : r.sums.orphans ≡ orphans_of (stands_home T.dead) T.scopes s.0
 
-pub outcome : {room : ℕ} (l : CountLedger) (T : Tree) (s : ScopeId) (r : Record) → StandsFor l room T → IsLast T s → record_at l.scopes.items s.0 ≡ Some r → r.sums.total ≡ 0 → Outcomes T s r
+pub outcome : {room : ℕ} (l : CountLedger) (T : Tree) (s : ScopeId) (r : Record) → StandsFor l room T → IsLast T s → record_at l.scopes s.0 ≡ Some r → r.sums.total ≡ 0 → Outcomes T s r
 outcome l T s r st i e zero_total =
     let h : Sound T = sound st.reached in
     let keeps : Scope → Bool = stands_home T.dead in
-    let k : Kept l.width T l.scopes.items s.0 = last_kept l T s st i in
+    let k : Kept l.width T l.scopes s.0 = last_kept l T s st i in
     let same : k.kept ≡ r = (let f = k.found in cc) in
     let sums : SumsOf keeps T.scopes T.tasks r.sums s.0 = subst (λ (v : Record). SumsOf keeps T.scopes T.tasks v.sums s.0) same (subst (SumsOf keeps T.scopes T.tasks k.kept.sums) k.number k.fits.sums) in
     let still : quiet T s ≡ true = sym (total_quiet l T s r st i e) ∙ eq-eqb r.sums.total 0 zero_total in
@@ -158,11 +158,11 @@ outcome l T s r st i e zero_total =
       orphans = sums.orphans;
     }
 
-pub not_missing : {room : ℕ} (l : CountLedger) (T : Tree) (s : ScopeId) → StandsFor l room T → IsLast T s → record_at l.scopes.items s.0 ≡ None → ⊥
+pub not_missing : {room : ℕ} (l : CountLedger) (T : Tree) (s : ScopeId) → StandsFor l room T → IsLast T s → record_at l.scopes s.0 ≡ None → ⊥
 not_missing l T s st i e = let f = (last_kept l T s st i).found in cc
 
 -- the total of such a record tells that it is quiet
-pub quiet_now : {room : ℕ} (l : CountLedger) (T : Tree) (s : ScopeId) (r : Record) → StandsFor l room T → IsLast T s → record_at l.scopes.items s.0 ≡ Some r → r.sums.total ≡ 0 → quiet T s ≡ true
+pub quiet_now : {room : ℕ} (l : CountLedger) (T : Tree) (s : ScopeId) (r : Record) → StandsFor l room T → IsLast T s → record_at l.scopes s.0 ≡ Some r → r.sums.total ≡ 0 → quiet T s ≡ true
 quiet_now l T s r st i e z = (outcome l T s r st i e z).still
 
 pub zero_of : (n : ℕ) → n ≤ 0 → n ≡ 0

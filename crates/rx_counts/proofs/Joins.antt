@@ -13,7 +13,7 @@ use Rattle.rx_counts.proofs.Asking.{same_fit}
 -- one place more, in tables that have a column for it
 pub joined : {room : ℕ} (l m : CountLedger) (T : Tree) (p : PlaceId) → StandsFor l (suc room) T → MayJoin T p → m.places ≡ l.places + 1 → m.width ≡ l.width → m.dead ≡ l.dead → m.next_task ≡ l.next_task → m.next_scope ≡ l.next_scope → m.totals ≡ l.totals → m.scopes ≡ l.scopes → StandsFor m room (widened T)
 joined l m T p st may places width dead next_task next_scope totals same =
-    let f = same_fit l (record m { places = l.places }) T st.fit refl width dead next_task next_scope totals (ap (λ v. length v.items) same) (λ n. ap (λ v. record_at v.items n) same) in
+    let f = same_fit l (record m { places = l.places }) T st.fit refl width dead next_task next_scope totals (ap length same) (λ n. ap (λ v. record_at v n) same) in
     record {
       reached = joins p st.reached may;
       fit =

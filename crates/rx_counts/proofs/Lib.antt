@@ -35,3 +35,5 @@ pub mod Counts
 pub mod Adopting
 pub mod Nested
 pub mod Joins
+pub mod Paging
+pub mod PageList

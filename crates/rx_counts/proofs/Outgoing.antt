@@ -42,7 +42,7 @@ released T who (Ok o) m l st may f h =
                       ∙ totals_are (totals_of (without T who.inner)) (made_act T who.task (Release who.inner o.lost o.masked o.thrown))
                       (waits_same (totals_of (without T who.inner)) (length (without T who.inner).scopes) (is_task who.task) false (without T who.inner).tasks (are (totals_of (without T who.inner)) (without T who.inner) refl));
                   numbers = fit.numbers;
-                  scopes = all_waits _ (stands_home T.dead) (without T who.inner).scopes (without T who.inner).tasks who.task false m.scopes.items fit.scopes;
+                  scopes = all_waits _ (stands_home T.dead) (without T who.inner).scopes (without T who.inner).tasks who.task false m.scopes fit.scopes;
                   masked = fit.masked;
                 };
             has_room = room_kept m m T (made_act T who.task (Release who.inner o.lost o.masked o.thrown)) refl refl h.2;

@@ -24,12 +24,12 @@ pub last_of : {room : ℕ} (l : CountLedger) (T : Tree) (who : Caller) → Stand
 last_of l T who s f = subst (IsLast T) (own_is T who (WaitsInside T who) f f.at.allowed.scope f.at.allowed.own) (own_last T who.task f.at.task f.at.allowed.scope (sound s.reached) f.at.stands f.at.allowed.own f.unstruck)
 
 -- its record
-pub last_kept : {room : ℕ} (l : CountLedger) (T : Tree) (s : ScopeId) → StandsFor l room T → IsLast T s → Kept l.width T l.scopes.items s.0
-last_kept l T s h i = kept_found T l.scopes.items s.0 i.scope h.fit.scopes i.stands
+pub last_kept : {room : ℕ} (l : CountLedger) (T : Tree) (s : ScopeId) → StandsFor l room T → IsLast T s → Kept l.width T l.scopes s.0
+last_kept l T s h i = kept_found T l.scopes s.0 i.scope h.fit.scopes i.stands
 
-pub total_quiet : {room : ℕ} (l : CountLedger) (T : Tree) (s : ScopeId) (r : Record) → StandsFor l room T → IsLast T s → record_at l.scopes.items s.0 ≡ Some r → r.sums.total == 0 ≡ quiet T s
+pub total_quiet : {room : ℕ} (l : CountLedger) (T : Tree) (s : ScopeId) (r : Record) → StandsFor l room T → IsLast T s → record_at l.scopes s.0 ≡ Some r → r.sums.total == 0 ≡ quiet T s
 total_quiet l T s r h i e =
-    let k : Kept l.width T l.scopes.items s.0 = last_kept l T s h i in
+    let k : Kept l.width T l.scopes s.0 = last_kept l T s h i in
     let same : k.kept ≡ r = (let f = k.found in cc) in
     ap (λ (v : Record). v.sums.total == 0) (sym same) ∙ ap (λ n. n == 0) (k.fits.sums.total ∙ ap (total_of (stands_home T.dead) T.scopes T.tasks) k.number) ∙ zero_is_quiet T s (sound h.reached) i
 
@@ -41,10 +41,10 @@ ready_struck l T who o s may e k =
 ready_caller : {room : ℕ} (l : CountLedger) (T : Tree) (who : Caller) (o : Option Blow) → StandsFor l room T → MayAskRelease T who → o ≡ blow_at l.dead who.place → is_some o ≡ false → Free T who (WaitsInside T who)
 ready_caller l T who o s may e k = caller l T who (WaitsInside T who) s may (sym e ∙ none-of o k)
 
-pub ready_some : {room : ℕ} (l : CountLedger) (T : Tree) (who : Caller) (o : Option Blow) (r : Record) → StandsFor l room T → MayAskRelease T who → o ≡ blow_at l.dead who.place → is_some o ≡ false → record_at l.scopes.items who.inner.0 ≡ Some r → r.sums.total == 0 ≡ is_ready T who
+pub ready_some : {room : ℕ} (l : CountLedger) (T : Tree) (who : Caller) (o : Option Blow) (r : Record) → StandsFor l room T → MayAskRelease T who → o ≡ blow_at l.dead who.place → is_some o ≡ false → record_at l.scopes who.inner.0 ≡ Some r → r.sums.total == 0 ≡ is_ready T who
 ready_some l T who o r s may e k f =
     let free : blow_of T who.task ≡ None = unstruck l T who (WaitsInside T who) s may (sym e ∙ none-of o k) in
     rw (is_ready, free) (total_quiet l T who.inner r s (last_of l T who s (ready_caller l T who o s may e k)) f)
 
-pub ready_none : {room : ℕ} (l : CountLedger) (T : Tree) (who : Caller) (o : Option Blow) → StandsFor l room T → MayAskRelease T who → o ≡ blow_at l.dead who.place → is_some o ≡ false → record_at l.scopes.items who.inner.0 ≡ None → ⊥
+pub ready_none : {room : ℕ} (l : CountLedger) (T : Tree) (who : Caller) (o : Option Blow) → StandsFor l room T → MayAskRelease T who → o ≡ blow_at l.dead who.place → is_some o ≡ false → record_at l.scopes who.inner.0 ≡ None → ⊥
 ready_none l T who o s may e k f = let i = (last_kept l T who.inner s (last_of l T who s (ready_caller l T who o s may e k))).found in cc

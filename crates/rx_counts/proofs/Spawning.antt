@@ -105,7 +105,7 @@ pub struck_if : (o : Option ℕ) (to : PlaceId) → is_some (option_map (λ n. l
 struck_if (Some n) to = refl
 struck_if None to = refl
 
-pub spawned : {room : ℕ} (l m : CountLedger) (T : Tree) (who : Caller) (to : PlaceId) (child : TaskId) (s : ScopeId) (k : ℕ) (b : Bool) → StandsFor l room T → MayAskTo T who to → (f : Free T who IsMoving) → child.0 ≡ l.next_task → keeper finishes T.scopes (Some who.inner) ≡ Some s.0 → keeper (stands_home T.dead) T.scopes (Some s) ≡ Some k → b ≡ not (is_none (death_blow l.dead to)) → m.places ≡ l.places → m.width ≡ l.width → m.dead ≡ l.dead → m.next_task ≡ l.next_task + 1 → m.next_scope ≡ l.next_scope → m.totals ≡ more_tasks b (start (place_number who.place) to) l.totals → (b ≡ true → ChangedBy (Loses to) k l.scopes.items m.scopes.items) → (b ≡ false → Changed (in_sums (more (start (place_number who.place) to))) k l.scopes.items m.scopes.items) → SpawnReply T who to (Ok (record { child = child; scope = s; lost = b })) (StandsFor m room)
+pub spawned : {room : ℕ} (l m : CountLedger) (T : Tree) (who : Caller) (to : PlaceId) (child : TaskId) (s : ScopeId) (k : ℕ) (b : Bool) → StandsFor l room T → MayAskTo T who to → (f : Free T who IsMoving) → child.0 ≡ l.next_task → keeper finishes T.scopes (Some who.inner) ≡ Some s.0 → keeper (stands_home T.dead) T.scopes (Some s) ≡ Some k → b ≡ not (is_none (death_blow l.dead to)) → m.places ≡ l.places → m.width ≡ l.width → m.dead ≡ l.dead → m.next_task ≡ l.next_task + 1 → m.next_scope ≡ l.next_scope → m.totals ≡ more_tasks b (start (place_number who.place) to) l.totals → (b ≡ true → ChangedBy (Loses to) k l.scopes m.scopes) → (b ≡ false → Changed (in_sums (more (start (place_number who.place) to))) k l.scopes m.scopes) → SpawnReply T who to (Ok (record { child = child; scope = s; lost = b })) (StandsFor m room)
 spawned l m T who to child s k b st may f num fin at e places width dead next_task next_scope totals lost joins =
     let h : Sound T = sound st.reached in
     let a = spawn_allowed T who to s child st.reached may (unstruck_of T who IsMoving f) (sym (governing_is T.scopes (Some who.inner) s fin)) (num ∙ st.fit.next_task) in
@@ -125,9 +125,9 @@ spawned l m T who to child s k b st may f num fin at e places width dead next_ta
                         totals
                         ∙ totals_are (more_tasks b (start (place_number who.place) to) l.totals) (made_act T who.task (Spawn child s (place_number who.place) to []))
                         (one_born l.totals (length T.scopes) T.tasks (born T child s (place_number who.place) to) (start (place_number who.place) to) b refl (struck_if (death_of T to) to ∙ sym dies) (are l.totals T st.fit.totals));
-                    numbers = len_of to (start (place_number who.place) to) k l.scopes.items m.scopes.items b lost joins ∙ st.fit.numbers;
-                    scopes = as_wide l.width m.width (stands_home T.dead) T.scopes (born T child s (place_number who.place) to ∷ T.tasks) m.scopes.items width (all_born _ T T.scopes (stands_home T.dead) T.tasks child s (place_number who.place) to k l.scopes.items m.scopes.items b dies at (has_cell _ (stands_home T.dead) T.next_scope T.scopes T.tasks l.scopes.items k (Some s) (start (place_number who.place) to) h.falls at (started_in T who to h (wide l T st) may f) st.fit.scopes) lost joins st.fit.scopes);
-                    masked = masked_born (stands_home T.dead) T.scopes to (start (place_number who.place) to) k l.scopes.items m.scopes.items b lost joins st.fit.masked;
+                    numbers = len_of to (start (place_number who.place) to) k l.scopes m.scopes b lost joins ∙ st.fit.numbers;
+                    scopes = as_wide l.width m.width (stands_home T.dead) T.scopes (born T child s (place_number who.place) to ∷ T.tasks) m.scopes width (all_born _ T T.scopes (stands_home T.dead) T.tasks child s (place_number who.place) to k l.scopes m.scopes b dies at (has_cell _ (stands_home T.dead) T.next_scope T.scopes T.tasks l.scopes k (Some s) (start (place_number who.place) to) h.falls at (started_in T who to h (wide l T st) may f) st.fit.scopes) lost joins st.fit.scopes);
+                    masked = masked_born (stands_home T.dead) T.scopes to (start (place_number who.place) to) k l.scopes m.scopes b lost joins st.fit.masked;
                   };
               has_room = room_kept l m T (made_act T who.task (Spawn child s (place_number who.place) to [])) width refl st.has_room;
             };

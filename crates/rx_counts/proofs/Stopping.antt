@@ -289,7 +289,7 @@ masked_named T s h i still =
     T.scopes (each_known T s h i)))
 
 pub takes : {room : ℕ} (l : CountLedger) (T : Tree) (s : ScopeId) (n : ℕ) → StandsFor l room T → IsLast T s → quiet T s ≡ true
-    → n ≡ orphans_of (stands_home T.dead) T.scopes s.0 → Takes T s n l.scopes.items
+    → n ≡ orphans_of (stands_home T.dead) T.scopes s.0 → Takes T s n l.scopes
 takes l T s n st i still e =
     let h : Sound T = sound st.reached in
     let keeps : Scope → Bool = stands_home T.dead in

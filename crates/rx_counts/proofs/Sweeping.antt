@@ -132,7 +132,7 @@ none_before T rs s u h lt = false_from_ne_true (meets s T.scopes (Some u)) (λ m
 
 -- The ledger afterwards.
 
-pub freed : {room : ℕ} (l m : CountLedger) (T : Tree) (s : ScopeId) (n : ℕ) → StandsFor l room T → IsLast T s → quiet T s ≡ true → m.places ≡ l.places → m.width ≡ l.width → m.dead ≡ l.dead → m.next_task ≡ l.next_task → m.next_scope ≡ l.next_scope → m.totals ≡ fewer_scopes (n + 1) l.totals → Takes T s n l.scopes.items → length m.scopes.items ≡ length l.scopes.items → ((u : ScopeId) → record_at m.scopes.items u.0 ≡ cond (meets s T.scopes (Some u)) None (record_at l.scopes.items u.0)) → Fit m (without T s)
+pub freed : {room : ℕ} (l m : CountLedger) (T : Tree) (s : ScopeId) (n : ℕ) → StandsFor l room T → IsLast T s → quiet T s ≡ true → m.places ≡ l.places → m.width ≡ l.width → m.dead ≡ l.dead → m.next_task ≡ l.next_task → m.next_scope ≡ l.next_scope → m.totals ≡ fewer_scopes (n + 1) l.totals → Takes T s n l.scopes → length m.scopes ≡ length l.scopes → ((u : ScopeId) → record_at m.scopes u.0 ≡ cond (meets s T.scopes (Some u)) None (record_at l.scopes u.0)) → Fit m (without T s)
 freed l m T s n st i still places width dead next_task next_scope totals takes len gone =
     record {
       places = places ∙ st.fit.places;
@@ -141,8 +141,8 @@ freed l m T s n st i still places width dead next_task next_scope totals takes l
       next_scope = next_scope ∙ st.fit.next_scope;
       totals = totals ∙ totals_are (fewer_scopes (n + 1) l.totals) (without T s) (one_freed l.totals T s n takes.many (are l.totals T st.fit.totals)).1;
       numbers = len ∙ st.fit.numbers;
-      scopes = as_wide l.width m.width (stands_home T.dead) (without T s).scopes (without T s).tasks m.scopes.items width (all_released _ T s l.scopes.items m.scopes.items (sound st.reached) i still gone st.fit.scopes);
-      masked = masked_released T s l.scopes.items m.scopes.items (sound st.reached) i still gone st.fit.masked;
+      scopes = as_wide l.width m.width (stands_home T.dead) (without T s).scopes (without T s).tasks m.scopes width (all_released _ T s l.scopes m.scopes (sound st.reached) i still gone st.fit.scopes);
+      masked = masked_released T s l.scopes m.scopes (sound st.reached) i still gone st.fit.masked;
     }
 
 pub free_refused : {room : ℕ} (l : CountLedger) (T : Tree) (s : ScopeId) (f : LedgerFault) → StandsFor l room T → OutcomeReply T s (Err f) → FreeReply room T s (Err f) l

@@ -153,10 +153,10 @@ toll_is size T d rs h fit =
     }
 
 -- it is a number of 32 bits
-pub toll_small : {room : ℕ} (l : CountLedger) (T : Tree) (d : PlaceId) → StandsFor l room T → l.next_task < 2 ^ 32 → IsSmall (toll_below d l.scopes.items (length l.scopes.items))
+pub toll_small : {room : ℕ} (l : CountLedger) (T : Tree) (d : PlaceId) → StandsFor l room T → l.next_task < 2 ^ 32 → IsSmall (toll_below d l.scopes (length l.scopes))
 toll_small l T d st few =
     let h : Sound T = sound st.reached in
-    let t = toll_is _ T d l.scopes.items h st.fit.scopes in
+    let t = toll_is _ T d l.scopes h st.fit.scopes in
     let a = t.all in
     let b = t.there in
     let c = few_tasks T (λ x. is_none x.struck && is_hit d x.place) h in

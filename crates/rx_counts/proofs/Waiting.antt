@@ -36,7 +36,7 @@ waited T s t thrown =
     totals_are (totals_of T) (made_act T t (Wait s thrown))
     (record { scopes = sym (length_change (is_scope s) (λ g. record g { body = thrown }) T.scopes); live = h.live; travel = h.travel })
 
-pub waits_stands : {room : ℕ} (l m : CountLedger) (T : Tree) (who : Caller) (thrown : List Fault) → StandsFor l room T → MayAskWait T who → (f : Free T who (HasFinish T who)) → m.places ≡ l.places → m.width ≡ l.width → m.dead ≡ l.dead → m.next_task ≡ l.next_task → m.next_scope ≡ l.next_scope → m.totals ≡ l.totals → Changed (with_body thrown) who.inner.0 l.scopes.items m.scopes.items → WaitReply T who thrown (Ok tt) (StandsFor m room)
+pub waits_stands : {room : ℕ} (l m : CountLedger) (T : Tree) (who : Caller) (thrown : List Fault) → StandsFor l room T → MayAskWait T who → (f : Free T who (HasFinish T who)) → m.places ≡ l.places → m.width ≡ l.width → m.dead ≡ l.dead → m.next_task ≡ l.next_task → m.next_scope ≡ l.next_scope → m.totals ≡ l.totals → Changed (with_body thrown) who.inner.0 l.scopes m.scopes → WaitReply T who thrown (Ok tt) (StandsFor m room)
 waits_stands l m T who thrown st may f places width dead next_task next_scope totals c =
     let a = wait_allowed T who thrown st.reached may (unstruck_of T who (HasFinish T who) f) in
     let h : Sound T = sound st.reached in
@@ -61,10 +61,10 @@ waits_stands l m T who thrown st may f places width dead next_task next_scope to
                       ∙ waited T who.inner who.task thrown;
                   numbers = c.len ∙ st.fit.numbers;
                   scopes =
-                      as_wide l.width m.width (stands_home T.dead) (change_first (is_scope who.inner) (faulted (λ g. thrown) (λ g. g.ends)) T.scopes) (change_first (is_task who.task) waiting T.tasks) m.scopes.items width
-                      (all_waits _ (stands_home T.dead) _ T.tasks who.task true m.scopes.items
-                      (all_faulted (λ g. thrown) (λ g. g.ends) who.inner (stands_home T.dead) (λ g. refl) _ T.scopes T.tasks (with_body thrown) l.scopes.items m.scopes.items (λ r. (refl, refl, refl, refl, refl)) (λ r g found live was. (refl, was.1)) c st.fit.scopes));
-                  masked = masked_waits (λ g. thrown) (λ g. g.ends) who.inner (stands_home T.dead) (λ g. refl) T.scopes own (with_body thrown) l.scopes.items m.scopes.items found kept (λ r. refl) c st.fit.masked;
+                      as_wide l.width m.width (stands_home T.dead) (change_first (is_scope who.inner) (faulted (λ g. thrown) (λ g. g.ends)) T.scopes) (change_first (is_task who.task) waiting T.tasks) m.scopes width
+                      (all_waits _ (stands_home T.dead) _ T.tasks who.task true m.scopes
+                      (all_faulted (λ g. thrown) (λ g. g.ends) who.inner (stands_home T.dead) (λ g. refl) _ T.scopes T.tasks (with_body thrown) l.scopes m.scopes (λ r. (refl, refl, refl, refl, refl)) (λ r g found live was. (refl, was.1)) c st.fit.scopes));
+                  masked = masked_waits (λ g. thrown) (λ g. g.ends) who.inner (stands_home T.dead) (λ g. refl) T.scopes own (with_body thrown) l.scopes m.scopes found kept (λ r. refl) c st.fit.masked;
                 };
             has_room = room_kept l m T (made_act T who.task (Wait who.inner thrown)) width refl st.has_room;
           };

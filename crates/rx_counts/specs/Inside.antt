@@ -4,3 +4,6 @@ pub mod Dying
 pub mod Freeing
 pub mod Nesting
 pub mod Totalling
+pub mod Paging
+pub mod Slots
+pub mod Lending

@@ -27,7 +27,7 @@ counts_of n r =
 abbrev pub records_of : CountLedger → Records
 records_of l =
     record {
-      scopes = λ n. option_map (counts_of n) (record_at l.scopes.items n);
+      scopes = λ n. option_map (counts_of n) (record_at l.scopes n);
       places = l.places;
       dead = l.dead;
       next_task = l.next_task;

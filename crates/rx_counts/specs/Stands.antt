@@ -101,9 +101,9 @@ pub record Fit (l : CountLedger) (T : Tree) : Type 0 where
   pub next_task : l.next_task ≡ T.next_task
   pub next_scope : l.next_scope ≡ T.next_scope
   pub totals : l.totals ≡ totals_of T
-  pub numbers : length l.scopes.items ≡ T.next_scope
-  pub scopes : RecordsFit l.width (stands_home T.dead) T.scopes T.tasks l.scopes.items
-  pub masked : AllMasked (stands_home T.dead) T.scopes l.scopes.items
+  pub numbers : length l.scopes ≡ T.next_scope
+  pub scopes : RecordsFit l.width (stands_home T.dead) T.scopes T.tasks l.scopes
+  pub masked : AllMasked (stands_home T.dead) T.scopes l.scopes
 
 -- its tables have columns for so many places more
 pub record HasRoom (l : CountLedger) (room : ℕ) (T : Tree) : Type 0 where

@@ -10,6 +10,7 @@ ghost use Rattle.rx_counts.specs.Inside.Totalling.{toll_of, toll_in, toll_below,
 ghost use Rattle.rx_counts.specs.Inside.Dying.{CanGain, Gains, Passing, given_by, parent_there};
 
 use crate::cells::Cells;
+use crate::pages::Pages;
 use crate::record::{Record, Sums, nothing, stopped};
 use crate::table::keeper_of;
 use rx_base::{Faults, PlaceId, PlaceSet, ScopeId};
@@ -112,17 +113,28 @@ fn strike_entry(entry: &mut Option<Box<Record>>, d: PlaceId) -> Toll
     }
 }
 
+fn strike_at(scopes: &mut Pages, i: usize, d: PlaceId) -> Toll
+    requires { (d.0 < 16) × IfSome (record_at scopes.old i) (MayHit d) }
+    ensures strikes { ChangedBy (StrikesRecord d) i scopes.old scopes.new }
+    ensures toll { result ≡ toll_in d (record_at scopes.old i) }
+{
+    match scopes.get_mut(i) {
+        Some(entry) => strike_entry(entry, d),
+        None => Toll { all: 0, there: 0 },
+    }
+}
+
 /// The death of a place strikes each record. How many tasks it strikes is answered.
-pub fn strike_all(scopes: &mut Vec<Option<Box<Record>>>, d: PlaceId) -> Toll
-    requires hit { (d.0 < 16) × ((n : ℕ) → IfSome (record_at scopes.old.items n) (MayHit d)) }
-    requires few { IsSmall (toll_below d scopes.old.items (length scopes.old.items)) }
-    ensures len { length scopes.new.items ≡ length scopes.old.items }
-    ensures struck { (n : ℕ) → Pairs (StrikesRecord d) (record_at scopes.old.items n) (record_at scopes.new.items n) }
-    ensures toll { result ≡ toll_below d scopes.old.items (length scopes.old.items) }
+pub fn strike_all(scopes: &mut Pages, d: PlaceId) -> Toll
+    requires hit { (d.0 < 16) × ((n : ℕ) → IfSome (record_at scopes.old n) (MayHit d)) }
+    requires few { IsSmall (toll_below d scopes.old (length scopes.old)) }
+    ensures len { length scopes.new ≡ length scopes.old }
+    ensures struck { (n : ℕ) → Pairs (StrikesRecord d) (record_at scopes.old n) (record_at scopes.new n) }
+    ensures toll { result ≡ toll_below d scopes.old (length scopes.old) }
 {
     let mut toll = Toll { all: 0, there: 0 };
     for i in 0..scopes.len() {
-        toll = toll.and(strike_entry(&mut scopes[i], d));
+        toll = toll.and(strike_at(scopes, i, d));
     }
     toll
 }
@@ -153,12 +165,15 @@ fn take_entry(entry: &mut Option<Box<Record>>, alloc: Global) -> Sums
     }
 }
 
-fn take_at(scopes: &mut Vec<Option<Box<Record>>>, i: usize, alloc: Global) -> Sums
-    requires { i < length scopes.old.items }
-    ensures taken { IfSome (record_at scopes.old.items i) (λ r. result ≡ given_by r) }
-    ensures left { ChangedBy Emptied i scopes.old.items scopes.new.items }
+fn take_at(scopes: &mut Pages, i: usize, alloc: Global) -> Sums
+    requires { i < length scopes.old }
+    ensures taken { IfSome (record_at scopes.old i) (λ r. result ≡ given_by r) }
+    ensures left { ChangedBy Emptied i scopes.old scopes.new }
 {
-    take_entry(&mut scopes[i], alloc)
+    match scopes.get_mut(i) {
+        Some(entry) => take_entry(entry, alloc),
+        None => nothing(alloc),
+    }
 }
 
 /// Adds the counts of another scope.
@@ -204,36 +219,32 @@ fn pour_entry(entry: &mut Option<Box<Record>>, given: &Sums)
     }
 }
 
-fn pour_at(scopes: &mut Vec<Option<Box<Record>>>, a: ScopeId, given: &Sums)
-    requires { (a.0 < length scopes.old.items) × IfSome (record_at scopes.old.items a.0) (MayGain given.now) }
-    ensures { ChangedBy (Gained given.now) a.0 scopes.old.items scopes.new.items }
+fn pour_at(scopes: &mut Pages, a: ScopeId, given: &Sums)
+    requires { (a.0 < length scopes.old) × IfSome (record_at scopes.old a.0) (MayGain given.now) }
+    ensures { ChangedBy (Gained given.now) a.0 scopes.old scopes.new }
 {
-    pour_entry(&mut scopes[a.0 as usize], given);
+    if let Some(entry) = scopes.get_mut(a.0 as usize) {
+        pour_entry(entry, given);
+    }
 }
 
 /// The parent of the scope of a number, where that stands and its home is the place.
-fn parent_at(scopes: &[Option<Box<Record>>], i: usize, d: PlaceId) -> Option<ScopeId>
+fn parent_at(scopes: &Pages, i: usize, d: PlaceId) -> Option<ScopeId>
     ensures { result ≡ parent_there d (record_at scopes.now i) }
 {
     match scopes.get(i) {
-        Some(Some(kept)) => if kept.home == d { kept.parent } else { None },
-        _ => None,
+        Some(kept) => if kept.home == d { kept.parent } else { None },
+        None => None,
     }
 }
 
 /// Where the home of the scope of this number died, its sums go to the first scope above it with a living home.
-fn hand_over(
-    scopes: &mut Vec<Option<Box<Record>>>,
-    dead: &[Option<u32>],
-    d: PlaceId,
-    i: usize,
-    alloc: Global,
-)
-    requires { (i < length scopes.old.items) × (size : ℕ) × (T : Tree) × (keeps : (Scope → Bool))
-        × Passing size T keeps dead.now d i scopes.old.items }
-    ensures len { length scopes.new.items ≡ length scopes.old.items }
-    ensures passes { (size : ℕ) (T : Tree) (keeps : Scope → Bool) → Passing size T keeps dead.now d i scopes.old.items
-        → Passing size T keeps dead.now d (i + 1) scopes.new.items }
+fn hand_over(scopes: &mut Pages, dead: &[Option<u32>], d: PlaceId, i: usize, alloc: Global)
+    requires { (i < length scopes.old) × (size : ℕ) × (T : Tree) × (keeps : (Scope → Bool))
+        × Passing size T keeps dead.now d i scopes.old }
+    ensures len { length scopes.new ≡ length scopes.old }
+    ensures passes { (size : ℕ) (T : Tree) (keeps : Scope → Bool) → Passing size T keeps dead.now d i scopes.old
+        → Passing size T keeps dead.now d (i + 1) scopes.new }
 {
     if let Some(parent) = parent_at(scopes, i, d) {
         if let Some(heir) = keeper_of(scopes, dead, parent) {
@@ -244,16 +255,11 @@ fn hand_over(
 }
 
 /// The same of each scope, from the oldest on.
-pub fn hand_over_all(
-    scopes: &mut Vec<Option<Box<Record>>>,
-    dead: &[Option<u32>],
-    d: PlaceId,
-    alloc: Global,
-)
-    requires { (size : ℕ) × (T : Tree) × (keeps : (Scope → Bool)) × Passing size T keeps dead.now d 0 scopes.old.items }
-    ensures len { length scopes.new.items ≡ length scopes.old.items }
-    ensures passes { (size : ℕ) (T : Tree) (keeps : Scope → Bool) → Passing size T keeps dead.now d 0 scopes.old.items
-        → Passing size T keeps dead.now d (length scopes.old.items) scopes.new.items }
+pub fn hand_over_all(scopes: &mut Pages, dead: &[Option<u32>], d: PlaceId, alloc: Global)
+    requires { (size : ℕ) × (T : Tree) × (keeps : (Scope → Bool)) × Passing size T keeps dead.now d 0 scopes.old }
+    ensures len { length scopes.new ≡ length scopes.old }
+    ensures passes { (size : ℕ) (T : Tree) (keeps : Scope → Bool) → Passing size T keeps dead.now d 0 scopes.old
+        → Passing size T keeps dead.now d (length scopes.old) scopes.new }
 {
     for i in 0..scopes.len() {
         hand_over(scopes, dead, d, i, alloc);

@@ -13,8 +13,9 @@ ghost use Rattle.rx_counts.specs.Seen.{seen};
 ghost use Rattle.rx_counts.specs.Inside.Freeing.{IsLast, OutcomeReply, FreeReply};
 
 use crate::dying::{hand_over_all, strike_all};
+use crate::pages::Pages;
 use crate::places::{blow_there, lives, lost};
-use crate::record::{Record, fresh};
+use crate::record::fresh;
 use crate::removal::{hindrance, remove};
 use crate::table::{
     bear, count_at, dropped_by, finish_of, join, keeper_of, leave, look, mask, note_body,
@@ -40,7 +41,7 @@ pub struct ScopeSeen {
 #[derive(Drop)]
 pub struct CountLedger {
     alloc: Global,
-    scopes: Vec<Option<Box<Record>>>,
+    scopes: Pages,
     places: u8,
     /// How many places it has columns for: those that there are or may join.
     width: u8,
@@ -74,7 +75,7 @@ impl CountLedger {
         requires { (1 ≤ places) × (places ≤ width) × (width ≤ 16) }
         ensures { IfOk result (λ l. (room : ℕ) → room + places ≤ width → StandsFor l room (opening places)) }
     {
-        let mut scopes = Vec::new(alloc);
+        let mut scopes = Pages::new(alloc);
         let mut root = fresh(alloc, width, Kind::Finish, PlaceId(0), None, ScopeId(0))?;
         root.sums.join(Where::At(PlaceId(0)));
         match push(&mut scopes, root, alloc) {

@@ -10,6 +10,7 @@
 mod cells;
 mod dying;
 mod ledger;
+mod pages;
 mod places;
 mod record;
 mod removal;

@@ -6,43 +6,40 @@ ghost use Rattle.rx_counts.specs.Stands.{record_at};
 ghost use Rattle.rx_counts.specs.Inside.Freeing.{Hides, Takes, parent_gone};
 
 use crate::cells::Cells;
-use crate::record::Record;
+use crate::pages::Pages;
 use rx_base::{PlaceId, ScopeId};
 
 /// Whether a number is that of the scope, or its scope stands and the parent of that does not.
-fn is_below(scopes: &[Option<Box<Record>>], i: usize, s: ScopeId) -> bool
+fn is_below(scopes: &Pages, i: usize, s: ScopeId) -> bool
     ensures { result ≡ ((i == s.0) || parent_gone scopes.now (record_at scopes.now i)) }
 {
     if i == s.0 as usize {
         return true;
     }
     match scopes.get(i) {
-        Some(Some(kept)) => match kept.parent {
+        Some(kept) => match kept.parent {
             Some(parent) => !stands(scopes, parent),
             None => false,
         },
-        _ => false,
+        None => false,
     }
 }
 
-fn stands(scopes: &[Option<Box<Record>>], s: ScopeId) -> bool
+fn stands(scopes: &Pages, s: ScopeId) -> bool
     ensures { result ≡ is_some (record_at scopes.now s.0) }
 {
-    match scopes.get(s.0 as usize) {
-        Some(Some(_)) => true,
-        _ => false,
-    }
+    scopes.get(s.0 as usize).is_some()
 }
 
 /// Removes the record of a number, where it goes, and answers how many went.
-fn drop_if(scopes: &mut Vec<Option<Box<Record>>>, i: usize, goes: bool) -> usize
-    requires { i < length scopes.old.items }
-    ensures len { length scopes.new.items ≡ length scopes.old.items }
-    ensures goes { (n : ℕ) → record_at scopes.new.items n ≡ cond (goes && (n == i)) None (record_at scopes.old.items n) }
+fn drop_if(scopes: &mut Pages, i: usize, goes: bool) -> usize
+    requires { i < length scopes.old }
+    ensures len { length scopes.new ≡ length scopes.old }
+    ensures goes { (n : ℕ) → record_at scopes.new n ≡ cond (goes && (n == i)) None (record_at scopes.old n) }
     ensures many { result ≡ cond goes 1 0 }
 {
     if goes {
-        scopes[i] = None;
+        scopes.clear(i);
         1
     } else {
         0
@@ -72,11 +69,11 @@ pub fn hindrance(counts: &Cells, places: u8) -> PlaceId
 
 /// Removes the record of a scope and those of the scopes below it, which are as many as it has adopted. A scope goes where its parent
 /// went, and who is older stays; so the numbers are visited upward from the scope's own, until as many have gone.
-pub fn remove(scopes: &mut Vec<Option<Box<Record>>>, s: ScopeId, orphans: u32)
-    requires { s.0 < length scopes.old.items }
-    ensures len { length scopes.new.items ≡ length scopes.old.items }
-    ensures taken { (T : Tree) → Takes T s orphans scopes.old.items → (u : ScopeId) →
-        record_at scopes.new.items u.0 ≡ cond (meets s T.scopes (Some u)) None (record_at scopes.old.items u.0) }
+pub fn remove(scopes: &mut Pages, s: ScopeId, orphans: u32)
+    requires { s.0 < length scopes.old }
+    ensures len { length scopes.new ≡ length scopes.old }
+    ensures taken { (T : Tree) → Takes T s orphans scopes.old → (u : ScopeId) →
+        record_at scopes.new u.0 ≡ cond (meets s T.scopes (Some u)) None (record_at scopes.old u.0) }
 {
     let mut left = orphans as usize + 1;
     for i in s.0 as usize..scopes.len() {

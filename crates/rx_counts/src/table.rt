@@ -7,6 +7,7 @@ ghost use Rattle.rx_counts.specs.Stands.{record_at, more, less, masking, in_sums
 ghost use Rattle.rx_counts.specs.Stands.{Changed, ChangedBy, Pairs, Loses};
 ghost use Rattle.rx_counts.specs.Stands.{IsShaped, Pushed, with_body, ends_if};
 
+use crate::pages::Pages;
 use crate::places::lives;
 use crate::record::Record;
 use rx_base::{Faults, PlaceId, ScopeId};
@@ -15,13 +16,10 @@ use rx_rules::Where;
 use std::alloc::Global;
 
 /// The record of a number.
-pub fn look(scopes: &[Option<Box<Record>>], s: ScopeId) -> Option<&Record>
+pub fn look(scopes: &Pages, s: ScopeId) -> Option<&Record>
     ensures { MatchOption result (record_at scopes.now s.0 ≡ None) (λ r. record_at scopes.now s.0 ≡ Some r.now) }
 {
-    match scopes.get(s.0 as usize) {
-        Some(Some(kept)) => Some(&**kept),
-        _ => None,
-    }
+    scopes.get(s.0 as usize)
 }
 
 fn join_in(entry: &mut Option<Box<Record>>, place: Where)
@@ -43,19 +41,23 @@ fn leave_in(entry: &mut Option<Box<Record>>, place: Where)
 }
 
 /// One task more at a place or on a way, in the record of a scope.
-pub fn join(scopes: &mut Vec<Option<Box<Record>>>, s: ScopeId, place: Where)
-    requires { (s.0 < length scopes.old.items) × IfSome (record_at scopes.old.items s.0) (λ r. MayJoin place r.sums) }
-    ensures { Changed (in_sums (more place)) s.0 scopes.old.items scopes.new.items }
+pub fn join(scopes: &mut Pages, s: ScopeId, place: Where)
+    requires { (s.0 < length scopes.old) × IfSome (record_at scopes.old s.0) (λ r. MayJoin place r.sums) }
+    ensures { Changed (in_sums (more place)) s.0 scopes.old scopes.new }
 {
-    join_in(&mut scopes[s.0 as usize], place);
+    if let Some(entry) = scopes.get_mut(s.0 as usize) {
+        join_in(entry, place);
+    }
 }
 
 /// One task less at a place or on a way, in the record of a scope.
-pub fn leave(scopes: &mut Vec<Option<Box<Record>>>, s: ScopeId, place: Where)
-    requires { (s.0 < length scopes.old.items) × IfSome (record_at scopes.old.items s.0) (λ r. MayLeave place r.sums) }
-    ensures { Changed (in_sums (less place)) s.0 scopes.old.items scopes.new.items }
+pub fn leave(scopes: &mut Pages, s: ScopeId, place: Where)
+    requires { (s.0 < length scopes.old) × IfSome (record_at scopes.old s.0) (λ r. MayLeave place r.sums) }
+    ensures { Changed (in_sums (less place)) s.0 scopes.old scopes.new }
 {
-    leave_in(&mut scopes[s.0 as usize], place);
+    if let Some(entry) = scopes.get_mut(s.0 as usize) {
+        leave_in(entry, place);
+    }
 }
 
 fn mask_in(entry: &mut Option<Box<Record>>, many: usize)
@@ -67,11 +69,13 @@ fn mask_in(entry: &mut Option<Box<Record>>, many: usize)
 }
 
 /// So many faults more that nobody is told, in the record of a scope.
-pub fn mask(scopes: &mut Vec<Option<Box<Record>>>, s: ScopeId, many: usize)
-    requires { s.0 < length scopes.old.items }
-    ensures { Changed (in_sums (masking many)) s.0 scopes.old.items scopes.new.items }
+pub fn mask(scopes: &mut Pages, s: ScopeId, many: usize)
+    requires { s.0 < length scopes.old }
+    ensures { Changed (in_sums (masking many)) s.0 scopes.old scopes.new }
 {
-    mask_in(&mut scopes[s.0 as usize], many);
+    if let Some(entry) = scopes.get_mut(s.0 as usize) {
+        mask_in(entry, many);
+    }
 }
 
 fn bear_in(entry: &mut Option<Box<Record>>, is_lost: bool, place: Where, to: PlaceId)
@@ -85,18 +89,14 @@ fn bear_in(entry: &mut Option<Box<Record>>, is_lost: bool, place: Where, to: Pla
 }
 
 /// A task is born that counts in the record of a scope: for a dead place, or else where it is.
-pub fn bear(
-    scopes: &mut Vec<Option<Box<Record>>>,
-    s: ScopeId,
-    is_lost: bool,
-    place: Where,
-    to: PlaceId,
-)
-    requires { (s.0 < length scopes.old.items) × (to.0 < 16) × IfSome (record_at scopes.old.items s.0) (λ r. MayJoin place r.sums) }
-    ensures lost { is_lost ≡ true → ChangedBy (Loses to) s.0 scopes.old.items scopes.new.items }
-    ensures joins { is_lost ≡ false → Changed (in_sums (more place)) s.0 scopes.old.items scopes.new.items }
+pub fn bear(scopes: &mut Pages, s: ScopeId, is_lost: bool, place: Where, to: PlaceId)
+    requires { (s.0 < length scopes.old) × (to.0 < 16) × IfSome (record_at scopes.old s.0) (λ r. MayJoin place r.sums) }
+    ensures lost { is_lost ≡ true → ChangedBy (Loses to) s.0 scopes.old scopes.new }
+    ensures joins { is_lost ≡ false → Changed (in_sums (more place)) s.0 scopes.old scopes.new }
 {
-    bear_in(&mut scopes[s.0 as usize], is_lost, place, to);
+    if let Some(entry) = scopes.get_mut(s.0 as usize) {
+        bear_in(entry, is_lost, place, to);
+    }
 }
 
 fn note_body_in(entry: &mut Option<Box<Record>>, thrown: Faults)
@@ -108,11 +108,13 @@ fn note_body_in(entry: &mut Option<Box<Record>>, thrown: Faults)
 }
 
 /// Notes the faults of the body of a scope.
-pub fn note_body(scopes: &mut Vec<Option<Box<Record>>>, s: ScopeId, thrown: Faults)
-    requires { s.0 < length scopes.old.items }
-    ensures { Changed (with_body thrown) s.0 scopes.old.items scopes.new.items }
+pub fn note_body(scopes: &mut Pages, s: ScopeId, thrown: Faults)
+    requires { s.0 < length scopes.old }
+    ensures { Changed (with_body thrown) s.0 scopes.old scopes.new }
 {
-    note_body_in(&mut scopes[s.0 as usize], thrown);
+    if let Some(entry) = scopes.get_mut(s.0 as usize) {
+        note_body_in(entry, thrown);
+    }
 }
 
 fn note_ends_in(entry: &mut Option<Box<Record>>, keeps: bool, thrown: Faults) -> Result<(), Faults>
@@ -129,17 +131,15 @@ fn note_ends_in(entry: &mut Option<Box<Record>>, keeps: bool, thrown: Faults) ->
 }
 
 /// Adds faults to those of the tasks that ended under a scope, where it keeps them, and else drops them.
-pub fn note_ends(
-    scopes: &mut Vec<Option<Box<Record>>>,
-    s: ScopeId,
-    keeps: bool,
-    thrown: Faults,
-) -> Result<(), Faults>
-    requires { s.0 < length scopes.old.items }
-    ensures noted { OnOk result (Changed (ends_if keeps thrown) s.0 scopes.old.items scopes.new.items) }
-    ensures refused { IfErr result (λ back. (back ≡ thrown) × Changed (λ r. r) s.0 scopes.old.items scopes.new.items) }
+pub fn note_ends(scopes: &mut Pages, s: ScopeId, keeps: bool, thrown: Faults) -> Result<(), Faults>
+    requires { s.0 < length scopes.old }
+    ensures noted { OnOk result (Changed (ends_if keeps thrown) s.0 scopes.old scopes.new) }
+    ensures refused { IfErr result (λ back. (back ≡ thrown) × Changed (λ r. r) s.0 scopes.old scopes.new) }
 {
-    note_ends_in(&mut scopes[s.0 as usize], keeps, thrown)
+    match scopes.get_mut(s.0 as usize) {
+        Some(entry) => note_ends_in(entry, keeps, thrown),
+        None => Ok(()),
+    }
 }
 
 /// How many faults are dropped where they end under a scope, which keeps them or does not.
@@ -150,11 +150,7 @@ pub fn dropped_by(keeps: bool, thrown: &Faults) -> usize
 }
 
 /// The first scope from s along parents with a living home.
-pub fn keeper_of(
-    scopes: &[Option<Box<Record>>],
-    dead: &[Option<u32>],
-    s: ScopeId,
-) -> Option<ScopeId>
+pub fn keeper_of(scopes: &Pages, dead: &[Option<u32>], s: ScopeId) -> Option<ScopeId>
     ensures { (T : Tree) → IsShaped T scopes.now → option_map (λ k. k.0) result ≡ keeper (stands_home dead.now) T.scopes (Some s) }
 {
     let mut at = s;
@@ -180,7 +176,7 @@ pub fn keeper_of(
 }
 
 /// The nearest finish from a scope along parents.
-pub fn finish_of(scopes: &[Option<Box<Record>>], s: ScopeId) -> ScopeId
+pub fn finish_of(scopes: &Pages, s: ScopeId) -> ScopeId
     ensures { IfSome (record_at scopes.now s.0) (λ r. result ≡ r.finish) }
 {
     match look(scopes, s) {
@@ -190,26 +186,22 @@ pub fn finish_of(scopes: &[Option<Box<Record>>], s: ScopeId) -> ScopeId
 }
 
 /// Adds a record.
-pub fn push(
-    scopes: &mut Vec<Option<Box<Record>>>,
-    kept: Record,
-    alloc: Global,
-) -> Result<(), LedgerFault>
-    ensures pushed { OnOk result (Pushed kept scopes.old.items scopes.new.items) }
-    ensures refused { IfErr result (λ f. (f ≡ LedgerFault.NoMemory) × (scopes.new.items ≡ scopes.old.items)) }
+pub fn push(scopes: &mut Pages, kept: Record, alloc: Global) -> Result<(), LedgerFault>
+    ensures pushed { OnOk result (Pushed kept scopes.old scopes.new) }
+    ensures refused { IfErr result (λ f. (f ≡ LedgerFault.NoMemory) × (scopes.new ≡ scopes.old)) }
 {
     let boxed = match Box::new(alloc, kept) {
         Ok(boxed) => boxed,
         Err(_) => return Err(LedgerFault::NoMemory),
     };
-    match scopes.push(Some(boxed)) {
+    match scopes.push(boxed, alloc) {
         Ok(_) => Ok(()),
         Err(_) => Err(LedgerFault::NoMemory),
     }
 }
 
 /// How many tasks the record of a scope counts at a place or on a way.
-pub fn count_at(scopes: &[Option<Box<Record>>], s: ScopeId, place: Where) -> u32
+pub fn count_at(scopes: &Pages, s: ScopeId, place: Where) -> u32
     ensures { IfSome (record_at scopes.now s.0) (λ r. result ≡ count_in r.sums place) }
 {
     match look(scopes, s) {

@@ -7,6 +7,6 @@ use Rattle.rx_counts.proofs.dying.hand_over_all.Given as goal
 
 abbrev pub invariant-loop-i : goal.invariant-loop-i
 invariant-loop-i l = record {
-  len : length l.scopes.items ≡ length l.initial.scopes.items;
-  passes : (size : ℕ) (T : Tree) (keeps : Scope → Bool) → Passing size T keeps l.dead l.d 0 l.initial.scopes.items → Passing size T keeps l.dead l.d l.i l.scopes.items;
+  len : length l.scopes ≡ length l.initial.scopes;
+  passes : (size : ℕ) (T : Tree) (keeps : Scope → Bool) → Passing size T keeps l.dead l.d 0 l.initial.scopes → Passing size T keeps l.dead l.d l.i l.scopes;
 }

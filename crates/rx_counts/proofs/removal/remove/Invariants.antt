@@ -10,9 +10,9 @@ use Rattle.rx_counts.proofs.removal.remove.Given as goal
 
 abbrev pub invariant-loop-i : goal.invariant-loop-i
 invariant-loop-i l = record {
-  len : length l.scopes.items ≡ length l.initial.scopes.items;
-  below : (T : Tree) → IsShaped T l.initial.scopes.items → (u : ScopeId) → u.0 < l.i
-      → record_at l.scopes.items u.0 ≡ cond (meets l.s T.scopes (Some u)) None (record_at l.initial.scopes.items u.0);
-  above : (n : ℕ) → l.i ≤ n → record_at l.scopes.items n ≡ record_at l.initial.scopes.items n;
-  left : (T : Tree) → Takes T l.s l.orphans l.initial.scopes.items → l.left + taken_below l.s T.scopes l.i ≡ l.orphans + 1;
+  len : length l.scopes ≡ length l.initial.scopes;
+  below : (T : Tree) → IsShaped T l.initial.scopes → (u : ScopeId) → u.0 < l.i
+      → record_at l.scopes u.0 ≡ cond (meets l.s T.scopes (Some u)) None (record_at l.initial.scopes u.0);
+  above : (n : ℕ) → l.i ≤ n → record_at l.scopes n ≡ record_at l.initial.scopes n;
+  left : (T : Tree) → Takes T l.s l.orphans l.initial.scopes → l.left + taken_below l.s T.scopes l.i ≡ l.orphans + 1;
 }

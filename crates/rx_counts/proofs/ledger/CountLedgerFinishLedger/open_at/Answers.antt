@@ -1,4 +1,4 @@
-use Rattle.std.specs.Prelude.{◌≡◌, Some, IfSome, Err, not}
+use Rattle.std.specs.Prelude.{Some, Err, not}
 use Rattle.std.proofs.Common.{◌∙◌, sym, subst, refl, ap, arith}
 use Rattle.rx_base.specs.declared.ids.PlaceId.{PlaceId}
 use Rattle.rx_base.specs.declared.ids.ScopeId.{ScopeId}
@@ -10,7 +10,7 @@ use Rattle.rx_finish.specs.declared.ledger.LedgerFault.TheVariants.{NoMemory}
 use Rattle.rx_finish.specs.Callers.{IsMoving}
 use Rattle.rx_finish.specs.Calls.{CallReply}
 use Rattle.rx_finish.proofs.Allowed.{Free}
-use Rattle.rx_counts.specs.Stands.{StandsFor, record_at, more}
+use Rattle.rx_counts.specs.Stands.{StandsFor, more}
 use Rattle.rx_counts.proofs.Asking.{was_lost, caller, unstruck, call_refused, same_records, wide}
 use Rattle.rx_counts.proofs.Born.{finish_known}
 use Rattle.rx_counts.proofs.Spawning.{start}
@@ -39,7 +39,7 @@ pub returns : goal.returns
 returns c = λ room T s may.
     let none = sym c.blow_there.ensures ∙ c.in_default.is in
     let f : Free T c.args.who IsMoving = caller c.args.self.now T c.args.who IsMoving s may.asks none in
-    let fin = finish_known c.args.self.now T c.args.who IsMoving c.finish_of-finish.result s f (subst (λ rs. IfSome (record_at rs c.args.who.inner.0) (λ r. c.finish_of-finish.result ≡ r.finish)) c.deref.ensures.value c.finish_of-finish.ensures) in
+    let fin = finish_known c.args.self.now T c.args.who IsMoving c.finish_of-finish.result s f c.finish_of-finish.ensures in
     let place = c.travel-place.ensures ∙ ap (λ (p : PlaceId). start p c.args.to) c.place_of-from.ensures in
     let new = c.in-Ok.ensures in
     called_stands c.args.self.now _ T c.args.who c.args.to _ _ _ c.in-Ok.kept.sums _ s may none f refl refl

@@ -20,3 +20,4 @@ mod waiting;
 pub use asks::{Reply, Request};
 pub use keeper::Keeper;
 pub use rx_counts::CountLedger;
+pub use rx_finish::Totals;

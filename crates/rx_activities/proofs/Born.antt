@@ -66,12 +66,10 @@ use Rattle.rx_objects.specs.Ledger.{LedgerDoes, LedgerIsLegal}
 use Rattle.rx_objects.specs.Place.{shown, PlaceIsLegal, last_carried}
 use Rattle.rx_objects.proofs.Places.{carried_same, prefix_items}
 use Rattle.rx_activities.specs.declared.hand.Hand.{Hand}
-use Rattle.rx_activities.specs.declared.hand.Started.{Started}
-use Rattle.rx_activities.specs.declared.hand.Started.TheVariants.{Here, Away as Leaves}
 use Rattle.rx_activities.specs.declared.replies.Child.{Child}
 use Rattle.rx_activities.specs.Knowing.{IsOfRun, IsSeatAt, StandsSo, Knows, since}
-use Rattle.rx_activities.specs.Starting.{ComesSo, Comes, Begins as BeginsAs}
-use Rattle.rx_activities.specs.Inside.Births.{IsWith, HasMet, IsBorn, IsAtStart, TravelsWith, StaysWith, StartsWith}
+use Rattle.rx_activities.specs.Starting.{ComesSo, Comes}
+use Rattle.rx_activities.specs.Inside.Births.{IsWith, HasMet, IsBorn, StaysWith, Starts}
 use Rattle.rx_activities.specs.Inside.Sending.{WasSent, IsPrepared, SeatIsNew}
 use Rattle.rx_activities.proofs.BeganAt.{BeginsSo, knows_at}
 use Rattle.rx_runs.proofs.SomeWords.{some-child}
@@ -381,15 +379,11 @@ module _ (L : BookName LedgerFixed) (rest : Hand) (reply : Reply) (child_of : Op
     away ticket is apart serves =
         record {
           word = prepared.word ∙ k.pass.word;
-          at_start = subst (λ (t : AnyTicket). IsAtStart t ch.seat) (sym is) tt;
-          begins = λ met x h so. begins met x h (subst (λ (t : AnyTicket). StartsWith rest.place t ch.control.value met ch.seat x) is so);
+          begins = λ met h.
+              subst (λ (t : AnyTicket). Starts L rest.place t ch.control.value met ch.seat) (sym is)
+              (λ box same.
+              comes met h box same apart (λ few. served met h (λ T. MayAskArrive T (fresh_caller new scope (Travel from to))) (λ numbers. subst (λ (t : AnyTicket). MayStart (tree_of places now.entries) (Some t)) is (serves numbers)) few));
         }
-      where
-        begins : (met : Pass EntryItem) (x : Started) → HasMet ch.pass rest.pass met → TravelsWith (fresh_caller new scope (Travel from to)) ch.control.value met x → BeginsAs L x
-        begins met (Here hand) h so = absurd so
-        begins met (Leaves j) h so =
-            subst (Comes L) (λ i. record { control = j.control; ticket = sym so.1 i; pass = sym so.2 i })
-            (comes met h j.control so.0 apart (λ few. served met h (λ T. MayAskArrive T (fresh_caller new scope (Travel from to))) (λ numbers. subst (λ (t : AnyTicket). MayStart (tree_of places now.entries) (Some t)) is (serves numbers)) few))
 
     here : (ticket : AnyTicket) → ticket ≡ live → (from.0 == to.0) ≡ true → (HasNumbers (tree_of places now.entries) → MayStart (tree_of places now.entries) (Some ticket)) → IsBorn L rest.place rest.pass ticket ch
     here ticket is together serves = with_seat ch.seat refl (subst (λ (b : Bool). SeatIsNew b a.seat ch.seat) same prepared.seat_is)
@@ -397,22 +391,16 @@ module _ (L : BookName LedgerFixed) (rest : Hand) (reply : Reply) (child_of : Op
         same : (to.0 == a.place.0) ≡ true
         same = (let x : from.0 ≡ to.0 = eqb-true from.0 to.0 together in let y = ap (λ (p : PlaceId). p.0) from_is in eq-eqb to.0 a.place.0 (sym x ∙ y))
 
-        begins : (sp : Pass EventItem) → ch.seat ≡ Some sp → word_of sp ≡ word_of a.seat → view_of sp ≡ split_of (view_of a.seat) → (met : Pass EntryItem) (x : Started) → HasMet ch.pass rest.pass met
-            → StaysWith rest.place live ch.control.value met (Some sp) x → BeginsAs L x
-        begins sp is_seat word view met (Here hand) h so =
-            knows met h together sp is_seat word view
-            (λ few. served met h (λ T. MayAskMoving T (fresh_caller new scope (Stays to))) (λ numbers. subst (λ (t : AnyTicket). MayStart (tree_of places now.entries) (Some t)) is (serves numbers)) few) hand.value so
-        begins sp is_seat word view met (Leaves j) h so = absurd so
-
         with_seat : (o : Option (Pass EventItem)) → ch.seat ≡ o → SeatIsNew true a.seat o → IsBorn L rest.place rest.pass ticket ch
         with_seat None is_seat n = absurd n
         with_seat (Some sp) is_seat n =
             record {
               word = prepared.word ∙ k.pass.word;
-              at_start = subst (λ (t : AnyTicket). IsAtStart t ch.seat) (sym is) (subst (λ (o : Option (Pass EventItem)). IsAtStart live o) (sym is_seat) tt);
-              begins = λ met x h so.
-                  begins sp is_seat n.0 n.1 met x h
-                  (subst (λ (o : Option (Pass EventItem)). StaysWith rest.place live ch.control.value met o x) is_seat (subst (λ (t : AnyTicket). StartsWith rest.place t ch.control.value met ch.seat x) is so));
+              begins = λ met h.
+                  subst (λ (t : AnyTicket). Starts L rest.place t ch.control.value met ch.seat) (sym is)
+                  (subst (λ (o : Option (Pass EventItem)). StaysWith L rest.place (fresh_caller new scope (Stays to)) ch.control.value met o) (sym is_seat)
+                  (knows met h together sp is_seat n.0 n.1
+                  (λ few. served met h (λ T. MayAskMoving T (fresh_caller new scope (Stays to))) (λ numbers. subst (λ (t : AnyTicket). MayStart (tree_of places now.entries) (Some t)) is (serves numbers)) few)));
             }
 
     -- the task knows what it has to

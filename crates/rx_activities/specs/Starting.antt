@@ -1,5 +1,5 @@
--- What is known of a task that was started, and of one that is on its way.
-use Rattle.std.specs.Prelude.{◌≡◌, ◌+◌, ◌<◌, ◌≤◌, ◌^◌, [], length, Option, Some, None, slice_get}
+-- What is known of a task that is on its way, and of the main one before the first entry.
+use Rattle.std.specs.Prelude.{◌≡◌, ◌+◌, ◌<◌, ◌≤◌, ◌^◌, [], length, Some, slice_get}
 use Rattle.rx_rules.specs.Code.{Block}
 use Rattle.rx_rules.specs.Run.{Proper}
 use Rattle.rx_rules.specs.Terms.{Empty, items, no_vars}
@@ -24,9 +24,7 @@ use Rattle.rx_parts_book.specs.declared.items.EventItem.{EventItem}
 use Rattle.rx_parts_book.specs.Histories.{ledger_items}
 use Rattle.rx_objects.specs.declared.ledger.LedgerFixed.{LedgerFixed}
 use Rattle.rx_activities.specs.declared.hand.Journey.{Journey}
-use Rattle.rx_activities.specs.declared.hand.Started.{Started}
-use Rattle.rx_activities.specs.declared.hand.Started.TheVariants.{Here, Away as Leaves}
-use Rattle.rx_activities.specs.Knowing.{entries_seen, tree_seen, IsOfRun, Knows}
+use Rattle.rx_activities.specs.Knowing.{entries_seen, tree_seen, IsOfRun}
 
 -- by what was seen of the ledger the task is on its way to this place, and stands at its beginning
 pub record ComesSo (code : Block) (L : BookName LedgerFixed) (j : Journey) : Type 0 where
@@ -52,15 +50,6 @@ pub record Comes (L : BookName LedgerFixed) (j : Journey) : Type 0 where
   pub pass : IsOfRun L j.pass
   pub inside : (landing j.ticket.place).0 < (tree_seen L.fixed j.pass).places
   pub stands : (code : Block) → Stands L.fixed.program.script code → ComesSo code L j
-
--- what is known of a task that was started at its starter's place, or that leaves it
-abbrev pub Begins : BookName LedgerFixed → Started → Type 0
-Begins L (Here hand) = Knows L hand.value
-Begins L (Leaves journey) = Comes L journey
-
-abbrev pub BeginsIf : BookName LedgerFixed → Option Started → Type 0
-BeginsIf L None = Unit {0}
-BeginsIf L (Some s) = Begins L s
 
 -- the control, the ticket and the passes of the main activity before the first entry
 pub record IsOpening (L : BookName LedgerFixed) (control : Control) (ticket : Caller) (pass : Pass EntryItem) (seat : Pass EventItem)

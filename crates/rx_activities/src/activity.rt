@@ -1,22 +1,18 @@
 // Activities, as queues and mailboxes hold them: what is known of one is known by its type.
 ghost use Rattle.std.specs.Prelude.{◌≡◌, ◌<◌};
-ghost use Rattle.rx_finish.specs.Calls.{landing};
-ghost use Rattle.rx_check.specs.Checked.{Checked};
-ghost use Rattle.rx_plan.specs.declared.step.Next.{Next as Step};
-ghost use Rattle.rx_activities.specs.Knowing.{PlaceIs, IsNewSeat, IsOfRun, Knows};
-ghost use Rattle.rx_activities.specs.Starting.{IsOpening, Begins};
-ghost use Rattle.rx_activities.specs.Turning.{Leaves, LeavesHand};
-ghost use Rattle.rx_activities.specs.Inside.Stepping.{IsNext};
+ghost use Rattle.rx_activities.specs.Knowing.{PlaceIs, IsOfRun, Knows};
+ghost use Rattle.rx_activities.specs.Starting.{IsOpening, Comes};
 
-use crate::hand::{Answer, Hand, Journey, Outcome, Started};
+use crate::hand::{Hand, Journey, spend};
 use crate::naming::{LedgerPass, Naming};
+use crate::turn::make_turn;
 use rx_base::PlaceId;
 use rx_book::{Book, Pass};
 use rx_check::{Program, checked};
-use rx_control::{Control, Next};
+use rx_control::Control;
 use rx_objects::{LedgerObject, PlaceObject, Surroundings};
 use rx_parts_book::{EntryItem, EventItem};
-use rx_ticket::{InTransit, Live, Ticket};
+use rx_ticket::{AnyTicket, Live, Ticket};
 use std::alloc::Global;
 use std::marker::{Model, PhantomData};
 use std::sync::Wait;
@@ -35,7 +31,7 @@ pub struct Activity<N: Naming> {
 
 impl<N: Naming> Model for Activity<N> {
     ghost use Rattle.rx_base.specs.declared.ids.PlaceId.{PlaceId};
-    ghost use Rattle.rx_activities.specs.Turning.{place_kept, IsKept};
+    ghost use Rattle.rx_activities.specs.Kept.{place_kept, IsKept};
 
     ghost Value = { PlaceId };
 
@@ -47,7 +43,7 @@ impl<N: Naming> Model for Activity<N> {
 /// An activity on its way. Contracts see the place for which it is. It may be moved to another thread, and may be dropped.
 #[derive(Drop)]
 pub struct Traveller<N: Naming> {
-    journey: Journey,
+    pub(crate) journey: Journey,
     of: PhantomData<N>,
 }
 
@@ -187,63 +183,40 @@ impl<N: Naming> Activity<N> {
     }
 }
 
-// Makes a turn, of an activity that asked in vain when it knew of so many entries.
-fn make_turn<N: Naming, S: Surroundings, R: Wait>(
-    mut hand: Box<Hand>,
-    polled: Option<u32>,
-    rt: &R,
-    alloc: Global,
-    p: &Program,
-    ledger: &Book<LedgerObject>,
-    place_book: &Book<PlaceObject<S>>,
-) -> Turn<N>
-    requires ledger { ledger.now ≡ N.ledger }
-    requires program { ledger.now.fixed.program ≡ p.now }
-    requires place { PlaceIs ledger.now hand.value.place place_book.now }
-    requires known { Knows ledger.now hand.value }
-{
-    let seen = hand.look(ledger);
-    if polled == Some(seen) {
-        return Turn::Waits(activity_of(hand, polled, None));
-    }
-    let next = match hand.run_on(rt, alloc, p) {
-        Ok(next) => next,
-        Err(_) => return Turn::Failed(given_up(hand)),
-    };
-    match next {
-        Next::Cell(op) => {
-            let hand = Box::into_inner(hand);
-            turn_of_call(hand.call_store(rt, alloc, p, ledger, place_book, op))
-        }
-        other => {
-            let asked = hand.look(ledger);
-            let answer = hand.call_ledger(rt, alloc, p, ledger, place_book, other);
-            turn_of_request(hand, answer, seen, asked)
-        }
-    }
-}
-
-impl Hand {
-    // The number of entries of a beginning of the history, which its pass has seen afterwards.
-    fn look(&mut self, ledger: &Book<LedgerObject>) -> u32
-        requires { Knows ledger.now self.old }
-        ensures known { Knows ledger.now self.new }
-        ensures place { self.new.place ≡ self.old.place }
-        ensures next { (p : Checked) (next : Step) → IsNext p self.old next → IsNext p self.new next }
-    {
-        ledger.seen_len(&mut self.pass)
-    }
-}
-
-// What an activity leaves that is given up.
-fn given_up<N: Naming>(hand: Box<Hand>) -> LedgerPass<N>
+/// What an activity leaves that is given up.
+pub(crate) fn given_up<N: Naming>(hand: Box<Hand>) -> LedgerPass<N>
     requires { IsOfRun N.ledger hand.value.pass }
 {
     LedgerPass::of(Box::into_inner(hand).give_up())
 }
 
-// The activity of a hand.
-fn activity_of<N: Naming>(hand: Box<Hand>, polled: Option<u32>, asked: Option<u32>) -> Activity<N>
+/// What an activity leaves for which there was no memory: its ticket is spent, and its pass is kept.
+pub(crate) fn failed<N: Naming>(ticket: AnyTicket, pass: Pass<EntryItem>) -> LedgerPass<N>
+    requires { IsOfRun N.ledger pass }
+{
+    spend(ticket);
+    LedgerPass::of(pass)
+}
+
+/// The activity that holds this, in a block. Where there is no memory for the block it is given up.
+pub(crate) fn activity_with<N: Naming>(
+    hand: Hand,
+    alloc: Global,
+) -> Result<Activity<N>, LedgerPass<N>>
+    requires { Knows N.ledger hand }
+{
+    match hand.boxed(alloc) {
+        Ok(hand) => Ok(activity_of(hand, None, None)),
+        Err(pass) => Err(LedgerPass::of(pass)),
+    }
+}
+
+/// The activity of a hand.
+pub(crate) fn activity_of<N: Naming>(
+    hand: Box<Hand>,
+    polled: Option<u32>,
+    asked: Option<u32>,
+) -> Activity<N>
     requires { Knows N.ledger hand.value }
     ensures { result ≡ hand.value.place }
 {
@@ -255,83 +228,12 @@ fn activity_of<N: Naming>(hand: Box<Hand>, polled: Option<u32>, asked: Option<u3
     }
 }
 
-// What began, as it may be kept.
-fn began_of<N: Naming>(started: Started) -> Began<N>
-    requires { Begins N.ledger started }
+/// The traveller with this.
+pub(crate) fn traveller_of<N: Naming>(journey: Journey) -> Traveller<N>
+    requires { Comes N.ledger journey }
 {
-    match started {
-        Started::Here(hand) => Began::Here(activity_of(hand, None, None)),
-        Started::Away(journey) => Began::Away(Traveller {
-            journey,
-            of: PhantomData,
-        }),
-    }
-}
-
-// What a store call leaves, as it may be kept.
-fn turn_of_call<N: Naming>(outcome: Outcome) -> Turn<N>
-    requires { Leaves N.ledger outcome }
-{
-    match outcome {
-        Outcome::Goes { hand } => Turn::Goes {
-            activity: activity_of(hand, None, None),
-            began: None,
-        },
-        Outcome::Lost { pass } => Turn::Over(LedgerPass::of(pass)),
-        Outcome::Failed { pass } => Turn::Failed(LedgerPass::of(pass)),
-    }
-}
-
-// What a request leaves, as it may be kept. One that waits asks again once the history has more entries than these, of which it knew
-// before its request: what others append after the answer is then not missed.
-fn turn_of_request<N: Naming>(hand: Box<Hand>, answer: Answer, seen: u32, asked: u32) -> Turn<N>
-    requires { LeavesHand N.ledger hand.value answer }
-{
-    match answer {
-        Answer::Goes { started } => Turn::Goes {
-            activity: activity_of(hand, None, Some(asked)),
-            began: match started {
-                Some(started) => Some(began_of(started)),
-                None => None,
-            },
-        },
-        Answer::Waits => Turn::Waits(activity_of(hand, Some(seen), None)),
-        Answer::Over => Turn::Over(given_up(hand)),
-        Answer::Failed => Turn::Failed(given_up(hand)),
-    }
-}
-
-impl<N: Naming> Traveller<N> {
-    /// The place for which it is on its way.
-    pub fn target(&self) -> PlaceId
-        ensures { result ≡ self.now }
-    {
-        self.journey.target()
-    }
-
-    /// Its ticket.
-    pub fn ticket(&self) -> &Ticket<InTransit> {
-        &self.journey.ticket
-    }
-
-    /// Makes it arrive, with a new pass of its place's book.
-    pub fn land<R: Wait>(
-        self,
-        rt: &R,
-        alloc: Global,
-        p: &Program,
-        ledger: &Book<LedgerObject>,
-        seat: Pass<EventItem>,
-    ) -> Arrival<N>
-        requires ledger { ledger.now ≡ N.ledger }
-        requires program { ledger.now.fixed.program ≡ p.now }
-        requires seat { IsNewSeat N.ledger self seat }
-    {
-        let Traveller { journey, of: _ } = self;
-        match journey.land(rt, alloc, p, ledger, seat) {
-            Outcome::Goes { hand } => Arrival::Landed(activity_of(hand, None, None)),
-            Outcome::Lost { pass } => Arrival::Lost(LedgerPass::of(pass)),
-            Outcome::Failed { pass } => Arrival::Failed(LedgerPass::of(pass)),
-        }
+    Traveller {
+        journey,
+        of: PhantomData,
     }
 }

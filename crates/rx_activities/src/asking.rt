@@ -13,8 +13,9 @@ ghost use Rattle.rx_activities.specs.Inside.Stepping.{IsNext};
 ghost use Rattle.rx_activities.specs.Inside.Sending.{IsCall, SuitsStep, IsReady, target, ChildIs};
 ghost use Rattle.rx_activities.specs.Inside.Sending.{PassIsLeft, SeatIsLeft, NoteIs, MentionsAre, IsReplied};
 
-use crate::hand::{Answer, Hand};
-use crate::replies::Child;
+use crate::hand::Hand;
+use crate::naming::Naming;
+use crate::replies::{Answer, Child};
 use rx_base::{Batch, NoMemory, PlaceId};
 use rx_book::{Book, Note, Pass};
 use rx_check::{Program, checked};
@@ -179,7 +180,7 @@ pub(crate) fn ask<R: Wait>(
 
 impl Hand {
     /// Asks the ledger for what is next, and goes on by its answer.
-    pub(crate) fn call_ledger<S: Surroundings, R: Wait>(
+    pub(crate) fn call_ledger<N: Naming, S: Surroundings, R: Wait>(
         &mut self,
         rt: &R,
         alloc: Global,
@@ -187,7 +188,8 @@ impl Hand {
         ledger: &Book<LedgerObject>,
         place_book: &Book<PlaceObject<S>>,
         next: Next,
-    ) -> Answer
+    ) -> Answer<N>
+        requires ledger { ledger.now ≡ N.ledger }
         requires program { ledger.now.fixed.program ≡ p.now }
         requires place { PlaceIs ledger.now self.old.place place_book.now }
         requires known { Knows ledger.now self.old }

@@ -1,10 +1,6 @@
-// What an activity holds, and what a turn leaves.
+// What an activity holds.
 ghost use Rattle.std.specs.Prelude.{◌≡◌, [], IfErr, IfOk};
-ghost use Rattle.rx_book.specs.Named.{BookName};
-ghost use Rattle.rx_objects.specs.declared.ledger.LedgerFixed.{LedgerFixed};
 ghost use Rattle.rx_ticket.specs.declared.tickets.AnyTicket.TheVariants.{Running};
-ghost use Rattle.rx_activities.specs.Knowing.{Knows};
-ghost use Rattle.rx_activities.specs.Turning.{Leaves};
 ghost use Rattle.rx_activities.specs.Inside.Births.{IsWith};
 
 use rx_base::{Batch, PlaceId};
@@ -40,34 +36,6 @@ pub struct Journey {
     pub pass: Pass<EntryItem>,
 }
 
-/// A task that was started, at its starter's place or for another.
-pub enum Started {
-    Here(Box<Hand>),
-    Away(Journey),
-}
-
-/// What a request to the ledger leaves, beside the hand.
-pub enum Answer {
-    /// The activity goes on, and may have started another.
-    Goes { started: Option<Started> },
-    /// Its scope may not be released yet.
-    Waits,
-    /// It has ended, or was lost with its place.
-    Over,
-    /// There was no memory.
-    Failed,
-}
-
-/// What a store call leaves, or an arrival.
-pub enum Outcome {
-    /// The activity goes on.
-    Goes { hand: Box<Hand> },
-    /// It was lost with its place.
-    Lost { pass: Pass<EntryItem> },
-    /// There was no memory. Its ticket is spent.
-    Failed { pass: Pass<EntryItem> },
-}
-
 /// Spends a ticket of which nothing more is asked.
 pub(crate) fn spend(ticket: AnyTicket) {
     match ticket {
@@ -79,14 +47,6 @@ pub(crate) fn spend(ticket: AnyTicket) {
         }
         AnyTicket::Host => {}
     }
-}
-
-/// What a store call leaves for which there was no memory: the ticket is spent, and the pass is kept.
-pub(crate) fn failed(ticket: AnyTicket, pass: Pass<EntryItem>) -> Outcome
-    ensures { result ≡ Outcome.Failed pass }
-{
-    spend(ticket);
-    Outcome::Failed { pass }
 }
 
 impl Hand {
@@ -122,16 +82,6 @@ impl Hand {
         match Box::new(alloc, self) {
             Ok(hand) => Ok(hand),
             Err(AllocFailed { value }) => Err(value.give_up()),
-        }
-    }
-
-    /// What a store call leaves, or an arrival, by which the activity goes on where there is memory for its block.
-    pub(crate) fn goes(self, alloc: Global) -> Outcome
-        ensures { (L : BookName LedgerFixed) → Knows L self → Leaves L result }
-    {
-        match self.boxed(alloc) {
-            Ok(hand) => Outcome::Goes { hand },
-            Err(pass) => Outcome::Failed { pass },
         }
     }
 

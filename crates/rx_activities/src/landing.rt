@@ -1,12 +1,12 @@
 // The arrival of a task that travels.
-ghost use Rattle.std.specs.Prelude.{◌≡◌, None};
+ghost use Rattle.std.specs.Prelude.{◌≡◌};
 ghost use Rattle.rx_finish.specs.Calls.{landing};
 ghost use Rattle.rx_activities.specs.Knowing.{IsNewSeat};
-ghost use Rattle.rx_activities.specs.Starting.{Comes};
-ghost use Rattle.rx_activities.specs.Turning.{Leaves};
 
+use crate::activity::{Arrival, Traveller, activity_with, failed};
 use crate::asking::ask;
-use crate::hand::{Hand, Journey, Outcome, failed};
+use crate::hand::{Hand, Journey};
+use crate::naming::{LedgerPass, Naming};
 use rx_base::{Batch, PlaceId};
 use rx_book::{Book, Pass};
 use rx_check::Program;
@@ -16,7 +16,7 @@ use rx_ledger::{Reply, Request};
 use rx_objects::{LedgerObject, LedgerOp, Mentions};
 use rx_parts_book::{EntryItem, EventItem};
 use rx_rules::Where;
-use rx_ticket::AnyTicket;
+use rx_ticket::{AnyTicket, InTransit, Ticket};
 use std::alloc::Global;
 use std::snapshot::Snapshot;
 use std::sync::Wait;
@@ -31,34 +31,39 @@ fn target(place: Where) -> PlaceId
     }
 }
 
-impl Journey {
-    /// The place for which the task is on its way.
-    pub(crate) fn target(&self) -> PlaceId
-        ensures { result ≡ landing self.now.ticket.place }
+impl<N: Naming> Traveller<N> {
+    /// The place for which it is on its way.
+    pub fn target(&self) -> PlaceId
+        ensures { result ≡ self.now }
     {
-        target(self.ticket.caller().place)
+        target(self.journey.ticket.caller().place)
     }
 
-    /// Asks the ledger for the arrival, by which the task is live with a pass of its place's book that has made no entry.
-    pub(crate) fn land<R: Wait>(
+    /// Its ticket.
+    pub fn ticket(&self) -> &Ticket<InTransit> {
+        &self.journey.ticket
+    }
+
+    /// Makes it arrive, with a new pass of its place's book: it asks the ledger, by which the task is live.
+    pub fn land<R: Wait>(
         self,
         rt: &R,
         alloc: Global,
         p: &Program,
         ledger: &Book<LedgerObject>,
         seat: Pass<EventItem>,
-    ) -> Outcome
+    ) -> Arrival<N>
+        requires ledger { ledger.now ≡ N.ledger }
         requires program { ledger.now.fixed.program ≡ p.now }
-        requires comes { Comes ledger.now self }
-        requires seat { IsNewSeat ledger.now (landing self.ticket.place) seat }
-        ensures { Leaves ledger.now result }
+        requires seat { IsNewSeat N.ledger self seat }
     {
         let place = self.target();
+        let Traveller { journey, .. } = self;
         let Journey {
             control,
             ticket,
             mut pass,
-        } = self;
+        } = journey;
         let mentions = Mentions {
             before: Snapshot::of(&seat),
             now: Snapshot::of(&seat),
@@ -78,10 +83,14 @@ impl Journey {
         };
         match ask(rt, p, ledger, &mut pass, op) {
             Reply::Landed { ticket } => {
-                Hand::fresh(alloc, control, ticket, place, pass, seat).goes(alloc)
+                let hand = Hand::fresh(alloc, control, ticket, place, pass, seat);
+                match activity_with(hand, alloc) {
+                    Ok(activity) => Arrival::Landed(activity),
+                    Err(pass) => Arrival::Failed(pass),
+                }
             }
-            Reply::Lost { place: _, at: _ } => Outcome::Lost { pass },
-            Reply::NoMemory { request } => failed(request.into_ticket(), pass),
+            Reply::Lost { place: _, at: _ } => Arrival::Lost(LedgerPass::of(pass)),
+            Reply::NoMemory { request } => Arrival::Failed(failed(request.into_ticket(), pass)),
             _ => unreachable!(),
         }
     }

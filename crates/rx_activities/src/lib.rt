@@ -12,6 +12,7 @@ mod naming;
 mod replies;
 mod steps;
 mod store;
+mod turn;
 
 pub use activity::{Activity, Arrival, Began, Traveller, Turn};
 pub use naming::{LedgerPass, Naming};

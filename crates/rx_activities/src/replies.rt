@@ -1,12 +1,13 @@
 // How an activity goes on by the ledger's answer.
-ghost use Rattle.std.specs.Prelude.{◌≡◌, None, Some, IfOk};
+ghost use Rattle.std.specs.Prelude.{◌≡◌};
 ghost use Rattle.rx_book.specs.Passes.{view_of, word_of};
-ghost use Rattle.rx_activities.specs.Starting.{BeginsIf};
 ghost use Rattle.rx_activities.specs.Turning.{LeavesHand};
 ghost use Rattle.rx_activities.specs.Inside.Sending.{WasSent, WasGranted, WasCounted};
-ghost use Rattle.rx_activities.specs.Inside.Births.{IsStarted, IsAtStart, StartsWith, IsWith};
+ghost use Rattle.rx_activities.specs.Inside.Births.{IsStarted, Starts, IsWith};
 
-use crate::hand::{Answer, Hand, Journey, Started, spend};
+use crate::activity::{Began, activity_with, traveller_of};
+use crate::hand::{Hand, Journey, spend};
+use crate::naming::Naming;
 use rx_base::{Batch, Faults, NoMemory, PlaceId};
 use rx_book::{Book, Pass};
 use rx_check::{Program, checked};
@@ -17,6 +18,18 @@ use rx_parts_book::{EntryItem, EventItem};
 use rx_ticket::AnyTicket;
 use std::alloc::Global;
 use std::snapshot::Snapshot;
+
+/// What a request to the ledger leaves, beside the hand.
+pub enum Answer<N: Naming> {
+    /// The activity goes on, and may have started another.
+    Goes { began: Option<Began<N>> },
+    /// Its scope may not be released yet.
+    Waits,
+    /// It has ended, or was lost with its place.
+    Over,
+    /// There was no memory.
+    Failed,
+}
 
 /// What a task holds that is to be started: its pass of the place's book, where it begins at its starter's place.
 #[derive(Drop)]
@@ -46,7 +59,7 @@ impl Hand {
     }
 
     // Goes on behind a granted request, which raises these faults, with the ticket of the task that it started.
-    fn go_on(
+    fn go_on<N: Naming>(
         &mut self,
         alloc: Global,
         p: &Program,
@@ -55,7 +68,8 @@ impl Hand {
         faults: Faults,
         started: Option<AnyTicket>,
         child: Option<Child>,
-    ) -> Answer
+    ) -> Answer<N>
+        requires ledger { ledger.now ≡ N.ledger }
         requires program { ledger.now.fixed.program ≡ p.now }
         requires granted { WasGranted p.now.script ledger.now self.old ticket faults started child }
         ensures { LeavesHand ledger.now self.new result }
@@ -65,23 +79,23 @@ impl Hand {
             spend_if(started);
             return Answer::Failed;
         }
-        let Ok(started) = start(alloc, ledger, self.place, &mut self.pass, started, child) else {
+        let Ok(began) = start(alloc, ledger, self.place, &mut self.pass, started, child) else {
             spend(ticket);
             return Answer::Failed;
         };
         self.keep(ticket, Batch::open(alloc));
-        Answer::Goes { started }
+        Answer::Goes { began }
     }
 
     // Goes on behind a census.
-    fn count(
+    fn count<N: Naming>(
         &mut self,
         alloc: Global,
         p: &Program,
         ledger: &Book<LedgerObject>,
         ticket: AnyTicket,
         places: u8,
-    ) -> Answer
+    ) -> Answer<N>
         requires program { ledger.now.fixed.program ≡ p.now }
         requires counted { WasCounted p.now.script ledger.now self.old ticket places }
         ensures { LeavesHand ledger.now self.new result }
@@ -92,18 +106,19 @@ impl Hand {
             return Answer::Failed;
         }
         self.keep(ticket, Batch::open(alloc));
-        Answer::Goes { started: None }
+        Answer::Goes { began: None }
     }
 
     /// Goes on by the ledger's answer.
-    pub(crate) fn take(
+    pub(crate) fn take<N: Naming>(
         &mut self,
         alloc: Global,
         p: &Program,
         ledger: &Book<LedgerObject>,
         reply: Reply,
         child: Option<Child>,
-    ) -> Answer
+    ) -> Answer<N>
+        requires ledger { ledger.now ≡ N.ledger }
         requires program { ledger.now.fixed.program ≡ p.now }
         requires sent { WasSent p.now.script ledger.now self.old reply child }
         ensures { LeavesHand ledger.now self.new result }
@@ -198,18 +213,18 @@ impl Hand {
 }
 
 // The task that was started, where it is not born struck. Its pass of the ledger's book sees what its starter's has seen.
-fn start(
+fn start<N: Naming>(
     alloc: Global,
     ledger: &Book<LedgerObject>,
     place: PlaceId,
     pass: &mut Pass<EntryItem>,
     ticket: Option<AnyTicket>,
     child: Option<Child>,
-) -> Result<Option<Started>, NoMemory>
+) -> Result<Option<Began<N>>, NoMemory>
+    requires ledger { ledger.now ≡ N.ledger }
     requires pass { word_of pass.old ≡ ledger.now.word }
     requires child { IsStarted ledger.now place pass.old ticket child }
-    ensures same { (word_of pass.new ≡ word_of pass.old) × (view_of pass.new ≡ view_of pass.old) }
-    ensures begins { IfOk result (BeginsIf ledger.now) }
+    ensures { (word_of pass.new ≡ word_of pass.old) × (view_of pass.new ≡ view_of pass.old) }
 {
     match (ticket, child) {
         (None, _) => Ok(None),
@@ -223,33 +238,37 @@ fn start(
                 unreachable!()
             };
             ledger.meet(&mut own, note);
-            Ok(Some(begin(alloc, place, ticket, control, own, seat)?))
+            let began = begin(alloc, place, ticket, control, own, seat)?;
+            Ok(Some(began))
         }
         (Some(_), None) => unreachable!(),
     }
 }
 
 // The task at its beginning.
-fn begin(
+fn begin<N: Naming>(
     alloc: Global,
     place: PlaceId,
     ticket: AnyTicket,
     control: Box<Control>,
     pass: Pass<EntryItem>,
     seat: Option<Pass<EventItem>>,
-) -> Result<Started, NoMemory>
-    requires { IsAtStart ticket seat }
-    ensures { IfOk result (StartsWith place ticket control.value pass seat) }
+) -> Result<Began<N>, NoMemory>
+    requires { Starts N.ledger place ticket control.value pass seat }
 {
     match (ticket, seat) {
-        (AnyTicket::Moving(ticket), _) => Ok(Started::Away(Journey {
-            control,
-            ticket,
-            pass,
-        })),
+        (AnyTicket::Moving(ticket), _) => {
+            let journey = Journey {
+                control,
+                ticket,
+                pass,
+            };
+            Ok(Began::Away(traveller_of(journey)))
+        }
         (AnyTicket::Running(ticket), Some(seat)) => {
-            match Hand::fresh(alloc, control, ticket, place, pass, seat).boxed(alloc) {
-                Ok(hand) => Ok(Started::Here(hand)),
+            let hand = Hand::fresh(alloc, control, ticket, place, pass, seat);
+            match activity_with(hand, alloc) {
+                Ok(activity) => Ok(Began::Here(activity)),
                 Err(_) => Err(NoMemory),
             }
         }

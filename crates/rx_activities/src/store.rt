@@ -9,11 +9,12 @@ ghost use Rattle.rx_book.specs.Calls.{Looked};
 ghost use Rattle.rx_finish.specs.declared.ledger.Caller.{Caller as Asker};
 ghost use Rattle.rx_ledger.specs.Answering.{asker};
 ghost use Rattle.rx_activities.specs.Knowing.{Knows, PlaceIs};
-ghost use Rattle.rx_activities.specs.Turning.{Leaves};
 ghost use Rattle.rx_activities.specs.Inside.Stepping.{IsNext};
 ghost use Rattle.rx_activities.specs.Inside.Answered.{PartsAre};
 
-use crate::hand::{Hand, Outcome, failed};
+use crate::activity::{Turn, activity_with, failed};
+use crate::hand::Hand;
+use crate::naming::{LedgerPass, Naming};
 use rx_base::{Batch, Fault, NoMemory, Path, PlaceId, Value};
 use rx_book::{Book, Pass};
 use rx_check::{Program, checked};
@@ -90,7 +91,7 @@ fn parts_of(reply: PlaceReply) -> (Pass<EntryItem>, Option<Result<Option<Value>,
 
 impl Hand {
     /// Makes the store call that is next. An activity whose place has died makes none, and is lost.
-    pub(crate) fn call_store<S: Surroundings, R: Wait>(
+    pub(crate) fn call_store<N: Naming, S: Surroundings, R: Wait>(
         self,
         rt: &R,
         alloc: Global,
@@ -98,12 +99,12 @@ impl Hand {
         ledger: &Book<LedgerObject>,
         place_book: &Book<PlaceObject<S>>,
         op: CellOp,
-    ) -> Outcome
+    ) -> Turn<N>
+        requires ledger { ledger.now ≡ N.ledger }
         requires program { ledger.now.fixed.program ≡ p.now }
         requires place { PlaceIs ledger.now self.place place_book.now }
         requires known { Knows ledger.now self }
         requires next { IsNext p.now self (Step.Cell op) }
-        ensures { Leaves ledger.now result }
     {
         checked(p);
         rx_runs::terms_sink();
@@ -120,10 +121,10 @@ impl Hand {
         } = self;
         let Some(stamp) = stamp_for(ledger, &mut pass, place) else {
             ticket.lost(place, 0);
-            return Outcome::Lost { pass };
+            return Turn::Over(LedgerPass::of(pass));
         };
         let Ok(path) = begin_call(alloc, p, control.as_ref(), &mut batch) else {
-            return failed(ticket, pass);
+            return Turn::Failed(failed(ticket, pass));
         };
         let mark = Mark {
             task: caller_of(&ticket).task,
@@ -133,10 +134,10 @@ impl Hand {
         let reply = place_book.call(rt, &mut seat, PlaceOp { mark, op, pass });
         let (pass, answer) = parts_of(reply);
         let Some(answer) = answer else {
-            return failed(ticket, pass);
+            return Turn::Failed(failed(ticket, pass));
         };
         if control.as_mut().cell_done(alloc, p, answer).is_err() {
-            return failed(ticket, pass);
+            return Turn::Failed(failed(ticket, pass));
         }
         let hand = Hand {
             control,
@@ -148,6 +149,12 @@ impl Hand {
             seat,
             told,
         };
-        hand.goes(alloc)
+        match activity_with(hand, alloc) {
+            Ok(activity) => Turn::Goes {
+                activity,
+                began: None,
+            },
+            Err(pass) => Turn::Failed(pass),
+        }
     }
 }

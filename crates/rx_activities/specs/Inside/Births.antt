@@ -1,5 +1,6 @@
 -- What a task that was started has at its beginning.
 use Rattle.std.specs.Prelude.{◌≡◌, ℕ, false, List, [], Option, Some, None}
+use Rattle.std.specs.Global.{Box}
 use Rattle.rx_base.specs.declared.ids.PlaceId.{PlaceId}
 use Rattle.rx_control.specs.declared.control.Control.{Control}
 use Rattle.rx_finish.specs.declared.ledger.Caller.{Caller}
@@ -16,10 +17,9 @@ use Rattle.rx_parts_book.specs.declared.items.EventItem.{EventItem}
 use Rattle.rx_objects.specs.declared.ledger.LedgerFixed.{LedgerFixed}
 use Rattle.rx_objects.specs.Place.{shown}
 use Rattle.rx_activities.specs.declared.hand.Hand.{Hand}
-use Rattle.rx_activities.specs.declared.hand.Started.{Started}
-use Rattle.rx_activities.specs.declared.hand.Started.TheVariants.{Here, Away}
 use Rattle.rx_activities.specs.declared.replies.Child.{Child}
-use Rattle.rx_activities.specs.Starting.{Begins}
+use Rattle.rx_activities.specs.Knowing.{Knows}
+use Rattle.rx_activities.specs.Starting.{Comes}
 
 -- the activity has these, and its entries name all its events
 pub record IsWith (c : Control) (place : PlaceId) (pass : Pass EntryItem) (seat : Pass EventItem) (ticket : AnyTicket)
@@ -34,29 +34,17 @@ pub record IsWith (c : Control) (place : PlaceId) (pass : Pass EntryItem) (seat 
   pub told : hand.told.value ≡ seat
   pub unmade : hand.made ≡ false
 
--- a task at its starter's place has a pass of the place's book
-abbrev pub IsAtStart : AnyTicket → Option (Pass EventItem) → Type 0
-IsAtStart (Moving who) seat = Unit {0}
-IsAtStart (Running who) None = ⊥
-IsAtStart (Running who) (Some seat) = Unit {0}
-IsAtStart (Held who) seat = ⊥
-IsAtStart Host seat = ⊥
+-- a task that starts at its starter's place has a pass of the place's book, and knows what it has to
+abbrev pub StaysWith : BookName LedgerFixed → PlaceId → Caller → Control → Pass EntryItem → Option (Pass EventItem) → Type 0
+StaysWith L place who c pass None = ⊥
+StaysWith L place who c pass (Some seat) = (hand : Hand) → IsWith c place pass seat (Running who) [] hand → Knows L hand
 
--- the task as it starts: on its way, or at its starter's place
-abbrev pub TravelsWith : Caller → Control → Pass EntryItem → Started → Type 0
-TravelsWith who c pass (Here hand) = ⊥
-TravelsWith who c pass (Away j) = (j.control.value ≡ c) × (j.ticket ≡ who) × (j.pass ≡ pass)
-
-abbrev pub StaysWith : PlaceId → AnyTicket → Control → Pass EntryItem → Option (Pass EventItem) → Started → Type 0
-StaysWith place ticket c pass None s = ⊥
-StaysWith place ticket c pass (Some seat) (Here hand) = IsWith c place pass seat ticket [] hand.value
-StaysWith place ticket c pass (Some seat) (Away j) = ⊥
-
-abbrev pub StartsWith : PlaceId → AnyTicket → Control → Pass EntryItem → Option (Pass EventItem) → Started → Type 0
-StartsWith place (Moving who) c pass seat s = TravelsWith who c pass s
-StartsWith place (Running who) c pass seat s = StaysWith place (Running who) c pass seat s
-StartsWith place (Held who) c pass seat s = ⊥
-StartsWith place Host c pass seat s = ⊥
+-- the same of any task that starts with these, at its starter's place or on its way
+abbrev pub Starts : BookName LedgerFixed → PlaceId → AnyTicket → Control → Pass EntryItem → Option (Pass EventItem) → Type 0
+Starts L place (Moving who) c pass seat = (control : Box Control) → control.value ≡ c → Comes L (record { control = control; ticket = who; pass = pass })
+Starts L place (Running who) c pass seat = StaysWith L place who c pass seat
+Starts L place (Held who) c pass seat = ⊥
+Starts L place Host c pass seat = ⊥
 
 -- the child's pass has met a note of its starter's pass
 pub record HasMet (own pass met : Pass EntryItem) : Type 0 where
@@ -69,9 +57,7 @@ pub record HasMet (own pass met : Pass EntryItem) : Type 0 where
 pub record IsBorn (L : BookName LedgerFixed) (place : PlaceId) (pass : Pass EntryItem) (ticket : AnyTicket) (child : Child)
     : Type 0 where
   pub word : word_of child.pass ≡ L.word
-  pub at_start : IsAtStart ticket child.seat
-  pub begins : (met : Pass EntryItem) (s : Started) → HasMet child.pass pass met
-      → StartsWith place ticket child.control.value met child.seat s → Begins L s
+  pub begins : (met : Pass EntryItem) → HasMet child.pass pass met → Starts L place ticket child.control.value met child.seat
 
 abbrev pub IsStarted : BookName LedgerFixed → PlaceId → Pass EntryItem → Option AnyTicket → Option Child → Type 0
 IsStarted L place pass None child = Unit {0}

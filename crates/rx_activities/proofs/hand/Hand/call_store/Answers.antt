@@ -2,16 +2,18 @@ use Rattle.std.proofs.Common.{◌≡◌, Some, ap, sym, ◌∙◌, subst, ◌++�
 use Rattle.rx_rules.specs.Terms.{Term, begins, answered, answer_of, receives, vars_after}
 use Rattle.rx_control.specs.declared.control.Control.{Control}
 use Rattle.rx_control.specs.Stands.{StandsFor}
+use Rattle.rx_book.specs.Named.{BookName}
 use Rattle.rx_book.specs.Passes.{view_of}
 use Rattle.rx_book.specs.History.{items_of}
 use Rattle.rx_book.specs.declared.passes.Pass.{Pass}
 use Rattle.rx_parts_book.specs.declared.items.EntryItem.{EntryItem}
+use Rattle.rx_objects.specs.declared.ledger.LedgerFixed.{LedgerFixed}
 use Rattle.rx_objects.specs.declared.place.PlaceFixed.{PlaceFixed}
 use Rattle.rx_objects.specs.declared.place.PlaceOp.{PlaceOp}
 use Rattle.rx_objects.specs.declared.place.PlaceReply.TheVariants.{Cell as Answered}
 use Rattle.rx_objects.specs.Laws.{AsksPlace}
-use Rattle.rx_activities.specs.declared.hand.Outcome.{Outcome}
-use Rattle.rx_activities.specs.Turning.{Leaves}
+use Rattle.rx_activities.specs.Knowing.{IsOfRun}
+use Rattle.rx_activities.proofs.Kept.{of_named}
 use Rattle.rx_activities.proofs.Calling.{fixed_at, fixed_is, op_of, asked_by, looked_knows, asks_place, of_program, of_run, next_in_run, place_small, call_asked, call_path}
 use Rattle.rx_activities.proofs.Stored.{stored_knows, answered_parts, came_back, back_of_run, ok_so, called_so}
 use Rattle.rx_activities.proofs.hand.Hand.call_store.Goals as goal
@@ -49,8 +51,8 @@ cell_done-requires g c =
     let t = call_asked c.args.p.now c.args.ledger.now c.args.self c.requires.known c.requires.program c.args.op c.requires.next c.terms_sink.ensures b.0 b.1 in
     (t.0, subst (λ (x : Control). StandsFor c.args.p.now.script x t.0) (sym c.as_mut.ensures.value) t.2)
 
-pub returns-then-is_err : goal.returns-then-is_err
-returns-then-is_err g c =
+pub failed-requires-then-is_err : goal.failed-requires-then-is_err
+failed-requires-then-is_err g c =
     let L = c.args.ledger.now in
     let a = c.args.self in
     let q = c.stamp_for.new.pass in
@@ -58,12 +60,12 @@ returns-then-is_err g c =
     let called = c.call-reply.ensures.called in
     let known = looked_knows L a q c.requires.known c.in-Some.ensures.own c.in-Some.ensures.looked in
     let op : PlaceOp = op_of c.caller_of.result.task c.in-Some.stamp c.in-Ok.path c.args.op q in
-    subst (λ (o : Outcome). Leaves L o) (sym c.failed-then-is_err.ensures)
+    subst (λ (M : BookName LedgerFixed). IsOfRun M c.parts_of-pass.result.0) c.requires.ledger
     (back_of_run L place.fixed q c.parts_of-pass.result.0 c.requires.place.ledger
     (came_back place.fixed (items_of ((view_of a.seat).seen ++ called.between)) op c.call-reply.result called.added c.parts_of-pass.result.0 c.parts_of-pass.result.1 called.replied c.parts_of-pass.ensures) known.pass)
 
-pub returns : goal.returns
-returns g c =
+pub activity_with-requires : goal.activity_with-requires
+activity_with-requires g c =
     let L = c.args.ledger.now in
     let p = c.args.p.now in
     let a = c.args.self in
@@ -82,7 +84,7 @@ returns g c =
     let ok = subst (λ (x : Control). (u : Term) (y : List ℕ) → StandsFor p.script x u → begins u ≡ Some y → StandsFor p.script c.cell_done.new.self (answered (answer_of (receives u) c.in-Some-answer.answer) u) × (c.cell_done.new.self.vars ≡ vars_after (answer_of (receives u) c.in-Some-answer.answer) x.vars)) c.as_mut.ensures.value
     (ok_so c.cell_done.result (sym c.is_err.ensures.value ∙ c.if-is_err.false) c.cell_done.ensures.ok) in
     let begun = paths t.0 t.1 t.2 t.3 in
-    c.goes.ensures L
+    of_named L _ _ c.requires.ledger
     (stored_knows L a k q c.in-Some.ensures.own c.in-Some.ensures.looked place.fixed.words c.in-Some.stamp c.in-Ok.path c.args.op c.in-Some.ensures.above _ c.in-Some-answer.answer came c.call-reply.new.pass called c.terms_sink.ensures
     (record a.control { value = c.cell_done.new.self }) c.begin_call.new.batch c.call-reply.ensures.own (next_in_run p L a k c.requires.program c.args.op c.requires.next) path
     (λ u y s e. (let r = ok u y (of_program p L a k c.requires.program c.args.op c.requires.next a.control.value u s) e in (of_run p L a k c.requires.program c.args.op c.requires.next c.cell_done.new.self _ r.0, r.1)))

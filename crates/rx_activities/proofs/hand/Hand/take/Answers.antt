@@ -13,7 +13,7 @@ use Rattle.rx_activities.proofs.SentNever.{never_lands}
 use Rattle.rx_activities.proofs.hand.Hand.take.Goals as goal
 
 pub go_on-requires-clause-granted : goal.go_on-requires-clause-granted
-go_on-requires-clause-granted c =
+go_on-requires-clause-granted g c =
     let shape = c.args.p.now.script in
     let L = c.args.ledger.now in
     let program : c.args.ledger.now.fixed.program.script ≡ c.args.p.now.script = ap (λ (p : Checked). p.script) c.requires.program in
@@ -23,7 +23,7 @@ go_on-requires-clause-granted c =
     (opened_granted shape L c.args.self.now c.args.child program c.in-Opened.ticket c.in-Opened.scope w b.0 (subst (λ (x : Shape). Stands x b.0) (sym program) b.1))
 
 pub go_on-requires-in-Called-clause-granted : goal.go_on-requires-in-Called-clause-granted
-go_on-requires-in-Called-clause-granted c =
+go_on-requires-in-Called-clause-granted g c =
     let shape = c.args.p.now.script in
     let L = c.args.ledger.now in
     let program : c.args.ledger.now.fixed.program.script ≡ c.args.p.now.script = ap (λ (p : Checked). p.script) c.requires.program in
@@ -34,7 +34,7 @@ go_on-requires-in-Called-clause-granted c =
     (called_starts shape L c.args.self.now c.in-Called.ticket c.in-Called.callee c.args.child b.0 program b.1 w))
 
 pub go_on-requires-in-Spawned-clause-granted : goal.go_on-requires-in-Spawned-clause-granted
-go_on-requires-in-Spawned-clause-granted c =
+go_on-requires-in-Spawned-clause-granted g c =
     let shape = c.args.p.now.script in
     let L = c.args.ledger.now in
     let program : c.args.ledger.now.fixed.program.script ≡ c.args.p.now.script = ap (λ (p : Checked). p.script) c.requires.program in
@@ -45,7 +45,7 @@ go_on-requires-in-Spawned-clause-granted c =
     (spawned_starts shape L c.args.self.now c.in-Spawned.ticket c.in-Spawned.started c.args.child b.0 program b.1 w))
 
 pub go_on-requires-in-Waits-clause-granted : goal.go_on-requires-in-Waits-clause-granted
-go_on-requires-in-Waits-clause-granted c =
+go_on-requires-in-Waits-clause-granted g c =
     let shape = c.args.p.now.script in
     let L = c.args.ledger.now in
     let program : c.args.ledger.now.fixed.program.script ≡ c.args.p.now.script = ap (λ (p : Checked). p.script) c.requires.program in
@@ -55,7 +55,7 @@ go_on-requires-in-Waits-clause-granted c =
     (waited_granted shape L c.args.self.now c.args.child program c.in-Waits.ticket w b.0 (subst (λ (x : Shape). Stands x b.0) (sym program) b.1))
 
 pub go_on-requires-in-Printed-clause-granted : goal.go_on-requires-in-Printed-clause-granted
-go_on-requires-in-Printed-clause-granted c =
+go_on-requires-in-Printed-clause-granted g c =
     let shape = c.args.p.now.script in
     let L = c.args.ledger.now in
     let program : c.args.ledger.now.fixed.program.script ≡ c.args.p.now.script = ap (λ (p : Checked). p.script) c.requires.program in
@@ -65,7 +65,7 @@ go_on-requires-in-Printed-clause-granted c =
     (printed_granted shape L c.args.self.now c.args.child program c.in-Printed.ticket w b.0 (subst (λ (x : Shape). Stands x b.0) (sym program) b.1))
 
 pub go_on-requires-in-Ok-clause-granted : goal.go_on-requires-in-Ok-clause-granted
-go_on-requires-in-Ok-clause-granted c =
+go_on-requires-in-Ok-clause-granted g c =
     let shape = c.args.p.now.script in
     let L = c.args.ledger.now in
     let program : c.args.ledger.now.fixed.program.script ≡ c.args.p.now.script = ap (λ (p : Checked). p.script) c.requires.program in
@@ -75,7 +75,7 @@ go_on-requires-in-Ok-clause-granted c =
     (released_granted shape L c.args.self.now c.args.child program c.in-Released.ticket c.in-Released.outcome w b.0 (subst (λ (x : Shape). Stands x b.0) (sym program) b.1))
 
 pub count-requires-clause-counted : goal.count-requires-clause-counted
-count-requires-clause-counted c =
+count-requires-clause-counted g c =
     let shape = c.args.p.now.script in
     let L = c.args.ledger.now in
     let program : c.args.ledger.now.fixed.program.script ≡ c.args.p.now.script = ap (λ (p : Checked). p.script) c.requires.program in
@@ -84,7 +84,7 @@ count-requires-clause-counted c =
     counted_granted shape L c.args.self.now c.args.child program c.in-Census.ticket c.in-Census.places w b.0 (subst (λ (x : Shape). Stands x b.0) (sym program) b.1)
 
 pub unreachable-requires : goal.unreachable-requires
-unreachable-requires c =
+unreachable-requires g c =
     let shape = c.args.p.now.script in
     let L = c.args.ledger.now in
     let program : c.args.ledger.now.fixed.program.script ≡ c.args.p.now.script = ap (λ (p : Checked). p.script) c.requires.program in
@@ -93,7 +93,7 @@ unreachable-requires c =
     never_lands shape L c.args.self.now c.args.child program b.0 (subst (λ (x : Shape). Stands x b.0) (sym program) b.1) c.in-Landed.ticket w
 
 pub returns-in-NotYet : goal.returns-in-NotYet
-returns-in-NotYet c =
+returns-in-NotYet g c =
     let program : c.args.ledger.now.fixed.program.script ≡ c.args.p.now.script = ap (λ (p : Checked). p.script) c.requires.program in
     let w = subst (λ (r : Reply). WasSent c.args.p.now.script c.args.ledger.now c.args.self.now r c.args.child) c.in-NotYet.is c.requires.sent in
     knows_back c.args.p.now.script c.args.ledger.now c.args.self.now c.args.child program c.in-NotYet.place c.in-NotYet.request w c.keep.new.self c.keep.ensures

@@ -1,7 +1,7 @@
 use Rattle.std.proofs.Common.{sym, subst}
 use Rattle.rx_activities.specs.declared.hand.Hand.{Hand}
 use Rattle.rx_activities.specs.Inside.Stepping.{IsNext}
-use Rattle.rx_activities.proofs.activity.make_turn.Goals as goal
+use Rattle.rx_activities.proofs.turn.make_turn.Goals as goal
 
 pub call_ledger-answer-requires-clause-next : goal.call_ledger-answer-requires-clause-next
 call_ledger-answer-requires-clause-next g c =

@@ -276,6 +276,9 @@ class Place:
 def serve(line: socket.socket, by_value: bool = False) -> Place:
     """The life of a place other than place 0, up to the end of the job or of its line."""
     here = Place(line, by_value)
-    here.tell("ready", VERSION)
+    try:
+        here.tell("ready", VERSION)
+    except Closed:
+        return here                                             # the job was over before this place had started
     here.listen()
     return here

@@ -66,7 +66,7 @@ def refusal(name, runs, jobs):
         for words in [*driven, ["jobs", "--jobs", str(jobs), "--seed", SEED, "--wide", "--first"]]:
             done = alone.run([*alone.BARE, "-m", *words], env=env)
             if done.status != 0:
-                return f"{words[0]}: {done.output.strip().splitlines()[:1]}"
+                return f"{words[0]}: {done.output.strip()[-2000:]}"
     return None
 
 

@@ -25,7 +25,7 @@ def add(name):
     def test(self):
         said = self.refusals[name].result()
         if name == CONTROL:
-            self.assertIsNone(said)
+            self.assertIsNone(said, said)
         else:
             self.assertIsNotNone(said)
     setattr(Mutants, f"test_{name.replace(' ', '_')}", test)

@@ -53,14 +53,16 @@ module _ (T : Tree) where
   may_told Root a e h k = root_may a e h k
 
   -- a task that releases its scope works there
-  inside : (t : TaskId) (o : Outcome) (e : Entry) → (h : Told T (Release t) (Released o) e) → (k : Allowed T e) → (x : Task) → task_of T t ≡ Some x → inner T x ≡ h.0
+  inside : (t : TaskId) (o : Outcome) (e : Entry) → (h : Told T (Release t) (Released o) e) → (k : Allowed T e) → (x : Task)
+      → task_of T t ≡ Some x → inner T x ≡ h.0
   inside t o e h k x found =
       let m : AllowedAct T t (ReleaseAct h.0 o.lost o.masked o.thrown) = subst (Allowed T) h.1 k in
       let number : x.number ≡ t = task-is x.number t (number-of T t x found) in
       let own : own_scope T x.number ≡ Some m.asks.1 = ap (λ (v : TaskId). own_scope T v) number ∙ m.asks.2.0 in
       inner_is T x m.asks.1 own ∙ m.asks.2.1
 
-  release_still : (t : TaskId) (o : Outcome) (e : Entry) → (h : Told T (Release t) (Released o) e) → Allowed T e → quiet T h.0 ≡ true
+  release_still : (t : TaskId) (o : Outcome) (e : Entry) → (h : Told T (Release t) (Released o) e) → Allowed T e
+      → quiet T h.0 ≡ true
   release_still t o e h k =
       let m : AllowedAct T t (ReleaseAct h.0 o.lost o.masked o.thrown) = subst (Allowed T) h.1 k in
       m.asks.3.is_quiet
@@ -70,7 +72,8 @@ module _ (T : Tree) where
       let m : Allowed T (RootEntry o.lost o.masked o.thrown) = subst (Allowed T) h k in
       m.2.is_quiet
 
-  release_idle : (t : TaskId) (a : Answer) (e : Entry) (place : PlaceId) → Told T (Release t) a e → Allowed T e → Busy T (Release t) place → ⊥
+  release_idle : (t : TaskId) (a : Answer) (e : Entry) (place : PlaceId) → Told T (Release t) a e → Allowed T e
+      → Busy T (Release t) place → ⊥
   release_idle t (Released o) e place h k busy =
       true≢false (sym (release_still t o e h k) ∙ (ap (quiet T) (sym (inside t o e h k busy.0 busy.1)) ∙ busy.2.busy))
   release_idle t _ e place h k busy = absurd h
@@ -86,7 +89,8 @@ module _ (T : Tree) where
   idle_told _ a e place h k busy = busy
 
   -- the scope of a row whose release is told is quiet
-  pub row_still : (n : ℕ) (who : Waiter) (o : Outcome) (e : Entry) → Told T (request_of who) (answer_to who o) e → Allowed T e → WaitsThere T n who → quiet T (scope_numbered n) ≡ true
+  pub row_still : (n : ℕ) (who : Waiter) (o : Outcome) (e : Entry) → Told T (request_of who) (answer_to who o) e → Allowed T e
+      → WaitsThere T n who → quiet T (scope_numbered n) ≡ true
   row_still n (TaskWaits t) o e h k at =
       let a = release_may t (Released o) e h k in
       let row = at.1 (seat_of T a.task) (told_some T t a.task (seat_of T a.task) a.stands a.unstruck refl) in

@@ -37,7 +37,8 @@ pub record Back (T V : Tree) : Type 0 where
   pub root : HasRoot V → HasRoot T
 
 -- a scope on a chain is there
-met-found : (s : ScopeId) (gs : List Scope) (want : Option ScopeId) → meets s gs want ≡ true → (g : Scope) × (find (is_scope s) gs ≡ Some g)
+met-found : (s : ScopeId) (gs : List Scope) (want : Option ScopeId) → meets s gs want ≡ true
+    → (g : Scope) × (find (is_scope s) gs ≡ Some g)
 met-found s [] want m = absurd (true≢false (sym m))
 met-found s (g ∷ gs) want m =
     (elim (is_scope s g) as (λ b. is_scope s g ≡ b → (h : Scope) × (cond b (Some g) (find (is_scope s) gs) ≡ Some h)) [
@@ -108,7 +109,8 @@ back_on T V W grows h k =
     record { task = λ u low there. h.task u low (k.task u (omega (arith, grows, low)) there); root = λ there. h.root (k.root there) }
 
 -- so is who waits
-pub may_back : (T V : Tree) → Back T V → (n : ℕ) (who : Waiter) → WaitsThere T n who → May V (request_of who) → May T (request_of who)
+pub may_back : (T V : Tree) → Back T V → (n : ℕ) (who : Waiter) → WaitsThere T n who → May V (request_of who)
+    → May T (request_of who)
 may_back T V back n (TaskWaits t) at may =
     let there = back.task t at.0 (seat_of V may.task, told_some V t may.task (seat_of V may.task) may.stands may.unstruck refl) in
     let s = seated T t there.0 there.1 in

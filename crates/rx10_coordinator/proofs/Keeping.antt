@@ -56,7 +56,8 @@ fine-tree T V n m ws us is f there =
       there = there;
     }
 
-made-reached : (T V : Tree) (n m : ℕ) (e : Entry) → IsMade T n e V m → Reached T → All (IsOlder n) T.dead → Allowed T e → Reached V × All (IsOlder m) V.dead
+made-reached : (T V : Tree) (n m : ℕ) (e : Entry) → IsMade T n e V m → Reached T → All (IsOlder n) T.dead → Allowed T e
+    → Reached V × All (IsOlder m) V.dead
 made-reached T V n m e is r o may = (
   subst Reached (sym is.0) (reached_now n T e r o may),
   subst (λ (k : ℕ). All (IsOlder k) V.dead) (sym is.1) (subst (λ (U : Tree). All (IsOlder (suc n)) U.dead) (sym is.0) (dead-now n T e o)),
@@ -106,7 +107,8 @@ module _ (T V : Tree) (n m : ℕ) (ws us : Waiters) (f : Fine T n ws) (q : Reque
 -- Rows after two answers.
 
 -- who asks for a release waits at one scope
-one-row : (T : Tree) (q : Request) (who : Waiter) (k l : ℕ) → waiter_of q ≡ Some who → May T q → WaitsThere T k who → WaitsThere T l who → k ≡ l
+one-row : (T : Tree) (q : Request) (who : Waiter) (k l : ℕ) → waiter_of q ≡ Some who → May T q → WaitsThere T k who
+    → WaitsThere T l who → k ≡ l
 one-row T (Release t) who k l is may at to = by who (item_one (Some (TaskWaits t)) who (TaskWaits t) is refl) at to where
   by : (z : Waiter) → z ≡ TaskWaits t → WaitsThere T k z → WaitsThere T l z → k ≡ l
   by z e x y =
@@ -138,7 +140,8 @@ module _ (T V : Tree) (ws vs us xs : Waiters) (back : Back T V) (at : There T ws
       ]) (sym (here k) ∙ i)
 
 -- who waits in the one waits in the other, after an answer too
-pub rows_keep : (T V : Tree) (q : Request) (ws vs us xs : Waiters) → Back T V → There T ws → There V us → There V xs → Keeps T ws vs → Rows T q V ws vs us xs → Keeps V us xs
+pub rows_keep : (T V : Tree) (q : Request) (ws vs us xs : Waiters) → Back T V → There T ws → There V us → There V xs → Keeps T ws vs
+    → Rows T q V ws vs us xs → Keeps V us xs
 rows_keep T V q ws vs us xs back at here there on (inl h) = same-keeps T V ws vs us xs back at h.0 h.1 on
 rows_keep T V q ws vs us xs back at here there on (inr h) =
     let may : May V q = subst (λ (U : Tree). May U q) (sym h.5) h.4 in
@@ -167,11 +170,13 @@ abbrev Makes : ℕ → List Entry → Waiter → Outcome → List Entry → Type
 Makes p es who o fs =
     (e : Entry) × Told (tree_of p es) (request_of who) (answer_to who o) e × Allowed (tree_of p es) e × IsMade (tree_of p es) (length es) e (tree_of p fs) (length fs)
 
-makes : (p : ℕ) (es fs : List Entry) (who : Waiter) (o : Outcome) → Asked p es (request_of who) (answer_to who o) (Are fs) → Makes p es who o fs
+makes : (p : ℕ) (es fs : List Entry) (who : Waiter) (o : Outcome) → Asked p es (request_of who) (answer_to who o) (Are fs)
+    → Makes p es who o fs
 makes p es fs (TaskWaits t) o k = (k.0, k.1, k.2, grows p es fs k.0 k.3)
 makes p es fs Host o k = (k.0, k.1, k.2, grows p es fs k.0 k.3)
 
-pub freed_at : (p : ℕ) (es fs : List Entry) (ws us : Waiters) (who : Waiter) (o : Outcome) → FreedIs p es (One who o) ws (Are fs) us → FreedAt (tree_of p es) (length es) ws who o (tree_of p fs) (length fs) us
+pub freed_at : (p : ℕ) (es fs : List Entry) (ws us : Waiters) (who : Waiter) (o : Outcome) → FreedIs p es (One who o) ws (Are fs) us
+    → FreedAt (tree_of p es) (length es) ws who o (tree_of p fs) (length fs) us
 freed_at p es fs ws us who o h =
     let k = makes p es fs who o h.3 in
     record { row = h.0; here = h.1; gone = h.2; entry = k.0; told = k.1; may = k.2; is = k.3; before = h.4; later = h.5 }
@@ -183,7 +188,8 @@ kept-row T k (Some who) now z (inl h) e = sym h.1 ∙ e
 kept-row T k (Some who) now z (inr h) e = absurd (let none : now ≡ None = h.1 in let v : ⊥ = cc in v)
 
 -- and who may be released was not dropped
-passed-on : (T : Tree) (k : ℕ) (o now : Option Waiter) (z : Waiter) → o ≡ Some z → May T (request_of z) → PassedBy T k o now → now ≡ Some z
+passed-on : (T : Tree) (k : ℕ) (o now : Option Waiter) (z : Waiter) → o ≡ Some z → May T (request_of z) → PassedBy T k o now
+    → now ≡ Some z
 passed-on T k o now z e may h = by (subst (λ (x : Option Waiter). PassedBy T k x now) e h) where
   by : PassedBy T k (Some z) now → now ≡ Some z
   by (inl i) = i.1
@@ -197,11 +203,15 @@ Passed T ws us = (k : ℕ) → PassedBy T k (waiter_at ws k) (waiter_at us k)
 abbrev pub Stayed : Tree → Waiters → Waiters → Type 0
 Stayed T ws us = (k : ℕ) → (waiter_at us k ≡ waiter_at ws k) ⊎ PassedBy T k (waiter_at ws k) (waiter_at us k)
 
-stayed-row : (T : Tree) (k : ℕ) (ws us : Waiters) (z : Waiter) → (waiter_at us k ≡ waiter_at ws k) ⊎ PassedBy T k (waiter_at ws k) (waiter_at us k) → waiter_at us k ≡ Some z → waiter_at ws k ≡ Some z
+stayed-row : (T : Tree) (k : ℕ) (ws us : Waiters) (z : Waiter)
+    → (waiter_at us k ≡ waiter_at ws k) ⊎ PassedBy T k (waiter_at ws k) (waiter_at us k) → waiter_at us k ≡ Some z
+    → waiter_at ws k ≡ Some z
 stayed-row T k ws us z (inl h) e = sym h ∙ e
 stayed-row T k ws us z (inr h) e = kept-row T k (waiter_at ws k) (waiter_at us k) z h e
 
-stayed-on : (T : Tree) (k : ℕ) (ws us : Waiters) (z : Waiter) → (waiter_at us k ≡ waiter_at ws k) ⊎ PassedBy T k (waiter_at ws k) (waiter_at us k) → waiter_at ws k ≡ Some z → May T (request_of z) → waiter_at us k ≡ Some z
+stayed-on : (T : Tree) (k : ℕ) (ws us : Waiters) (z : Waiter)
+    → (waiter_at us k ≡ waiter_at ws k) ⊎ PassedBy T k (waiter_at ws k) (waiter_at us k) → waiter_at ws k ≡ Some z
+    → May T (request_of z) → waiter_at us k ≡ Some z
 stayed-on T k ws us z (inl h) e may = h ∙ e
 stayed-on T k ws us z (inr h) e may = passed-on T k (waiter_at ws k) (waiter_at us k) z e may h
 
@@ -241,7 +251,8 @@ module _ (T : Tree) (n : ℕ) (ws : Waiters) (f : Fine T n ws) (who : Waiter) (o
   freed_back = made-back T V n m x.entry x.is f.reached x.may
 
   -- who waits there waits there still
-  stays : (z : Waiter) → who ≡ z → Told T (request_of z) (answer_to z o) x.entry → (k : ℕ) (y : Waiter) → (k ≡ x.row → ⊥) → waiter_at ws k ≡ Some y → WaitsThere (made n T x.entry) k y
+  stays : (z : Waiter) → who ≡ z → Told T (request_of z) (answer_to z o) x.entry → (k : ℕ) (y : Waiter) → (k ≡ x.row → ⊥)
+      → waiter_at ws k ≡ Some y → WaitsThere (made n T x.entry) k y
   stays z is told k Host apart i = f.there k Host i
   stays (TaskWaits t) is told k (TaskWaits u) apart i =
       let act : Act = ReleaseAct told.0 o.lost o.masked o.thrown in
@@ -271,7 +282,8 @@ module _ (T : Tree) (n : ℕ) (ws : Waiters) (f : Fine T n ws) (who : Waiter) (o
       }
 
 -- what two releases of one name
-freed-text : (T : Tree) (n : ℕ) (who : Waiter) (o w : Outcome) (e f : Entry) → Told T (request_of who) (answer_to who o) e → Told T (request_of who) (answer_to who w) f → Allowed T e → Allowed T f → outcome_text o ≡ outcome_text w
+freed-text : (T : Tree) (n : ℕ) (who : Waiter) (o w : Outcome) (e f : Entry) → Told T (request_of who) (answer_to who o) e
+    → Told T (request_of who) (answer_to who w) f → Allowed T e → Allowed T f → outcome_text o ≡ outcome_text w
 freed-text T n (TaskWaits t) o w e f h k x y = released_names T n t o w e f h k x y
 freed-text T n Host o w e f h k x y = root_names T n o w e f h k x y
 
@@ -286,21 +298,21 @@ module _ (T : Tree) (n : ℕ) (ws vs : Waiters) (f : Fine T n ws) (g : Fine T n 
         | inr (inr low) ↦ absurd (passes_not T n vs g z w W k xs y ws us back (x.before y.row low))
       ]
 
-  pub freed_who : z ≡ who
+  freed_who : z ≡ who
   freed_who = item_one (waiter_at vs y.row) z who y.here (ap (waiter_at vs) (sym row-one) ∙ on x.row who (freed_may T n ws f who o V m us x) x.here)
 
   told-here : Told T (request_of who) (answer_to who w) y.entry
   told-here = subst (λ (v : Waiter). Told T (request_of v) (answer_to v w) y.entry) freed_who y.told
 
-  pub freed_names : outcome_text o ≡ outcome_text w
+  freed_names : outcome_text o ≡ outcome_text w
   freed_names = freed-text T n who o w x.entry y.entry x.told told-here x.may y.may
 
-  pub freed_tree : IsTree V m W k
+  freed_tree : IsTree V m W k
   freed_tree =
       let same = one T n (request_of who) (answer_to who o) (answer_to who w) x.entry y.entry x.told told-here x.may y.may in
       (y.is.0 ∙ (sym same.1 ∙ sym x.is.0), y.is.1 ∙ sym x.is.1)
 
-  pub freed_keep : Keeps V us xs
+  freed_keep : Keeps V us xs
   freed_keep l p may i =
       let old = row-before T n ws f who o V m us x l p i in
       let before = may_back T V (freed_back T n ws f who o V m us x) l p (f.there l p old.1) may in
@@ -310,3 +322,6 @@ module _ (T : Tree) (n : ℕ) (ws vs : Waiters) (f : Fine T n ws) (g : Fine T n 
         | inr (inl low) ↦ passed-on T l (waiter_at vs l) (waiter_at xs l) p there before (y.before l low)
         | inr (inr high) ↦ y.later l high ∙ there
       ]
+
+  pub freed_both : (who ≡ z) × (outcome_text o ≡ outcome_text w) × IsTree V m W k × Keeps V us xs
+  freed_both = (sym freed_who, freed_names, freed_tree, freed_keep)

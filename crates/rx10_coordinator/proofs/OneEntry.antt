@@ -45,10 +45,12 @@ goes-one x y a b c d e i j = let k : Travel a c ≡ Travel b d = sym i ∙ (ap (
 open-one : (t : TaskId) (s u r v : ScopeId) → s ≡ u → r ≡ v → Step t (OpenAct s r []) [] ≡ Step t (OpenAct u v []) []
 open-one t s u r v e f = cc
 
-call-one : (t : TaskId) (to a b : PlaceId) (s u r v : ScopeId) (c d : TaskId) → a ≡ b → s ≡ u → r ≡ v → c ≡ d → Step t (CallAct a to s r c []) [] ≡ Step t (CallAct b to u v d []) []
+call-one : (t : TaskId) (to a b : PlaceId) (s u r v : ScopeId) (c d : TaskId) → a ≡ b → s ≡ u → r ≡ v → c ≡ d
+    → Step t (CallAct a to s r c []) [] ≡ Step t (CallAct b to u v d []) []
 call-one t to a b s u r v c d e f g h = cc
 
-spawn-one : (t : TaskId) (to a b : PlaceId) (s u : ScopeId) (c d : TaskId) → a ≡ b → s ≡ u → c ≡ d → Step t (SpawnAct c s a to []) [] ≡ Step t (SpawnAct d u b to []) []
+spawn-one : (t : TaskId) (to a b : PlaceId) (s u : ScopeId) (c d : TaskId) → a ≡ b → s ≡ u → c ≡ d
+    → Step t (SpawnAct c s a to []) [] ≡ Step t (SpawnAct d u b to []) []
 spawn-one t to a b s u c d e f g = cc
 
 born-one : (b d : Born) → b.child ≡ d.child → b.scope ≡ d.scope → b.lost ≡ d.lost → b ≡ d
@@ -62,7 +64,8 @@ unfolding lost_part
 lost-one a b e = ap (part_text (codes " lost") natural_field) e
 
 -- what a release names
-names-one : (T : Tree) (s : ScopeId) (o w : Outcome) → MayFree T s o.lost o.masked o.thrown → MayFree T s w.lost w.masked w.thrown → outcome_text o ≡ outcome_text w
+names-one : (T : Tree) (s : ScopeId) (o w : Outcome) → MayFree T s o.lost o.masked o.thrown → MayFree T s w.lost w.masked w.thrown
+    → outcome_text o ≡ outcome_text w
 names-one T s o w h k =
     ap (λ (z : List ℕ). z ++ masked_part o.masked ++ part_text (codes " thrown") fault_text o.thrown) (lost-one o.lost w.lost (h.places ∙ sym k.places))
     ∙ (ap (λ (m : ℕ). lost_part w.lost ++ masked_part m ++ part_text (codes " thrown") fault_text o.thrown) (h.count ∙ sym k.count)
@@ -80,7 +83,8 @@ module _ (T : Tree) (n : ℕ) (t : TaskId) where
   opens (Opened s) _ e f h k x y = absurd k
   opens _ b e f h k x y = absurd h
 
-  calls : (to : PlaceId) (a b : Answer) (e f : Entry) → Told T (At t to) a e → Told T (At t to) b f → Allowed T e → Allowed T f → One T n a e b f
+  calls : (to : PlaceId) (a b : Answer) (e f : Entry) → Told T (At t to) a e → Told T (At t to) b f → Allowed T e → Allowed T f
+      → One T n a e b f
   calls to (Called c) (Called d) e f h k x y =
       let m : AllowedAct T t (CallAct h.0 to c.scope h.1 c.child []) = subst (Allowed T) h.2 x in
       let o : AllowedAct T t (CallAct k.0 to d.scope k.1 d.child []) = subst (Allowed T) k.2 y in
@@ -94,7 +98,8 @@ module _ (T : Tree) (n : ℕ) (t : TaskId) where
   calls to _ b e f h k x y = absurd h
 
   -- who is started, too
-  pub spawned_one : (to : PlaceId) (c d : Born) (e f : Entry) → Told T (Spawn t to) (Spawned c) e → Told T (Spawn t to) (Spawned d) f → Allowed T e → Allowed T f → (c ≡ d) × (e ≡ f)
+  pub spawned_one : (to : PlaceId) (c d : Born) (e f : Entry) → Told T (Spawn t to) (Spawned c) e
+      → Told T (Spawn t to) (Spawned d) f → Allowed T e → Allowed T f → (c ≡ d) × (e ≡ f)
   spawned_one to c d e f h k x y =
       let m : AllowedAct T t (SpawnAct c.child c.scope h.0 to []) = subst (Allowed T) h.1 x in
       let o : AllowedAct T t (SpawnAct d.child d.scope k.0 to []) = subst (Allowed T) k.1 y in
@@ -104,14 +109,16 @@ module _ (T : Tree) (n : ℕ) (t : TaskId) where
       let scope : c.scope ≡ d.scope = m.asks.2 ∙ (ap (governs T) task ∙ sym o.asks.2) in
       (born-one c d child scope (h.2 ∙ sym k.2), h.1 ∙ (spawn-one t to h.0 k.0 c.scope d.scope c.child d.child from scope child ∙ sym k.1))
 
-  spawns : (to : PlaceId) (a b : Answer) (e f : Entry) → Told T (Spawn t to) a e → Told T (Spawn t to) b f → Allowed T e → Allowed T f → One T n a e b f
+  spawns : (to : PlaceId) (a b : Answer) (e f : Entry) → Told T (Spawn t to) a e → Told T (Spawn t to) b f → Allowed T e
+      → Allowed T f → One T n a e b f
   spawns to (Spawned c) (Spawned d) e f h k x y =
       let same = spawned_one to c d e f h k x y in
       (ap (λ (v : Born). answer_text (Spawned v)) same.0, ap (made n T) same.1)
   spawns to (Spawned c) _ e f h k x y = absurd k
   spawns to _ b e f h k x y = absurd h
 
-  arrives : (a b : Answer) (e f : Entry) → Told T (Arrive t) a e → Told T (Arrive t) b f → Allowed T e → Allowed T f → One T n a e b f
+  arrives : (a b : Answer) (e f : Entry) → Told T (Arrive t) a e → Told T (Arrive t) b f → Allowed T e → Allowed T f
+      → One T n a e b f
   arrives Landed Landed e f h k x y =
       let m : AllowedAct T t (ArriveAct h.0) = subst (Allowed T) h.1 x in
       let o : AllowedAct T t (ArriveAct k.0) = subst (Allowed T) k.1 y in
@@ -121,7 +128,8 @@ module _ (T : Tree) (n : ℕ) (t : TaskId) where
   arrives Landed _ e f h k x y = absurd k
   arrives _ b e f h k x y = absurd h
 
-  waits : (thrown : List Fault) (a b : Answer) (e f : Entry) → Told T (Wait t thrown) a e → Told T (Wait t thrown) b f → Allowed T e → Allowed T f → One T n a e b f
+  waits : (thrown : List Fault) (a b : Answer) (e f : Entry) → Told T (Wait t thrown) a e → Told T (Wait t thrown) b f → Allowed T e
+      → Allowed T f → One T n a e b f
   waits thrown Waits Waits e f h k x y =
       let m : AllowedAct T t (WaitAct h.0 thrown) = subst (Allowed T) h.1 x in
       let o : AllowedAct T t (WaitAct k.0 thrown) = subst (Allowed T) k.1 y in
@@ -131,20 +139,23 @@ module _ (T : Tree) (n : ℕ) (t : TaskId) where
   waits thrown Waits _ e f h k x y = absurd k
   waits thrown _ b e f h k x y = absurd h
 
-  released-scope : (o w : Outcome) (e f : Entry) → (h : Told T (Release t) (Released o) e) → (k : Told T (Release t) (Released w) f) → Allowed T e → Allowed T f → h.0 ≡ k.0
+  released-scope : (o w : Outcome) (e f : Entry) → (h : Told T (Release t) (Released o) e) → (k : Told T (Release t) (Released w) f)
+      → Allowed T e → Allowed T f → h.0 ≡ k.0
   released-scope o w e f h k x y =
       let m : AllowedAct T t (ReleaseAct h.0 o.lost o.masked o.thrown) = subst (Allowed T) h.1 x in
       let u : AllowedAct T t (ReleaseAct k.0 w.lost w.masked w.thrown) = subst (Allowed T) k.1 y in
       let own = item_one _ m.asks.1 u.asks.1 m.asks.2.0 u.asks.2.0 in
       sym m.asks.2.1 ∙ (ap (λ (g : Scope). g.number) own ∙ u.asks.2.1)
 
-  pub released_names : (o w : Outcome) (e f : Entry) → Told T (Release t) (Released o) e → Told T (Release t) (Released w) f → Allowed T e → Allowed T f → outcome_text o ≡ outcome_text w
+  pub released_names : (o w : Outcome) (e f : Entry) → Told T (Release t) (Released o) e → Told T (Release t) (Released w) f
+      → Allowed T e → Allowed T f → outcome_text o ≡ outcome_text w
   released_names o w e f h k x y =
       let m : AllowedAct T t (ReleaseAct h.0 o.lost o.masked o.thrown) = subst (Allowed T) h.1 x in
       let u : AllowedAct T t (ReleaseAct k.0 w.lost w.masked w.thrown) = subst (Allowed T) k.1 y in
       names-one T k.0 o w (subst (λ (r : ScopeId). MayFree T r o.lost o.masked o.thrown) (released-scope o w e f h k x y) m.asks.3) u.asks.3
 
-  releases : (a b : Answer) (e f : Entry) → Told T (Release t) a e → Told T (Release t) b f → Allowed T e → Allowed T f → One T n a e b f
+  releases : (a b : Answer) (e f : Entry) → Told T (Release t) a e → Told T (Release t) b f → Allowed T e → Allowed T f
+      → One T n a e b f
   releases (Released o) (Released w) e f h k x y = (
     ap (λ (z : List ℕ). codes "released" ++ z) (released_names o w e f h k x y),
     ap (made n T) h.1 ∙ (ap (λ (r : ScopeId). change_task resumed t (without T r)) (released-scope o w e f h k x y) ∙ sym (ap (made n T) k.1)),
@@ -152,7 +163,8 @@ module _ (T : Tree) (n : ℕ) (t : TaskId) where
   releases (Released o) _ e f h k x y = absurd k
   releases _ b e f h k x y = absurd h
 
-  ends : (thrown : List Fault) (a b : Answer) (e f : Entry) → Told T (End t thrown) a e → Told T (End t thrown) b f → Allowed T e → Allowed T f → One T n a e b f
+  ends : (thrown : List Fault) (a b : Answer) (e f : Entry) → Told T (End t thrown) a e → Told T (End t thrown) b f → Allowed T e
+      → Allowed T f → One T n a e b f
   ends thrown Ended Ended e f h k x y = (refl, ap (made n T) (h ∙ sym k))
   ends thrown Ended _ e f h k x y = absurd k
   ends thrown _ b e f h k x y = absurd h
@@ -163,7 +175,8 @@ none_sent T t to Bad e h = h
 none_sent T t to _ e h = h
 
 module _ (T : Tree) (n : ℕ) where
-  dies : (d : PlaceId) (a b : Answer) (e f : Entry) → Told T (Death d) a e → Told T (Death d) b f → Allowed T e → Allowed T f → One T n a e b f
+  dies : (d : PlaceId) (a b : Answer) (e f : Entry) → Told T (Death d) a e → Told T (Death d) b f → Allowed T e → Allowed T f
+      → One T n a e b f
   dies d Died Died e f h k x y = (refl, ap (made n T) (h ∙ sym k))
   dies d Died _ e f h k x y = absurd k
   dies d _ b e f h k x y = absurd h
@@ -177,7 +190,8 @@ module _ (T : Tree) (n : ℕ) where
   joins (Joined p) _ e f h k x y = absurd k
   joins _ b e f h k x y = absurd h
 
-  pub root_names : (o w : Outcome) (e f : Entry) → Told T Root (RootDone o) e → Told T Root (RootDone w) f → Allowed T e → Allowed T f → outcome_text o ≡ outcome_text w
+  pub root_names : (o w : Outcome) (e f : Entry) → Told T Root (RootDone o) e → Told T Root (RootDone w) f → Allowed T e
+      → Allowed T f → outcome_text o ≡ outcome_text w
   root_names o w e f h k x y =
       let m : Allowed T (RootEntry o.lost o.masked o.thrown) = subst (Allowed T) h x in
       let u : Allowed T (RootEntry w.lost w.masked w.thrown) = subst (Allowed T) k y in

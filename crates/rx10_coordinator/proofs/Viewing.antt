@@ -1,6 +1,7 @@
 -- What an answer does, said of trees: two answers to one request where the same ran out do the same.
 use Rattle.std.specs.Prelude.{◌⊎◌, ◌==◌, suc, cond, length}
-use Rattle.std.proofs.Common.{◌≡◌, ℕ, ◌+◌, Bool, true, false, List, [], ◌∷◌, ◌++◌, Option, Some, None, refl, ap, sym, ◌∙◌, subst, arith, inl, inr, length-append}
+use Rattle.std.proofs.Common.{◌≡◌, ℕ, Bool, true, false, List, [], ◌∷◌, ◌++◌, Option, Some, None, refl, ap, sym, ◌∙◌, subst, arith, inl, inr, length-append}
+use Rattle.std.proofs.lemmas.Bool.{true≢false}
 use Rattle.rx_base.specs.declared.ids.TaskId.{TaskId}
 use Rattle.rx_base.specs.declared.ids.ScopeId.{ScopeId}
 use Rattle.rx_base.specs.declared.ids.PlaceId.{PlaceId}
@@ -56,7 +57,8 @@ pub data View (T : Tree) (n : ℕ) (ws : Waiters) (q : Request) (a : Answer) (V 
   short : (ran_out a ≡ true) × IsSame ws us × IsTree T n V m → View T n ws q a V m us
   parked : (place : PlaceId) × (who : Waiter) × (s : ScopeId) × (a ≡ NotYet place) × (waiter_of q ≡ Some who) × May T q × Busy T q place × IsFree ws q
       × IsPut s.0 who ws us × IsTree T n V m → View T n ws q a V m us
-  tells : (e : Entry) × (ran_out a ≡ false) × Told T q a e × Allowed T e × IsFree ws q × IsSame ws us × IsMade T n e V m → View T n ws q a V m us
+  tells : (e : Entry) × (ran_out a ≡ false) × Told T q a e × Allowed T e × IsFree ws q × IsSame ws us × IsMade T n e V m
+      → View T n ws q a V m us
   sends : (t : TaskId) × (to : PlaceId) × (b : Born) × (e : Entry) × (q ≡ Send t to) × (a ≡ Sent b) × Told T (Spawn t to) (Spawned b) e × Allowed T e
       × IsFree ws q × IsSame ws us × Lands (made n T e) (suc n) b.child V m → View T n ws q a V m us
 
@@ -70,7 +72,8 @@ module _ (p : ℕ) where
   grows es fs e is =
       (ap (tree_of p) (sym is) ∙ tree-push p es e, ap length (sym is) ∙ (let a = length-append es (e ∷ []) in omega (arith, a)))
 
-  lands : (es gs : List Entry) (T : Tree) (n : ℕ) (t : TaskId) → tree_of p es ≡ T → length es ≡ n → Landing p es t (Are gs) → Lands T n t (tree_of p gs) (length gs)
+  lands : (es gs : List Entry) (T : Tree) (n : ℕ) (t : TaskId) → tree_of p es ≡ T → length es ≡ n → Landing p es t (Are gs)
+      → Lands T n t (tree_of p gs) (length gs)
   lands es gs T n t same long (inl h) =
       subst (λ (m : ℕ). Lands T m t (tree_of p gs) (length gs)) long
       (subst (λ (U : Tree). Lands U (length es) t (tree_of p gs) (length gs)) same (inl (h.0, h.1, h.2, grows es gs h.0 h.3)))
@@ -88,12 +91,14 @@ module _ (p : ℕ) where
     same-rows (Some who) (NotYet place) off h = absurd (off place refl)
     same-rows (Some who) _ off h = h
 
-    waits : (q : Request) (place : PlaceId) → May (tree_of p es) q → Busy (tree_of p es) q place → IsFree ws q → Puts (waiter_of q) (NotYet place) ws us → es ≡ fs → Seen q (NotYet place)
+    waits : (q : Request) (place : PlaceId) → May (tree_of p es) q → Busy (tree_of p es) q place → IsFree ws q
+        → Puts (waiter_of q) (NotYet place) ws us → es ≡ fs → Seen q (NotYet place)
     waits (Release t) place may busy free h e = parked (place, TaskWaits t, h.0, refl, refl, may, busy, free, h.1, stays es fs e)
     waits Root place may busy free h e = parked (place, Host, h.0, refl, refl, may, busy, free, h.1, stays es fs e)
     waits _ place may busy free h e = absurd busy
 
-    asked : (q : Request) (a : Answer) → (IsParked ws (waiter_of q) → a ≡ Bad) → Asked p es q a (Are fs) → Puts (waiter_of q) a ws us → Seen q a
+    asked : (q : Request) (a : Answer) → (IsParked ws (waiter_of q) → a ≡ Bad) → Asked p es q a (Are fs)
+        → Puts (waiter_of q) a ws us → Seen q a
     asked q Bad bad k h = refused (refl, inr k.0, same-rows (waiter_of q) Bad (λ place e. (let v : ⊥ = cc in v)) h, stays es fs k.1)
     asked q Full bad k h = short (refl, same-rows (waiter_of q) Full (λ place e. (let v : ⊥ = cc in v)) h, stays es fs k.2)
     asked q NoMemory bad k h = short (refl, same-rows (waiter_of q) NoMemory (λ place e. (let v : ⊥ = cc in v)) h, stays es fs k.1)
@@ -151,7 +156,8 @@ out-one a b e f g =
     item_one (refusal b) a b (sym e ∙ here) there
 
 -- who is parked in one of two, and may be released, is so in the other
-parked-on : (T : Tree) (ws vs : Waiters) (q : Request) → Keeps T ws vs → May T q → IsParked ws (waiter_of q) → IsParked vs (waiter_of q)
+parked-on : (T : Tree) (ws vs : Waiters) (q : Request) → Keeps T ws vs → May T q → IsParked ws (waiter_of q)
+    → IsParked vs (waiter_of q)
 parked-on T ws vs (Release t) on may i = (i.0, on i.0 (TaskWaits t) may i.1)
 parked-on T ws vs Root on may i = (i.0, on i.0 Host may i.1)
 parked-on T ws vs _ on may i = i
@@ -173,7 +179,8 @@ module _ (T : Tree) (n : ℕ) (ws vs : Waiters) (on : Keeps T ws vs) (back : Kee
   no-one x y keeps (inl i) may free = free (parked-on T x y q keeps may i)
   no-one x y keeps (inr bad) may free = bad may
 
-  may-send : (t : TaskId) (to : PlaceId) (c : Born) (e : Entry) → q ≡ Send t to → Told T (Spawn t to) (Spawned c) e → Allowed T e → May T q
+  may-send : (t : TaskId) (to : PlaceId) (c : Born) (e : Entry) → q ≡ Send t to → Told T (Spawn t to) (Spawned c) e → Allowed T e
+      → May T q
   may-send t to c e is told may = subst (May T) (sym is) (Spawned c, e, told, may)
 
   no-parked-sent : (t : TaskId) (to place : PlaceId) → q ≡ Send t to → Busy T q place → ⊥
@@ -236,3 +243,12 @@ module _ (T : Tree) (n : ℕ) (ws vs : Waiters) (on : Keeps T ws vs) (back : Kee
 
       send-to : (t u : TaskId) (x y : PlaceId) → Send t x ≡ Send u y → x ≡ y
       send-to t u x y e = cc
+
+-- a request for which memory or numbers ran out changes nothing
+pub out_stays : (T : Tree) (n : ℕ) (ws : Waiters) (q : Request) (a : Answer) (V : Tree) (m : ℕ) (us : Waiters) → ran_out a ≡ true
+    → View T n ws q a V m us → IsSame ws us × IsTree T n V m
+out_stays T n ws q a V m us out (refused h) = (h.2, h.3)
+out_stays T n ws q a V m us out (short h) = (h.1, h.2)
+out_stays T n ws q a V m us out (parked h) = absurd (true≢false (sym out ∙ ap ran_out h.3))
+out_stays T n ws q a V m us out (tells h) = absurd (true≢false (sym out ∙ h.1))
+out_stays T n ws q a V m us out (sends h) = absurd (true≢false (sym out ∙ ap ran_out h.5))

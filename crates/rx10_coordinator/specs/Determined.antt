@@ -2,29 +2,31 @@
 use Rattle.std.specs.Prelude.{◌≡◌, ℕ, ◌≤◌, false, List, [], ◌∷◌, length, Option, Some, None, if◌then◌else◌}
 use Rattle.std.proofs.Common.{inl, inr}
 use Rattle.rx_coordinator.specs.declared.requests.Answer.{Answer}
+use Rattle.rx_coordinator.specs.declared.requests.Answer.TheVariants.{NoMemory}
 use Rattle.rx10_coordinator.specs.Session.{Between, ran_out, Rests, Answered, AllAnswered, IsSession}
 use Rattle.rx10_coordinator.specs.Session.Answered.{malformed, unread, replied}
 
--- What ran out while a line was answered: memory for the line itself. Or memory or numbers for its request, where the answer says so, and
--- for a release that waits, behind so many lines of releases.
-pub data Shortage : Type 0 where
-  of_line : Shortage
-  of_reply : Option Answer → Option ℕ → Shortage
+-- What ran out while a line was answered: memory or numbers for the request, where its reply says so, and for a release that waits, after
+-- so many others were told.
+pub record Shortage : Type 0 where
+  pub reply : Option Answer
+  pub release : Option ℕ
 
 -- the answer, if it says that memory or numbers ran out for the request
 abbrev pub refusal : Answer → Option Answer
 refusal a = if ran_out a then Some a else None
 
--- behind how many releases they ran out for the next one, if they did
+-- after how many releases they ran out for the next, if they did
 abbrev pub stopped : (p : ℕ) (b c : Between) → ℕ → Rests p b c → Option ℕ
 stopped p b c n (inl none) = None
 stopped p b c n (inr short) = Some n
 
--- of one line
+-- Of one line. Where memory ran out for the line itself, its reply says so, and no release was tried.
 abbrev pub shortage : (p : ℕ) (b : Between) (line text : List ℕ) (c : Between) → Answered p b line text c → Shortage
-shortage p b line text c (malformed none told same) = of_reply None None
-shortage p b line text c (unread told short) = of_line
-shortage p b line text c (replied q a m xs is asks frees told) = of_reply (refusal a) (stopped p frees.0 c (length xs) frees.2)
+shortage p b line text c (malformed none told same) = record { reply = None; release = None }
+shortage p b line text c (unread told short) = record { reply = Some NoMemory; release = Some 0 }
+shortage p b line text c (replied q a m xs is asks frees told) =
+    record { reply = refusal a; release = stopped p frees.0 c (length xs) frees.2 }
 
 -- line by line
 abbrev pub shortages : (p : ℕ) (b : Between) (lines : List (List ℕ)) (text : List ℕ) (c : Between) → AllAnswered p b lines text c

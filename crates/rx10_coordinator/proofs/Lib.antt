@@ -4,3 +4,9 @@ pub mod Cutting
 pub mod Going
 pub mod Serving
 pub mod Lawful
+pub mod OneEntry
+pub mod Asking
+pub mod GoingBack
+pub mod Viewing
+pub mod Keeping
+pub mod Sessions

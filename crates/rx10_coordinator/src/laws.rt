@@ -4,6 +4,7 @@ ghost use Rattle.rx_rules.specs.declared.entries.Entry.{Entry};
 ghost use Rattle.rx_rules.specs.Laws.{NoEarlyRelease, LossExact};
 ghost use Rattle.rx_rules.specs.Inversions.{MaskedMeansLost};
 ghost use Rattle.rx10_coordinator.specs.Session.{IsSession};
+ghost use Rattle.rx10_coordinator.specs.Determined.{OneText, OneTextWithEnough};
 
 /// A law of contracts: whatever the input is, nothing that a session tells of was released early, each release names exactly the places
 /// that lost its tasks, and masked faults come with losses.
@@ -17,3 +18,10 @@ pub fn sessions_keep_the_laws()
     rx_laws::losses_are_exact();
     rx_laws::masked_is_lost();
 }
+
+/// A law of contracts: one input has one text. Whatever two sessions with the same bytes and as many places are, they tell the same where
+/// the same ran out for the same lines; and so they do where memory and numbers ran out for nothing.
+pub fn sessions_have_one_text()
+    ensures same { OneText }
+    ensures enough { OneTextWithEnough }
+{}

@@ -126,6 +126,21 @@ def live_side_by_side(program, name, workers):
     return watched_complaint(program, text, program.run(words, text), 1000)
 
 
+# Two tasks wait at place 0, one of them through the whole run. What the other waits for may end just before it is put among those that
+# wait, while a worker goes through these.
+WAITING = b"finish { async { repeat 16000 { finish { at 1 async { } } } } }"
+
+
+def none_is_forgotten(program, workers):
+    """A task that waits is looked at again where no later end comes: some runs of 16,000 such moments come to their end."""
+    for _ in range(4):
+        answer = program.run(["live", "--workers", str(workers)], WAITING)
+        found = answered(program, ["verify"], paired(WAITING, answer.out), RUN) if answer.status == 0 else short(answer)
+        if found:
+            return found
+    return None
+
+
 def all_picks(program):
     """A list of 100,000 picks, and one of 100,001."""
     dice = random.Random(5)
@@ -244,6 +259,7 @@ def run(program, tally):
     cases += [("%s, by `step`" % name, side_by_side, name) for name in SIDE_BY_SIDE]
     cases += [("%s, by `live` with %d workers" % (name, workers), live_side_by_side, name, workers) for name in SIDE_BY_SIDE
               for workers in (1, 2, 8)]
+    cases += [("one waits beside another, by %d workers" % workers, none_is_forgotten, workers) for workers in (2, 8)]
     cases += [("a script at a limit: %r.." % text[:20], script_limit, text, refusal) for text, refusal in SCRIPTS]
     cases += [("a generated script that is too long", too_long_gen)]
     tally.each(cases, lambda judge, *given: judge(program, *given))

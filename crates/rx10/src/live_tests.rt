@@ -2,9 +2,10 @@
 // faulty words and scripts give.
 use crate::pair_tests::is_run;
 use crate::tests::{CENSUS, SCRIPT, made, printed};
-use crate::texts::{ORDINARY, REALISTIC};
+use crate::texts::{BETWEEN_CALLS, ORDINARY, REALISTIC};
 use crate::{Status, rx10};
 use rx_base::{Gate, MeetGate, MemSink, MemSource, NoGate, NoMemory};
+use rx_text::put_natural;
 use std::alloc::Global;
 use std::sync::Wait;
 use std::thread::Threads;
@@ -26,11 +27,16 @@ fn lived<G: Gate + Sync, R: Threads + Wait + Sync>(
 
 #[test]
 fn two_workers_make_turns_at_one_time(rt: HostRuntime) -> Result<(), NoMemory> {
-    let gate = MeetGate::open(100_000_000);
-    let (status, text) = lived(&rt, rt.alloc(), b"live --workers 2", SCRIPT, &gate)?;
-    assert!(rt; status == Status::Done);
-    assert!(rt; printed(rt.alloc(), &text)?.as_slice() == b"7 8 ".as_slice());
-    assert!(rt; gate.met());
+    for line in [
+        b"live --workers 2".as_slice(),
+        b"live --workers 2 --watch 1",
+    ] {
+        let gate = MeetGate::open(100_000_000);
+        let (status, text) = lived(&rt, rt.alloc(), line, SCRIPT, &gate)?;
+        assert!(rt; status == Status::Done);
+        assert!(rt; printed(rt.alloc(), &text)?.as_slice() == b"7 8 ".as_slice());
+        assert!(rt; gate.met());
+    }
     Ok(())
 }
 
@@ -38,6 +44,13 @@ fn two_workers_make_turns_at_one_time(rt: HostRuntime) -> Result<(), NoMemory> {
 const LIVE_RUNS: &[(&[u8], &[u8], Status, &[u8])] = &[
     // the place of the task dies
     (b"live --workers 2 --kill 1@3", SCRIPT, Status::Faulted, b""),
+    // a store is called at each of two places
+    (
+        b"live --workers 2",
+        b"finish { at 1 async { new a = 1; } new b = 1; }",
+        Status::Done,
+        b"",
+    ),
     // a place joins
     (
         b"live --places 1 --join 1 --workers 2",
@@ -79,6 +92,36 @@ fn live_runs(rt: HostRuntime) -> Result<(), NoMemory> {
     Ok(())
 }
 
+// One task runs at a time, so every schedule gives one trace: place 1 dies between two calls of its store.
+const TWO_CALLS: &[u8] = b"at 1 { new a = 1; print 5; print 6; put a[0] = 2; }";
+
+// Whether a line of a text ends so.
+fn has_line(text: &[u8], end: &[u8]) -> bool {
+    text.split(|b| *b == b'\n').any(|line| line.ends_with(end))
+}
+
+#[test]
+fn a_place_dies_while_an_activity_is_at_it(rt: HostRuntime) -> Result<(), NoMemory> {
+    for line in [
+        b"live --workers 1 --kill 1@4".as_slice(),
+        b"live --workers 2 --kill 1@4",
+    ] {
+        let (status, text) = lived(&rt, rt.alloc(), line, SCRIPT, &NoGate)?;
+        assert!(rt; status == Status::Faulted);
+        assert!(rt; is_run(rt.alloc(), SCRIPT, &text)?);
+        assert!(rt; has_line(&text, b"release t0 s1 lost 1"));
+    }
+    for line in [
+        b"live --workers 1 --kill 1@3".as_slice(),
+        b"live --workers 2 --kill 1@3",
+    ] {
+        let (status, text) = lived(&rt, rt.alloc(), line, TWO_CALLS, &NoGate)?;
+        assert!(rt; status == Status::Faulted);
+        assert!(rt; text.as_slice() == BETWEEN_CALLS);
+    }
+    Ok(())
+}
+
 // The lines of the snapshots in what was written.
 fn seen(alloc: Global, text: &[u8]) -> Result<Vec<Vec<u8>>, NoMemory> {
     let mut lines = Vec::new(alloc);
@@ -88,6 +131,21 @@ fn seen(alloc: Global, text: &[u8]) -> Result<Vec<Vec<u8>>, NoMemory> {
         }
     }
     Ok(lines)
+}
+
+// How a snapshot of all entries of a trace begins.
+fn seen_all(alloc: Global, text: &[u8]) -> Result<Vec<u8>, NoMemory> {
+    let mut entries = 0u32;
+    for line in text.split(|b| *b == b'\n').skip(5) {
+        if line.starts_with(b"journal ") {
+            break;
+        }
+        entries = entries.saturating_add(1);
+    }
+    let mut begins = b"seen ".to_vec(alloc)?;
+    put_natural(&mut begins, entries)?;
+    begins.push(b' ')?;
+    Ok(begins)
 }
 
 #[test]
@@ -102,5 +160,7 @@ fn a_run_is_watched(rt: HostRuntime) -> Result<(), NoMemory> {
     let lines = seen(rt.alloc(), &text)?;
     assert!(rt; status == Status::Faulted && lines.len() == 4);
     assert!(rt; lines[3].ends_with(b" scopes 0 live 0 travel 0 dead 1"));
+    let begins = seen_all(rt.alloc(), &text)?;
+    assert!(rt; lines[3].starts_with(begins.as_slice()));
     Ok(())
 }

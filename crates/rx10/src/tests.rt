@@ -1,10 +1,10 @@
 // What no clause says: that scripts run to their end, with their whole text, and what faults and bad words give.
 use crate::pair_tests::is_run;
 use crate::texts::{
-    ADOPTION, AT_AND_ASYNC, AT_WAITS, BORN_STRUCK, BRIEF, EMPTY, ENDED_FIRST, FAULTS_IN_ORDER,
-    FULL_HEAP, HELD_THEN_MASKED, JOINED, JOINED_AND_DEAD, LOST_IN_TRANSIT, MASKED, NEVER_JOINED,
-    NO_PLACE, NOT_KNOWN, ORDINARY, OVERFLOW, PICKED, REALISTIC, SOURCE_DIES, STALE, TWO_AT_ONCE,
-    TWO_LOSSES, WRONG_PLACE,
+    ADOPTION, AT_AND_ASYNC, AT_WAITS, BORN_STRUCK, BRIEF, CALL_THROWS, EMPTY, ENDED_FIRST,
+    FAULTS_IN_ORDER, FULL_HEAP, HELD_THEN_MASKED, JOINED, JOINED_AND_DEAD, KILL_JUST_PAST_THE_END,
+    KILL_PAST_THE_END, LOST_IN_TRANSIT, MASKED, NEVER_JOINED, NO_PLACE, NOT_KNOWN, ORDINARY,
+    OVERFLOW, PICKED, REALISTIC, SOURCE_DIES, STALE, STARTED, TWO_AT_ONCE, TWO_LOSSES, WRONG_PLACE,
 };
 use crate::{Status, rx10_step};
 use rx_base::{MemSink, MemSource, NoMemory, RxWord};
@@ -85,6 +85,14 @@ const RUNS: &[Run] = &[
     (b"step", SCRIPT, Status::Done, ORDINARY),
     // a task lost on its way
     (b"step --kill 1@3", SCRIPT, Status::Faulted, LOST_IN_TRANSIT),
+    // kills past the end
+    (b"step --kill 1@50", SCRIPT, Status::Done, KILL_PAST_THE_END),
+    (
+        b"step --kill 1@10",
+        SCRIPT,
+        Status::Done,
+        KILL_JUST_PAST_THE_END,
+    ),
     // a task that ended before the death
     (b"step --kill 1@6", SCRIPT, Status::Done, ENDED_FIRST),
     // a task born for a dead place
@@ -168,6 +176,15 @@ const RUNS: &[Run] = &[
         Status::Done,
         JOINED_AND_DEAD,
     ),
+    // a task starts another
+    (
+        b"step",
+        b"async { print 1; } print 2;",
+        Status::Done,
+        STARTED,
+    ),
+    // a call at home throws
+    (b"step", b"at 0 { throw 4; }", Status::Faulted, CALL_THROWS),
     // an `async` in the body of an `at`
     (
         b"step",

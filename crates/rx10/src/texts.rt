@@ -20,6 +20,46 @@ journal 1
 done
 ";
 
+pub(crate) const KILL_PAST_THE_END: &[u8] = b"rx10 trace 2
+places 2 heap 256
+kills 1@50
+joins
+history
+0 open t0 s1 in s0 0
+1 spawn t0 t1 in s1 0 1 0.0
+2 wait t0 s1
+3 arrive t1 1
+4 print t1 7 0.0.0
+5 end t1
+6 release t0 s1
+7 print t0 8 1
+8 end t0
+9 release host s0
+journal 0
+journal 1
+done
+";
+
+pub(crate) const KILL_JUST_PAST_THE_END: &[u8] = b"rx10 trace 2
+places 2 heap 256
+kills 1@10
+joins
+history
+0 open t0 s1 in s0 0
+1 spawn t0 t1 in s1 0 1 0.0
+2 wait t0 s1
+3 arrive t1 1
+4 print t1 7 0.0.0
+5 end t1
+6 release t0 s1
+7 print t0 8 1
+8 end t0
+9 release host s0
+journal 0
+journal 1
+done
+";
+
 pub(crate) const LOST_IN_TRANSIT: &[u8] = b"rx10 trace 2
 places 2 heap 256
 kills 1@3
@@ -324,6 +364,25 @@ journal 1
 done
 ";
 
+pub(crate) const BETWEEN_CALLS: &[u8] = b"rx10 trace 2
+places 2 heap 256
+kills 1@3
+joins
+history
+0 at t0 s1 in s0 t1 0 1 0
+1 arrive t1 1
+2 print t1 5 0.1 | 0.0
+3 death 1
+4 release t0 s1 lost 1
+5 end t0 thrown dead:1
+6 release host s0 thrown dead:1
+journal 0
+journal 1
+0 t1 2 make 1 at 0 1 0.0
+1 3 close
+done
+";
+
 pub(crate) const NO_PLACE: &[u8] = b"rx10 trace 2
 places 2 heap 256
 kills
@@ -343,6 +402,37 @@ joins
 history
 0 end t0
 1 release host s0
+journal 0
+journal 1
+done
+";
+
+pub(crate) const STARTED: &[u8] = b"rx10 trace 2
+places 2 heap 256
+kills
+joins
+history
+0 spawn t0 t1 in s0 0 0 0
+1 print t0 2 1
+2 end t0
+3 print t1 1 0.0
+4 end t1
+5 release host s0
+journal 0
+journal 1
+done
+";
+
+pub(crate) const CALL_THROWS: &[u8] = b"rx10 trace 2
+places 2 heap 256
+kills
+joins
+history
+0 at t0 s1 in s0 t1 0 0 0
+1 end t1 thrown code:4 | 0.0
+2 release t0 s1 thrown code:4
+3 end t0 thrown code:4
+4 release host s0 thrown code:4
 journal 0
 journal 1
 done

@@ -170,6 +170,15 @@ fn dying(alloc: Global, p: &Program) -> Result<Machine<CountLedger>, NoMemory>
     opened(alloc, p, setup, ledger)
 }
 
+// The same over the plain ledger.
+fn dying_tree(alloc: Global, p: &Program) -> Result<Machine<TreeLedger>, NoMemory>
+    ensures { IfOk result (λ m. CanRun (⟦<TreeLedger as FinishLedger>⟧.stands) p.now.script m) }
+{
+    let setup = with_death(alloc)?;
+    let ledger = TreeLedger::open(alloc, setup.places)?;
+    opened(alloc, p, setup, ledger)
+}
+
 // A machine over the plain ledger whose second place joins.
 fn joining(alloc: Global, p: &Program) -> Result<Machine<TreeLedger>, NoMemory>
     ensures { IfOk result (λ m. CanRun (⟦<TreeLedger as FinishLedger>⟧.stands) p.now.script m) }
@@ -180,7 +189,7 @@ fn joining(alloc: Global, p: &Program) -> Result<Machine<TreeLedger>, NoMemory>
 }
 
 #[test]
-fn a_loss_turn_by_turn_over_counts(rt: HostRuntime) -> Result<(), Fail> {
+fn a_loss_turn_by_turn_over_both_ledgers(rt: HostRuntime) -> Result<(), Fail> {
     let alloc = rt.alloc();
     let Some(p) = program(alloc, b"finish { at 1 async { print 7; } } print 8;") else {
         panic!(rt; "no program")
@@ -199,6 +208,16 @@ fn a_loss_turn_by_turn_over_counts(rt: HostRuntime) -> Result<(), Fail> {
     same(
         &rt,
         ends(&p, dying(alloc, &p)?, &mut picks, &[1, 2, 1, 1, 1, 0]),
+        Some(7),
+    );
+    same(
+        &rt,
+        stops(&p, dying_tree(alloc, &p)?, &mut picks, &[1, 2, 1]),
+        Some(3),
+    );
+    same(
+        &rt,
+        runs_on(&p, dying_tree(alloc, &p)?, &mut picks, &[1, 2, 1, 1])?,
         Some(7),
     );
     Ok(())

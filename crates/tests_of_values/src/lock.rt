@@ -2,10 +2,11 @@ ghost use Rattle.std.specs.Prelude.{◌≡◌, ◌≤◌};
 
 use crate::same::same;
 use rx_lock::{Fact, Lock};
-use std::hint::spin_loop;
 use std::sync::Wait;
+use std::sync::atomic::AtomicU64;
 use std::test::Fail;
 use std::thread;
+use std::time::Duration;
 
 // A number that is at most the key.
 struct IsWithin;
@@ -16,14 +17,21 @@ impl Fact<u64, u64> for IsWithin {
     ghost holds = { λ most n. n ≤ most };
 }
 
-// Adds one so often, and has the lock for so many rounds meanwhile: after many of them another thread that comes falls asleep.
-fn add_up<R: Wait>(rt: &R, lock: &Lock<u64, u64, IsWithin>, most: u64, times: u32, rounds: u32)
+// Adds one so often, and naps for so many microseconds with the lock: who comes meanwhile falls asleep where the nap is long.
+fn add_up<R: Wait>(
+    rt: &R,
+    lock: &Lock<u64, u64, IsWithin>,
+    most: u64,
+    bed: &AtomicU64,
+    times: u32,
+    micros: u64,
+)
     requires { lock.now.key ≡ most }
 {
     for _ in 0..times {
         let (n, turn) = lock.lock(rt);
-        for _ in 0..rounds {
-            spin_loop();
+        if micros > 0 {
+            bed.park_timeout(rt, 0, Duration::from_micros(micros));
         }
         let next = if n < most { n + 1 } else { n };
         lock.unlock(turn, next);
@@ -31,17 +39,26 @@ fn add_up<R: Wait>(rt: &R, lock: &Lock<u64, u64, IsWithin>, most: u64, times: u3
 }
 
 #[test]
-fn threads_take_turns_and_a_sleeper_is_woken(rt: HostRuntime) -> Result<(), Fail> {
-    for (times, rounds, sum) in [(100, 0, 200), (1, 1_000_000, 2)] {
+fn threads_take_turns_and_each_sleeper_is_woken(rt: HostRuntime) -> Result<(), Fail> {
+    for (times, micros, sum) in [(100, 0, 300), (3, 20_000, 9), (50, 2_000, 150)] {
         let made: Result<Lock<u64, u64, IsWithin>, _> = Lock::new(rt.alloc(), 0, &1000);
         let Ok(lock) = made else {
             panic!(rt; "no memory")
         };
         let shared = &lock;
+        let bed = AtomicU64::new(0);
+        let bed = &bed;
+        // (while one has the lock the two others fall asleep, and then one of them wakes the other)
         thread::join(
             &rt,
-            || add_up(&rt, shared, 1000, times, rounds),
-            || add_up(&rt, shared, 1000, times, rounds),
+            || add_up(&rt, shared, 1000, bed, times, micros),
+            || {
+                thread::join(
+                    &rt,
+                    || add_up(&rt, shared, 1000, bed, times, micros),
+                    || add_up(&rt, shared, 1000, bed, times, micros),
+                );
+            },
         );
         let (n, turn) = lock.lock(&rt);
         lock.close(turn);

@@ -2,4 +2,5 @@ pub mod Words
 pub mod Lines
 pub mod Replies
 pub mod Session
+pub mod Log
 pub mod Inside

@@ -3,7 +3,7 @@
 
 usage: rx10 draw [TRACE] [-o FILE] [--script FILE] [--span FILE] [--columns N] [--width MM] [--title TEXT] [--svg | --perfetto]
 
-TRACE is what `rx10 step` wrote; standard input where it is left out or `-`. The picture is one HTML file that needs nothing else:
+TRACE is what `rx10 step` wrote, or the log of a session of `rx10-coordinator`; standard input where it is left out or `-`. The picture is one HTML file that needs nothing else:
 NAME.html in this folder for NAME.trace, standard output where the trace came from standard input. The page names its keys.
 
   -o FILE         writes to FILE, by its ending: NAME.html the page, NAME.svg its picture alone, NAME.json what ui.perfetto.dev and
@@ -28,6 +28,7 @@ import activities
 import ends
 import explain
 import inputs
+import log_text
 import options
 import page
 import paper
@@ -139,9 +140,19 @@ def settle_columns(given, refuse):
         refuse("--columns takes a number from %d" % LEAST)
 
 
+def read_history(text):
+    """The trace that a text is, or that of a log."""
+    if not log_text.is_log(text):
+        return trace_text.read_trace(text)
+    try:
+        return trace_text.read_trace(log_text.trace_of(text))
+    except trace_text.NoTrace as why:
+        raise trace_text.NoTrace(why.number - log_text.HEAD, "this is no line of a log") from None
+
+
 def made_of(given):
     """What is to be written."""
-    trace = trace_text.read_trace(inputs.read(given.trace, "trace", "draw").decode("utf-8", "replace"))
+    trace = read_history(inputs.read(given.trace, "trace", "draw").decode("utf-8", "replace"))
     script = inputs.read(given.script, "script", "draw TRACE --script") if given.script else None
     span = inputs.read(given.span, "chain", "draw TRACE --span").decode("utf-8", "replace") if given.span else None
     chain = chain_of(given.span, span, trace) if given.span else frozenset()

@@ -5,7 +5,8 @@ usage: rx10 laws TRACE
 
 TRACE may be `-`, for standard input. A line tells whether each entry is allowed by the rules of tasks and scopes, under the deaths and
 joins that the trace was given, and one line for each law whether it holds. The answers are those of a model in Python, and not proved. The
-laws of the order of statements need the script, and `rx10 verify` tells of them.
+laws of the order of statements need the script, and `rx10 verify` tells of them. TRACE may be the log of a session of `rx10-coordinator`,
+too: then the deaths and joins stand where its entries tell them.
 
 Exit status: 0 all of it holds, 1 something does not; 2 the words, 10 the text is no trace, 125 it can't be read.
 """
@@ -15,6 +16,7 @@ import sys
 import ends
 import explain
 import inputs
+import log_text
 import trace_text
 from model import Refused
 from model.laws import History
@@ -59,11 +61,15 @@ def main(words):
     except OSError as why:
         print("rx10: can't read %s: %s" % (name, why.strerror), file=sys.stderr)
         return ends.FAILED
-    bad = first_bad_line(text.decode("latin-1"))
+    whole, head = text.decode("latin-1"), 0
+    if log_text.is_log(whole):
+        whole, head = log_text.trace_of(whole), log_text.HEAD
+    bad = first_bad_line(whole)
     if bad:
-        print("bad line %d\n%s" % (bad, explain.of_line(name, text, bad)), file=sys.stderr)
+        more = "%s:%d: this is no line of a log" % (name, bad - head) if head else explain.of_line(name, text, bad)
+        print("bad line %d\n%s" % (bad - head, more), file=sys.stderr)
         return 10
-    told = answers(trace_text.read_trace(text.decode("latin-1")))
+    told = answers(trace_text.read_trace(whole))
     for question, answer in told:
         print("%-31s %s" % (question, "yes" if answer is None else "no: " + answer))
     print("(by the model in tools/model, which is not proved)")

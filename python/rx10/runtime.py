@@ -24,7 +24,8 @@ HUB = f"import sys; sys.path.insert(0, {os.path.dirname(program.HERE)!r}); from 
 class Runtime(Calls):
     """A job. `with` it: the thread that enters is the main task, at place 0. The end waits for what no finish waited for, and ends all places."""
 
-    def __init__(self, engine: Engine, places: int, threads: int = 1, backlog: int = BACKLOG, record: Optional[str] = None) -> None:
+    def __init__(self, engine: Engine, places: int, threads: int = 1, backlog: int = BACKLOG, record: Optional[str] = None,
+                 log: Optional[str] = None) -> None:
         """Takes the options that all engines have.
 
         Args:
@@ -33,12 +34,13 @@ class Runtime(Calls):
             backlog: bytes of messages that may wait for a place that does not read. One that is further behind is ended, and a warning
                 of the logger `rx10` says so.
             record: a file for the hub's requests to the coordinator and the replies. `python -m rx10.trace` makes a trace of it.
+            log: a file for the job's history, which the coordinator writes entry by entry. It is new, or has no bytes.
         """
         if places < 1:
             raise ValueError("a job has one place at least")
         if threads < 1:
             raise ValueError("a place runs one task at a time at least")
-        command = [program.find().path, "--places", "1"]
+        command = [program.find().path, "--places", "1", *(["--log", os.path.abspath(log)] if log else [])]
         self._settings: Dict[str, Any] = {
             "command": command, "places": places, "threads": threads, "backlog": backlog, "python": VERSION, "record": record}
         self._engine = engine

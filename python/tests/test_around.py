@@ -211,6 +211,59 @@ class Traces(unittest.TestCase):
         self.assertEqual(done.output, "17\n")
 
 
+LOGGED = """
+import os, sys, rx10
+
+def die():
+    os.kill(os.getpid(), 9)
+
+def chain(n):
+    return n if n == 0 else rx10.at(n % 2 + 1, chain, n - 1)
+
+if __name__ == "__main__":
+    with rx10.local(places=4, record=sys.argv[1], log=sys.argv[2]) as rt:
+        rt.at(1, chain, 4)
+        try:
+            with rt.finish() as f:
+                f.spawn(3, die)
+                f.spawn(2, chain, 3)
+                f.spawn(1, int, "no number")
+        except rx10.Faults:
+            pass
+"""
+
+
+class Logs(unittest.TestCase):
+    """The coordinator's own history of a job, which is that of the hub's record."""
+
+    def setUp(self):
+        self.folder = tempfile.TemporaryDirectory()
+        self.addCleanup(self.folder.cleanup)
+        with open(self.named("job.py"), "w", encoding="ascii") as file:
+            file.write(LOGGED)
+
+    def named(self, name):
+        return os.path.join(self.folder.name, name)
+
+    def played(self, log):
+        return alone.run([sys.executable, self.named("job.py"), self.named("record"), log])
+
+    def test_a_log_is_the_history_of_the_record(self):
+        self.played(self.named("log")).check(self)
+        made = alone.run([sys.executable, "-m", "rx10.trace", self.named("record")])
+        made.check(self)
+        with open(self.named("log"), encoding="ascii") as file:
+            log = file.read()
+        history = made.output.split("history\n", 1)[1].split("journal 0\n", 1)[0]
+        self.assertEqual(log, history)
+        self.assertIn(" death 3\n", log)
+
+    def test_a_file_that_can_be_no_log(self):
+        done = self.played(self.folder.name)
+        self.assertNotEqual(done.status, 0)
+        self.assertIn("CoordinatorLost", done.output)
+
+
 class Texts(unittest.TestCase):
     def test_frames_that_come_in_pieces(self):
         messages = [("a", 1), ("b", b"x" * 100), ("c", None)]

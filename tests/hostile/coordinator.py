@@ -1,10 +1,11 @@
-"""The coordinator: random sessions and random lines beside the model, noise, cut lines, refused memory, failing calls, closed pipes.
+"""The coordinator: random sessions and random lines beside the model, noise, cut lines, refused memory, failing calls, closed pipes, logs.
 
 Each line gets the model's answer; where memory is refused, `no memory` in its place, or the status 8 before anything is written; where a
-write fails, status 7 and a front of the right text.
+write fails, status 7 and a front of the right text; where a write of the log fails, status 11 and the replies to what stands in it.
 """
 
 import errno
+import os
 import random
 import subprocess
 import time
@@ -54,8 +55,8 @@ def random_line(rng):
     return line
 
 
-def session(seed, size):
-    """The requests of a session, and its answers, with the number of places that it opens with."""
+def asked(seed, size):
+    """The requests of a session, its answers with the greeting, the model after it, and the number of places that it opens with."""
     rng = random.Random(seed)
     places = rng.choice([1, 1, 2, 3, 4, 8, 16])
     model = Model(places)
@@ -65,6 +66,12 @@ def session(seed, size):
         line = random_line(rng) if rng.random() < strange else near_state(rng, model)
         lines.append(line)
         replies += model.ask(line)
+    return places, lines, replies, model
+
+
+def session(seed, size):
+    """The requests of a session, and its answers, as texts, with the number of places that it opens with."""
+    places, lines, replies, _ = asked(seed, size)
     return places, text_of(lines), text_of(replies)
 
 
@@ -134,15 +141,16 @@ def noise(program, tally, seed):
 
 # Where memory is refused.
 
-def refused_complaint(places, text, answer, alone):
+def refused_complaint(places, text, answer, alone, log=None):
     """None where each line has the model's answer, or `no memory`, or where nothing is written and the status is 8. Each release that
-    waited is told once, behind a later reply if memory ran out for it; and not at all where it is refused to the end."""
+    waited is told once, behind a later reply if memory ran out for it; and not at all where it is refused to the end. A log has the
+    entries of what was answered."""
     if (answer.status, answer.out, answer.err) == (8, b"", b"no memory\n"):
-        return None
+        return "the log has %r" % log if log else None
     got = answer.out.decode("latin-1").split("\n")
     if (answer.status, answer.err) != (0, b"") or got.pop() != "":
         return short(answer)
-    model, late = Model(places), []
+    model, late, in_time = Model(places), [], True
     if not got or got.pop(0) != model.greeting():
         return short(answer)
     for line in text.decode("latin-1").split("\n")[:-1]:
@@ -158,13 +166,20 @@ def refused_complaint(places, text, answer, alone):
             if got[0] not in late:
                 return "%r is told, and not right" % got[0]
             late.remove(got.pop(0))
-    return "%r is not told, %r is too much" % (late, got) if got or late and alone else None
+        in_time = in_time and not late
+    if got or late and alone:
+        return "%r is not told, %r is too much" % (late, got)
+    # (where a release was told late, the model's entries stand in another order)
+    if log is not None and in_time and log != text_of(model.entries):
+        return "the log: " + first_difference(text_of(model.entries), log)
+    return None
 
 
-def refused(program, places, text, refusal):
+def refused(program, places, text, refusal, has_log=False):
     """What is wrong where this refusal comes (ALLOC or ALLOC_FROM, and a number)."""
-    answer, counts = program.counted(["--places", str(places)], text, **refusal)
-    wrong = refused_complaint(places, text, answer, "alloc" in refusal)
+    words = ["--places", str(places)] + (["--log", fresh(program)] if has_log else [])
+    answer, counts = program.counted(words, text, **refusal)
+    wrong = refused_complaint(places, text, answer, "alloc" in refusal, written(program) if has_log else None)
     if wrong is None and (counts is None or counts[5] != 0):
         return "%s blocks are not given back" % (counts and counts[5])
     return wrong
@@ -176,8 +191,108 @@ def memory(program, tally):
     _, counts = program.counted(["--places", str(places)], text, alloc=0)
     cases = [("allocation %d refused (%s)" % (n, way), program, places, text, {way: n})
              for way in ("alloc", "alloc_from") for n in range(1, counts[0] + 2)]
+    places, text, _ = session("memory", 300)
+    _, more = program.counted(["--places", str(places), "--log", fresh(program)], text, alloc=0)
+    cases += [("allocation %d refused (%s), with a log" % (n, way), program, places, text, {way: n}, True)
+              for way in ("alloc", "alloc_from") for n in range(1, more[0] + 2)]
     tally.each(cases, refused)
-    tally.note("coordinator: each of %d allocations was refused" % counts[0])
+    tally.note("coordinator: each of %d allocations was refused, and of %d with a log" % (counts[0], more[0]))
+
+
+# The log.
+
+def log_path(program):
+    """A file for a log, which no other process of these tests writes."""
+    return program.folder / ("log-%d" % os.getpid())
+
+
+def fresh(program):
+    """The name of that file, which is not there."""
+    log_path(program).unlink(missing_ok=True)
+    return str(log_path(program))
+
+
+def written(program):
+    """What stands in it."""
+    return log_path(program).read_bytes() if log_path(program).exists() else b""
+
+
+def logged(program, seed, size):
+    """None where the answers and the log of a session are the model's."""
+    places, lines, replies, model = asked(seed, size)
+    answer = program.run(["--log", fresh(program), "--places", str(places)], text_of(lines))
+    wrong = right(answer, text_of(replies))
+    if wrong is None and written(program) != text_of(model.entries):
+        return "the log: " + first_difference(text_of(model.entries), written(program))
+    return wrong
+
+
+def cut_off(program, seed, size, n):
+    """None where a session ends with its first write of the log that fails: the log has a front of the entries' text, and the output the
+    replies to the entries that stand there whole, and no more."""
+    places, lines, _, _ = asked(seed, size)
+    answer = program.run(["--places", str(places), "--log", fresh(program)], text_of(lines), log=n)
+    log, model = written(program), Model(places)
+    out, whole = [model.greeting()], log.count(b"\n")
+    for line in lines:
+        replies = model.ask(line)
+        if len(model.entries) > whole:
+            break
+        out += replies
+    if len(model.entries) <= whole:
+        return None if (answer.status, answer.err, answer.out) == (0, b"", text_of(out)) else short(answer)
+    if (answer.status, answer.err) != (11, b"log fault\n") or not text_of(model.entries).startswith(log):
+        return short(answer)
+    # (of the line at which it failed some releases may be told, those whose entries are there)
+    rest = answer.out[len(text_of(out)):]
+    return None if answer.out.startswith(text_of(out)) and text_of(replies).startswith(rest) else first_difference(text_of(out), answer.out)
+
+
+def in_order(program, seed, size):
+    """None where each entry's line comes before its reply, and both in the model's order. Log and output go to one pipe."""
+    places, lines, _, _ = asked(seed, size)
+    answer = program.run(["--places", str(places), "--log", "/dev/stdout"], text_of(lines), read_max=300)
+    model, got, told, known = Model(places), answer.out.decode("latin-1").split("\n")[:-1], 0, 0
+    wanted = [(0, model.greeting())]
+    for line in lines:
+        before = len(model.entries)
+        replies = model.ask(line)
+        # (the first reply tells of all new entries but those of the releases behind it)
+        wanted += [(len(model.entries) - (len(replies) - 1 - k), reply) for k, reply in enumerate(replies)]
+        assert before <= wanted[-1][0]
+    for line in got:
+        if known < len(model.entries) and line == model.entries[known]:
+            known += 1
+        elif told < len(wanted) and line == wanted[told][1]:
+            if known < wanted[told][0]:
+                return "%r comes before the entry %r" % (line, model.entries[known])
+            told += 1
+        else:
+            return "%r is neither the next entry nor the next reply" % line
+    return None if (told, known, answer.status) == (len(wanted), len(model.entries), 0) else short(answer)
+
+
+def logs(program, tally):
+    """Logs beside the model; a write of the log that fails; a full disk; files that can't be a log."""
+    tally.each([("log of session %d" % n, program, "log %d" % n, 60) for n in range(40)], logged)
+    tally.each([("write %d of a log fails" % n, program, "cut", 80, n) for n in range(1, 60)], cut_off)
+    tally.each([("log and output in one pipe, session %d" % n, program, "pipe %d" % n, 120) for n in range(8)], in_order)
+    full = program.run(["--log", "/dev/full"], b"bad\nopen t0\nopen t0\n")
+    wanted = Answer(11, text_of([Model(1).greeting(), "malformed"]), b"log fault\n")
+    tally.tell("a log on a full disk", None if full == wanted else short(full))
+    empty = log_path(program)
+    empty.write_bytes(b"")
+    done = program.run(["--log", str(empty)], b"end t0\n")
+    tally.tell("a log that is there and empty", None if (done.status, empty.read_bytes()) == (0, b"0 end t0\n") else short(done))
+    for name, path in [("has bytes", str(empty)), ("is a folder", str(program.folder)), ("has no folder", str(program.folder / "no" / "log")),
+                       ("has no name", "")]:
+        kept = empty.read_bytes()
+        done = program.run(["--log", path], b"end t0\n")
+        good = (done.status, done.out) == (12, b"") and done.err.startswith(b"no log: ") and done.err.count(b"\n") == 1
+        tally.tell("a log that " + name, None if good and empty.read_bytes() == kept else short(done))
+    empty.unlink()
+    for words in (["--log"], ["--log", "a", "--log", "b"], ["--places", "2", "--log"], ["--log", "a", "--places"], ["--log", "a", "x"]):
+        tally.tell("the words " + " ".join(words), None if program.run(words, b"").status == 2 else "the status is another one")
 
 
 # Where the outside fails.
@@ -214,4 +329,5 @@ def run(program, tally):
     noise(program, tally, tally.seed)
     memory(program, tally)
     outside(program, tally)
+    logs(program, tally)
     sessions(program, tally, tally.seconds, tally.seed)

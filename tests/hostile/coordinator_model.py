@@ -2,7 +2,7 @@
 
 Nothing is counted: each question walks the tree. It is what random sessions are held to, and it can stand in for the program:
 
-    python3 coordinator_model.py [--places N] < requests > replies
+    python3 coordinator_model.py [--places N] [--log FILE] < requests > replies
 
 It is not proved, and slow on large trees.
 """
@@ -59,6 +59,11 @@ class Model:
         self.tasks = {0: Task(0, self.root, 0)}
         self.next_task, self.next_scope = 1, 1
         self.parked, self.root_parked = [], False
+        self.entries = []               # the lines of the log, without their ends
+
+    def enter(self, text, *more):
+        """One entry more."""
+        self.entries.append(" ".join([str(len(self.entries)), text, *more]))
 
     def greeting(self):
         return "coordinator 1 places %d most %d line %d main t0" % (self.places, MOST, LONGEST)
@@ -118,14 +123,27 @@ class Model:
         return words + (["thrown", *map(str, thrown)] if thrown else [])
 
     def let_go(self, task):
-        words = self.freed(self.inner(task))
+        scope = self.inner(task)
+        words = self.freed(scope)
         task.waits = False
+        self.enter("release t%d s%d" % (task.number, scope.number), *coded(words))
         return words
+
+    def let_root_go(self):
+        words = self.freed(self.root)
+        self.enter("release host s0", *coded(words))
+        return words
+
+    def started(self, task, child, source, place):
+        self.enter("spawn t%d t%d in s%d %d %d 0" % (task.number, child.number, child.under.number, source, place))
 
     # Requests.
 
     def open(self, number):
-        return "opened s%d" % self.opened("finish", self.live(number)).number
+        task = self.live(number)
+        scope = self.opened("finish", task)
+        self.enter("open t%d s%d in s%d 0" % (number, scope.number, scope.parent.number))
+        return "opened s%d" % scope.number
 
     def at(self, number, place):
         task = self.live(number)
@@ -134,15 +152,21 @@ class Model:
         scope = self.opened("at", task)
         child = self.born(scope, task.place, place)
         task.waits = True
+        self.enter("at t%d s%d in s%d t%d %d %d 0" % (number, scope.number, scope.parent.number, child.number, task.place, place))
         return told("called", child)
 
     def spawn(self, number, place):
         task = self.live(number)
-        return told("spawned", self.born(self.inner(task).governing(), task.place, place))
+        child = self.born(self.inner(task).governing(), task.place, place)
+        self.started(task, child, task.place, place)
+        return told("spawned", child)
 
     def send(self, number, place):
         task = self.live(number)
         child = self.born(self.inner(task).governing(), task.place, place)
+        self.started(task, child, task.place, place)
+        if child.source is not None:
+            self.enter("arrive t%d %d" % (child.number, place))
         child.source = None
         return told("sent", child)
 
@@ -151,6 +175,7 @@ class Model:
         if task.source is None:
             raise Bad
         task.source = None
+        self.enter("arrive t%d %d" % (number, task.place))
         return "landed"
 
     def wait(self, number, *faults):
@@ -159,6 +184,7 @@ class Model:
         if scope.opener is not task or scope.kind != "finish":
             raise Bad
         scope.body, task.waits = list(faults), True
+        self.enter("wait t%d s%d" % (number, scope.number), *thrown(faults))
         return "waits"
 
     def release(self, number):
@@ -176,12 +202,14 @@ class Model:
             raise Bad
         task.under.ends += faults
         del self.tasks[task.number]
+        self.enter("end t%d" % number, *thrown(faults))
         return "ended"
 
     def death(self, place):
         if not 0 < place < self.places or place in self.dead:
             raise Bad
         self.dead.add(place)
+        self.enter("death %d" % place)
         for task in self.tasks.values():
             if task.lost_at is None and place in (task.place, task.source):
                 task.lost_at = place
@@ -191,6 +219,7 @@ class Model:
         if self.places >= MOST:
             raise Bad
         self.places += 1
+        self.enter("join %d" % (self.places - 1))
         return "joined %d" % (self.places - 1)
 
     def release_root(self):
@@ -199,7 +228,7 @@ class Model:
         if not self.is_quiet(self.root):
             self.root_parked = True
             return "parked"
-        return " ".join(["released", *self.freed(self.root)])
+        return " ".join(["released", *self.let_root_go()])
 
     def let_waiters_go(self):
         """The lines of the releases that waited and are possible now, in the order of their scopes."""
@@ -211,7 +240,7 @@ class Model:
                 lines.append(" ".join(["freed t%d" % task.number, *self.let_go(task)]))
         if self.root_parked and self.is_quiet(self.root):
             self.root_parked = False
-            lines.append(" ".join(["freed root", *self.freed(self.root)]))
+            lines.append(" ".join(["freed root", *self.let_root_go()]))
         return lines
 
     # Lines.
@@ -231,6 +260,17 @@ class Model:
 def told(verb, child):
     """The reply that tells of a task that was started."""
     return "%s t%d in s%d" % (verb, child.number, child.under.number) + (" lost" if child.lost_at is not None else "")
+
+
+def thrown(faults):
+    """The words of an entry for faults."""
+    return ["thrown", *("code:%s" % fault for fault in faults)] if faults else []
+
+
+def coded(words):
+    """The words of an entry for what a reply tells of a release."""
+    at = words.index("thrown") if "thrown" in words else len(words)
+    return words[:at] + thrown(words[at + 1:])
 
 
 def number(word, limit):
@@ -278,11 +318,17 @@ def answers(text, places=1):
 
 def main():
     places = int(sys.argv[sys.argv.index("--places") + 1]) if "--places" in sys.argv else 1
-    model = Model(places)
+    log = open(sys.argv[sys.argv.index("--log") + 1], "a", encoding="ascii") if "--log" in sys.argv else None
+    model, logged = Model(places), 0
     print(model.greeting(), flush=True)
     for line in sys.stdin.buffer:
         if line.endswith(b"\n"):
-            print("\n".join(model.ask(line[:-1].decode("latin-1"))), flush=True)
+            replies = model.ask(line[:-1].decode("latin-1"))
+            if log is not None:
+                log.write("".join(entry + "\n" for entry in model.entries[logged:]))
+                log.flush()
+                logged = len(model.entries)
+            print("\n".join(replies), flush=True)
 
 
 if __name__ == "__main__":

@@ -5,6 +5,7 @@
 //   HOSTILE_ALLOC=n       refuses the n-th allocation        HOSTILE_ALLOC_FROM=n  refuses the n-th and all later ones
 //   HOSTILE_READ=n        the n-th read of descriptor 0 fails    HOSTILE_WRITE=n   the n-th write of descriptor 1 fails
 //   HOSTILE_ERRNO=e       with this error (EIO where it is not given)
+//   HOSTILE_LOG=n         the n-th write of a descriptor above 2 takes half of its bytes, and the next one fails
 //   HOSTILE_READ_MAX=n    a read gives n bytes at most       HOSTILE_WRITE_MAX=n   a write takes n bytes at most
 //   HOSTILE_WRITE_ZERO=n  the n-th write takes no byte and does not fail
 //   HOSTILE_TELL=1        writes to descriptor 2 fail        HOSTILE_THREAD=n      the n-th thread can't be started
@@ -34,9 +35,9 @@ ssize_t __read(int, void *, size_t);
 ssize_t __write(int, const void *, size_t);
 
 static int armed;
-static long refused_alloc, refused_from, failed_read, failed_write, zero_write, failed_thread, read_max, write_max;
+static long refused_alloc, refused_from, failed_read, failed_write, failed_log, zero_write, failed_thread, read_max, write_max;
 static long raised, raised_at, error = EIO, mute, nap;
-static atomic_long allocs, reads, writes, threads, calls, held, workers;
+static atomic_long allocs, reads, writes, logs, threads, calls, held, workers;
 static _Thread_local int works;
 
 static long number(const char *name) {
@@ -108,6 +109,14 @@ ssize_t write(int fd, const void *buf, size_t n) {
         errno = (int)error;
         return -1;
     }
+    if (fd > 2 && armed && failed_log) {
+        long k = atomic_fetch_add(&logs, 1) + 1;
+        if (k == failed_log) return __write(fd, buf, n / 2);
+        if (k == failed_log + 1) {
+            errno = (int)error;
+            return -1;
+        }
+    }
     if (fd != 1 || !armed) return __write(fd, buf, n);
     call();
     long k = atomic_fetch_add(&writes, 1) + 1;
@@ -131,6 +140,7 @@ __attribute__((constructor)) static void arm(void) {
     refused_from = number("HOSTILE_ALLOC_FROM");
     failed_read = number("HOSTILE_READ");
     failed_write = number("HOSTILE_WRITE");
+    failed_log = number("HOSTILE_LOG");
     zero_write = number("HOSTILE_WRITE_ZERO");
     failed_thread = number("HOSTILE_THREAD");
     read_max = number("HOSTILE_READ_MAX");

@@ -1,5 +1,6 @@
 -- A session goes on.
 use Rattle.std.proofs.Common.{◌≡◌, ℕ, true, ◌||◌, List, [], ◌∷◌, ◌++◌, refl, ap, sym, ◌∙◌, subst, append_assoc, append-nil, inl, inr}
+use Rattle.rx_base.specs.declared.ids.ScopeId.{ScopeId}
 use Rattle.rx_base.specs.declared.ids.TaskId.{TaskId}
 use Rattle.rx_rules.specs.declared.entries.Entry.{Entry}
 use Rattle.rx_finish.specs.declared.ledger.Outcome.{Outcome}
@@ -12,7 +13,7 @@ use Rattle.rx_coordinator.specs.declared.waiters.Waiters.{Waiters}
 use Rattle.rx_coordinator.specs.declared.parking.Parking.{Parking}
 use Rattle.rx_coordinator.specs.declared.parking.Freed.TheVariants.{One, NoOne, Short}
 use Rattle.rx_coordinator.specs.Stands.{Asked, Landing}
-use Rattle.rx_coordinator.specs.Parking.{Parks, AskedBeside, FreedIs, request_of, answer_to}
+use Rattle.rx_coordinator.specs.Parking.{Parks, AskedBeside, FreedFrom, FreedIs, request_of, answer_to}
 use Rattle.rx10_coordinator.specs.Replies.{freed_line}
 use Rattle.rx10_coordinator.specs.Session.{Between, Are, Asks, Frees, FreesEach, Rests, freed_lines, Answered, AllAnswered, ran_out}
 use Rattle.rx10_coordinator.specs.Inside.Desk.{Holds}
@@ -46,11 +47,12 @@ asks p b q a k l on h =
     (c, record { asked = subst (λ (ws : Waiters). AskedBeside p b.entries q ws a (Are r.0) l.waiters) (sym on.waiters) r.1; there = r.2.all.there; short = refl }, record { parks = r.2; waiters = refl })
 
 -- a release that has waited is done
-pub frees : (p : ℕ) (b : Between) (who : Waiter) (o : Outcome) (k l : Parking) → Holds p b k → FreedIs p b.entries (One who o) k.waiters (Parks l p) l.waiters → (c : Between) × Frees p b who o c × Holds p c l
-frees p b who o k l on h =
-    let r = asked p b.entries (request_of who) (answer_to who o) (Parks l p) h.3 in
+pub frees : (p : ℕ) (b : Between) (s : ScopeId) (who : Waiter) (o : Outcome) (k l : Parking) → Holds p b k → FreedIs p b.entries (One s who o) k.waiters (Parks l p) l.waiters → (c : Between) × Frees p b who o c × Holds p c l
+frees p b s who o k l on h =
+    let r = asked p b.entries (request_of who) (answer_to who o) (Parks l p) h.2 in
     let c : Between = record { entries = r.0; waiters = l.waiters; is_short = b.is_short } in
-    (c, record { freed = subst (λ (ws : Waiters). FreedIs p b.entries (One who o) ws (Are r.0) l.waiters) (sym on.waiters) (h.0, h.1, h.2, r.1, h.4, h.5); short = refl }, record { parks = r.2; waiters = refl })
+    let freed : FreedFrom p b.entries s.0 who o k.waiters (Are r.0) l.waiters = (h.0, h.1, r.1, h.3, h.4) in
+    (c, record { scope = s.0; freed = subst (λ (ws : Waiters). FreedFrom p b.entries s.0 who o ws (Are r.0) l.waiters) (sym on.waiters) freed; short = refl }, record { parks = r.2; waiters = refl })
 
 -- none is possible
 pub rests : (p : ℕ) (b : Between) (k l : Parking) → Holds p b k → FreedIs p b.entries NoOne k.waiters (Parks l p) l.waiters → (c : Between) × Rests p b c × Holds p c l
@@ -67,6 +69,11 @@ wants p b k l on h =
 -- or the loop has made all its turns
 pub stops : (p : ℕ) (b : Between) (k : Parking) → Holds p b k → (c : Between) × Rests p b c × Holds p c k
 stops p b k on = wants p b k k on (on.parks, λ m. inl refl)
+
+-- nothing comes by that
+pub rested-same : (p : ℕ) (b c : Between) → Rests p b c → b.entries ≡ c.entries
+rested-same p b c (inl h) = h.0.0
+rested-same p b c (inr h) = h.0.0
 
 -- one release more
 pub frees-more : (p : ℕ) (b : Between) (xs : List (Waiter × Outcome)) (c d : Between) (who : Waiter) (o : Outcome) → FreesEach p b xs c → Frees p c who o d → FreesEach p b (xs ++ (who, o) ∷ []) d

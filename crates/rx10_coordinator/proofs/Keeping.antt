@@ -20,11 +20,10 @@ use Rattle.rx_coordinator.specs.declared.requests.Answer.{Answer}
 use Rattle.rx_coordinator.specs.declared.waiters.Waiter.{Waiter}
 use Rattle.rx_coordinator.specs.declared.waiters.Waiter.TheVariants.{Task as TaskWaits, Root as Host}
 use Rattle.rx_coordinator.specs.declared.waiters.Waiters.{Waiters}
-use Rattle.rx_coordinator.specs.declared.parking.Freed.TheVariants.{One}
 use Rattle.rx_coordinator.specs.Telling.{seat_of, seat_told}
 use Rattle.rx_coordinator.specs.Waiters.{waiter_at}
 use Rattle.rx_coordinator.specs.Stands.{Asked, Told, May}
-use Rattle.rx_coordinator.specs.Parking.{WaitsThere, PassedBy, FreedIs, waiter_of, request_of, answer_to}
+use Rattle.rx_coordinator.specs.Parking.{WaitsThere, PassedBy, FreedFrom, waiter_of, request_of, answer_to}
 use Rattle.rx_coordinator.specs.Inside.Walks.{IsSame}
 use Rattle.rx_coordinator.proofs.Telling.{others_told, told_some}
 use Rattle.rx_coordinator.proofs.Newcomers.{root_told}
@@ -175,11 +174,11 @@ makes : (p : ℕ) (es fs : List Entry) (who : Waiter) (o : Outcome) → Asked p 
 makes p es fs (TaskWaits t) o k = (k.0, k.1, k.2, grows p es fs k.0 k.3)
 makes p es fs Host o k = (k.0, k.1, k.2, grows p es fs k.0 k.3)
 
-pub freed_at : (p : ℕ) (es fs : List Entry) (ws us : Waiters) (who : Waiter) (o : Outcome) → FreedIs p es (One who o) ws (Are fs) us
+pub freed_at : (p : ℕ) (es fs : List Entry) (ws us : Waiters) (n : ℕ) (who : Waiter) (o : Outcome) → FreedFrom p es n who o ws (Are fs) us
     → FreedAt (tree_of p es) (length es) ws who o (tree_of p fs) (length fs) us
-freed_at p es fs ws us who o h =
-    let k = makes p es fs who o h.3 in
-    record { row = h.0; here = h.1; gone = h.2; entry = k.0; told = k.1; may = k.2; is = k.3; before = h.4; later = h.5 }
+freed_at p es fs ws us n who o h =
+    let k = makes p es fs who o h.2 in
+    record { row = n; here = h.0; gone = h.1; entry = k.0; told = k.1; may = k.2; is = k.3; before = h.3; later = h.4 }
 
 -- who was passed by and waits still has waited
 kept-row : (T : Tree) (k : ℕ) (o now : Option Waiter) (z : Waiter) → PassedBy T k o now → now ≡ Some z → o ≡ Some z

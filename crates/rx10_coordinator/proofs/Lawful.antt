@@ -41,7 +41,7 @@ module _ (p : ℕ) where
 
   each : (b c : Between) (xs : List (Waiter × Outcome)) → Lawful b.entries → FreesEach p b xs c → Lawful c.entries
   each b c [] h k = subst (λ (z : Between). Lawful z.entries) (sym k) h
-  each b c (x ∷ xs) h k = each k.0 c xs (asked b.entries k.0.entries (request_of x.0) (answer_to x.0 x.1) h k.1.freed.3) k.2
+  each b c (x ∷ xs) h k = each k.0 c xs (asked b.entries k.0.entries (request_of x.0) (answer_to x.0 x.1) h k.1.freed.2) k.2
 
   rested : (b c : Between) → Lawful b.entries → Rests p b c → Lawful c.entries
   rested b c h (inl k) = same b.entries c.entries k.0.0 h

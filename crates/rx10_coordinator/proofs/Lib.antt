@@ -2,6 +2,9 @@ pub mod Faults
 pub mod Telling
 pub mod Cutting
 pub mod Going
+pub mod LogLines
+pub mod Noting
+pub mod Logging
 pub mod Serving
 pub mod Lawful
 pub mod OneEntry

@@ -1,19 +1,26 @@
 -- What was served.
-use Rattle.std.specs.Prelude.{Bool, true, false, ◌⊎◌, ◌-◌, ◌^◌}
-use Rattle.std.proofs.Common.{◌≡◌, ℕ, ◌+◌, ◌≤◌, List, [], ◌++◌, length, take, length-append, length-take, Option, refl, sym, ◌∙◌, subst, append-nil, inl, inr, arith}
-use Rattle.std.specs.Io.KnownBytes.{Consumes, IsAtEnd}
+use Rattle.std.specs.Prelude.{true, false, ◌⊎◌, ◌-◌, ◌^◌}
+use Rattle.std.proofs.Common.{◌≡◌, ℕ, ◌+◌, ◌≤◌, Bool, List, [], ◌∷◌, ◌++◌, length, take, length-append, length-take, Option, None, refl, sym, ◌∙◌, ap, subst, append_assoc, append-nil, inl, inr, arith}
+use Rattle.std.specs.Io.KnownBytes.{Consumes, IsAtEnd, Appends}
 use Rattle.std.proofs.KnownBytes.{Appends-nil, Consumes-trans}
 use Rattle.rx_base.specs.Outside.{Rose}
+use Rattle.rx_rules.specs.declared.entries.Entry.{Entry}
 use Rattle.rx_coordinator.specs.declared.parking.Parking.{Parking}
 use Rattle.rx10_coordinator.specs.declared.desk.Desk.{Desk}
+use Rattle.rx10_coordinator.specs.declared.log.Log.{Log}
 use Rattle.rx10_coordinator.specs.declared.output.Pending.{Pending}
 use Rattle.rx10_coordinator.specs.declared.received.Received.{Received}
 use Rattle.rx10_coordinator.specs.declared.status.Status.{Status}
-use Rattle.rx10_coordinator.specs.declared.status.Status.TheVariants.{Done, ReadFault, WriteFault}
-use Rattle.rx10_coordinator.specs.Session.{Between, IsOpen, Served, greeting}
-use Rattle.rx10_coordinator.specs.Inside.Telling.{Tells, IsLeft}
-use Rattle.rx10_coordinator.specs.Inside.Desk.{Holds, Serves, IsLine}
-use Rattle.rx10_coordinator.proofs.Telling.{without}
+use Rattle.rx10_coordinator.specs.declared.status.Status.TheVariants.{Done, ReadFault, WriteFault, LogFault}
+use Rattle.rx10_coordinator.specs.Session.{Between, IsOpen, Answered, Served, greeting}
+use Rattle.rx10_coordinator.specs.Log.{Logged, HasFailed, log_lines}
+use Rattle.rx10_coordinator.specs.Inside.Telling.{Tells, IsLeft, Puts}
+use Rattle.rx10_coordinator.specs.Inside.Logging.{IsLogged, IsTorn}
+use Rattle.rx10_coordinator.specs.Inside.Desk.{Holds, Serves, Breaks, IsLine}
+use Rattle.rx10_coordinator.proofs.Telling.{without, joined}
+use Rattle.rx10_coordinator.proofs.Cutting.{line-ends}
+use Rattle.rx10_coordinator.proofs.Going.{answers-more}
+use Rattle.rx10_coordinator.proofs.Logging.{left-whole, left-rose}
 
 -- nothing was told so far
 pub tells-none : (w : Option (List ℕ)) (f : ℕ) (t : Pending) → t.text.items ≡ [] → t.is_failed ≡ false → Tells w f w f t []
@@ -27,8 +34,8 @@ tells-none w f t none whole =
       is-left true g rest text e same = cc
 
 -- the greeting is told
-pub opened : (p : ℕ) (w : Option (List ℕ)) (f : ℕ) (v : Option (List ℕ)) (g : ℕ) (b : Between) (k : Parking) (d : Desk) (r : Received) → IsOpen b → Holds p b k → d.parking ≡ k → IsLine r [] → Tells w f v g d.pending (greeting p) → Serves p w f v g d r []
-opened p w f v g b k d r opens holds same line told =
+pub opened : (p : ℕ) (w : Option (List ℕ)) (f : ℕ) (v : Option (List ℕ)) (g : ℕ) (x : Option (List ℕ)) (h : ℕ) (b : Between) (k : Parking) (l : Log) (d : Desk) (r : Received) → IsOpen b → Holds p b k → d.parking ≡ k → d.log ≡ l → IsLogged x h x h l [] → IsLine r [] → Tells w f v g d.pending (greeting p) → Serves p w f v g x h x h d r []
+opened p w f v g x h b k l d r opens holds same as log line told =
     record {
       lines = [];
       last = [];
@@ -41,11 +48,12 @@ opened p w f v g b k d r opens holds same line told =
       holds = subst (Holds p b) (sym same) holds;
       reads = line;
       tells = subst (λ (z : List ℕ). Tells w f v g d.pending z) (sym (append-nil (greeting p))) told;
+      logged = subst (λ (es : List Entry). IsLogged x h x h d.log es) (sym opens.entries) (subst (λ (m : Log). IsLogged x h x h m []) (sym as) log);
     }
 
 -- what is told is written
-pub wrote : (p : ℕ) (w : Option (List ℕ)) (f : ℕ) (v x : Option (List ℕ)) (g h : ℕ) (d e : Desk) (r : Received) (bytes : List ℕ) → e.parking ≡ d.parking → ((text : List ℕ) → Tells w f v g d.pending text → Tells w f x h e.pending (text ++ [])) → Serves p w f v g d r bytes → Serves p w f x h e r bytes
-wrote p w f v x g h d e r bytes same told s =
+pub wrote : (p : ℕ) (w : Option (List ℕ)) (f : ℕ) (v u : Option (List ℕ)) (g k : ℕ) (x : Option (List ℕ)) (h : ℕ) (y : Option (List ℕ)) (i : ℕ) (d e : Desk) (r : Received) (bytes : List ℕ) → e.parking ≡ d.parking → e.log ≡ d.log → ((text : List ℕ) → Tells w f v g d.pending text → Tells w f u k e.pending (text ++ [])) → Serves p w f v g x h y i d r bytes → Serves p w f u k x h y i e r bytes
+wrote p w f v u g k x h y i d e r bytes same as told s =
     record {
       lines = s.lines;
       last = s.last;
@@ -57,52 +65,168 @@ wrote p w f v x g h d e r bytes same told s =
       answered = s.answered;
       holds = subst (Holds p s.after) (sym same) s.holds;
       reads = s.reads;
-      tells = without w f x h e.pending (greeting p ++ s.replies) (told (greeting p ++ s.replies) s.tells);
+      tells = without w f u k e.pending (greeting p ++ s.replies) (told (greeting p ++ s.replies) s.tells);
+      logged = subst (λ (l : Log). IsLogged x h y i l s.after.entries) (sym as) s.logged;
     }
 
--- nothing is left, or a write has failed
-left-whole : (b : Bool) (f g : ℕ) (rest text : List ℕ) → b ≡ false → text ≡ [] → IsLeft b f g rest text → rest ≡ []
-left-whole false f g rest text e none h = h ∙ none
-left-whole true f g rest text e none h = cc
+module _ (p : ℕ) (w : Option (List ℕ)) (f : ℕ) (v : Option (List ℕ)) (g : ℕ) (x : Option (List ℕ)) (h : ℕ) (y : Option (List ℕ)) (i : ℕ) (d : Desk) (r : Received) (bytes : List ℕ) (old new : Option (List ℕ)) where
+  -- all that was read was heard
+  heard : (status : Status) (s : Serves p w f v g x h y i d r bytes) → Consumes old new bytes → (status ≡ LogFault → ⊥) → (s.tells.rest ≡ []) ⊎ HasFailed f g status → (status ≡ Done → IsAtEnd new ⊎ (2 ^ 64 - 1 ≤ length bytes)) → Logged p old new w v x y f g h i status
+  heard status s took apart whole over =
+      record {
+        heard = bytes;
+        unheard = [];
+        text = greeting p ++ s.replies;
+        written = s.tells.sent;
+        rest = s.tells.rest;
+        more = [];
+        part = [];
+        left = [];
+        took = subst (Consumes old new) (sym (append-nil bytes)) took;
+        session = record { lines = s.lines; last = s.last; before = s.before; after = s.after; replies = s.replies; cut = s.cut; opens = s.opens; answered = s.answered; told = refl };
+        wrote = s.tells.wrote;
+        front = s.tells.all;
+        whole = whole;
+        logged = subst (Appends x y) (sym (append-nil (log_lines 0 s.after.entries))) s.logged.lines;
+        torn = refl;
+        kept = inl (refl, refl);
+        fails = λ e. absurd (apart e);
+        over = over;
+      }
 
-left-failed : (b : Bool) (f g : ℕ) (rest text : List ℕ) → b ≡ true → IsLeft b f g rest text → Rose f g
-left-failed true f g rest text e h = h.0
-left-failed false f g rest text e h = cc
+  pub served : (status : Status) → (status ≡ LogFault → ⊥) → d.pending.is_failed ≡ false → d.pending.text.items ≡ [] → Consumes old new bytes → (status ≡ Done → IsAtEnd new ⊎ (2 ^ 64 - 1 ≤ length bytes)) → Serves p w f v g x h y i d r bytes → Logged p old new w v x y f g h i status
+  served status apart ok none took over s = heard status s took apart (inl (left-whole d.pending.is_failed f g s.tells.rest d.pending.text.items ok none s.tells.left)) over
 
-pub served : (p : ℕ) (w : Option (List ℕ)) (f : ℕ) (v : Option (List ℕ)) (g : ℕ) (d : Desk) (r : Received) (bytes : List ℕ) (old new : Option (List ℕ)) (status : Status) → d.pending.is_failed ≡ false → d.pending.text.items ≡ [] → Consumes old new bytes → (status ≡ Done → IsAtEnd new ⊎ (2 ^ 64 - 1 ≤ length bytes)) → Serves p w f v g d r bytes → Served p old new w v f g status
-served p w f v g d r bytes old new status ok none took over s =
-    let t = s.tells in
+  pub unwritten : d.pending.is_failed ≡ true → Consumes old new bytes → Serves p w f v g x h y i d r bytes → Logged p old new w v x y f g h i WriteFault
+  unwritten fails took s =
+      heard WriteFault s took (λ e. (let n : ⊥ = cc in n)) (inr (inl refl, left-rose d.pending.is_failed f g s.tells.rest d.pending.text.items fails s.tells.left))
+      (λ e. absurd (let n : ⊥ = cc in n))
+
+-- a write to the log has failed, and the replies so far are written or not
+pub broken : (p : ℕ) (w : Option (List ℕ)) (f : ℕ) (v u : Option (List ℕ)) (g k : ℕ) (x : Option (List ℕ)) (h : ℕ) (y : Option (List ℕ)) (i : ℕ) (d e : Desk) (bytes : List ℕ) (old new : Option (List ℕ)) → e.pending.text.items ≡ [] → ((text : List ℕ) → Tells w f v g d.pending text → Tells w f u k e.pending (text ++ [])) → Consumes old new bytes → Breaks p w f v g x h y i d bytes → Logged p old new w u x y f k h i LogFault
+broken p w f v u g k x h y i d e bytes old new none told took s =
+    let text = greeting p ++ s.replies in
+    let t = without w f u k e.pending text (told text s.tells) in
     record {
-      bytes = bytes;
-      text = greeting p ++ s.replies;
+      heard = s.heard;
+      unheard = s.unheard;
+      text = text;
       written = t.sent;
       rest = t.rest;
-      took = took;
+      more = s.torn.more;
+      part = s.torn.part;
+      left = s.torn.left;
+      took = subst (Consumes old new) s.all took;
       session = record { lines = s.lines; last = s.last; before = s.before; after = s.after; replies = s.replies; cut = s.cut; opens = s.opens; answered = s.answered; told = refl };
       wrote = t.wrote;
       front = t.all;
-      whole = inl (left-whole d.pending.is_failed f g t.rest d.pending.text.items ok none t.left);
-      over = over;
+      whole = by e.pending.is_failed refl t.rest t.left;
+      logged = s.torn.lines;
+      torn = s.torn.torn;
+      kept = inr refl;
+      fails = λ _. s.torn.rose;
+      over = λ c. absurd (let n : ⊥ = cc in n);
     }
+  where
+    by : (b : Bool) → e.pending.is_failed ≡ b → (rest : List ℕ) → IsLeft e.pending.is_failed f k rest e.pending.text.items → (rest ≡ []) ⊎ HasFailed f k LogFault
+    by false c rest left = inl (left-whole e.pending.is_failed f k rest e.pending.text.items c none left)
+    by true c rest left = inr (inr refl, left-rose e.pending.is_failed f k rest e.pending.text.items c left)
 
-pub unwritten : (p : ℕ) (w : Option (List ℕ)) (f : ℕ) (v : Option (List ℕ)) (g : ℕ) (d : Desk) (r : Received) (bytes : List ℕ) (old new : Option (List ℕ)) → d.pending.is_failed ≡ true → Consumes old new bytes → Serves p w f v g d r bytes → Served p old new w v f g WriteFault
-unwritten p w f v g d r bytes old new fails took s =
-    let t = s.tells in
+-- without a log, none can fail
+no-rise : Rose 0 0 → ⊥
+no-rise r = grind (arith, r)
+
+pub no-fault : (p : ℕ) (old new w v y : Option (List ℕ)) (f g : ℕ) (status : Status) → Logged p old new w v None y f g 0 0 status → status ≡ LogFault → ⊥
+no-fault p old new w v y f g status s e = no-rise (s.fails e)
+
+pub unlogged : (p : ℕ) (old new w v y : Option (List ℕ)) (f g : ℕ) (status : Status) → Logged p old new w v None y f g 0 0 status → Served p old new w v f g status
+unlogged p old new w v y f g status s =
     record {
-      bytes = bytes;
-      text = greeting p ++ s.replies;
-      written = t.sent;
-      rest = t.rest;
-      took = took;
-      session = record { lines = s.lines; last = s.last; before = s.before; after = s.after; replies = s.replies; cut = s.cut; opens = s.opens; answered = s.answered; told = refl };
-      wrote = t.wrote;
-      front = t.all;
-      whole = inr (refl, left-failed d.pending.is_failed f g t.rest d.pending.text.items fails t.left);
-      over = λ e. absurd (let v : ⊥ = cc in v);
+      bytes = s.heard;
+      text = s.text;
+      written = s.written;
+      rest = s.rest;
+      took = took s.kept;
+      session = s.session;
+      wrote = s.wrote;
+      front = s.front;
+      whole = whole s.whole;
+      over = s.over;
+    }
+  where
+    none : status ≡ LogFault → ⊥
+    none e = no-rise (s.fails e)
+
+    took : (((s.unheard ≡ []) × (s.part ≡ [])) ⊎ (status ≡ LogFault)) → Consumes old new s.heard
+    took (inl k) = subst (Consumes old new) (ap (λ z. s.heard ++ z) k.0 ∙ append-nil s.heard) s.took
+    took (inr k) = absurd (none k)
+
+    whole : ((s.rest ≡ []) ⊎ HasFailed f g status) → (s.rest ≡ []) ⊎ ((status ≡ WriteFault) × Rose f g)
+    whole (inl k) = inl k
+    whole (inr k) = by k.0 k.1 where
+      by : ((status ≡ WriteFault) ⊎ (status ≡ LogFault)) → Rose f g → (s.rest ≡ []) ⊎ ((status ≡ WriteFault) × Rose f g)
+      by (inl e) r = inr (e, r)
+      by (inr e) r = absurd (none e)
+
+pub given-as : (p : ℕ) (w : Option (List ℕ)) (f : ℕ) (v : Option (List ℕ)) (g : ℕ) (x : Option (List ℕ)) (h : ℕ) (y : Option (List ℕ)) (i : ℕ) (d : Desk) (r : Received) (bytes other : List ℕ) → bytes ≡ other → Serves p w f v g x h y i d r bytes → Serves p w f v g x h y i d r other
+given-as p w f v g x h y i d r bytes other e s = subst (Serves p w f v g x h y i d r) e s
+
+-- more bytes came, and none of them was heard
+pub unheard : (p : ℕ) (w : Option (List ℕ)) (f : ℕ) (v : Option (List ℕ)) (g : ℕ) (x : Option (List ℕ)) (h : ℕ) (y : Option (List ℕ)) (i : ℕ) (d : Desk) (bytes more all : List ℕ) → all ≡ bytes ++ more → Breaks p w f v g x h y i d bytes → Breaks p w f v g x h y i d all
+unheard p w f v g x h y i d bytes more all e s =
+    record {
+      heard = s.heard;
+      unheard = s.unheard ++ more;
+      lines = s.lines;
+      last = s.last;
+      before = s.before;
+      after = s.after;
+      replies = s.replies;
+      all = e ∙ (ap (λ z. z ++ more) s.all ∙ append_assoc s.heard s.unheard more);
+      cut = s.cut;
+      opens = s.opens;
+      answered = s.answered;
+      tells = s.tells;
+      torn = s.torn;
     }
 
-pub given-as : (p : ℕ) (w : Option (List ℕ)) (f : ℕ) (v : Option (List ℕ)) (g : ℕ) (d : Desk) (r : Received) (bytes other : List ℕ) → bytes ≡ other → Serves p w f v g d r bytes → Serves p w f v g d r other
-given-as p w f v g d r bytes other e s = subst (Serves p w f v g d r) e s
+-- a write to the log has failed in the entries of a line, or in those of a release that it made possible
+pub broke_off : {K : Type 0} (written : K → Option (List ℕ)) (faults : K → ℕ) (o n : K) (p : ℕ) (w : Option (List ℕ)) (f : ℕ) (x : Option (List ℕ)) (h : ℕ) (y : Option (List ℕ)) (i : ℕ) (z : Option (List ℕ)) (j : ℕ) (d e : Desk) (r : Received) (given : List ℕ) (byte : ℕ) → byte ≡ 10 → (s : Serves p w f (written o) (faults o) x h y i d r given)
+    → ((IsTorn x h z j s.after.entries × Puts written faults o d.pending n e.pending [])
+    ⊎ ((c : Between) × (text : List ℕ) × Answered p s.after s.last text c × IsTorn x h z j c.entries × Puts written faults o d.pending n e.pending text))
+    → Breaks p w f (written n) (faults n) x h z j e (given ++ byte ∷ [])
+broke_off written faults o n p w f x h y i z j d e r given byte ends s (inl k) =
+    record {
+      heard = given;
+      unheard = byte ∷ [];
+      lines = s.lines;
+      last = s.last;
+      before = s.before;
+      after = s.after;
+      replies = s.replies;
+      all = refl;
+      cut = s.cut;
+      opens = s.opens;
+      answered = s.answered;
+      tells = without w f (written n) (faults n) e.pending (greeting p ++ s.replies) (k.1 w f (greeting p ++ s.replies) s.tells);
+      torn = k.0;
+    }
+broke_off written faults o n p w f x h y i z j d e r given byte ends s (inr k) =
+    record {
+      heard = given ++ byte ∷ [];
+      unheard = [];
+      lines = s.lines ++ s.last ∷ [];
+      last = [];
+      before = s.before;
+      after = k.0;
+      replies = s.replies ++ k.1;
+      all = sym (append-nil (given ++ byte ∷ []));
+      cut = line-ends 10 byte given s.lines s.last ends s.cut;
+      opens = s.opens;
+      answered = answers-more p s.before s.lines s.replies s.after s.last k.1 k.0 s.answered k.2;
+      tells = joined w f (written n) (faults n) e.pending (greeting p) s.replies k.1 (k.4 w f (greeting p ++ s.replies) s.tells);
+      torn = k.3;
+    }
 
 -- nothing was read
 pub read-none : (a b c : Option (List ℕ)) (given buf : List ℕ) (n : ℕ) → n ≡ 0 → Consumes a b given → Consumes b c (take n buf) → Consumes a c given
@@ -118,3 +242,9 @@ read-more given buf n i low fits some =
 
 pub not-done : ReadFault ≡ Done → ⊥
 not-done e = cc
+
+pub read-fails : ReadFault ≡ LogFault → ⊥
+read-fails e = cc
+
+pub done-fails : Done ≡ LogFault → ⊥
+done-fails e = cc

@@ -111,7 +111,7 @@ module _ (p : ℕ) where
   -- of a release that has waited, too
   freed-here : (b c d : Between) → IsTree (tree b) (count b) (tree c) (count c) → (who : Waiter) (o : Outcome) → Frees p c who o d
       → FreedAt (tree b) (count b) c.waiters who o (tree d) (count d) d.waiters
-  freed-here b c d is who o x = as-first b c is (λ T n. FreedAt T n c.waiters who o (tree d) (count d) d.waiters) (freed_at p c.entries d.entries c.waiters d.waiters who o x.freed)
+  freed-here b c d is who o x = as-first b c is (λ T n. FreedAt T n c.waiters who o (tree d) (count d) d.waiters) (freed_at p c.entries d.entries c.waiters d.waiters x.scope who o x.freed)
 
   frees-one : (b c d e : Between) (who z : Waiter) (o w : Outcome) → Alike b c → Frees p b who o d → Frees p c z w e
       → (freed_line who o ≡ freed_line z w) × Alike d e

@@ -28,7 +28,7 @@ whole w f v g t text done rest all none is h =
 pub without : (w : Option (List ℕ)) (f : ℕ) (v : Option (List ℕ)) (g : ℕ) (t : Pending) (text : List ℕ) → Tells w f v g t (text ++ []) → Tells w f v g t text
 without w f v g t text h = subst (λ (z : List ℕ). Tells w f v g t z) (append-nil text) h
 
-rose-on : (f g h : ℕ) → f ≤ g → Rose g h → Rose f h
+pub rose-on : (f g h : ℕ) → f ≤ g → Rose g h → Rose f h
 rose-on f g h low r = grind arith
 
 -- what a failure leaves, and more text

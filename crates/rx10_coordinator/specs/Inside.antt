@@ -1,2 +1,5 @@
 pub mod Telling
+pub mod Noting
+pub mod LogLines
+pub mod Logging
 pub mod Desk

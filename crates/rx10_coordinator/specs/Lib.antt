@@ -3,4 +3,5 @@ pub mod Lines
 pub mod Replies
 pub mod Session
 pub mod Determined
+pub mod Log
 pub mod Inside

@@ -13,9 +13,9 @@ use Rattle.rx_coordinator.specs.declared.requests.Answer.{Answer}
 use Rattle.rx_coordinator.specs.declared.requests.Answer.TheVariants.{Full, NoMemory}
 use Rattle.rx_coordinator.specs.declared.waiters.Waiter.{Waiter}
 use Rattle.rx_coordinator.specs.declared.waiters.Waiters.{Waiters}
-use Rattle.rx_coordinator.specs.declared.parking.Freed.TheVariants.{One, NoOne, Short}
+use Rattle.rx_coordinator.specs.declared.parking.Freed.TheVariants.{NoOne, Short}
 use Rattle.rx_coordinator.specs.Waiters.{waiter_at}
-use Rattle.rx_coordinator.specs.Parking.{AskedBeside, FreedIs, WaitsThere}
+use Rattle.rx_coordinator.specs.Parking.{AskedBeside, FreedFrom, FreedIs, WaitsThere}
 use Rattle.rx10_coordinator.specs.declared.status.Status.{Status}
 use Rattle.rx10_coordinator.specs.declared.status.Status.TheVariants.{Done, WriteFault}
 use Rattle.rx10_coordinator.specs.Lines.{line_request}
@@ -49,9 +49,10 @@ pub record Asks (p : ℕ) (b : Between) (q : Request) (a : Answer) (c : Between)
   pub there : (n : ℕ) (who : Waiter) → waiter_at c.waiters n ≡ Some who → WaitsThere (tree_of p c.entries) n who
   pub short : c.is_short ≡ (b.is_short || ran_out a)
 
--- a release that has waited has this outcome
+-- a release that has waited, of the scope of this number, has this outcome
 pub record Frees (p : ℕ) (b : Between) (who : Waiter) (o : Outcome) (c : Between) : Type 0 where
-  pub freed : FreedIs p b.entries (One who o) b.waiters (Are c.entries) c.waiters
+  pub scope : ℕ
+  pub freed : FreedFrom p b.entries scope who o b.waiters (Are c.entries) c.waiters
   pub short : c.is_short ≡ b.is_short
 
 -- one after another these have

@@ -45,6 +45,14 @@ impl Pending {
         self.put(out, buffer.format(n).as_bytes());
     }
 
+    /// The same for a number of 64 bits.
+    pub(crate) fn put_long<K: Sink>(&mut self, out: &mut K, n: u64)
+        ensures { Puts K.written K.faults out.old self.old out.new self.new (natural_text n) }
+    {
+        let mut buffer = Buffer::new();
+        self.put(out, buffer.format(n).as_bytes());
+    }
+
     /// Tells a number.
     pub(crate) fn put_number<K: Sink>(&mut self, out: &mut K, n: i64)
         ensures { Puts K.written K.faults out.old self.old out.new self.new (number_text n) }

@@ -109,9 +109,9 @@ fn put_outcome<K: Sink>(pending: &mut Pending, out: &mut K, outcome: &Outcome)
     put_thrown(pending, out, &outcome.thrown)
 }
 
-// Tells the places that lost tasks.
+/// Tells the places that lost tasks.
 #[tactic(auto, using(crate::proofs::Telling::puts_then))]
-fn put_losses<K: Sink>(pending: &mut Pending, out: &mut K, lost: PlaceSet)
+pub(crate) fn put_losses<K: Sink>(pending: &mut Pending, out: &mut K, lost: PlaceSet)
     ensures { Puts K.written K.faults out.old pending.old out.new pending.new (lost_part lost) }
 {
     if lost.0 == 0 {
@@ -140,9 +140,9 @@ fn put_place_if_member<K: Sink>(pending: &mut Pending, out: &mut K, set: PlaceSe
     } else {}
 }
 
-// Tells how many faults are masked.
+/// Tells how many faults are masked.
 #[tactic(auto, using(crate::proofs::Telling::puts_then), unfolding(rx_trace::specs::Parts::masked_part))]
-fn put_masked<K: Sink>(pending: &mut Pending, out: &mut K, masked: u32)
+pub(crate) fn put_masked<K: Sink>(pending: &mut Pending, out: &mut K, masked: u32)
     ensures { Puts K.written K.faults out.old pending.old out.new pending.new (masked_part masked) }
 {
     if masked == 0 {
@@ -187,9 +187,9 @@ fn put_fault<K: Sink>(pending: &mut Pending, out: &mut K, fault: Fault)
     }
 }
 
-// Tells a word with a number at its end.
+/// Tells a word with a number at its end.
 #[tactic(auto, using(crate::proofs::Telling::puts_then))]
-fn put_numbered<K: Sink>(pending: &mut Pending, out: &mut K, word: &[u8], n: u32)
+pub(crate) fn put_numbered<K: Sink>(pending: &mut Pending, out: &mut K, word: &[u8], n: u32)
     ensures { Puts K.written K.faults out.old pending.old out.new pending.new (numbered word.now n) }
 {
     pending.put(out, word);

@@ -88,13 +88,17 @@ PassedBy T n None now = now ≡ None
 PassedBy T n (Some who) now =
     (HasToWait T n who × (now ≡ Some who)) ⊎ ((May T (request_of who) → ⊥) × (now ≡ None))
 
--- Of those who wait the first that is possible, by the numbers of their scopes, is released and waits no more; those before it were passed
--- by, and those after it wait still. Or all were passed by. Or memory or numbers ran out for one.
-abbrev pub FreedIs : ℕ → List Entry → Freed → Waiters → (List Entry → Type 0) → Waiters → Type 0
-FreedIs p es (One who o) ws S us =
-    (n : ℕ) × (waiter_at ws n ≡ Some who) × (waiter_at us n ≡ None) × Asked p es (request_of who) (answer_to who o) S
+-- Who waits for scope n is the first of those who wait, by the numbers of their scopes, whose release is possible: it is released and waits
+-- no more; those before it were passed by, and those after it wait still.
+abbrev pub FreedFrom : ℕ → List Entry → ℕ → Waiter → Outcome → Waiters → (List Entry → Type 0) → Waiters → Type 0
+FreedFrom p es n who o ws S us =
+    (waiter_at ws n ≡ Some who) × (waiter_at us n ≡ None) × Asked p es (request_of who) (answer_to who o) S
     × ((m : ℕ) → m < n → PassedBy (tree_of p es) m (waiter_at ws m) (waiter_at us m))
     × ((m : ℕ) → n < m → waiter_at us m ≡ waiter_at ws m)
+
+-- One is released. Or all were passed by. Or memory or numbers ran out for one.
+abbrev pub FreedIs : ℕ → List Entry → Freed → Waiters → (List Entry → Type 0) → Waiters → Type 0
+FreedIs p es (One s who o) ws S us = FreedFrom p es s.0 who o ws S us
 FreedIs p es NoOne ws S us = S es × ((m : ℕ) → PassedBy (tree_of p es) m (waiter_at ws m) (waiter_at us m))
 FreedIs p es Short ws S us =
     S es × ((m : ℕ) → (waiter_at us m ≡ waiter_at ws m) ⊎ PassedBy (tree_of p es) m (waiter_at ws m) (waiter_at us m))

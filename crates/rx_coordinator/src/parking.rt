@@ -1,11 +1,12 @@
 // The releases that wait for their scopes to be quiet.
-ghost use Rattle.std.specs.Prelude.{◌≡◌, ◌⊎◌, ◌≤◌, ℕ, true, [], List, IfOk, IfSome, IfNone, Some};
+ghost use Rattle.std.specs.Prelude.{◌≡◌, ◌⊎◌, ◌≤◌, ℕ, true, [], List, length, IfOk, IfSome, IfNone, Some};
 ghost use Rattle.rx_rules.specs.declared.entries.Entry.{Entry};
 ghost use Rattle.rx_rules.specs.Tree.{the_root, on_chain};
 ghost use Rattle.rx_rules.specs.Fold.{tree_of};
 ghost use Rattle.rx_coordinator.specs.declared.requests.Request.TheVariants.{Release, End, Death, Root};
 ghost use Rattle.rx_coordinator.specs.declared.waiters.Waiter.TheVariants.{Root as Host};
 ghost use Rattle.rx_coordinator.specs.declared.parking.Retried.TheVariants.{Passed};
+ghost use Rattle.rx_coordinator.specs.Telling.{seat_told};
 ghost use Rattle.rx_coordinator.specs.Stands.{Stands, Asked};
 ghost use Rattle.rx_coordinator.specs.Waiters.{waiter_at, IsDue};
 ghost use Rattle.rx_coordinator.specs.Parking.{Parks, AskedBeside, FreedIs, request_of};
@@ -13,6 +14,7 @@ ghost use Rattle.rx_coordinator.specs.Inside.Walks.{Nearest, AllThere, AllDue, N
 
 use crate::coordinator::Coordinator;
 use crate::requests::{Answer, Request};
+use crate::seats::Seat;
 use crate::waiters::{Due, Waiter, Waiters};
 use rx_base::{Faults, NoMemory, PlaceId, ScopeId, TaskId};
 use rx_finish::Outcome;
@@ -30,8 +32,12 @@ pub struct Parking {
 /// What comes of the releases that wait.
 #[derive(Drop)]
 pub enum Freed {
-    /// This one is answered.
-    One { waiter: Waiter, outcome: Outcome },
+    /// This one is answered: the release of the scope, for which the waiter has waited.
+    One {
+        scope: ScopeId,
+        waiter: Waiter,
+        outcome: Outcome,
+    },
     /// None can be answered.
     NoOne,
     /// Memory or numbers are wanted for the next one. It is asked for again at the next call.
@@ -61,6 +67,20 @@ impl Parking {
             waiters,
             due: Due::Nothing,
         })
+    }
+
+    /// How many entries there are so far.
+    pub fn entries(&self) -> u32
+        ensures { (p : ℕ) (es : List Entry) → Parks self.now p es → result ≡ length es }
+    {
+        self.core.entries
+    }
+
+    /// The row of a task, where it stands and no death has struck it.
+    pub fn seat(&self, task: TaskId) -> Option<Seat>
+        ensures { (p : ℕ) (es : List Entry) → Parks self.now p es → result ≡ seat_told (tree_of p es) task }
+    {
+        self.core.seats.at(task)
     }
 
     /// Answers a request. A release that is not possible yet waits from then on, and who waits already may not ask again.
@@ -193,7 +213,13 @@ impl Parking {
                 return Freed::NoOne;
             };
             match self.retry(scope, waiter) {
-                Retried::Freed { outcome } => return Freed::One { waiter, outcome },
+                Retried::Freed { outcome } => {
+                    return Freed::One {
+                        scope,
+                        waiter,
+                        outcome,
+                    };
+                }
                 Retried::Passed => {}
                 Retried::Short => return Freed::Short,
             }

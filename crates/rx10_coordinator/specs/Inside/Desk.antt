@@ -9,6 +9,7 @@ use Rattle.rx10_coordinator.specs.declared.received.Received.{Received}
 use Rattle.rx10_coordinator.specs.declared.desk.Desk.{Desk}
 use Rattle.rx10_coordinator.specs.Session.{Between, IsOpen, AllAnswered, greeting}
 use Rattle.rx10_coordinator.specs.Inside.Telling.{Tells}
+use Rattle.rx10_coordinator.specs.Inside.Logging.{IsLogged, IsTorn}
 
 -- the bytes that are kept of a line are all of it, or it has too many, or memory ran out
 abbrev pub Keeps : Extent → List ℕ → List ℕ → Type 0
@@ -25,8 +26,9 @@ pub record Holds (p : ℕ) (b : Between) (k : Parking) : Type 0 where
   pub parks : Parks k p b.entries
   pub waiters : b.waiters ≡ k.waiters
 
--- all lines of these bytes are answered
-pub record Serves (p : ℕ) (w : Option (List ℕ)) (f : ℕ) (v : Option (List ℕ)) (g : ℕ) (d : Desk) (r : Received) (bytes : List ℕ) : Type 0 where
+-- all lines of these bytes are answered, and the log has the entries
+pub record Serves (p : ℕ) (w : Option (List ℕ)) (f : ℕ) (v : Option (List ℕ)) (g : ℕ) (x : Option (List ℕ)) (h : ℕ) (y : Option (List ℕ)) (i : ℕ)
+    (d : Desk) (r : Received) (bytes : List ℕ) : Type 0 where
   pub lines : List (List ℕ)
   pub last : List ℕ
   pub before : Between
@@ -38,3 +40,21 @@ pub record Serves (p : ℕ) (w : Option (List ℕ)) (f : ℕ) (v : Option (List 
   pub holds : Holds p after d.parking
   pub reads : IsLine r last
   pub tells : Tells w f v g d.pending (greeting p ++ replies)
+  pub logged : IsLogged x h y i d.log after.entries
+
+-- of these bytes a front is answered so, and then a write to the log has failed
+pub record Breaks (p : ℕ) (w : Option (List ℕ)) (f : ℕ) (v : Option (List ℕ)) (g : ℕ) (x : Option (List ℕ)) (h : ℕ) (y : Option (List ℕ)) (i : ℕ)
+    (d : Desk) (bytes : List ℕ) : Type 0 where
+  pub heard : List ℕ
+  pub unheard : List ℕ
+  pub lines : List (List ℕ)
+  pub last : List ℕ
+  pub before : Between
+  pub after : Between
+  pub replies : List ℕ
+  pub all : bytes ≡ heard ++ unheard
+  pub cut : pieces 10 heard ≡ lines ++ last ∷ []
+  pub opens : IsOpen before
+  pub answered : AllAnswered p before lines replies after
+  pub tells : Tells w f v g d.pending (greeting p ++ replies)
+  pub torn : IsTorn x h y i after.entries

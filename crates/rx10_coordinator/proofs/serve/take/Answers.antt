@@ -3,14 +3,15 @@ use Rattle.rx10_coordinator.specs.Session.{greeting}
 use Rattle.rx10_coordinator.proofs.Telling.{joined}
 use Rattle.rx10_coordinator.proofs.Cutting.{line-ends, line-grows}
 use Rattle.rx10_coordinator.proofs.Going.{answers-more}
+use Rattle.rx10_coordinator.proofs.Serving.{broke_off}
 use Rattle.rx10_coordinator.proofs.serve.take.Goals as goal
 
 pub answer-requires : goal.answer-requires
-answer-requires g c = (let r = c.requires in (r.0, r.4.after, r.4.holds))
+answer-requires g c = (let r = c.requires in (r.0, r.6.after, r.6.holds))
 
-pub returns-then-byte-eq10 : goal.returns-then-byte-eq10
-returns-then-byte-eq10 g c = λ p w f given s.
-    let r = c.answer.ensures p s.after s.last s.holds s.reads in
+pub returns-then-byte-eq10-in-Ok : goal.returns-then-byte-eq10-in-Ok
+returns-then-byte-eq10-in-Ok g c = λ p w f x h given s.
+    let r = c.in-Ok.ensures p s.after s.last x h s.holds s.reads s.logged in
     record {
       lines = s.lines ++ s.last ∷ [];
       last = [];
@@ -22,11 +23,16 @@ returns-then-byte-eq10 g c = λ p w f given s.
       answered = answers-more p s.before s.lines s.replies s.after s.last r.1 r.0 s.answered r.2;
       holds = r.3;
       reads = c.clear.ensures;
-      tells = joined w f _ _ _ (greeting p) s.replies r.1 (r.4 w f (greeting p ++ s.replies) s.tells);
+      tells = joined w f _ _ _ (greeting p) s.replies r.1 (r.5 w f (greeting p ++ s.replies) s.tells);
+      logged = r.4;
     }
 
+pub returns-then-byte-eq10-in-Err : goal.returns-then-byte-eq10-in-Err
+returns-then-byte-eq10-in-Err g c = λ p w f x h given s.
+    broke_off g.K.Sink.written g.K.Sink.faults _ _ p w f x h _ _ _ _ _ _ _ given c.args.byte c.if-byte-eq10.true s (c.in-Err.ensures p s.after s.last x h s.holds s.reads s.logged)
+
 pub returns-else-byte-eq10 : goal.returns-else-byte-eq10
-returns-else-byte-eq10 g c = λ p w f given s.
+returns-else-byte-eq10 g c = λ p w f x h given s.
     record {
       lines = s.lines;
       last = s.last ++ c.args.byte ∷ [];
@@ -39,4 +45,5 @@ returns-else-byte-eq10 g c = λ p w f given s.
       holds = s.holds;
       reads = c.push.ensures s.last s.reads;
       tells = s.tells;
+      logged = s.logged;
     }

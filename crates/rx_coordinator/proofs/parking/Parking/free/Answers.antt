@@ -29,7 +29,7 @@ returns-in-Freed c = λ p es k.
     let s = c.in-Some.scope in
     let next = c.in-Some.ensures in
     let h = freed_here p es c.args.self.now c.turns.self on rows s c.in-Some.waiter next us a.1 in
-    (s.0, h.0, h.1, a.0, freed_before p es c.args.self.now c.turns.self on rows s c.in-Some.waiter next us a.1, freed_after p es c.args.self.now c.turns.self on rows s c.in-Some.waiter next us a.1)
+    (h.0, h.1, a.0, freed_before p es c.args.self.now c.turns.self on rows s c.in-Some.waiter next us a.1, freed_after p es c.args.self.now c.turns.self on rows s c.in-Some.waiter next us a.1)
 
 pub returns-in-Short : goal.returns-in-Short
 returns-in-Short c = λ p es k.

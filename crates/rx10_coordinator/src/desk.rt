@@ -1,5 +1,5 @@
 // The answer to a line.
-ghost use Rattle.std.specs.Prelude.{◌≡◌, ◌⊎◌, ◌≤◌, ℕ, List, Option, Some, [], ◌++◌, true, false, not, IfOk};
+ghost use Rattle.std.specs.Prelude.{◌≡◌, ◌⊎◌, ◌≤◌, ℕ, List, Option, Some, [], ◌++◌, length, true, false, not, IfOk};
 ghost use Rattle.rx_rules.specs.declared.entries.Entry.{Entry};
 ghost use Rattle.rx_rules.specs.Fold.{tree_of};
 ghost use Rattle.rx_finish.specs.declared.ledger.Outcome.{Outcome as Told};
@@ -10,7 +10,7 @@ ghost use Rattle.rx_coordinator.specs.Parking.{Parks};
 ghost use Rattle.rx10_coordinator.specs.Replies.{answer_line};
 ghost use Rattle.rx10_coordinator.specs.Session.{Between, IsOpen, Asks, FreesAll, Answered, request_in, freed_lines, greeting};
 ghost use Rattle.rx10_coordinator.specs.Inside.Telling.{Puts};
-ghost use Rattle.rx10_coordinator.specs.Inside.Noting.{asker as asks, note_of};
+ghost use Rattle.rx10_coordinator.specs.Inside.Noting.{asker as asks, note_of, entries_of};
 ghost use Rattle.rx10_coordinator.specs.Inside.Logging.{IsLogged, IsTorn, OrElse};
 ghost use Rattle.rx10_coordinator.specs.Inside.Desk.{Holds, IsLine};
 
@@ -20,7 +20,7 @@ use crate::output::Pending;
 use crate::received::Received;
 use crate::replies::{put_answer, put_freed};
 use rx_base::{Failed, NoMemory, Sink};
-use rx_coordinator::{Freed, Parking, Request};
+use rx_coordinator::{Answer, Freed, Parking, Request};
 use std::alloc::Global;
 
 /// A coordinator, its replies that are not written yet, and the log.
@@ -159,9 +159,35 @@ impl Desk {
     {
         let n = self.parking.entries();
         let answer = self.parking.ask(request);
-        match self.log.note(log, n, note, &answer) {
+        self.tell(out, log, n, note, &answer)
+    }
+
+    // Writes the lines of the entries for which an answer stands, tells it, and answers the releases that are possible then.
+    fn tell<K: Sink, L: Sink>(
+        &mut self,
+        out: &mut K,
+        log: &mut L,
+        n: u32,
+        note: &Note,
+        answer: &Answer,
+    ) -> Result<(), Failed>
+        requires { (p : ℕ) × (m : Between) × Holds p m self.old.parking }
+        ensures { (p : ℕ) (es : List Entry) (m : Between) (x : Option (List ℕ)) (h : ℕ) → Holds p m self.old.parking → n ≡ length es
+            → (self.old.log.is_kept ≡ true → es ++ entries_of note.now answer.now ≡ m.entries)
+            → IsLogged x h (L.written log.old) (L.faults log.old) self.old.log es
+            → OrElse result
+              ((xs : List (Waiter × Told)) × (c : Between) × FreesAll p m xs c
+                × Holds p c self.new.parking × IsLogged x h (L.written log.new) (L.faults log.new) self.new.log c.entries
+                × Puts K.written K.faults out.old self.old.pending out.new self.new.pending (answer_line answer.now ++ freed_lines xs))
+              ((IsTorn x h (L.written log.new) (L.faults log.new) es
+                × Puts K.written K.faults out.old self.old.pending out.new self.new.pending [])
+              ⊎ ((xs : List (Waiter × Told)) × (c : Between) × FreesAll p m xs c
+                × IsTorn x h (L.written log.new) (L.faults log.new) c.entries
+                × Puts K.written K.faults out.old self.old.pending out.new self.new.pending (answer_line answer.now ++ freed_lines xs))) }
+    {
+        match self.log.note(log, n, note, answer) {
             Ok(()) => {
-                put_answer(&mut self.pending, out, &answer);
+                put_answer(&mut self.pending, out, answer);
                 self.free(out, log)
             }
             Err(Failed) => Err(Failed),

@@ -72,14 +72,14 @@ impl Desk {
         ensures { (p : ℕ) (b : Between) (bytes : List ℕ) (x : Option (List ℕ)) (h : ℕ) → Holds p b self.old.parking → IsLine line.now bytes
             → IsLogged x h (L.written log.old) (L.faults log.old) self.old.log b.entries
             → OrElse result
-              ((c : Between) × (text : List ℕ) × Answered p b bytes text c × Holds p c self.new.parking
-                × IsLogged x h (L.written log.new) (L.faults log.new) self.new.log c.entries
-                × Puts K.written K.faults out.old self.old.pending out.new self.new.pending text)
-              ((IsTorn x h (L.written log.new) (L.faults log.new) b.entries
-                × Puts K.written K.faults out.old self.old.pending out.new self.new.pending [])
-              ⊎ ((c : Between) × (text : List ℕ) × Answered p b bytes text c
-                × IsTorn x h (L.written log.new) (L.faults log.new) c.entries
-                × Puts K.written K.faults out.old self.old.pending out.new self.new.pending text)) }
+            ((c : Between) × (text : List ℕ) × Answered p b bytes text c × Holds p c self.new.parking
+            × IsLogged x h (L.written log.new) (L.faults log.new) self.new.log c.entries
+            × Puts K.written K.faults out.old self.old.pending out.new self.new.pending text)
+            ((IsTorn x h (L.written log.new) (L.faults log.new) b.entries
+            × Puts K.written K.faults out.old self.old.pending out.new self.new.pending [])
+            ⊎ ((c : Between) × (text : List ℕ) × Answered p b bytes text c
+            × IsTorn x h (L.written log.new) (L.faults log.new) c.entries
+            × Puts K.written K.faults out.old self.old.pending out.new self.new.pending text)) }
     {
         match line.request() {
             Ok(Some(request)) => self.ask(out, log, request),
@@ -105,14 +105,14 @@ impl Desk {
         ensures { (p : ℕ) (b : Between) (bytes : List ℕ) (x : Option (List ℕ)) (h : ℕ) → Holds p b self.old.parking
             → request_in bytes ≡ Some request → IsLogged x h (L.written log.old) (L.faults log.old) self.old.log b.entries
             → OrElse result
-              ((c : Between) × (text : List ℕ) × Answered p b bytes text c × Holds p c self.new.parking
-                × IsLogged x h (L.written log.new) (L.faults log.new) self.new.log c.entries
-                × Puts K.written K.faults out.old self.old.pending out.new self.new.pending text)
-              ((IsTorn x h (L.written log.new) (L.faults log.new) b.entries
-                × Puts K.written K.faults out.old self.old.pending out.new self.new.pending [])
-              ⊎ ((c : Between) × (text : List ℕ) × Answered p b bytes text c
-                × IsTorn x h (L.written log.new) (L.faults log.new) c.entries
-                × Puts K.written K.faults out.old self.old.pending out.new self.new.pending text)) }
+            ((c : Between) × (text : List ℕ) × Answered p b bytes text c × Holds p c self.new.parking
+            × IsLogged x h (L.written log.new) (L.faults log.new) self.new.log c.entries
+            × Puts K.written K.faults out.old self.old.pending out.new self.new.pending text)
+            ((IsTorn x h (L.written log.new) (L.faults log.new) b.entries
+            × Puts K.written K.faults out.old self.old.pending out.new self.new.pending [])
+            ⊎ ((c : Between) × (text : List ℕ) × Answered p b bytes text c
+            × IsTorn x h (L.written log.new) (L.faults log.new) c.entries
+            × Puts K.written K.faults out.old self.old.pending out.new self.new.pending text)) }
     {
         match self.noted(&request) {
             Ok(note) => self.reply(out, log, request, &note),
@@ -148,14 +148,14 @@ impl Desk {
             → (self.old.log.is_kept ≡ true → note.now ≡ note_of (seat_told (tree_of p b.entries) (asks request)) request)
             → IsLogged x h (L.written log.old) (L.faults log.old) self.old.log b.entries
             → OrElse result
-              ((a : Said) × (m : Between) × (xs : List (Waiter × Told)) × (c : Between) × Asks p b request a m × FreesAll p m xs c
-                × Holds p c self.new.parking × IsLogged x h (L.written log.new) (L.faults log.new) self.new.log c.entries
-                × Puts K.written K.faults out.old self.old.pending out.new self.new.pending (answer_line a ++ freed_lines xs))
-              ((IsTorn x h (L.written log.new) (L.faults log.new) b.entries
-                × Puts K.written K.faults out.old self.old.pending out.new self.new.pending [])
-              ⊎ ((a : Said) × (m : Between) × (xs : List (Waiter × Told)) × (c : Between) × Asks p b request a m × FreesAll p m xs c
-                × IsTorn x h (L.written log.new) (L.faults log.new) c.entries
-                × Puts K.written K.faults out.old self.old.pending out.new self.new.pending (answer_line a ++ freed_lines xs))) }
+            ((a : Said) × (m : Between) × (xs : List (Waiter × Told)) × (c : Between) × Asks p b request a m × FreesAll p m xs c
+            × Holds p c self.new.parking × IsLogged x h (L.written log.new) (L.faults log.new) self.new.log c.entries
+            × Puts K.written K.faults out.old self.old.pending out.new self.new.pending (answer_line a ++ freed_lines xs))
+            ((IsTorn x h (L.written log.new) (L.faults log.new) b.entries
+            × Puts K.written K.faults out.old self.old.pending out.new self.new.pending [])
+            ⊎ ((a : Said) × (m : Between) × (xs : List (Waiter × Told)) × (c : Between) × Asks p b request a m × FreesAll p m xs c
+            × IsTorn x h (L.written log.new) (L.faults log.new) c.entries
+            × Puts K.written K.faults out.old self.old.pending out.new self.new.pending (answer_line a ++ freed_lines xs))) }
     {
         let n = self.parking.entries();
         let answer = self.parking.ask(request);
@@ -176,14 +176,14 @@ impl Desk {
             → (self.old.log.is_kept ≡ true → es ++ entries_of note.now answer.now ≡ m.entries)
             → IsLogged x h (L.written log.old) (L.faults log.old) self.old.log es
             → OrElse result
-              ((xs : List (Waiter × Told)) × (c : Between) × FreesAll p m xs c
-                × Holds p c self.new.parking × IsLogged x h (L.written log.new) (L.faults log.new) self.new.log c.entries
-                × Puts K.written K.faults out.old self.old.pending out.new self.new.pending (answer_line answer.now ++ freed_lines xs))
-              ((IsTorn x h (L.written log.new) (L.faults log.new) es
-                × Puts K.written K.faults out.old self.old.pending out.new self.new.pending [])
-              ⊎ ((xs : List (Waiter × Told)) × (c : Between) × FreesAll p m xs c
-                × IsTorn x h (L.written log.new) (L.faults log.new) c.entries
-                × Puts K.written K.faults out.old self.old.pending out.new self.new.pending (answer_line answer.now ++ freed_lines xs))) }
+            ((xs : List (Waiter × Told)) × (c : Between) × FreesAll p m xs c
+            × Holds p c self.new.parking × IsLogged x h (L.written log.new) (L.faults log.new) self.new.log c.entries
+            × Puts K.written K.faults out.old self.old.pending out.new self.new.pending (answer_line answer.now ++ freed_lines xs))
+            ((IsTorn x h (L.written log.new) (L.faults log.new) es
+            × Puts K.written K.faults out.old self.old.pending out.new self.new.pending [])
+            ⊎ ((xs : List (Waiter × Told)) × (c : Between) × FreesAll p m xs c
+            × IsTorn x h (L.written log.new) (L.faults log.new) c.entries
+            × Puts K.written K.faults out.old self.old.pending out.new self.new.pending (answer_line answer.now ++ freed_lines xs))) }
     {
         match self.log.note(log, n, note, answer) {
             Ok(()) => {
@@ -201,8 +201,8 @@ impl Desk {
             → IsLogged x h (L.written log.old) (L.faults log.old) self.old.log b.entries
             → (xs : List (Waiter × Told)) × (c : Between) × FreesAll p b xs c
             × OrElse result
-              (Holds p c self.new.parking × IsLogged x h (L.written log.new) (L.faults log.new) self.new.log c.entries)
-              (IsTorn x h (L.written log.new) (L.faults log.new) c.entries)
+            (Holds p c self.new.parking × IsLogged x h (L.written log.new) (L.faults log.new) self.new.log c.entries)
+            (IsTorn x h (L.written log.new) (L.faults log.new) c.entries)
             × Puts K.written K.faults out.old self.old.pending out.new self.new.pending (freed_lines xs) }
     {
         'freed: for _ in 0..u64::MAX {

@@ -91,6 +91,12 @@ module _ (x : Option (List ℕ)) (h : ℕ) (y : Option (List ℕ)) (i : ℕ) whe
           rose = rose-on h i g k.later w.rose;
         }
 
+pub logged-on : (x : Option (List ℕ)) (h : ℕ) (y : Option (List ℕ)) (i : ℕ) (l : Log) (es fs : List Entry) → es ≡ fs → IsLogged x h y i l es → IsLogged x h y i l fs
+logged-on x h y i l es fs e k = subst (λ (z : List Entry). IsLogged x h y i l z) e k
+
+pub torn-on : (x : Option (List ℕ)) (h : ℕ) (y : Option (List ℕ)) (i : ℕ) (es fs : List Entry) → es ≡ fs → IsTorn x h y i es → IsTorn x h y i fs
+torn-on x h y i es fs e k = subst (λ (z : List Entry). IsTorn x h y i z) e k
+
 -- before the first entry
 pub log-opens : (x : Option (List ℕ)) (h : ℕ) (l : Log) → l.pending.text.items ≡ [] → l.pending.is_failed ≡ false → (l.is_kept ≡ false → x ≡ None) → IsLogged x h x h l []
 log-opens x h l none ok silent = record { lines = Appends-nil x; later = low h; none = none; whole = ok; silent = silent } where
@@ -98,4 +104,4 @@ log-opens x h l none ok silent = record { lines = Appends-nil x; later = low h; 
   low n = omega arith
 
 pub is-kept : (b : Bool) (x : Option (List ℕ)) → b ≡ true → b ≡ false → x ≡ None
-is-kept b x yes no = absurd (true≢false (sym yes ∙ no))
+is-kept b x on off = absurd (true≢false (sym on ∙ off))

@@ -183,8 +183,8 @@ module _ (p : ℕ) (es : List Entry) (t : TaskId) (to : PlaceId) (b : Born) (e :
     by-place free true same =
         let w : Seat = record { who = record { task = b.child; scope = b.scope; inner = b.scope; place = Here to }; waits = false } in
         let stays : seat_told (tree_of p (es ++ e ∷ [])) b.child ≡ Some w =
-          child-row ∙ (ap (λ (c : Bool). cond c None (Some (new_seat b.child b.scope h.0 to))) free
-          ∙ ap (λ (c : Bool). (let v : Seat = record { who = record { task = b.child; scope = b.scope; inner = b.scope; place = cond c (Here to) (Travel h.0 to) }; waits = false } in Some v)) same) in
+        child-row ∙ (ap (λ (c : Bool). cond c None (Some (new_seat b.child b.scope h.0 to))) free
+        ∙ ap (λ (c : Bool). (let v : Seat = record { who = record { task = b.child; scope = b.scope; inner = b.scope; place = cond c (Here to) (Travel h.0 to) }; waits = false } in Some v)) same) in
         let at : Here to ≡ Travel may.asks.0 k.0 = ap row_place (sym stays ∙ there) ∙ may.asks.1 in
         absurd (not-travel to may.asks.0 k.0 at)
     by-place free false apart =

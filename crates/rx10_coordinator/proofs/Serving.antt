@@ -35,7 +35,7 @@ tells-none w f t none whole =
 
 -- the greeting is told
 pub opened : (p : ℕ) (w : Option (List ℕ)) (f : ℕ) (v : Option (List ℕ)) (g : ℕ) (x : Option (List ℕ)) (h : ℕ) (b : Between) (k : Parking) (l : Log) (d : Desk) (r : Received) → IsOpen b → Holds p b k → d.parking ≡ k → d.log ≡ l → IsLogged x h x h l [] → IsLine r [] → Tells w f v g d.pending (greeting p) → Serves p w f v g x h x h d r []
-opened p w f v g x h b k l d r opens holds same as log line told =
+opened p w f v g x h b k l d r opens holds same kept log line told =
     record {
       lines = [];
       last = [];
@@ -48,12 +48,12 @@ opened p w f v g x h b k l d r opens holds same as log line told =
       holds = subst (Holds p b) (sym same) holds;
       reads = line;
       tells = subst (λ (z : List ℕ). Tells w f v g d.pending z) (sym (append-nil (greeting p))) told;
-      logged = subst (λ (es : List Entry). IsLogged x h x h d.log es) (sym opens.entries) (subst (λ (m : Log). IsLogged x h x h m []) (sym as) log);
+      logged = subst (λ (es : List Entry). IsLogged x h x h d.log es) (sym opens.entries) (subst (λ (m : Log). IsLogged x h x h m []) (sym kept) log);
     }
 
 -- what is told is written
 pub wrote : (p : ℕ) (w : Option (List ℕ)) (f : ℕ) (v u : Option (List ℕ)) (g k : ℕ) (x : Option (List ℕ)) (h : ℕ) (y : Option (List ℕ)) (i : ℕ) (d e : Desk) (r : Received) (bytes : List ℕ) → e.parking ≡ d.parking → e.log ≡ d.log → ((text : List ℕ) → Tells w f v g d.pending text → Tells w f u k e.pending (text ++ [])) → Serves p w f v g x h y i d r bytes → Serves p w f u k x h y i e r bytes
-wrote p w f v u g k x h y i d e r bytes same as told s =
+wrote p w f v u g k x h y i d e r bytes same kept told s =
     record {
       lines = s.lines;
       last = s.last;
@@ -66,7 +66,7 @@ wrote p w f v u g k x h y i d e r bytes same as told s =
       holds = subst (Holds p s.after) (sym same) s.holds;
       reads = s.reads;
       tells = without w f u k e.pending (greeting p ++ s.replies) (told (greeting p ++ s.replies) s.tells);
-      logged = subst (λ (l : Log). IsLogged x h y i l s.after.entries) (sym as) s.logged;
+      logged = subst (λ (l : Log). IsLogged x h y i l s.after.entries) (sym kept) s.logged;
     }
 
 module _ (p : ℕ) (w : Option (List ℕ)) (f : ℕ) (v : Option (List ℕ)) (g : ℕ) (x : Option (List ℕ)) (h : ℕ) (y : Option (List ℕ)) (i : ℕ) (d : Desk) (r : Received) (bytes : List ℕ) (old new : Option (List ℕ)) where

@@ -1,5 +1,5 @@
 // The answer to a line.
-ghost use Rattle.std.specs.Prelude.{◌≡◌, ◌⊎◌, ◌≤◌, ℕ, List, Option, Some, [], ◌++◌, true, false, not, IfOk};
+ghost use Rattle.std.specs.Prelude.{◌≡◌, ◌⊎◌, ◌≤◌, ℕ, List, Option, Some, [], ◌++◌, length, true, false, not, IfOk};
 ghost use Rattle.rx_rules.specs.declared.entries.Entry.{Entry};
 ghost use Rattle.rx_rules.specs.Fold.{tree_of};
 ghost use Rattle.rx_finish.specs.declared.ledger.Outcome.{Outcome as Told};
@@ -10,7 +10,7 @@ ghost use Rattle.rx_coordinator.specs.Parking.{Parks};
 ghost use Rattle.rx10_coordinator.specs.Replies.{answer_line};
 ghost use Rattle.rx10_coordinator.specs.Session.{Between, IsOpen, Asks, FreesAll, Answered, request_in, freed_lines, greeting};
 ghost use Rattle.rx10_coordinator.specs.Inside.Telling.{Puts};
-ghost use Rattle.rx10_coordinator.specs.Inside.Noting.{asker as asks, note_of};
+ghost use Rattle.rx10_coordinator.specs.Inside.Noting.{asker as asks, note_of, entries_of};
 ghost use Rattle.rx10_coordinator.specs.Inside.Logging.{IsLogged, IsTorn, OrElse};
 ghost use Rattle.rx10_coordinator.specs.Inside.Desk.{Holds, IsLine};
 
@@ -20,7 +20,7 @@ use crate::output::Pending;
 use crate::received::Received;
 use crate::replies::{put_answer, put_freed};
 use rx_base::{Failed, NoMemory, Sink};
-use rx_coordinator::{Freed, Parking, Request};
+use rx_coordinator::{Answer, Freed, Parking, Request};
 use std::alloc::Global;
 
 /// A coordinator, its replies that are not written yet, and the log.
@@ -72,14 +72,14 @@ impl Desk {
         ensures { (p : ℕ) (b : Between) (bytes : List ℕ) (x : Option (List ℕ)) (h : ℕ) → Holds p b self.old.parking → IsLine line.now bytes
             → IsLogged x h (L.written log.old) (L.faults log.old) self.old.log b.entries
             → OrElse result
-              ((c : Between) × (text : List ℕ) × Answered p b bytes text c × Holds p c self.new.parking
-                × IsLogged x h (L.written log.new) (L.faults log.new) self.new.log c.entries
-                × Puts K.written K.faults out.old self.old.pending out.new self.new.pending text)
-              ((IsTorn x h (L.written log.new) (L.faults log.new) b.entries
-                × Puts K.written K.faults out.old self.old.pending out.new self.new.pending [])
-              ⊎ ((c : Between) × (text : List ℕ) × Answered p b bytes text c
-                × IsTorn x h (L.written log.new) (L.faults log.new) c.entries
-                × Puts K.written K.faults out.old self.old.pending out.new self.new.pending text)) }
+            ((c : Between) × (text : List ℕ) × Answered p b bytes text c × Holds p c self.new.parking
+            × IsLogged x h (L.written log.new) (L.faults log.new) self.new.log c.entries
+            × Puts K.written K.faults out.old self.old.pending out.new self.new.pending text)
+            ((IsTorn x h (L.written log.new) (L.faults log.new) b.entries
+            × Puts K.written K.faults out.old self.old.pending out.new self.new.pending [])
+            ⊎ ((c : Between) × (text : List ℕ) × Answered p b bytes text c
+            × IsTorn x h (L.written log.new) (L.faults log.new) c.entries
+            × Puts K.written K.faults out.old self.old.pending out.new self.new.pending text)) }
     {
         match line.request() {
             Ok(Some(request)) => self.ask(out, log, request),
@@ -105,14 +105,14 @@ impl Desk {
         ensures { (p : ℕ) (b : Between) (bytes : List ℕ) (x : Option (List ℕ)) (h : ℕ) → Holds p b self.old.parking
             → request_in bytes ≡ Some request → IsLogged x h (L.written log.old) (L.faults log.old) self.old.log b.entries
             → OrElse result
-              ((c : Between) × (text : List ℕ) × Answered p b bytes text c × Holds p c self.new.parking
-                × IsLogged x h (L.written log.new) (L.faults log.new) self.new.log c.entries
-                × Puts K.written K.faults out.old self.old.pending out.new self.new.pending text)
-              ((IsTorn x h (L.written log.new) (L.faults log.new) b.entries
-                × Puts K.written K.faults out.old self.old.pending out.new self.new.pending [])
-              ⊎ ((c : Between) × (text : List ℕ) × Answered p b bytes text c
-                × IsTorn x h (L.written log.new) (L.faults log.new) c.entries
-                × Puts K.written K.faults out.old self.old.pending out.new self.new.pending text)) }
+            ((c : Between) × (text : List ℕ) × Answered p b bytes text c × Holds p c self.new.parking
+            × IsLogged x h (L.written log.new) (L.faults log.new) self.new.log c.entries
+            × Puts K.written K.faults out.old self.old.pending out.new self.new.pending text)
+            ((IsTorn x h (L.written log.new) (L.faults log.new) b.entries
+            × Puts K.written K.faults out.old self.old.pending out.new self.new.pending [])
+            ⊎ ((c : Between) × (text : List ℕ) × Answered p b bytes text c
+            × IsTorn x h (L.written log.new) (L.faults log.new) c.entries
+            × Puts K.written K.faults out.old self.old.pending out.new self.new.pending text)) }
     {
         match self.noted(&request) {
             Ok(note) => self.reply(out, log, request, &note),
@@ -148,20 +148,46 @@ impl Desk {
             → (self.old.log.is_kept ≡ true → note.now ≡ note_of (seat_told (tree_of p b.entries) (asks request)) request)
             → IsLogged x h (L.written log.old) (L.faults log.old) self.old.log b.entries
             → OrElse result
-              ((a : Said) × (m : Between) × (xs : List (Waiter × Told)) × (c : Between) × Asks p b request a m × FreesAll p m xs c
-                × Holds p c self.new.parking × IsLogged x h (L.written log.new) (L.faults log.new) self.new.log c.entries
-                × Puts K.written K.faults out.old self.old.pending out.new self.new.pending (answer_line a ++ freed_lines xs))
-              ((IsTorn x h (L.written log.new) (L.faults log.new) b.entries
-                × Puts K.written K.faults out.old self.old.pending out.new self.new.pending [])
-              ⊎ ((a : Said) × (m : Between) × (xs : List (Waiter × Told)) × (c : Between) × Asks p b request a m × FreesAll p m xs c
-                × IsTorn x h (L.written log.new) (L.faults log.new) c.entries
-                × Puts K.written K.faults out.old self.old.pending out.new self.new.pending (answer_line a ++ freed_lines xs))) }
+            ((a : Said) × (m : Between) × (xs : List (Waiter × Told)) × (c : Between) × Asks p b request a m × FreesAll p m xs c
+            × Holds p c self.new.parking × IsLogged x h (L.written log.new) (L.faults log.new) self.new.log c.entries
+            × Puts K.written K.faults out.old self.old.pending out.new self.new.pending (answer_line a ++ freed_lines xs))
+            ((IsTorn x h (L.written log.new) (L.faults log.new) b.entries
+            × Puts K.written K.faults out.old self.old.pending out.new self.new.pending [])
+            ⊎ ((a : Said) × (m : Between) × (xs : List (Waiter × Told)) × (c : Between) × Asks p b request a m × FreesAll p m xs c
+            × IsTorn x h (L.written log.new) (L.faults log.new) c.entries
+            × Puts K.written K.faults out.old self.old.pending out.new self.new.pending (answer_line a ++ freed_lines xs))) }
     {
         let n = self.parking.entries();
         let answer = self.parking.ask(request);
-        match self.log.note(log, n, note, &answer) {
+        self.tell(out, log, n, note, &answer)
+    }
+
+    // Writes the lines of the entries for which an answer stands, tells it, and answers the releases that are possible then.
+    fn tell<K: Sink, L: Sink>(
+        &mut self,
+        out: &mut K,
+        log: &mut L,
+        n: u32,
+        note: &Note,
+        answer: &Answer,
+    ) -> Result<(), Failed>
+        requires { (p : ℕ) × (m : Between) × Holds p m self.old.parking }
+        ensures { (p : ℕ) (es : List Entry) (m : Between) (x : Option (List ℕ)) (h : ℕ) → Holds p m self.old.parking → n ≡ length es
+            → (self.old.log.is_kept ≡ true → es ++ entries_of note.now answer.now ≡ m.entries)
+            → IsLogged x h (L.written log.old) (L.faults log.old) self.old.log es
+            → OrElse result
+            ((xs : List (Waiter × Told)) × (c : Between) × FreesAll p m xs c
+            × Holds p c self.new.parking × IsLogged x h (L.written log.new) (L.faults log.new) self.new.log c.entries
+            × Puts K.written K.faults out.old self.old.pending out.new self.new.pending (answer_line answer.now ++ freed_lines xs))
+            ((IsTorn x h (L.written log.new) (L.faults log.new) es
+            × Puts K.written K.faults out.old self.old.pending out.new self.new.pending [])
+            ⊎ ((xs : List (Waiter × Told)) × (c : Between) × FreesAll p m xs c
+            × IsTorn x h (L.written log.new) (L.faults log.new) c.entries
+            × Puts K.written K.faults out.old self.old.pending out.new self.new.pending (answer_line answer.now ++ freed_lines xs))) }
+    {
+        match self.log.note(log, n, note, answer) {
             Ok(()) => {
-                put_answer(&mut self.pending, out, &answer);
+                put_answer(&mut self.pending, out, answer);
                 self.free(out, log)
             }
             Err(Failed) => Err(Failed),
@@ -175,8 +201,8 @@ impl Desk {
             → IsLogged x h (L.written log.old) (L.faults log.old) self.old.log b.entries
             → (xs : List (Waiter × Told)) × (c : Between) × FreesAll p b xs c
             × OrElse result
-              (Holds p c self.new.parking × IsLogged x h (L.written log.new) (L.faults log.new) self.new.log c.entries)
-              (IsTorn x h (L.written log.new) (L.faults log.new) c.entries)
+            (Holds p c self.new.parking × IsLogged x h (L.written log.new) (L.faults log.new) self.new.log c.entries)
+            (IsTorn x h (L.written log.new) (L.faults log.new) c.entries)
             × Puts K.written K.faults out.old self.old.pending out.new self.new.pending (freed_lines xs) }
     {
         'freed: for _ in 0..u64::MAX {

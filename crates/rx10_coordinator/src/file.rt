@@ -1,8 +1,7 @@
 // The file of the log.
 use std::fs::{OpenFile, OpenOptions};
-use std::io;
 use std::rt::Files;
-use std::str;
+use std::{io, str};
 
 /// The file of this name for a log: it is made, or is there and has no bytes. Where there is none, standard error is told why.
 pub(crate) fn open<R: Files + Eprint>(rt: &R, name: &[u8]) -> Option<R::File> {

@@ -65,7 +65,7 @@ impl Log {
         ensures logged { (x : Option (List ℕ)) (h : ℕ) (es : List Entry) → n ≡ length es
             → IsLogged x h (L.written log.old) (L.faults log.old) self.old es
             → OrElse result (IsLogged x h (L.written log.new) (L.faults log.new) self.new (es ++ entries_of note.now answer.now))
-              (IsTorn x h (L.written log.new) (L.faults log.new) es) }
+            (IsTorn x h (L.written log.new) (L.faults log.new) es) }
     {
         if !self.is_kept {
             return Ok(());
@@ -87,7 +87,7 @@ impl Log {
         ensures logged { (x : Option (List ℕ)) (h : ℕ) (es : List Entry) → n ≡ length es
             → IsLogged x h (L.written log.old) (L.faults log.old) self.old es
             → OrElse result (IsLogged x h (L.written log.new) (L.faults log.new) self.new (es ++ freed_entry scope waiter outcome.now ∷ []))
-              (IsTorn x h (L.written log.new) (L.faults log.new) es) }
+            (IsTorn x h (L.written log.new) (L.faults log.new) es) }
     {
         if !self.is_kept {
             return Ok(());
@@ -102,7 +102,7 @@ impl Log {
         ensures written { (w : Option (List ℕ)) (f : ℕ) (text : List ℕ)
             → Tells w f (L.written log.old) (L.faults log.old) self.old.pending text
             → OrElse result (IsWritten w f (L.written log.new) (L.faults log.new) self.new text)
-              (IsCut w f (L.written log.new) (L.faults log.new) text) }
+            (IsCut w f (L.written log.new) (L.faults log.new) text) }
     {
         self.pending.write(log);
         if self.pending.has_failed() {

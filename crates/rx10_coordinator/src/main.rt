@@ -3,6 +3,7 @@
 //! the whole of it over any source and sink, and its contract is the theorem; `serve_logged` is the same with a log, a second sink. `laws`
 //! says what holds of every session. `main` makes the source and the sinks of what the system gives, and says the status.
 #![tactic(auto)]
+
 ghost use Rattle.std.specs.Prelude.{◌≤◌};
 
 mod command;
@@ -32,10 +33,12 @@ fn main(rt: HostRuntime) -> ExitCode {
             let mut out = StdSink::over(io::writer(&rt));
             serve::serve(rt.alloc(), places, &mut input, &mut out)
         }
-        Ok(Command::Serve {
-            places,
-            log: Some(name),
-        }) => serve_logged(&rt, places, &name),
+        Ok(
+            Command::Serve {
+                places,
+                log: Some(name),
+            },
+        ) => serve_logged(&rt, places, &name),
         Ok(Command::Help) => serve::print(&mut StdSink::over(io::writer(&rt)), command::HELP),
         Ok(Command::Version) => serve::print(&mut StdSink::over(io::writer(&rt)), command::VERSION),
         Ok(Command::Usage) => Status::Usage,

@@ -25,11 +25,7 @@ pub(crate) struct Note {
 
 impl Note {
     /// What a request and a row tell.
-    pub(crate) fn of(
-        alloc: Global,
-        row: Option<Seat>,
-        request: &Request,
-    ) -> Result<Note, NoMemory>
+    pub(crate) fn of(alloc: Global, row: Option<Seat>, request: &Request) -> Result<Note, NoMemory>
         ensures { IfOk result (λ n. n ≡ note_of row request.now) }
     {
         let main = TaskId(0);

@@ -122,8 +122,8 @@ fn take_all<K: Sink, L: Sink>(
     ensures { (p : ℕ) (w : Option (List ℕ)) (f : ℕ) (x : Option (List ℕ)) (h : ℕ) (given : List ℕ)
         → Serves p w f (K.written out.old) (K.faults out.old) x h (L.written log.old) (L.faults log.old) desk.old received.old given
         → OrElse result
-          (Serves p w f (K.written out.new) (K.faults out.new) x h (L.written log.new) (L.faults log.new) desk.new received.new (given ++ bytes.now))
-          (Breaks p w f (K.written out.new) (K.faults out.new) x h (L.written log.new) (L.faults log.new) desk.new (given ++ bytes.now)) }
+        (Serves p w f (K.written out.new) (K.faults out.new) x h (L.written log.new) (L.faults log.new) desk.new received.new (given ++ bytes.now))
+        (Breaks p w f (K.written out.new) (K.faults out.new) x h (L.written log.new) (L.faults log.new) desk.new (given ++ bytes.now)) }
 {
     'bytes: for i in 0..bytes.len() {
         match take(desk, received, out, log, bytes[i]) {
@@ -147,8 +147,8 @@ fn take<K: Sink, L: Sink>(
     ensures { (p : ℕ) (w : Option (List ℕ)) (f : ℕ) (x : Option (List ℕ)) (h : ℕ) (given : List ℕ)
         → Serves p w f (K.written out.old) (K.faults out.old) x h (L.written log.old) (L.faults log.old) desk.old received.old given
         → OrElse result
-          (Serves p w f (K.written out.new) (K.faults out.new) x h (L.written log.new) (L.faults log.new) desk.new received.new (given ++ byte ∷ []))
-          (Breaks p w f (K.written out.new) (K.faults out.new) x h (L.written log.new) (L.faults log.new) desk.new (given ++ byte ∷ [])) }
+        (Serves p w f (K.written out.new) (K.faults out.new) x h (L.written log.new) (L.faults log.new) desk.new received.new (given ++ byte ∷ []))
+        (Breaks p w f (K.written out.new) (K.faults out.new) x h (L.written log.new) (L.faults log.new) desk.new (given ++ byte ∷ [])) }
 {
     if byte == b'\n' {
         match desk.answer(out, log, received) {

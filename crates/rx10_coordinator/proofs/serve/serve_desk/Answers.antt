@@ -38,13 +38,13 @@ returns-in-Err-clause-served g c = λ p w f x h s.
     served p w f _ _ x h _ _ _ _ so.0 _ _ _ read-fails e.whole e.none (Consumes-kept _ _ _ so.0 so.1 c.in-Err.ensures.bytes) (λ k. absurd (not-done k))
     (wrote p w f _ _ _ _ x h _ _ _ _ _ so.0 e.same e.log (e.told w f) so.3)
 
-pub returns-in-Ok-in-Err-clause-served : goal.returns-in-Ok-in-Err-clause-served
-returns-in-Ok-in-Err-clause-served g c = λ p w f x h s.
+pub returns-in-Err-take_all-clause-served : goal.returns-in-Err-take_all-clause-served
+returns-in-Err-take_all-clause-served g c = λ p w f x h s.
     let so = c.chunks.invariant.served p w f x h s in
     let e = c.if-not-write.ensures in
     let given = wrote p w f _ _ _ _ x h _ _ _ _ _ so.0 e.same e.log (e.told w f) so.3 in
-    let o = c.write-in-Err.ensures in
-    broken p w f _ _ _ _ x h _ _ _ _ (so.0 ++ take c.in-Ok.count c.read.new.buf) _ _ o.none (o.told w f) (Consumes-trans _ _ _ so.0 _ so.1 c.in-Ok.ensures.bytes.0) (c.take_all.ensures p w f x h so.0 given)
+    let o = c.write-in-Err-take_all.ensures in
+    broken p w f _ _ _ _ x h _ _ _ c.write-in-Err-take_all.new.self (so.0 ++ take c.in-Ok.count c.read.new.buf) _ _ o.none (o.told w f) (Consumes-trans _ _ _ so.0 _ so.1 c.in-Ok.ensures.bytes.0) (c.in-Err-take_all.ensures p w f x h so.0 given)
 
 pub chunks-preserved : goal.chunks-preserved
 chunks-preserved g c =
@@ -54,7 +54,7 @@ chunks-preserved g c =
           let so = c.chunks.invariant.served p w f x h s in
           let e = c.if-not-write.ensures in
           let given = wrote p w f _ _ _ _ x h _ _ _ _ _ so.0 e.same e.log (e.told w f) so.3 in
-          (so.0 ++ take c.in-Ok.count c.read.new.buf, Consumes-trans _ _ _ so.0 _ so.1 c.in-Ok.ensures.bytes.0, read-more so.0 c.read.new.buf c.in-Ok.count c.chunks.counter so.2 c.in-Ok.ensures.bound.0 (omega arith), c.take_all.ensures p w f x h so.0 given);
+          (so.0 ++ take c.in-Ok.count c.read.new.buf, Consumes-trans _ _ _ so.0 _ so.1 c.in-Ok.ensures.bytes.0, read-more so.0 c.read.new.buf c.in-Ok.count c.chunks.counter so.2 c.in-Ok.ensures.bound.0 (omega arith), c.in-Ok-take_all.ensures p w f x h so.0 given);
     }
 
 pub returns-then-not-write-2-clause-served : goal.returns-then-not-write-2-clause-served

@@ -9,8 +9,8 @@ use Rattle.rx10_coordinator.proofs.serve.take.Goals as goal
 pub answer-requires : goal.answer-requires
 answer-requires g c = (let r = c.requires in (r.0, r.6.after, r.6.holds))
 
-pub returns-then-byte-eq10-in-Ok : goal.returns-then-byte-eq10-in-Ok
-returns-then-byte-eq10-in-Ok g c = λ p w f x h given s.
+pub returns-in-Ok : goal.returns-in-Ok
+returns-in-Ok g c = λ p w f x h given s.
     let r = c.in-Ok.ensures p s.after s.last x h s.holds s.reads s.logged in
     record {
       lines = s.lines ++ s.last ∷ [];
@@ -27,8 +27,8 @@ returns-then-byte-eq10-in-Ok g c = λ p w f x h given s.
       logged = r.4;
     }
 
-pub returns-then-byte-eq10-in-Err : goal.returns-then-byte-eq10-in-Err
-returns-then-byte-eq10-in-Err g c = λ p w f x h given s.
+pub returns-in-Err : goal.returns-in-Err
+returns-in-Err g c = λ p w f x h given s.
     broke_off g.K.Sink.written g.K.Sink.faults _ _ p w f x h _ _ _ _ _ _ _ given c.args.byte c.if-byte-eq10.true s (c.in-Err.ensures p s.after s.last x h s.holds s.reads s.logged)
 
 pub returns-else-byte-eq10 : goal.returns-else-byte-eq10

@@ -18,7 +18,7 @@ returns-in-Err g c = λ p w f x h given s.
     let at = append_assoc given (take i xs) _ ∙ ap (λ z. given ++ z) (sym (take_more xs i 0 (omega arith))) in
     unheard p w f _ _ x h _ _ _ _ (drop (i + 1) xs) _
     (ap (λ z. given ++ z) (sym (take-append-drop (i + 1) xs)) ∙ (sym (append_assoc given (take (i + 1) xs) (drop (i + 1) xs)) ∙ ap (λ z. z ++ drop (i + 1) xs) (sym at)))
-    (c.take.ensures p w f x h (given ++ take i xs) (c.bytes.invariant p w f x h given s))
+    (c.in-Err.ensures p w f x h (given ++ take i xs) (c.bytes.invariant p w f x h given s))
 
 pub bytes-preserved : goal.bytes-preserved
 bytes-preserved g c = λ p w f x h given s.
@@ -26,7 +26,7 @@ bytes-preserved g c = λ p w f x h given s.
     let i = c.bytes.i in
     given-as p w f _ _ x h _ _ _ _ _ _
     (append_assoc given (take i xs) _ ∙ ap (λ z. given ++ z) (sym (take_more xs i 0 (omega arith))))
-    (c.take.ensures p w f x h (given ++ take i xs) (c.bytes.invariant p w f x h given s))
+    (c.in-Ok.ensures p w f x h (given ++ take i xs) (c.bytes.invariant p w f x h given s))
 
 pub returns : goal.returns
 returns g c = λ p w f x h given s.

@@ -1,11 +1,10 @@
-use Rattle.std.proofs.Common.{[], ◌∷◌, ◌++◌, List, refl, ap, sym, subst}
-use Rattle.rx_rules.specs.declared.entries.Entry.{Entry}
+use Rattle.std.proofs.Common.{[], ◌∷◌, ◌++◌, refl, ap, sym}
 use Rattle.rx10_coordinator.specs.Replies.{freed_line}
 use Rattle.rx10_coordinator.specs.Session.{freed_lines}
-use Rattle.rx10_coordinator.specs.Inside.Logging.{IsLogged, IsTorn}
 use Rattle.rx10_coordinator.proofs.Telling.{with_none, told-as, joined}
 use Rattle.rx10_coordinator.proofs.Going.{frees, frees-more, lines-more, rests, wants, stops, rested-same}
 use Rattle.rx10_coordinator.proofs.Noting.{freed-made}
+use Rattle.rx10_coordinator.proofs.Logging.{logged-on, torn-on}
 use Rattle.rx10_coordinator.proofs.desk.Desk.free.Goals as goal
 
 pub freed-init : goal.freed-init
@@ -21,26 +20,26 @@ pub returns-in-NoOne : goal.returns-in-NoOne
 returns-in-NoOne g c = λ p b x h on now.
     let so = c.freed.invariant p b on in
     let e = rests p so.1 _ _ so.3 (c.in-NoOne.ensures p so.1.entries so.3.parks) in
-    (so.0, e.0, (so.1, so.2, e.1), (e.2, subst (λ (es : List Entry). IsLogged x h _ _ _ es) (rested-same p so.1 e.0 e.1) (so.4 x h now)), so.5)
+    (so.0, e.0, (so.1, so.2, e.1), (e.2, logged-on x h _ _ _ _ _ (rested-same p so.1 e.0 e.1) (so.4 x h now)), so.5)
 
 pub returns-in-Short : goal.returns-in-Short
 returns-in-Short g c = λ p b x h on now.
     let so = c.freed.invariant p b on in
     let e = wants p so.1 _ _ so.3 (c.in-Short.ensures p so.1.entries so.3.parks) in
-    (so.0, e.0, (so.1, so.2, e.1), (e.2, subst (λ (es : List Entry). IsLogged x h _ _ _ es) (rested-same p so.1 e.0 e.1) (so.4 x h now)), so.5)
+    (so.0, e.0, (so.1, so.2, e.1), (e.2, logged-on x h _ _ _ _ _ (rested-same p so.1 e.0 e.1) (so.4 x h now)), so.5)
 
 pub returns : goal.returns
 returns g c = λ p b x h on now.
     let so = c.freed.invariant p b on in
     let e = stops p so.1 _ so.3 in
-    (so.0, e.0, (so.1, so.2, e.1), (e.2, subst (λ (es : List Entry). IsLogged x h _ _ _ es) (rested-same p so.1 e.0 e.1) (so.4 x h now)), so.5)
+    (so.0, e.0, (so.1, so.2, e.1), (e.2, logged-on x h _ _ _ _ _ (rested-same p so.1 e.0 e.1) (so.4 x h now)), so.5)
 
-pub returns-in-One-in-Err : goal.returns-in-One-in-Err
-returns-in-One-in-Err g c = λ p b x h on now.
+pub returns-in-Err : goal.returns-in-Err
+returns-in-Err g c = λ p b x h on now.
     let so = c.freed.invariant p b on in
     let e = stops p so.1 _ so.3 in
-    let torn = c.in-One-in-Err.ensures.logged x h so.1.entries (c.entries-n.ensures p so.1.entries so.3.parks) (so.4 x h now) in
-    (so.0, e.0, (so.1, so.2, e.1), subst (λ (es : List Entry). IsTorn x h _ _ es) (rested-same p so.1 e.0 e.1) torn, so.5)
+    let torn = c.in-Err.ensures.logged x h so.1.entries (c.entries-n.ensures p so.1.entries so.3.parks) (so.4 x h now) in
+    (so.0, e.0, (so.1, so.2, e.1), torn-on x h _ _ _ _ (rested-same p so.1 e.0 e.1) torn, so.5)
 
 pub freed-preserved : goal.freed-preserved
 freed-preserved g c = λ p b on.
@@ -55,7 +54,7 @@ freed-preserved g c = λ p b on.
       e.0,
       frees-more p b so.0 so.1 e.0 who o so.2 e.1,
       e.2,
-      λ x h now. subst (λ (es : List Entry). IsLogged x h _ _ _ es) (sym made) (c.in-One-in-Ok.ensures.logged x h so.1.entries (c.entries-n.ensures p so.1.entries so.3.parks) (so.4 x h now)),
+      λ x h now. logged-on x h _ _ _ _ _ (sym made) (c.in-Ok.ensures.logged x h so.1.entries (c.entries-n.ensures p so.1.entries so.3.parks) (so.4 x h now)),
       λ w f text t.
           told-as w f _ _ _ _ _ (ap (λ z. text ++ z) (lines-more so.0 who o))
           (joined w f _ _ _ text (freed_lines so.0) (freed_line who o) (c.put_freed.ensures w f (text ++ freed_lines so.0) (so.5 w f text t))),

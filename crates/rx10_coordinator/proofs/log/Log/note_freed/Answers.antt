@@ -4,8 +4,8 @@ use Rattle.rx10_coordinator.proofs.Logging.{or-map, unkept, now-logged, now-torn
 use Rattle.rx10_coordinator.proofs.Serving.{tells-none}
 use Rattle.rx10_coordinator.proofs.log.Log.note_freed.Goals as goal
 
-pub returns-then-not-is_kept-clause-logged : goal.returns-then-not-is_kept-clause-logged
-returns-then-not-is_kept-clause-logged g c = λ x h es long now. unkept x h _ _ _ es _ c.if-not-is_kept.false now
+pub returns-then-not-self-clause-logged : goal.returns-then-not-self-clause-logged
+returns-then-not-self-clause-logged g c = λ x h es long now. unkept x h _ _ _ es _ c.if-not-self.true now
 
 pub returns-clause-logged : goal.returns-clause-logged
 returns-clause-logged g c = λ x h es long now.

@@ -6,6 +6,7 @@ use std::sync::Wait;
 use std::sync::atomic::AtomicU64;
 use std::test::Fail;
 use std::thread;
+use std::thread::Threads;
 use std::time::Duration;
 
 // A number that is at most the key.
@@ -38,6 +39,24 @@ fn add_up<R: Wait>(
     }
 }
 
+// The same by two threads.
+fn add_up_by_two<R: Threads + Wait + Sync>(
+    rt: &R,
+    lock: &Lock<u64, u64, IsWithin>,
+    most: u64,
+    bed: &AtomicU64,
+    times: u32,
+    micros: u64,
+)
+    requires { lock.now.key ≡ most }
+{
+    thread::join(
+        rt,
+        || add_up(rt, lock, most, bed, times, micros),
+        || add_up(rt, lock, most, bed, times, micros),
+    );
+}
+
 #[test]
 fn threads_take_turns_and_each_sleeper_is_woken(rt: HostRuntime) -> Result<(), Fail> {
     for (times, micros, sum) in [(100, 0, 300), (3, 20_000, 9), (50, 2_000, 150)] {
@@ -52,13 +71,7 @@ fn threads_take_turns_and_each_sleeper_is_woken(rt: HostRuntime) -> Result<(), F
         thread::join(
             &rt,
             || add_up(&rt, shared, 1000, bed, times, micros),
-            || {
-                thread::join(
-                    &rt,
-                    || add_up(&rt, shared, 1000, bed, times, micros),
-                    || add_up(&rt, shared, 1000, bed, times, micros),
-                );
-            },
+            || add_up_by_two(&rt, shared, 1000, bed, times, micros),
         );
         let (n, turn) = lock.lock(&rt);
         lock.close(turn);

@@ -105,6 +105,35 @@ fn first_path<L: FinishLedger>(
     Ok((ready, outcome, root))
 }
 
+/// Place 1 dies while task 1 travels to it: what its arrival is answered, and whether task 0 may release then.
+fn in_transit<L: FinishLedger>(
+    ledger: &mut L,
+    alloc: Global,
+) -> Result<(Result<(), LedgerFault>, bool), LedgerFault>
+    requires { L.stands ledger.old 0 (opening 2) }
+{
+    let inside = Caller {
+        task: TaskId(0),
+        scope: ScopeId(0),
+        inner: ScopeId(1),
+        place: Where::At(PlaceId(0)),
+    };
+    let message = Caller {
+        task: TaskId(1),
+        scope: ScopeId(1),
+        inner: ScopeId(1),
+        place: Where::Travel {
+            from: PlaceId(0),
+            to: PlaceId(1),
+        },
+    };
+    let _begun = begins(ledger, alloc, 2)?;
+    ledger.death(PlaceId(1), 3);
+    let ready = ledger.ready(inside);
+    let arrival = ledger.arrive(message);
+    Ok((arrival, ready))
+}
+
 /// Place 1 dies while task 2 travels from there.
 fn source<L: FinishLedger>(
     ledger: &mut L,
@@ -249,6 +278,19 @@ fn an_ordinary_run_over_the_tree(rt: HostRuntime) -> Result<(), Fail> {
     assert!(rt; ready);
     assert!(rt; is_outcome(&outcome, PlaceSet(0), 0));
     assert!(rt; is_outcome(&root, PlaceSet(0), 0));
+    Ok(())
+}
+
+#[test]
+fn a_loss_in_transit_frees_the_opener_in_both_ledgers(rt: HostRuntime) -> Result<(), Fail> {
+    let lost = Err(LedgerFault::Lost {
+        place: PlaceId(1),
+        at: 3,
+    });
+    let mut tree = TreeLedger::open(rt.alloc(), 2)?;
+    same(&rt, in_transit(&mut tree, rt.alloc())?, (lost, true));
+    let mut counts = CountLedger::open_for(rt.alloc(), 2, 0)?;
+    same(&rt, in_transit(&mut counts, rt.alloc())?, (lost, true));
     Ok(())
 }
 

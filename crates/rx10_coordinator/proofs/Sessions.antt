@@ -1,6 +1,6 @@
 -- Two sessions with one input, for whose lines the same ran out, tell the same.
-use Rattle.std.specs.Prelude.{cond, All, codes}
-use Rattle.std.proofs.Common.{◌≡◌, ℕ, ◌+◌, ◌≤◌, Bool, true, false, List, [], ◌∷◌, ◌++◌, length, Option, Some, None, refl, ap, sym, ◌∙◌, subst, arith, inl, inr, append-nil}
+use Rattle.std.specs.Prelude.{◌⊎◌, cond, All, codes}
+use Rattle.std.proofs.Common.{◌≡◌, ℕ, ◌+◌, ◌≤◌, Bool, true, false, List, [], ◌∷◌, ◌++◌, length, Some, None, refl, ap, sym, ◌∙◌, subst, arith, inl, inr, append-nil}
 use Rattle.std.proofs.lemmas.Bool.{true≢false, or_parts}
 use Rattle.rx_rules.specs.declared.entries.Entry.{Entry}
 use Rattle.rx_rules.specs.Tree.{Tree}
@@ -17,7 +17,7 @@ use Rattle.rx_coordinator.specs.Inside.Walks.{IsSame}
 use Rattle.rx10_coordinator.specs.Replies.{outcome_text, answer_text, answer_line, freed_line, waiter_text}
 use Rattle.rx10_coordinator.specs.Session.{Between, IsOpen, Asks, Frees, FreesEach, Rests, FreesAll, freed_lines, request_in, ran_out, Answered, AllAnswered, greeting}
 use Rattle.rx10_coordinator.specs.Session.Answered.{malformed, unread, replied}
-use Rattle.rx10_coordinator.specs.Determined.{Shortage, refusal, stopped, shortage, shortages, OneText, OneTextWithEnough}
+use Rattle.rx10_coordinator.specs.Determined.{refusal, is_all, shortage, shortages, IsAlike, AreAlike, OneText, OneTextWithEnough}
 use Rattle.rx10_coordinator.proofs.OneEntry.{item_one}
 use Rattle.rx10_coordinator.proofs.Viewing.{Keeps, IsTree, View, view, agree, stays, out_stays}
 use Rattle.rx10_coordinator.proofs.Keeping.{Fine, FreedAt, Passed, Stayed, fine_view, back_view, rows_keep, rows_turned, freed_at, fine_freed, passes_not, fine_stayed, stayed_keep}
@@ -52,20 +52,29 @@ refusal-is a b =
       | false ↦ λ e. absurd (let v : ⊥ = cc in v)
     ]
 
-module _ (p : ℕ) (b b2 c c2 : Between) where
-  -- where releases go on in the other, none is possible in the one
-  none-here : (i j : ℕ) → i + 1 ≤ j → (r : Rests p b b2) → (s : Rests p c c2) → stopped p b b2 i r ≡ stopped p c c2 j s
-      → Passed (tree_of p b.entries) b.waiters b2.waiters
-  none-here i j low (inl h) s e = h.0.1
-  none-here i j low (inr h) (inl k) e = absurd (let v : ⊥ = cc in v)
-  none-here i j low (inr h) (inr k) e = absurd (let same = item_one (Some j) i j (sym e) refl in omega (arith, low, same))
+-- as many are told, or all that were possible are told in both
+abbrev Ends : (p : ℕ) (b b2 c c2 : Between) → ℕ → ℕ → Rests p b b2 → Rests p c c2 → Type 0
+Ends p b b2 c c2 n m r s = (n ≡ m) ⊎ ((is_all p b b2 r ≡ true) × (is_all p c c2 s ≡ true))
 
-  fewer : (n m i j : ℕ) → n ≡ i + 1 → m ≡ j + 1 → (r : Rests p b b2) → (s : Rests p c c2) → stopped p b b2 n r ≡ stopped p c c2 m s
-      → stopped p b b2 i r ≡ stopped p c c2 j s
-  fewer n m i j f g (inl h) (inl k) e = refl
-  fewer n m i j f g (inl h) (inr k) e = absurd (let v : ⊥ = cc in v)
-  fewer n m i j f g (inr h) (inl k) e = absurd (let v : ⊥ = cc in v)
-  fewer n m i j f g (inr h) (inr k) e = (let same = item_one (Some m) n m (sym e) refl in ap (λ (l : ℕ). Some l) (let it : i ≡ j = omega (arith, f, g, same) in it))
+module _ (p : ℕ) (b b2 c c2 : Between) where
+  all-passed : (r : Rests p b b2) → is_all p b b2 r ≡ true → Passed (tree_of p b.entries) b.waiters b2.waiters
+  all-passed (inl h) e = h.0.1
+  all-passed (inr h) e = absurd (true≢false (sym e))
+
+  -- where releases go on in the other, none is possible in the one
+  none-here : (n m : ℕ) → n + 1 ≤ m → (r : Rests p b b2) → (s : Rests p c c2) → Ends p b b2 c c2 n m r s
+      → Passed (tree_of p b.entries) b.waiters b2.waiters
+  none-here n m low r s (inl same) = absurd (omega (arith, low, same))
+  none-here n m low r s (inr e) = all-passed r e.0
+
+  fewer : (n m i j : ℕ) → n ≡ i + 1 → m ≡ j + 1 → (r : Rests p b b2) → (s : Rests p c c2) → Ends p b b2 c c2 n m r s
+      → Ends p b b2 c c2 i j r s
+  fewer n m i j f g r s (inl same) = inl (omega (arith, f, g, same))
+  fewer n m i j f g r s (inr e) = inr e
+
+  ends-turned : (n m : ℕ) (r : Rests p b b2) (s : Rests p c c2) → Ends p b b2 c c2 n m r s → Ends p c c2 b b2 m n s r
+  ends-turned n m r s (inl same) = inl (sym same)
+  ends-turned n m r s (inr e) = inr (e.1, e.0)
 
 module _ (p : ℕ) where
   abbrev tree : Between → Tree
@@ -183,40 +192,46 @@ module _ (p : ℕ) where
   -- the same are released
   freed-one : (xs ys : List (Waiter × Outcome)) (b c b1 c1 b2 c2 : Between) → Alike b c → FreesEach p b xs b1 → FreesEach p c ys c1
       → (r : Rests p b1 b2) → (s : Rests p c1 c2)
-      → stopped p b1 b2 (length xs) r ≡ stopped p c1 c2 (length ys) s → (freed_lines xs ≡ freed_lines ys) × Alike b2 c2
+      → Ends p b1 b2 c1 c2 (length xs) (length ys) r s → (freed_lines xs ≡ freed_lines ys) × Alike b2 c2
   freed-one [] [] b c b1 c1 b2 c2 h x y r s e =
       (refl, rests-one b c b2 c2 h (subst (λ (z : Between). Rests p z b2) x r) (subst (λ (z : Between). Rests p z c2) y s))
   freed-one [] (y ∷ ys) b c b1 c1 b2 c2 h x k r s e =
       let none = none-here p b1 b2 c1 c2 0 (length (y ∷ ys)) (omega arith) r s e in
       absurd (none-more b c b2 k.0 y.0 y.1 h (subst (λ (z : Between). Passed (tree z) z.waiters b2.waiters) x none) k.1)
   freed-one (x ∷ xs) [] b c b1 c1 b2 c2 h k y r s e =
-      let none = none-here p c1 c2 b1 b2 0 (length (x ∷ xs)) (omega arith) s r (sym e) in
+      let none = none-here p c1 c2 b1 b2 0 (length (x ∷ xs)) (omega arith) s r (ends-turned p b1 b2 c1 c2 (length (x ∷ xs)) 0 r s e) in
       absurd (none-more c b c2 k.0 x.0 x.1 (turned b c h) (subst (λ (z : Between). Passed (tree z) z.waiters c2.waiters) y none) k.1)
   freed-one (x ∷ xs) (y ∷ ys) b c b1 c1 b2 c2 h i k r s e =
       let here = frees-one b c i.0 k.0 x.0 y.0 x.1 y.1 h i.1 k.1 in
       let rest = freed-one xs ys i.0 k.0 b1 c1 b2 c2 here.1 i.2 k.2 r s (fewer p b1 b2 c1 c2 (length (x ∷ xs)) (length (y ∷ ys)) (length xs) (length ys) (omega arith) (omega arith) r s e) in
       (ap (λ (z : List ℕ). z ++ freed_lines xs) here.0 ∙ ap (λ (z : List ℕ). freed_line y.0 y.1 ++ z) rest.0, rest.1)
 
+  -- where memory ran out for a line, as many are told in both
+  as-many : (n m : ℕ) (x y : Bool) → x ≡ false → (n ≡ m) ⊎ ((x ≡ true) × (y ≡ true)) → m ≡ n
+  as-many n m x y out (inl same) = sym same
+  as-many n m x y out (inr e) = absurd (true≢false (sym e.0 ∙ out))
+
+  many-as : (n m : ℕ) (x y : Bool) → y ≡ false → (n ≡ m) ⊎ ((x ≡ true) × (y ≡ true)) → n ≡ m
+  many-as n m x y out (inl same) = same
+  many-as n m x y out (inr e) = absurd (true≢false (sym e.1 ∙ out))
+
   -- whether memory has run out is no part of it
   marked : (b c : Between) (s t : Bool) → Alike b c → Alike (record b { is_short = s }) (record c { is_short = t })
   marked b c s t h = record { same = h.same; one = h.one; two = h.two; on = h.on; back = h.back }
 
-  -- no release is tried
-  none-tried : (ys : List (Waiter × Outcome)) (b c d : Between) → FreesEach p b ys c → (r : Rests p c d)
-      → stopped p c d (length ys) r ≡ Some 0
+  -- no release is told
+  none-told : (ys : List (Waiter × Outcome)) (b c d : Between) → FreesEach p b ys c → Rests p c d → length ys ≡ 0
       → (freed_lines ys ≡ []) × Rests p b d
-  none-tried [] b c d h r e = (refl, subst (λ (z : Between). Rests p z d) h r)
-  none-tried (y ∷ ys) b c d h (inl r) e = absurd (let v : ⊥ = cc in v)
-  none-tried (y ∷ ys) b c d h (inr r) e =
-      absurd (let none : length (y ∷ ys) ≡ 0 = item_one (Some 0) (length (y ∷ ys)) 0 (sym e) refl in omega (arith, none))
+  none-told [] b c d h r e = (refl, subst (λ (z : Between). Rests p z d) h r)
+  none-told (y ∷ ys) b c d h r e = absurd (omega (arith, e))
 
-  -- a request for which memory ran out, and behind which no release was tried, is a line for which memory ran out
+  -- a request for which memory ran out, and behind which no release is told, is a line for which memory ran out
   refused-one : (b c k e : Between) (q : Request) (a : Answer) (ys : List (Waiter × Outcome)) → Alike b c → Asks p c q a k
-      → (frees : FreesAll p k ys e) → refusal a ≡ Some NoMemory → stopped p frees.0 e (length ys) frees.2 ≡ Some 0
+      → (frees : FreesAll p k ys e) → refusal a ≡ Some NoMemory → length ys ≡ 0
       → (answer_line a ++ freed_lines ys ≡ codes "no memory\n") × Alike b e
   refused-one b c k e q a ys h asks frees out stop =
       let is : a ≡ NoMemory = refusal-is a NoMemory out in
-      let none = none-tried ys k frees.0 e frees.1 frees.2 stop in
+      let none = none-told ys k frees.0 e frees.1 frees.2 stop in
       let rest = rest-stays k e none.1 in
       let shown = view p c.entries k.entries c.waiters k.waiters q a asks.asked in
       let still = out_stays (tree c) (count c) c.waiters q a (tree k) (count k) k.waiters (ap ran_out is) shown in
@@ -237,33 +252,33 @@ module _ (p : ℕ) where
 
   -- a line has one reply
   answer-one : (b c d e : Between) (line x y : List ℕ) → Alike b c → (h : Answered p b line x d) → (k : Answered p c line y e)
-      → shortage p b line x d h ≡ shortage p c line y e k → (x ≡ y) × Alike d e
+      → IsAlike (shortage p b line x d h) (shortage p c line y e k) → (x ≡ y) × Alike d e
   answer-one b c d e line x y on (malformed none told same) (malformed nobody said equal) s =
       (told ∙ sym said, subst (λ (z : Between). Alike z e) (sym same) (subst (λ (z : Between). Alike b z) (sym equal) on))
   answer-one b c d e line x y on (malformed none told same) (unread said equal) s =
-      absurd (let k : None ≡ Some NoMemory = ap (λ (v : Shortage). v.reply) s in let v : ⊥ = cc in v)
+      absurd (let k : None ≡ Some NoMemory = s.0 in let v : ⊥ = cc in v)
   answer-one b c d e line x y on (malformed none told same) (replied q a m ys is asks frees said) s =
       absurd (let k : None ≡ Some q = sym none ∙ is in let v : ⊥ = cc in v)
   answer-one b c d e line x y on (unread told same) (malformed nobody said equal) s =
-      absurd (let k : None ≡ Some NoMemory = sym (ap (λ (v : Shortage). v.reply) s) in let v : ⊥ = cc in v)
+      absurd (let k : None ≡ Some NoMemory = sym s.0 in let v : ⊥ = cc in v)
   answer-one b c d e line x y on (unread told same) (unread said equal) s = (
     told ∙ sym said,
     subst (λ (z : Between). Alike z e) (sym same)
         (subst (λ (z : Between). Alike (record b { is_short = true }) z) (sym equal) (marked b c true true on)),
   )
   answer-one b c d e line x y on (unread told same) (replied q a m ys is asks frees said) s =
-      let r = refused-one b c m e q a ys on asks frees (sym (ap (λ (v : Shortage). v.reply) s)) (sym (ap (λ (v : Shortage). v.release) s)) in
+      let r = refused-one b c m e q a ys on asks frees (sym s.0) (as-many 0 (length ys) false (is_all p frees.0 e frees.2) refl s.1) in
       (told ∙ (sym r.0 ∙ sym said), subst (λ (z : Between). Alike z e) (sym same) (marked b e true e.is_short r.1))
   answer-one b c d e line x y on (replied q a m xs is asks frees told) (malformed nobody said equal) s =
       absurd (let k : None ≡ Some q = sym nobody ∙ is in let v : ⊥ = cc in v)
   answer-one b c d e line x y on (replied q a m xs is asks frees told) (unread said equal) s =
-      let r = refused-one c b m d q a xs (turned b c on) asks frees (ap (λ (v : Shortage). v.reply) s) (ap (λ (v : Shortage). v.release) s) in
+      let r = refused-one c b m d q a xs (turned b c on) asks frees s.0 (many-as (length xs) 0 (is_all p frees.0 d frees.2) false refl s.1) in
       (told ∙ (r.0 ∙ sym said), subst (λ (z : Between). Alike d z) (sym equal) (marked d c d.is_short true (turned c d r.1)))
   answer-one b c d e line x y on (replied q a m xs is asks frees told) (replied r z k ys also asked freed said) s =
       let same : r ≡ q = item_one (request_in line) r q also is in
       let again = subst (λ (v : Request). Asks p c v z k) same asked in
-      let reply = asks-one b c m k q a z on asks again (ap (λ (v : Shortage). v.reply) s) in
-      let rest = freed-one xs ys m k frees.0 freed.0 d e reply.1 frees.1 freed.1 frees.2 freed.2 (ap (λ (v : Shortage). v.release) s) in (
+      let reply = asks-one b c m k q a z on asks again s.0 in
+      let rest = freed-one xs ys m k frees.0 freed.0 d e reply.1 frees.1 freed.1 frees.2 freed.2 s.1 in (
         told
             ∙ (ap (λ (t : List ℕ). (t ++ 10 ∷ []) ++ freed_lines xs) reply.0
             ∙ (ap (λ (t : List ℕ). (answer_text z ++ 10 ∷ []) ++ t) rest.0 ∙ sym said)),
@@ -272,11 +287,11 @@ module _ (p : ℕ) where
 
   -- all lines have one text
   answers-one : (lines : List (List ℕ)) (b c d e : Between) (x y : List ℕ) → Alike b c → (h : AllAnswered p b lines x d)
-      → (k : AllAnswered p c lines y e) → shortages p b lines x d h ≡ shortages p c lines y e k → x ≡ y
+      → (k : AllAnswered p c lines y e) → AreAlike (shortages p b lines x d h) (shortages p c lines y e k) → x ≡ y
   answers-one [] b c d e x y on h k s = h.0 ∙ sym k.0
   answers-one (line ∷ lines) b c d e x y on h k s =
-      let here = answer-one b c h.0 k.0 line h.1 k.1 on h.3 k.3 (head-one _ _ _ _ s) in
-      let rest = answers-one lines h.0 k.0 d e h.2 k.2 here.1 h.4 k.4 (tail-one _ _ _ _ s) in
+      let here = answer-one b c h.0 k.0 line h.1 k.1 on h.3 k.3 s.0 in
+      let rest = answers-one lines h.0 k.0 d e h.2 k.2 here.1 h.4 k.4 s.1 in
       h.5 ∙ (ap (λ (t : List ℕ). t ++ h.2) here.0 ∙ (ap (λ (t : List ℕ). k.1 ++ t) rest ∙ sym k.5))
 
   -- before the first line
@@ -296,59 +311,67 @@ module _ (p : ℕ) where
             there = λ n who i. nobody d o n who i;
           }
 
+-- one text with these lines
+abbrev TextWith : (p : ℕ) (b c d e : Between) (x y : List ℕ) (lines : List (List ℕ)) → AllAnswered p b lines x d → List (List ℕ)
+    → Type 0
+TextWith p b c d e x y lines h ls =
+    (k : AllAnswered p c ls y e) → AreAlike (shortages p b lines x d h) (shortages p c ls y e k) → x ≡ y
+
 pub one_text : OneText
-one_text p bytes text other some few s t same =
+one_text p bytes text other some few s t alike =
     let lines : s.lines ≡ t.lines = fronts-one s.lines t.lines s.last t.last (sym s.cut ∙ t.cut) in
-    let all : (ls : List (List ℕ)) → s.lines ≡ ls → (k : AllAnswered p t.before ls t.replies t.after) → shortages p s.before s.lines s.replies s.after s.answered ≡ shortages p t.before ls t.replies t.after k → s.replies ≡ t.replies =
-    λ ls e. subst (λ (ms : List (List ℕ)). (k : AllAnswered p t.before ms t.replies t.after) → shortages p s.before s.lines s.replies s.after s.answered ≡ shortages p t.before ms t.replies t.after k → s.replies ≡ t.replies) e
-    (answers-one p s.lines s.before t.before s.after t.after s.replies t.replies (open-one p s.before t.before some few s.opens t.opens) s.answered) in
-    s.told ∙ (ap (λ (z : List ℕ). greeting p ++ z) (all t.lines lines t.answered same) ∙ sym t.told)
+    let begins = open-one p s.before t.before some few s.opens t.opens in
+    let here : TextWith p s.before t.before s.after t.after s.replies t.replies s.lines s.answered s.lines =
+    answers-one p s.lines s.before t.before s.after t.after s.replies t.replies begins s.answered in
+    let there : TextWith p s.before t.before s.after t.after s.replies t.replies s.lines s.answered t.lines =
+    subst (TextWith p s.before t.before s.after t.after s.replies t.replies s.lines s.answered) lines here in
+    s.told ∙ (ap (λ (z : List ℕ). greeting p ++ z) (there t.answered alike) ∙ sym t.told)
 
 -- Where nothing ran out.
-
-abbrev lacks : Option Answer → Option ℕ → Shortage
-lacks a n = record { reply = a; release = n }
-
-abbrev enough : Shortage
-enough = lacks None None
-
--- for no line
-abbrev plenty : List (List ℕ) → List Shortage
-plenty [] = []
-plenty (line ∷ lines) = enough ∷ plenty lines
 
 true-false : (b : Bool) → b ≡ true → b ≡ false → ⊥
 true-false b e f = true≢false (sym e ∙ f)
 
 module _ (p : ℕ) where
-  rests-plenty : (b c : Between) (n : ℕ) (r : Rests p b c) → c.is_short ≡ false → (b.is_short ≡ false) × (stopped p b c n r ≡ None)
-  rests-plenty b c n (inl h) e = (sym h.1 ∙ e, refl)
-  rests-plenty b c n (inr h) e = absurd (true-false c.is_short h.1 e)
+  rests-plenty : (b c : Between) (r : Rests p b c) → c.is_short ≡ false → (b.is_short ≡ false) × (is_all p b c r ≡ true)
+  rests-plenty b c (inl h) e = (sym h.1 ∙ e, refl)
+  rests-plenty b c (inr h) e = absurd (true-false c.is_short h.1 e)
 
   each-plenty : (xs : List (Waiter × Outcome)) (b c : Between) → FreesEach p b xs c → c.is_short ≡ false → b.is_short ≡ false
   each-plenty [] b c h e = ap (λ (z : Between). z.is_short) (sym h) ∙ e
   each-plenty (x ∷ xs) b c h e = sym h.1.short ∙ each-plenty xs h.0 c h.2 e
 
   line-plenty : (b c : Between) (line text : List ℕ) (h : Answered p b line text c) → c.is_short ≡ false
-      → (b.is_short ≡ false) × (shortage p b line text c h ≡ enough)
-  line-plenty b c line text (malformed none told same) e = (ap (λ (z : Between). z.is_short) (sym same) ∙ e, refl)
+      → (b.is_short ≡ false) × ((shortage p b line text c h).reply ≡ None) × ((shortage p b line text c h).all ≡ true)
+  line-plenty b c line text (malformed none told same) e = (ap (λ (z : Between). z.is_short) (sym same) ∙ e, refl, refl)
   line-plenty b c line text (unread told same) e = absurd (true-false c.is_short (ap (λ (z : Between). z.is_short) same) e)
   line-plenty b c line text (replied q a m xs is asks frees told) e =
-      let r = rests-plenty frees.0 c (length xs) frees.2 e in
+      let r = rests-plenty frees.0 c frees.2 e in
       let both = or_parts b.is_short (ran_out a) (sym asks.short ∙ each-plenty xs m frees.0 frees.1 r.0) in
-      let none : refusal a ≡ None = ap (λ (o : Bool). cond o (Some a) None) both.1 in
-      (both.0, ap (λ (o : Option Answer). lacks o (stopped p frees.0 c (length xs) frees.2)) none ∙ ap (λ (n : Option ℕ). lacks None n) r.1)
+      (both.0, ap (λ (o : Bool). cond o (Some a) None) both.1, r.1)
 
-  lines-plenty : (lines : List (List ℕ)) (b c : Between) (text : List ℕ) (h : AllAnswered p b lines text c) → c.is_short ≡ false
-      → (b.is_short ≡ false) × (shortages p b lines text c h ≡ plenty lines)
-  lines-plenty [] b c text h e = (ap (λ (z : Between). z.is_short) (sym h.1) ∙ e, refl)
-  lines-plenty (line ∷ lines) b c text h e =
-      let rest = lines-plenty lines h.0 c h.2 h.4 e in
+  lines-plenty : (lines : List (List ℕ)) (b c d e : Between) (x y : List ℕ) (h : AllAnswered p b lines x d) → d.is_short ≡ false
+      → (k : AllAnswered p c lines y e) → e.is_short ≡ false
+      → (b.is_short ≡ false) × (c.is_short ≡ false) × AreAlike (shortages p b lines x d h) (shortages p c lines y e k)
+  lines-plenty [] b c d e x y h f k g =
+      (ap (λ (z : Between). z.is_short) (sym h.1) ∙ f, ap (λ (z : Between). z.is_short) (sym k.1) ∙ g, tt)
+  lines-plenty (line ∷ lines) b c d e x y h f k g =
+      let rest = lines-plenty lines h.0 k.0 d e h.2 k.2 h.4 f k.4 g in
       let here = line-plenty b h.0 line h.1 h.3 rest.0 in
-      (here.0, ap (λ (x : Shortage). x ∷ shortages p h.0 lines h.2 c h.4) here.1 ∙ ap (λ (xs : List Shortage). enough ∷ xs) rest.1)
+      let there = line-plenty c k.0 line k.1 k.3 rest.1 in
+      (here.0, there.0, ((here.1 ∙ sym there.1, inr (here.2, there.2)), rest.2))
+
+-- so it is with these lines
+abbrev AlikeWith : (p : ℕ) (b c d e : Between) (x y : List ℕ) (lines : List (List ℕ)) → AllAnswered p b lines x d → List (List ℕ)
+    → Type 0
+AlikeWith p b c d e x y lines h ls =
+    (k : AllAnswered p c ls y e) → e.is_short ≡ false → AreAlike (shortages p b lines x d h) (shortages p c ls y e k)
 
 pub one_text_with_enough : OneTextWithEnough
-one_text_with_enough p bytes text other some few s t here there =
+one_text_with_enough p bytes text other some few s t enough as_well =
     let lines : s.lines ≡ t.lines = fronts-one s.lines t.lines s.last t.last (sym s.cut ∙ t.cut) in
-    one_text p bytes text other some few s t
-    ((lines-plenty p s.lines s.before s.after s.replies s.answered here).1 ∙ (ap plenty lines ∙ sym (lines-plenty p t.lines t.before t.after t.replies t.answered there).1))
+    let here : AlikeWith p s.before t.before s.after t.after s.replies t.replies s.lines s.answered s.lines =
+    λ k g. (lines-plenty p s.lines s.before t.before s.after t.after s.replies t.replies s.answered enough k g).2 in
+    let there : AlikeWith p s.before t.before s.after t.after s.replies t.replies s.lines s.answered t.lines =
+    subst (AlikeWith p s.before t.before s.after t.after s.replies t.replies s.lines s.answered) lines here in
+    one_text p bytes text other some few s t (there t.answered as_well)

@@ -69,7 +69,8 @@ impl Desk {
         line: &Received,
     ) -> Result<(), Failed>
         requires { (p : ℕ) × (b : Between) × Holds p b self.old.parking }
-        ensures { (p : ℕ) (b : Between) (bytes : List ℕ) (x : Option (List ℕ)) (h : ℕ) → Holds p b self.old.parking → IsLine line.now bytes
+        ensures { (p : ℕ) (b : Between) (bytes : List ℕ) (x : Option (List ℕ)) (h : ℕ)
+            → Holds p b self.old.parking → IsLine line.now bytes
             → IsLogged x h (L.written log.old) (L.faults log.old) self.old.log b.entries
             → OrElse result
             ((c : Between) × (text : List ℕ) × Answered p b bytes text c × Holds p c self.new.parking
@@ -172,7 +173,8 @@ impl Desk {
         answer: &Answer,
     ) -> Result<(), Failed>
         requires { (p : ℕ) × (m : Between) × Holds p m self.old.parking }
-        ensures { (p : ℕ) (es : List Entry) (m : Between) (x : Option (List ℕ)) (h : ℕ) → Holds p m self.old.parking → n ≡ length es
+        ensures { (p : ℕ) (es : List Entry) (m : Between) (x : Option (List ℕ)) (h : ℕ)
+            → Holds p m self.old.parking → n ≡ length es
             → (self.old.log.is_kept ≡ true → es ++ entries_of note.now answer.now ≡ m.entries)
             → IsLogged x h (L.written log.old) (L.faults log.old) self.old.log es
             → OrElse result

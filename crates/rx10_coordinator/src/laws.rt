@@ -9,8 +9,10 @@ ghost use Rattle.rx10_coordinator.specs.Determined.{OneText, OneTextWithEnough};
 /// A law of contracts: whatever the input is, nothing that a session tells of was released early, each release names exactly the places
 /// that lost its tasks, and masked faults come with losses.
 pub fn sessions_keep_the_laws()
-    ensures early { (p : ℕ) (bytes text : List ℕ) → 1 ≤ p → p ≤ 16 → (s : IsSession p bytes text) → NoEarlyRelease s.after.entries }
-    ensures exact { (p : ℕ) (bytes text : List ℕ) → 1 ≤ p → p ≤ 16 → (s : IsSession p bytes text) → LossExact s.after.entries }
+    ensures early { (p : ℕ) (bytes text : List ℕ) → 1 ≤ p → p ≤ 16 → (s : IsSession p bytes text)
+        → NoEarlyRelease s.after.entries }
+    ensures exact { (p : ℕ) (bytes text : List ℕ) → 1 ≤ p → p ≤ 16 → (s : IsSession p bytes text)
+        → LossExact s.after.entries }
     ensures masked { (p : ℕ) (bytes text : List ℕ) → 1 ≤ p → p ≤ 16 → (s : IsSession p bytes text)
         → (i : ℕ) (e : Entry) → slice_get s.after.entries i ≡ Some e → MaskedMeansLost e }
 {

@@ -52,8 +52,8 @@ impl Log {
         self.is_kept
     }
 
-    /// Writes the lines of the entries for which an answer stands. The first of them has this number. After a write that failed the log is of
-    /// no more use.
+    /// Writes the lines of the entries for which an answer stands. The first of them has this number. After a write that failed the log
+    /// is of no more use.
     pub(crate) fn note<L: Sink>(
         &mut self,
         log: &mut L,
@@ -86,7 +86,8 @@ impl Log {
         ensures same { self.new.is_kept ≡ self.old.is_kept }
         ensures logged { (x : Option (List ℕ)) (h : ℕ) (es : List Entry) → n ≡ length es
             → IsLogged x h (L.written log.old) (L.faults log.old) self.old es
-            → OrElse result (IsLogged x h (L.written log.new) (L.faults log.new) self.new (es ++ freed_entry scope waiter outcome.now ∷ []))
+            → OrElse result
+            (IsLogged x h (L.written log.new) (L.faults log.new) self.new (es ++ freed_entry scope waiter outcome.now ∷ []))
             (IsTorn x h (L.written log.new) (L.faults log.new) es) }
     {
         if !self.is_kept {

@@ -133,7 +133,8 @@ fn put_places<K: Sink>(pending: &mut Pending, out: &mut K, set: PlaceSet)
 // Tells the place if it is in the set, and else nothing.
 fn put_place_if_member<K: Sink>(pending: &mut Pending, out: &mut K, set: PlaceSet, place: PlaceId)
     requires { place.0 < 16 }
-    ensures { Puts K.written K.faults out.old pending.old out.new pending.new (flat_map natural_field (filter (has_bit set.0) (place.0 ∷ []))) }
+    ensures { Puts K.written K.faults out.old pending.old out.new pending.new
+        (flat_map natural_field (filter (has_bit set.0) (place.0 ∷ []))) }
 {
     if set.contains(place) {
         put_numbered(pending, out, b" ", u32::from(place.0));

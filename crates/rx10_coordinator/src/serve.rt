@@ -77,7 +77,8 @@ fn serve_desk<S: Source, K: Sink, L: Sink>(
         × Serves p w f (K.written out.old) (K.faults out.old) x h (L.written log.old) (L.faults log.old) desk.old received.old [] }
     ensures served { (p : ℕ) (w : Option (List ℕ)) (f : ℕ) (x : Option (List ℕ)) (h : ℕ)
         → Serves p w f (K.written out.old) (K.faults out.old) x h (L.written log.old) (L.faults log.old) desk.old received.old []
-        → Logged p (S.left input.old) (S.left input.new) w (K.written out.new) x (L.written log.new) f (K.faults out.new) h (L.faults log.new) result }
+        → Logged p (S.left input.old) (S.left input.new) w (K.written out.new) x (L.written log.new)
+        f (K.faults out.new) h (L.faults log.new) result }
     ensures read_fault { result ≡ ReadFault → Rose (S.faults input.old) (S.faults input.new) }
     ensures room { result ≡ NoRoom → ⊥ }
 {
@@ -122,8 +123,10 @@ fn take_all<K: Sink, L: Sink>(
     ensures { (p : ℕ) (w : Option (List ℕ)) (f : ℕ) (x : Option (List ℕ)) (h : ℕ) (given : List ℕ)
         → Serves p w f (K.written out.old) (K.faults out.old) x h (L.written log.old) (L.faults log.old) desk.old received.old given
         → OrElse result
-        (Serves p w f (K.written out.new) (K.faults out.new) x h (L.written log.new) (L.faults log.new) desk.new received.new (given ++ bytes.now))
-        (Breaks p w f (K.written out.new) (K.faults out.new) x h (L.written log.new) (L.faults log.new) desk.new (given ++ bytes.now)) }
+        (Serves p w f (K.written out.new) (K.faults out.new) x h (L.written log.new) (L.faults log.new)
+        desk.new received.new (given ++ bytes.now))
+        (Breaks p w f (K.written out.new) (K.faults out.new) x h (L.written log.new) (L.faults log.new)
+        desk.new (given ++ bytes.now)) }
 {
     'bytes: for i in 0..bytes.len() {
         match take(desk, received, out, log, bytes[i]) {
@@ -147,8 +150,10 @@ fn take<K: Sink, L: Sink>(
     ensures { (p : ℕ) (w : Option (List ℕ)) (f : ℕ) (x : Option (List ℕ)) (h : ℕ) (given : List ℕ)
         → Serves p w f (K.written out.old) (K.faults out.old) x h (L.written log.old) (L.faults log.old) desk.old received.old given
         → OrElse result
-        (Serves p w f (K.written out.new) (K.faults out.new) x h (L.written log.new) (L.faults log.new) desk.new received.new (given ++ byte ∷ []))
-        (Breaks p w f (K.written out.new) (K.faults out.new) x h (L.written log.new) (L.faults log.new) desk.new (given ++ byte ∷ [])) }
+        (Serves p w f (K.written out.new) (K.faults out.new) x h (L.written log.new) (L.faults log.new)
+        desk.new received.new (given ++ byte ∷ []))
+        (Breaks p w f (K.written out.new) (K.faults out.new) x h (L.written log.new) (L.faults log.new)
+        desk.new (given ++ byte ∷ [])) }
 {
     if byte == b'\n' {
         match desk.answer(out, log, received) {

@@ -8,7 +8,7 @@ ghost use Rattle.rx_check.specs.declared.checker.CheckCause.TheVariants.{Bad, No
 
 use crate::Program;
 use crate::walk::Walk;
-use rx_script::{Script, whole};
+use rx_nodes::{Script, whole};
 use std::alloc::{AllocFailed, Global};
 
 /// Why a script was not accepted.

@@ -6,7 +6,7 @@ ghost use Rattle.rx_nodes.specs.Grammar.{AllInRange, spellings};
 ghost use Rattle.rx_token.specs.Tokens.{AreNames};
 ghost use Rattle.rx_check.specs.Checked.{Meets};
 
-use rx_script::{Script, whole};
+use rx_nodes::{Script, whole};
 use std::marker::Model;
 
 /// A checked script: it meets the five rules of docs/language.md.

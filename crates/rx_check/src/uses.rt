@@ -9,7 +9,7 @@ ghost use Rattle.rx_check.specs.declared.checker.CheckCause.TheVariants.{NoMemor
 use crate::CheckCause;
 use crate::names::{Kind, is_known, kind_of};
 use crate::walk::Walk;
-use rx_script::{Expr, ExprId, NameId, Script};
+use rx_nodes::{Expr, ExprId, NameId, Script};
 use std::alloc::Global;
 
 // What is wrong with an expression: a name that is not known, a reference, or more than 32 pairs of parentheses in one another.

@@ -12,7 +12,7 @@ use crate::CheckCause;
 use crate::names::{Kind, Seen, is_known, kind_of};
 use crate::parts::{Bodies, Parts, blocks, capped, split, total};
 use crate::uses::{Uses, option_use};
-use rx_script::{BlockId, NameId, Script, Stmt};
+use rx_nodes::{BlockId, NameId, Script, Stmt};
 use std::alloc::Global;
 
 // The names assigned so far, those that are known here, and how many statements were gone through.

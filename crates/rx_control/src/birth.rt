@@ -8,8 +8,8 @@ ghost use Rattle.rx_control.specs.Stands.{StandsFor};
 use crate::Control;
 use crate::frame::{enter, settle};
 use rx_base::{NoMemory, Path};
+use rx_nodes::{BlockId, Script, Stmt};
 use rx_plan::Variables;
-use rx_script::{BlockId, Script, Stmt};
 use std::alloc::Global;
 
 /// A control at the front of a block.

@@ -23,8 +23,8 @@ use crate::path::{front_path, is_front_path};
 use crate::statement::{at_hand, following, learn, open_after, receive, receiver, statement_of};
 use rx_base::{Fault, Faults, NoMemory, Path, PlaceId, Value};
 use rx_check::Program;
+use rx_nodes::{BlockId, Script, Stmt};
 use rx_plan::{Next, Plan, Variables, Want, make_plan, tell};
-use rx_script::{BlockId, Script, Stmt};
 use std::alloc::Global;
 
 /// What one activity has still to run, with its variables. It stands for terms of the rules, and the program passed to its calls
@@ -78,7 +78,7 @@ impl Control {
         ensures steps { (b : Block) → steps (items b [] Empty) ≡ 3 * work b }
     {
         let script = p.script();
-        rx_script::whole(script);
+        rx_nodes::whole(script);
         start(
             alloc,
             script,

@@ -7,7 +7,7 @@ ghost use Rattle.rx_control.specs.declared.frame.Frame.{Frame};
 ghost use Rattle.rx_control.specs.Stands.{FrameStands, FramesStand};
 ghost use Rattle.rx_control.specs.Inside.Front.{LevelIsOver, IsCatch, SettlesTo};
 
-use rx_script::{BlockId, Script};
+use rx_nodes::{BlockId, Script};
 
 /// What is left at one level. The last frame of a stack is the innermost.
 #[derive(Clone, Copy, Debug, PartialEq, Eq)]

@@ -13,8 +13,8 @@ ghost use Rattle.rx_control.specs.Inside.Front.{Awaits, SettlesTo, levels_opened
 
 use crate::frame::{Frame, enter, settle};
 use rx_base::{NoMemory, Value};
+use rx_nodes::{BlockId, NameId, Script, Stmt};
 use rx_plan::Variables;
-use rx_script::{BlockId, NameId, Script, Stmt};
 
 /// The statement at a position of a block.
 pub(crate) fn at_hand(script: &Script, block: BlockId, next: u32) -> Stmt

@@ -103,7 +103,7 @@ traveller_moves T t x from to r found free travels =
     ]) refl
 
 -- it arrived
-landed_on : (T : Tree) (who : Caller) → Reached T → MayAskArrive T who → AllowedAct T who.task (Arrive (landing who.place)) → HasNumbers (made_act T who.task (Arrive (landing who.place))) → MayAskMoving (made_act T who.task (Arrive (landing who.place))) (record who { place = At (landing who.place) })
+pub landed_on : (T : Tree) (who : Caller) → Reached T → MayAskArrive T who → AllowedAct T who.task (Arrive (landing who.place)) → HasNumbers (made_act T who.task (Arrive (landing who.place))) → MayAskMoving (made_act T who.task (Arrive (landing who.place))) (record who { place = At (landing who.place) })
 landed_on T who r may act few =
     let x = act.task in
     let so = so_says T who Travels x may act.stands in
@@ -123,7 +123,7 @@ free_stays true o e = ap (λ (v : Option Blow). not (true && is_some v)) e
 free_stays false o e = refl
 
 -- it released its scope
-released_on : (U : Given) (es : List Entry) (who : Caller) (lost : PlaceSet) (masked : ℕ) (thrown : List Fault) → Folds U es → MayAskRelease (tree_of U.places es) who → AllowedAct (tree_of U.places es) who.task (Release who.inner lost masked thrown) → HasNumbers (made_act (tree_of U.places es) who.task (Release who.inner lost masked thrown)) → MayAskMoving (made_act (tree_of U.places es) who.task (Release who.inner lost masked thrown)) (record who { inner = parent_told es who.inner })
+pub released_on : (U : Given) (es : List Entry) (who : Caller) (lost : PlaceSet) (masked : ℕ) (thrown : List Fault) → Folds U es → MayAskRelease (tree_of U.places es) who → AllowedAct (tree_of U.places es) who.task (Release who.inner lost masked thrown) → HasNumbers (made_act (tree_of U.places es) who.task (Release who.inner lost masked thrown)) → MayAskMoving (made_act (tree_of U.places es) who.task (Release who.inner lost masked thrown)) (record who { inner = parent_told es who.inner })
 released_on U es who lost masked thrown folds may act few =
     let T : Tree = tree_of U.places es in
     let m = act in

@@ -21,3 +21,5 @@ pub mod StaysGood
 pub mod OwnTold
 pub mod Called
 pub mod Newborn
+pub mod TermAsks
+pub mod CallersGoOn

@@ -81,7 +81,7 @@ module _ (n : ℕ) (T : Tree) (e : Entry) (who : Caller) (r : Reached T) (may : 
       ∙ (ap (λ (ls : List Link). top ls x.under) s.owns
       ∙ (ap (λ (t : TaskId). top (links T t) x.under) (sym his) ∙ sym (inner_top T x)))))
 
-  caller_stays : (P Q : Task → Type 0) → ((x : Task) (s : Stays T (made n T e) who.task x) → P x → Q s.kept.task) → CallerStands T who P ⊎ HasLeft T who → CallerStands (made n T e) who Q ⊎ HasLeft (made n T e) who
+  pub caller_stays : (P Q : Task → Type 0) → ((x : Task) (s : Stays T (made n T e) who.task x) → P x → Q s.kept.task) → CallerStands T who P ⊎ HasLeft T who → CallerStands (made n T e) who Q ⊎ HasLeft (made n T e) who
   caller_stays P Q f (inl h) =
       elim (entry_lasts n T e who.task h.task r may other h.stands) [
         | inl s ↦ inl (record {
@@ -97,10 +97,10 @@ module _ (n : ℕ) (T : Tree) (e : Entry) (who : Caller) (r : Reached T) (may : 
       let l = left_lasts n T e who.task h.task r may (record { none = h.none; gone = h.gone }) in
       inr (record { task = h.task; none = l.none; gone = l.gone; says = h.says })
 
-  moving_stays : (x : Task) (s : Stays T (made n T e) who.task x) → IsMoving x → IsMoving s.kept.task
+  pub moving_stays : (x : Task) (s : Stays T (made n T e) who.task x) → IsMoving x → IsMoving s.kept.task
   moving_stays x s h = record { place = h.place; is_at = s.kept.place ∙ h.is_at; moves = s.kept.waits ∙ h.moves }
 
-  travels_stays : (x : Task) (s : Stays T (made n T e) who.task x) → Travels x → Travels s.kept.task
+  pub travels_stays : (x : Task) (s : Stays T (made n T e) who.task x) → Travels x → Travels s.kept.task
   travels_stays x s h = record { travels = ap does_travel s.kept.place ∙ h.travels }
 
   finish_stays : (x : Task) (s : Stays T (made n T e) who.task x) → HasFinish T who x → HasFinish (made n T e) who s.kept.task
@@ -108,7 +108,7 @@ module _ (n : ℕ) (T : Tree) (e : Entry) (who : Caller) (r : Reached T) (may : 
       let a = alike (own_scope (made n T e) who.task) h.scope (own_links T (made n T e) who.task s.owns ∙ ap (option_map link) h.own) in
       record { moving = moving_stays x s h.moving; scope = a.scope; own = a.found; finish = a.kind ∙ h.finish }
 
-  waits_stays : (x : Task) (s : Stays T (made n T e) who.task x) → WaitsInside T who x → WaitsInside (made n T e) who s.kept.task
+  pub waits_stays : (x : Task) (s : Stays T (made n T e) who.task x) → WaitsInside T who x → WaitsInside (made n T e) who s.kept.task
   waits_stays x s h =
       let a = alike (own_scope (made n T e) who.task) h.scope (own_links T (made n T e) who.task s.owns ∙ ap (option_map link) h.own) in
       record { waits = s.kept.waits ∙ h.waits; scope = a.scope; own = a.found }

@@ -7,6 +7,7 @@ pub mod Uncovering
 pub mod GoingOn
 pub mod Staying
 pub mod Owned
+pub mod TermAsks
 pub mod Holding
 pub mod Calling
 pub mod Inside

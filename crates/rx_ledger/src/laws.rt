@@ -3,6 +3,7 @@ ghost use Rattle.rx_ledger.specs.Calling.{CallsGoOn, CallsKeepOthers, CallsOwn, 
 ghost use Rattle.rx_ledger.specs.GoingOn.{ChildrenBegin, TicketsGoOn};
 ghost use Rattle.rx_ledger.specs.Owned.{MayEndNext, MayWaitNext, NumbersAreLeft, OwnedAsTold};
 ghost use Rattle.rx_ledger.specs.Staying.{EntryKeepsTicket, TicketsStayGood};
+ghost use Rattle.rx_ledger.specs.TermAsks.{LawOfAsking};
 ghost use Rattle.rx_ledger.specs.Uncovering.{UncoversParent};
 
 /// A law: after a release the inner scope of its task is the parent of the released scope, as the history tells it. So the ticket
@@ -48,6 +49,12 @@ pub fn may_wait_next()
 /// A law: a task that may go on and has no scope, as its entries tell, may end.
 pub fn may_end_next()
     ensures { MayEndNext }
+{}
+
+/// A law: what the term of a task does next, the ledger may be asked. The task waits where its term waits, and its open scopes are
+/// those of its term.
+pub fn law_of_asking()
+    ensures { LawOfAsking }
 {}
 
 /// A law: a history of fewer than 2^31 - 1 entries leaves numbers for more tasks and scopes.

@@ -1,1 +1,2 @@
 pub mod Mentioned
+pub mod Within

@@ -9,4 +9,5 @@ mod script;
 
 pub use laws::names_are_numbered;
 pub use nodes::{BlockId, Expr, ExprId, NameId, Stmt, StmtId};
+pub use rx_token::Op;
 pub use script::{Script, whole};

@@ -8,7 +8,7 @@ ghost use Rattle.rx_order.specs.Inside.Parts.{part_mark};
 use crate::parts::{number_at, part_of, stmt_at};
 use rx_base::NoMemory;
 use rx_check::Program;
-use rx_script::{Stmt, whole};
+use rx_nodes::{Stmt, whole};
 
 /// What a number of a path stands for, as far as the order of statements asks.
 #[derive(Clone, Copy, Debug, PartialEq, Eq)]

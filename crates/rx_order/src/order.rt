@@ -9,7 +9,7 @@ use crate::kept::is_kept;
 use crate::parts::{Walk, number_at, part_of, stmt_at};
 use rx_base::Path;
 use rx_check::Program;
-use rx_script::{BlockId, Script, Stmt, whole};
+use rx_nodes::{BlockId, Script, Stmt, whole};
 
 /// Whether the statement instance that x names is before the one that y names. Any paths may be passed: where the program has no
 /// statement at a position that is looked at, the answer is false. The time is linear in the two paths, and no memory is taken.

@@ -6,7 +6,7 @@ ghost use Rattle.rx_nodes.specs.Shape.{ExprStands, op_of};
 
 use crate::Variables;
 use rx_base::{PlaceId, Value};
-use rx_script::{ExprId, Op, Script};
+use rx_nodes::{ExprId, Op, Script};
 
 // The result of an operation, where it is in range.
 fn apply(op: Op, a: i64, b: i64) -> Option<i64>
@@ -38,10 +38,10 @@ pub(crate) fn evaluate(script: &Script, vars: &Variables, here: PlaceId, id: Exp
     ensures { (e : Expr) → ExprStands script.now.exprs id e → result ≡ eval vars.now here.0 e }
 {
     match script.expr(id) {
-        rx_script::Expr::Num(z) => Some(z),
-        rx_script::Expr::Name(name) => number(vars.get(name)),
-        rx_script::Expr::Here => Some(here.0 as i64),
-        rx_script::Expr::Bin { op, left, right } => {
+        rx_nodes::Expr::Num(z) => Some(z),
+        rx_nodes::Expr::Name(name) => number(vars.get(name)),
+        rx_nodes::Expr::Here => Some(here.0 as i64),
+        rx_nodes::Expr::Bin { op, left, right } => {
             let a = evaluate(script, vars, here, left);
             let b = evaluate(script, vars, here, right);
             combine(op, a, b)

@@ -14,7 +14,7 @@ ghost use Rattle.rx_plan.specs.Inside.Places.{place_in};
 use crate::eval::evaluate;
 use crate::{CellOp, Next, Variables, Want};
 use rx_base::{Fault, GlobalRef, PlaceId, Value};
-use rx_script::{BlockId, ExprId, NameId, Script, Stmt};
+use rx_nodes::{BlockId, ExprId, NameId, Script, Stmt};
 
 /// What a statement does, once its expressions have values.
 #[derive(Clone, Copy, Debug, PartialEq, Eq)]

@@ -4,7 +4,7 @@ ghost use Rattle.rx_rules.specs.Terms.{no_vars, bound, value_of};
 ghost use Rattle.rx_plan.specs.Inside.Kept.{padded, IsShort};
 
 use rx_base::{NoMemory, Value};
-use rx_script::NameId;
+use rx_nodes::NameId;
 use std::alloc::Global;
 use std::marker::Model;
 

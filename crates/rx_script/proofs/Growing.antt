@@ -1,7 +1,6 @@
 -- What stands in a list of parts goes on standing as the list grows.
-use Rattle.std.proofs.Common.{◌≡◌, ℕ, ◌<◌, List, [], ◌∷◌, ◌++◌, length, ap, sym, ◌∙◌, append_assoc, append-nil}
+use Rattle.std.proofs.Common.{◌≡◌, ℕ, List, [], ◌∷◌, ◌++◌, ap, sym, ◌∙◌, append_assoc, append-nil}
 use Rattle.std.specs.Prelude.{Some, slice_get}
-use Rattle.std.proofs.lemmas.Option.{slice_get_within}
 use Rattle.rx_base.proofs.Elements.{more-at}
 use Rattle.rx_rules.specs.Code.{Expr, Num, Name, Here, Bin, Stmt, SetTo, New, Get, Put, Forget, Census, Print, Throw, Async, AtAsync, At, Finish, If, Repeat, Try, Block, Nothing, Then}
 use Rattle.rx_nodes.specs.Shape.{Shape, ExprStands, StmtIs, ListStands}
@@ -18,13 +17,6 @@ grows-none es = ([], sym (append-nil es))
 
 pub grows-on : (es fs gs : List Part) → Grows es fs → Grows fs gs → Grows es gs
 grows-on es fs gs g h = (g.0 ++ h.0, h.1 ∙ ap (λ us. us ++ h.0) g.1 ∙ append_assoc es g.0 h.0)
-
--- an expression's number is one of the list
-pub stands-within : (es : List Part) (i : ExprId) (e : Expr) → ExprStands es i e → i.0 < length es
-stands-within es i (Num n) h = slice_get_within es i.0 _ h
-stands-within es i (Name n) h = slice_get_within es i.0 _ h.1
-stands-within es i Here h = slice_get_within es i.0 _ h
-stands-within es i (Bin o a b) h = slice_get_within es i.0 _ h.3
 
 pub expr-grows : (es fs : List Part) → Grows es fs → (i : ExprId) (e : Expr) → ExprStands es i e → ExprStands fs i e
 expr-grows es fs g i (Num n) h = more-at es g.0 fs g.1 i.0 _ h

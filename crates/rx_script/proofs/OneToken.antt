@@ -20,7 +20,8 @@ use Rattle.rx_token.specs.declared.token.Sign.TheVariants.{CloseParen as RParen}
 use Rattle.rx_script.specs.declared.exprs.OpenPair.{OpenPair}
 use Rattle.rx_script.specs.declared.exprs.OpenPair.TheVariants as pairs
 use Rattle.rx_script.specs.declared.exprs.Turn.TheVariants as turns
-use Rattle.rx_script.proofs.Growing.{expr-grows, stands-within}
+use Rattle.rx_nodes.proofs.Within.{stands-within}
+use Rattle.rx_script.proofs.Growing.{expr-grows}
 
 pair-grows : (es fs : List Part) → Grows es fs → (p : OpenPair) (q : Pair) → PairStands es p q → PairStands fs p q
 pair-grows es fs g p First h = h

@@ -14,7 +14,6 @@ pub use laws::{
 };
 pub use reader::{ScriptFault, read_script};
 pub use rx_nodes::{
-    BlockId, Expr, ExprId, NameId, Script, Stmt, StmtId, names_are_numbered, whole,
+    BlockId, Expr, ExprId, NameId, Op, Script, Stmt, StmtId, names_are_numbered, whole,
 };
-pub use rx_token::Op;
 pub use writer::write_script;

@@ -27,7 +27,8 @@ pub record Holds (p : ℕ) (b : Between) (k : Parking) : Type 0 where
   pub waiters : b.waiters ≡ k.waiters
 
 -- all lines of these bytes are answered, and the log has the entries
-pub record Serves (p : ℕ) (w : Option (List ℕ)) (f : ℕ) (v : Option (List ℕ)) (g : ℕ) (x : Option (List ℕ)) (h : ℕ) (y : Option (List ℕ)) (i : ℕ)
+pub record Serves (p : ℕ) (w : Option (List ℕ)) (f : ℕ) (v : Option (List ℕ)) (g : ℕ)
+    (x : Option (List ℕ)) (h : ℕ) (y : Option (List ℕ)) (i : ℕ)
     (d : Desk) (r : Received) (bytes : List ℕ) : Type 0 where
   pub lines : List (List ℕ)
   pub last : List ℕ
@@ -43,7 +44,8 @@ pub record Serves (p : ℕ) (w : Option (List ℕ)) (f : ℕ) (v : Option (List 
   pub logged : IsLogged x h y i d.log after.entries
 
 -- of these bytes a front is answered so, and then a write to the log has failed
-pub record Breaks (p : ℕ) (w : Option (List ℕ)) (f : ℕ) (v : Option (List ℕ)) (g : ℕ) (x : Option (List ℕ)) (h : ℕ) (y : Option (List ℕ)) (i : ℕ)
+pub record Breaks (p : ℕ) (w : Option (List ℕ)) (f : ℕ) (v : Option (List ℕ)) (g : ℕ)
+    (x : Option (List ℕ)) (h : ℕ) (y : Option (List ℕ)) (i : ℕ)
     (d : Desk) (bytes : List ℕ) : Type 0 where
   pub heard : List ℕ
   pub unheard : List ℕ

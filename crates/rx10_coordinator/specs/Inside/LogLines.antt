@@ -32,7 +32,8 @@ abbrev pub call_line : ℕ → TaskId → ScopeId → ScopeId → TaskId → Pla
 call_line n t s r callee from to = head_text n (codes " at") t ++ scope_text s r ++ numbered (codes " t") callee.0 ++ way_text from to
 
 abbrev pub spawn_line : ℕ → TaskId → TaskId → ScopeId → PlaceId → PlaceId → List ℕ
-spawn_line n t child s from to = head_text n (codes " spawn") t ++ numbered (codes " t") child.0 ++ numbered (codes " in s") s.0 ++ way_text from to
+spawn_line n t child s from to =
+    head_text n (codes " spawn") t ++ numbered (codes " t") child.0 ++ numbered (codes " in s") s.0 ++ way_text from to
 
 abbrev pub arrive_line : ℕ → TaskId → PlaceId → List ℕ
 arrive_line n t p = head_text n (codes " arrive") t ++ numbered (codes " ") p.0 ++ codes "\n"

@@ -3,7 +3,7 @@ use Rattle.std.proofs.lemmas.Int.{ints, to_z-of_z}
 use mir.Val.{SFits}
 use Rattle.rx_rules.specs.Terms.{eval, both, number_in}
 use Rattle.rx_nodes.specs.Shape.{op_of}
-use Rattle.rx_script.proofs.Growing.{stands-within}
+use Rattle.rx_nodes.proofs.Within.{stands-within}
 use Rattle.rx_check.proofs.Exprs.{part-is}
 use Rattle.rx_plan.proofs.eval.+evaluate.Goals as goal
 

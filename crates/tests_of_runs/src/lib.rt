@@ -1,4 +1,4 @@
-//! Tests of stores, books, objects, workers and watches, of runs on one thread and on several, and of what reads, replays and judges a
+//! Tests of stores, books, objects and watches, of runs on one thread, of activities on several, and of what reads, replays and judges a
 //! trace. Each module has the name of the crate that it tests. They stand apart, so that none of those crates is proved twice; nothing
 //! else is here.
 #![tactic(auto)]
@@ -7,8 +7,6 @@
 mod answers;
 #[cfg(test)]
 mod book;
-#[cfg(test)]
-mod live;
 #[cfg(test)]
 mod machine;
 #[cfg(test)]
@@ -23,8 +21,6 @@ mod replay;
 mod same;
 #[cfg(test)]
 mod span;
-#[cfg(test)]
-mod stations;
 #[cfg(test)]
 mod store;
 #[cfg(test)]

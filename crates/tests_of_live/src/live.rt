@@ -3,7 +3,6 @@ ghost use Rattle.std.specs.Prelude.{◌≡◌, []};
 ghost use Rattle.rx_rules.specs.Run.{Proper};
 ghost use Rattle.rx_history.specs.Setups.{given};
 
-use crate::same::same;
 use rx_base::{CellGate, MeetGate};
 use rx_check::{Program, check};
 use rx_counts::CountLedger;
@@ -79,7 +78,7 @@ fn a_reader_looks_while_workers_are_held(rt: HostRuntime) -> Result<(), Fail> {
         assert!(rt; gate.met());
         assert!(rt; history.len() == 10);
         assert!(rt; watch.len() == 4);
-        same(&rt, watch.item(3).len, 10);
+        assert!(rt; watch.item(3).len == 10);
     }
     Ok(())
 }

@@ -1,5 +1,4 @@
 // When workers stop, and when they may rest, which no contract says.
-use crate::same::same;
 use rx_stations::tally::Tally;
 use std::test::Fail;
 
@@ -16,7 +15,7 @@ fn workers_stop_and_rest_by_the_tally(rt: HostRuntime) -> Result<(), Fail> {
     assert!(rt; !tally.all_wait());
     tally.ends();
     assert!(rt; tally.is_done() && !tally.is_refused());
-    same(&rt, tally.over(), 2);
+    assert!(rt; tally.over() == 2);
     let tally = Tally::of_one();
     tally.begins_work();
     assert!(rt; !tally.goes_to_rest());

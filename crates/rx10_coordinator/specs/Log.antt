@@ -33,7 +33,8 @@ HasFailed f g status = ((status ≡ WriteFault) ⊎ (status ≡ LogFault)) × Ro
 -- The input, the output and the log before and after, and the faults of output and log. What was written is the text of a session of what
 -- was heard, or a front of it where a write has failed; and what was appended to the log is the lines of the entries of that very session.
 -- So no reply is written whose entry is not in the log. All that was read was heard, and nothing else stands in the log, unless a write to
--- the log has failed, and the status says so: then a part of the lines of further entries stands behind.
+-- the log has failed, and the status says so: then a part of the lines of further entries stands behind. Each status that says that a
+-- write has failed comes only then.
 pub record Logged (p : ℕ) (old new w v x y : Option (List ℕ)) (f g h i : ℕ) (status : Status) : Type 0 where
   pub heard : List ℕ
   pub unheard : List ℕ
@@ -51,5 +52,6 @@ pub record Logged (p : ℕ) (old new w v x y : Option (List ℕ)) (f g h i : ℕ
   pub logged : Appends x y (log_lines 0 session.after.entries ++ part)
   pub torn : part ++ left ≡ log_lines (length session.after.entries) more
   pub kept : ((unheard ≡ []) × (part ≡ [])) ⊎ (status ≡ LogFault)
-  pub fails : status ≡ LogFault → Rose h i
+  pub fails : status ≡ WriteFault → Rose f g
+  pub log_fails : status ≡ LogFault → Rose h i
   pub over : status ≡ Done → IsAtEnd new ⊎ (2 ^ 64 - 1 ≤ length heard)

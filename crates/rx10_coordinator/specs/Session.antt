@@ -108,8 +108,8 @@ pub record IsSession (p : ℕ) (bytes text : List ℕ) : Type 0 where
   pub told : text ≡ greeting p ++ replies
 
 -- The input and the output before and after, and the faults of the output. What was written is the text of a session of what was read, or
--- a write has failed, and the status says so: then it is a front of that text. The input was read to its end where the status is `Done`,
--- unless it gave 2^64 - 1 bytes.
+-- a front of it where the status is `WriteFault`, and so it is only where a write has failed. The input was read to its end where the
+-- status is `Done`, unless it gave 2^64 - 1 bytes.
 pub record Served (p : ℕ) (old new : Option (List ℕ)) (w v : Option (List ℕ)) (f g : ℕ) (status : Status) : Type 0 where
   pub bytes : List ℕ
   pub text : List ℕ
@@ -119,5 +119,6 @@ pub record Served (p : ℕ) (old new : Option (List ℕ)) (w v : Option (List �
   pub session : IsSession p bytes text
   pub wrote : Appends w v written
   pub front : text ≡ written ++ rest
-  pub whole : (rest ≡ []) ⊎ ((status ≡ WriteFault) × Rose f g)
+  pub whole : (rest ≡ []) ⊎ (status ≡ WriteFault)
+  pub fails : status ≡ WriteFault → Rose f g
   pub over : status ≡ Done → IsAtEnd new ⊎ (2 ^ 64 - 1 ≤ length bytes)

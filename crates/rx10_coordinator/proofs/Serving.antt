@@ -8,16 +8,18 @@ use Rattle.rx_rules.specs.declared.entries.Entry.{Entry}
 use Rattle.rx_coordinator.specs.declared.parking.Parking.{Parking}
 use Rattle.rx10_coordinator.specs.declared.desk.Desk.{Desk}
 use Rattle.rx10_coordinator.specs.declared.log.Log.{Log}
-use Rattle.rx10_coordinator.specs.declared.output.Pending.{Pending}
+use Rattle.rx_lines.specs.declared.output.Pending.{Pending}
 use Rattle.rx10_coordinator.specs.declared.received.Received.{Received}
 use Rattle.rx10_coordinator.specs.declared.status.Status.{Status}
 use Rattle.rx10_coordinator.specs.declared.status.Status.TheVariants.{Done, ReadFault, WriteFault, LogFault}
-use Rattle.rx10_coordinator.specs.Session.{Between, IsOpen, Answered, Served, greeting}
-use Rattle.rx10_coordinator.specs.Log.{Logged, HasFailed, log_lines}
-use Rattle.rx10_coordinator.specs.Inside.Telling.{Tells, IsLeft, Puts}
+use Rattle.rx_lines.specs.Session.{Between, IsOpen, Answered, greeting}
+use Rattle.rx10_coordinator.specs.Serving.{Served}
+use Rattle.rx_lines.specs.Stated.{log_lines}
+use Rattle.rx10_coordinator.specs.Log.{Logged, HasFailed}
+use Rattle.rx_lines.specs.Inside.Telling.{Tells, IsLeft, Puts}
 use Rattle.rx10_coordinator.specs.Inside.Logging.{IsLogged, IsTorn}
 use Rattle.rx10_coordinator.specs.Inside.Desk.{Holds, Serves, Breaks, IsLine}
-use Rattle.rx10_coordinator.proofs.Telling.{without, joined}
+use Rattle.rx_lines.proofs.Telling.{without, joined}
 use Rattle.rx10_coordinator.proofs.Cutting.{line-ends}
 use Rattle.rx10_coordinator.proofs.Going.{answers-more}
 use Rattle.rx10_coordinator.proofs.Logging.{left-whole, left-rose}

@@ -53,8 +53,13 @@ enum Told {
     FreedNone,
 }
 
-use Ask::{Arrives, Calls, Dies, Ends, Frees, Joins, Opens, Releases, Root, Sends, Spawns, Throws, Waits};
-use Told::{Bad, Died, Ended, FreedNone, FreedRoot, FreedTask, Joined, Landed, Lost, Opened, Parked, Released, Short, Started, Waiting};
+use Ask::{
+    Arrives, Calls, Dies, Ends, Frees, Joins, Opens, Releases, Root, Sends, Spawns, Throws, Waits,
+};
+use Told::{
+    Bad, Died, Ended, FreedNone, FreedRoot, FreedTask, Joined, Landed, Lost, Opened, Parked,
+    Released, Short, Started, Waiting,
+};
 
 // What is asked, what is told, and how many entries there are then.
 type Row = (Ask, Told, u32);
@@ -271,7 +276,9 @@ fn told_of(answer: &Answer) -> Told {
 fn told_freed(freed: &Freed) -> Told {
     match freed {
         Freed::One {
-            waiter, outcome, ..
+            waiter,
+            outcome,
+            ..
         } => {
             let thrown = first_thrown(&outcome.thrown);
             match waiter {

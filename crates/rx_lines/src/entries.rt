@@ -13,7 +13,7 @@ ghost use Rattle.rx_lines.specs.Inside.LogLines.{release_line, end_line, root_li
 
 use crate::note::Note;
 use crate::output::Pending;
-use crate::replies::{put_losses, put_masked, put_numbered};
+use crate::replies::{put_losses, put_masked, put_numbered, put_place_number};
 use rx_base::{Fault, Faults, PlaceId, ScopeId, Sink, TaskId};
 use rx_coordinator::{Answer, Waiter};
 use rx_finish::{Born, Outcome, landing_of, place_of};
@@ -91,7 +91,6 @@ fn put_sent<L: Sink>(pending: &mut Pending, log: &mut L, n: u64, note: &Note, bo
 }
 
 // A finish is opened.
-#[tactic(auto, using(crate::proofs::Telling::puts_then))]
 fn put_opened<L: Sink>(
     pending: &mut Pending,
     log: &mut L,
@@ -108,7 +107,6 @@ fn put_opened<L: Sink>(
 }
 
 // A task calls another one.
-#[tactic(auto, using(crate::proofs::Telling::puts_then))]
 fn put_called<L: Sink>(
     pending: &mut Pending,
     log: &mut L,
@@ -128,7 +126,6 @@ fn put_called<L: Sink>(
 }
 
 // A task starts another one.
-#[tactic(auto, using(crate::proofs::Telling::puts_then))]
 fn put_spawned<L: Sink>(
     pending: &mut Pending,
     log: &mut L,
@@ -147,17 +144,15 @@ fn put_spawned<L: Sink>(
 }
 
 // A task arrives.
-#[tactic(auto, using(crate::proofs::Telling::puts_then))]
 fn put_arrived<L: Sink>(pending: &mut Pending, log: &mut L, n: u64, task: TaskId, place: PlaceId)
     ensures { Puts L.written L.faults log.old pending.old log.new pending.new (arrive_line n task place) }
 {
     put_head(pending, log, n, b" arrive", task);
-    put_numbered(pending, log, b" ", u32::from(place.0));
+    put_place_number(pending, log, b" ", place);
     pending.put(log, b"\n");
 }
 
 // The body of a finish has ended.
-#[tactic(auto, using(crate::proofs::Telling::puts_then))]
 fn put_waits<L: Sink>(
     pending: &mut Pending,
     log: &mut L,
@@ -175,7 +170,6 @@ fn put_waits<L: Sink>(
 }
 
 // A task releases a scope.
-#[tactic(auto, using(crate::proofs::Telling::puts_then))]
 fn put_release<L: Sink>(
     pending: &mut Pending,
     log: &mut L,
@@ -192,7 +186,6 @@ fn put_release<L: Sink>(
 }
 
 // The host releases the root.
-#[tactic(auto, using(crate::proofs::Telling::puts_then))]
 fn put_root<L: Sink>(pending: &mut Pending, log: &mut L, n: u64, outcome: &Outcome)
     ensures { Puts L.written L.faults log.old pending.old log.new pending.new (root_line n outcome.now) }
 {
@@ -202,7 +195,6 @@ fn put_root<L: Sink>(pending: &mut Pending, log: &mut L, n: u64, outcome: &Outco
 }
 
 // A task ends.
-#[tactic(auto, using(crate::proofs::Telling::puts_then))]
 fn put_ended<L: Sink>(pending: &mut Pending, log: &mut L, n: u64, task: TaskId, thrown: &Faults)
     ensures { Puts L.written L.faults log.old pending.old log.new pending.new (end_line n task thrown.now) }
 {
@@ -212,18 +204,16 @@ fn put_ended<L: Sink>(pending: &mut Pending, log: &mut L, n: u64, task: TaskId, 
 }
 
 // A place dies or joins.
-#[tactic(auto, using(crate::proofs::Telling::puts_then))]
 fn put_place<L: Sink>(pending: &mut Pending, log: &mut L, n: u64, word: &[u8], place: PlaceId)
     ensures { Puts L.written L.faults log.old pending.old log.new pending.new (place_line n word.now place) }
 {
     pending.put_long(log, n);
     pending.put(log, word);
-    put_numbered(pending, log, b" ", u32::from(place.0));
+    put_place_number(pending, log, b" ", place);
     pending.put(log, b"\n");
 }
 
 // The number of an entry, the word of its act, and its task.
-#[tactic(auto, using(crate::proofs::Telling::puts_then))]
 fn put_head<L: Sink>(pending: &mut Pending, log: &mut L, n: u64, word: &[u8], task: TaskId)
     ensures { Puts L.written L.faults log.old pending.old log.new pending.new (head_text n word.now task) }
 {
@@ -233,7 +223,6 @@ fn put_head<L: Sink>(pending: &mut Pending, log: &mut L, n: u64, word: &[u8], ta
 }
 
 // A scope in its parent.
-#[tactic(auto, using(crate::proofs::Telling::puts_then))]
 fn put_scope<L: Sink>(pending: &mut Pending, log: &mut L, scope: ScopeId, parent: ScopeId)
     ensures { Puts L.written L.faults log.old pending.old log.new pending.new (scope_text scope parent) }
 {
@@ -242,17 +231,15 @@ fn put_scope<L: Sink>(pending: &mut Pending, log: &mut L, scope: ScopeId, parent
 }
 
 // Where a new task begins its way and where that ends, and the end of the line.
-#[tactic(auto, using(crate::proofs::Telling::puts_then))]
 fn put_way<L: Sink>(pending: &mut Pending, log: &mut L, from: PlaceId, to: PlaceId)
     ensures { Puts L.written L.faults log.old pending.old log.new pending.new (way_text from to) }
 {
-    put_numbered(pending, log, b" ", u32::from(from.0));
-    put_numbered(pending, log, b" ", u32::from(to.0));
+    put_place_number(pending, log, b" ", from);
+    put_place_number(pending, log, b" ", to);
     pending.put(log, b" 0\n");
 }
 
 // What a release names, and the end of the line.
-#[tactic(auto, using(crate::proofs::Telling::puts_then))]
 fn put_named<L: Sink>(pending: &mut Pending, log: &mut L, outcome: &Outcome)
     ensures { Puts L.written L.faults log.old pending.old log.new pending.new (release_text outcome.now) }
 {
@@ -289,7 +276,7 @@ fn put_fault<L: Sink>(pending: &mut Pending, log: &mut L, fault: Fault)
     ensures { Puts L.written L.faults log.old pending.old log.new pending.new (fault_field fault) }
 {
     match fault {
-        Fault::Dead(place) => put_numbered(pending, log, b" dead:", u32::from(place.0)),
+        Fault::Dead(place) => put_place_number(pending, log, b" dead:", place),
         Fault::Thrown(value) => {
             pending.put(log, b" code:");
             pending.put_number(log, value);

@@ -14,7 +14,6 @@ use rx_coordinator::{Answer, Waiter};
 use rx_finish::{Born, Outcome};
 
 /// Tells the line of an answer.
-#[tactic(auto, using(crate::proofs::Telling::puts_then))]
 pub fn put_answer<K: Sink>(pending: &mut Pending, out: &mut K, answer: &Answer)
     ensures { Puts K.written K.faults out.old pending.old out.new pending.new (answer_line answer.now) }
 {
@@ -40,19 +39,13 @@ fn put_answer_text<K: Sink>(pending: &mut Pending, out: &mut K, answer: &Answer)
         Answer::Released { outcome } => put_released(pending, out, outcome),
         Answer::Ended => pending.put(out, b"ended"),
         Answer::Died => pending.put(out, b"died"),
-        Answer::Joined { place } => put_numbered(pending, out, b"joined ", u32::from(place.0)),
+        Answer::Joined { place } => put_place_number(pending, out, b"joined ", *place),
         Answer::RootDone { outcome } => put_released(pending, out, outcome),
     }
 }
 
 /// Tells the line of a release that has waited.
-#[tactic(auto, using(crate::proofs::Telling::puts_then))]
-pub fn put_freed<K: Sink>(
-    pending: &mut Pending,
-    out: &mut K,
-    waiter: Waiter,
-    outcome: &Outcome,
-)
+pub fn put_freed<K: Sink>(pending: &mut Pending, out: &mut K, waiter: Waiter, outcome: &Outcome)
     ensures { Puts K.written K.faults out.old pending.old out.new pending.new (freed_line waiter outcome.now) }
 {
     put_waiter(pending, out, waiter);
@@ -71,7 +64,6 @@ fn put_waiter<K: Sink>(pending: &mut Pending, out: &mut K, waiter: Waiter)
 }
 
 // Tells a release.
-#[tactic(auto, using(crate::proofs::Telling::puts_then))]
 fn put_released<K: Sink>(pending: &mut Pending, out: &mut K, outcome: &Outcome)
     ensures { Puts K.written K.faults out.old pending.old out.new pending.new (codes "released" ++ outcome_text outcome.now) }
 {
@@ -80,7 +72,6 @@ fn put_released<K: Sink>(pending: &mut Pending, out: &mut K, outcome: &Outcome)
 }
 
 // Tells a task that was started, after the word for how.
-#[tactic(auto, using(crate::proofs::Telling::puts_then))]
 fn put_born<K: Sink>(pending: &mut Pending, out: &mut K, word: &[u8], born: Born)
     ensures { Puts K.written K.faults out.old pending.old out.new pending.new (born_text word.now born) }
 {
@@ -94,13 +85,13 @@ fn put_born<K: Sink>(pending: &mut Pending, out: &mut K, word: &[u8], born: Born
 fn put_lost<K: Sink>(pending: &mut Pending, out: &mut K, lost: bool)
     ensures { Puts K.written K.faults out.old pending.old out.new pending.new (lost_text lost) }
 {
-    if lost {
-        pending.put(out, b" lost");
+    if !lost {
+        return;
     }
+    pending.put(out, b" lost")
 }
 
 // Tells what a release names.
-#[tactic(auto, using(crate::proofs::Telling::puts_then))]
 fn put_outcome<K: Sink>(pending: &mut Pending, out: &mut K, outcome: &Outcome)
     ensures { Puts K.written K.faults out.old pending.old out.new pending.new (outcome_text outcome.now) }
 {
@@ -137,7 +128,7 @@ fn put_place_if_member<K: Sink>(pending: &mut Pending, out: &mut K, set: PlaceSe
         (flat_map natural_field (filter (has_bit set.0) (place.0 ∷ []))) }
 {
     if set.contains(place) {
-        put_numbered(pending, out, b" ", u32::from(place.0));
+        put_place_number(pending, out, b" ", place);
     } else {}
 }
 
@@ -189,10 +180,21 @@ fn put_fault<K: Sink>(pending: &mut Pending, out: &mut K, fault: Fault)
 }
 
 /// Tells a word with a number at its end.
-#[tactic(auto, using(crate::proofs::Telling::puts_then))]
 pub(crate) fn put_numbered<K: Sink>(pending: &mut Pending, out: &mut K, word: &[u8], n: u32)
     ensures { Puts K.written K.faults out.old pending.old out.new pending.new (numbered word.now n) }
 {
     pending.put(out, word);
     pending.put_natural(out, n)
+}
+
+/// The same with the number of a place.
+pub(crate) fn put_place_number<K: Sink>(
+    pending: &mut Pending,
+    out: &mut K,
+    word: &[u8],
+    place: PlaceId,
+)
+    ensures { Puts K.written K.faults out.old pending.old out.new pending.new (numbered word.now place.0) }
+{
+    put_numbered(pending, out, word, u32::from(place.0))
 }

@@ -9,7 +9,7 @@ use Rattle.rx_rules.specs.declared.entries.Entry.{Entry}
 use Rattle.rx10_coordinator.specs.declared.log.Log.{Log}
 use Rattle.rx_lines.specs.declared.output.Pending.{Pending}
 use Rattle.rx_lines.specs.Stated.{log_lines}
-use Rattle.rx_lines.specs.Inside.Telling.{Tells, IsLeft, Puts}
+use Rattle.rx_lines.specs.Inside.Telling.{Tells, IsLeft}
 use Rattle.rx10_coordinator.specs.Inside.Logging.{IsLogged, IsTorn, IsCut, IsWritten, OrElse}
 use Rattle.rx_lines.proofs.Telling.{rose-on}
 use Rattle.rx_lines.proofs.LogLines.{lines-on}

@@ -1,6 +1,6 @@
 -- What was noted of a request makes the entries for which its answer stands.
 use Rattle.std.specs.Prelude.{◌==◌, ◌||◌, not}
-use Rattle.std.proofs.Common.{◌≡◌, ℕ, Bool, true, false, cond, List, [], ◌∷◌, ◌++◌, length, Option, Some, None, refl, ap, sym, ◌∙◌, subst, append_assoc, append-nil, inl, inr}
+use Rattle.std.proofs.Common.{◌≡◌, ℕ, Bool, true, false, cond, List, [], ◌∷◌, ◌++◌, length, Some, None, refl, ap, sym, ◌∙◌, subst, append_assoc, append-nil, inl, inr}
 use Rattle.std.proofs.lemmas.Bool.{true≢false}
 use Rattle.rx_base.specs.declared.ids.PlaceId.{PlaceId}
 use Rattle.rx_base.specs.declared.ids.ScopeId.{ScopeId}
@@ -9,14 +9,13 @@ use Rattle.rx_base.specs.declared.values.Fault.{Fault}
 use Rattle.rx_base.proofs.SameIds.{task-is, scope-is}
 use Rattle.rx_rules.specs.declared.tasks.Task.{Task}
 use Rattle.rx_rules.specs.declared.tasks.Scope.{Scope}
-use Rattle.rx_rules.specs.declared.tasks.Where.{Where}
 use Rattle.rx_rules.specs.declared.tasks.Where.TheVariants.{At as Here, Travel}
 use Rattle.rx_rules.specs.declared.entries.Act.{Act}
-use Rattle.rx_rules.specs.declared.entries.Act.TheVariants.{Open as OpenAct, At as CallAct, Spawn as SpawnAct, Arrive as ArriveAct, Wait as WaitAct, Release as ReleaseAct, End as EndAct}
+use Rattle.rx_rules.specs.declared.entries.Act.TheVariants.{Open as OpenAct, At as CallAct, Spawn as SpawnAct, Arrive as ArriveAct, Wait as WaitAct, Release as ReleaseAct}
 use Rattle.rx_rules.specs.declared.entries.Entry.{Entry}
-use Rattle.rx_rules.specs.declared.entries.Entry.TheVariants.{Step, Root as RootEntry, Death as DeathEntry, Join as JoinEntry}
-use Rattle.rx_rules.specs.Tree.{Tree, task_of, own_scope, inner, death_of}
-use Rattle.rx_rules.specs.Entries.{Allowed, AllowedAct, made, made_act, place_number}
+use Rattle.rx_rules.specs.declared.entries.Entry.TheVariants.{Step}
+use Rattle.rx_rules.specs.Tree.{Tree, task_of, own_scope, inner}
+use Rattle.rx_rules.specs.Entries.{Allowed, AllowedAct, made, place_number}
 use Rattle.rx_rules.specs.Fold.{tree_of}
 use Rattle.rx_rules.specs.Reached.{Reached}
 use Rattle.rx_rules.proofs.Lookups.{number-of}
@@ -38,8 +37,7 @@ use Rattle.rx_coordinator.specs.Stands.{Told, Asked, Landing, May}
 use Rattle.rx_coordinator.specs.Parking.{AskedBeside, WaitsThere, request_of, answer_to}
 use Rattle.rx_coordinator.proofs.Telling.{told_some}
 use Rattle.rx_coordinator.proofs.Asking.{seated}
-use Rattle.rx_coordinator.proofs.Newcomers.{row_of_new, child_spawn}
-use Rattle.rx_lines.specs.declared.note.Note.{Note}
+use Rattle.rx_coordinator.proofs.Newcomers.{child_spawn}
 use Rattle.rx_lines.specs.Session.{Are}
 use Rattle.rx_lines.specs.Inside.Noting.{asker, row_inner, row_place, note_of, landings, entries_of, freed_entry}
 

@@ -1,4 +1,4 @@
-use Rattle.std.proofs.Common.{◌+◌, ◌++◌, [], take, arith, inl, inr, refl}
+use Rattle.std.proofs.Common.{◌+◌, ◌++◌, [], take, arith, inl, inr}
 use Rattle.std.proofs.KnownBytes.{Consumes-nil, Consumes-trans, Consumes-kept}
 use Rattle.rx10_coordinator.proofs.Serving.{wrote, served, unwritten, broken, read-none, read-more, not-done, read-fails, read-cut, done-fails, done-cut}
 use Rattle.rx10_coordinator.proofs.serve.serve_desk.Goals as goal

@@ -14,8 +14,8 @@ use Rattle.rx_coordinator.specs.declared.parking.Parking.{Parking}
 use Rattle.rx_coordinator.specs.declared.parking.Freed.TheVariants.{One, NoOne, Short}
 use Rattle.rx_coordinator.specs.Stands.{Asked, Landing}
 use Rattle.rx_coordinator.specs.Parking.{Parks, AskedBeside, FreedFrom, FreedIs, request_of, answer_to}
-use Rattle.rx10_coordinator.specs.Replies.{freed_line}
-use Rattle.rx10_coordinator.specs.Session.{Between, Are, Asks, Frees, FreesEach, Rests, freed_lines, Answered, AllAnswered, ran_out}
+use Rattle.rx_lines.specs.Replies.{freed_line}
+use Rattle.rx_lines.specs.Session.{Between, Are, Asks, Frees, FreesEach, Rests, freed_lines, Answered, AllAnswered, ran_out}
 use Rattle.rx10_coordinator.specs.Inside.Desk.{Holds}
 
 -- what holds of the entries after an answer holds of some, and these the answer tells

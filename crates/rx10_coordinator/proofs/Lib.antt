@@ -1,15 +1,4 @@
-pub mod Faults
-pub mod Telling
 pub mod Cutting
 pub mod Going
-pub mod LogLines
-pub mod Noting
 pub mod Logging
 pub mod Serving
-pub mod Lawful
-pub mod OneEntry
-pub mod Asking
-pub mod GoingBack
-pub mod Viewing
-pub mod Keeping
-pub mod Sessions

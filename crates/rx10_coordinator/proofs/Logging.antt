@@ -7,15 +7,12 @@ use Rattle.std.proofs.lemmas.Bool.{true≢false}
 use Rattle.rx_base.specs.Outside.{Rose}
 use Rattle.rx_rules.specs.declared.entries.Entry.{Entry}
 use Rattle.rx10_coordinator.specs.declared.log.Log.{Log}
-use Rattle.rx10_coordinator.specs.declared.output.Pending.{Pending}
-use Rattle.rx10_coordinator.specs.Log.{log_lines}
-use Rattle.rx10_coordinator.specs.Inside.Telling.{Tells, IsLeft, Puts}
+use Rattle.rx_lines.specs.declared.output.Pending.{Pending}
+use Rattle.rx_lines.specs.Stated.{log_lines}
+use Rattle.rx_lines.specs.Inside.Telling.{Tells, IsLeft}
 use Rattle.rx10_coordinator.specs.Inside.Logging.{IsLogged, IsTorn, IsCut, IsWritten, OrElse}
-use Rattle.rx10_coordinator.proofs.Telling.{rose-on}
-use Rattle.rx10_coordinator.proofs.LogLines.{lines-on}
-
-pub told-to : (w : Option (List ℕ)) (f : ℕ) (v : Option (List ℕ)) (g : ℕ) (t : Pending) (text other : List ℕ) → Tells w f v g t text → text ≡ other → Tells w f v g t other
-told-to w f v g t text other h e = subst (λ (z : List ℕ). Tells w f v g t z) e h
+use Rattle.rx_lines.proofs.Telling.{rose-on}
+use Rattle.rx_lines.proofs.LogLines.{lines-on}
 
 -- what holds of each way a call may end
 pub or-map : {T E : Type 0} (r : Result T E) (A B C D : Type 0) → OrElse r A B → (A → C) → (B → D) → OrElse r C D

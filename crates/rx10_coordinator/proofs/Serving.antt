@@ -8,16 +8,18 @@ use Rattle.rx_rules.specs.declared.entries.Entry.{Entry}
 use Rattle.rx_coordinator.specs.declared.parking.Parking.{Parking}
 use Rattle.rx10_coordinator.specs.declared.desk.Desk.{Desk}
 use Rattle.rx10_coordinator.specs.declared.log.Log.{Log}
-use Rattle.rx10_coordinator.specs.declared.output.Pending.{Pending}
+use Rattle.rx_lines.specs.declared.output.Pending.{Pending}
 use Rattle.rx10_coordinator.specs.declared.received.Received.{Received}
 use Rattle.rx10_coordinator.specs.declared.status.Status.{Status}
 use Rattle.rx10_coordinator.specs.declared.status.Status.TheVariants.{Done, ReadFault, WriteFault, LogFault}
-use Rattle.rx10_coordinator.specs.Session.{Between, IsOpen, Answered, Served, greeting}
-use Rattle.rx10_coordinator.specs.Log.{Logged, HasFailed, log_lines}
-use Rattle.rx10_coordinator.specs.Inside.Telling.{Tells, IsLeft, Puts}
+use Rattle.rx_lines.specs.Session.{Between, IsOpen, Answered, greeting}
+use Rattle.rx10_coordinator.specs.Serving.{Served}
+use Rattle.rx_lines.specs.Stated.{log_lines}
+use Rattle.rx10_coordinator.specs.Log.{Logged, HasFailed}
+use Rattle.rx_lines.specs.Inside.Telling.{Tells, IsLeft, Puts}
 use Rattle.rx10_coordinator.specs.Inside.Logging.{IsLogged, IsTorn}
 use Rattle.rx10_coordinator.specs.Inside.Desk.{Holds, Serves, Breaks, IsLine}
-use Rattle.rx10_coordinator.proofs.Telling.{without, joined}
+use Rattle.rx_lines.proofs.Telling.{without, joined}
 use Rattle.rx10_coordinator.proofs.Cutting.{line-ends}
 use Rattle.rx10_coordinator.proofs.Going.{answers-more}
 use Rattle.rx10_coordinator.proofs.Logging.{left-whole, left-rose}
@@ -71,8 +73,8 @@ wrote p w f v u g k x h y i d e r bytes same kept told s =
 
 module _ (p : ℕ) (w : Option (List ℕ)) (f : ℕ) (v : Option (List ℕ)) (g : ℕ) (x : Option (List ℕ)) (h : ℕ) (y : Option (List ℕ)) (i : ℕ) (d : Desk) (r : Received) (bytes : List ℕ) (old new : Option (List ℕ)) where
   -- all that was read was heard
-  heard : (status : Status) (s : Serves p w f v g x h y i d r bytes) → Consumes old new bytes → (status ≡ LogFault → ⊥) → (s.tells.rest ≡ []) ⊎ HasFailed f g status → (status ≡ Done → IsAtEnd new ⊎ (2 ^ 64 - 1 ≤ length bytes)) → Logged p old new w v x y f g h i status
-  heard status s took apart whole over =
+  heard : (status : Status) (s : Serves p w f v g x h y i d r bytes) → Consumes old new bytes → (status ≡ LogFault → ⊥) → (status ≡ WriteFault → Rose f g) → (s.tells.rest ≡ []) ⊎ HasFailed f g status → (status ≡ Done → IsAtEnd new ⊎ (2 ^ 64 - 1 ≤ length bytes)) → Logged p old new w v x y f g h i status
+  heard status s took apart fails whole over =
       record {
         heard = bytes;
         unheard = [];
@@ -90,17 +92,18 @@ module _ (p : ℕ) (w : Option (List ℕ)) (f : ℕ) (v : Option (List ℕ)) (g 
         logged = subst (Appends x y) (sym (append-nil (log_lines 0 s.after.entries))) s.logged.lines;
         torn = refl;
         kept = inl (refl, refl);
-        fails = λ e. absurd (apart e);
+        fails = fails;
+        log_fails = λ e. absurd (apart e);
         over = over;
       }
 
-  pub served : (status : Status) → (status ≡ LogFault → ⊥) → d.pending.is_failed ≡ false → d.pending.text.items ≡ [] → Consumes old new bytes → (status ≡ Done → IsAtEnd new ⊎ (2 ^ 64 - 1 ≤ length bytes)) → Serves p w f v g x h y i d r bytes → Logged p old new w v x y f g h i status
-  served status apart ok none took over s = heard status s took apart (inl (left-whole d.pending.is_failed f g s.tells.rest d.pending.text.items ok none s.tells.left)) over
+  pub served : (status : Status) → (status ≡ LogFault → ⊥) → (status ≡ WriteFault → ⊥) → d.pending.is_failed ≡ false → d.pending.text.items ≡ [] → Consumes old new bytes → (status ≡ Done → IsAtEnd new ⊎ (2 ^ 64 - 1 ≤ length bytes)) → Serves p w f v g x h y i d r bytes → Logged p old new w v x y f g h i status
+  served status apart other ok none took over s = heard status s took apart (λ e. absurd (other e)) (inl (left-whole d.pending.is_failed f g s.tells.rest d.pending.text.items ok none s.tells.left)) over
 
   pub unwritten : d.pending.is_failed ≡ true → Consumes old new bytes → Serves p w f v g x h y i d r bytes → Logged p old new w v x y f g h i WriteFault
   unwritten fails took s =
-      heard WriteFault s took (λ e. (let n : ⊥ = cc in n)) (inr (inl refl, left-rose d.pending.is_failed f g s.tells.rest d.pending.text.items fails s.tells.left))
-      (λ e. absurd (let n : ⊥ = cc in n))
+      let rose = left-rose d.pending.is_failed f g s.tells.rest d.pending.text.items fails s.tells.left in
+      heard WriteFault s took (λ e. (let n : ⊥ = cc in n)) (λ _. rose) (inr (inl refl, rose)) (λ e. absurd (let n : ⊥ = cc in n))
 
 -- a write to the log has failed, and the replies so far are written or not
 pub broken : (p : ℕ) (w : Option (List ℕ)) (f : ℕ) (v u : Option (List ℕ)) (g k : ℕ) (x : Option (List ℕ)) (h : ℕ) (y : Option (List ℕ)) (i : ℕ) (d e : Desk) (bytes : List ℕ) (old new : Option (List ℕ)) → e.pending.text.items ≡ [] → ((text : List ℕ) → Tells w f v g d.pending text → Tells w f u k e.pending (text ++ [])) → Consumes old new bytes → Breaks p w f v g x h y i d bytes → Logged p old new w u x y f k h i LogFault
@@ -124,7 +127,8 @@ broken p w f v u g k x h y i d e bytes old new none told took s =
       logged = s.torn.lines;
       torn = s.torn.torn;
       kept = inr refl;
-      fails = λ _. s.torn.rose;
+      fails = λ e. absurd (let n : ⊥ = cc in n);
+      log_fails = λ _. s.torn.rose;
       over = λ c. absurd (let n : ⊥ = cc in n);
     }
   where
@@ -137,7 +141,7 @@ no-rise : Rose 0 0 → ⊥
 no-rise r = grind (arith, r)
 
 pub no-fault : (p : ℕ) (old new w v y : Option (List ℕ)) (f g : ℕ) (status : Status) → Logged p old new w v None y f g 0 0 status → status ≡ LogFault → ⊥
-no-fault p old new w v y f g status s e = no-rise (s.fails e)
+no-fault p old new w v y f g status s e = no-rise (s.log_fails e)
 
 pub unlogged : (p : ℕ) (old new w v y : Option (List ℕ)) (f g : ℕ) (status : Status) → Logged p old new w v None y f g 0 0 status → Served p old new w v f g status
 unlogged p old new w v y f g status s =
@@ -151,22 +155,23 @@ unlogged p old new w v y f g status s =
       wrote = s.wrote;
       front = s.front;
       whole = whole s.whole;
+      fails = s.fails;
       over = s.over;
     }
   where
     none : status ≡ LogFault → ⊥
-    none e = no-rise (s.fails e)
+    none e = no-rise (s.log_fails e)
 
     took : (((s.unheard ≡ []) × (s.part ≡ [])) ⊎ (status ≡ LogFault)) → Consumes old new s.heard
     took (inl k) = subst (Consumes old new) (ap (λ z. s.heard ++ z) k.0 ∙ append-nil s.heard) s.took
     took (inr k) = absurd (none k)
 
-    whole : ((s.rest ≡ []) ⊎ HasFailed f g status) → (s.rest ≡ []) ⊎ ((status ≡ WriteFault) × Rose f g)
+    whole : ((s.rest ≡ []) ⊎ HasFailed f g status) → (s.rest ≡ []) ⊎ (status ≡ WriteFault)
     whole (inl k) = inl k
-    whole (inr k) = by k.0 k.1 where
-      by : ((status ≡ WriteFault) ⊎ (status ≡ LogFault)) → Rose f g → (s.rest ≡ []) ⊎ ((status ≡ WriteFault) × Rose f g)
-      by (inl e) r = inr (e, r)
-      by (inr e) r = absurd (none e)
+    whole (inr k) = by k.0 where
+      by : ((status ≡ WriteFault) ⊎ (status ≡ LogFault)) → (s.rest ≡ []) ⊎ (status ≡ WriteFault)
+      by (inl e) = inr e
+      by (inr e) = absurd (none e)
 
 pub given-as : (p : ℕ) (w : Option (List ℕ)) (f : ℕ) (v : Option (List ℕ)) (g : ℕ) (x : Option (List ℕ)) (h : ℕ) (y : Option (List ℕ)) (i : ℕ) (d : Desk) (r : Received) (bytes other : List ℕ) → bytes ≡ other → Serves p w f v g x h y i d r bytes → Serves p w f v g x h y i d r other
 given-as p w f v g x h y i d r bytes other e s = subst (Serves p w f v g x h y i d r) e s
@@ -246,5 +251,11 @@ not-done e = cc
 pub read-fails : ReadFault ≡ LogFault → ⊥
 read-fails e = cc
 
+pub read-cut : ReadFault ≡ WriteFault → ⊥
+read-cut e = cc
+
 pub done-fails : Done ≡ LogFault → ⊥
 done-fails e = cc
+
+pub done-cut : Done ≡ WriteFault → ⊥
+done-cut e = cc

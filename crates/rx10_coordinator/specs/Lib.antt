@@ -1,7 +1,4 @@
 pub mod Words
-pub mod Lines
-pub mod Replies
-pub mod Session
-pub mod Determined
+pub mod Serving
 pub mod Log
 pub mod Inside

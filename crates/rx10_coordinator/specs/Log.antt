@@ -1,30 +1,12 @@
 -- What a session tells its log.
-use Rattle.std.specs.Prelude.{◌≡◌, ◌⊎◌, ℕ, ◌≤◌, ◌-◌, ◌^◌, List, [], ◌∷◌, ◌++◌, map, length, Option}
+use Rattle.std.specs.Prelude.{◌≡◌, ◌⊎◌, ℕ, ◌≤◌, ◌-◌, ◌^◌, List, [], ◌++◌, length, Option}
 use Rattle.std.specs.Io.KnownBytes.{Consumes, IsAtEnd, Appends}
 use Rattle.rx_base.specs.Outside.{Rose}
-use Rattle.rx_rules.specs.declared.entries.Act.{Act}
-use Rattle.rx_rules.specs.declared.entries.Act.TheVariants.{Open, At, Spawn}
 use Rattle.rx_rules.specs.declared.entries.Entry.{Entry}
-use Rattle.rx_rules.specs.declared.entries.Entry.TheVariants.{Step}
-use Rattle.rx_trace.specs.EntryLines.{entry_lines}
+use Rattle.rx_lines.specs.Session.{IsSession}
+use Rattle.rx_lines.specs.Stated.{log_lines}
 use Rattle.rx10_coordinator.specs.declared.status.Status.{Status}
 use Rattle.rx10_coordinator.specs.declared.status.Status.TheVariants.{Done, WriteFault, LogFault}
-use Rattle.rx10_coordinator.specs.Session.{IsSession}
-
--- A job has no statements. Where the line of an act names the statement that it comes from, the log names statement 0.
-abbrev pub stated_act : Act → Act
-stated_act (Open s r path) = Open s r (0 ∷ [])
-stated_act (At from to s r callee path) = At from to s r callee (0 ∷ [])
-stated_act (Spawn child s from to path) = Spawn child s from to (0 ∷ [])
-stated_act act = act
-
-abbrev pub stated : Entry → Entry
-stated (Step t act batch) = Step t (stated_act act) batch
-stated e = e
-
--- the lines of entries that are numbered from n, each as a trace has it
-abbrev pub log_lines : ℕ → List Entry → List ℕ
-log_lines n es = entry_lines n (map stated es)
 
 -- a write of the output has failed, and then the session ended, or else for the log
 abbrev pub HasFailed : ℕ → ℕ → Status → Type 0
@@ -33,7 +15,8 @@ HasFailed f g status = ((status ≡ WriteFault) ⊎ (status ≡ LogFault)) × Ro
 -- The input, the output and the log before and after, and the faults of output and log. What was written is the text of a session of what
 -- was heard, or a front of it where a write has failed; and what was appended to the log is the lines of the entries of that very session.
 -- So no reply is written whose entry is not in the log. All that was read was heard, and nothing else stands in the log, unless a write to
--- the log has failed, and the status says so: then a part of the lines of further entries stands behind.
+-- the log has failed, and the status says so: then a part of the lines of further entries stands behind. Each status that says that a
+-- write has failed comes only then.
 pub record Logged (p : ℕ) (old new w v x y : Option (List ℕ)) (f g h i : ℕ) (status : Status) : Type 0 where
   pub heard : List ℕ
   pub unheard : List ℕ
@@ -51,5 +34,6 @@ pub record Logged (p : ℕ) (old new w v x y : Option (List ℕ)) (f g h i : ℕ
   pub logged : Appends x y (log_lines 0 session.after.entries ++ part)
   pub torn : part ++ left ≡ log_lines (length session.after.entries) more
   pub kept : ((unheard ≡ []) × (part ≡ [])) ⊎ (status ≡ LogFault)
-  pub fails : status ≡ LogFault → Rose h i
+  pub fails : status ≡ WriteFault → Rose f g
+  pub log_fails : status ≡ LogFault → Rose h i
   pub over : status ≡ Done → IsAtEnd new ⊎ (2 ^ 64 - 1 ≤ length heard)

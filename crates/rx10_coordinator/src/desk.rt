@@ -7,20 +7,18 @@ ghost use Rattle.rx_coordinator.specs.declared.requests.Answer.{Answer as Said};
 ghost use Rattle.rx_coordinator.specs.declared.waiters.Waiter.{Waiter};
 ghost use Rattle.rx_coordinator.specs.Telling.{seat_told};
 ghost use Rattle.rx_coordinator.specs.Parking.{Parks};
-ghost use Rattle.rx10_coordinator.specs.Replies.{answer_line};
-ghost use Rattle.rx10_coordinator.specs.Session.{Between, IsOpen, Asks, FreesAll, Answered, request_in, freed_lines, greeting};
-ghost use Rattle.rx10_coordinator.specs.Inside.Telling.{Puts};
-ghost use Rattle.rx10_coordinator.specs.Inside.Noting.{asker as asks, note_of, entries_of};
+ghost use Rattle.rx_lines.specs.Replies.{answer_line};
+ghost use Rattle.rx_lines.specs.Session.{Between, IsOpen, Asks, FreesAll, Answered, request_in, freed_lines, greeting};
+ghost use Rattle.rx_lines.specs.Inside.Telling.{Puts};
+ghost use Rattle.rx_lines.specs.Inside.Noting.{asker as asks, note_of, entries_of};
 ghost use Rattle.rx10_coordinator.specs.Inside.Logging.{IsLogged, IsTorn, OrElse};
 ghost use Rattle.rx10_coordinator.specs.Inside.Desk.{Holds, IsLine};
 
 use crate::log::Log;
-use crate::note::{Note, asker};
-use crate::output::Pending;
 use crate::received::Received;
-use crate::replies::{put_answer, put_freed};
 use rx_base::{Failed, NoMemory, Sink};
 use rx_coordinator::{Answer, Freed, Parking, Request};
+use rx_lines::{Note, Pending, asker, put_answer, put_freed};
 use std::alloc::Global;
 
 /// A coordinator, its replies that are not written yet, and the log.

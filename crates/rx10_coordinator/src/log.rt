@@ -1,16 +1,14 @@
 // The log of a session.
 ghost use Rattle.std.specs.Prelude.{◌≡◌, ◌++◌, ◌∷◌, [], None, ℕ, List, Option, length, true, false};
 ghost use Rattle.rx_rules.specs.declared.entries.Entry.{Entry};
-ghost use Rattle.rx10_coordinator.specs.Inside.Telling.{Tells};
-ghost use Rattle.rx10_coordinator.specs.Inside.Noting.{entries_of, freed_entry};
+ghost use Rattle.rx_lines.specs.Inside.Telling.{Tells};
+ghost use Rattle.rx_lines.specs.Inside.Noting.{entries_of, freed_entry};
 ghost use Rattle.rx10_coordinator.specs.Inside.Logging.{IsLogged, IsTorn, IsWritten, IsCut, OrElse};
 
-use crate::entries::{put_entries, put_freed_entry};
-use crate::note::Note;
-use crate::output::Pending;
 use rx_base::{Failed, ScopeId, Sink};
 use rx_coordinator::{Answer, Waiter};
 use rx_finish::Outcome;
+use rx_lines::{Note, Pending, put_entries, put_freed_entry};
 use std::alloc::Global;
 
 /// The log of a session, or that none is kept. The lines of a request's entries are written at once, before its reply is told.

@@ -1,22 +1,16 @@
 //! The program `rx10-coordinator`: it reads requests as lines and writes replies as lines. docs/coordinator.md states each line. It
-//! stands on rx_coordinator, which keeps the tree and answers requests, and on rx_fields and rx_text, which read and write words. `serve`
-//! is the whole of it over any source and sink, and its contract is the theorem; `serve_logged` is the same with a log, a second sink.
-//! `laws` says what holds of every session. `main` makes the source and the sinks of what the system gives, and says the status.
+//! stands on rx_coordinator, which keeps the tree and answers requests, and on rx_lines, which reads lines and tells replies, and says what
+//! holds of every session. `serve` is the whole of it over any source and sink, and its contract is the theorem; `serve_logged` is the same
+//! with a log, a second sink. `main` makes the source and the sinks of what the system gives, and says the status.
 #![tactic(auto)]
 
 ghost use Rattle.std.specs.Prelude.{◌≤◌};
 
 mod command;
 mod desk;
-mod entries;
 mod file;
-pub mod laws;
-mod lines;
 mod log;
-mod note;
-mod output;
 mod received;
-mod replies;
 pub mod serve;
 pub mod status;
 

@@ -1,12 +1,12 @@
 // The line that is being read.
 ghost use Rattle.std.specs.Prelude.{◌≡◌, ◌++◌, ◌∷◌, ℕ, List, [], IfOk};
 ghost use Rattle.rx10_coordinator.specs.declared.received.Extent.TheVariants.{Whole};
-ghost use Rattle.rx10_coordinator.specs.Session.{request_in};
+ghost use Rattle.rx_lines.specs.Session.{request_in};
 ghost use Rattle.rx10_coordinator.specs.Inside.Desk.{IsLine};
 
-use crate::lines::read_line;
 use rx_base::NoMemory;
 use rx_coordinator::Request;
+use rx_lines::read_line;
 use std::alloc::Global;
 
 // How many bytes a line has at most, its end left out.

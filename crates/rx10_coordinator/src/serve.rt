@@ -2,7 +2,7 @@
 ghost use Rattle.std.specs.Prelude.{◌≡◌, ◌≤◌, ◌++◌, ◌∷◌, [], ℕ, List, Option};
 ghost use Rattle.rx_base.specs.Outside.{Rose};
 ghost use Rattle.rx10_coordinator.specs.declared.status.Status.TheVariants.{ReadFault, NoMemory as NoRoom, LogFault};
-ghost use Rattle.rx10_coordinator.specs.Session.{Served};
+ghost use Rattle.rx10_coordinator.specs.Serving.{Served};
 ghost use Rattle.rx10_coordinator.specs.Log.{Logged};
 ghost use Rattle.rx10_coordinator.specs.Inside.Logging.{OrElse};
 ghost use Rattle.rx10_coordinator.specs.Inside.Desk.{Serves, Breaks};

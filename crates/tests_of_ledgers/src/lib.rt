@@ -1,7 +1,9 @@
-//! Tests of the ledgers, and of their tickets and mail. Each module has the name of the crate that it tests. They
+//! Tests of the ledgers, of their tickets and mail, and of the coordinator. Each module has the name of the crate that it tests. They
 //! stand apart, so that none of those crates is proved twice; nothing else is here.
 #![tactic(auto)]
 
+#[cfg(test)]
+mod coordinator;
 #[cfg(test)]
 mod counts;
 #[cfg(test)]

@@ -7,8 +7,8 @@ use Rattle.rx10_coordinator.specs.declared.received.Extent.{Extent}
 use Rattle.rx10_coordinator.specs.declared.received.Extent.TheVariants.{Whole, Long, Cut}
 use Rattle.rx10_coordinator.specs.declared.received.Received.{Received}
 use Rattle.rx10_coordinator.specs.declared.desk.Desk.{Desk}
-use Rattle.rx10_coordinator.specs.Session.{Between, IsOpen, AllAnswered, greeting}
-use Rattle.rx10_coordinator.specs.Inside.Telling.{Tells}
+use Rattle.rx_lines.specs.Session.{Between, IsOpen, AllAnswered, greeting}
+use Rattle.rx_lines.specs.Inside.Telling.{Tells}
 use Rattle.rx10_coordinator.specs.Inside.Logging.{IsLogged, IsTorn}
 
 -- the bytes that are kept of a line are all of it, or it has too many, or memory ran out

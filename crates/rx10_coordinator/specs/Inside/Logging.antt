@@ -4,7 +4,7 @@ use Rattle.std.specs.Io.KnownBytes.{Appends}
 use Rattle.rx_base.specs.Outside.{Rose}
 use Rattle.rx_rules.specs.declared.entries.Entry.{Entry}
 use Rattle.rx10_coordinator.specs.declared.log.Log.{Log}
-use Rattle.rx10_coordinator.specs.Log.{log_lines}
+use Rattle.rx_lines.specs.Stated.{log_lines}
 
 -- Since the log's sink had written x and failed h times, the lines of these entries were written. Now it has written y and failed i times,
 -- and nothing waits. Where no log is kept, nothing is known of the sink's bytes.

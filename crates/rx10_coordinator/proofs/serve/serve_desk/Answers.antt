@@ -1,6 +1,6 @@
-use Rattle.std.proofs.Common.{◌+◌, ◌++◌, [], take, arith, inl, inr, refl}
+use Rattle.std.proofs.Common.{◌+◌, ◌++◌, [], take, arith, inl, inr}
 use Rattle.std.proofs.KnownBytes.{Consumes-nil, Consumes-trans, Consumes-kept}
-use Rattle.rx10_coordinator.proofs.Serving.{wrote, served, unwritten, broken, read-none, read-more, not-done, read-fails, done-fails}
+use Rattle.rx10_coordinator.proofs.Serving.{wrote, served, unwritten, broken, read-none, read-more, not-done, read-fails, read-cut, done-fails, done-cut}
 use Rattle.rx10_coordinator.proofs.serve.serve_desk.Goals as goal
 
 pub chunks-init : goal.chunks-init
@@ -20,7 +20,7 @@ pub returns-then-count-eq0-clause-served : goal.returns-then-count-eq0-clause-se
 returns-then-count-eq0-clause-served g c = λ p w f x h s.
     let so = c.chunks.invariant.served p w f x h s in
     let e = c.if-not-write.ensures in
-    served p w f _ _ x h _ _ _ _ so.0 _ _ _ done-fails e.whole e.none (read-none _ _ _ so.0 c.read.new.buf c.in-Ok.count (omega arith) so.1 c.in-Ok.ensures.bytes.0)
+    served p w f _ _ x h _ _ _ _ so.0 _ _ _ done-fails done-cut e.whole e.none (read-none _ _ _ so.0 c.read.new.buf c.in-Ok.count (omega arith) so.1 c.in-Ok.ensures.bytes.0)
     (λ _. inl (c.in-Ok.ensures.bytes.1 (omega arith) (omega arith)))
     (wrote p w f _ _ _ _ x h _ _ _ _ _ so.0 e.same e.log (e.told w f) so.3)
 
@@ -35,7 +35,7 @@ pub returns-in-Err-clause-served : goal.returns-in-Err-clause-served
 returns-in-Err-clause-served g c = λ p w f x h s.
     let so = c.chunks.invariant.served p w f x h s in
     let e = c.if-not-write.ensures in
-    served p w f _ _ x h _ _ _ _ so.0 _ _ _ read-fails e.whole e.none (Consumes-kept _ _ _ so.0 so.1 c.in-Err.ensures.bytes) (λ k. absurd (not-done k))
+    served p w f _ _ x h _ _ _ _ so.0 _ _ _ read-fails read-cut e.whole e.none (Consumes-kept _ _ _ so.0 so.1 c.in-Err.ensures.bytes) (λ k. absurd (not-done k))
     (wrote p w f _ _ _ _ x h _ _ _ _ _ so.0 e.same e.log (e.told w f) so.3)
 
 pub returns-in-Err-take_all-clause-served : goal.returns-in-Err-take_all-clause-served
@@ -67,5 +67,5 @@ pub returns-clause-served : goal.returns-clause-served
 returns-clause-served g c = λ p w f x h s.
     let so = c.chunks.invariant.served p w f x h s in
     let e = c.if-not-write-2.ensures in
-    served p w f _ _ x h _ _ _ _ so.0 _ _ _ done-fails e.whole e.none so.1 (λ _. inr (let l = so.2 in omega arith))
+    served p w f _ _ x h _ _ _ _ so.0 _ _ _ done-fails done-cut e.whole e.none so.1 (λ _. inr (let l = so.2 in omega arith))
     (wrote p w f _ _ _ _ x h _ _ _ _ _ so.0 e.same e.log (e.told w f) so.3)

@@ -1,6 +1,6 @@
 use Rattle.std.proofs.Common.{[], ◌∷◌, ◌++◌}
-use Rattle.rx10_coordinator.specs.Session.{greeting}
-use Rattle.rx10_coordinator.proofs.Telling.{joined}
+use Rattle.rx_lines.specs.Session.{greeting}
+use Rattle.rx_lines.proofs.Telling.{joined}
 use Rattle.rx10_coordinator.proofs.Cutting.{line-ends, line-grows}
 use Rattle.rx10_coordinator.proofs.Going.{answers-more}
 use Rattle.rx10_coordinator.proofs.Serving.{broke_off}

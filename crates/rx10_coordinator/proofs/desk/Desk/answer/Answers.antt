@@ -1,6 +1,6 @@
 use Rattle.std.proofs.Common.{◌∙◌, true, refl, sym}
 use Rattle.std.specs.Prelude.{codes}
-use Rattle.rx10_coordinator.specs.Session.Answered.{malformed, unread}
+use Rattle.rx_lines.specs.Session.Answered.{malformed, unread}
 use Rattle.rx10_coordinator.proofs.desk.Desk.answer.Goals as goal
 
 pub returns-in-Ok-Some : goal.returns-in-Ok-Some

@@ -1,8 +1,8 @@
 use Rattle.std.proofs.Common.{◌++◌, true, refl}
 use Rattle.std.specs.Prelude.{codes}
-use Rattle.rx10_coordinator.specs.Replies.{answer_line}
-use Rattle.rx10_coordinator.specs.Session.{freed_lines}
-use Rattle.rx10_coordinator.specs.Session.Answered.{unread, replied}
+use Rattle.rx_lines.specs.Replies.{answer_line}
+use Rattle.rx_lines.specs.Session.{freed_lines}
+use Rattle.rx_lines.specs.Session.Answered.{unread, replied}
 use Rattle.rx10_coordinator.proofs.Logging.{or-map, inr-map}
 use Rattle.rx10_coordinator.proofs.desk.Desk.ask.Goals as goal
 

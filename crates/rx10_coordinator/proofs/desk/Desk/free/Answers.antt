@@ -1,9 +1,9 @@
 use Rattle.std.proofs.Common.{[], ◌∷◌, ◌++◌, refl, ap, sym}
-use Rattle.rx10_coordinator.specs.Replies.{freed_line}
-use Rattle.rx10_coordinator.specs.Session.{freed_lines}
-use Rattle.rx10_coordinator.proofs.Telling.{with_none, told-as, joined}
+use Rattle.rx_lines.specs.Replies.{freed_line}
+use Rattle.rx_lines.specs.Session.{freed_lines}
+use Rattle.rx_lines.proofs.Telling.{with_none, told-as, joined}
 use Rattle.rx10_coordinator.proofs.Going.{frees, frees-more, lines-more, rests, wants, stops, rested-same}
-use Rattle.rx10_coordinator.proofs.Noting.{freed-made}
+use Rattle.rx_lines.proofs.Noting.{freed-made}
 use Rattle.rx10_coordinator.proofs.Logging.{logged-on, torn-on}
 use Rattle.rx10_coordinator.proofs.desk.Desk.free.Goals as goal
 

@@ -2,8 +2,8 @@ use Rattle.std.proofs.Common.{ℕ, List}
 use Rattle.std.specs.Prelude.{Option}
 use Rattle.rx_finish.specs.declared.ledger.Outcome.{Outcome}
 use Rattle.rx_coordinator.specs.declared.waiters.Waiter.{Waiter}
-use Rattle.rx10_coordinator.specs.Session.{Between, FreesEach, freed_lines}
-use Rattle.rx10_coordinator.specs.Inside.Telling.{Puts}
+use Rattle.rx_lines.specs.Session.{Between, FreesEach, freed_lines}
+use Rattle.rx_lines.specs.Inside.Telling.{Puts}
 use Rattle.rx10_coordinator.specs.Inside.Logging.{IsLogged}
 use Rattle.rx10_coordinator.specs.Inside.Desk.{Holds}
 use Rattle.rx10_coordinator.proofs.desk.Desk.free.Given as goal

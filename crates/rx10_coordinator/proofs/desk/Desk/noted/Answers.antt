@@ -3,7 +3,7 @@ use Rattle.std.specs.Prelude.{IfOk}
 use Rattle.rx_rules.specs.Fold.{tree_of}
 use Rattle.rx_coordinator.specs.declared.seats.Seat.{Seat}
 use Rattle.rx_coordinator.specs.Telling.{seat_told}
-use Rattle.rx10_coordinator.specs.Inside.Noting.{note_of}
+use Rattle.rx_lines.specs.Inside.Noting.{note_of}
 use Rattle.rx10_coordinator.proofs.desk.Desk.noted.Goals as goal
 
 pub returns : goal.returns

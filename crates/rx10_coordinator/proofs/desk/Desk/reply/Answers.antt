@@ -1,8 +1,8 @@
 use Rattle.std.proofs.Common.{◌++◌, ◌∙◌, ap, sym}
-use Rattle.rx10_coordinator.specs.declared.note.Note.{Note}
-use Rattle.rx10_coordinator.specs.Inside.Noting.{entries_of}
+use Rattle.rx_lines.specs.declared.note.Note.{Note}
+use Rattle.rx_lines.specs.Inside.Noting.{entries_of}
 use Rattle.rx10_coordinator.proofs.Going.{asks}
-use Rattle.rx10_coordinator.proofs.Noting.{beside-made}
+use Rattle.rx_lines.proofs.Noting.{beside-made}
 use Rattle.rx10_coordinator.proofs.Logging.{or-map, inr-map}
 use Rattle.rx10_coordinator.proofs.desk.Desk.reply.Goals as goal
 

@@ -1,8 +1,8 @@
 use Rattle.std.proofs.Common.{◌++◌, ◌∙◌, sym, inl, inr}
-use Rattle.rx10_coordinator.specs.Replies.{answer_line}
-use Rattle.rx10_coordinator.specs.Session.{freed_lines}
-use Rattle.rx10_coordinator.specs.Inside.Noting.{entries_of}
-use Rattle.rx10_coordinator.proofs.Telling.{with_none, joined}
+use Rattle.rx_lines.specs.Replies.{answer_line}
+use Rattle.rx_lines.specs.Session.{freed_lines}
+use Rattle.rx_lines.specs.Inside.Noting.{entries_of}
+use Rattle.rx_lines.proofs.Telling.{with_none, joined}
 use Rattle.rx10_coordinator.proofs.Logging.{or-map, logged-as}
 use Rattle.rx10_coordinator.proofs.desk.Desk.tell.Goals as goal
 

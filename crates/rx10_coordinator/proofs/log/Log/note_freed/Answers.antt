@@ -1,5 +1,5 @@
-use Rattle.std.proofs.Common.{[], ◌∷◌, ◌++◌, ◌∙◌}
-use Rattle.rx10_coordinator.specs.Inside.Noting.{freed_entry}
+use Rattle.std.proofs.Common.{[], ◌∷◌, ◌∙◌}
+use Rattle.rx_lines.specs.Inside.Noting.{freed_entry}
 use Rattle.rx10_coordinator.proofs.Logging.{or-map, unkept, now-logged, now-torn}
 use Rattle.rx10_coordinator.proofs.Serving.{tells-none}
 use Rattle.rx10_coordinator.proofs.log.Log.note_freed.Goals as goal

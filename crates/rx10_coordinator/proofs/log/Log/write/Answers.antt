@@ -1,5 +1,5 @@
 use Rattle.std.proofs.Common.{◌∙◌, sym}
-use Rattle.rx10_coordinator.proofs.Telling.{without}
+use Rattle.rx_lines.proofs.Telling.{without}
 use Rattle.rx10_coordinator.proofs.Logging.{all-written, all-cut}
 use Rattle.rx10_coordinator.proofs.log.Log.write.Goals as goal
 

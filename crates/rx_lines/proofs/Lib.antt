@@ -1,0 +1,11 @@
+pub mod Faults
+pub mod Telling
+pub mod LogLines
+pub mod Noting
+pub mod Lawful
+pub mod OneEntry
+pub mod Asking
+pub mod GoingBack
+pub mod Viewing
+pub mod Keeping
+pub mod Sessions

@@ -1,0 +1,14 @@
+use Rattle.std.proofs.Common.{◌++◌}
+use Rattle.rx_text.specs.Numbers.{natural_text}
+use Rattle.rx_lines.specs.Replies.{numbered}
+use Rattle.std.specs.Prelude.{codes}
+use Rattle.rx_lines.proofs.Telling.{joined}
+use Rattle.rx_lines.proofs.entries.put_place.Goals as goal
+
+pub returns : goal.returns
+returns g c = λ w f text now.
+    let a = natural_text c.args.n in
+    let b = c.args.word.now in
+    let d = numbered (codes " ") c.args.place.0 in
+    let e = codes "\n" in
+    joined w f _ _ _ text ((a ++ b) ++ d) e (c.put-2.ensures w f (text ++ ((a ++ b) ++ d)) (joined w f _ _ _ text (a ++ b) d (c.put_place_number.ensures w f (text ++ (a ++ b)) (joined w f _ _ _ text a b (c.put.ensures w f (text ++ a) (c.put_long.ensures w f text now))))))

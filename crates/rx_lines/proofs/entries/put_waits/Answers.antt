@@ -1,0 +1,15 @@
+use Rattle.std.proofs.Common.{◌++◌}
+use Rattle.rx_lines.specs.Inside.LogLines.{head_text}
+use Rattle.rx_lines.specs.Replies.{numbered}
+use Rattle.rx_trace.specs.Parts.{thrown_part}
+use Rattle.std.specs.Prelude.{codes}
+use Rattle.rx_lines.proofs.Telling.{joined}
+use Rattle.rx_lines.proofs.entries.put_waits.Goals as goal
+
+pub returns : goal.returns
+returns g c = λ w f text now.
+    let a = head_text c.args.n (codes " wait") c.args.task in
+    let b = numbered (codes " s") c.args.scope.0 in
+    let d = thrown_part c.args.thrown.now in
+    let e = codes "\n" in
+    joined w f _ _ _ text ((a ++ b) ++ d) e (c.put.ensures w f (text ++ ((a ++ b) ++ d)) (joined w f _ _ _ text (a ++ b) d (c.put_thrown.ensures w f (text ++ (a ++ b)) (joined w f _ _ _ text a b (c.put_numbered.ensures w f (text ++ a) (c.put_head.ensures w f text now))))))

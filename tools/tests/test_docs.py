@@ -20,7 +20,7 @@ ENDINGS = "rt|antt|py|md|rx|trace|c|css|js|svg|txt|bash|json|edit"
 OWN = {"first.py", "broken.rx", "supervisor.trace", "supervisor.html", "FILE.trace", "NAME.html", "NAME.trace", "both.trace", "both.html", "bench/gate.txt"}
 
 # Files of specs/ that no claim names: they say what a type keeps, or serve private functions.
-UNNAMED = {"rx_audit/specs/Asks.antt", "rx_book/specs/Ties.antt", "rx_ledger/specs/Keeping.antt", "rx_lock/specs/Latched.antt",
+UNNAMED = {"rx_book/specs/Ties.antt", "rx_ledger/specs/Keeping.antt", "rx_lock/specs/Latched.antt",
            "rx_machine/specs/Picking.antt", "rx_machine/specs/Slots.antt", "rx_rank/specs/Counts.antt", "rx_token/specs/Names.antt"}
 
 

@@ -1,6 +1,5 @@
 -- What a request asks of an act, in parts.
-use Rattle.std.specs.Prelude.{◌≡◌, ℕ, ℤ, Bool, true, false, ◌&&◌, ◌==◌, ◌≤◌, suc, List, [], drop, Option, Some, slice_set, refl}
-use Rattle.std.specs.Global.{Box}
+use Rattle.std.specs.Prelude.{◌≡◌, ℕ, ℤ, Bool, true, false, ◌&&◌, ◌==◌, ◌≤◌, suc, List, [], drop, Option, Some, refl}
 use Rattle.std.specs.List.{filter_map}
 use Rattle.std.proofs.Common.{ap, sym, subst, ◌∙◌, arith}
 use Rattle.std.proofs.lemmas.Bool.{true≢false, and_parts, eqb-true, eq-eqb}
@@ -18,6 +17,8 @@ use Rattle.rx_rules.specs.Picked.{Player}
 use Rattle.rx_rules.specs.Plays.{Cells, Fits, brought, cell_of, journal_at, raised_by, vars_told}
 use Rattle.rx_rules.specs.Terms.{Vars, Term, Does, Local, Makes, Gets, Puts, Forgets, Opens, Calls, Spawns, Waits, Releases, Prints, Counts, Done, Empty, does, begins, granted, replaced}
 use Rattle.rx_runs.specs.Steps.{steps}
+use Rattle.rx_finish.specs.declared.ledger.Caller.{Caller}
+use Rattle.rx_ledger.specs.TermAsks.{who_after}
 use Rattle.rx_nodes.specs.Shape.{Shape}
 use Rattle.rx_control.specs.declared.control.Control.{Control}
 use Rattle.rx_control.specs.Stands.{StandsFor}
@@ -26,12 +27,12 @@ use Rattle.rx_plan.specs.declared.step.Want.{Want}
 use Rattle.rx_plan.specs.declared.step.Want.TheVariants as want
 use Rattle.rx_plan.specs.declared.step.Next.TheVariants.{Book}
 use Rattle.rx_plan.specs.Next.{next_of, carried}
-use Rattle.rx_players.specs.declared.players.Slot.{Slot}
-use Rattle.rx_players.specs.declared.players.Slot.TheVariants.{Here}
 use Rattle.rx_players.specs.declared.seat.Seat.{Seat}
 use Rattle.rx_players.specs.Events.{IsFirst}
+use Rattle.rx_players.specs.Reaching.{wanted}
 use Rattle.rx_players.specs.Stood.{Stood}
-use Rattle.rx_players.specs.Inside.Requests.{wanted, FitsRest, IsAsked, IsGranted, AfterPath, AfterWait, AfterAct, AfterRequest, GoesOn}
+use Rattle.rx_players.specs.Inside.Requests.{FitsRest, IsAsked, IsGranted, AfterPath, AfterWait, AfterAct, AfterRequest}
+use Rattle.rx_players.proofs.Callers.{same_task}
 use Rattle.rx_terms.specs.Steps.{Begins}
 
 -- An act fits exactly where it is of the kind that is wanted and its rest is right.
@@ -43,7 +44,7 @@ same_place : (p q : PlaceId) → p.0 ≡ q.0 → p ≡ q
 same_place p q e = λ i. record { 0 = e i }
 
 -- it is for this place, and from here
-sent : (to from here : PlaceId) (place : ℕ) → ((to.0 == place) && (from.0 == here.0)) ≡ true → (to.0 ≡ place) × (from ≡ here)
+pub sent : (to from here : PlaceId) (place : ℕ) → ((to.0 == place) && (from.0 == here.0)) ≡ true → (to.0 ≡ place) × (from ≡ here)
 sent to from here place h =
     let k = and_parts (to.0 == place) (from.0 == here.0) h in
     (eqb-true to.0 place k.0, same_place from here (eqb-true from.0 here.0 k.1))
@@ -163,16 +164,17 @@ after_wait shape old new here t s faults thrown true is h =
 after_wait shape old new here t s faults thrown false is h = λ f. h (let e : Some faults ≡ Some thrown = sym (ap carried is) ∙ f in cc)
 
 -- the seat with its control
-pub request_made : (shape : Shape) (js : List (List PlaceEvent)) (old new : Seat) (number : ℕ) (z : Player) (left : Cells) (act : Act) → Stood shape js old z left → IsAsked old.home (next_does old.home z) act → AfterAct shape old.control new.control old.home z.term act true → new.task ≡ old.task → new.home ≡ old.home → new.position ≡ old.position → new.low ≡ suc number → AfterRequest shape js old new number z left act true
-request_made shape js old new number z left act s a h task home position low =
+pub request_made : (shape : Shape) (js : List (List PlaceEvent)) (parents : List ScopeId) (old new : Seat) (number : ℕ) (z : Player) (left : Cells) (act : Act) → Stood shape js old z left → IsAsked old.home (next_does old.home z) act → AfterAct shape old.control new.control old.home z.term act true → new.who ≡ who_after parents act old.who → new.home ≡ old.home → new.position ≡ old.position → new.low ≡ suc number → AfterRequest shape js parents old new number z left act true
+request_made shape js parents old new number z left act s a h who home position low =
     let d : does old.control.vars old.home.0 z.term ≡ next_does old.home z = ap (λ (v : Vars). does v old.home.0 z.term) s.vars in
     let few = s.few in
     let fewer = h.1.fewer in
-    let events : filter_map (cell_of new.task.0) (drop new.position (journal_at js new.home.0)) ≡ filter_map (cell_of old.task.0) (drop old.position (journal_at js old.home.0)) =
+    let task : new.who.task ≡ old.who.task = ap (λ (v : Caller). v.task) who ∙ same_task parents act old.who in
+    let events : filter_map (cell_of new.who.task.0) (drop new.position (journal_at js new.home.0)) ≡ filter_map (cell_of old.who.task.0) (drop old.position (journal_at js old.home.0)) =
     λ i. filter_map (cell_of (task i).0) (drop (position i) (journal_at js (home i).0)) in (
       (fits_cut old.home z.term (next_does old.home z) act a.0 a.1).1 a.2 (subst (λ (v : Does). FitsRest z.term v act) d h.0),
       record {
-        task = task;
+        who = who;
         home = home;
         low = low;
         position = position;
@@ -180,7 +182,7 @@ request_made shape js old new number z left act s a h task home position low =
           term = h.1.stands;
           vars = h.2 ∙ (ap (λ (v : Vars). vars_told (does v old.home.0 z.term) act v) s.vars);
           events = events ∙ s.events;
-          first = subst (λ (v : TaskId × PlaceId × ℕ). IsFirst v.0.0 (journal_at js v.1.0) v.2 v.2) {x = (old.task, old.home, old.position)} {y = (new.task, new.home, new.position)} (λ i. (sym task i, sym home i, sym position i)) s.first;
+          first = subst (λ (v : TaskId × PlaceId × ℕ). IsFirst v.0.0 (journal_at js v.1.0) v.2 v.2) {x = (old.who.task, old.home, old.position)} {y = (new.who.task, new.home, new.position)} (λ i. (sym task i, sym home i, sym position i)) s.first;
           few = omega (arith, few, fewer);
         };
       },
@@ -207,10 +209,3 @@ told_wait here d act s thrown is a =
 pub told_census : (here : PlaceId) (d : Does) (act : Act) (n : ℕ) (x : List ℕ) → act ≡ Census n x → IsAsked here d act → next_of d ≡ Book want.Census
 told_census here d act n x is a =
     a.1 ∙ ap (λ (v : Want). Book v) (wants_census a.0 here n x (ap (λ (v : Act). wanted a.0 here v) (sym is) ∙ a.2))
-
--- a task has gone on in its slot as its seat has
-pub goes_on : (shape : Shape) (old new : List Slot) (number : ℕ) (task : TaskId) (seat found : Seat) (on : Box Seat) (act : Act) (b : Bool) → found ≡ seat → new ≡ slice_set old task.0 (Here on)
-    → ((js : List (List PlaceEvent)) (z : Player) (left : Cells) → Stood shape js found z left → IsAsked found.home (next_does found.home z) act → AfterRequest shape js found on.value number z left act b)
-    → GoesOn shape old new number task seat act b
-goes_on shape old new number task seat found on act b same set after =
-    (on, set, subst (λ (v : Seat). (js : List (List PlaceEvent)) (z : Player) (left : Cells) → Stood shape js v z left → IsAsked v.home (next_does v.home z) act → AfterRequest shape js v on.value number z left act b) same after)

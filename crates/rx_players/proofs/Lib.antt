@@ -17,3 +17,5 @@ pub mod AdmitPlayers
 pub mod AdmitAsked
 pub mod AdmitPlay
 pub mod MarksEnd
+pub mod Callers
+pub mod Reaching

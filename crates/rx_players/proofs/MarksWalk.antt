@@ -21,6 +21,7 @@ use Rattle.rx_rules.specs.Picked.{Player}
 use Rattle.rx_rules.specs.Plays.{Cells, Moves, journal_at, moves_from}
 use Rattle.rx_rules.specs.Run.{Given}
 use Rattle.rx_runs.proofs.Pairs.{pairs-length}
+use Rattle.rx_finish.specs.declared.ledger.Caller.{Caller}
 use Rattle.rx_nodes.specs.Shape.{Shape}
 use Rattle.rx_verdict.specs.Makes.{Between, KeepsRule}
 use Rattle.rx_verdict.specs.Marks.{home_of, low_of, StandsAt, WholePass}
@@ -41,10 +42,13 @@ use Rattle.rx_players.specs.declared.table.EventTable.{EventTable}
 use Rattle.rx_players.specs.Events.{IsFirst}
 use Rattle.rx_players.specs.Marked.{IsLeft, MarksAre, IsNextOf, InReach, MarksUsed}
 use Rattle.rx_players.specs.Along.{KeepsAlong}
+use Rattle.rx_players.specs.Callers.{CallerIs}
 use Rattle.rx_players.specs.Players.{IsSeat, SlotIs, PlayersStand, StopsAt, none_rests}
 use Rattle.rx_players.specs.Stood.{Stops, Walked}
 use Rattle.rx_players.specs.Table.{TableIs}
 use Rattle.rx_players.specs.Inside.Admitted.{WalksAlong}
+use Rattle.rx_players.proofs.AdmitSlots.{Each, each_set}
+use Rattle.rx_players.proofs.Callers.{caller_walks}
 use Rattle.rx_players.proofs.Positions.{at_most_length}
 use Rattle.rx_players.proofs.MarksOn.{IsEvent, Of, of_task, of_all, get_other, left_events}
 use Rattle.rx_players.proofs.Using.{IsExact, from_here, used_exactly}
@@ -83,7 +87,7 @@ same_size shape code U es js i old ps P Q = Q.size ∙ (seats-many code U (take 
 -- the players as they stand, whoever rests
 abbrev pub standing : {resting : ℕ → Type 0} (shape : Shape) (code : Block) (U : Given) (es : List Entry) (js : List (List PlaceEvent)) (i : ℕ) (ps : Players) → PlayersStand resting shape code U es js i ps → PlayersStand none_rests shape code U es js i ps
 standing shape code U es js i ps P =
-    record { seats = P.seats; seated = P.seated; size = P.size; each = P.each; table = P.table; marks = P.marks; rest = λ t none. absurd none }
+    record { seats = P.seats; seated = P.seated; size = P.size; each = P.each; table = P.table; marks = P.marks; callers = P.callers; parents = P.parents; rest = λ t none. absurd none }
 
 -- The seat of a task at its place.
 
@@ -110,7 +114,7 @@ module _ {resting : ℕ → Type 0} (shape : Shape) (code : Block) (U : Given) (
       let x = get-within P.seats t inside in
       here_sits shape U.places (take i es) js P.seats t seat x.0 x.1 (P.each t (Here seat) x.0 at x.1)
 
-  pub numbered : seat.value.task.0 < suc (length es)
+  pub numbered : seat.value.who.task.0 < suc (length es)
   numbered =
       let l = inside in
       let number = sits.is.number in
@@ -136,7 +140,7 @@ module _ (shape : Shape) (code : Block) (U : Given) (es : List Entry) (js : List
   pub new_seat : IsSeat shape U.places (take i es) js t new.value y rest
   new_seat =
       record {
-        number = ap (λ (q : TaskId). q.0) w.task ∙ s.number;
+        number = ap (λ (v : Caller). v.task.0) w.who ∙ s.number;
         home = w.home ∙ s.home;
         low = w.low ∙ s.low;
         known = (let few = s.known in let same = w.known in omega (arith, few, same));
@@ -149,7 +153,7 @@ module _ (shape : Shape) (code : Block) (U : Given) (es : List Entry) (js : List
   -- the first event from its own position on
   first_at : (x : Seat) (v : Player) (cells : Cells) → IsSeat shape U.places (take i es) js t x v cells → IsFirst t journal x.position x.position
   first_at x v cells is =
-      subst (λ (n : ℕ). IsFirst n journal x.position x.position) is.number (subst (λ (q : PlaceId). IsFirst x.task.0 (journal_at js q.0) x.position x.position) is.home is.stood.first)
+      subst (λ (n : ℕ). IsFirst n journal x.position x.position) is.number (subst (λ (q : PlaceId). IsFirst x.who.task.0 (journal_at js q.0) x.position x.position) is.home is.stood.first)
 
   -- the walk goes on in the journal
   pub onward : seat.value.position ≤ new.value.position
@@ -171,12 +175,12 @@ module _ (shape : Shape) (code : Block) (U : Given) (es : List Entry) (js : List
       ]
 
   -- the marks after the walk
-  module _ (slots : List Slot) (ms after : List (List Bool)) (last : Option ℕ) (at : slice_get slots t ≡ Some (Here seat)) (g : StandsAt code U.places es js i t z left) (m : MarksAre code U es js slots ms) (used : MarksUsed js ms after new.value.home.0 new.value.task.0 seat.value.position new.value.position new.value.low last) (next : IsNextOf last (moves_from i (drop i es) t)) where
+  module _ (slots : List Slot) (ms after : List (List Bool)) (last : Option ℕ) (at : slice_get slots t ≡ Some (Here seat)) (g : StandsAt code U.places es js i t z left) (m : MarksAre code U es js slots ms) (used : MarksUsed js ms after new.value.home.0 new.value.who.task.0 seat.value.position new.value.position new.value.low last) (next : IsNextOf last (moves_from i (drop i es) t)) where
     was : Of code U es js ms t (Some (Here seat))
     was = subst (λ (x : Option Slot). Of code U es js ms t x) at (of_task code U es js ms slots t m)
 
     -- where nothing was marked
-    same_mark : (p e : ℕ) (task : TaskId) (stamp : ℕ) (cell : Cell) (path : List ℕ) → IsEvent js p e task stamp cell path → (p ≡ new.value.home.0 → task.0 ≡ new.value.task.0 → seat.value.position ≤ e → e < new.value.position → ⊥) → marked after p e ≡ marked ms p e
+    same_mark : (p e : ℕ) (task : TaskId) (stamp : ℕ) (cell : Cell) (path : List ℕ) → IsEvent js p e task stamp cell path → (p ≡ new.value.home.0 → task.0 ≡ new.value.who.task.0 → seat.value.position ≤ e → e < new.value.position → ⊥) → marked after p e ≡ marked ms p e
     same_mark = used.others
 
     left_is : (p e stamp : ℕ) (cell : Cell) (path : List ℕ) → IsEvent js p e (record { 0 = t }) stamp cell path → IsLeft (Some (Here new)) p e → marked after p e ≡ false
@@ -245,28 +249,25 @@ module _ {resting : ℕ → Type 0} (shape : Shape) (code : Block) (U : Given) (
   abbrev at_seat : Sits shape U.places (take i es) js P.seats t seat
   at_seat = sits shape code U es js i old P t seat at
 
-  module _ (y : Player) (rest : Cells) (w : Walked shape js seat.value new.value at_seat.player at_seat.left y rest) (slots : ps.slots.items ≡ slice_set old.slots.items t (Here new)) (table : ps.table ≡ old.table) (used : MarksUsed js old.marks ps.marks new.value.home.0 new.value.task.0 seat.value.position new.value.position new.value.low last) (next : IsNextOf last (moves_from i (drop i es) t)) where
+  module _ (y : Player) (rest : Cells) (w : Walked shape js seat.value new.value at_seat.player at_seat.left y rest) (slots : ps.slots.items ≡ slice_set old.slots.items t (Here new)) (table : ps.table ≡ old.table) (parents : ps.parents.items ≡ old.parents.items) (used : MarksUsed js old.marks ps.marks new.value.home.0 new.value.who.task.0 seat.value.position new.value.position new.value.low last) (next : IsNextOf last (moves_from i (drop i es) t)) where
     abbrev seats : List pass.Seat
     seats = slice_set P.seats t (pass.Stands y rest)
 
     is_new : IsSeat shape U.places (take i es) js t new.value y rest
     is_new = new_seat shape code U es js i t seat new at_seat.player y at_seat.left rest at_seat.is w
 
-    each : (u : ℕ) (slot : Slot) (x : pass.Seat) → slice_get ps.slots.items u ≡ Some slot → slice_get seats u ≡ Some x → SlotIs shape U.places (take i es) js u slot x
-    each u slot x here there =
-        let found : slice_get (slice_set old.slots.items t (Here new)) u ≡ Some slot = ap (λ (l : List Slot). slice_get l u) (sym slots) ∙ here in
-        elim (cases_eq u t) [
-          | inl same ↦
-              let a : Some slot ≡ Some (Here new) = sym found ∙ (ap (λ (n : ℕ). slice_get (slice_set old.slots.items t (Here new)) n) same ∙ get-set old.slots.items t (Here new) (slice_get_within old.slots.items t (Here seat) at)) in
-              let b : Some x ≡ Some (pass.Stands y rest) = sym there ∙ (ap (λ (n : ℕ). slice_get seats n) same ∙ get-set P.seats t (pass.Stands y rest) (inside shape code U es js i old P t seat at)) in
-              let c : slot ≡ Here new = cc in
-              let d : x ≡ pass.Stands y rest = cc in
-              subst (λ (k : Slot). SlotIs shape U.places (take i es) js u k x) (sym c)
-              (subst (λ (k : pass.Seat). SlotIs shape U.places (take i es) js u (Here new) k) (sym d)
-              (subst (λ (n : ℕ). IsSeat shape U.places (take i es) js n new.value y rest) (sym same) is_new))
-          | inr ne ↦
-              P.each u slot x (sym (get_other old.slots.items t u (Here new) ne) ∙ found) (sym (get_other P.seats t u (pass.Stands y rest) ne) ∙ there)
-        ]
+    changed : (Q : ℕ → Slot → pass.Seat → Type 0) → Q t (Here new) (pass.Stands y rest) → Each Q old.slots.items P.seats → Each Q ps.slots.items seats
+    changed Q own all =
+        subst (λ (l : List Slot). Each Q l seats) (sym slots)
+        (each_set Q Q old.slots.items P.seats t (Here new) (pass.Stands y rest) (slice_get_within old.slots.items t (Here seat) at) (inside shape code U es js i old P t seat at) (λ u s x ne low h. h) own all)
+
+    each : Each (SlotIs shape U.places (take i es) js) ps.slots.items seats
+    each = changed (SlotIs shape U.places (take i es) js) is_new P.each
+
+    callers : Each (CallerIs U (take i es)) ps.slots.items seats
+    callers =
+        changed (CallerIs U (take i es))
+        (caller_walks U (take i es) t seat new seat.value.home at_seat.player y at_seat.left rest w.walks w.who w.home (P.callers t (Here seat) (pass.Stands at_seat.player at_seat.left) at at_seat.stands)) P.callers
 
     players_walked : PlayersStand none_rests shape code U es js i ps
     players_walked =
@@ -279,6 +280,8 @@ module _ {resting : ℕ → Type 0} (shape : Shape) (code : Block) (U : Given) (
           marks = subst (λ (l : List Slot). MarksAre code U es js l ps.marks) (sym slots)
               (marks_walked shape code U es js i t seat new at_seat.player y at_seat.left rest at_seat.is w old.slots.items old.marks ps.marks last at
               ((tell code U es js).2 i P.seats t at_seat.player at_seat.left P.seated at_seat.stands) P.marks used next);
+          callers = callers;
+          parents = parents ∙ P.parents;
           rest = λ u none. absurd none;
         }
 

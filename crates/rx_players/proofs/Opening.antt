@@ -1,5 +1,5 @@
 -- The players before the first entry.
-use Rattle.std.specs.Prelude.{◌≡◌, ℕ, zero, suc, ◌*◌, ◌≤◌, Bool, List, [], ◌∷◌, ◌++◌, length, drop, Some, slice_get}
+use Rattle.std.specs.Prelude.{◌≡◌, ℕ, zero, suc, ◌*◌, ◌<◌, ◌≤◌, Bool, List, [], ◌∷◌, ◌++◌, length, drop, Some, slice_get}
 use Rattle.std.specs.Global.{Box}
 use Rattle.std.specs.List.{filter_map}
 use Rattle.std.proofs.Common.{ap, sym, subst, ◌∙◌, arith}
@@ -14,6 +14,9 @@ use Rattle.rx_rules.specs.Plays.{cell_of, journal_at}
 use Rattle.rx_rules.specs.Run.{Given}
 use Rattle.rx_runs.specs.Games.{fresh}
 use Rattle.rx_runs.specs.Steps.{steps}
+use Rattle.rx_rules.specs.Tree.{the_root}
+use Rattle.rx_finish.specs.declared.ledger.Caller.{Caller}
+use Rattle.rx_ledger.specs.Answering.{main_caller}
 use Rattle.rx_nodes.specs.Shape.{Shape}
 use Rattle.rx_control.specs.Stands.{StandsFor}
 use Rattle.rx_verdict.specs.Decides.{main_start}
@@ -28,12 +31,14 @@ use Rattle.rx_players.specs.declared.players.Players.{Players}
 use Rattle.rx_players.specs.Events.{IsFirst}
 use Rattle.rx_players.specs.Table.{TableIs}
 use Rattle.rx_players.specs.Marked.{MarksAre}
+use Rattle.rx_players.specs.Callers.{CallerIs}
 use Rattle.rx_players.specs.Players.{IsSeat, Rests, SlotIs, PlayersAre}
+use Rattle.rx_players.proofs.Callers.{main_is}
 use Rattle.rx_players.proofs.Rows.{first_again}
 use Rattle.rx_players.proofs.MarksOn.{marks_born_here}
 
-pub one_slot : (some all : List Slot) (slot : Slot) → all ≡ some ++ slot ∷ [] → some ≡ [] → all ≡ slot ∷ []
-one_slot some all slot e h = e ∙ ap (λ (l : List Slot). l ++ slot ∷ []) h
+pub one_item : {A : Type 0} (some all : List A) (x : A) → all ≡ some ++ x ∷ [] → some ≡ [] → all ≡ x ∷ []
+one_item some all x e h = e ∙ ap (λ (l : List _). l ++ x ∷ []) h
 
 at_first : (shape : Shape) (code : Block) (U : Given) (js : List (List PlaceEvent)) (seat : Box Seat) → IsSeat shape U.places [] js 0 seat.value (fresh (main_start code U.places)) (cells_of [] js 0) → (t : ℕ) (slot : Slot) (x : pass.Seat) → slice_get (Here seat ∷ []) t ≡ Some slot → slice_get (opening_seats code U js) t ≡ Some x → SlotIs shape U.places [] js t slot x
 at_first shape code U js seat here zero slot x at is =
@@ -42,6 +47,14 @@ at_first shape code U js seat here zero slot x at is =
     subst (λ (s : Slot). SlotIs shape U.places [] js 0 s x) a (subst (λ (y : pass.Seat). SlotIs shape U.places [] js 0 (Here seat) y) b here)
 at_first shape code U js seat here (suc zero) slot x at is = absurd (let f : ⊥ = cc in f)
 at_first shape code U js seat here (suc (suc t)) slot x at is = absurd (let f : ⊥ = cc in f)
+
+caller_first : (code : Block) (U : Given) (js : List (List PlaceEvent)) (seat : Box Seat) → CallerIs U [] 0 (Here seat) (pass.Stands (fresh (main_start code U.places)) (cells_of [] js 0)) → (t : ℕ) (slot : Slot) (x : pass.Seat) → slice_get (Here seat ∷ []) t ≡ Some slot → slice_get (opening_seats code U js) t ≡ Some x → CallerIs U [] t slot x
+caller_first code U js seat here zero slot x at is =
+    let a : Here seat ≡ slot = cc in
+    let b : pass.Stands (fresh (main_start code U.places)) (cells_of [] js 0) ≡ x = cc in
+    subst (λ (s : Slot). CallerIs U [] 0 s x) a (subst (λ (y : pass.Seat). CallerIs U [] 0 (Here seat) y) b here)
+caller_first code U js seat here (suc zero) slot x at is = absurd (let f : ⊥ = cc in f)
+caller_first code U js seat here (suc (suc t)) slot x at is = absurd (let f : ⊥ = cc in f)
 
 at_start_rest : (code : Block) (U : Given) (js : List (List PlaceEvent)) (t : ℕ) → Rests (opening_seats code U js) t
 at_start_rest code U js zero z left at =
@@ -57,14 +70,15 @@ no_events_used code U es js none =
       used = λ p e task stamp cell path at used whole. absurd (used tt);
     }
 
-pub opened : (shape : Shape) (code : Block) (U : Given) (es : List Entry) (js : List (List PlaceEvent)) (seat : Box Seat) (own : Seat) (ps : Players) → seat.value ≡ own → SeatsTell → NoMarks → 1 ≤ U.places → U.places ≤ 16 → work code ≤ 100000 → steps (items code [] Empty) ≡ 3 * work code → StandsFor shape own.control (items code [] Empty) → own.control.vars ≡ no_vars U.places → own.task ≡ record { 0 = 0 } → own.home ≡ record { 0 = 0 } → IsFirst 0 (journal_at js 0) 0 own.position → own.low ≡ 0 → ps.slots.items ≡ Here seat ∷ [] → TableIs js (suc (length es)) ps.table → ps.marks ≡ no_marks js → PlayersAre shape code U es js 0 ps
-opened shape code U es js seat own ps is tell none some few small size stands vars task home position low slots table marks =
+pub opened : (shape : Shape) (code : Block) (U : Given) (es : List Entry) (js : List (List PlaceEvent)) (seat : Box Seat) (own : Seat) (ps : Players) → seat.value ≡ own → SeatsTell → NoMarks → 1 ≤ U.places → U.places ≤ 16 → work code ≤ 100000 → steps (items code [] Empty) ≡ 3 * work code → StandsFor shape own.control (items code [] Empty) → own.control.vars ≡ no_vars U.places → own.who ≡ main_caller → own.home ≡ record { 0 = 0 } → IsFirst 0 (journal_at js 0) 0 own.position → own.low ≡ 0 → ps.slots.items ≡ Here seat ∷ [] → TableIs js (suc (length es)) ps.table → ps.marks ≡ no_marks js → ps.parents.items ≡ the_root ∷ [] → PlayersAre shape code U es js 0 ps
+opened shape code U es js seat own ps is tell none some few small size stands vars who home position low slots table marks parents =
+    let task : own.who.task ≡ record { 0 = 0 } = ap (λ (v : Caller). v.task) who in
     let known : U.places ≤ U.places = omega arith in
     let fits : steps (items code [] Empty) ≤ 300000 = omega (arith, small, size) in
-    let first : IsFirst own.task.0 (journal_at js own.home.0) 0 own.position =
+    let first : IsFirst own.who.task.0 (journal_at js own.home.0) 0 own.position =
     subst (λ (t : TaskId). IsFirst t.0 (journal_at js own.home.0) 0 own.position) (sym task)
     (subst (λ (p : PlaceId). IsFirst 0 (journal_at js p.0) 0 own.position) (sym home) position) in
-    let events : filter_map (cell_of own.task.0) (drop own.position (journal_at js own.home.0)) ≡ cells_of [] js 0 =
+    let events : filter_map (cell_of own.who.task.0) (drop own.position (journal_at js own.home.0)) ≡ cells_of [] js 0 =
     first.same
     ∙ (ap (λ (t : TaskId). filter_map (cell_of t.0) (journal_at js own.home.0)) task
     ∙ ap (λ (p : PlaceId). filter_map (cell_of 0) (journal_at js p.0)) home) in
@@ -78,7 +92,7 @@ opened shape code U es js seat own ps is tell none some few small size stands va
         term = stands;
         vars = vars;
         events = events;
-        first = first_again own.task.0 (journal_at js own.home.0) 0 own.position first;
+        first = first_again own.who.task.0 (journal_at js own.home.0) 0 own.position first;
         few = fits;
       };
     } in
@@ -95,5 +109,7 @@ opened shape code U es js seat own ps is tell none some few small size stands va
       each = λ t slot x at on. at_first shape code U js seat in_box t slot x (ap (λ (l : List Slot). slice_get l t) (sym slots) ∙ at) on;
       table = table;
       marks = subst (λ (l : List Slot). MarksAre code U es js l ps.marks) (sym slots) (subst (λ (ms : List (List Bool)). MarksAre code U es js (Here seat ∷ []) ms) (sym marks) used);
+      callers = λ t slot x at on. caller_first code U js seat (main_is code U seat (no_vars U.places) (cells_of [] js 0) (let low : 0 < U.places = omega (arith, some) in low) (ap (λ (v : Seat). v.who) is ∙ who) (ap (λ (v : Seat). v.home) is ∙ home)) t slot x (ap (λ (l : List Slot). slice_get l t) (sym slots) ∙ at) on;
+      parents = parents;
       rest = λ t all. at_start_rest code U js t;
     }

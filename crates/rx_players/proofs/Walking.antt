@@ -46,7 +46,7 @@ use Rattle.rx_players.proofs.Telling.{answers_tells}
 
 -- where no step is made
 pub no_walk : (shape : Shape) (js : List (List PlaceEvent)) (seat : Seat) (z : Player) (left : Cells) → Stood shape js seat z left → Walked shape js seat seat z left z left
-no_walk shape js seat z left s = record { task = refl; home = refl; low = refl; stood = s; walks = stays; known = refl }
+no_walk shape js seat z left s = record { who = refl; home = refl; low = refl; stood = s; walks = stays; known = refl }
 
 -- what the control tells of the player
 pub told_next : (shape : Shape) (js : List (List PlaceEvent)) (seat : Seat) (z : Player) (left : Cells) (n : Next) → Stood shape js seat z left → n ≡ next_of (does seat.control.vars seat.home.0 z.term) → next_of (next_does seat.home z) ≡ n
@@ -65,14 +65,14 @@ walked_local shape js old new was along z left sinks knows s e leaves same goes 
       y,
       left,
       record {
-        task = ap (λ (q : Seat). q.task) same;
+        who = ap (λ (q : Seat). q.who) same;
         home = ap (λ (q : Seat). q.home) same;
         low = ap (λ (q : Seat). q.low) same;
         stood = record {
           term = on.0;
           vars = on.1;
-          events = ap (λ (q : Seat). filter_map (cell_of q.task.0) (drop q.position (journal_at js q.home.0))) same ∙ s.events;
-          first = subst (λ (q : Seat). IsFirst q.task.0 (journal_at js q.home.0) q.position q.position) (sym same) s.first;
+          events = ap (λ (q : Seat). filter_map (cell_of q.who.task.0) (drop q.position (journal_at js q.home.0))) same ∙ s.events;
+          first = subst (λ (q : Seat). IsFirst q.who.task.0 (journal_at js q.home.0) q.position q.position) (sym same) s.first;
           few = omega (arith, falls, few);
         };
         walks = local is stays;
@@ -113,8 +113,8 @@ places_stay Fine v = refl
 places_stay (Fails fault) v = refl
 
 -- The task's next event answers its call.
-pub walked_store : (shape : Shape) (js : List (List PlaceEvent)) (old new : Seat) (was along : Along) (z : Player) (left rest : Cells) (op : CellOp) (x path : List ℕ) (stamp : ℕ) (cell : Cell) (answer : Result (Option Value) Fault) → TermSinks → Stood shape js old z left → next_of (next_does old.home z) ≡ Calls op → begins z.term ≡ Some x → left ≡ (stamp, cell, path) ∷ rest → x ≡ path → CallIsTold old.home op answer cell → StandsFor shape new.control (answered (answer_of (receives z.term) answer) z.term) → new.control.vars ≡ vars_after (answer_of (receives z.term) answer) old.control.vars → ((batch so_far : List (List ℕ)) → GoesAlong batch was so_far → GoesAlong batch along (so_far ++ path ∷ [])) → new.task ≡ old.task → new.home ≡ old.home → new.low ≡ old.low → filter_map (cell_of new.task.0) (drop new.position (journal_at js new.home.0)) ≡ rest → IsFirst new.task.0 (journal_at js new.home.0) new.position new.position → GoesFurther shape js old new was along z left
-walked_store shape js old new was along z left rest op x path stamp cell answer sinks s e b events same told term vars goes task home low more first =
+pub walked_store : (shape : Shape) (js : List (List PlaceEvent)) (old new : Seat) (was along : Along) (z : Player) (left rest : Cells) (op : CellOp) (x path : List ℕ) (stamp : ℕ) (cell : Cell) (answer : Result (Option Value) Fault) → TermSinks → Stood shape js old z left → next_of (next_does old.home z) ≡ Calls op → begins z.term ≡ Some x → left ≡ (stamp, cell, path) ∷ rest → x ≡ path → CallIsTold old.home op answer cell → StandsFor shape new.control (answered (answer_of (receives z.term) answer) z.term) → new.control.vars ≡ vars_after (answer_of (receives z.term) answer) old.control.vars → ((batch so_far : List (List ℕ)) → GoesAlong batch was so_far → GoesAlong batch along (so_far ++ path ∷ [])) → new.who ≡ old.who → new.home ≡ old.home → new.low ≡ old.low → filter_map (cell_of new.who.task.0) (drop new.position (journal_at js new.home.0)) ≡ rest → IsFirst new.who.task.0 (journal_at js new.home.0) new.position new.position → GoesFurther shape js old new was along z left
+walked_store shape js old new was along z left rest op x path stamp cell answer sinks s e b events same told term vars goes who home low more first =
     let is = is_store_call old.home z op sinks e in
     let a : Answer = answer_of (receives z.term) answer in
     let falls : steps (answered a z.term) + 1 ≤ steps z.term = is.sinks a in
@@ -125,7 +125,7 @@ walked_store shape js old new was along z left rest op x path stamp cell answer 
       y,
       rest,
       record {
-        task = task;
+        who = who;
         home = home;
         low = low;
         stood = record {
@@ -159,7 +159,7 @@ path_halts here z left rest stamp cell x path begin events wrong =
 pub walked_twice : (shape : Shape) (js : List (List PlaceEvent)) (a b c : Seat) (z y w : Player) (left mid rest : Cells) → Walked shape js a b z left y mid → Walked shape js b c y mid w rest → Walked shape js a c z left w rest
 walked_twice shape js a b c z y w left mid rest f g =
     record {
-      task = g.task ∙ f.task;
+      who = g.who ∙ f.who;
       home = g.home ∙ f.home;
       low = g.low ∙ f.low;
       stood = g.stood;
@@ -183,15 +183,15 @@ journal_none (x ∷ l) (suc p) h = journal_none l p (omega (arith, h))
 pub left_out : (shape : Shape) (a : AllEvents) (seat : Seat) (z : Player) (left : Cells) → Stood shape (events_of a) seat z left → length a.journals ≤ seat.home.0 → left ≡ []
 left_out shape a seat z left s h =
     sym s.events
-    ∙ (ap (λ (j : List PlaceEvent). filter_map (cell_of seat.task.0) (drop seat.position j)) (journal_none a.journals seat.home.0 h)
-    ∙ none_past seat.task.0 [] seat.position (omega arith))
+    ∙ (ap (λ (j : List PlaceEvent). filter_map (cell_of seat.who.task.0) (drop seat.position j)) (journal_none a.journals seat.home.0 h)
+    ∙ none_past seat.who.task.0 [] seat.position (omega arith))
 
-pub left_is : (shape : Shape) (a : AllEvents) (seat : Seat) (z : Player) (left all : Cells) (j : Events) → Stood shape (events_of a) seat z left → slice_get a.journals seat.home.0 ≡ Some j → filter_map (cell_of seat.task.0) (drop seat.position j.events) ≡ all → left ≡ all
+pub left_is : (shape : Shape) (a : AllEvents) (seat : Seat) (z : Player) (left all : Cells) (j : Events) → Stood shape (events_of a) seat z left → slice_get a.journals seat.home.0 ≡ Some j → filter_map (cell_of seat.who.task.0) (drop seat.position j.events) ≡ all → left ≡ all
 left_is shape a seat z left all j s h e =
-    sym s.events ∙ (ap (λ (k : List PlaceEvent). filter_map (cell_of seat.task.0) (drop seat.position k)) (journal_here a.journals seat.home.0 j h) ∙ e)
+    sym s.events ∙ (ap (λ (k : List PlaceEvent). filter_map (cell_of seat.who.task.0) (drop seat.position k)) (journal_here a.journals seat.home.0 j h) ∙ e)
 
 -- where there is an event at the seat's position, it is its task's
-pub is_here : (shape : Shape) (a : AllEvents) (seat : Seat) (z : Player) (left : Cells) (j : Events) → Stood shape (events_of a) seat z left → slice_get a.journals seat.home.0 ≡ Some j → seat.position < length j.events → IsOf seat.task.0 (journal_at (events_of a) seat.home.0) seat.position
+pub is_here : (shape : Shape) (a : AllEvents) (seat : Seat) (z : Player) (left : Cells) (j : Events) → Stood shape (events_of a) seat z left → slice_get a.journals seat.home.0 ≡ Some j → seat.position < length j.events → IsOf seat.who.task.0 (journal_at (events_of a) seat.home.0) seat.position
 is_here shape a seat z left j s at within =
     elim s.first.here [
       | inl end ↦
@@ -201,11 +201,11 @@ is_here shape a seat z left j s at within =
     ]
 
 -- and the first of those left
-pub event_left : (shape : Shape) (a : AllEvents) (seat : Seat) (z : Player) (left : Cells) (j : Events) (x : PlaceEvent) (u : TaskId) (stamp : ℕ) (cell : Cell) (path : List ℕ) → Stood shape (events_of a) seat z left → slice_get a.journals seat.home.0 ≡ Some j → slice_get j.events seat.position ≡ Some x → x ≡ Did u stamp cell path → left ≡ (stamp, cell, path) ∷ filter_map (cell_of seat.task.0) (drop (suc seat.position) (journal_at (events_of a) seat.home.0))
+pub event_left : (shape : Shape) (a : AllEvents) (seat : Seat) (z : Player) (left : Cells) (j : Events) (x : PlaceEvent) (u : TaskId) (stamp : ℕ) (cell : Cell) (path : List ℕ) → Stood shape (events_of a) seat z left → slice_get a.journals seat.home.0 ≡ Some j → slice_get j.events seat.position ≡ Some x → x ≡ Did u stamp cell path → left ≡ (stamp, cell, path) ∷ filter_map (cell_of seat.who.task.0) (drop (suc seat.position) (journal_at (events_of a) seat.home.0))
 event_left shape a seat z left j x u stamp cell path s h at is =
     let k = journal_at (events_of a) seat.home.0 in
     let same : k ≡ j.events = journal_here a.journals seat.home.0 j h in
     let there : slice_get k seat.position ≡ Some x = ap (λ (l : List PlaceEvent). slice_get l seat.position) same ∙ at in
     let mine = is_here shape a seat z left j s h (slice_get_within j.events seat.position x at) in
-    let task : u ≡ seat.task = task-is u seat.task (told_of seat.task.0 k seat.position u stamp cell path (there ∙ ap (λ (v : PlaceEvent). Some v) is) mine) in
-    here_event seat.task k seat.position x stamp cell path left there (is ∙ ap (λ (v : TaskId). Did v stamp cell path) task) (sym s.events)
+    let task : u ≡ seat.who.task = task-is u seat.who.task (told_of seat.who.task.0 k seat.position u stamp cell path (there ∙ ap (λ (v : PlaceEvent). Some v) is) mine) in
+    here_event seat.who.task k seat.position x stamp cell path left there (is ∙ ap (λ (v : TaskId). Did v stamp cell path) task) (sym s.events)

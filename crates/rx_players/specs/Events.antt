@@ -14,7 +14,3 @@ IsOf t j e = (stamp : ℕ) × (cell : Cell) × (path : List ℕ) × (slice_get j
 pub record IsFirst (t : ℕ) (j : List PlaceEvent) (from e : ℕ) : Type 0 where
   pub here : (e ≡ length j) ⊎ IsOf t j e
   pub same : filter_map (cell_of t) (drop e j) ≡ filter_map (cell_of t) (drop from j)
-
--- there is one such position
-abbrev pub OneFirst : Type 0
-OneFirst = (t : ℕ) (j : List PlaceEvent) (from e f : ℕ) → IsFirst t j from e → IsFirst t j from f → e ≡ f

@@ -4,6 +4,7 @@ pub mod Table
 pub mod Stood
 pub mod Along
 pub mod Marked
+pub mod Callers
 pub mod Players
-pub mod Worked
+pub mod Reaching
 pub mod Inside

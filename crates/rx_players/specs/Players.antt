@@ -1,5 +1,5 @@
--- What players keep of the tasks of a history, and what an entry makes of it.
-use Rattle.std.specs.Prelude.{◌≡◌, ◌≢◌, ℕ, suc, ◌≤◌, Bool, true, false, List, [], length, take, Some, slice_get}
+-- What players keep of the tasks of a history.
+use Rattle.std.specs.Prelude.{◌≡◌, ◌≢◌, ℕ, suc, ◌≤◌, List, [], length, take, Some, slice_get}
 use Rattle.std.specs.Global.{Box}
 use Rattle.rx_rules.specs.declared.entries.Entry.{Entry}
 use Rattle.rx_rules.specs.declared.events.PlaceEvent.{PlaceEvent}
@@ -9,17 +9,19 @@ use Rattle.rx_rules.specs.Picked.{Player}
 use Rattle.rx_rules.specs.Plays.{Cells}
 use Rattle.rx_rules.specs.Run.{Given}
 use Rattle.rx_runs.specs.Games.{fresh}
+use Rattle.rx_ledger.specs.Told.{parents_told}
 use Rattle.rx_nodes.specs.Shape.{Shape, Stands as IsScript}
 use Rattle.rx_verdict.specs.Makes.{cells_of}
 use Rattle.rx_verdict.specs.Marks.{home_of, low_of}
+use Rattle.rx_verdict.specs.Parts.{IsQuiet}
 use Rattle.rx_verdict.specs.Seats as pass
 use Rattle.rx_verdict.specs.Seats.{Seated, MayFollow}
-use Rattle.rx_verdict.specs.Verdicts.{Part}
 use Rattle.rx_players.specs.declared.seat.Seat.{Seat}
 use Rattle.rx_players.specs.declared.players.Slot.{Slot}
 use Rattle.rx_players.specs.declared.players.Slot.TheVariants.{Away, Here, Over}
 use Rattle.rx_players.specs.declared.players.Players.{Players}
 use Rattle.rx_players.specs.declared.seat.Stop.{Stop}
+use Rattle.rx_players.specs.Callers.{CallerIs}
 use Rattle.rx_players.specs.Marked.{MarksAre}
 use Rattle.rx_players.specs.Stood.{Stood, Stops}
 use Rattle.rx_players.specs.Table.{TableIs}
@@ -27,7 +29,7 @@ use Rattle.rx_players.specs.Table.{TableIs}
 -- the seat is that of task t after these entries, which stands for the player with these events left
 pub record IsSeat (shape : Shape) (places : ℕ) (es : List Entry) (js : List (List PlaceEvent)) (t : ℕ) (seat : Seat) (z : Player)
     (left : Cells) : Type 0 where
-  pub number : seat.task.0 ≡ t
+  pub number : seat.who.task.0 ≡ t
   pub home : seat.home ≡ home_of es t
   pub low : seat.low ≡ low_of es t
   -- it knows of no more places than there are
@@ -63,6 +65,9 @@ pub record PlayersStand (resting : ℕ → Type 0) (shape : Shape) (code : Block
   pub size : length ps.slots.items ≡ length seats
   pub each : (t : ℕ) (slot : Slot) (seat : pass.Seat) → slice_get ps.slots.items t ≡ Some slot → slice_get seats t ≡ Some seat
       → SlotIs shape U.places (take i es) js t slot seat
+  pub callers : (t : ℕ) (slot : Slot) (seat : pass.Seat) → slice_get ps.slots.items t ≡ Some slot → slice_get seats t ≡ Some seat
+      → CallerIs U (take i es) t slot seat
+  pub parents : ps.parents.items ≡ parents_told (take i es)
   pub table : TableIs js (suc (length es)) ps.table
   pub marks : MarksAre code U es js ps.slots.items ps.marks
   pub rest : (t : ℕ) → resting t → Rests seats t
@@ -81,20 +86,19 @@ pub record StopsAt (shape : Shape) (U : Given) (es : List Entry) (js : List (Lis
   pub stands : slice_get seats t ≡ Some (pass.Stands player left)
   pub stops : Stops stop seat.value player left
 
--- before entry i: the players stand for the tasks, of which these rest, and the entry may follow
+-- before entry i: the players stand for the tasks, of which these rest, and the entry is this
 pub record AwaitsWhere (resting : ℕ → Type 0) (shape : Shape) (code : Block) (U : Given) (es : List Entry) (js : List (List PlaceEvent))
     (i : ℕ) (ps : Players) (e : Entry) : Type 0 where
   pub script : IsScript shape code
   pub players : PlayersStand resting shape code U es js i ps
-  pub follows : MayFollow U es i e
+  pub here : slice_get es i ≡ Some e
 
 -- where all rest, as between two entries
 abbrev pub Awaits : Shape → Block → Given → List Entry → List (List PlaceEvent) → ℕ → Players → Entry → Type 0
 Awaits shape code U es js i ps e = AwaitsWhere all_rest shape code U es js i ps e
 
--- a yes: the players stand for the tasks after the entry. A no: with the entry they are no part of a run.
-abbrev pub IsMade : Shape → List (List PlaceEvent) → ℕ → Players → Players → Entry → Bool → Type 0
-IsMade shape js i old new e true =
-    (code : Block) (U : Given) (es : List Entry) → Awaits shape code U es js i old e → PlayersAre shape code U es js (suc i) new
-IsMade shape js i old new e false =
-    (code : Block) (U : Given) (es : List Entry) → Awaits shape code U es js i old e → Part code U es js (suc i) → ⊥
+-- the players stand after an entry of no task that may follow, as they stood before it
+abbrev pub PlayersStay : Type 0
+PlayersStay =
+    (shape : Shape) (code : Block) (U : Given) (es : List Entry) (js : List (List PlaceEvent)) (i : ℕ) (ps : Players) (e : Entry)
+    → IsQuiet e → MayFollow U es i e → PlayersAre shape code U es js i ps → PlayersAre shape code U es js (suc i) ps

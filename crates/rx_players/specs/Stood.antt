@@ -20,9 +20,9 @@ use Rattle.rx_players.specs.declared.seat.Stop.TheVariants.{Asks, Ends, Halts as
 pub record Stood (shape : Shape) (js : List (List PlaceEvent)) (seat : Seat) (z : Player) (left : Cells) : Type 0 where
   pub term : StandsFor shape seat.control z.term
   pub vars : seat.control.vars ≡ z.vars
-  pub events : filter_map (cell_of seat.task.0) (drop seat.position (journal_at js seat.home.0)) ≡ left
+  pub events : filter_map (cell_of seat.who.task.0) (drop seat.position (journal_at js seat.home.0)) ≡ left
   -- its position is that of the first of these events
-  pub first : IsFirst seat.task.0 (journal_at js seat.home.0) seat.position seat.position
+  pub first : IsFirst seat.who.task.0 (journal_at js seat.home.0) seat.position seat.position
   pub few : steps z.term ≤ 300000
 
 -- where the player stops: it makes this request to the ledger, its term is done, or no event answers its store call
@@ -34,7 +34,7 @@ Stops Halted seat y rest = ((op : CellOp) × (next_of (next_does seat.home y) �
 -- from one player to another of the same seat by a walk without entries
 pub record Walked (shape : Shape) (js : List (List PlaceEvent)) (old new : Seat) (z : Player) (left : Cells) (y : Player) (rest : Cells)
     : Type 0 where
-  pub task : new.task ≡ old.task
+  pub who : new.who ≡ old.who
   pub home : new.home ≡ old.home
   pub low : new.low ≡ old.low
   pub stood : Stood shape js new y rest

@@ -31,11 +31,3 @@ pub record TableIs (js : List (List PlaceEvent)) (tasks : ℕ) (table : EventTab
   pub after : (p e t stamp : ℕ) (cell : Cell) (path : List ℕ) → t < tasks
       → slice_get (journal_at js p) e ≡ Some (Done (record { 0 = t }) stamp cell path)
       → IsFirst t (journal_at js p) (suc e) (after_in table p e)
-
--- two tables of the same journals tell the same
-abbrev pub OneTable : Type 0
-OneTable =
-    (js : List (List PlaceEvent)) (tasks : ℕ) (a b : EventTable) → TableIs js tasks a → TableIs js tasks b
-    → ((p t : ℕ) → t < tasks → first_in a p t ≡ first_in b p t)
-    × ((p e t stamp : ℕ) (cell : Cell) (path : List ℕ) → t < tasks
-    → slice_get (journal_at js p) e ≡ Some (Done (record { 0 = t }) stamp cell path) → after_in a p e ≡ after_in b p e)

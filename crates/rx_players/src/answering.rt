@@ -13,51 +13,26 @@ pub fn answers(op: &CellOp, cell: &Cell) -> bool
     ensures { result ≡ answers op.now cell.now }
 {
     match op {
-        CellOp::Make { words } => match cell {
-            Cell::Make {
-                words: n,
-                start: _,
-                generation: _,
-            } => *n == *words,
-            Cell::MakeFull { words: n } => *n == *words,
-            _ => false,
-        },
-        CellOp::Get { target, index } => match cell {
-            Cell::Get {
-                target: r,
-                index: i,
-                value: _,
-            } => *r == *target && *i == *index,
-            Cell::GetRefused {
-                target: r,
-                index: i,
-                stale: _,
-            } => *r == *target && *i == *index,
-            _ => false,
-        },
+        CellOp::Make { words } => {
+            matches!(cell, Cell::Make { words: n, .. } | Cell::MakeFull { words: n } if *n == *words)
+        }
+        CellOp::Get { target, index } => matches!(
+            cell,
+            Cell::Get { target: r, index: i, .. } | Cell::GetRefused { target: r, index: i, .. }
+                if *r == *target && *i == *index
+        ),
         CellOp::Put {
             target,
             index,
             value,
-        } => match cell {
-            Cell::Put {
-                target: r,
-                index: i,
-                value: v,
-            } => *r == *target && *i == *index && *v == *value,
-            Cell::PutRefused {
-                target: r,
-                index: i,
-                value: v,
-                stale: _,
-            } => *r == *target && *i == *index && *v == *value,
-            _ => false,
-        },
-        CellOp::Forget { target } => match cell {
-            Cell::Forget { target: r } => *r == *target,
-            Cell::ForgetStale { target: r } => *r == *target,
-            _ => false,
-        },
+        } => matches!(
+            cell,
+            Cell::Put { target: r, index: i, value: v } | Cell::PutRefused { target: r, index: i, value: v, .. }
+                if *r == *target && *i == *index && *v == *value
+        ),
+        CellOp::Forget { target } => {
+            matches!(cell, Cell::Forget { target: r } | Cell::ForgetStale { target: r } if *r == *target)
+        }
     }
 }
 

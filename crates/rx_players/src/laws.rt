@@ -1,19 +1,7 @@
-// Laws of the positions of events. They do nothing when they run.
-ghost use Rattle.rx_players.specs.Events.{OneFirst};
-ghost use Rattle.rx_players.specs.Table.{OneTable};
-ghost use Rattle.rx_players.specs.Worked.{WorkedPositions};
+// A law of players. It does nothing when it runs.
+ghost use Rattle.rx_players.specs.Players.{PlayersStay};
 
-/// The first event of a task from a position on stands at one position.
-pub fn first_event_is_one()
-    ensures { OneFirst }
-{}
-
-/// Two tables of the same journals tell the same.
-pub fn table_is_one()
-    ensures { OneTable }
-{}
-
-/// Where the events of the worked journal stand.
-pub fn worked_positions()
-    ensures { WorkedPositions }
+/// A death, a join and the root's release change no player.
+pub fn players_stay()
+    ensures { PlayersStay }
 {}

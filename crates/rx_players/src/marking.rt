@@ -1,9 +1,8 @@
 // Walks of tasks, with the marks on the events that they use.
-ghost use Rattle.std.specs.Prelude.{◌≡◌, ◌≢◌, ◌↔◌, ◌+◌, ◌<◌, ◌≤◌, ℕ, List, Option, Some, drop, length, slice_get, IsTrue, IfOk};
-ghost use Rattle.std.specs.Global.{Box};
+ghost use Rattle.std.specs.Prelude.{◌↔◌, ◌+◌, ◌<◌, ◌≤◌, ℕ, List, Option, Some, length, IsTrue, IfOk};
 ghost use Rattle.rx_rules.specs.declared.entries.Entry.{Entry};
 ghost use Rattle.rx_rules.specs.Code.{Block};
-ghost use Rattle.rx_rules.specs.Plays.{journal_at, moves_from};
+ghost use Rattle.rx_rules.specs.Plays.{journal_at};
 ghost use Rattle.rx_rules.specs.Run.{Given};
 ghost use Rattle.rx_nodes.specs.Shape.{Stands};
 ghost use Rattle.rx_history.specs.Events.{events_of};
@@ -12,10 +11,10 @@ ghost use Rattle.rx_replay.specs.Judged.{MarksTell};
 ghost use Rattle.rx_players.specs.declared.players.Slot.TheVariants.{Here};
 ghost use Rattle.rx_players.specs.declared.seat.Seat.{Seat};
 ghost use Rattle.rx_players.specs.Events.{IsOf, IsFirst};
-ghost use Rattle.rx_players.specs.Marked.{IsNextOf, InReach, MarksUsed};
-ghost use Rattle.rx_players.specs.Players.{PlayersAre, PlayersStand, StopsAt, none_rests};
+ghost use Rattle.rx_players.specs.Marked.{InReach, MarksUsed};
+ghost use Rattle.rx_players.specs.Players.{PlayersAre};
 ghost use Rattle.rx_players.specs.Table.{TableIs};
-ghost use Rattle.rx_players.specs.Inside.Admitted.{WalksAlong};
+ghost use Rattle.rx_players.specs.Inside.Admitted.{CanWalk, HasWalked};
 
 use crate::along::Along;
 use crate::players::{Players, Slot};
@@ -40,16 +39,8 @@ impl Players {
         last: Option<u32>,
         along: &mut Along<'_>,
     ) -> Result<Stop, NoMemory>
-        requires { (code : Block) × (U : Given) × (es : List Entry) × (i : ℕ) × (seat : Box Seat) × Stands p.now.script code
-            × PlayersStand none_rests p.now.script code U es (events_of journals.now) i self.old
-            × (slice_get self.old.slots.items t ≡ Some (Here seat)) }
-        ensures { IfOk result (λ stop. (code : Block) (U : Given) (es : List Entry) (i : ℕ) → Stands p.now.script code
-            → (before : PlayersStand none_rests p.now.script code U es (events_of journals.now) i self.old)
-            → IsNextOf last (moves_from i (drop i es) t)
-            → (after : PlayersStand none_rests p.now.script code U es (events_of journals.now) i self.new)
-            × (stops : StopsAt p.now.script U es (events_of journals.now) i t self.new stop after.seats)
-            × ((u : ℕ) → u ≢ t → slice_get after.seats u ≡ slice_get before.seats u)
-            × WalksAlong before.seats t stops.player along.old along.new) }
+        requires { CanWalk p.now.script (events_of journals.now) self.old t }
+        ensures { IfOk result (HasWalked p.now.script (events_of journals.now) self.old self.new t last along.old along.new) }
     {
         rx_verdict::seats_tell();
         rx_verdict::seats_walk();
@@ -103,11 +94,11 @@ fn mark_used(
     last: Option<u32>,
 )
     requires shape { HasShape (events_of journals.now) marks.old }
-    requires table { (tasks : ℕ) × TableIs (events_of journals.now) tasks table.now × (seat.now.task.0 < tasks) }
-    requires begins { IsFirst seat.now.task.0 (journal_at (events_of journals.now) seat.now.home.0) from from }
-    requires ends { IsFirst seat.now.task.0 (journal_at (events_of journals.now) seat.now.home.0) seat.now.position seat.now.position }
+    requires table { (tasks : ℕ) × TableIs (events_of journals.now) tasks table.now × (seat.now.who.task.0 < tasks) }
+    requires begins { IsFirst seat.now.who.task.0 (journal_at (events_of journals.now) seat.now.home.0) from from }
+    requires ends { IsFirst seat.now.who.task.0 (journal_at (events_of journals.now) seat.now.home.0) seat.now.position seat.now.position }
     requires onward { from ≤ seat.now.position }
-    ensures { MarksUsed (events_of journals.now) marks.old marks.new seat.now.home.0 seat.now.task.0 from seat.now.position seat.now.low
+    ensures { MarksUsed (events_of journals.now) marks.old marks.new seat.now.home.0 seat.now.who.task.0 from seat.now.position seat.now.low
         last }
 {
     let mut at = from;
@@ -120,8 +111,8 @@ fn mark_used(
 // Marks one event of a task, if its stamp is in reach.
 fn mark_event(marks: &mut Marks, journals: &Journals, seat: &Seat, at: usize, last: Option<u32>)
     requires shape { HasShape (events_of journals.now) marks.old }
-    requires own { IsOf seat.now.task.0 (journal_at (events_of journals.now) seat.now.home.0) at }
-    ensures { MarksUsed (events_of journals.now) marks.old marks.new seat.now.home.0 seat.now.task.0 at (at + 1) seat.now.low last }
+    requires own { IsOf seat.now.who.task.0 (journal_at (events_of journals.now) seat.now.home.0) at }
+    ensures { MarksUsed (events_of journals.now) marks.old marks.new seat.now.home.0 seat.now.who.task.0 at (at + 1) seat.now.low last }
 {
     match journals.item(seat.home.0 as usize).item(at) {
         PlaceEvent::Done { stamp, .. } => {

@@ -9,11 +9,13 @@ ghost use Rattle.rx_players.specs.Players.{PlayersAre};
 
 use crate::seat::Seat;
 use crate::table::EventTable;
-use rx_base::{NoMemory, PlaceId, TaskId};
+use rx_base::{NoMemory, PlaceId, ScopeId, TaskId};
 use rx_check::{Program, checked};
 use rx_control::Control;
+use rx_finish::Caller;
 use rx_history::Journals;
 use rx_replay::Marks;
+use rx_rules::Where;
 use std::alloc::Global;
 
 /// What is kept of one task. A seat lies by itself in memory, which is given back when its task ends.
@@ -33,6 +35,8 @@ pub struct Players {
     pub(crate) slots: Vec<Slot>,
     pub(crate) table: EventTable,
     pub(crate) marks: Marks,
+    /// The parent of each scope opened, by its number; the root stands first, with itself.
+    pub(crate) parents: Vec<ScopeId>,
 }
 
 impl Players {
@@ -57,7 +61,12 @@ impl Players {
         let marks = Marks::open(alloc, journals)?;
         let control = Control::main(alloc, p, places)?;
         let seat = Seat {
-            task: TaskId(0),
+            who: Caller {
+                task: TaskId(0),
+                scope: ScopeId(0),
+                inner: ScopeId(0),
+                place: Where::At(PlaceId(0)),
+            },
             home: PlaceId(0),
             control,
             position: table.first(PlaceId(0), TaskId(0)),
@@ -65,10 +74,13 @@ impl Players {
         };
         let mut slots = Vec::new(alloc);
         slots.push(Slot::Here(Box::new(alloc, seat)?))?;
+        let mut parents = Vec::new(alloc);
+        parents.push(ScopeId(0))?;
         Ok(Players {
             slots,
             table,
             marks,
+            parents,
         })
     }
 }

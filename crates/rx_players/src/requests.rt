@@ -1,60 +1,58 @@
 // How a task goes on after a request to the ledger, where an act is what it asked.
-ghost use Rattle.std.specs.Prelude.{◌≡◌, ◌+◌, ◌<◌, ◌≤◌, ◌^◌, List, true, IfOk, OnOk};
+ghost use Rattle.std.specs.Prelude.{◌≡◌, ◌+◌, ◌<◌, ◌≤◌, ◌^◌, List, true, slice_index_or, IfOk, OnOk};
 ghost use Rattle.rx_base.specs.declared.ids.PlaceId.{PlaceId};
 ghost use Rattle.rx_base.specs.declared.values.Fault.{Fault};
 ghost use Rattle.rx_rules.specs.declared.entries.Act.{Act};
 ghost use Rattle.rx_rules.specs.declared.events.PlaceEvent.{PlaceEvent};
 ghost use Rattle.rx_rules.specs.Picked.{Player};
-ghost use Rattle.rx_rules.specs.Plays.{Cells, raised_by};
+ghost use Rattle.rx_rules.specs.Plays.{Cells};
 ghost use Rattle.rx_rules.specs.Terms.{Term, Waits, does};
+ghost use Rattle.rx_rules.specs.Tree.{the_root};
+ghost use Rattle.rx_ledger.specs.TermAsks.{who_after};
 ghost use Rattle.rx_plan.specs.declared.step.Next.{Next};
 ghost use Rattle.rx_plan.specs.declared.step.Want.{Want};
 ghost use Rattle.rx_plan.specs.Next.{next_of};
 ghost use Rattle.rx_control.specs.Stands.{StandsFor};
 ghost use Rattle.rx_verdict.specs.Walks.{next_does};
 ghost use Rattle.rx_players.specs.Stood.{Stood};
-ghost use Rattle.rx_players.specs.Inside.Requests.{wanted, IsAsked, CountsMore, IsGranted, AfterPath, AfterWait, AfterAct, AfterRequest};
+ghost use Rattle.rx_players.specs.Reaching.{wanted, right};
+ghost use Rattle.rx_players.specs.Inside.Requests.{IsAsked, CountsMore, IsGranted, AfterPath, AfterWait, AfterAct, AfterRequest};
 
-use crate::seat::Seat;
-use rx_base::{Faults, NoMemory, Path, PlaceId, PlaceSet, same_faults};
+use crate::seat::{Seat, Stop};
+use rx_base::{Faults, NoMemory, Path, PlaceId, ScopeId, same_faults};
 use rx_check::Program;
 use rx_control::{Control, Want, faults_raised};
-use rx_rules::Act;
+use rx_finish::Caller;
+use rx_rules::{Act, Where};
 use std::alloc::Global;
 
 /// Whether the act is of the kind that is wanted, from here and for its place, or with its value.
-pub(crate) fn is_wanted(want: &Want, here: PlaceId, act: &Act) -> bool
+fn is_wanted(want: &Want, here: PlaceId, act: &Act) -> bool
     ensures { result ≡ wanted want.now here act.now }
 {
     match want {
-        Want::Open => match act {
-            Act::Open { .. } => true,
-            _ => false,
-        },
-        Want::At { to: place } => match act {
-            Act::At { from, to, .. } => *to == *place && *from == here,
-            _ => false,
-        },
-        Want::Spawn { to: place } => match act {
-            Act::Spawn { from, to, .. } => *to == *place && *from == here,
-            _ => false,
-        },
-        Want::Wait => match act {
-            Act::Wait { .. } => true,
-            _ => false,
-        },
-        Want::Release => match act {
-            Act::Release { .. } => true,
-            _ => false,
-        },
-        Want::Print { value } => match act {
-            Act::Print { value: z, .. } => *z == *value,
-            _ => false,
-        },
-        Want::Census => match act {
-            Act::Census { .. } => true,
-            _ => false,
-        },
+        Want::Open => matches!(act, Act::Open { .. }),
+        Want::At { to: place } => {
+            matches!(act, Act::At { from, to, .. } if *to == *place && *from == here)
+        }
+        Want::Spawn { to: place } => {
+            matches!(act, Act::Spawn { from, to, .. } if *to == *place && *from == here)
+        }
+        Want::Wait => matches!(act, Act::Wait { .. }),
+        Want::Release => matches!(act, Act::Release { .. }),
+        Want::Print { value } => matches!(act, Act::Print { value: z, .. } if *z == *value),
+        Want::Census => matches!(act, Act::Census { .. }),
+    }
+}
+
+/// Whether a task that has stopped so makes such an act next, whatever its path and its faults.
+pub(crate) fn is_right(stop: &Stop, here: PlaceId, act: &Act) -> bool
+    ensures { result ≡ right stop.now here act.now }
+{
+    match stop {
+        Stop::Asks(want) => is_wanted(want, here, act),
+        Stop::Ends => matches!(act, Act::End { .. }),
+        Stop::Halts => false,
     }
 }
 
@@ -66,6 +64,7 @@ impl Seat {
         p: &Program,
         number: u32,
         act: &Act,
+        parents: &[ScopeId],
     ) -> Result<bool, NoMemory>
         requires less { number + 1 < 2 ^ 32 }
         requires asks { (js : List (List PlaceEvent)) × (z : Player) × (left : Cells) × Stood p.now.script js self.old z left
@@ -73,13 +72,42 @@ impl Seat {
         requires counts { CountsMore self.old.control.vars.places act.now }
         ensures { IfOk result (λ b. (js : List (List PlaceEvent)) (z : Player) (left : Cells) → Stood p.now.script js self.old z left
             → IsAsked self.old.home (next_does self.old.home z) act.now
-            → AfterRequest p.now.script js self.old self.new number z left act.now b) }
+            → AfterRequest p.now.script js parents.now self.old self.new number z left act.now b) }
     {
         if !answer(&mut self.control, alloc, p, act)? {
             return Ok(false);
         }
+        self.who = who_after(self.who, act, parents);
         self.low = number + 1;
         Ok(true)
+    }
+}
+
+/// Who a task is to the ledger after its act; these are the parents of the scopes by their numbers.
+fn who_after(mut who: Caller, act: &Act, parents: &[ScopeId]) -> Caller
+    ensures { result ≡ who_after parents.now act.now who }
+{
+    match act {
+        Act::Open { scope, .. } => who.inner = *scope,
+        Act::At { scope, .. } => who.inner = *scope,
+        Act::Spawn { .. } => {}
+        Act::Arrive { place } => who.place = Where::At(*place),
+        Act::Wait { .. } => {}
+        Act::Release { scope, .. } => who.inner = parent_of(parents, *scope),
+        Act::End { .. } => {}
+        Act::Print { .. } => {}
+        Act::Census { .. } => {}
+    }
+    who
+}
+
+/// The parent of a scope.
+fn parent_of(parents: &[ScopeId], s: ScopeId) -> ScopeId
+    ensures { result ≡ slice_index_or parents.now s.0 the_root }
+{
+    match parents.get(s.0 as usize) {
+        Some(parent) => *parent,
+        None => ScopeId(0),
     }
 }
 
@@ -100,7 +128,8 @@ fn answer(control: &mut Control, alloc: Global, p: &Program, act: &Act) -> Resul
         Act::Census { places, path } => count(control, alloc, p, *places, path),
         Act::Wait { thrown, .. } => wait(control, alloc, p, thrown),
         Act::Release { lost, thrown, .. } => {
-            release(control, alloc, p, *lost, thrown)?;
+            let faults = faults_raised(alloc, *lost, thrown)?;
+            resume(control, p, faults)?;
             Ok(true)
         }
         Act::Arrive { .. } => Ok(false),
@@ -161,22 +190,6 @@ fn wait(
     }
     resume(control, p, Faults::open(alloc))?;
     Ok(true)
-}
-
-/// Lets a control go on after the release of its scope.
-fn release(
-    control: &mut Control,
-    alloc: Global,
-    p: &Program,
-    lost: PlaceSet,
-    thrown: &Faults,
-) -> Result<(), NoMemory>
-    requires { (t : Term) × StandsFor p.now.script control.old t }
-    ensures { OnOk result ((t : Term) → StandsFor p.now.script control.old t
-        → IsGranted p.now.script control.new t (raised_by lost thrown.now) × (control.new.vars ≡ control.old.vars)) }
-{
-    let faults = faults_raised(alloc, lost, thrown)?;
-    resume(control, p, faults)
 }
 
 /// Lets a control go on whose request was granted, which raises these faults.

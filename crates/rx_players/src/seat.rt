@@ -1,12 +1,13 @@
 // What is kept of one task that is at its place.
-use rx_base::{PlaceId, TaskId};
+use rx_base::PlaceId;
 use rx_control::{Control, Want};
+use rx_finish::Caller;
 
-/// A task at its place: what it has still to run, the position of its next event in the journal of its place, or that journal's
-/// length, and one more than the number of its last entry, or of its birth.
+/// A task at its place, or on its way: who it is to the ledger, what it has still to run, the position of its next event in the
+/// journal of its place, or that journal's length, and one more than the number of its last entry, or of its birth.
 #[derive(Drop)]
 pub struct Seat {
-    pub task: TaskId,
+    pub who: Caller,
     pub home: PlaceId,
     pub control: Control,
     pub position: usize,

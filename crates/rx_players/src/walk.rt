@@ -10,9 +10,9 @@ ghost use Rattle.rx_control.specs.Stands.{StandsFor, Leaves};
 ghost use Rattle.rx_plan.specs.Next.{next_of};
 ghost use Rattle.rx_verdict.specs.Walks.{next_does};
 ghost use Rattle.rx_players.specs.Table.{TableIs};
-ghost use Rattle.rx_players.specs.Along.{GoesAlong, KeepsAlong};
-ghost use Rattle.rx_players.specs.Stood.{Stood, Stops, Walked};
-ghost use Rattle.rx_players.specs.Inside.Steps.{AfterStep, AfterCall};
+ghost use Rattle.rx_players.specs.Along.{GoesAlong};
+ghost use Rattle.rx_players.specs.Stood.{Stood};
+ghost use Rattle.rx_players.specs.Inside.Steps.{MayWalk, ForWalker, AfterWalk, AfterStep, AfterCall};
 
 use crate::along::Along;
 use crate::answering::{answers, told};
@@ -39,12 +39,9 @@ impl Seat {
         table: &EventTable,
         along: &mut Along<'_>,
     ) -> Result<Stop, NoMemory>
-        requires { (tasks : ℕ) × TableIs (events_of journals.now) tasks table.now × (self.old.task.0 < tasks) × (z : Player)
-            × (left : Cells) × Stood p.now.script (events_of journals.now) self.old z left }
-        ensures { IfOk result (λ stop. (tasks : ℕ) → TableIs (events_of journals.now) tasks table.now → self.old.task.0 < tasks
-            → (z : Player) (left : Cells) → Stood p.now.script (events_of journals.now) self.old z left
-            → (y : Player) × (rest : Cells) × Walked p.now.script (events_of journals.now) self.old self.new z left y rest
-            × Stops stop self.new y rest × KeepsAlong along.old along.new z y) }
+        requires { MayWalk p.now.script (events_of journals.now) table.now self.old }
+        ensures { IfOk result (λ stop. ForWalker p.now.script (events_of journals.now) table.now self.old (λ z left.
+            AfterWalk p.now.script (events_of journals.now) self.old self.new along.old along.new z left stop)) }
     {
         for _made in 0..LIMIT {
             match self.step(alloc, p, journals, table, along)? {
@@ -64,11 +61,9 @@ impl Seat {
         table: &EventTable,
         along: &mut Along<'_>,
     ) -> Result<Option<Stop>, NoMemory>
-        requires { (tasks : ℕ) × TableIs (events_of journals.now) tasks table.now × (self.old.task.0 < tasks) × (z : Player)
-            × (left : Cells) × Stood p.now.script (events_of journals.now) self.old z left }
-        ensures { IfOk result (λ stop. (tasks : ℕ) → TableIs (events_of journals.now) tasks table.now → self.old.task.0 < tasks
-            → (z : Player) (left : Cells) → Stood p.now.script (events_of journals.now) self.old z left
-            → AfterStep p.now.script (events_of journals.now) self.old self.new along.old along.new z left stop) }
+        requires { MayWalk p.now.script (events_of journals.now) table.now self.old }
+        ensures { IfOk result (λ stop. ForWalker p.now.script (events_of journals.now) table.now self.old (λ z left.
+            AfterStep p.now.script (events_of journals.now) self.old self.new along.old along.new z left stop)) }
     {
         rx_runs::terms_sink();
         rx_runs::local_steps_tell_no_places();
@@ -112,13 +107,12 @@ impl Seat {
         op: CellOp,
         along: &mut Along<'_>,
     ) -> Result<bool, NoMemory>
-        requires { (tasks : ℕ) × TableIs (events_of journals.now) tasks table.now × (self.old.task.0 < tasks) × (z : Player)
+        requires { (tasks : ℕ) × TableIs (events_of journals.now) tasks table.now × (self.old.who.task.0 < tasks) × (z : Player)
             × (left : Cells) × Stood p.now.script (events_of journals.now) self.old z left
             × (next_of (next_does self.old.home z) ≡ Cell op) }
-        ensures { IfOk result (λ b. (tasks : ℕ) → TableIs (events_of journals.now) tasks table.now → self.old.task.0 < tasks
-            → (z : Player) (left : Cells) → Stood p.now.script (events_of journals.now) self.old z left
-            → next_of (next_does self.old.home z) ≡ Cell op
-            → AfterCall p.now.script (events_of journals.now) self.old self.new along.old along.new z left b) }
+        ensures { IfOk result (λ b. ForWalker p.now.script (events_of journals.now) table.now self.old (λ z left.
+            next_of (next_does self.old.home z) ≡ Cell op
+            → AfterCall p.now.script (events_of journals.now) self.old self.new along.old along.new z left b)) }
     {
         rx_runs::terms_sink();
         let place = self.home.0 as usize;

@@ -1,2 +1,5 @@
 pub mod Bounded
+pub mod Agreeing
+pub mod Admitted
+pub mod Audited
 pub mod Passing

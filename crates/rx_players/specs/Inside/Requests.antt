@@ -1,9 +1,10 @@
 -- What a request to the ledger asks of an act, and how its task goes on.
-use Rattle.std.specs.Prelude.{◌≡◌, ℕ, suc, ◌<◌, ◌≤◌, Bool, true, false, cond, ◌&&◌, ◌==◌, List, [], Option, Some, None, slice_set}
+use Rattle.std.specs.Prelude.{◌≡◌, ℕ, suc, ◌<◌, ◌≤◌, Bool, true, false, cond, ◌==◌, List, [], Option, Some, None}
 use Rattle.std.specs.Global.{Box}
-use Rattle.std.specs.Ordering.{int_eq}
 use Rattle.rx_base.specs.declared.ids.PlaceId.{PlaceId}
 use Rattle.rx_base.specs.declared.ids.TaskId.{TaskId}
+use Rattle.rx_base.specs.declared.ids.ScopeId.{ScopeId}
+use Rattle.rx_rules.specs.declared.tasks.Where.TheVariants.{At, Travel}
 use Rattle.rx_base.specs.declared.values.Fault.{Fault}
 use Rattle.rx_rules.specs.declared.entries.Act.{Act}
 use Rattle.rx_rules.specs.declared.entries.Act.TheVariants.{Open, At as Calls, Spawn, Arrive, Wait, Release, End, Print, Census}
@@ -12,11 +13,11 @@ use Rattle.rx_rules.specs.Picked.{Player, acted}
 use Rattle.rx_rules.specs.Plays.{Cells, Fits, brought, journal_at, vars_told}
 use Rattle.rx_rules.specs.Terms.{Term, Does, does, begins, child, granted}
 use Rattle.rx_runs.specs.Steps.{steps}
+use Rattle.rx_ledger.specs.Answering.{fresh_caller}
+use Rattle.rx_ledger.specs.TermAsks.{who_after}
 use Rattle.rx_nodes.specs.Shape.{Shape}
 use Rattle.rx_control.specs.declared.control.Control.{Control}
 use Rattle.rx_plan.specs.declared.step.Want.{Want}
-use Rattle.rx_plan.specs.declared.step.Want.TheVariants.{Open as WantOpen, At as WantAt, Spawn as WantSpawn, Wait as WantWait}
-use Rattle.rx_plan.specs.declared.step.Want.TheVariants.{Release as WantRelease, Print as WantPrint, Census as WantCensus}
 use Rattle.rx_plan.specs.declared.step.Next.TheVariants.{Book}
 use Rattle.rx_plan.specs.Next.{next_of, carried}
 use Rattle.rx_control.specs.Stands.{StandsFor}
@@ -26,19 +27,9 @@ use Rattle.rx_players.specs.declared.players.Slot.TheVariants.{Away, Here}
 use Rattle.rx_players.specs.declared.seat.Seat.{Seat}
 use Rattle.rx_players.specs.declared.table.EventTable.{EventTable}
 use Rattle.rx_players.specs.Events.{IsFirst}
+use Rattle.rx_players.specs.Reaching.{wanted}
 use Rattle.rx_players.specs.Stood.{Stood}
 use Rattle.rx_players.specs.Table.{TableIs}
-
--- the act is of the kind that is wanted, from here and for its place, or with its value
-abbrev pub wanted : Want → PlaceId → Act → Bool
-wanted WantOpen here (Open s r x) = true
-wanted (WantAt place) here (Calls from to s r c x) = (to.0 == place.0) && (from.0 == here.0)
-wanted (WantSpawn place) here (Spawn c s from to x) = (to.0 == place.0) && (from.0 == here.0)
-wanted WantWait here (Wait s thrown) = true
-wanted WantRelease here (Release s lost masked thrown) = true
-wanted (WantPrint value) here (Print z x) = int_eq z value
-wanted WantCensus here (Census n x) = true
-wanted _ here act = false
 
 -- the rest of it is right: its path is that of the statement that begins, its faults are those that the term carries
 abbrev pub FitsRest : Term → Does → Act → Type 0
@@ -82,32 +73,25 @@ AfterAct shape old new here t act true =
     × (new.vars ≡ vars_told (does old.vars here.0 t) act old.vars)
 AfterAct shape old new here t act false = FitsRest t (does old.vars here.0 t) act → ⊥
 
--- a seat after its task's entry with this number: the task has gone on to the player y
-pub record GoneOn (shape : Shape) (js : List (List PlaceEvent)) (old new : Seat) (number : ℕ) (y : Player) (left : Cells)
-    : Type 0 where
-  pub task : new.task ≡ old.task
+-- a seat after its task's act in the entry with this number: the task has gone on to the player y
+pub record GoneOn (shape : Shape) (js : List (List PlaceEvent)) (parents : List ScopeId) (old new : Seat) (number : ℕ) (act : Act)
+    (y : Player) (left : Cells) : Type 0 where
+  pub who : new.who ≡ who_after parents act old.who
   pub home : new.home ≡ old.home
   pub low : new.low ≡ suc number
   pub position : new.position ≡ old.position
   pub stood : Stood shape js new y left
 
 -- the act is what the player asks, and it has gone on after it, or it is not
-abbrev pub AfterRequest : Shape → List (List PlaceEvent) → Seat → Seat → ℕ → Player → Cells → Act → Bool → Type 0
-AfterRequest shape js old new number z left act true =
-    Fits old.home z.term (next_does old.home z) act × GoneOn shape js old new number (acted old.home z act) left
-AfterRequest shape js old new number z left act false = Fits old.home z.term (next_does old.home z) act → ⊥
+abbrev pub AfterRequest : Shape → List (List PlaceEvent) → List ScopeId → Seat → Seat → ℕ → Player → Cells → Act → Bool → Type 0
+AfterRequest shape js parents old new number z left act true =
+    Fits old.home z.term (next_does old.home z) act × GoneOn shape js parents old new number act (acted old.home z act) left
+AfterRequest shape js parents old new number z left act false = Fits old.home z.term (next_does old.home z) act → ⊥
 
--- a task has gone on in its slot after a request, or the act is not its request
-abbrev pub GoesOn : Shape → List Slot → List Slot → ℕ → TaskId → Seat → Act → Bool → Type 0
-GoesOn shape old new number task seat act b =
-    (on : Box Seat) × (new ≡ slice_set old task.0 (Here on))
-    × ((js : List (List PlaceEvent)) (z : Player) (left : Cells) → Stood shape js seat z left
-    → IsAsked seat.home (next_does seat.home z) act → AfterRequest shape js seat on.value number z left act b)
-
--- the seat of a task that the player z starts by its entry with this number, for a place
-pub record IsChild (shape : Shape) (table : EventTable) (number : ℕ) (z : Player) (c : TaskId) (to : PlaceId) (seat : Seat)
-    : Type 0 where
-  pub task : seat.task ≡ c
+-- the seat of a task that the player z starts under a scope by its entry with this number, at one place for another
+pub record IsChild (shape : Shape) (table : EventTable) (number : ℕ) (z : Player) (c : TaskId) (scope : ScopeId) (from to : PlaceId)
+    (seat : Seat) : Type 0 where
+  pub who : seat.who ≡ fresh_caller c scope (cond (from.0 == to.0) (At to) (Travel from to))
   pub home : seat.home ≡ to
   pub low : seat.low ≡ suc number
   pub term : StandsFor shape seat.control (child z.term)
@@ -123,7 +107,7 @@ slot_for from to seat = cond (from.0 == to.0) (Here seat) (Away seat)
 -- the slot of the task that an act of the player starts, or none
 abbrev pub IsNewborn : Shape → EventTable → ℕ → Player → Act → Option Slot → Type 0
 IsNewborn shape table number z (Calls from to s r c x) o =
-    (seat : Box Seat) × (o ≡ Some (slot_for from to seat)) × IsChild shape table number z c to seat.value
+    (seat : Box Seat) × (o ≡ Some (slot_for from to seat)) × IsChild shape table number z c s from to seat.value
 IsNewborn shape table number z (Spawn c s from to x) o =
-    (seat : Box Seat) × (o ≡ Some (slot_for from to seat)) × IsChild shape table number z c to seat.value
+    (seat : Box Seat) × (o ≡ Some (slot_for from to seat)) × IsChild shape table number z c s from to seat.value
 IsNewborn shape table number z act o = o ≡ None

@@ -1,5 +1,5 @@
 -- What one step of a walk leaves.
-use Rattle.std.specs.Prelude.{◌+◌, ◌≤◌, Bool, true, false, List, Option, Some, None}
+use Rattle.std.specs.Prelude.{ℕ, ◌+◌, ◌<◌, ◌≤◌, Bool, true, false, List, Option, Some, None}
 use Rattle.rx_rules.specs.declared.events.PlaceEvent.{PlaceEvent}
 use Rattle.rx_rules.specs.Picked.{Player}
 use Rattle.rx_rules.specs.Plays.{Cells}
@@ -9,8 +9,25 @@ use Rattle.rx_verdict.specs.Walks.{Halts}
 use Rattle.rx_players.specs.declared.along.Along.{Along}
 use Rattle.rx_players.specs.declared.seat.Seat.{Seat}
 use Rattle.rx_players.specs.declared.seat.Stop.{Stop}
+use Rattle.rx_players.specs.declared.table.EventTable.{EventTable}
 use Rattle.rx_players.specs.Along.{KeepsAlong}
-use Rattle.rx_players.specs.Stood.{Stops, Walked}
+use Rattle.rx_players.specs.Stood.{Stood, Stops, Walked}
+use Rattle.rx_players.specs.Table.{TableIs}
+
+-- the seat stands for a player, and the table tells of its task
+abbrev pub MayWalk : Shape → List (List PlaceEvent) → EventTable → Seat → Type 0
+MayWalk shape js table seat =
+    (tasks : ℕ) × TableIs js tasks table × (seat.who.task.0 < tasks) × (z : Player) × (left : Cells) × Stood shape js seat z left
+
+-- what holds for each such player
+abbrev pub ForWalker : Shape → List (List PlaceEvent) → EventTable → Seat → (Player → Cells → Type 0) → Type 0
+ForWalker shape js table seat P =
+    (tasks : ℕ) → TableIs js tasks table → seat.who.task.0 < tasks → (z : Player) (left : Cells) → Stood shape js seat z left → P z left
+
+-- the player has walked on to where it stops
+abbrev pub AfterWalk : Shape → List (List PlaceEvent) → Seat → Seat → Along → Along → Player → Cells → Stop → Type 0
+AfterWalk shape js old new was along z left stop =
+    (y : Player) × (rest : Cells) × Walked shape js old new z left y rest × Stops stop new y rest × KeepsAlong was along z y
 
 -- the player has walked on and has fewer steps left
 abbrev pub GoesFurther : Shape → List (List PlaceEvent) → Seat → Seat → Along → Along → Player → Cells → Type 0

@@ -6,8 +6,8 @@ use Rattle.rx_rules.specs.Code.{Block}
 use Rattle.rx_rules.specs.Tree.{Tree}
 use Rattle.rx_rules.specs.Run.{Given}
 use Rattle.rx_nodes.specs.Shape.{Shape, Stands}
-use Rattle.rx_audit.specs.declared.audit.Audit.{Audit}
-use Rattle.rx_audit.specs.Admits.{AuditIs}
+use Rattle.rx_verify.specs.declared.audit.Audit.{Audit}
+use Rattle.rx_verify.specs.Inside.Admits.{AuditIs}
 use Rattle.rx_players.specs.declared.players.Players.{Players}
 use Rattle.rx_players.specs.Players.{PlayersAre}
 use Rattle.rx_verdict.specs.Verdicts.{Part}

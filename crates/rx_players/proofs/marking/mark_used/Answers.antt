@@ -10,7 +10,7 @@ use Rattle.rx_players.proofs.marking.mark_used.Goals as goal
 pub loop-at-preserved : goal.loop-at-preserved
 loop-at-preserved c =
     let js = events_of c.args.journals.now in
-    let t = c.args.seat.now.task.0 in
+    let t = c.args.seat.now.who.task.0 in
     let j = journal_at js c.args.seat.now.home.0 in
     let test = c.loop-at-test.true in
     let all = at_most_length t j c.args.seat.now.position c.args.seat.now.position c.requires.ends in
@@ -31,7 +31,7 @@ loop-at-preserved c =
 pub loop-at-smaller : goal.loop-at-smaller
 loop-at-smaller c =
     let js = events_of c.args.journals.now in
-    let t = c.args.seat.now.task.0 in
+    let t = c.args.seat.now.who.task.0 in
     let j = journal_at js c.args.seat.now.home.0 in
     let test = c.loop-at-test.true in
     let all = at_most_length t j c.args.seat.now.position c.args.seat.now.position c.requires.ends in

@@ -10,8 +10,8 @@ invariant-loop-at l =
     record {
       past : l.from ≤ l.at;
       within : l.at ≤ l.seat.position;
-      first : IsFirst l.seat.task.0 (journal_at (events_of l.journals) l.seat.home.0) l.at l.at;
-      marks : MarksUsed (events_of l.journals) l.initial.marks l.marks l.seat.home.0 l.seat.task.0 l.from l.at l.seat.low l.last;
+      first : IsFirst l.seat.who.task.0 (journal_at (events_of l.journals) l.seat.home.0) l.at l.at;
+      marks : MarksUsed (events_of l.journals) l.initial.marks l.marks l.seat.home.0 l.seat.who.task.0 l.from l.at l.seat.low l.last;
     }
 
 abbrev pub decreases-loop-at : goal.decreases-loop-at

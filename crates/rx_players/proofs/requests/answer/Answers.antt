@@ -1,9 +1,12 @@
-use Rattle.std.proofs.Common.{refl, sym, subst}
+use Rattle.std.proofs.Common.{◌≡◌, List, refl, sym, subst}
 use Rattle.std.proofs.lemmas.Result.{IfOk-weaker}
 use Rattle.rx_rules.specs.declared.entries.Act.{Act}
 use Rattle.rx_rules.specs.declared.entries.Act.TheVariants.{Open, At, Spawn, Print}
-use Rattle.rx_rules.specs.Terms.{does}
-use Rattle.rx_players.specs.Inside.Requests.{AfterAct}
+use Rattle.rx_base.specs.declared.values.Fault.{Fault}
+use Rattle.rx_rules.specs.Terms.{Term, does}
+use Rattle.rx_nodes.specs.Shape.{Shape}
+use Rattle.rx_control.specs.declared.control.Control.{Control}
+use Rattle.rx_players.specs.Inside.Requests.{AfterAct, IsGranted}
 use Rattle.rx_players.proofs.AdmitRequests.{after_path, after_wait, after_release, told_wait}
 use Rattle.rx_players.proofs.requests.answer.Goals as goal
 
@@ -37,7 +40,11 @@ returns-in-Wait c = IfOk-weaker c.wait.result _ _ (λ b h t here s a.
     subst (λ (v : Act). AfterAct c.args.p.now.script c.args.control.now c.wait.new.control here t v b) (sym c.in-Wait.is)
     (after_wait c.args.p.now.script c.args.control.now c.wait.new.control here t c.in-Wait.scope waits.0 c.in-Wait.thrown b waits.1 (h t here waits.0 s waits.1))) c.wait.ensures
 
-pub returns-in_ok-release-in-Release : goal.returns-in_ok-release-in-Release
-returns-in_ok-release-in-Release c = λ t here s a.
-    after_release c.args.p.now.script c.args.control.now c.release.new.control here t c.args.act.now c.in-Release.scope c.in-Release.lost c.in-Release.masked c.in-Release.thrown c.in-Release.is
-    (c.in_ok-release-in-Release.ensures t s)
+-- what a control stands for with these faults
+abbrev After : Shape → Control → Control → Term → List Fault → Type 0
+After shape old new t faults = IsGranted shape new t faults × (new.vars ≡ old.vars)
+
+pub returns-in_ok-resume-in-Release : goal.returns-in_ok-resume-in-Release
+returns-in_ok-resume-in-Release c = λ t here s a.
+    after_release c.args.p.now.script c.args.control.now c.resume.new.control here t c.args.act.now c.in-Release.scope c.in-Release.lost c.in-Release.masked c.in-Release.thrown c.in-Release.is
+    (subst (λ (v : List Fault). After c.args.p.now.script c.args.control.now c.resume.new.control t v) c.in_ok-faults-in-Release.ensures (c.in_ok-resume-in-Release.ensures t s))

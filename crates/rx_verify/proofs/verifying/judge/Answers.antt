@@ -4,7 +4,7 @@ use Rattle.std.proofs.lemmas.Bool.{true≢false}
 use Rattle.rx_rules.specs.declared.entries.Entry.{Entry}
 use Rattle.rx_history.specs.Setups.{given}
 use Rattle.rx_history.specs.Events.{events_of}
-use Rattle.rx_audit.specs.Admits.{AuditIs}
+use Rattle.rx_verify.specs.Inside.Admits.{AuditIs}
 use Rattle.rx_verify.specs.Inside.Passing.{FirstFlaw}
 use Rattle.rx_verify.proofs.Passing.{part_here, ok_as}
 use Rattle.rx_verify.proofs.verifying.judge.Goals as goal
@@ -28,7 +28,7 @@ returns-then-not-has_ended g c = λ code st.
     let pass = subst (λ (o : Option ℕ). FirstFlaw S c.args.program.now.script U es js c.first_flaw.new.audit c.first_flaw.new.players o) c.in-None.is c.in_ok-flaw.ensures.flaw in
     let audit = subst (λ (xs : List Entry). AuditIs S U xs c.first_flaw.new.audit) (take-length es) pass.audit in
     let part = part_here S c.args.program.now.script U es js (length es) c.seats_tell.ensures c.first_flaw.new.audit c.first_flaw.new.players pass code st in
-    (λ n le. (c.parts_begin.ensures code U es js).1 n (length es) le part, λ last. true≢false (sym ((c.has_ended.ensures U es audit).1 last) ∙ c.if-not-has_ended.true))
+    (λ n le. (c.parts_begin.ensures code U es js).1 n (length es) le part, λ last. true≢false (sym ((c.has_ended.ensures.ends U es audit).1 last) ∙ c.if-not-has_ended.true))
 
 pub finish-requires : goal.finish-requires
 finish-requires g c =
@@ -48,7 +48,7 @@ returns g c =
     let js = events_of c.args.journals.now in
     let pass = subst (λ (o : Option ℕ). FirstFlaw S c.args.program.now.script U es js c.first_flaw.new.audit c.first_flaw.new.players o) c.in-None.is c.in_ok-flaw.ensures.flaw in
     let audit = subst (λ (xs : List Entry). AuditIs S U xs c.first_flaw.new.audit) (take-length es) pass.audit in
-    let last = (c.has_ended.ensures U es audit).0 c.if-not-has_ended.false in
+    let last = (c.has_ended.ensures.ends U es audit).0 c.if-not-has_ended.false in
     ok_as c.judge_events.result _ _ c.judge_events.ensures (λ v told code st.
     let part = part_here S c.args.program.now.script U es js (length es) c.seats_tell.ensures c.first_flaw.new.audit c.first_flaw.new.players pass code st in
     let marks = c.in_ok-marks-in-None.ensures.tell code U es st (pass.players code st) in

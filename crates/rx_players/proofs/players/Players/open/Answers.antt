@@ -4,7 +4,7 @@ use Rattle.rx_rules.specs.Terms.{no_vars}
 use Rattle.rx_check.proofs.OneTree.{one-tree}
 use Rattle.rx_history.specs.Events.{events_of}
 use Rattle.rx_players.specs.Table.{TableIs}
-use Rattle.rx_players.proofs.Opening.{opened, one_slot}
+use Rattle.rx_players.proofs.Opening.{opened, one_item}
 use Rattle.rx_players.proofs.players.Players.open.Goals as goal
 
 pub returns : goal.returns
@@ -20,4 +20,5 @@ returns c = λ code U es written same long.
     let table : TableIs js (suc (length es)) c.in_ok-table.table = subst (λ (n : ℕ). TableIs js n c.in_ok-table.table) tasks c.in_ok-table.ensures in
     let first = c.first.ensures js (suc (length es)) table (omega arith) in
     opened c.args.p.now.script code U es js c.in_ok-new.field-0 _ _ c.in_ok-new.ensures.ok c.seats_tell.ensures c.marks_begin_empty.ensures some few small (c.main.ensures.steps code) at.0 (at.1 ∙ ap no_vars (sym same)) refl refl
-    first refl (one_slot c.new-slots.result.items c.push.new.self.items _ c.in_ok-push.ensures.items c.new-slots.ensures.items) table c.in_ok-marks.ensures.none
+    first refl (one_item c.new-slots.result.items c.push.new.self.items _ c.in_ok-push.ensures.items c.new-slots.ensures.items) table c.in_ok-marks.ensures.none
+    (one_item c.new-parents.result.items c.push-2.new.self.items _ c.in_ok-push-2.ensures.items c.new-parents.ensures.items)

@@ -2,32 +2,22 @@ use Rattle.std.proofs.Common.{◌≡◌, ℕ, ◌<◌, ◌≤◌, length, suc, L
 use Rattle.std.specs.Global.{Box}
 use Rattle.std.proofs.lemmas.Option.{slice_get_within, slice_get_read}
 use Rattle.rx_base.specs.declared.ids.PlaceId.{PlaceId}
-use Rattle.rx_base.specs.declared.ids.TaskId.{TaskId}
-use Rattle.rx_rules.specs.declared.events.PlaceEvent.{PlaceEvent}
-use Rattle.rx_rules.specs.Picked.{Player}
-use Rattle.rx_rules.specs.Plays.{Cells, journal_at}
-use Rattle.rx_nodes.specs.Shape.{Shape}
+use Rattle.rx_rules.specs.Plays.{journal_at}
+use Rattle.rx_finish.specs.declared.ledger.Caller.{Caller}
 use Rattle.rx_history.specs.Events.{events_of}
 use Rattle.rx_players.specs.declared.players.Slot.{Slot}
 use Rattle.rx_players.specs.declared.players.Slot.TheVariants.{Here}
-use Rattle.rx_players.specs.declared.along.Along.{Along}
 use Rattle.rx_players.specs.declared.seat.Seat.{Seat}
-use Rattle.rx_players.specs.declared.seat.Stop.{Stop}
-use Rattle.rx_players.specs.Along.{KeepsAlong}
 use Rattle.rx_players.specs.Events.{IsFirst}
 use Rattle.rx_players.specs.Marked.{MarksUsed}
-use Rattle.rx_players.specs.Stood.{Stood, Stops, Walked}
+use Rattle.rx_players.specs.Stood.{Stood}
+use Rattle.rx_players.specs.Inside.Steps.{AfterWalk}
 use Rattle.rx_players.proofs.MarksWalk.{sits, numbered, onward, walked}
 use Rattle.rx_players.proofs.players.Players.walk.Goals as goal
 
 -- the seat that was found
 found : (slots : List Slot) (t : ℕ) (x : Slot) (seat was : Box Seat) → x ≡ get_or slots t x → x ≡ Here seat → slice_get slots t ≡ Some (Here was) → slice_get slots t ≡ Some (Here seat)
 found slots t x seat was value is at = slice_get_read slots (length slots) t x refl (slice_get_within slots t (Here was) at) value ∙ ap (λ (s : Slot). Some s) is
-
--- the walk of the seat in the box
-abbrev OfBox : Shape → List (List PlaceEvent) → Seat → Seat → Along → Along → Player → Cells → Stop → Type 0
-OfBox shape js old new was along z left stop =
-    (y : Player) × (rest : Cells) × Walked shape js old new z left y rest × Stops stop new y rest × KeepsAlong was along z y
 
 pub advance-requires : goal.advance-requires
 advance-requires c =
@@ -36,7 +26,7 @@ advance-requires c =
     let at = found c.args.self.now.slots.items c.args.t c.index_mut.result.now c.in-Here.seat q.4 c.index_mut.ensures.value c.in-Here.is q.7 in
     let s = sits c.args.p.now.script q.0 q.1 q.2 (events_of c.args.journals.now) q.3 c.args.self.now q.6 c.args.t c.in-Here.seat at in
     let few = numbered c.args.p.now.script q.0 q.1 q.2 (events_of c.args.journals.now) q.3 c.args.self.now q.6 c.args.t c.in-Here.seat at in
-    let within = subst (λ (v : Seat). v.task.0 < suc (length q.2)) (sym e) few in
+    let within = subst (λ (v : Seat). v.who.task.0 < suc (length q.2)) (sym e) few in
     let stood = subst (λ (v : Seat). Stood c.args.p.now.script (events_of c.args.journals.now) v s.player s.left) (sym e) s.is.stood in
     (suc (length q.2), q.6.table, within, s.player, s.left, stood)
 
@@ -51,17 +41,17 @@ mark_used-requires c =
     let at = found c.args.self.now.slots.items c.args.t c.index_mut.result.now seat q.4 c.index_mut.ensures.value c.in-Here.is q.7 in
     let s = sits shape q.0 q.1 q.2 js q.3 c.args.self.now q.6 c.args.t seat at in
     let few = numbered shape q.0 q.1 q.2 js q.3 c.args.self.now q.6 c.args.t seat at in
-    let within = subst (λ (v : Seat). v.task.0 < suc (length q.2)) (sym e) few in
+    let within = subst (λ (v : Seat). v.who.task.0 < suc (length q.2)) (sym e) few in
     let stood = subst (λ (v : Seat). Stood shape js v s.player s.left) (sym e) s.is.stood in
-    let w : OfBox shape js seat.value new.value c.args.along.now c.advance.new.along s.player s.left c.in_ok-stop.stop =
-    subst (λ (v : Seat). OfBox shape js v new.value c.args.along.now c.advance.new.along s.player s.left c.in_ok-stop.stop) e (c.in_ok-stop.ensures (suc (length q.2)) q.6.table within s.player s.left stood) in
-    let begins : IsFirst new.value.task.0 (journal_at js new.value.home.0) seat.value.position seat.value.position =
-    subst (λ (n : TaskId). IsFirst n.0 (journal_at js new.value.home.0) seat.value.position seat.value.position) (sym w.2.task)
-    (subst (λ (h : PlaceId). IsFirst seat.value.task.0 (journal_at js h.0) seat.value.position seat.value.position) (sym w.2.home) s.is.stood.first) in
+    let w : AfterWalk shape js seat.value new.value c.args.along.now c.advance.new.along s.player s.left c.in_ok-stop.stop =
+    subst (λ (v : Seat). AfterWalk shape js v new.value c.args.along.now c.advance.new.along s.player s.left c.in_ok-stop.stop) e (c.in_ok-stop.ensures (suc (length q.2)) q.6.table within s.player s.left stood) in
+    let begins : IsFirst new.value.who.task.0 (journal_at js new.value.home.0) seat.value.position seat.value.position =
+    subst (λ (n : Caller). IsFirst n.task.0 (journal_at js new.value.home.0) seat.value.position seat.value.position) (sym w.2.who)
+    (subst (λ (h : PlaceId). IsFirst seat.value.who.task.0 (journal_at js h.0) seat.value.position seat.value.position) (sym w.2.home) s.is.stood.first) in
     record {
       shape = q.6.marks.shape;
-      table = (suc (length q.2), q.6.table, subst (λ (n : TaskId). n.0 < suc (length q.2)) (sym w.2.task) few);
-      begins = subst (λ (v : Seat). IsFirst new.value.task.0 (journal_at js new.value.home.0) v.position v.position) (sym e) begins;
+      table = (suc (length q.2), q.6.table, subst (λ (n : Caller). n.task.0 < suc (length q.2)) (sym w.2.who) few);
+      begins = subst (λ (v : Seat). IsFirst new.value.who.task.0 (journal_at js new.value.home.0) v.position v.position) (sym e) begins;
       ends = w.2.stood.first;
       onward = subst (λ (v : Seat). v.position ≤ new.value.position) (sym e) (onward shape q.0 q.1 q.2 js q.3 c.args.t seat new s.player w.0 s.left w.1 s.is w.2);
     }
@@ -77,9 +67,9 @@ returns c = λ code U es i script before next.
     let at = found c.args.self.now.slots.items c.args.t c.index_mut.result.now seat q.4 c.index_mut.ensures.value c.in-Here.is q.7 in
     let s = sits shape code U es js i c.args.self.now before c.args.t seat at in
     let few = numbered shape code U es js i c.args.self.now before c.args.t seat at in
-    let within = subst (λ (v : Seat). v.task.0 < suc (length es)) (sym e) few in
+    let within = subst (λ (v : Seat). v.who.task.0 < suc (length es)) (sym e) few in
     let stood = subst (λ (v : Seat). Stood shape js v s.player s.left) (sym e) s.is.stood in
-    let w : OfBox shape js seat.value new.value c.args.along.now c.advance.new.along s.player s.left c.in_ok-stop.stop =
-    subst (λ (v : Seat). OfBox shape js v new.value c.args.along.now c.advance.new.along s.player s.left c.in_ok-stop.stop) e (c.in_ok-stop.ensures (suc (length es)) before.table within s.player s.left stood) in
-    let used = subst (λ (v : Seat). MarksUsed js c.args.self.now.marks c.mark_used.new.marks new.value.home.0 new.value.task.0 v.position new.value.position new.value.low c.args.last) e c.mark_used.ensures in
-    walked shape code U es js i c.args.self.now _ before c.args.t seat new c.args.last at c.seats_tell.ensures c.seats_walk.ensures w.0 w.1 w.2 refl refl used next c.in_ok-stop.stop c.args.along.now c.advance.new.along w.3 w.4
+    let w : AfterWalk shape js seat.value new.value c.args.along.now c.advance.new.along s.player s.left c.in_ok-stop.stop =
+    subst (λ (v : Seat). AfterWalk shape js v new.value c.args.along.now c.advance.new.along s.player s.left c.in_ok-stop.stop) e (c.in_ok-stop.ensures (suc (length es)) before.table within s.player s.left stood) in
+    let used = subst (λ (v : Seat). MarksUsed js c.args.self.now.marks c.mark_used.new.marks new.value.home.0 new.value.who.task.0 v.position new.value.position new.value.low c.args.last) e c.mark_used.ensures in
+    walked shape code U es js i c.args.self.now _ before c.args.t seat new c.args.last at c.seats_tell.ensures c.seats_walk.ensures w.0 w.1 w.2 refl refl refl used next c.in_ok-stop.stop c.args.along.now c.advance.new.along w.3 w.4

@@ -1,5 +1,5 @@
 use Rattle.std.proofs.Common.{◌≡◌, ℕ, ◌<◌, ◌≤◌, ◌+◌, Option, subst, sym, arith}
-use Rattle.rx_base.specs.declared.ids.TaskId.{TaskId}
+use Rattle.rx_finish.specs.declared.ledger.Caller.{Caller}
 use Rattle.rx_runs.specs.Steps.{steps}
 use Rattle.rx_history.specs.Events.{events_of}
 use Rattle.rx_players.specs.declared.seat.Seat.{Seat}
@@ -9,8 +9,8 @@ use Rattle.rx_players.proofs.Walking.{no_walk, walked_twice}
 use Rattle.rx_players.proofs.seat.Seat.advance.Goals as goal
 
 -- a walk is of one task
-same_task : (old new : Seat) (tasks : ℕ) → new.task ≡ old.task → old.task.0 < tasks → new.task.0 < tasks
-same_task old new tasks same lt = subst (λ (t : TaskId). t.0 < tasks) (sym same) lt
+same_task : (old new : Seat) (tasks : ℕ) → new.who ≡ old.who → old.who.task.0 < tasks → new.who.task.0 < tasks
+same_task old new tasks same lt = subst (λ (w : Caller). w.task.0 < tasks) (sym same) lt
 
 pub loop-made-init : goal.loop-made-init
 loop-made-init c = λ tasks is lt z left s.
@@ -21,7 +21,7 @@ pub step-requires : goal.step-requires
 step-requires c =
     let q = c.requires in
     let r = c.loop-made.invariant q.0 q.1 q.2 q.3 q.4 q.5 in
-    (q.0, q.1, same_task c.args.self.now c.loop-made.self q.0 r.2.task q.2, r.0, r.1, r.2.stood)
+    (q.0, q.1, same_task c.args.self.now c.loop-made.self q.0 r.2.who q.2, r.0, r.1, r.2.stood)
 
 pub unreachable-requires : goal.unreachable-requires
 unreachable-requires c =
@@ -32,13 +32,13 @@ unreachable-requires c =
 pub returns-in-Some : goal.returns-in-Some
 returns-in-Some c = λ tasks is lt z left s.
     let r = c.loop-made.invariant tasks is lt z left s in
-    let on = subst (λ (o : Option Stop). AfterStep c.args.p.now.script (events_of c.args.journals.now) c.loop-made.self c.step.new.self c.loop-made.along c.step.new.along r.0 r.1 o) c.in-Some.is (c.in_ok-stop.ensures tasks is (same_task c.args.self.now c.loop-made.self tasks r.2.task lt) r.0 r.1 r.2.stood) in
+    let on = subst (λ (o : Option Stop). AfterStep c.args.p.now.script (events_of c.args.journals.now) c.loop-made.self c.step.new.self c.loop-made.along c.step.new.along r.0 r.1 o) c.in-Some.is (c.in_ok-stop.ensures tasks is (same_task c.args.self.now c.loop-made.self tasks r.2.who lt) r.0 r.1 r.2.stood) in
     (r.0, r.1, walked_twice c.args.p.now.script (events_of c.args.journals.now) c.args.self.now c.loop-made.self c.step.new.self z r.0 r.0 left r.1 r.1 r.2 on.0, on.1, λ batch g. on.2 batch (r.4 batch g))
 
 pub loop-made-preserved : goal.loop-made-preserved
 loop-made-preserved c = λ tasks is lt z left s.
     let r = c.loop-made.invariant tasks is lt z left s in
-    let on = subst (λ (o : Option Stop). AfterStep c.args.p.now.script (events_of c.args.journals.now) c.loop-made.self c.step.new.self c.loop-made.along c.step.new.along r.0 r.1 o) c.in-None.is (c.in_ok-stop.ensures tasks is (same_task c.args.self.now c.loop-made.self tasks r.2.task lt) r.0 r.1 r.2.stood) in
+    let on = subst (λ (o : Option Stop). AfterStep c.args.p.now.script (events_of c.args.journals.now) c.loop-made.self c.step.new.self c.loop-made.along c.step.new.along r.0 r.1 o) c.in-None.is (c.in_ok-stop.ensures tasks is (same_task c.args.self.now c.loop-made.self tasks r.2.who lt) r.0 r.1 r.2.stood) in
     let was : steps r.0.term + c.loop-made._made ≤ 300000 = r.3 in
     let less : steps on.0.term + 1 ≤ steps r.0.term = on.3 in
     (on.0, on.1, walked_twice c.args.p.now.script (events_of c.args.journals.now) c.args.self.now c.loop-made.self c.step.new.self z r.0 on.0 left r.1 on.1 r.2 on.2, omega (arith, was, less), λ batch g. on.4 batch (r.4 batch g))

@@ -21,7 +21,7 @@ pub returns-then-len-at : goal.returns-then-len-at
 returns-then-len-at c = λ tasks is lt z left s e.
     let seat = c.args.self.now in
     let over : length c.item-journal.result.now.events ≤ seat.position = search rules in
-    let none = none_past seat.task.0 c.item-journal.result.now.events seat.position over in (
+    let none = none_past seat.who.task.0 c.item-journal.result.now.events seat.position over in (
       no_walk c.args.p.now.script (events_of c.args.journals.now) seat z left s,
       none_halts seat.home z left (left_is c.args.p.now.script c.args.journals.now seat z left [] c.item-journal.result.now s c.item-journal.ensures none),
       λ batch g. g,
@@ -36,7 +36,7 @@ unreachable-requires c =
     let within : seat.position < length journal.events = search rules in
     let mine = is_here c.args.p.now.script c.args.journals.now seat r.3 r.4 journal r.5 c.item-journal.ensures within in
     let same = journal_here c.args.journals.now.journals seat.home.0 journal c.item-journal.ensures in
-    no_task_there (journal_at js seat.home.0) seat.position seat.task.0 c.in-Close.stamp c.item.result.now
+    no_task_there (journal_at js seat.home.0) seat.position seat.who.task.0 c.in-Close.stamp c.item.result.now
     (ap (λ (l : List PlaceEvent). slice_get l seat.position) same ∙ c.item.ensures) c.in-Close.is mine
 
 pub returns-then-not-answers : goal.returns-then-not-answers
@@ -73,8 +73,8 @@ returns c = λ tasks is lt z left s e.
     let done = c.in_ok-cell_done-in-Done.ensures.ok z.term call.begins.0 s.term call.begins.1 in
     let within : seat.position < length journal.events = search rules in
     let mine = is_here shape c.args.journals.now seat z left journal s c.item-journal.ensures within in
-    let next = c.after-self.ensures js tasks seat.task.0 mine.0 mine.1 mine.2 is lt mine.3 in
+    let next = c.after-self.ensures js tasks seat.who.task.0 mine.0 mine.1 mine.2 is lt mine.3 in
     walked_store shape js seat _ c.args.along.now _ z left _ c.args.op call.begins.0 c.in-Done.path c.in-Done.stamp c.in-Done.cell c.told.result c.terms_sink.ensures s e call.begins.1 event
     begun c.told.ensures done.0 done.1
     c.tell.ensures refl refl refl next.same
-    (first_again seat.task.0 (journal_at js seat.home.0) (suc seat.position) c.after-self.result next)
+    (first_again seat.who.task.0 (journal_at js seat.home.0) (suc seat.position) c.after-self.result next)

@@ -17,7 +17,7 @@ returns c = λ js z left s a.
     let old = c.args.self.now in
     let d = ap (λ (v : Vars). does v old.home.0 z.term) s.vars in
     let next : c.args.number + 1 ≡ suc c.args.number = omega arith in
-    request_made c.args.p.now.script js old _ c.args.number z left c.args.act.now s a
+    request_made c.args.p.now.script js c.args.parents.now old _ c.args.number z left c.args.act.now s a
     (subst (λ (b : Bool). AfterAct c.args.p.now.script old.control c.answer.new.control old.home z.term c.args.act.now b) c.if-not-branch.false
     (c.in_ok-answer.ensures z.term old.home s.term (subst (λ (v : Does). IsAsked old.home v c.args.act.now) (sym d) a)))
-    refl refl refl next
+    c.who_after-self.ensures refl refl next

@@ -1,4 +1,0 @@
--- What contracts of private functions say; a reader of the public contracts needs none of it.
-pub mod Grants
-pub mod Notes
-pub mod Askers

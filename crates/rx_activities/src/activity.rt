@@ -7,10 +7,10 @@ use crate::hand::{Hand, Journey, spend};
 use crate::naming::{LedgerPass, Naming};
 use crate::turn::make_turn;
 use rx_base::PlaceId;
-use rx_book::{Book, Pass};
+use rx_book::Pass;
 use rx_check::{Program, checked};
 use rx_control::Control;
-use rx_objects::{LedgerObject, PlaceObject, Surroundings};
+use rx_objects::{LedgerBook, PlaceBook};
 use rx_parts_book::{EntryItem, EventItem};
 use rx_ticket::{AnyTicket, Live, Ticket};
 use std::alloc::Global;
@@ -143,8 +143,8 @@ impl<N: Naming> Activity<N> {
 
     /// Whether the history has grown by more than an entry since right before its last request, where it goes on behind one: then others
     /// make requests too, and it may have waited for them. One load.
-    pub fn has_met_others(&mut self, ledger: &Book<LedgerObject>) -> bool
-        requires { ledger.now ≡ N.ledger }
+    pub fn has_met_others<L: LedgerBook>(&mut self, ledger: &L) -> bool
+        requires { L.name ledger.now ≡ N.ledger }
         ensures { self.new ≡ self.old }
     {
         let Some(asked) = self.asked else {
@@ -158,17 +158,17 @@ impl<N: Naming> Activity<N> {
 
     /// Makes the local steps up to the next call of a book, and that call: of the place's book or of the ledger's. An activity that
     /// waits asks the ledger again only where the history may have grown.
-    pub fn turn<S: Surroundings, R: Wait>(
+    pub fn turn<L: LedgerBook, P: PlaceBook, R: Wait>(
         self,
         rt: &R,
         alloc: Global,
         p: &Program,
-        ledger: &Book<LedgerObject>,
-        place_book: &Book<PlaceObject<S>>,
+        ledger: &L,
+        place_book: &P,
     ) -> Turn<N>
-        requires ledger { ledger.now ≡ N.ledger }
-        requires program { ledger.now.fixed.program ≡ p.now }
-        requires place { PlaceIs N.ledger self place_book.now }
+        requires ledger { L.name ledger.now ≡ N.ledger }
+        requires program { (L.name ledger.now).fixed.program ≡ p.now }
+        requires place { PlaceIs N.ledger self (P.name place_book.now) }
     {
         let Activity {
             hand,

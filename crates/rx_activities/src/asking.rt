@@ -17,14 +17,12 @@ use crate::hand::Hand;
 use crate::naming::Naming;
 use crate::replies::{Answer, Child};
 use rx_base::{Batch, NoMemory, PlaceId};
-use rx_book::{Book, Note, Pass};
+use rx_book::{Note, Pass};
 use rx_check::{Program, checked};
 use rx_control::{Control, Next, Want};
 use rx_history::Ask;
 use rx_ledger::{Reply, Request};
-use rx_objects::{
-    LedgerObject, LedgerOp, LedgerReply, Mentions, PlaceObject, Surroundings, ledger_op_fits,
-};
+use rx_objects::{LedgerBook, LedgerOp, LedgerReply, Mentions, PlaceBook, ledger_op_fits};
 use rx_parts_book::{EntryItem, EventItem};
 use rx_ticket::AnyTicket;
 use std::alloc::Global;
@@ -69,11 +67,11 @@ fn target_of(next: Next) -> Option<PlaceId>
 
 // What a task holds that is to be started, where the step starts one: a pass of the ledger's book, and one of the place's book
 // where it begins there.
-fn child_of<S: Surroundings>(
+fn child_of<L: LedgerBook, P: PlaceBook>(
     alloc: Global,
     p: &Program,
-    ledger: &Book<LedgerObject>,
-    place_book: &Book<PlaceObject<S>>,
+    ledger: &L,
+    place_book: &P,
     control: &Control,
     here: PlaceId,
     next: Next,
@@ -82,8 +80,8 @@ fn child_of<S: Surroundings>(
 ) -> Result<Option<Child>, NoMemory>
     requires stands { (t : Term) × StandsFor p.now.script control.now t }
     requires next { (t : Term) → StandsFor p.now.script control.now t → next ≡ next_of (does control.now.vars here.0 t) }
-    requires pass { word_of pass.old ≡ ledger.now.word }
-    requires seat { word_of seat.old ≡ place_book.now.word }
+    requires pass { word_of pass.old ≡ (L.name ledger.now).word }
+    requires seat { word_of seat.old ≡ (P.name place_book.now).word }
     ensures pass { PassIsLeft pass.old pass.new }
     ensures seat { SeatIsLeft seat.old seat.new }
     ensures child { IfOk result (ChildIs p.now.script control.now here next pass.old seat.old) }
@@ -107,12 +105,12 @@ fn child_of<S: Surroundings>(
 }
 
 // A note of the place's book, where events were made.
-fn note_for<S: Surroundings>(
-    place_book: &Book<PlaceObject<S>>,
+fn note_for<P: PlaceBook>(
+    place_book: &P,
     seat: &mut Pass<EventItem>,
     made: bool,
 ) -> Option<Note<EventItem>>
-    requires { word_of seat.old ≡ place_book.now.word }
+    requires { word_of seat.old ≡ (P.name place_book.now).word }
     ensures same { (word_of seat.new ≡ word_of seat.old) × (view_of seat.new ≡ view_of seat.old) }
     ensures note { MatchBool made (IfSome result (NoteIs seat.old) × (result ≢ None)) (result ≡ None) }
 {
@@ -154,18 +152,18 @@ fn mentions_of(
 }
 
 /// Asks the ledger, and gives its answer.
-pub(crate) fn ask<R: Wait>(
+pub(crate) fn ask<L: LedgerBook, R: Wait>(
     rt: &R,
     p: &Program,
-    ledger: &Book<LedgerObject>,
+    ledger: &L,
     pass: &mut Pass<EntryItem>,
     op: LedgerOp,
 ) -> Reply
-    requires program { ledger.now.fixed.program ≡ p.now }
-    requires own { word_of pass.old ≡ ledger.now.word }
-    requires asks { (code : Block) → Stands p.now.script code → AsksLedger code ledger.now.fixed (view_of pass.old) op }
+    requires program { (L.name ledger.now).fixed.program ≡ p.now }
+    requires own { word_of pass.old ≡ (L.name ledger.now).word }
+    requires asks { (code : Block) → Stands p.now.script code → AsksLedger code (L.name ledger.now).fixed (view_of pass.old) op }
     ensures own { word_of pass.new ≡ word_of pass.old }
-    ensures replied { IsReplied ledger.now.fixed (view_of pass.old) op result (view_of pass.new) }
+    ensures replied { IsReplied (L.name ledger.now).fixed (view_of pass.old) op result (view_of pass.new) }
 {
     checked(p);
     ledger_op_fits();
@@ -180,22 +178,22 @@ pub(crate) fn ask<R: Wait>(
 
 impl Hand {
     /// Asks the ledger for what is next, and goes on by its answer.
-    pub(crate) fn call_ledger<N: Naming, S: Surroundings, R: Wait>(
+    pub(crate) fn call_ledger<N: Naming, L: LedgerBook, P: PlaceBook, R: Wait>(
         &mut self,
         rt: &R,
         alloc: Global,
         p: &Program,
-        ledger: &Book<LedgerObject>,
-        place_book: &Book<PlaceObject<S>>,
+        ledger: &L,
+        place_book: &P,
         next: Next,
     ) -> Answer<N>
-        requires ledger { ledger.now ≡ N.ledger }
-        requires program { ledger.now.fixed.program ≡ p.now }
-        requires place { PlaceIs ledger.now self.old.place place_book.now }
-        requires known { Knows ledger.now self.old }
+        requires ledger { L.name ledger.now ≡ N.ledger }
+        requires program { (L.name ledger.now).fixed.program ≡ p.now }
+        requires place { PlaceIs (L.name ledger.now) self.old.place (P.name place_book.now) }
+        requires known { Knows (L.name ledger.now) self.old }
         requires next { IsNext p.now self.old next }
         requires calls { IsCall next }
-        ensures { LeavesHand ledger.now self.new result }
+        ensures { LeavesHand (L.name ledger.now) self.new result }
     {
         checked(p);
         let standing = self.control.as_ref();

@@ -8,12 +8,12 @@ use crate::asking::ask;
 use crate::hand::{Hand, Journey};
 use crate::naming::{LedgerPass, Naming};
 use rx_base::{Batch, PlaceId};
-use rx_book::{Book, Pass};
+use rx_book::Pass;
 use rx_check::Program;
 use rx_finish::place_of;
 use rx_history::Ask;
 use rx_ledger::{Reply, Request};
-use rx_objects::{LedgerObject, LedgerOp, Mentions};
+use rx_objects::{LedgerBook, LedgerOp, Mentions};
 use rx_parts_book::{EntryItem, EventItem};
 use rx_rules::Where;
 use rx_ticket::{AnyTicket, InTransit, Ticket};
@@ -45,16 +45,16 @@ impl<N: Naming> Traveller<N> {
     }
 
     /// Makes it arrive, with a new pass of its place's book: it asks the ledger, by which the task is live.
-    pub fn land<R: Wait>(
+    pub fn land<L: LedgerBook, R: Wait>(
         self,
         rt: &R,
         alloc: Global,
         p: &Program,
-        ledger: &Book<LedgerObject>,
+        ledger: &L,
         seat: Pass<EventItem>,
     ) -> Arrival<N>
-        requires ledger { ledger.now ≡ N.ledger }
-        requires program { ledger.now.fixed.program ≡ p.now }
+        requires ledger { L.name ledger.now ≡ N.ledger }
+        requires program { (L.name ledger.now).fixed.program ≡ p.now }
         requires seat { IsNewSeat N.ledger self seat }
     {
         let place = self.target();

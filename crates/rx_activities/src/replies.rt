@@ -9,11 +9,11 @@ use crate::activity::{Began, activity_with, traveller_of};
 use crate::hand::{Hand, Journey, spend};
 use crate::naming::Naming;
 use rx_base::{Batch, Faults, NoMemory, PlaceId};
-use rx_book::{Book, Pass};
+use rx_book::Pass;
 use rx_check::{Program, checked};
 use rx_control::{Control, faults_raised};
 use rx_ledger::{Reply, Request};
-use rx_objects::LedgerObject;
+use rx_objects::LedgerBook;
 use rx_parts_book::{EntryItem, EventItem};
 use rx_ticket::AnyTicket;
 use std::alloc::Global;
@@ -59,20 +59,20 @@ impl Hand {
     }
 
     // Goes on behind a granted request, which raises these faults, with the ticket of the task that it started.
-    fn go_on<N: Naming>(
+    fn go_on<N: Naming, L: LedgerBook>(
         &mut self,
         alloc: Global,
         p: &Program,
-        ledger: &Book<LedgerObject>,
+        ledger: &L,
         ticket: AnyTicket,
         faults: Faults,
         started: Option<AnyTicket>,
         child: Option<Child>,
     ) -> Answer<N>
-        requires ledger { ledger.now ≡ N.ledger }
-        requires program { ledger.now.fixed.program ≡ p.now }
-        requires granted { WasGranted p.now.script ledger.now self.old ticket faults started child }
-        ensures { LeavesHand ledger.now self.new result }
+        requires ledger { L.name ledger.now ≡ N.ledger }
+        requires program { (L.name ledger.now).fixed.program ≡ p.now }
+        requires granted { WasGranted p.now.script (L.name ledger.now) self.old ticket faults started child }
+        ensures { LeavesHand (L.name ledger.now) self.new result }
     {
         if self.control.as_mut().resume(p, faults).is_err() {
             spend(ticket);
@@ -88,17 +88,17 @@ impl Hand {
     }
 
     // Goes on behind a census.
-    fn count<N: Naming>(
+    fn count<N: Naming, L: LedgerBook>(
         &mut self,
         alloc: Global,
         p: &Program,
-        ledger: &Book<LedgerObject>,
+        ledger: &L,
         ticket: AnyTicket,
         places: u8,
     ) -> Answer<N>
-        requires program { ledger.now.fixed.program ≡ p.now }
-        requires counted { WasCounted p.now.script ledger.now self.old ticket places }
-        ensures { LeavesHand ledger.now self.new result }
+        requires program { (L.name ledger.now).fixed.program ≡ p.now }
+        requires counted { WasCounted p.now.script (L.name ledger.now) self.old ticket places }
+        ensures { LeavesHand (L.name ledger.now) self.new result }
     {
         let _ = ledger;
         if self.control.as_mut().census_done(p, places).is_err() {
@@ -110,18 +110,18 @@ impl Hand {
     }
 
     /// Goes on by the ledger's answer.
-    pub(crate) fn take<N: Naming>(
+    pub(crate) fn take<N: Naming, L: LedgerBook>(
         &mut self,
         alloc: Global,
         p: &Program,
-        ledger: &Book<LedgerObject>,
+        ledger: &L,
         reply: Reply,
         child: Option<Child>,
     ) -> Answer<N>
-        requires ledger { ledger.now ≡ N.ledger }
-        requires program { ledger.now.fixed.program ≡ p.now }
-        requires sent { WasSent p.now.script ledger.now self.old reply child }
-        ensures { LeavesHand ledger.now self.new result }
+        requires ledger { L.name ledger.now ≡ N.ledger }
+        requires program { (L.name ledger.now).fixed.program ≡ p.now }
+        requires sent { WasSent p.now.script (L.name ledger.now) self.old reply child }
+        ensures { LeavesHand (L.name ledger.now) self.new result }
     {
         checked(p);
         let none = Faults::open(alloc);
@@ -213,17 +213,17 @@ impl Hand {
 }
 
 // The task that was started, where it is not born struck. Its pass of the ledger's book sees what its starter's has seen.
-fn start<N: Naming>(
+fn start<N: Naming, L: LedgerBook>(
     alloc: Global,
-    ledger: &Book<LedgerObject>,
+    ledger: &L,
     place: PlaceId,
     pass: &mut Pass<EntryItem>,
     ticket: Option<AnyTicket>,
     child: Option<Child>,
 ) -> Result<Option<Began<N>>, NoMemory>
-    requires ledger { ledger.now ≡ N.ledger }
-    requires pass { word_of pass.old ≡ ledger.now.word }
-    requires child { IsStarted ledger.now place pass.old ticket child }
+    requires ledger { L.name ledger.now ≡ N.ledger }
+    requires pass { word_of pass.old ≡ (L.name ledger.now).word }
+    requires child { IsStarted (L.name ledger.now) place pass.old ticket child }
     ensures { (word_of pass.new ≡ word_of pass.old) × (view_of pass.new ≡ view_of pass.old) }
 {
     match (ticket, child) {

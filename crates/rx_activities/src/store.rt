@@ -16,11 +16,11 @@ use crate::activity::{Turn, activity_with, failed};
 use crate::hand::Hand;
 use crate::naming::{LedgerPass, Naming};
 use rx_base::{Batch, Fault, NoMemory, Path, PlaceId, Value};
-use rx_book::{Book, Pass};
+use rx_book::Pass;
 use rx_check::{Program, checked};
 use rx_control::{CellOp, Control};
 use rx_finish::Caller;
-use rx_objects::{LedgerObject, PlaceObject, PlaceOp, PlaceReply, Surroundings, place_op_fits};
+use rx_objects::{LedgerBook, PlaceBook, PlaceOp, PlaceReply, place_op_fits};
 use rx_parts_book::EntryItem;
 use rx_store::Mark;
 use rx_ticket::AnyTicket;
@@ -29,8 +29,8 @@ use std::sync::Wait;
 
 // How many entries a store call may be stamped with: none where the history has the death of the place. The number is asked
 // first, so that a death which is not told has a number of at least it.
-fn stamp_for(ledger: &Book<LedgerObject>, pass: &mut Pass<EntryItem>, place: PlaceId) -> Option<u32>
-    requires own { word_of pass.old ≡ ledger.now.word }
+fn stamp_for<L: LedgerBook>(ledger: &L, pass: &mut Pass<EntryItem>, place: PlaceId) -> Option<u32>
+    requires own { word_of pass.old ≡ (L.name ledger.now).word }
     requires small { place.0 < 16 }
     ensures own { word_of pass.new ≡ word_of pass.old }
     ensures looked { Looked (view_of pass.old) (view_of pass.new) }
@@ -91,19 +91,19 @@ fn parts_of(reply: PlaceReply) -> (Pass<EntryItem>, Option<Result<Option<Value>,
 
 impl Hand {
     /// Makes the store call that is next. An activity whose place has died makes none, and is lost.
-    pub(crate) fn call_store<N: Naming, S: Surroundings, R: Wait>(
+    pub(crate) fn call_store<N: Naming, L: LedgerBook, P: PlaceBook, R: Wait>(
         self,
         rt: &R,
         alloc: Global,
         p: &Program,
-        ledger: &Book<LedgerObject>,
-        place_book: &Book<PlaceObject<S>>,
+        ledger: &L,
+        place_book: &P,
         op: CellOp,
     ) -> Turn<N>
-        requires ledger { ledger.now ≡ N.ledger }
-        requires program { ledger.now.fixed.program ≡ p.now }
-        requires place { PlaceIs ledger.now self.place place_book.now }
-        requires known { Knows ledger.now self }
+        requires ledger { L.name ledger.now ≡ N.ledger }
+        requires program { (L.name ledger.now).fixed.program ≡ p.now }
+        requires place { PlaceIs (L.name ledger.now) self.place (P.name place_book.now) }
+        requires known { Knows (L.name ledger.now) self }
         requires next { IsNext p.now self (Step.Cell op) }
     {
         checked(p);

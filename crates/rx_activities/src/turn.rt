@@ -10,18 +10,17 @@ use crate::activity::{Turn, activity_of, given_up};
 use crate::hand::Hand;
 use crate::naming::Naming;
 use crate::replies::Answer;
-use rx_book::Book;
 use rx_check::Program;
 use rx_control::Next;
-use rx_objects::{LedgerObject, PlaceObject, Surroundings};
+use rx_objects::{LedgerBook, PlaceBook};
 use std::alloc::Global;
 use std::sync::Wait;
 
 impl Hand {
     /// The number of entries of a beginning of the history, which its pass has seen afterwards.
-    pub(crate) fn look(&mut self, ledger: &Book<LedgerObject>) -> u32
-        requires { Knows ledger.now self.old }
-        ensures known { Knows ledger.now self.new }
+    pub(crate) fn look<L: LedgerBook>(&mut self, ledger: &L) -> u32
+        requires { Knows (L.name ledger.now) self.old }
+        ensures known { Knows (L.name ledger.now) self.new }
         ensures place { self.new.place ≡ self.old.place }
         ensures next { (p : Checked) (next : Step) → IsNext p self.old next → IsNext p self.new next }
     {
@@ -30,19 +29,19 @@ impl Hand {
 }
 
 /// Makes a turn, of an activity that asked in vain when it knew of so many entries.
-pub(crate) fn make_turn<N: Naming, S: Surroundings, R: Wait>(
+pub(crate) fn make_turn<N: Naming, L: LedgerBook, P: PlaceBook, R: Wait>(
     mut hand: Box<Hand>,
     polled: Option<u32>,
     rt: &R,
     alloc: Global,
     p: &Program,
-    ledger: &Book<LedgerObject>,
-    place_book: &Book<PlaceObject<S>>,
+    ledger: &L,
+    place_book: &P,
 ) -> Turn<N>
-    requires ledger { ledger.now ≡ N.ledger }
-    requires program { ledger.now.fixed.program ≡ p.now }
-    requires place { PlaceIs ledger.now hand.value.place place_book.now }
-    requires known { Knows ledger.now hand.value }
+    requires ledger { L.name ledger.now ≡ N.ledger }
+    requires program { (L.name ledger.now).fixed.program ≡ p.now }
+    requires place { PlaceIs (L.name ledger.now) hand.value.place (P.name place_book.now) }
+    requires known { Knows (L.name ledger.now) hand.value }
 {
     let seen = hand.look(ledger);
     if polled == Some(seen) {

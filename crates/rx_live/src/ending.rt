@@ -28,8 +28,8 @@ use rx_history::{Ask, History, Journal, Journals};
 use rx_ledger::{Keeper, Reply, Request};
 use rx_monitor::BoardWriter;
 use rx_objects::{
-    LedgerObject, LedgerOp, LedgerParts, LedgerReply, Mentions, Surroundings, host_is_told,
-    host_may_ask, ledger_op_fits,
+    LedgerBook, LedgerObject, LedgerOp, LedgerParts, LedgerReply, Mentions, PlaceBook,
+    host_is_told, host_may_ask, ledger_op_fits,
 };
 use rx_parts_book::{EntryItem, EventItem};
 use rx_stations::{Station, abandon_all};
@@ -50,21 +50,21 @@ pub(crate) enum Released {
 }
 
 /// The first step: the host asks for the root's release.
-pub(crate) fn release<R: Wait>(
+pub(crate) fn release<L: LedgerBook, R: Wait>(
     rt: &R,
     alloc: Global,
     p: &Program,
-    ledger: &Book<LedgerObject>,
+    ledger: &L,
     host: &mut Pass<EntryItem>,
     seat: &Pass<EventItem>,
 ) -> Released
-    requires program { ledger.now.fixed.program ≡ p.now }
-    requires own { word_of host.old ≡ ledger.now.word }
+    requires program { (L.name ledger.now).fixed.program ≡ p.now }
+    requires own { word_of host.old ≡ (L.name ledger.now).word }
     requires host { IsHost (view_of host.old) }
-    requires lawful { LedgerIsLegal ledger.now.fixed (view_of host.old).seen }
+    requires lawful { LedgerIsLegal (L.name ledger.now).fixed (view_of host.old).seen }
     ensures own { word_of host.new ≡ word_of host.old }
-    ensures lawful { LedgerIsLegal ledger.now.fixed (view_of host.new).seen }
-    ensures answered { IsAnswered ledger.now.fixed (view_of host.new) result }
+    ensures lawful { LedgerIsLegal (L.name ledger.now).fixed (view_of host.new).seen }
+    ensures answered { IsAnswered (L.name ledger.now).fixed (view_of host.new) result }
 {
     checked(p);
     ledger_op_fits();
@@ -120,8 +120,8 @@ fn let_go(ticket: Option<AnyTicket>) {
 }
 
 /// The second step: the host's pass of each place's book meets the notes of that place.
-pub(crate) fn meet_notes<N: Naming, S: Surroundings>(
-    stations: &Vec<Station<N, S>>,
+pub(crate) fn meet_notes<N: Naming, P: PlaceBook>(
+    stations: &Vec<Station<N, P>>,
     seats: &mut Vec<Pass<EventItem>>,
     notes: Vec<(PlaceId, Note<EventItem>)>,
 )
@@ -140,8 +140,8 @@ pub(crate) fn meet_notes<N: Naming, S: Surroundings>(
 }
 
 // The host's pass of the book of one place meets a note of that book.
-fn meet_at<N: Naming, S: Surroundings>(
-    stations: &Vec<Station<N, S>>,
+fn meet_at<N: Naming, P: PlaceBook>(
+    stations: &Vec<Station<N, P>>,
     seats: &mut Vec<Pass<EventItem>>,
     at: usize,
     note: Note<EventItem>,
@@ -157,17 +157,17 @@ fn meet_at<N: Naming, S: Surroundings>(
 
 /// The third and the fourth step: the books of the places are closed, and the host's pass of the ledger's book meets the note that each
 /// place kept. `None` means out of memory.
-pub(crate) fn close_places<N: Naming, S: Surroundings, R: Wait>(
+pub(crate) fn close_places<N: Naming, L: LedgerBook, P: PlaceBook, R: Wait>(
     rt: &R,
     alloc: Global,
     p: &Program,
-    ledger: &Book<LedgerObject>,
+    ledger: &L,
     host: &mut Pass<EntryItem>,
-    stations: Vec<Station<N, S>>,
+    stations: Vec<Station<N, P>>,
     seats: Vec<Pass<EventItem>>,
 ) -> Option<Vec<Store>>
-    requires ledger { ledger.now ≡ N.ledger }
-    requires program { ledger.now.fixed.program ≡ p.now }
+    requires ledger { L.name ledger.now ≡ N.ledger }
+    requires program { (L.name ledger.now).fixed.program ≡ p.now }
     requires host { SeesEnd N.ledger host.old }
     requires stations { AreFrom 0 stations.items }
     requires seats { SeatsFrom N.ledger 0 seats.items × (length seats.items ≡ length stations.items) }
@@ -186,7 +186,7 @@ pub(crate) fn close_places<N: Naming, S: Surroundings, R: Wait>(
             abandon_all(rt, stations);
             return None;
         };
-        hear::<N>(p, ledger, host, note);
+        hear::<N, L>(p, ledger, host, note);
         if stores.insert(0, store).is_err() {
             abandon_all(rt, stations);
             return None;
@@ -197,14 +197,14 @@ pub(crate) fn close_places<N: Naming, S: Surroundings, R: Wait>(
 }
 
 // The host's pass of the ledger's book meets a note of that book.
-fn hear<N: Naming>(
+fn hear<N: Naming, L: LedgerBook>(
     p: &Program,
-    ledger: &Book<LedgerObject>,
+    ledger: &L,
     host: &mut Pass<EntryItem>,
     note: Note<EntryItem>,
 )
-    requires ledger { ledger.now ≡ N.ledger }
-    requires program { ledger.now.fixed.program ≡ p.now }
+    requires ledger { L.name ledger.now ≡ N.ledger }
+    requires program { (L.name ledger.now).fixed.program ≡ p.now }
     requires host { SeesEnd N.ledger host.old }
     requires note { (note_word note ≡ N.ledger.word) × LedgerIsLegal N.ledger.fixed (note_view note).seen }
     ensures host { SeesEnd N.ledger host.new × StaysAt host.old host.new }
@@ -216,14 +216,14 @@ fn hear<N: Naming>(
 }
 
 /// The fifth step: the host's pass of the ledger's book meets what the workers gave back.
-pub(crate) fn meet_workers<N: Naming>(
+pub(crate) fn meet_workers<N: Naming, L: LedgerBook>(
     p: &Program,
-    ledger: &Book<LedgerObject>,
+    ledger: &L,
     host: &mut Pass<EntryItem>,
     kept: Vec<Option<LedgerPass<N>>>,
 )
-    requires ledger { ledger.now ≡ N.ledger }
-    requires program { ledger.now.fixed.program ≡ p.now }
+    requires ledger { L.name ledger.now ≡ N.ledger }
+    requires program { (L.name ledger.now).fixed.program ≡ p.now }
     requires host { SeesEnd N.ledger host.old }
     ensures { SeesEnd N.ledger host.new × StaysAt host.old host.new × All (HasSeen host.new) kept.items }
 {
@@ -234,19 +234,19 @@ pub(crate) fn meet_workers<N: Naming>(
 }
 
 /// The same of one of them.
-pub(crate) fn meet_worker<N: Naming>(
+pub(crate) fn meet_worker<N: Naming, L: LedgerBook>(
     p: &Program,
-    ledger: &Book<LedgerObject>,
+    ledger: &L,
     host: &mut Pass<EntryItem>,
     kept: Option<LedgerPass<N>>,
 )
-    requires ledger { ledger.now ≡ N.ledger }
-    requires program { ledger.now.fixed.program ≡ p.now }
+    requires ledger { L.name ledger.now ≡ N.ledger }
+    requires program { (L.name ledger.now).fixed.program ≡ p.now }
     requires host { SeesEnd N.ledger host.old }
     ensures { SeesEnd N.ledger host.new × StaysAt host.old host.new × HasSeen host.new kept }
 {
     match kept {
-        Some(pass) => hear::<N>(p, ledger, host, pass.into_pass().into_note()),
+        Some(pass) => hear::<N, L>(p, ledger, host, pass.into_pass().into_note()),
         None => {}
     }
 }

@@ -31,7 +31,7 @@ use rx_counts::CountLedger;
 use rx_finish::FinishLedger;
 use rx_history::{History, Journals, Setup};
 use rx_monitor::BoardWriter;
-use rx_objects::{LedgerObject, Surroundings};
+use rx_objects::{LedgerBook, LedgerObject, PlaceBook};
 use rx_parts_book::{EntryItem, EventItem};
 use rx_stations::{Hall, Worker, work};
 use rx_store::Store;
@@ -238,13 +238,14 @@ fn run_named<'a, N: Naming + Send + Sync, G: Gate + Sync, R: Threads + Wait + Sy
 fn run_all<
     'a,
     N: Naming + Send + Sync,
-    S: Surroundings + Send,
+    L: LedgerBook + Sync,
+    P: PlaceBook + Sync,
     G: Gate + Sync,
     R: Threads + Wait + Sync,
 >(
     rt: &R,
     alloc: Global,
-    hall: Hall<'a, N, S>,
+    hall: Hall<'a, N, L, P>,
     gate: &G,
     workers: u32,
     host: &mut Pass<EntryItem>,
@@ -252,7 +253,7 @@ fn run_all<
     looker: Option<Looker>,
 ) -> Option<Ends>
     requires workers { workers ≤ 8 }
-    requires hall { IsHall N.ledger hall.ledger.now hall.program.now hall.stations.items }
+    requires hall { IsHall N.ledger (L.name hall.ledger.now) hall.program.now hall.stations.items }
     requires some { 0 < length hall.stations.items }
     requires seats { SeatsFrom N.ledger 0 seats.items × (length seats.items ≡ length hall.stations.items) }
     requires all { length hall.stations.items ≡ in_all (given N.ledger.fixed.setup) }
@@ -276,16 +277,16 @@ fn run_all<
 }
 
 // The run from the root's release to the closing of the places' books.
-fn end_all<'a, N: Naming, S: Surroundings, R: Wait>(
+fn end_all<'a, N: Naming, L: LedgerBook, P: PlaceBook, R: Wait>(
     rt: &R,
     alloc: Global,
-    hall: Hall<'a, N, S>,
+    hall: Hall<'a, N, L, P>,
     host: &mut Pass<EntryItem>,
     seats: Vec<Pass<EventItem>>,
     kept: Vec<Option<LedgerPass<N>>>,
     ended: Ended<N>,
 ) -> Option<Vec<Store>>
-    requires hall { IsHall N.ledger hall.ledger.now hall.program.now hall.stations.items }
+    requires hall { IsHall N.ledger (L.name hall.ledger.now) hall.program.now hall.stations.items }
     requires seats { SeatsFrom N.ledger 0 seats.items × (length seats.items ≡ length hall.stations.items) }
     requires all { length hall.stations.items ≡ in_all (given N.ledger.fixed.setup) }
     requires host { SeesEnd N.ledger host.old }
@@ -311,18 +312,19 @@ fn end_all<'a, N: Naming, S: Surroundings, R: Wait>(
 pub(crate) fn spread<
     'a,
     N: Naming + Send + Sync,
-    S: Surroundings + Send,
+    L: LedgerBook + Sync,
+    P: PlaceBook + Sync,
     G: Gate + Sync,
     R: Threads + Wait + Sync,
 >(
     rt: &R,
     alloc: Global,
-    hall: &Hall<'a, N, S>,
+    hall: &Hall<'a, N, L, P>,
     gate: &G,
     workers: u32,
 ) -> Result<Vec<Option<LedgerPass<N>>>, AllocError>
     requires workers { workers ≤ 8 }
-    requires hall { IsHall N.ledger hall.now.ledger.now hall.now.program.now hall.now.stations.items }
+    requires hall { IsHall N.ledger (L.name hall.now.ledger.now) hall.now.program.now hall.now.stations.items }
     requires some { 0 < length hall.now.stations.items }
 {
     thread::map_indices(
@@ -330,7 +332,7 @@ pub(crate) fn spread<
         alloc,
         workers as usize,
         &|k| -> Option<LedgerPass<N>>
-            requires { IsHall N.ledger hall.now.ledger.now hall.now.program.now hall.now.stations.items
+            requires { IsHall N.ledger (L.name hall.now.ledger.now) hall.now.program.now hall.now.stations.items
                 × (0 < length hall.now.stations.items) × (k < 8) }
         { work(rt, alloc, hall, gate, k as u32) },
     )
@@ -344,14 +346,14 @@ struct Ended<N: Naming> {
 }
 
 // The caller goes on alone until no activity is left and the root is released. `None` means out of memory.
-fn go_on_alone<'a, N: Naming, S: Surroundings, R: Wait>(
+fn go_on_alone<'a, N: Naming, L: LedgerBook, P: PlaceBook, R: Wait>(
     rt: &R,
     alloc: Global,
-    hall: &Hall<'a, N, S>,
+    hall: &Hall<'a, N, L, P>,
     host: &mut Pass<EntryItem>,
     seats: &Vec<Pass<EventItem>>,
 ) -> Option<Ended<N>>
-    requires hall { IsHall N.ledger hall.now.ledger.now hall.now.program.now hall.now.stations.items }
+    requires hall { IsHall N.ledger (L.name hall.now.ledger.now) hall.now.program.now hall.now.stations.items }
     requires some { (0 < length hall.now.stations.items) × (0 < length seats.now.items) }
     requires host { MayRelease N.ledger host.old }
     ensures own { word_of host.new ≡ N.ledger.word }

@@ -19,7 +19,7 @@ use rx_finish::FinishLedger;
 use rx_history::Setup;
 use rx_ledger::Keeper;
 use rx_monitor::BoardWriter;
-use rx_objects::{LedgerAndGate, LedgerObject, PlaceObject, Surroundings, objects_open};
+use rx_objects::{LedgerAndGate, LedgerObject, PlaceBook, PlaceObject, objects_open};
 use rx_parts_book::{EntryItem, EventItem};
 use rx_stations::{Station, abandon_all};
 use rx_store::Store;
@@ -86,8 +86,8 @@ pub(crate) fn open_ledger<R: Wait>(
 
 /// All places of a run with the host's pass of the book of each, both in the order of the places; and the pass of the first caller of
 /// the book of place 0.
-pub(crate) struct Places<N: Naming, S: Surroundings> {
-    pub(crate) stations: Vec<Station<N, S>>,
+pub(crate) struct Places<N: Naming, P: PlaceBook> {
+    pub(crate) stations: Vec<Station<N, P>>,
     pub(crate) seats: Vec<Pass<EventItem>>,
     pub(crate) first: Option<Pass<EventItem>>,
 }
@@ -101,7 +101,7 @@ pub(crate) fn open_places<'a, N: Naming, G: Gate, R: Wait>(
     words: Vec<BareBook<EventItem>>,
     heap: u32,
     gate: &'a G,
-) -> Option<Places<N, LedgerAndGate<'a, G>>>
+) -> Option<Places<N, Book<PlaceObject<LedgerAndGate<'a, G>>>>>
     requires ledger { ledger.now ≡ N.ledger }
     requires own { word_of host.old ≡ N.ledger.word }
     requires unseen { ((view_of host.old).seen ≡ []) × ((view_of host.old).dead ≡ 0) }
@@ -134,17 +134,17 @@ pub(crate) fn open_places<'a, N: Naming, G: Gate, R: Wait>(
     Some(places)
 }
 
-impl<N: Naming, S: Surroundings> Places<N, S> {
+impl<N: Naming, P: PlaceBook> Places<N, P> {
     // Adds the place in front of the others. False means out of memory.
     fn add<R: Wait>(
         &mut self,
         rt: &R,
         alloc: Global,
         place: PlaceId,
-        book: Book<PlaceObject<S>>,
+        book: P,
         first: Pass<EventItem>,
     ) -> bool
-        requires place { IsPlaceBook N.ledger place book }
+        requires place { IsPlaceBook N.ledger place (P.name book) }
         requires first { IsFirst N.ledger place.0 first }
         ensures { result ≡ true → ArePlacesWith N.ledger place.0 (self.old.stations.items) (self.old.seats.items)
             self.new.stations.items self.new.seats.items self.new.first }
@@ -159,7 +159,7 @@ impl<N: Naming, S: Surroundings> Places<N, S> {
         let station = match Station::open(alloc, place, book, key) {
             Ok(station) => station,
             Err(book) => {
-                let _object = book.abandon(rt);
+                book.abandon(rt);
                 return false;
             }
         };

@@ -19,7 +19,7 @@ use rx_counts::CountLedger;
 use rx_finish::FinishLedger;
 use rx_history::{History, Journals, Setup};
 use rx_monitor::{Board, BoardReader, BoardWriter, Summary, finish, watch_tells};
-use rx_objects::{Surroundings, opening_summary};
+use rx_objects::{LedgerBook, PlaceBook, opening_summary};
 use rx_stations::Hall;
 use std::alloc::{AllocError, Global};
 use std::marker::Model;
@@ -134,13 +134,14 @@ pub fn run_watched<G: Gate + Sync, R: Threads + Wait + Sync>(
 pub(crate) fn beside<
     'a,
     N: Naming + Send + Sync,
-    S: Surroundings + Send,
+    L: LedgerBook + Sync,
+    P: PlaceBook + Sync,
     G: Gate + Sync,
     R: Threads + Wait + Sync,
 >(
     rt: &R,
     alloc: Global,
-    hall: &Hall<'a, N, S>,
+    hall: &Hall<'a, N, L, P>,
     gate: &G,
     workers: u32,
     looker: Option<Looker>,
@@ -149,7 +150,7 @@ pub(crate) fn beside<
     Option<Looked>,
 )
     requires workers { workers ≤ 8 }
-    requires hall { IsHall N.ledger hall.now.ledger.now hall.now.program.now hall.now.stations.items }
+    requires hall { IsHall N.ledger (L.name hall.now.ledger.now) hall.now.program.now hall.now.stations.items }
     requires some { 0 < length hall.now.stations.items }
     ensures { HaveLooked looker result.1 }
 {
@@ -162,7 +163,7 @@ pub(crate) fn beside<
             ensures { HasLooked looker result }
         { look(alloc, looker, gate, workers) },
         || -> Result<Vec<Option<LedgerPass<N>>>, AllocError>
-            requires { (workers ≤ 8) × IsHall N.ledger hall.now.ledger.now hall.now.program.now hall.now.stations.items
+            requires { (workers ≤ 8) × IsHall N.ledger (L.name hall.now.ledger.now) hall.now.program.now hall.now.stations.items
                 × (0 < length hall.now.stations.items) }
         { spread(rt, alloc, hall, gate, workers) },
     );

@@ -45,6 +45,10 @@ use Rattle.rx_objects.specs.Ledger.{LedgerIsLegal}
 abbrev pub shown : EntryItem → Option ℕ
 shown x = place_shown x.entry
 
+-- no item of a place's book shows a death
+abbrev pub unshown : EventItem → Option ℕ
+unshown = λ x. None
+
 -- an event of a task as an item that carries this history of the ledger; a close is none
 abbrev pub items_at : PlaceEvent → List (Stamped EntryItem) → List EventItem
 items_at (Did task stamp cell path) h = record { task = task; stamp = stamp; cell = cell; path = path; carried = h } ∷ []
@@ -174,3 +178,12 @@ pub record PlaceKeeps (place : PlaceId) (store : Kept) (ledger : BookName Ledger
   pub short : length store.events ≤ 2147483648
   pub home : store.place ≡ place
   pub noted : NoteIsKept ledger place items note
+
+-- what a place's book leaves that was closed by a pass which had seen this: a legal history that begins so, the store, and the note
+-- that it kept
+pub record PlaceCloses (f : PlaceFixed) (seen : List (Stamped EventItem)) (store : Kept) (note : Option (Note EntryItem)) : Type 0 where
+  pub history : List (Stamped EventItem)
+  pub lawful : PlaceIsLegal f history
+  pub begins : IsPrefix seen history
+  pub kept : PlaceKeeps f.place store f.ledger note (items_of history)
+  pub words : store.words ≡ f.words

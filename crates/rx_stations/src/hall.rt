@@ -5,27 +5,26 @@ use crate::station::Station;
 use crate::tally::Tally;
 use rx_activities::{Activity, Naming};
 use rx_base::PlaceId;
-use rx_book::Book;
 use rx_check::Program;
-use rx_objects::{LedgerObject, Surroundings};
+use rx_objects::{LedgerBook, PlaceBook};
 use std::sync::Wait;
 
 /// The program, the ledger's book and the places, and what workers tell one another. It can't be dropped.
-pub struct Hall<'a, N: Naming, S: Surroundings> {
+pub struct Hall<'a, N: Naming, L: LedgerBook, P: PlaceBook> {
     pub program: &'a Program,
-    pub ledger: &'a Book<LedgerObject>,
+    pub ledger: &'a L,
     /// In the order of the places.
-    pub stations: Vec<Station<N, S>>,
+    pub stations: Vec<Station<N, P>>,
     pub(crate) tally: Tally,
 }
 
-impl<'a, N: Naming, S: Surroundings> Hall<'a, N, S> {
+impl<'a, N: Naming, L: LedgerBook, P: PlaceBook> Hall<'a, N, L, P> {
     /// A hall for a run of which only the main activity has begun.
     pub fn open(
         program: &'a Program,
-        ledger: &'a Book<LedgerObject>,
-        stations: Vec<Station<N, S>>,
-    ) -> Hall<'a, N, S>
+        ledger: &'a L,
+        stations: Vec<Station<N, P>>,
+    ) -> Hall<'a, N, L, P>
         ensures program { result.program.now ≡ program.now }
         ensures ledger { result.ledger.now ≡ ledger.now }
         ensures stations { result.stations.items ≡ stations.items }
@@ -39,7 +38,7 @@ impl<'a, N: Naming, S: Surroundings> Hall<'a, N, S> {
     }
 
     /// The station of a place, where there is such a place.
-    pub(crate) fn station(&self, place: PlaceId) -> Option<&Station<N, S>>
+    pub(crate) fn station(&self, place: PlaceId) -> Option<&Station<N, P>>
         ensures { IfSome result (λ s. slice_get self.now.stations.items place.0 ≡ Some s.now) }
     {
         let at = place.0 as usize;
@@ -65,7 +64,7 @@ impl<'a, N: Naming, S: Surroundings> Hall<'a, N, S> {
     }
 
     /// The places.
-    pub fn into_stations(self) -> Vec<Station<N, S>>
+    pub fn into_stations(self) -> Vec<Station<N, P>>
         ensures { result.items ≡ self.entry.stations.items }
     {
         let Hall {
@@ -84,7 +83,7 @@ impl<'a, N: Naming, S: Surroundings> Hall<'a, N, S> {
 }
 
 /// Gives up the places.
-pub fn abandon_all<N: Naming, S: Surroundings, R: Wait>(rt: &R, stations: Vec<Station<N, S>>) {
+pub fn abandon_all<N: Naming, P: PlaceBook, R: Wait>(rt: &R, stations: Vec<Station<N, P>>) {
     let mut stations = stations;
     'rest: while let Some(station) = stations.pop() {
         station.abandon(rt);

@@ -9,10 +9,10 @@ use crate::keys::{Keys, Letter};
 use crate::queue::Queue;
 use rx_activities::{Activity, Naming, Traveller};
 use rx_base::{NoMemory, PlaceId};
-use rx_book::{Book, Note, Pass};
+use rx_book::{Note, Pass};
 use rx_lock::{Fact, Lock};
 use rx_mail::Mail;
-use rx_objects::{PlaceObject, Surroundings};
+use rx_objects::PlaceBook;
 use rx_parts_book::{EntryItem, EventItem};
 use rx_store::Store;
 use std::alloc::Global;
@@ -32,9 +32,9 @@ impl<N: Naming> Fact<Keys<N>, Snapshot<Keys<N>>> for AreOf {
 
 /// A place with its book, the activities that are there, and the mailbox of those that are on their way to it. Contracts see the
 /// place and the mailbox. It can't be dropped.
-pub struct Station<N: Naming, S: Surroundings> {
+pub struct Station<N: Naming, P: PlaceBook> {
     place: PlaceId,
-    book: Book<PlaceObject<S>>,
+    book: P,
     mail: Mail<Letter<N>>,
     // The first keys. Those of the workers are made from them.
     keys: Lock<Keys<N>, Snapshot<Keys<N>>, AreOf>,
@@ -45,7 +45,7 @@ pub struct Station<N: Naming, S: Surroundings> {
     waiting: AtomicU64,
 }
 
-impl<N: Naming, S: Surroundings> Model for Station<N, S> {
+impl<N: Naming, P: PlaceBook> Model for Station<N, P> {
     ghost use Rattle.std.specs.Prelude.{◌≡◌};
     ghost use Rattle.rx_stations.specs.Stations.{PostName, IsPlaceBook};
 
@@ -53,7 +53,7 @@ impl<N: Naming, S: Surroundings> Model for Station<N, S> {
 
     ghost view = { λ s. record { place = s.place; mail = s.mail } };
 
-    ghost invariant = { λ s. IsPlaceBook N.ledger s.place s.book × (s.keys.key.value ≡ record { place = s.place; mail = s.mail }) };
+    ghost invariant = { λ s. IsPlaceBook N.ledger s.place (P.name s.book) × (s.keys.key.value ≡ record { place = s.place; mail = s.mail }) };
 }
 
 /// How many turns a worker makes of one activity before it puts it back behind the others.
@@ -76,16 +76,16 @@ pub(crate) enum Job<N: Naming> {
     Land(Letter<N>),
 }
 
-impl<N: Naming, S: Surroundings> Station<N, S> {
+impl<N: Naming, P: PlaceBook> Station<N, P> {
     /// A place without activities, by a first pass of its book that has seen nothing. `Err` means out of memory, and hands the book
     /// back.
     pub fn open(
         alloc: Global,
         place: PlaceId,
-        book: Book<PlaceObject<S>>,
+        book: P,
         seat: Pass<EventItem>,
-    ) -> Result<Station<N, S>, Book<PlaceObject<S>>>
-        requires place { IsPlaceBook N.ledger place book }
+    ) -> Result<Station<N, P>, P>
+        requires place { IsPlaceBook N.ledger place (P.name book) }
         requires seat { IsNewSeat N.ledger place seat }
         ensures { IfOk result (λ s. s.place ≡ place) }
     {
@@ -115,8 +115,8 @@ impl<N: Naming, S: Surroundings> Station<N, S> {
     }
 
     /// Its book.
-    pub fn book(&self) -> &Book<PlaceObject<S>>
-        ensures { PlaceIs N.ledger self.now.place result.now }
+    pub fn book(&self) -> &P
+        ensures { PlaceIs N.ledger self.now.place (P.name result.now) }
     {
         &self.book
     }
@@ -238,8 +238,8 @@ impl<N: Naming, S: Surroundings> Station<N, S> {
     }
 
     // The book alone. What else is here is given up.
-    fn into_book<R: Wait>(self, rt: &R) -> Book<PlaceObject<S>>
-        ensures { IsPlaceBook N.ledger self.place result }
+    fn into_book<R: Wait>(self, rt: &R) -> P
+        ensures { IsPlaceBook N.ledger self.place (P.name result) }
     {
         let Station {
             place: _,
@@ -259,7 +259,7 @@ impl<N: Naming, S: Surroundings> Station<N, S> {
 
     /// Gives up what is here.
     pub fn abandon<R: Wait>(self, rt: &R) {
-        let _object = self.into_book(rt).abandon(rt);
+        self.into_book(rt).abandon(rt);
     }
 
     /// Closes the book by the host's pass, and gives the store and the note that the place kept.
@@ -267,13 +267,6 @@ impl<N: Naming, S: Surroundings> Station<N, S> {
         requires { slice_get N.ledger.fixed.places self.place.0 ≡ Some (word_of seat) }
         ensures { IsClosed N.ledger self.place.0 (view_of seat).seen result.0 result.1 }
     {
-        let book = self.into_book(rt);
-        match book.close(rt, seat) {
-            Ok(object) => object.into_parts(),
-            Err(refused) => {
-                let (_book, _pass, _) = refused;
-                unreachable!()
-            }
-        }
+        self.into_book(rt).close(rt, seat)
     }
 }

@@ -8,8 +8,7 @@ use crate::station::{Held, Job, Station, TURNS};
 use crate::tally::Tally;
 use rx_activities::{Activity, Arrival, Began, LedgerPass, Naming, Traveller, Turn};
 use rx_base::Gate;
-use rx_book::Book;
-use rx_objects::{LedgerObject, Surroundings};
+use rx_objects::{LedgerBook, PlaceBook};
 use std::alloc::Global;
 use std::marker::Model;
 use std::sync::Wait;
@@ -44,10 +43,10 @@ impl<N: Naming> Model for Worker<N> {
 
 impl<N: Naming> Worker<N> {
     /// A worker with keys of each place. `None` means out of memory.
-    pub fn open<'a, S: Surroundings, R: Wait>(
+    pub fn open<'a, L: LedgerBook, P: PlaceBook, R: Wait>(
         rt: &R,
         alloc: Global,
-        hall: &Hall<'a, N, S>,
+        hall: &Hall<'a, N, L, P>,
         number: u32,
     ) -> Option<Worker<N>>
         ensures { IfSome result (λ w. w ≡ hall.now.stations.items) }
@@ -68,14 +67,14 @@ impl<N: Naming> Worker<N> {
     }
 
     /// Makes turns until no activity is left or memory was refused. It comes by the gate before each turn.
-    pub fn work<'a, S: Surroundings, H: Gate, R: Wait>(
+    pub fn work<'a, L: LedgerBook, P: PlaceBook, H: Gate, R: Wait>(
         &mut self,
         rt: &R,
         alloc: Global,
-        hall: &Hall<'a, N, S>,
+        hall: &Hall<'a, N, L, P>,
         gate: &H,
     )
-        requires hall { IsHall N.ledger hall.now.ledger.now hall.now.program.now hall.now.stations.items }
+        requires hall { IsHall N.ledger (L.name hall.now.ledger.now) hall.now.program.now hall.now.stations.items }
         requires some { 0 < length hall.now.stations.items }
         requires keys { self.old ≡ hall.now.stations.items }
         ensures { self.new ≡ self.old }
@@ -102,13 +101,13 @@ impl<N: Naming> Worker<N> {
 
     // What it does next: it goes on with what it has in hand, or looks for something until there is something. `None` where no
     // activity is left or memory was refused.
-    fn next_job<'a, S: Surroundings, R: Wait>(
+    fn next_job<'a, L: LedgerBook, P: PlaceBook, R: Wait>(
         &mut self,
         rt: &R,
-        hall: &Hall<'a, N, S>,
+        hall: &Hall<'a, N, L, P>,
         held: Option<Held<N>>,
     ) -> Option<Job<N>>
-        requires ledger { hall.now.ledger.now ≡ N.ledger }
+        requires ledger { L.name hall.now.ledger.now ≡ N.ledger }
         requires some { 0 < length hall.now.stations.items }
         requires keys { self.old ≡ hall.now.stations.items }
         ensures { self.new ≡ self.old }
@@ -120,8 +119,8 @@ impl<N: Naming> Worker<N> {
     }
 
     // Goes on with what it has in hand.
-    fn go_on(&mut self, ledger: &Book<LedgerObject>, tally: &Tally, held: Held<N>) -> Option<Job<N>>
-        requires { ledger.now ≡ N.ledger }
+    fn go_on<L: LedgerBook>(&mut self, ledger: &L, tally: &Tally, held: Held<N>) -> Option<Job<N>>
+        requires { L.name ledger.now ≡ N.ledger }
         ensures { self.new ≡ self.old }
     {
         if !tally.is_done() {
@@ -137,10 +136,10 @@ impl<N: Naming> Worker<N> {
     }
 
     // Looks for something to do until there is something.
-    fn find<'a, S: Surroundings, R: Wait>(
+    fn find<'a, L: LedgerBook, P: PlaceBook, R: Wait>(
         &mut self,
         rt: &R,
-        hall: &Hall<'a, N, S>,
+        hall: &Hall<'a, N, L, P>,
     ) -> Option<Job<N>>
         requires some { 0 < length hall.now.stations.items }
         requires keys { self.old ≡ hall.now.stations.items }
@@ -161,10 +160,10 @@ impl<N: Naming> Worker<N> {
     }
 
     // Looks for something to do: first what may go on or arrive, from its own place on, and then what waits.
-    fn look<'a, S: Surroundings, R: Wait>(
+    fn look<'a, L: LedgerBook, P: PlaceBook, R: Wait>(
         &mut self,
         rt: &R,
-        hall: &Hall<'a, N, S>,
+        hall: &Hall<'a, N, L, P>,
     ) -> Option<Job<N>>
         requires some { 0 < length hall.now.stations.items }
         requires keys { self.old ≡ hall.now.stations.items }
@@ -182,10 +181,10 @@ impl<N: Naming> Worker<N> {
     }
 
     // Looks at one place for what may go on or arrive.
-    fn look_at<'a, S: Surroundings, R: Wait>(
+    fn look_at<'a, L: LedgerBook, P: PlaceBook, R: Wait>(
         &mut self,
         rt: &R,
-        hall: &Hall<'a, N, S>,
+        hall: &Hall<'a, N, L, P>,
         at: usize,
     ) -> Option<Job<N>>
         requires inside { at < length hall.now.stations.items }
@@ -196,10 +195,10 @@ impl<N: Naming> Worker<N> {
     }
 
     // Looks for one that waits, where something has come that may let it go on.
-    fn look_again<'a, S: Surroundings, R: Wait>(
+    fn look_again<'a, L: LedgerBook, P: PlaceBook, R: Wait>(
         &mut self,
         rt: &R,
-        hall: &Hall<'a, N, S>,
+        hall: &Hall<'a, N, L, P>,
     ) -> Option<Job<N>>
         requires { 0 < length hall.now.stations.items }
         ensures { self.new ≡ self.old }
@@ -224,14 +223,14 @@ impl<N: Naming> Worker<N> {
     }
 
     // Makes one turn, and tells what it leaves in hand.
-    fn make<'a, S: Surroundings, R: Wait>(
+    fn make<'a, L: LedgerBook, P: PlaceBook, R: Wait>(
         &mut self,
         rt: &R,
         alloc: Global,
-        hall: &Hall<'a, N, S>,
+        hall: &Hall<'a, N, L, P>,
         job: Job<N>,
     ) -> Option<Held<N>>
-        requires hall { IsHall N.ledger hall.now.ledger.now hall.now.program.now hall.now.stations.items }
+        requires hall { IsHall N.ledger (L.name hall.now.ledger.now) hall.now.program.now hall.now.stations.items }
         requires keys { self.old ≡ hall.now.stations.items }
         ensures { self.new ≡ self.old }
     {
@@ -242,14 +241,14 @@ impl<N: Naming> Worker<N> {
     }
 
     // Makes a turn of an activity.
-    fn make_move<'a, S: Surroundings, R: Wait>(
+    fn make_move<'a, L: LedgerBook, P: PlaceBook, R: Wait>(
         &mut self,
         rt: &R,
         alloc: Global,
-        hall: &Hall<'a, N, S>,
+        hall: &Hall<'a, N, L, P>,
         held: Held<N>,
     ) -> Option<Held<N>>
-        requires hall { IsHall N.ledger hall.now.ledger.now hall.now.program.now hall.now.stations.items }
+        requires hall { IsHall N.ledger (L.name hall.now.ledger.now) hall.now.program.now hall.now.stations.items }
         requires keys { self.old ≡ hall.now.stations.items }
         ensures { self.new ≡ self.old }
     {
@@ -284,15 +283,15 @@ impl<N: Naming> Worker<N> {
     }
 
     // Goes on with an activity, or puts it back behind the others of its place. Where it rests, others can take the activity meanwhile.
-    fn hold<'a, S: Surroundings, R: Wait>(
+    fn hold<'a, L: LedgerBook, P: PlaceBook, R: Wait>(
         &mut self,
         rt: &R,
-        hall: &Hall<'a, N, S>,
-        station: &Station<N, S>,
+        hall: &Hall<'a, N, L, P>,
+        station: &Station<N, P>,
         mut activity: Activity<N>,
         turns: u32,
     ) -> Option<Held<N>>
-        requires { hall.now.ledger.now ≡ N.ledger }
+        requires { L.name hall.now.ledger.now ≡ N.ledger }
         ensures { self.new ≡ self.old }
     {
         self.feel(activity.has_met_others(hall.ledger));
@@ -341,14 +340,14 @@ impl<N: Naming> Worker<N> {
     }
 
     // Puts an activity that may go on behind the others of its place.
-    fn put<'a, S: Surroundings, R: Wait>(
+    fn put<'a, L: LedgerBook, P: PlaceBook, R: Wait>(
         &mut self,
         rt: &R,
-        hall: &Hall<'a, N, S>,
-        station: &Station<N, S>,
+        hall: &Hall<'a, N, L, P>,
+        station: &Station<N, P>,
         activity: Activity<N>,
     )
-        requires { hall.now.ledger.now ≡ N.ledger }
+        requires { L.name hall.now.ledger.now ≡ N.ledger }
         ensures { self.new ≡ self.old }
     {
         match station.put(rt, activity) {
@@ -358,15 +357,15 @@ impl<N: Naming> Worker<N> {
     }
 
     // Puts an activity that waits behind the others of its place.
-    fn rest<'a, S: Surroundings, R: Wait>(
+    fn rest<'a, L: LedgerBook, P: PlaceBook, R: Wait>(
         &mut self,
         rt: &R,
-        hall: &Hall<'a, N, S>,
-        station: &Station<N, S>,
+        hall: &Hall<'a, N, L, P>,
+        station: &Station<N, P>,
         activity: Activity<N>,
         waited: bool,
     )
-        requires { hall.now.ledger.now ≡ N.ledger }
+        requires { L.name hall.now.ledger.now ≡ N.ledger }
         ensures { self.new ≡ self.old }
     {
         match station.rest(rt, activity, waited) {
@@ -376,13 +375,13 @@ impl<N: Naming> Worker<N> {
     }
 
     // Puts an activity that was started where it can be taken, if one was.
-    fn start<'a, S: Surroundings, R: Wait>(
+    fn start<'a, L: LedgerBook, P: PlaceBook, R: Wait>(
         &mut self,
         rt: &R,
-        hall: &Hall<'a, N, S>,
+        hall: &Hall<'a, N, L, P>,
         began: Option<Began<N>>,
     )
-        requires ledger { hall.now.ledger.now ≡ N.ledger }
+        requires ledger { L.name hall.now.ledger.now ≡ N.ledger }
         requires keys { self.old ≡ hall.now.stations.items }
         ensures { self.new ≡ self.old }
     {
@@ -405,10 +404,10 @@ impl<N: Naming> Worker<N> {
     }
 
     // Sends an activity to its place. False means out of memory.
-    fn send<'a, S: Surroundings, R: Wait>(
+    fn send<'a, L: LedgerBook, P: PlaceBook, R: Wait>(
         &mut self,
         rt: &R,
-        hall: &Hall<'a, N, S>,
+        hall: &Hall<'a, N, L, P>,
         traveller: Traveller<N>,
     ) -> bool
         requires { self.old ≡ hall.now.stations.items }
@@ -422,14 +421,14 @@ impl<N: Naming> Worker<N> {
     }
 
     // Makes an activity arrive.
-    fn land<'a, S: Surroundings, R: Wait>(
+    fn land<'a, L: LedgerBook, P: PlaceBook, R: Wait>(
         &mut self,
         rt: &R,
         alloc: Global,
-        hall: &Hall<'a, N, S>,
+        hall: &Hall<'a, N, L, P>,
         traveller: Traveller<N>,
     ) -> Option<Held<N>>
-        requires hall { IsHall N.ledger hall.now.ledger.now hall.now.program.now hall.now.stations.items }
+        requires hall { IsHall N.ledger (L.name hall.now.ledger.now) hall.now.program.now hall.now.stations.items }
         requires keys { self.old ≡ hall.now.stations.items }
         ensures { self.new ≡ self.old }
     {
@@ -457,8 +456,8 @@ impl<N: Naming> Worker<N> {
     }
 
     // An activity is over.
-    fn end(&mut self, ledger: &Book<LedgerObject>, tally: &Tally, pass: LedgerPass<N>)
-        requires { ledger.now ≡ N.ledger }
+    fn end<L: LedgerBook>(&mut self, ledger: &L, tally: &Tally, pass: LedgerPass<N>)
+        requires { L.name ledger.now ≡ N.ledger }
         ensures { self.new ≡ self.old }
     {
         self.keep(ledger, pass);
@@ -466,8 +465,8 @@ impl<N: Naming> Worker<N> {
     }
 
     // Memory was refused.
-    fn fail(&mut self, ledger: &Book<LedgerObject>, tally: &Tally, pass: LedgerPass<N>)
-        requires { ledger.now ≡ N.ledger }
+    fn fail<L: LedgerBook>(&mut self, ledger: &L, tally: &Tally, pass: LedgerPass<N>)
+        requires { L.name ledger.now ≡ N.ledger }
         ensures { self.new ≡ self.old }
     {
         self.keep(ledger, pass);
@@ -475,8 +474,8 @@ impl<N: Naming> Worker<N> {
     }
 
     // Keeps the ledger pass of the first activity that is over. That of each later one becomes a note, which the kept pass meets.
-    fn keep(&mut self, ledger: &Book<LedgerObject>, pass: LedgerPass<N>)
-        requires { ledger.now ≡ N.ledger }
+    fn keep<L: LedgerBook>(&mut self, ledger: &L, pass: LedgerPass<N>)
+        requires { L.name ledger.now ≡ N.ledger }
         ensures { self.new ≡ self.old }
     {
         self.kept = match self.kept.take() {
@@ -491,14 +490,14 @@ impl<N: Naming> Worker<N> {
 }
 
 /// One worker from its opening to its end, and what it has kept.
-pub fn work<'a, N: Naming, S: Surroundings, G: Gate, R: Wait>(
+pub fn work<'a, N: Naming, L: LedgerBook, P: PlaceBook, G: Gate, R: Wait>(
     rt: &R,
     alloc: Global,
-    hall: &Hall<'a, N, S>,
+    hall: &Hall<'a, N, L, P>,
     gate: &G,
     number: u32,
 ) -> Option<LedgerPass<N>>
-    requires hall { IsHall N.ledger hall.now.ledger.now hall.now.program.now hall.now.stations.items }
+    requires hall { IsHall N.ledger (L.name hall.now.ledger.now) hall.now.program.now hall.now.stations.items }
     requires some { 0 < length hall.now.stations.items }
 {
     let Some(mut worker) = Worker::open(rt, alloc, hall, number) else {

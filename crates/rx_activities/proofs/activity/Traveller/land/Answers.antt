@@ -25,7 +25,7 @@ ask-requires-clause-asks g c =
     } in
     let comes = subst (λ (M : BookName LedgerFixed). Comes M c.self.inside.journey) (sym c.requires.ledger) c.self.invariant in
     λ code stands.
-    arrival_asks c.args.ledger.now j op (λ i. record { ticket = Moving c.self.inside.journey.ticket; ask = Arrive; batch = c.open.ensures i; path = None }) (c.of.ensures ∙ sym c.of-2.ensures) refl code
+    arrival_asks (g.L.LedgerBook.name c.args.ledger.now) j op (λ i. record { ticket = Moving c.self.inside.journey.ticket; ask = Arrive; batch = c.open.ensures i; path = None }) (c.of.ensures ∙ sym c.of-2.ensures) refl code
     (comes.stands code (subst (λ (q : Checked). Stands q.script code) (sym c.requires.program) stands))
 
 pub activity_with-requires : goal.activity_with-requires
@@ -37,9 +37,9 @@ activity_with-requires g c =
       mentions = record { before = c.of.result; now = c.of-2.result; child = c.of-3.result; seat = c.of-4.result };
     } in
     let comes = subst (λ (M : BookName LedgerFixed). Comes M c.self.inside.journey) (sym c.requires.ledger) c.self.invariant in
-    let new = subst (λ (q : PlaceId). IsNewSeat c.args.ledger.now q c.args.seat) (sym c.self.view_is) (subst (λ (M : BookName LedgerFixed). IsNewSeat M c.args.self c.args.seat) (sym c.requires.ledger) c.requires.seat) in
-    of_named c.args.ledger.now _ _ c.requires.ledger
-    (landed_knows c.args.ledger.now j comes c.args.seat new op
+    let new = subst (λ (q : PlaceId). IsNewSeat (g.L.LedgerBook.name c.args.ledger.now) q c.args.seat) (sym c.self.view_is) (subst (λ (M : BookName LedgerFixed). IsNewSeat M c.args.self c.args.seat) (sym c.requires.ledger) c.requires.seat) in
+    of_named (g.L.LedgerBook.name c.args.ledger.now) _ _ c.requires.ledger
+    (landed_knows (g.L.LedgerBook.name c.args.ledger.now) j comes c.args.seat new op
     (λ i. record { ticket = Moving c.self.inside.journey.ticket; ask = Arrive; batch = c.open.ensures i; path = None }) (c.of.ensures ∙ sym c.of-2.ensures) c.of-4.ensures c.in-Landed.ticket c.ask.new.pass c.in-Landed.ensures.own
     c.in-Landed.ensures.replied c.fresh-hand.result
     (subst (λ (p : PlaceId). IsWith c.self.inside.journey.control.value p c.ask.new.pass c.args.seat (Running c.in-Landed.ticket) [] c.fresh-hand.result) (c.target-place.ensures ∙ sym c.self.view_is) c.fresh-hand.ensures))

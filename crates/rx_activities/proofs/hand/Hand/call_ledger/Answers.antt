@@ -39,7 +39,7 @@ ask-reply-requires-clause-asks g c = λ code stands.
       note = c.note_for-note.result;
       mentions = c.mentions_of-mentions.result;
     } in
-    let s : StandsSo code c.args.ledger.now c.args.self.now c.requires.known.who.task = k.stands code (subst (λ (p : Checked). Stands p.script code) (sym c.requires.program) stands) in
+    let s : StandsSo code (g.L.LedgerBook.name c.args.ledger.now) c.args.self.now c.requires.known.who.task = k.stands code (subst (λ (p : Checked). Stands p.script code) (sym c.requires.program) stands) in
     let term : StandsFor c.args.p.now.script c.args.self.now.control.value s.stand.term = subst (λ (p : Checked). StandsFor p.script c.args.self.now.control.value s.stand.term) c.requires.program s.term in
     let path : (t : Term) → StandsFor c.args.p.now.script c.args.self.now.control.value t → c.in-Ok.path ≡ begins t =
     subst (λ (x : Control). (t : Term) → StandsFor c.args.p.now.script x t → c.in-Ok.path ≡ begins t) c.as_ref-standing.ensures c.in-Ok.ensures in
@@ -51,8 +51,8 @@ ask-reply-requires-clause-asks g c = λ code stands.
     let pass = c.child_of-prepared.ensures.pass in
     let split = c.child_of-prepared.ensures.seat in
     let left : SeatIsLeft c.args.self.now.seat c.note_for-note.new.seat = seat_noted c.args.self.now.seat c.child_of-prepared.new.seat c.note_for-note.new.seat split c.note_for-note.ensures.same in
-    subst (λ (v : View EntryItem). AsksLedger code c.args.ledger.now.fixed v op) (sym pass.view)
-    (asks_so code c.args.ledger.now a k s op c.replace.ensures.value (path s.stand.term term) suits c.replace-2.ensures.value (events_mentioned a c.note_for-note.new.seat c.in-Ok-prepared.child c.mentions_of-mentions.result (rw c.replace-told.ensures.value at c.mentions_of-mentions.ensures) left) pass.splits
+    subst (λ (v : View EntryItem). AsksLedger code (g.L.LedgerBook.name c.args.ledger.now).fixed v op) (sym pass.view)
+    (asks_so code (g.L.LedgerBook.name c.args.ledger.now) a k s op c.replace.ensures.value (path s.stand.term term) suits c.replace-2.ensures.value (events_mentioned a c.note_for-note.new.seat c.in-Ok-prepared.child c.mentions_of-mentions.result (rw c.replace-told.ensures.value at c.mentions_of-mentions.ensures) left) pass.splits
     (note_none a c.note_for-note.result c.child_of-prepared.new.seat c.args.self.now.made k.unmade c.note_for-note.ensures.note)
     (note_some a c.note_for-note.result c.child_of-prepared.new.seat split c.note_for-note.ensures.note))
 

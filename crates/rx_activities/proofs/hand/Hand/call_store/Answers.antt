@@ -20,21 +20,21 @@ use Rattle.rx_activities.proofs.hand.Hand.call_store.Goals as goal
 
 pub stamp_for-requires-clause-small : goal.stamp_for-requires-clause-small
 stamp_for-requires-clause-small g c =
-    let b = c.checked.ensures in place_small c.args.p.now c.args.ledger.now c.args.self c.requires.known c.requires.program c.args.op c.requires.next b.0 b.1
+    let b = c.checked.ensures in place_small c.args.p.now (g.L.LedgerBook.name c.args.ledger.now) c.args.self c.requires.known c.requires.program c.args.op c.requires.next b.0 b.1
 
 pub begin_call-requires : goal.begin_call-requires
 begin_call-requires g c =
     let b = c.checked.ensures in
-    let t = call_asked c.args.p.now c.args.ledger.now c.args.self c.requires.known c.requires.program c.args.op c.requires.next c.terms_sink.ensures b.0 b.1 in
+    let t = call_asked c.args.p.now (g.L.LedgerBook.name c.args.ledger.now) c.args.self c.requires.known c.requires.program c.args.op c.requires.next c.terms_sink.ensures b.0 b.1 in
     (t.0, t.1, subst (λ (x : Control). StandsFor c.args.p.now.script x t.0) (sym c.as_ref.ensures) t.2, t.3)
 
 pub call-reply-requires-clause-fits : goal.call-reply-requires-clause-fits
 call-reply-requires-clause-fits g c = λ h legal before.
-    let L = c.args.ledger.now in
+    let L = g.L.LedgerBook.name c.args.ledger.now in
     let a = c.args.self in
     let q = c.stamp_for.new.pass in
     let b = c.checked.ensures in
-    let place = c.args.place_book.now in
+    let place = g.P.PlaceBook.name c.args.place_book.now in
     let k = asked_by L a c.requires.known c.caller_of.result c.caller_of.ensures in
     let t = call_asked c.args.p.now L a k c.requires.program c.args.op c.requires.next c.terms_sink.ensures b.0 b.1 in
     let paths : (t : Term) (y : List ℕ) → StandsFor c.args.p.now.script c.args.self.control.value t → begins t ≡ Some y → (c.in-Ok.path ≡ y) × (c.begin_call.new.batch ≡ c.args.self.batch ++ y ∷ []) =
@@ -48,15 +48,15 @@ call-reply-requires-clause-fits g c = λ h legal before.
 pub cell_done-requires : goal.cell_done-requires
 cell_done-requires g c =
     let b = c.checked.ensures in
-    let t = call_asked c.args.p.now c.args.ledger.now c.args.self c.requires.known c.requires.program c.args.op c.requires.next c.terms_sink.ensures b.0 b.1 in
+    let t = call_asked c.args.p.now (g.L.LedgerBook.name c.args.ledger.now) c.args.self c.requires.known c.requires.program c.args.op c.requires.next c.terms_sink.ensures b.0 b.1 in
     (t.0, subst (λ (x : Control). StandsFor c.args.p.now.script x t.0) (sym c.as_mut.ensures.value) t.2)
 
 pub failed-requires-then-is_err : goal.failed-requires-then-is_err
 failed-requires-then-is_err g c =
-    let L = c.args.ledger.now in
+    let L = g.L.LedgerBook.name c.args.ledger.now in
     let a = c.args.self in
     let q = c.stamp_for.new.pass in
-    let place = c.args.place_book.now in
+    let place = g.P.PlaceBook.name c.args.place_book.now in
     let called = c.call-reply.ensures.called in
     let known = looked_knows L a q c.requires.known c.in-Some.ensures.own c.in-Some.ensures.looked in
     let op : PlaceOp = op_of c.caller_of.result.task c.in-Some.stamp c.in-Ok.path c.args.op q in
@@ -66,12 +66,12 @@ failed-requires-then-is_err g c =
 
 pub activity_with-requires : goal.activity_with-requires
 activity_with-requires g c =
-    let L = c.args.ledger.now in
+    let L = g.L.LedgerBook.name c.args.ledger.now in
     let p = c.args.p.now in
     let a = c.args.self in
     let q = c.stamp_for.new.pass in
     let b = c.checked.ensures in
-    let place = c.args.place_book.now in
+    let place = g.P.PlaceBook.name c.args.place_book.now in
     let k = asked_by L a c.requires.known c.caller_of.result c.caller_of.ensures in
     let t = call_asked p L a k c.requires.program c.args.op c.requires.next c.terms_sink.ensures b.0 b.1 in
     let paths : (t : Term) (y : List ℕ) → StandsFor c.args.p.now.script c.args.self.control.value t → begins t ≡ Some y → (c.in-Ok.path ≡ y) × (c.begin_call.new.batch ≡ c.args.self.batch ++ y ∷ []) =
@@ -80,12 +80,12 @@ activity_with-requires g c =
     let op : PlaceOp = op_of c.caller_of.result.task c.in-Some.stamp c.in-Ok.path c.args.op q in
     let came : Pass EntryItem = c.parts_of-pass.result.0 in
     let reply = answered_parts c.call-reply.result came c.parts_of-pass.result.1 c.in-Some-answer.answer c.parts_of-pass.ensures c.in-Some-answer.is in
-    let called = called_so _ place.fixed (fixed_at L a place.fixed.words) (view_of a.seat) (view_of c.call-reply.new.pass) op c.call-reply.result (Answered c.in-Some-answer.answer came) (fixed_is L a place c.requires.place) reply c.call-reply.ensures.called in
+    let called = called_so _ place.fixed (fixed_at L a place.fixed.words) (view_of a.seat) (view_of c.call-reply.new.seat) op c.call-reply.result (Answered c.in-Some-answer.answer came) (fixed_is L a place c.requires.place) reply c.call-reply.ensures.called in
     let ok = subst (λ (x : Control). (u : Term) (y : List ℕ) → StandsFor p.script x u → begins u ≡ Some y → StandsFor p.script c.cell_done.new.self (answered (answer_of (receives u) c.in-Some-answer.answer) u) × (c.cell_done.new.self.vars ≡ vars_after (answer_of (receives u) c.in-Some-answer.answer) x.vars)) c.as_mut.ensures.value
     (ok_so c.cell_done.result (sym c.is_err.ensures.value ∙ c.if-is_err.false) c.cell_done.ensures.ok) in
     let begun = paths t.0 t.1 t.2 t.3 in
     of_named L _ _ c.requires.ledger
-    (stored_knows L a k q c.in-Some.ensures.own c.in-Some.ensures.looked place.fixed.words c.in-Some.stamp c.in-Ok.path c.args.op c.in-Some.ensures.above _ c.in-Some-answer.answer came c.call-reply.new.pass called c.terms_sink.ensures
+    (stored_knows L a k q c.in-Some.ensures.own c.in-Some.ensures.looked place.fixed.words c.in-Some.stamp c.in-Ok.path c.args.op c.in-Some.ensures.above _ c.in-Some-answer.answer came c.call-reply.new.seat called c.terms_sink.ensures
     (record a.control { value = c.cell_done.new.self }) c.begin_call.new.batch c.call-reply.ensures.own (next_in_run p L a k c.requires.program c.args.op c.requires.next) path
     (λ u y s e. (let r = ok u y (of_program p L a k c.requires.program c.args.op c.requires.next a.control.value u s) e in (of_run p L a k c.requires.program c.args.op c.requires.next c.cell_done.new.self _ r.0, r.1)))
     (begun.1 ∙ ap (λ (y : List ℕ). a.batch ++ y ∷ []) (sym begun.0)))

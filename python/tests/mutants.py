@@ -8,6 +8,7 @@ import shutil
 import tempfile
 
 import alone
+from rx10 import program
 
 CONTROL = "nothing is wrong"
 CORE = "hub/core.py"
@@ -61,7 +62,8 @@ def refusal(name, runs, jobs):
         if text.count(old) != 1:
             raise ValueError(f"{file} has {text.count(old)} times what is to be changed: {name}")
         path.write_text(text.replace(old, new), encoding="utf-8")
-        env = {"PYTHONPATH": f"{folder}:{alone.HERE}", "TMPDIR": folder}
+        # (the copy stands in no repository, so it is told which coordinator to take)
+        env = {"PYTHONPATH": f"{folder}:{alone.HERE}", "TMPDIR": folder, "RX10_COORDINATOR": program.find().path}
         driven = [["driven", str(runs), SEED]] if file == CORE else []
         for words in [*driven, ["jobs", "--jobs", str(jobs), "--seed", SEED, "--wide", "--first"]]:
             done = alone.run([*alone.BARE, "-m", *words], env=env)

@@ -6,10 +6,43 @@ import unittest
 
 import alone
 from dask_situations import SITUATIONS
+from rx10.engines.dask import Dask
 
 AT_A_TIME = 3                   # most of their time they wait
 JOBS = os.environ.get("RX10_DASK_JOBS", "6")
 PYTHON = alone.python_with("distributed")
+
+
+class Future:
+    """What a client of Dask gives for a task."""
+
+    def __init__(self):
+        self.is_cancelled = False
+
+    def cancel(self):
+        self.is_cancelled = True
+
+
+class Keepers(unittest.TestCase):
+    """A keeper is submitted once its worker has answered, which may be after its place has died or the job is over. No Dask is needed."""
+
+    def setUp(self):
+        self.engine, self.futures = Dask(self, ["tcp://a", "tcp://b", "tcp://c"], [], None), []
+
+    def submit(self, *args, **options):
+        """The client's call."""
+        self.futures.append(Future())
+        return self.futures[-1]
+
+    def test_one_that_comes_late_is_cancelled(self):
+        self.engine.ended((1, "tcp://a"))
+        self.engine._keep(1, "tcp://a")
+        self.engine._keep(2, "tcp://b")
+        self.assertEqual([it.is_cancelled for it in self.futures], [True, False])
+        self.assertEqual(self.engine._take_keepers(), [self.futures[1]])
+        self.engine._keep(3, "tcp://c")
+        self.assertEqual([it.is_cancelled for it in self.futures], [True, False, True])
+        self.assertEqual(self.engine._take_keepers(), [])
 
 
 @unittest.skipUnless(PYTHON, "no Python of this machine has Dask's distributed")

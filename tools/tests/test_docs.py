@@ -20,8 +20,8 @@ ENDINGS = "rt|antt|py|md|rx|trace|c|css|js|svg|txt|bash|json|edit"
 OWN = {"first.py", "broken.rx", "supervisor.trace", "supervisor.html", "FILE.trace", "NAME.html", "NAME.trace", "both.trace", "both.html", "bench/gate.txt"}
 
 # Files of specs/ that no claim names: they say what a type keeps, or serve private functions.
-UNNAMED = {"rx_book/specs/Ties.antt", "rx_ledger/specs/Keeping.antt", "rx_lock/specs/Latched.antt",
-           "rx_machine/specs/Picking.antt", "rx_machine/specs/Slots.antt", "rx_rank/specs/Counts.antt", "rx_token/specs/Names.antt"}
+UNNAMED = {"rx_book/specs/Ties.antt", "rx_chronicle/specs/Keeping.antt", "rx_book/specs/Latched.antt",
+           "rx_machine/specs/Picking.antt", "rx_machine/specs/Slots.antt", "rx_rank/specs/Counts.antt", "rx_syntax/specs/Names.antt"}
 
 
 def page(name):
@@ -90,13 +90,13 @@ def naming(word):
 THEOREM, TRUST, CHANGING = "docs/theorem.md", "docs/trust.md", "CONTRIBUTING.md"
 CLAIMS = [
     (THEOREM, r"`asked_any`.*?, (\d+) lines", lambda: used("rx_words/specs/Words.antt")),
-    (THEOREM, r"`Lexical.antt` and `Tokens.antt` of `crates/rx_token/specs/`, (\d+) lines", lambda: used("Lexical.antt", "Tokens.antt", "Grammar.antt")),
+    (THEOREM, r"`Lexical.antt` and `Tokens.antt` of `crates/rx_syntax/specs/`, (\d+) lines", lambda: used("Lexical.antt", "Tokens.antt", "Grammar.antt")),
     (THEOREM, r"`crates/rx_check/specs/Rules.antt`, (\d+) lines", lambda: used("rx_check/specs/Rules.antt")),
     (THEOREM, r"\(`crates/rx_trace/specs/`, (\d+) lines\)", lambda: sum(used(it) for it in trusted() if it.startswith("rx_trace/"))),
     (THEOREM, r"`crates/rx_gen/specs/Lines.antt`, (\d+) lines", lambda: used("rx_gen/specs/Lines.antt")),
     (THEOREM, r"\(`Numbers.antt`, (\d+) lines\)", lambda: used("rx_gen/specs/Numbers.antt")),
-    (THEOREM, r"`crates/rx_watch/specs/Text.antt`, (\d+) lines", lambda: used("rx_watch/specs/Text.antt")),
-    (THEOREM, r"`Cases.antt` (\d+) lines, `Pair.antt` of `crates/rx_pair/specs/` (\d+), `Limits.antt` of `crates/rx_reading/specs/` (\d+)",
+    (THEOREM, r"`crates/rx_monitor/specs/Text.antt`, (\d+) lines", lambda: used("rx_monitor/specs/Text.antt")),
+    (THEOREM, r"`Cases.antt` (\d+) lines, `Pair.antt` of `crates/rx_answers/specs/` (\d+), `Limits.antt` of `crates/rx_reading/specs/` (\d+)",
      lambda: used("Cases.antt"), lambda: used("Pair.antt"), lambda: used("rx_reading/specs/Limits.antt")),
     (THEOREM, r"with `Rooted.antt` of `crates/rx_runs/specs/`, (\d+) lines", lambda: used("Verdicts.antt", "Makes.antt", "Rooted.antt")),
     (THEOREM, r"`Paths.antt` of `crates/rx_span/specs/`, (\d+) lines", lambda: used("rx_span/specs/Chains.antt", "rx_span/specs/Paths.antt")),
@@ -107,7 +107,7 @@ CLAIMS = [
     (THEOREM, r"hits take (\d+) lines of `Laws.antt`", lambda: used("rx_rules/specs/Laws.antt")),
     (THEOREM, r"`Order.antt`, (\d+) lines", lambda: used("rx_rules/specs/Order.antt")),
     (THEOREM, r"(\d+) lines of the file say what turns", lambda: used("Picked.antt")),
-    (THEOREM, r"`crates/rx_picks/specs/Seeds.antt`, (\d+) lines", lambda: used("Seeds.antt")),
+    (THEOREM, r"`crates/rx_machine/specs/Seeds.antt`, (\d+) lines", lambda: used("Seeds.antt")),
     (TRUST, r"There are\s+([\d,]+) used lines", lambda: sum(it[0] for it in trusted().values())),
     (TRUST, r"with\s+their\s+lines \(([\d,]+) in\s+all\)", lambda: sum(it[1] for it in read_besides())),
     (TRUST, r"(\d+) more worked histories are whole runs, and (\d+) laws tell", lambda: laws("rx_worked") - 13, lambda: laws("rx_worked") - 24),
@@ -176,7 +176,8 @@ class Names(unittest.TestCase):
         for it in PAGES:
             for name in set(re.findall(r"\b(?:rx|tests_of)_[a-z_]+\b(?!\.|\()", it.read_text())):
                 self.assertIn(name, NAMES, it.name)
-        stands = {it.split(":")[0]: it.split(":")[1].split() for it in page("crates.txt").splitlines() if ":" in it}
+        lines = [it.partition("#")[0].partition(":") for it in page("crates.txt").splitlines()]
+        stands = {name: below.split() for name, found, below in lines if found}
         self.assertEqual(set(stands), NAMES)
         rows = dict(re.findall(r"^\| (\w+) \| ((?:rx_\w+(?:, )?)+|nothing) \|", page("docs/architecture.md"), re.M))
         for name in set(rows) & NAMES:

@@ -26,11 +26,11 @@ use Rattle.rx_trace.specs.Parts.{lost_part, masked_part, thrown_part, release_pa
 use Rattle.rx_trace.specs.EntryLines.{entry_text, entry_line, entry_lines}
 use Rattle.rx_trace.specs.EventLines.{journals_lines}
 use Rattle.rx_trace.specs.Text.{trace_text, setup_lines}
-use Rattle.rx_watch.specs.Text.{watch_text}
+use Rattle.rx_monitor.specs.Text.{watch_text}
 use Rattle.rx_gen.specs.Numbers.{has_some, starts_by, starts, prints_by, prints, dies, loses_by, loses, numbers, counts_text}
 use Rattle.rx_gen.specs.Lines.{lines}
 use Rattle.rx_script.specs.Faults.{OneScript}
-use Rattle.rx_nodes.specs.Grammar.{IsScriptOf}
+use Rattle.rx_syntax.specs.Grammar.{IsScriptOf}
 use Rattle.rx_words.specs.Words.{Asked, Step, Gen, Check, Verify, Span, Live, BadWord, Source, source, asked_any}
 use Rattle.rx_words.specs.Proper.{HasProper, SetupsAreProper}
 use Rattle.rx10.specs.declared.status.Status.{Status}

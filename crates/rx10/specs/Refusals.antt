@@ -2,7 +2,7 @@
 use Rattle.std.specs.Prelude.{◌≡◌, ℕ, ◌+◌, ◌≤◌, Bool, List, length, Option, Some}
 use Rattle.std.specs.Io.KnownBytes.{Consumes}
 use Rattle.rx_rules.specs.Code.{Block}
-use Rattle.rx_nodes.specs.Grammar.{IsScript}
+use Rattle.rx_syntax.specs.Grammar.{IsScript}
 use Rattle.rx_script.specs.Faults.{IsFaultAt}
 use Rattle.rx_check.specs.Rules.{verdict}
 use Rattle.rx_check.specs.Checked.{Meets}

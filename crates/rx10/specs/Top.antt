@@ -15,16 +15,16 @@ use Rattle.rx_rules.specs.Run.{Given, IsRun}
 use Rattle.rx_rules.specs.Picked.{IsPicked}
 use Rattle.rx_rules.specs.Laws.{NoEarlyRelease, LossExact}
 use Rattle.rx_rules.specs.Order.{OrderKept}
-use Rattle.rx_nodes.specs.Grammar.{IsScript}
+use Rattle.rx_syntax.specs.Grammar.{IsScript}
 use Rattle.rx_check.specs.Checked.{Meets}
 use Rattle.rx_trace.specs.Text.{trace_text}
 use Rattle.rx_words.specs.Words.{Asked, Step, Gen, Check, Verify, Span, Live, BadWord, Source, Zeros, Listed, Seeded, source}
-use Rattle.rx_picks.specs.Seeds.{seed_word}
+use Rattle.rx_machine.specs.Seeds.{seed_word}
 use Rattle.rx_monitor.specs.declared.summary.Summary.{Summary}
 use Rattle.rx_live.specs.Watching.{IsWatchOf}
-use Rattle.rx_watch.specs.Text.{watch_text}
+use Rattle.rx_monitor.specs.Text.{watch_text}
 use Rattle.rx10.specs.Live.{IsLawful}
-use Rattle.rx_pair.specs.Pair.{IsPair}
+use Rattle.rx_answers.specs.Pair.{IsPair}
 use Rattle.rx_answers.specs.declared.answers.Question.{Question}
 use Rattle.rx_answers.specs.declared.answers.Question.TheVariants as questions
 use Rattle.rx_answers.specs.Cases.{IsCase}

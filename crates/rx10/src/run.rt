@@ -3,7 +3,7 @@ ghost use Rattle.std.specs.Prelude.{◌≡◌, ◌≤◌, ◌<◌, ◌^◌, ℕ,
 ghost use Rattle.rx_rules.specs.Code.{Block};
 ghost use Rattle.rx_rules.specs.Run.{Proper, EndsWithRoot};
 ghost use Rattle.rx_rules.specs.Picked.{IsPicked};
-ghost use Rattle.rx_nodes.specs.Shape.{Stands};
+ghost use Rattle.rx_syntax.specs.Shape.{Stands};
 ghost use Rattle.rx_history.specs.Events.{events_of};
 ghost use Rattle.rx_history.specs.Setups.{given};
 ghost use Rattle.rx_words.specs.Commands.{source_of};
@@ -18,12 +18,11 @@ use rx_gen::{counts, generate, put_counts};
 use rx_history::{Entry, History, Journals, Setup};
 use rx_laws::{run_is_exact, run_is_not_early, run_is_ordered};
 use rx_live::{run_live, run_watched};
-use rx_machine::Machine;
-use rx_picks::{ListPicks, Picks, SeedPicks};
+use rx_machine::{ListPicks, Machine, Picks, SeedPicks};
+use rx_monitor::put_watch;
 use rx_runs::{entries_are_bounded, few_picks_are_used, picked_run_is_run};
 use rx_text::put_natural;
 use rx_trace::write_trace;
-use rx_watch::put_watch;
 use rx_words::{LiveWords, PickWords};
 use std::alloc::Global;
 use std::sync::Wait;
@@ -219,7 +218,7 @@ fn run_program<P: Picks>(
     entries_are_bounded();
     let joins = setup.joins.len() as u8;
     let ledger = CountLedger::open_for(alloc, setup.places, joins)?;
-    let machine = Machine::open(alloc, program, setup, ledger)?;
+    let machine = Machine::open(alloc, program, &setup, ledger)?;
     few_picks_are_used();
     let (history, journals, _) = machine.run(program, picks)?;
     Ok((history, journals))

@@ -3,17 +3,16 @@ ghost use Rattle.std.specs.Prelude.{◌≡◌, ◌⊎◌, ◌+◌, ◌<◌, ◌�
 ghost use Rattle.std.specs.Io.KnownBytes.{Consumes};
 ghost use Rattle.rx_base.specs.Outside.{Rose};
 ghost use Rattle.rx_rules.specs.Code.{Block};
-ghost use Rattle.rx_nodes.specs.Shape.{Stands};
+ghost use Rattle.rx_syntax.specs.Shape.{Stands};
 ghost use Rattle.rx10.specs.declared.status.Status.TheVariants.{Syntax, Bad, Pair, BadTrace, TooLong, ReadFault, NoMemory as NoRoom};
 ghost use Rattle.rx10.specs.Top.{WasRead, WasScript, IsGood, IsUnmade};
 ghost use Rattle.rx10.specs.Refusals.{GaveNoScript, GaveBadScript, GaveTooMuch, TookNoMore};
 
 use crate::outside::{ReadStop, read_all};
 use crate::status::Status;
-use rx_answers::laws::programs_have_no_fault;
-use rx_answers::{ProgramFault, program_of};
 use rx_base::Source;
 use rx_check::Program;
+use rx_script::{ProgramFault, program_of, programs_have_no_fault};
 use std::alloc::Global;
 
 // The bytes that the source gives, if they are no more than so many, or the status of what it gives.

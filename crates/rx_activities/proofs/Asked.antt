@@ -31,18 +31,18 @@ use Rattle.rx_book.specs.declared.passes.Note.{Note}
 use Rattle.rx_book.specs.History.{items_of}
 use Rattle.rx_book.specs.Passes.{view_of, word_of, note_view, note_word}
 use Rattle.rx_book.specs.Named.{BookName}
-use Rattle.rx_terms.specs.Held.{is_held}
-use Rattle.rx_terms.proofs.Beginning.{begins-so}
-use Rattle.rx_terms.specs.Steps.{Begins}
-use Rattle.rx_terms.proofs.Granting.{release_held}
-use Rattle.rx_terms.proofs.SpineGrants.{GrantsSpine, spine-grant, EmptyWhereDone, spine-done}
-use Rattle.rx_terms.proofs.Granting.{not_held}
-use Rattle.rx_terms.proofs.Targets.{targets-exist}
-use Rattle.rx_terms.specs.Steps.{Targets}
+use Rattle.rx_sound.specs.Held.{is_held}
+use Rattle.rx_sound.proofs.Beginning.{begins-so}
+use Rattle.rx_sound.specs.TermSteps.{Begins}
+use Rattle.rx_sound.proofs.Granting.{release_held}
+use Rattle.rx_sound.proofs.SpineGrants.{GrantsSpine, spine-grant, EmptyWhereDone, spine-done}
+use Rattle.rx_sound.proofs.Granting.{not_held}
+use Rattle.rx_sound.proofs.Targets.{targets-exist}
+use Rattle.rx_sound.specs.TermSteps.{Targets}
 use Rattle.rx_parts.specs.Ledger.{Walks}
 use Rattle.rx_parts.proofs.Reading.{actors-say}
-use Rattle.rx_parts_book.specs.declared.items.EventItem.{EventItem}
-use Rattle.rx_parts_book.specs.Histories.{event_named, ledger_items, cells_in}
+use Rattle.rx_parts.specs.declared.items.EventItem.{EventItem}
+use Rattle.rx_parts.specs.Histories.{event_named, ledger_items, cells_in}
 use Rattle.rx_objects.specs.declared.ledger.LedgerFixed.{LedgerFixed}
 use Rattle.rx_objects.specs.declared.ledger.LedgerOp.{LedgerOp}
 use Rattle.rx_objects.specs.Asking.{Requests, Suits, AskIsMade, HostAsks}
@@ -54,8 +54,8 @@ use Rattle.rx_objects.proofs.Staying.{entries_same}
 use Rattle.rx_activities.specs.declared.hand.Hand.{Hand}
 use Rattle.rx_activities.specs.Knowing.{StandsSo, Knows, Serves, since, entries_seen, tree_seen, kinds_told}
 use Rattle.rx_activities.specs.Inside.Sending.{SuitsStep}
-use Rattle.rx_terms.proofs.Silent.{silent_so}
-use Rattle.rx_terms.specs.Steps.{Silent}
+use Rattle.rx_sound.proofs.Silent.{silent_so}
+use Rattle.rx_sound.specs.TermSteps.{Silent}
 
 -- Tickets.
 

@@ -6,8 +6,8 @@ use Rattle.rx_book.specs.declared.views.View.{View}
 use Rattle.rx_book.specs.declared.passes.Note.{Note}
 use Rattle.rx_book.specs.declared.passes.Pass.{Pass}
 use Rattle.rx_book.specs.Passes.{view_of, word_of}
-use Rattle.rx_parts_book.specs.declared.items.EventItem.{EventItem}
-use Rattle.rx_parts_book.specs.Histories.{event_named}
+use Rattle.rx_parts.specs.declared.items.EventItem.{EventItem}
+use Rattle.rx_parts.specs.Histories.{event_named}
 use Rattle.rx_objects.specs.declared.mentions.Mentions.{Mentions}
 use Rattle.rx_objects.specs.Mentioned.{as_named, events_new}
 use Rattle.rx_activities.specs.declared.hand.Hand.{Hand}

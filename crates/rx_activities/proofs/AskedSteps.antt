@@ -4,15 +4,15 @@ use Rattle.std.proofs.Common.{ap, sym, ◌∙◌}
 use Rattle.rx_base.specs.declared.ids.PlaceId.{PlaceId}
 use Rattle.rx_base.specs.declared.values.Fault.{Fault}
 use Rattle.rx_rules.specs.Terms.{Term, Empty, Vars, Does, Local, Makes, Gets, Puts, Forgets, Opens, Calls, Spawns, Waits, Releases, Prints, Counts, Done, does, begins, granted, replaced}
-use Rattle.rx_nodes.specs.Shape.{Shape}
+use Rattle.rx_syntax.specs.Shape.{Shape}
 use Rattle.rx_control.specs.declared.control.Control.{Control}
-use Rattle.rx_plan.specs.declared.step.Next.{Next}
-use Rattle.rx_plan.specs.declared.step.Next.TheVariants.{Book as BookStep, Done as EndStep}
-use Rattle.rx_plan.specs.declared.step.Want.TheVariants.{Wait as WantWait}
-use Rattle.rx_plan.specs.Next.{next_of, carried}
+use Rattle.rx_history.specs.declared.step.Next.{Next}
+use Rattle.rx_history.specs.declared.step.Next.TheVariants.{Book as BookStep, Done as EndStep}
+use Rattle.rx_history.specs.declared.step.Want.TheVariants.{Wait as WantWait}
+use Rattle.rx_history.specs.Next.{next_of, carried}
 use Rattle.rx_control.specs.Stands.{StandsFor}
-use Rattle.rx_terms.proofs.Beginning.{begins-so}
-use Rattle.rx_terms.specs.Steps.{Begins}
+use Rattle.rx_sound.proofs.Beginning.{begins-so}
+use Rattle.rx_sound.specs.TermSteps.{Begins}
 use Rattle.rx_plan.proofs.Requests.{asks_wait}
 use Rattle.rx_activities.specs.Inside.Sending.{target, IsReady}
 

@@ -14,7 +14,7 @@ use Rattle.rx_finish.specs.declared.ledger.Caller.{Caller}
 use Rattle.rx_finish.specs.Callers.{MayAskMoving}
 use Rattle.rx_ticket.specs.declared.tickets.AnyTicket.{AnyTicket}
 use Rattle.rx_ticket.specs.declared.tickets.AnyTicket.TheVariants.{Running}
-use Rattle.rx_nodes.specs.Shape.{Stands}
+use Rattle.rx_syntax.specs.Shape.{Stands}
 use Rattle.rx_history.specs.Setups.{given}
 use Rattle.rx_control.specs.declared.control.Control.{Control}
 use Rattle.rx_control.specs.Stands.{StandsFor}
@@ -26,14 +26,14 @@ use Rattle.rx_book.specs.Passes.{view_of, word_of}
 use Rattle.rx_book.specs.Named.{BookName}
 use Rattle.rx_ledger.specs.Owned.{Owned, own_told}
 use Rattle.rx_ledger.specs.Answering.{asker}
-use Rattle.rx_terms.specs.Held.{is_held, Unheld}
-use Rattle.rx_terms.specs.Spine.{NoScopeOpen, Spine}
-use Rattle.rx_terms.proofs.Holding.{unheld-front}
-use Rattle.rx_terms.proofs.Spines.{flat-spine}
+use Rattle.rx_sound.specs.Held.{is_held, Unheld}
+use Rattle.rx_sound.specs.Spine.{NoScopeOpen, Spine}
+use Rattle.rx_sound.proofs.Holding.{unheld-front}
+use Rattle.rx_sound.proofs.Spines.{flat-spine}
 use Rattle.rx_parts.specs.Ledger.{Actor, Present, Walks, LegalLedger, stays}
-use Rattle.rx_parts_book.specs.declared.items.EntryItem.{EntryItem}
-use Rattle.rx_parts_book.specs.declared.items.EventItem.{EventItem}
-use Rattle.rx_parts_book.specs.Histories.{event_named, ledger_items, cells_in}
+use Rattle.rx_parts.specs.declared.items.EntryItem.{EntryItem}
+use Rattle.rx_parts.specs.declared.items.EventItem.{EventItem}
+use Rattle.rx_parts.specs.Histories.{event_named, ledger_items, cells_in}
 use Rattle.rx_objects.specs.declared.ledger.LedgerFixed.{LedgerFixed}
 use Rattle.rx_objects.specs.Mentioned.{as_named}
 use Rattle.rx_objects.specs.Ending.{entries_at}

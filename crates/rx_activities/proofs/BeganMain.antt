@@ -9,8 +9,8 @@ use Rattle.rx_rules.specs.Terms.{Empty}
 use Rattle.rx_runs.specs.SomeWords.{MakesSome}
 use Rattle.rx_finish.specs.declared.ledger.Caller.{Caller}
 use Rattle.rx_ticket.specs.declared.tickets.AnyTicket.TheVariants.{Running}
-use Rattle.rx_nodes.specs.Shape.{Stands}
-use Rattle.rx_nodes.specs.Grammar.{AllInRange}
+use Rattle.rx_syntax.specs.Shape.{Stands}
+use Rattle.rx_syntax.specs.Grammar.{AllInRange}
 use Rattle.rx_control.specs.declared.control.Control.{Control}
 use Rattle.rx_book.specs.declared.views.Stamped.{Stamped}
 use Rattle.rx_book.specs.declared.passes.Pass.{Pass}
@@ -19,13 +19,13 @@ use Rattle.rx_book.specs.Passes.{view_of, word_of}
 use Rattle.rx_book.specs.Named.{BookName}
 use Rattle.rx_ledger.specs.Owned.{own_told}
 use Rattle.rx_ledger.proofs.Rows.{main_begins}
-use Rattle.rx_terms.proofs.Holding.{unheld-items}
-use Rattle.rx_terms.proofs.Spines.{flat-items}
+use Rattle.rx_sound.proofs.Holding.{unheld-items}
+use Rattle.rx_sound.proofs.Spines.{flat-items}
 use Rattle.rx_control.proofs.SomeWords.{makes-some}
 use Rattle.rx_parts.specs.Ledger.{main_actor}
-use Rattle.rx_parts_book.specs.declared.items.EntryItem.{EntryItem}
-use Rattle.rx_parts_book.specs.declared.items.EventItem.{EventItem}
-use Rattle.rx_parts_book.specs.Histories.{cells_in}
+use Rattle.rx_parts.specs.declared.items.EntryItem.{EntryItem}
+use Rattle.rx_parts.specs.declared.items.EventItem.{EventItem}
+use Rattle.rx_parts.specs.Histories.{cells_in}
 use Rattle.rx_objects.specs.declared.ledger.LedgerFixed.{LedgerFixed}
 use Rattle.rx_objects.specs.Ending.{entries_at}
 use Rattle.rx_objects.specs.Place.{PlaceIsLegal, last_carried}

@@ -20,12 +20,12 @@ use Rattle.rx_runs.specs.Segments.{Stand}
 use Rattle.rx_finish.specs.declared.ledger.Caller.{Caller}
 use Rattle.rx_finish.specs.Callers.{HasNumbers}
 use Rattle.rx_ticket.specs.declared.tickets.AnyTicket.{AnyTicket}
-use Rattle.rx_nodes.specs.Shape.{Shape, Stands}
+use Rattle.rx_syntax.specs.Shape.{Shape, Stands}
 use Rattle.rx_history.specs.Setups.{given}
 use Rattle.rx_history.specs.declared.asks.Ask.TheVariants.{At as AskCall, Spawn as AskSpawn}
 use Rattle.rx_control.specs.declared.control.Control.{Control}
 use Rattle.rx_control.specs.Stands.{StandsFor}
-use Rattle.rx_plan.specs.Next.{next_of}
+use Rattle.rx_history.specs.Next.{next_of}
 use Rattle.rx_book.specs.declared.views.View.{View}
 use Rattle.rx_book.specs.Passes.{view_of}
 use Rattle.rx_book.specs.declared.passes.Pass.{Pass}
@@ -41,8 +41,8 @@ use Rattle.rx_ledger.proofs.Begins.{children_begin}
 use Rattle.rx_ledger.proofs.Called.{front_folds}
 use Rattle.rx_ledger.proofs.StaysGood.{places_more}
 use Rattle.rx_parts.specs.Ledger.{LedgerItem, actor_born, actors_born}
-use Rattle.rx_parts_book.specs.declared.items.EntryItem.{EntryItem}
-use Rattle.rx_parts_book.specs.declared.items.EventItem.{EventItem}
+use Rattle.rx_parts.specs.declared.items.EntryItem.{EntryItem}
+use Rattle.rx_parts.specs.declared.items.EventItem.{EventItem}
 use Rattle.rx_objects.specs.declared.ledger.LedgerFixed.{LedgerFixed}
 use Rattle.rx_objects.specs.declared.mentions.Mentions.{Mentions}
 use Rattle.rx_objects.specs.Ending.{entries_at}

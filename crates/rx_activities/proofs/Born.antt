@@ -27,7 +27,7 @@ use Rattle.rx_finish.specs.declared.ledger.Caller.{Caller}
 use Rattle.rx_finish.specs.Callers.{HasNumbers, MayAskMoving, MayAskArrive}
 use Rattle.rx_ticket.specs.declared.tickets.AnyTicket.{AnyTicket}
 use Rattle.rx_ticket.specs.declared.tickets.AnyTicket.TheVariants.{Moving, Running}
-use Rattle.rx_nodes.specs.Shape.{Stands}
+use Rattle.rx_syntax.specs.Shape.{Stands}
 use Rattle.rx_control.specs.declared.control.Control.{Control}
 use Rattle.rx_control.specs.Stands.{StandsFor}
 use Rattle.rx_history.specs.Setups.{given}
@@ -48,17 +48,17 @@ use Rattle.rx_ledger.specs.Kept.{Kept, Answered}
 use Rattle.rx_ledger.specs.Owned.{own_after, own_told}
 use Rattle.rx_ledger.proofs.Called.{own_append}
 use Rattle.rx_ledger.proofs.OwnTold.{numbers_are_left, unborn_owns}
-use Rattle.rx_terms.proofs.Granting.{unheld-child}
-use Rattle.rx_terms.proofs.SpineGrants.{flat-child}
+use Rattle.rx_sound.proofs.Granting.{unheld-child}
+use Rattle.rx_sound.proofs.SpineGrants.{flat-child}
 use Rattle.rx_parts.specs.Ledger.{LedgerItem, Actor, Present, Away, Walks, LegalLedger, actor_born, actors_born}
 use Rattle.rx_parts.specs.Calling.{EachSeated}
 use Rattle.rx_parts.specs.Growing.{MayRequest}
 use Rattle.rx_parts.proofs.Growing.{seat-makes}
 use Rattle.rx_parts.proofs.Telling.{birth-tells}
-use Rattle.rx_parts_book.specs.declared.items.EntryItem.{EntryItem}
-use Rattle.rx_parts_book.specs.declared.items.EventItem.{EventItem}
-use Rattle.rx_parts_book.specs.Histories.{event_named, ledger_items, made_events, cells_in}
-use Rattle.rx_parts_book.proofs.Fitting.{cells-stay}
+use Rattle.rx_parts.specs.declared.items.EntryItem.{EntryItem}
+use Rattle.rx_parts.specs.declared.items.EventItem.{EventItem}
+use Rattle.rx_parts.specs.Histories.{event_named, ledger_items, made_events, cells_in}
+use Rattle.rx_parts.proofs.Fitting.{cells-stay}
 use Rattle.rx_objects.specs.declared.ledger.LedgerFixed.{LedgerFixed}
 use Rattle.rx_objects.specs.Mentioned.{as_named, events_new}
 use Rattle.rx_objects.specs.Ending.{entries_at}

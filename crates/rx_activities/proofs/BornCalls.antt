@@ -29,9 +29,9 @@ use Rattle.rx_parts.specs.Calling.{AllHostItems}
 use Rattle.rx_parts.specs.Telling.{IsCall, number_of}
 use Rattle.rx_parts.proofs.Growing.{one-account}
 use Rattle.rx_parts.proofs.Prefixes.{prefix-legal}
-use Rattle.rx_parts_book.specs.declared.items.EntryItem.{EntryItem}
-use Rattle.rx_parts_book.specs.Histories.{ledger_item, ledger_items}
-use Rattle.rx_parts_book.proofs.Called.{others-between, call-is-one}
+use Rattle.rx_parts.specs.declared.items.EntryItem.{EntryItem}
+use Rattle.rx_parts.specs.Histories.{ledger_item, ledger_items}
+use Rattle.rx_parts.proofs.Called.{others-between, call-is-one}
 use Rattle.rx_objects.specs.declared.ledger.LedgerOp.{LedgerOp}
 use Rattle.rx_objects.specs.declared.ledger.LedgerReply.{LedgerReply}
 use Rattle.rx_objects.specs.declared.ledger.LedgerFixed.{LedgerFixed}

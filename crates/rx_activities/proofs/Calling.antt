@@ -12,37 +12,37 @@ use Rattle.rx_rules.specs.Fold.{tree_of}
 use Rattle.rx_rules.specs.Run.{Given, Folds}
 use Rattle.rx_rules.specs.Picked.{Player, Goes, stays as goes_none}
 use Rattle.rx_runs.specs.Steps.{TermSinks}
-use Rattle.rx_terms.proofs.Beginning.{begins-so}
-use Rattle.rx_terms.specs.Steps.{Begins}
-use Rattle.rx_stores.proofs.StoreCalls.{IsCall, is_call}
-use Rattle.rx_terms.proofs.Receiving.{call-so}
+use Rattle.rx_sound.proofs.Beginning.{begins-so}
+use Rattle.rx_sound.specs.TermSteps.{Begins}
+use Rattle.rx_store.proofs.StoreCalls.{IsCall, is_call}
+use Rattle.rx_sound.proofs.Receiving.{call-so}
 use Rattle.rx_runs.specs.SomeWords.{AsksSome}
 use Rattle.rx_runs.proofs.SomeWords.{goes_some}
-use Rattle.rx_nodes.specs.Shape.{Stands}
+use Rattle.rx_syntax.specs.Shape.{Stands}
 use Rattle.rx_finish.specs.declared.ledger.Caller.{Caller}
 use Rattle.rx_history.specs.Setups.{given}
 use Rattle.rx_check.specs.Checked.{Checked}
 use Rattle.rx_control.specs.declared.control.Control.{Control}
-use Rattle.rx_plan.specs.declared.step.CellOp.{CellOp}
-use Rattle.rx_plan.specs.declared.step.Next.TheVariants.{Cell as CellStep}
-use Rattle.rx_plan.specs.Next.{next_of}
+use Rattle.rx_history.specs.declared.step.CellOp.{CellOp}
+use Rattle.rx_history.specs.declared.step.Next.TheVariants.{Cell as CellStep}
+use Rattle.rx_history.specs.Next.{next_of}
 use Rattle.rx_control.specs.Stands.{StandsFor}
-use Rattle.rx_stores.specs.Asked.{MayAskStore}
+use Rattle.rx_store.specs.Asked.{MayAskStore}
 use Rattle.rx_book.specs.declared.views.Stamped.{Stamped}
 use Rattle.rx_book.specs.declared.passes.Pass.{Pass}
 use Rattle.rx_book.specs.History.{items_of}
 use Rattle.rx_book.specs.Passes.{view_of, word_of}
 use Rattle.rx_book.specs.Named.{BookName}
 use Rattle.rx_book.specs.Calls.{Looked}
-use Rattle.rx_terms.specs.Held.{is_held}
-use Rattle.rx_terms.specs.Spine.{Spine}
+use Rattle.rx_sound.specs.Held.{is_held}
+use Rattle.rx_sound.specs.Spine.{Spine}
 use Rattle.rx_ledger.specs.Answering.{asker}
 use Rattle.rx_parts.proofs.Lists.{one_item}
 use Rattle.rx_parts.specs.Ledger.{Actor, Walks, LegalLedger, stays, local, stores}
 use Rattle.rx_runs.specs.Segments.{Stand}
 use Rattle.rx_rules.specs.Plays.{Cells}
-use Rattle.rx_parts_book.specs.declared.items.EntryItem.{EntryItem}
-use Rattle.rx_parts_book.specs.Histories.{ledger_items}
+use Rattle.rx_parts.specs.declared.items.EntryItem.{EntryItem}
+use Rattle.rx_parts.specs.Histories.{ledger_items}
 use Rattle.rx_objects.specs.declared.ledger.LedgerFixed.{LedgerFixed}
 use Rattle.rx_objects.specs.declared.place.PlaceFixed.{PlaceFixed}
 use Rattle.rx_objects.specs.declared.place.PlaceOp.{PlaceOp}

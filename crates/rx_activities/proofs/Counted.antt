@@ -10,11 +10,11 @@ use Rattle.rx_rules.specs.Terms.{Vars, Does, Counts, does, granted}
 use Rattle.rx_rules.specs.Fold.{tree_of}
 use Rattle.rx_rules.specs.Plays.{vars_told}
 use Rattle.rx_rules.specs.Run.{Folds}
-use Rattle.rx_nodes.specs.Shape.{Shape, Stands}
+use Rattle.rx_syntax.specs.Shape.{Shape, Stands}
 use Rattle.rx_control.specs.declared.control.Control.{Control}
-use Rattle.rx_plan.specs.declared.step.Next.TheVariants.{Book as BookStep}
-use Rattle.rx_plan.specs.declared.step.Want.TheVariants.{Census as WantCensus}
-use Rattle.rx_plan.specs.Next.{next_of}
+use Rattle.rx_history.specs.declared.step.Next.TheVariants.{Book as BookStep}
+use Rattle.rx_history.specs.declared.step.Want.TheVariants.{Census as WantCensus}
+use Rattle.rx_history.specs.Next.{next_of}
 use Rattle.rx_control.specs.Stands.{StandsFor}
 use Rattle.rx_history.specs.Setups.{given}
 use Rattle.rx_history.specs.declared.asks.Ask.TheVariants.{Census as AskCensus}
@@ -32,9 +32,9 @@ use Rattle.rx_ledger.specs.Kept.{Answered}
 use Rattle.rx_ledger.specs.Owned.{Owned, own_told}
 use Rattle.rx_ledger.proofs.Called.{front_folds}
 use Rattle.rx_ledger.proofs.StaysGood.{places_more}
-use Rattle.rx_terms.proofs.Granting.{AfterGrant}
-use Rattle.rx_terms.proofs.SpineGrants.{GrantsSpine}
-use Rattle.rx_parts_book.specs.declared.items.EventItem.{EventItem}
+use Rattle.rx_sound.proofs.Granting.{AfterGrant}
+use Rattle.rx_sound.proofs.SpineGrants.{GrantsSpine}
+use Rattle.rx_parts.specs.declared.items.EventItem.{EventItem}
 use Rattle.rx_objects.specs.declared.ledger.LedgerFixed.{LedgerFixed}
 use Rattle.rx_objects.specs.Ending.{entries_at}
 use Rattle.rx_activities.specs.declared.replies.Child.{Child}

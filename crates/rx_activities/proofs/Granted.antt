@@ -19,16 +19,16 @@ use Rattle.rx_book.specs.declared.views.View.{View}
 use Rattle.rx_book.specs.declared.passes.Pass.{Pass}
 use Rattle.rx_book.specs.Passes.{view_of}
 use Rattle.rx_book.specs.Named.{BookName}
-use Rattle.rx_terms.specs.Held.{is_held, HeldInFront}
-use Rattle.rx_terms.specs.Spine.{Spine}
+use Rattle.rx_sound.specs.Held.{is_held, HeldInFront}
+use Rattle.rx_sound.specs.Spine.{Spine}
 use Rattle.rx_parts.specs.Ledger.{LedgerItem, Actor, Walks, stays, LegalLedger, actor_granted}
 use Rattle.rx_parts.specs.Growing.{NoneBy, MayRequest}
 use Rattle.rx_parts.specs.Calling.{AllHostItems}
 use Rattle.rx_parts.specs.Telling.{IsCall, number_of}
 use Rattle.rx_parts.proofs.Telling.{request-tells}
-use Rattle.rx_parts_book.specs.declared.items.EntryItem.{EntryItem}
-use Rattle.rx_parts_book.specs.declared.items.EventItem.{EventItem}
-use Rattle.rx_parts_book.specs.Histories.{event_named, ledger_items, cells_in}
+use Rattle.rx_parts.specs.declared.items.EntryItem.{EntryItem}
+use Rattle.rx_parts.specs.declared.items.EventItem.{EventItem}
+use Rattle.rx_parts.specs.Histories.{event_named, ledger_items, cells_in}
 use Rattle.rx_objects.specs.declared.ledger.LedgerFixed.{LedgerFixed}
 use Rattle.rx_objects.specs.Mentioned.{as_named}
 use Rattle.rx_objects.specs.Ending.{entries_at}

@@ -13,8 +13,8 @@ use Rattle.rx_rules.specs.Code.{Block}
 use Rattle.rx_rules.specs.Entries.{place_number}
 use Rattle.rx_rules.specs.Terms.{Term, Does, Opens, Calls, Spawns, Waits, Releases, Prints, does, begins, granted}
 use Rattle.rx_rules.specs.Plays.{Fits, raised_by, vars_told}
-use Rattle.rx_nodes.specs.Shape.{Shape, Stands}
-use Rattle.rx_plan.specs.Next.{next_of}
+use Rattle.rx_syntax.specs.Shape.{Shape, Stands}
+use Rattle.rx_history.specs.Next.{next_of}
 use Rattle.rx_finish.specs.declared.ledger.Caller.{Caller}
 use Rattle.rx_finish.specs.declared.ledger.Outcome.{Outcome}
 use Rattle.rx_history.specs.declared.asks.Ask.{Ask}
@@ -30,9 +30,9 @@ use Rattle.rx_ledger.specs.Answering.{asker}
 use Rattle.rx_ledger.specs.Calling.{owned_by}
 use Rattle.rx_ledger.specs.Kept.{Answered}
 use Rattle.rx_ledger.specs.Owned.{Owned, own_told}
-use Rattle.rx_terms.specs.Spine.{Spine}
-use Rattle.rx_terms.proofs.Granting.{AfterGrant, after-grant}
-use Rattle.rx_terms.proofs.SpineGrants.{GrantsSpine, spine-grant}
+use Rattle.rx_sound.specs.Spine.{Spine}
+use Rattle.rx_sound.proofs.Granting.{AfterGrant, after-grant}
+use Rattle.rx_sound.proofs.SpineGrants.{GrantsSpine, spine-grant}
 use Rattle.rx_objects.specs.declared.ledger.LedgerFixed.{LedgerFixed}
 use Rattle.rx_objects.specs.Ending.{entries_at}
 use Rattle.rx_activities.specs.declared.replies.Child.{Child}

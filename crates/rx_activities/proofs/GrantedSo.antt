@@ -8,11 +8,11 @@ use Rattle.rx_rules.specs.Code.{Block}
 use Rattle.rx_rules.specs.Terms.{Term, Empty, Vars, does, granted, replaced}
 use Rattle.rx_rules.specs.Fold.{tree_of}
 use Rattle.rx_rules.specs.Plays.{brought, vars_told}
-use Rattle.rx_nodes.specs.Shape.{Shape, Stands}
+use Rattle.rx_syntax.specs.Shape.{Shape, Stands}
 use Rattle.rx_control.specs.declared.control.Control.{Control}
-use Rattle.rx_plan.specs.declared.step.Next.{Next}
-use Rattle.rx_plan.specs.declared.step.Next.TheVariants.{Book as BookStep, Done as EndStep}
-use Rattle.rx_plan.specs.declared.step.Want.TheVariants.{Wait as WantWait}
+use Rattle.rx_history.specs.declared.step.Next.{Next}
+use Rattle.rx_history.specs.declared.step.Next.TheVariants.{Book as BookStep, Done as EndStep}
+use Rattle.rx_history.specs.declared.step.Want.TheVariants.{Wait as WantWait}
 use Rattle.rx_control.specs.Stands.{StandsFor}
 use Rattle.rx_finish.specs.declared.ledger.Caller.{Caller}
 use Rattle.rx_ticket.specs.declared.tickets.AnyTicket.{AnyTicket}
@@ -22,7 +22,7 @@ use Rattle.rx_book.specs.Named.{BookName}
 use Rattle.rx_ledger.specs.declared.asks.Reply.{Reply}
 use Rattle.rx_ledger.specs.Answering.{asker}
 use Rattle.rx_ledger.specs.Owned.{Owned, own_told}
-use Rattle.rx_parts_book.specs.declared.items.EventItem.{EventItem}
+use Rattle.rx_parts.specs.declared.items.EventItem.{EventItem}
 use Rattle.rx_objects.specs.declared.ledger.LedgerFixed.{LedgerFixed}
 use Rattle.rx_objects.specs.Ending.{entries_at}
 use Rattle.rx_activities.specs.declared.replies.Child.{Child}

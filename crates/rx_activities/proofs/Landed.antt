@@ -18,7 +18,7 @@ use Rattle.rx_finish.specs.Callers.{MayAskMoving, HasNumbers}
 use Rattle.rx_finish.specs.Calls.{landing}
 use Rattle.rx_ticket.specs.declared.tickets.AnyTicket.{AnyTicket}
 use Rattle.rx_ticket.specs.declared.tickets.AnyTicket.TheVariants.{Moving, Running, Held, Host}
-use Rattle.rx_nodes.specs.Shape.{Stands}
+use Rattle.rx_syntax.specs.Shape.{Stands}
 use Rattle.rx_history.specs.Setups.{given}
 use Rattle.rx_history.specs.declared.asks.Ask.TheVariants.{Arrive as AskArrive}
 use Rattle.rx_book.specs.declared.views.View.{View}
@@ -43,9 +43,9 @@ use Rattle.rx_ledger.proofs.OwnTold.{numbers_are_left}
 use Rattle.rx_ledger.proofs.GoesOn.{tickets_go_on}
 use Rattle.rx_parts.specs.Ledger.{LedgerItem, Actor, LegalLedger, actor_arrived}
 use Rattle.rx_parts.proofs.Telling.{arrival-tells}
-use Rattle.rx_parts_book.specs.declared.items.EntryItem.{EntryItem}
-use Rattle.rx_parts_book.specs.declared.items.EventItem.{EventItem}
-use Rattle.rx_parts_book.specs.Histories.{event_named, ledger_items, cells_in}
+use Rattle.rx_parts.specs.declared.items.EntryItem.{EntryItem}
+use Rattle.rx_parts.specs.declared.items.EventItem.{EventItem}
+use Rattle.rx_parts.specs.Histories.{event_named, ledger_items, cells_in}
 use Rattle.rx_objects.specs.declared.ledger.LedgerFixed.{LedgerFixed}
 use Rattle.rx_objects.specs.declared.ledger.LedgerOp.{LedgerOp}
 use Rattle.rx_objects.specs.Mentioned.{events_new}

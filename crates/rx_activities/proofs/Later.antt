@@ -24,12 +24,12 @@ use Rattle.rx_book.specs.declared.views.Stamped.{Stamped}
 use Rattle.rx_book.specs.declared.passes.Pass.{Pass}
 use Rattle.rx_book.specs.Passes.{view_of}
 use Rattle.rx_book.specs.Named.{BookName}
-use Rattle.rx_terms.specs.Held.{is_held}
-use Rattle.rx_terms.specs.Spine.{Spine}
+use Rattle.rx_sound.specs.Held.{is_held}
+use Rattle.rx_sound.specs.Spine.{Spine}
 use Rattle.rx_parts.specs.Ledger.{LedgerItem, LegalLedger}
 use Rattle.rx_parts.specs.Growing.{NoneBy}
-use Rattle.rx_parts_book.specs.declared.items.EntryItem.{EntryItem}
-use Rattle.rx_parts_book.specs.Histories.{ledger_item, ledger_items}
+use Rattle.rx_parts.specs.declared.items.EntryItem.{EntryItem}
+use Rattle.rx_parts.specs.Histories.{ledger_item, ledger_items}
 use Rattle.rx_objects.specs.declared.ledger.LedgerFixed.{LedgerFixed}
 use Rattle.rx_objects.specs.Ending.{entries_at}
 use Rattle.rx_objects.specs.Laws.{HoldsTicket}

@@ -7,7 +7,7 @@ use Rattle.rx_rules.specs.declared.entries.Entry.{Entry}
 use Rattle.rx_rules.specs.declared.entries.Entry.TheVariants.{Step}
 use Rattle.rx_rules.specs.Code.{Block}
 use Rattle.rx_rules.specs.Run.{Folds}
-use Rattle.rx_nodes.specs.Shape.{Shape, Stands}
+use Rattle.rx_syntax.specs.Shape.{Shape, Stands}
 use Rattle.rx_history.specs.Setups.{given}
 use Rattle.rx_finish.specs.declared.ledger.Caller.{Caller}
 use Rattle.rx_kills.specs.declared.schedule.Due.{Due}
@@ -25,11 +25,11 @@ use Rattle.rx_parts.specs.Ledger.{LedgerItem}
 use Rattle.rx_parts.specs.Growing.{NoneBy}
 use Rattle.rx_parts.specs.Calling.{AllHostItems}
 use Rattle.rx_parts.specs.Telling.{number_of}
-use Rattle.rx_parts_book.specs.declared.items.EntryItem.{EntryItem}
-use Rattle.rx_parts_book.specs.declared.items.EventItem.{EventItem}
-use Rattle.rx_parts_book.specs.Histories.{event_named, ledger_item, ledger_items}
-use Rattle.rx_parts_book.proofs.Called.{others-between}
-use Rattle.rx_parts_book.proofs.Fitting.{none_by}
+use Rattle.rx_parts.specs.declared.items.EntryItem.{EntryItem}
+use Rattle.rx_parts.specs.declared.items.EventItem.{EventItem}
+use Rattle.rx_parts.specs.Histories.{event_named, ledger_item, ledger_items}
+use Rattle.rx_parts.proofs.Called.{others-between}
+use Rattle.rx_parts.proofs.Fitting.{none_by}
 use Rattle.rx_objects.specs.declared.ledger.LedgerFixed.{LedgerFixed}
 use Rattle.rx_objects.specs.Ledger.{LedgerDoes, LedgerIsLegal}
 use Rattle.rx_objects.specs.Mentioned.{as_named, events_new, entries_in}

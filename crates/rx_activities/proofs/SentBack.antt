@@ -9,10 +9,10 @@ use Rattle.rx_rules.specs.Tree.{Tree}
 use Rattle.rx_rules.specs.Fold.{tree_of}
 use Rattle.rx_rules.specs.Plays.{Cells}
 use Rattle.rx_rules.specs.Run.{Given}
-use Rattle.rx_nodes.specs.Shape.{Shape, Stands}
+use Rattle.rx_syntax.specs.Shape.{Shape, Stands}
 use Rattle.rx_control.specs.declared.control.Control.{Control}
-use Rattle.rx_plan.specs.declared.step.Next.TheVariants.{Book as BookStep}
-use Rattle.rx_plan.specs.declared.step.Want.TheVariants.{Release as WantRelease}
+use Rattle.rx_history.specs.declared.step.Next.TheVariants.{Book as BookStep}
+use Rattle.rx_history.specs.declared.step.Want.TheVariants.{Release as WantRelease}
 use Rattle.rx_control.specs.Stands.{StandsFor}
 use Rattle.rx_history.specs.Setups.{given}
 use Rattle.rx_history.specs.declared.asks.Ask.{Ask}
@@ -31,18 +31,18 @@ use Rattle.rx_ledger.specs.Answering.{asker, MustWait, task, host}
 use Rattle.rx_ledger.specs.Asking.{IsHeld, MayAskFor, MayApply}
 use Rattle.rx_ledger.specs.Kept.{Answered}
 use Rattle.rx_ledger.specs.Owned.{own_told}
-use Rattle.rx_terms.specs.Held.{is_held}
-use Rattle.rx_terms.specs.Spine.{Spine}
-use Rattle.rx_terms.proofs.Granting.{release_held}
+use Rattle.rx_sound.specs.Held.{is_held}
+use Rattle.rx_sound.specs.Spine.{Spine}
+use Rattle.rx_sound.proofs.Granting.{release_held}
 use Rattle.rx_parts.specs.Ledger.{LedgerItem, Actor, Walks, LegalLedger, main_actor}
 use Rattle.rx_parts.specs.Growing.{NoneBy}
 use Rattle.rx_parts.specs.Calling.{AllHostItems}
 use Rattle.rx_parts.proofs.Determined.{leads_once, leads_split}
 use Rattle.rx_parts.proofs.Growing.{task-stays, hosts_lead}
 use Rattle.rx_parts.proofs.Prefixes.{prefix-legal}
-use Rattle.rx_parts_book.specs.declared.items.EntryItem.{EntryItem}
-use Rattle.rx_parts_book.specs.declared.items.EventItem.{EventItem}
-use Rattle.rx_parts_book.specs.Histories.{ledger_items, cells_in}
+use Rattle.rx_parts.specs.declared.items.EntryItem.{EntryItem}
+use Rattle.rx_parts.specs.declared.items.EventItem.{EventItem}
+use Rattle.rx_parts.specs.Histories.{ledger_items, cells_in}
 use Rattle.rx_objects.specs.declared.ledger.LedgerFixed.{LedgerFixed}
 use Rattle.rx_objects.specs.Ending.{entries_at}
 use Rattle.rx_objects.proofs.Staying.{item_by, all_hosts, cancel}

@@ -2,7 +2,7 @@
 use Rattle.std.specs.Prelude.{◌≡◌, Option}
 use Rattle.std.proofs.Common.{ap}
 use Rattle.rx_rules.specs.Code.{Block}
-use Rattle.rx_nodes.specs.Shape.{Shape, Stands}
+use Rattle.rx_syntax.specs.Shape.{Shape, Stands}
 use Rattle.rx_finish.specs.declared.ledger.Caller.{Caller}
 use Rattle.rx_history.specs.declared.asks.Ask.TheVariants.{Arrive as AskArrive, Root as AskRoot}
 use Rattle.rx_book.specs.Named.{BookName}

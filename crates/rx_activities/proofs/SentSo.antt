@@ -16,9 +16,9 @@ use Rattle.rx_rules.specs.Fold.{tree_of}
 use Rattle.rx_rules.specs.Plays.{Fits}
 use Rattle.rx_rules.specs.Run.{Given, Folds}
 use Rattle.rx_sound.specs.Sound.{Each}
-use Rattle.rx_nodes.specs.Shape.{Shape, Stands}
+use Rattle.rx_syntax.specs.Shape.{Shape, Stands}
 use Rattle.rx_control.specs.declared.control.Control.{Control}
-use Rattle.rx_plan.specs.Next.{next_of}
+use Rattle.rx_history.specs.Next.{next_of}
 use Rattle.rx_control.specs.Stands.{StandsFor}
 use Rattle.rx_history.specs.Setups.{given}
 use Rattle.rx_finish.specs.declared.ledger.Caller.{Caller}
@@ -47,9 +47,9 @@ use Rattle.rx_ledger.proofs.OwnTold.{numbers_are_left}
 use Rattle.rx_ledger.proofs.StaysGood.{tickets_stay_good, places_more}
 use Rattle.rx_parts.specs.Ledger.{LegalLedger}
 use Rattle.rx_parts.proofs.Prefixes.{prefix-legal}
-use Rattle.rx_parts_book.specs.declared.items.EntryItem.{EntryItem}
-use Rattle.rx_parts_book.specs.declared.items.EventItem.{EventItem}
-use Rattle.rx_parts_book.specs.Histories.{ledger_items}
+use Rattle.rx_parts.specs.declared.items.EntryItem.{EntryItem}
+use Rattle.rx_parts.specs.declared.items.EventItem.{EventItem}
+use Rattle.rx_parts.specs.Histories.{ledger_items}
 use Rattle.rx_objects.specs.declared.ledger.LedgerFixed.{LedgerFixed}
 use Rattle.rx_objects.specs.Ledger.{LedgerIsLegal}
 use Rattle.rx_objects.specs.Place.{PlaceIsLegal, last_carried}

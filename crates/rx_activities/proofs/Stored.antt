@@ -16,13 +16,13 @@ use Rattle.rx_rules.specs.Fold.{tree_of}
 use Rattle.rx_rules.specs.Run.{Given}
 use Rattle.rx_runs.specs.Steps.{TermSinks}
 use Rattle.rx_runs.specs.Segments.{Stand}
-use Rattle.rx_nodes.specs.Shape.{Stands}
+use Rattle.rx_syntax.specs.Shape.{Stands}
 use Rattle.rx_history.specs.Setups.{given}
 use Rattle.std.specs.Global.{Box}
 use Rattle.rx_control.specs.declared.control.Control.{Control}
-use Rattle.rx_plan.specs.declared.step.CellOp.{CellOp}
-use Rattle.rx_plan.specs.declared.step.Next.TheVariants.{Cell as CellStep}
-use Rattle.rx_plan.specs.Next.{next_of}
+use Rattle.rx_history.specs.declared.step.CellOp.{CellOp}
+use Rattle.rx_history.specs.declared.step.Next.TheVariants.{Cell as CellStep}
+use Rattle.rx_history.specs.Next.{next_of}
 use Rattle.rx_control.specs.Stands.{StandsFor}
 use Rattle.rx_store.specs.Kept.{last_stamp}
 use Rattle.rx_book.specs.declared.views.Stamped.{Stamped}
@@ -35,10 +35,10 @@ use Rattle.rx_book.specs.Calls.{Begins, Called, Looked}
 use Rattle.rx_book.proofs.History.{entries_by-append}
 use Rattle.rx_base.proofs.Prefixes.{prefix-self}
 use Rattle.rx_ledger.proofs.StaysGood.{places_more}
-use Rattle.rx_terms.specs.Held.{is_held, HeldInFront}
-use Rattle.rx_stores.proofs.StoreCalls.{IsCall}
-use Rattle.rx_terms.proofs.SpineGrants.{begun_is}
-use Rattle.rx_terms.proofs.Granting.{not_held}
+use Rattle.rx_sound.specs.Held.{is_held, HeldInFront}
+use Rattle.rx_store.proofs.StoreCalls.{IsCall}
+use Rattle.rx_sound.proofs.SpineGrants.{begun_is}
+use Rattle.rx_sound.proofs.Granting.{not_held}
 use Rattle.rx_parts.specs.Ledger.{LedgerItem, Walks}
 use Rattle.rx_parts.specs.Places.{MadeEvent, LegalPlace, journal_of, seen_by}
 use Rattle.rx_parts.specs.Closing.{StampedTo}
@@ -47,11 +47,11 @@ use Rattle.rx_parts.specs.Calling.{MayCallStore, EachSeated}
 use Rattle.rx_parts.proofs.Lists.{one_item}
 use Rattle.rx_parts.proofs.Growing.{top-stamp, seat-makes}
 use Rattle.rx_parts.proofs.Telling.{event-tells}
-use Rattle.rx_parts_book.specs.declared.items.EntryItem.{EntryItem}
-use Rattle.rx_parts_book.specs.declared.items.EventItem.{EventItem}
-use Rattle.rx_parts_book.specs.Histories.{event_named, ledger_items, made_event, made_events}
-use Rattle.rx_parts_book.proofs.Fitting.{caller-is-alone, cells-stay}
-use Rattle.rx_parts_book.proofs.Called.{others-between}
+use Rattle.rx_parts.specs.declared.items.EntryItem.{EntryItem}
+use Rattle.rx_parts.specs.declared.items.EventItem.{EventItem}
+use Rattle.rx_parts.specs.Histories.{event_named, ledger_items, made_event, made_events}
+use Rattle.rx_parts.proofs.Fitting.{caller-is-alone, cells-stay}
+use Rattle.rx_parts.proofs.Called.{others-between}
 use Rattle.rx_objects.specs.declared.ledger.LedgerFixed.{LedgerFixed}
 use Rattle.rx_objects.specs.declared.place.PlaceFixed.{PlaceFixed}
 use Rattle.rx_objects.specs.declared.place.PlaceOp.{PlaceOp}
@@ -66,9 +66,9 @@ use Rattle.rx_objects.proofs.Places.{journal_same, carried_same, carried_push, t
 use Rattle.rx_activities.specs.declared.hand.Hand.{Hand}
 use Rattle.rx_activities.specs.Knowing.{StandsSo, Knows, IsOfRun, Serves, since, kinds_told, entries_seen, tree_seen}
 use Rattle.rx_activities.specs.Inside.Answered.{PartsAre}
-use Rattle.rx_terms.proofs.Granting.{answer_waits}
-use Rattle.rx_terms.proofs.SpineGrants.{answer_spine}
-use Rattle.rx_terms.proofs.Beginning.{begun_one}
+use Rattle.rx_sound.proofs.Granting.{answer_waits}
+use Rattle.rx_sound.proofs.SpineGrants.{answer_spine}
+use Rattle.rx_sound.proofs.Beginning.{begun_one}
 use Rattle.rx_runs.proofs.Knowing.{answer_knows}
 use Rattle.rx_runs.proofs.SomeWords.{some-answered}
 use Rattle.rx_activities.proofs.Calling.{fixed_at, op_of, with_pass, walk_up, looked_stands, looked_stand, call_is}

@@ -11,19 +11,19 @@ use Rattle.rx_rules.specs.Picked.{Player, Goes, local as goes_by, stays as goes_
 use Rattle.rx_runs.specs.Segments.{Stand}
 use Rattle.rx_runs.proofs.SomeWords.{goes_some}
 use Rattle.rx_runs.proofs.Knowing.{local_knows}
-use Rattle.rx_nodes.specs.Shape.{Stands}
+use Rattle.rx_syntax.specs.Shape.{Stands}
 use Rattle.std.specs.Global.{Box}
 use Rattle.rx_control.specs.declared.control.Control.{Control}
 use Rattle.rx_control.specs.Stands.{StandsFor, Leaves}
-use Rattle.rx_plan.specs.declared.step.Next.TheVariants.{Local as LocalStep}
-use Rattle.rx_plan.specs.Next.{next_of}
+use Rattle.rx_history.specs.declared.step.Next.TheVariants.{Local as LocalStep}
+use Rattle.rx_history.specs.Next.{next_of}
 use Rattle.rx_plan.proofs.Told.{told_local}
 use Rattle.rx_check.specs.Checked.{Checked}
 use Rattle.rx_book.specs.Named.{BookName}
-use Rattle.rx_terms.specs.Held.{is_held}
-use Rattle.rx_terms.proofs.Holding.{AfterLocal, after-local}
-use Rattle.rx_terms.proofs.Spines.{LeavesSpine, spine-local}
-use Rattle.rx_terms.proofs.Granting.{not_held}
+use Rattle.rx_sound.specs.Held.{is_held}
+use Rattle.rx_sound.proofs.Holding.{AfterLocal, after-local}
+use Rattle.rx_sound.proofs.Spines.{LeavesSpine, spine-local}
+use Rattle.rx_sound.proofs.Granting.{not_held}
 use Rattle.rx_parts.specs.Ledger.{Walks, stays, local, stores}
 use Rattle.rx_objects.specs.declared.ledger.LedgerFixed.{LedgerFixed}
 use Rattle.rx_activities.specs.declared.hand.Hand.{Hand}

@@ -4,7 +4,7 @@ use Rattle.std.specs.Global.{Box}
 use Rattle.rx_base.specs.declared.ids.PlaceId.{PlaceId}
 use Rattle.rx_book.specs.Named.{BookName}
 use Rattle.rx_book.specs.declared.passes.Pass.{Pass}
-use Rattle.rx_parts_book.specs.declared.items.EntryItem.{EntryItem}
+use Rattle.rx_parts.specs.declared.items.EntryItem.{EntryItem}
 use Rattle.rx_objects.specs.declared.ledger.LedgerFixed.{LedgerFixed}
 use Rattle.rx_activities.specs.declared.hand.Hand.{Hand}
 use Rattle.rx_activities.specs.Knowing.{IsOfRun, Knows}

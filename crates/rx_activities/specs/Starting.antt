@@ -7,7 +7,7 @@ use Rattle.rx_runs.specs.SomeWords.{TermMakesSome}
 use Rattle.rx_finish.specs.declared.ledger.Caller.{Caller}
 use Rattle.rx_finish.specs.Callers.{MayAskArrive}
 use Rattle.rx_finish.specs.Calls.{landing}
-use Rattle.rx_nodes.specs.Shape.{Stands}
+use Rattle.rx_syntax.specs.Shape.{Stands}
 use Rattle.rx_history.specs.Setups.{given}
 use Rattle.rx_control.specs.declared.control.Control.{Control}
 use Rattle.rx_control.specs.Stands.{StandsFor}
@@ -16,12 +16,12 @@ use Rattle.rx_book.specs.declared.passes.Pass.{Pass}
 use Rattle.rx_book.specs.Passes.{view_of, word_of}
 use Rattle.rx_ledger.specs.Answering.{main_caller}
 use Rattle.rx_ledger.specs.Owned.{own_told}
-use Rattle.rx_terms.specs.Held.{Unheld}
-use Rattle.rx_terms.specs.Spine.{NoScopeOpen}
+use Rattle.rx_sound.specs.Held.{Unheld}
+use Rattle.rx_sound.specs.Spine.{NoScopeOpen}
 use Rattle.rx_parts.specs.Ledger.{Actor, Away, LegalLedger}
-use Rattle.rx_parts_book.specs.declared.items.EntryItem.{EntryItem}
-use Rattle.rx_parts_book.specs.declared.items.EventItem.{EventItem}
-use Rattle.rx_parts_book.specs.Histories.{ledger_items}
+use Rattle.rx_parts.specs.declared.items.EntryItem.{EntryItem}
+use Rattle.rx_parts.specs.declared.items.EventItem.{EventItem}
+use Rattle.rx_parts.specs.Histories.{ledger_items}
 use Rattle.rx_objects.specs.declared.ledger.LedgerFixed.{LedgerFixed}
 use Rattle.rx_activities.specs.declared.hand.Journey.{Journey}
 use Rattle.rx_activities.specs.Knowing.{entries_seen, tree_seen, IsOfRun}

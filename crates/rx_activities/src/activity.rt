@@ -11,7 +11,7 @@ use rx_book::Pass;
 use rx_check::{Program, checked};
 use rx_control::Control;
 use rx_objects::{LedgerBook, PlaceBook};
-use rx_parts_book::{EntryItem, EventItem};
+use rx_parts::{EntryItem, EventItem};
 use rx_ticket::{AnyTicket, Live, Ticket};
 use std::alloc::Global;
 use std::marker::{Model, PhantomData};

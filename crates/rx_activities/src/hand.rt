@@ -6,7 +6,7 @@ ghost use Rattle.rx_activities.specs.Inside.Births.{IsWith};
 use rx_base::{Batch, PlaceId};
 use rx_book::Pass;
 use rx_control::Control;
-use rx_parts_book::{EntryItem, EventItem};
+use rx_parts::{EntryItem, EventItem};
 use rx_ticket::{AnyTicket, InTransit, Live, Ticket};
 use std::alloc::{AllocFailed, Global};
 use std::snapshot::Snapshot;

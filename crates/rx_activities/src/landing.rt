@@ -14,7 +14,7 @@ use rx_finish::place_of;
 use rx_history::Ask;
 use rx_ledger::{Reply, Request};
 use rx_objects::{LedgerBook, LedgerOp, Mentions};
-use rx_parts_book::{EntryItem, EventItem};
+use rx_parts::{EntryItem, EventItem};
 use rx_rules::Where;
 use rx_ticket::{AnyTicket, InTransit, Ticket};
 use std::alloc::Global;

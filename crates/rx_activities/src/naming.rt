@@ -3,7 +3,7 @@ ghost use Rattle.std.specs.Prelude.{◌≡◌};
 ghost use Rattle.rx_activities.specs.Knowing.{IsOfRun};
 
 use rx_book::Pass;
-use rx_parts_book::EntryItem;
+use rx_parts::EntryItem;
 use std::marker::{Brand, Model, PhantomData};
 
 /// The book of a run's ledger, as contracts see it. Each run picks it.
@@ -37,7 +37,7 @@ pub struct LedgerPass<N: Naming> {
 
 impl<N: Naming> Model for LedgerPass<N> {
     ghost use Rattle.rx_book.specs.declared.passes.Pass.{Pass};
-    ghost use Rattle.rx_parts_book.specs.declared.items.EntryItem.{EntryItem};
+    ghost use Rattle.rx_parts.specs.declared.items.EntryItem.{EntryItem};
     ghost use Rattle.rx_activities.specs.Knowing.{IsOfRun};
 
     ghost Value = { Pass EntryItem };

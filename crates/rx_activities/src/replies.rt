@@ -14,7 +14,7 @@ use rx_check::{Program, checked};
 use rx_control::{Control, faults_raised};
 use rx_ledger::{Reply, Request};
 use rx_objects::LedgerBook;
-use rx_parts_book::{EntryItem, EventItem};
+use rx_parts::{EntryItem, EventItem};
 use rx_ticket::AnyTicket;
 use std::alloc::Global;
 use std::snapshot::Snapshot;

@@ -2,7 +2,7 @@
 ghost use Rattle.std.specs.Prelude.{◌≡◌, ◌≢◌, Some, IfOk, OnOk};
 ghost use Rattle.rx_rules.specs.Terms.{Term, does, begins};
 ghost use Rattle.rx_rules.specs.Plays.{begun};
-ghost use Rattle.rx_plan.specs.declared.step.Next.{Next as Step};
+ghost use Rattle.rx_history.specs.declared.step.Next.{Next as Step};
 ghost use Rattle.rx_control.specs.Stands.{StandsFor, Leaves};
 ghost use Rattle.rx_activities.specs.Turning.{IsKnown, StaysKnown};
 ghost use Rattle.rx_activities.specs.Inside.Stepping.{OnlySteps, IsNext};

@@ -2,7 +2,7 @@
 ghost use Rattle.std.specs.Prelude.{◌≡◌, ◌<◌, ◌≤◌, ◌++◌, ◌∷◌, [], ℕ, Some, false, IfOk, IfSome, List};
 ghost use Rattle.rx_base.specs.Sets.{has_bit};
 ghost use Rattle.rx_rules.specs.Terms.{Term, begins};
-ghost use Rattle.rx_plan.specs.declared.step.Next.{Next as Step};
+ghost use Rattle.rx_history.specs.declared.step.Next.{Next as Step};
 ghost use Rattle.rx_control.specs.Stands.{StandsFor};
 ghost use Rattle.rx_book.specs.Passes.{view_of, word_of};
 ghost use Rattle.rx_book.specs.Calls.{Looked};
@@ -21,7 +21,7 @@ use rx_check::{Program, checked};
 use rx_control::{CellOp, Control};
 use rx_finish::Caller;
 use rx_objects::{LedgerBook, PlaceBook, PlaceOp, PlaceReply, place_op_fits};
-use rx_parts_book::EntryItem;
+use rx_parts::EntryItem;
 use rx_store::Mark;
 use rx_ticket::AnyTicket;
 use std::alloc::Global;

@@ -1,7 +1,7 @@
 // A turn of an activity, from local steps to what it leaves.
 ghost use Rattle.std.specs.Prelude.{◌≡◌};
 ghost use Rattle.rx_check.specs.Checked.{Checked};
-ghost use Rattle.rx_plan.specs.declared.step.Next.{Next as Step};
+ghost use Rattle.rx_history.specs.declared.step.Next.{Next as Step};
 ghost use Rattle.rx_activities.specs.Knowing.{PlaceIs, Knows};
 ghost use Rattle.rx_activities.specs.Turning.{LeavesHand};
 ghost use Rattle.rx_activities.specs.Inside.Stepping.{IsNext};

@@ -16,7 +16,7 @@ use Rattle.rx_trace.specs.Parts.{batch_part}
 use Rattle.rx_trace.specs.EntryLines.{act_word, act_fields, entry_text, entry_line, entry_lines}
 use Rattle.rx_trace.specs.EventLines.{journals_lines}
 use Rattle.rx_trace.specs.Text.{setup_lines, trace_text}
-use Rattle.rx_pair.specs.Pair.{first_line}
+use Rattle.rx_answers.specs.Pair.{first_line}
 use Rattle.rx_answers.specs.Cases.{IsCase}
 
 -- a path in a batch takes a byte at least

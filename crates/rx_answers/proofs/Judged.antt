@@ -1,43 +1,30 @@
 -- What is known of a pair is known of it alone.
-use Rattle.std.proofs.Common.{◌≡◌, ℕ, Bool, true, false, List, Some, None, refl, ap, sym, ◌∙◌, subst}
-use Rattle.std.specs.Prelude.{Option, slice_index, ◌==◌, ◌||◌}
+use Rattle.std.proofs.Common.{◌≡◌, ℕ, Bool, true, false, List, refl, ap, sym, ◌∙◌, subst}
+use Rattle.std.specs.Prelude.{slice_index, ◌==◌, ◌||◌}
 use Rattle.rx_rules.specs.Code.{Block}
 use Rattle.rx_rules.specs.Order.{told}
 use Rattle.rx_rules.specs.Run.{Given}
 use Rattle.rx_rules.specs.declared.entries.Entry.{Entry}
 use Rattle.rx_rules.specs.declared.events.PlaceEvent.{PlaceEvent}
-use Rattle.rx_nodes.specs.Grammar.{IsScript}
-use Rattle.rx_script.specs.Faults.{OneScript, NoFault}
-use Rattle.rx_check.specs.Rules.{verdict}
+use Rattle.rx_syntax.specs.Grammar.{IsScript}
+use Rattle.rx_script.specs.Faults.{OneScript}
 use Rattle.rx_reading.specs.Reading.{IsText, TextsTellThePair, TextsHaveNoBadLine}
-use Rattle.rx_pair.specs.Pair.{PartsAreOne}
+use Rattle.rx_answers.specs.Pair.{PartsAreOne}
 use Rattle.rx_verdict.specs.declared.verdict.Verdict.{Verdict}
 use Rattle.rx_verdict.specs.declared.verdict.Verdict.TheVariants.{Run, Entry as AtEntry, End, Event, Open}
 use Rattle.rx_verdict.specs.Verdicts.{IsVerdict, OneVerdict}
 use Rattle.rx_span.specs.Chains.{OneSpan}
 use Rattle.rx_answers.specs.declared.answers.Question.{Question}
 use Rattle.rx_answers.specs.declared.answers.Question.TheVariants.{Verify, Span}
-use Rattle.rx_answers.specs.declared.program.ProgramFault.TheVariants as programs
+use Rattle.rx_script.specs.declared.program.ProgramFault.TheVariants as programs
 use Rattle.rx_answers.specs.declared.case.CaseFault.TheVariants as cases
 use Rattle.rx_answers.specs.Cases.{IsCase}
-use Rattle.rx_answers.specs.Faults.{ProgramsHaveNoFault, CasesHaveNoFault}
+use Rattle.rx_script.specs.Programs.{ProgramsHaveNoFault}
+use Rattle.rx_script.proofs.Programs.{one-code}
+use Rattle.rx_answers.specs.Faults.{CasesHaveNoFault}
 use Rattle.rx_answers.specs.Lines.{span_text}
 use Rattle.rx_answers.specs.Answers.{is_run, IsTextOf}
 use Rattle.rx_answers.specs.Laws.{AnswerIsOne, TextTellsAnswer}
-
-meets-none : (o : Option (ℕ × ℕ)) (x : ℕ × ℕ) → o ≡ None → o ≡ Some x → ⊥
-meets-none o x e f = cc
-
--- a script is one tree
-one-code : OneScript → (bytes : List ℕ) (s t : Block) → IsScript bytes s → IsScript bytes t → s ≡ t
-one-code one bytes s t (names, p) (other, q) = (one bytes names other s t p q).1
-
--- a script that meets the rules has no fault
-pub no-program-fault : NoFault → OneScript → ProgramsHaveNoFault
-no-program-fault none one bytes code (programs.Syntax at) script meets f = f.1 code script
-no-program-fault none one bytes code (programs.Bad rule node) script meets (other, s, e) =
-    meets-none (verdict code) (rule, node) meets (ap verdict (one-code one bytes code other script s) ∙ e)
-no-program-fault none one bytes code programs.NoMemory script meets f = tt
 
 -- the text of some entries and journals
 is-text : (bytes : List ℕ) (code : Block) (U : Given) (es : List Entry) (js : List (List PlaceEvent)) → (c : IsCase bytes code U es js) → IsText c.trace

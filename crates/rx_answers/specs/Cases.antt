@@ -4,11 +4,11 @@ use Rattle.rx_rules.specs.Code.{Block}
 use Rattle.rx_rules.specs.declared.entries.Entry.{Entry}
 use Rattle.rx_rules.specs.declared.events.PlaceEvent.{PlaceEvent}
 use Rattle.rx_rules.specs.Run.{Given}
-use Rattle.rx_nodes.specs.Grammar.{IsScript}
+use Rattle.rx_syntax.specs.Grammar.{IsScript}
 use Rattle.rx_check.specs.Checked.{Meets}
 use Rattle.rx_trace.specs.Text.{trace_text}
 use Rattle.rx_reading.specs.Limits.{IsWithin}
-use Rattle.rx_pair.specs.Pair.{IsPair}
+use Rattle.rx_answers.specs.Pair.{IsPair}
 
 -- The bytes are a pair of a script that meets the rules, and of the text of these entries and journals under this setup, which are
 -- within the limits of a trace text. That they are a run is not asked here.

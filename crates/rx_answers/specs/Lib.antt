@@ -1,3 +1,4 @@
+pub mod Pair
 pub mod Cases
 pub mod Faults
 pub mod Lines

@@ -3,7 +3,7 @@ ghost use Rattle.std.specs.Prelude.{◌≡◌, ◌≤◌, ◌<◌, ◌^◌, leng
 ghost use Rattle.rx_rules.specs.Code.{Block};
 ghost use Rattle.rx_rules.specs.Order.{told};
 ghost use Rattle.rx_rules.specs.Run.{IsRun};
-ghost use Rattle.rx_nodes.specs.Shape.{Stands};
+ghost use Rattle.rx_syntax.specs.Shape.{Stands};
 ghost use Rattle.rx_history.specs.Events.{events_of};
 ghost use Rattle.rx_history.specs.Setups.{given};
 ghost use Rattle.rx_verdict.specs.declared.verdict.Verdict.TheVariants.{Run};

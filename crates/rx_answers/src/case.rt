@@ -1,19 +1,19 @@
 // From a pair to what is judged.
 ghost use Rattle.std.specs.Prelude.{◌≡◌, ◌<◌, ◌^◌, length, IfOk, IfErr};
 ghost use Rattle.rx_rules.specs.Code.{Block};
-ghost use Rattle.rx_nodes.specs.Shape.{Stands};
+ghost use Rattle.rx_syntax.specs.Shape.{Stands};
 ghost use Rattle.rx_history.specs.Events.{events_of};
 ghost use Rattle.rx_history.specs.Setups.{given};
 ghost use Rattle.rx_answers.specs.Cases.{IsCase};
 ghost use Rattle.rx_answers.specs.Faults.{IsCaseFault};
 ghost use Rattle.rx_answers.specs.declared.case.CaseFault.TheVariants.{NoMemory as NoRoom};
 
-use crate::program::{ProgramFault, program_of};
+use crate::split_pair;
 use rx_base::NoMemory;
 use rx_check::Program;
 use rx_history::{History, Journals};
-use rx_pair::split_pair;
 use rx_reading::{TraceFault, read_trace};
+use rx_script::{ProgramFault, program_of};
 use std::alloc::Global;
 
 /// Why no answer was made of bytes. A cause comes only where none before it stands.

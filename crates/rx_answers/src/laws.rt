@@ -1,10 +1,10 @@
 //! Laws of answers. They do nothing when they run.
-ghost use Rattle.rx_answers.specs.Faults.{ProgramsHaveNoFault, CasesHaveNoFault};
+ghost use Rattle.rx_answers.specs.Faults.{CasesHaveNoFault};
 ghost use Rattle.rx_answers.specs.Laws.{AnswerIsOne, TextTellsAnswer, WorkedLines};
 
-use rx_pair::parts_are_one;
+use crate::parts_are_one;
 use rx_reading::laws::{texts_have_no_bad_line, texts_tell_the_pair};
-use rx_script::{no_fault_in_script, one_script};
+use rx_script::{one_script, programs_have_no_fault};
 use rx_span::laws::one_span;
 use rx_verdict::verdict_is_one;
 
@@ -28,14 +28,6 @@ pub fn text_tells_answer()
 pub fn worked_lines()
     ensures { WorkedLines }
 {}
-
-/// Bytes that are a script which meets the rules are refused only for lack of memory.
-pub fn programs_have_no_fault()
-    ensures { ProgramsHaveNoFault }
-{
-    no_fault_in_script();
-    one_script();
-}
 
 /// Bytes that give something to judge are refused only for lack of memory.
 pub fn cases_have_no_fault()

@@ -1,3 +1,4 @@
+pub mod Latches
 pub mod Masks
 pub mod Or
 pub mod Numbers

@@ -1,3 +1,5 @@
+pub mod Locks
+pub mod Latched
 pub use Rattle.atomic_table.specs.Seated
 pub mod Numbers
 pub mod History

@@ -10,8 +10,8 @@ ghost use Rattle.rx_book.specs.Passes.{view_of, word_of, note_view, note_word, I
 use crate::objects::{Added, Dies, Object};
 use crate::passes::{Note, Pass};
 use crate::word::{Spot, Word};
+use crate::{Fact, Lock};
 use rx_base::{NoMemory, PlaceSet};
-use rx_lock::{Fact, Lock};
 use std::alloc::Global;
 use std::marker::{Brand, Model, PhantomData};
 use std::snapshot::Snapshot;

@@ -15,7 +15,7 @@ use Rattle.rx_rules.specs.declared.events.Cell.TheVariants as cells
 use Rattle.rx_rules.specs.Code.{Block}
 use Rattle.rx_rules.specs.Terms.{Vars, no_vars, bound, Term, Empty, Raise, Answer, answered, vars_after, Gives, Fine, Fails, Does, Local, Makes, Gets, Puts, Forgets, Opens, Calls, Spawns, Waits, Releases, Prints, Counts, Done, does, granted, replaced, after_it}
 use Rattle.rx_rules.specs.Plays.{Tells, Fits, brought, vars_told}
-use Rattle.rx_nodes.specs.Named.{NamesAreNumbered}
+use Rattle.rx_syntax.specs.Named.{NamesAreNumbered}
 use Rattle.rx_base.specs.Lists.{has}
 use Rattle.rx_check.specs.Rules.{Kind, kind_of, nodes}
 use Rattle.rx_check.specs.Defined.{TermComes, main, local, stores, asks, starts, AlwaysDefined, FewNames}

@@ -3,10 +3,10 @@ use Rattle.std.proofs.Common.{◌≡◌, ◌<◌, List, Some, refl, ap, sym, ◌
 use Rattle.std.specs.Prelude.{slice_get}
 use Rattle.std.proofs.lemmas.Option.{same_Some}
 use Rattle.rx_rules.specs.Code.{Expr, Num, Name, Here, Bin}
-use Rattle.rx_nodes.specs.declared.nodes.ExprId.{ExprId}
-use Rattle.rx_nodes.specs.declared.nodes.Expr.{Expr as Part}
-use Rattle.rx_nodes.specs.declared.nodes.Expr.TheVariants.{Num as NumPart, Name as NamePart, Here as HerePart, Bin as BinPart}
-use Rattle.rx_nodes.specs.Shape.{ExprStands, op_of}
+use Rattle.rx_syntax.specs.declared.nodes.ExprId.{ExprId}
+use Rattle.rx_syntax.specs.declared.nodes.Expr.{Expr as Part}
+use Rattle.rx_syntax.specs.declared.nodes.Expr.TheVariants.{Num as NumPart, Name as NamePart, Here as HerePart, Bin as BinPart}
+use Rattle.rx_syntax.specs.Shape.{ExprStands, op_of}
 
 -- what a part stands for, by the part
 abbrev pub PartIs : List Part → ExprId → Part → Expr → Type 0

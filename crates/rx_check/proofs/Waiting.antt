@@ -3,8 +3,8 @@ use Rattle.std.proofs.Common.{◌≡◌, ℕ, ℤ, zero, suc, ◌+◌, ◌-◌, 
 use Rattle.std.proofs.lemmas.Bool.Decides.{nat_tests}
 use Rattle.std.proofs.Math.Bool.{or-false}
 use Rattle.rx_rules.specs.Code.{Expr, Num, Name, Here, Bin}
-use Rattle.rx_nodes.specs.declared.nodes.Expr.{Expr as Part}
-use Rattle.rx_nodes.specs.Shape.{ExprStands}
+use Rattle.rx_syntax.specs.declared.nodes.Expr.{Expr as Part}
+use Rattle.rx_syntax.specs.Shape.{ExprStands}
 use Rattle.rx_check.specs.Rules.{pairs_in}
 use Rattle.rx_check.specs.Inside.Walk.{join, no_uses, uses_in, name_uses, pair_uses, Yields, weight, weights}
 use Rattle.rx_check.specs.declared.uses.Uses.{Uses}

@@ -1,7 +1,7 @@
 -- What contracts see of a checked script.
 use Rattle.std.specs.Prelude.{◌≡◌, ℕ, None}
 use Rattle.rx_rules.specs.Code.{Block, work}
-use Rattle.rx_nodes.specs.Shape.{Shape, Stands}
+use Rattle.rx_syntax.specs.Shape.{Shape, Stands}
 use Rattle.rx_check.specs.Rules.{verdict}
 
 -- a script by number, and its work

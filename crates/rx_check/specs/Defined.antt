@@ -9,8 +9,8 @@ use Rattle.rx_rules.specs.Code.{Block, Stmt}
 use Rattle.rx_rules.specs.Terms.{Term, Empty, Raise, Run, Turns, Trying, Body, Held, Vars, no_vars, value_of, items, Local, does}
 use Rattle.rx_rules.specs.Terms.{Answer, answered, vars_after, granted, child}
 use Rattle.rx_rules.specs.Plays.{Tells, Fits, brought, vars_told}
-use Rattle.rx_token.specs.Tokens.{AreNames}
-use Rattle.rx_nodes.specs.Grammar.{spellings}
+use Rattle.rx_syntax.specs.Tokens.{AreNames}
+use Rattle.rx_syntax.specs.Grammar.{spellings}
 use Rattle.rx_base.specs.Lists.{has}
 use Rattle.rx_check.specs.Rules.{Kind, names_of_all, exprs_of, targets_of, assigned}
 use Rattle.rx_check.specs.Checked.{Meets}

@@ -1,14 +1,14 @@
 // The five rules.
 ghost use Rattle.std.specs.Prelude.{◌≡◌, Some, IfOk, IfErr, IsErrOf, ℕ};
 ghost use Rattle.rx_rules.specs.Code.{Block, work};
-ghost use Rattle.rx_nodes.specs.Shape.{Stands};
+ghost use Rattle.rx_syntax.specs.Shape.{Stands};
 ghost use Rattle.rx_check.specs.Rules.{verdict};
 ghost use Rattle.rx_check.specs.Checked.{Meets};
 ghost use Rattle.rx_check.specs.declared.checker.CheckCause.TheVariants.{Bad, NoMemory};
 
 use crate::Program;
 use crate::walk::Walk;
-use rx_nodes::{Script, whole};
+use rx_syntax::{Script, whole};
 use std::alloc::{AllocFailed, Global};
 
 /// Why a script was not accepted.

@@ -1,4 +1,4 @@
-//! Checked scripts: the five rules that a script must meet before it is run, and its work. It stands on rx_nodes. docs/language.md
+//! Checked scripts: the five rules that a script must meet before it is run, and its work. It stands on rx_syntax. docs/language.md
 //! states the rules.
 #![tactic(auto)]
 

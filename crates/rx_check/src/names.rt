@@ -2,7 +2,7 @@
 ghost use Rattle.std.specs.Prelude.{◌≡◌, option_map};
 ghost use Rattle.rx_check.specs.Inside.Walk.{is_in, kind_as, kind_in, seen_all};
 
-use rx_nodes::NameId;
+use rx_syntax::NameId;
 
 // What a name holds.
 #[derive(Clone, Copy, Debug, PartialEq, Eq)]

@@ -3,7 +3,7 @@ ghost use Rattle.std.specs.Prelude.{◌≡◌, ◌≤◌, Some, None};
 ghost use Rattle.rx_check.specs.Inside.Walk.{bodies_of, cap, parts_of, work_with};
 
 use crate::names::{Kind, Seen};
-use rx_nodes::{BlockId, ExprId, NameId, Stmt};
+use rx_syntax::{BlockId, ExprId, NameId, Stmt};
 
 // A statement's own expressions, its target and what it assigns.
 #[derive(Clone, Copy, Debug, PartialEq, Eq)]

@@ -1,12 +1,12 @@
 // A script that meets the rules.
 ghost use Rattle.std.specs.Prelude.{◌≡◌, ◌≤◌};
 ghost use Rattle.rx_rules.specs.Code.{Block, work};
-ghost use Rattle.rx_nodes.specs.Shape.{Stands};
-ghost use Rattle.rx_nodes.specs.Grammar.{AllInRange, spellings};
-ghost use Rattle.rx_token.specs.Tokens.{AreNames};
+ghost use Rattle.rx_syntax.specs.Shape.{Stands};
+ghost use Rattle.rx_syntax.specs.Grammar.{AllInRange, spellings};
+ghost use Rattle.rx_syntax.specs.Tokens.{AreNames};
 ghost use Rattle.rx_check.specs.Checked.{Meets};
 
-use rx_nodes::{Script, whole};
+use rx_syntax::{Script, whole};
 use std::marker::Model;
 
 /// A checked script: it meets the five rules of docs/language.md.

@@ -1,7 +1,7 @@
 // What an expression uses. It may be nested as deep as a script is long, so it is gone through without recursion.
 ghost use Rattle.std.specs.Prelude.{◌≡◌, ◌<◌, List, [], ◌∷◌, ◌++◌, IfOk, IfErr, OnOk};
 ghost use Rattle.rx_rules.specs.Code.{Expr as TheExpr};
-ghost use Rattle.rx_nodes.specs.Shape.{ExprStands};
+ghost use Rattle.rx_syntax.specs.Shape.{ExprStands};
 ghost use Rattle.rx_check.specs.Inside.Walk.{join, no_uses, uses_in, uses_all, OptionStands, Yields, name_uses, pair_uses, weights};
 ghost use Rattle.rx_check.specs.declared.uses.Uses.{Uses as TheUses};
 ghost use Rattle.rx_check.specs.declared.checker.CheckCause.TheVariants.{NoMemory};
@@ -9,7 +9,7 @@ ghost use Rattle.rx_check.specs.declared.checker.CheckCause.TheVariants.{NoMemor
 use crate::CheckCause;
 use crate::names::{Kind, is_known, kind_of};
 use crate::walk::Walk;
-use rx_nodes::{Expr, ExprId, NameId, Script};
+use rx_syntax::{Expr, ExprId, NameId, Script};
 use std::alloc::Global;
 
 // What is wrong with an expression: a name that is not known, a reference, or more than 32 pairs of parentheses in one another.

@@ -2,7 +2,7 @@
 ghost use Rattle.std.specs.Prelude.{◌≡◌, ℕ, suc, ◌+◌, ◌<◌, ◌≤◌, List, [], ◌∷◌, ◌++◌, Option, Some, None, option_map, Result, Ok, Err};
 ghost use Rattle.std.specs.Prelude.{IfOk, IfErr, OnOk, IsErrOf};
 ghost use Rattle.rx_rules.specs.Code.{Block, Stmt as TheStmt, work, work_of};
-ghost use Rattle.rx_nodes.specs.Shape.{BlockStands, StmtIs};
+ghost use Rattle.rx_syntax.specs.Shape.{BlockStands, StmtIs};
 ghost use Rattle.rx_check.specs.Rules.{ANumber, assigned, inside, learned, sights};
 ghost use Rattle.rx_check.specs.Inside.Walk.{any_target, cap, gets_other_kind, is_of_kind, is_one_more, is_unknown, known_with, noted};
 ghost use Rattle.rx_check.specs.Inside.Walk.{rule_from, rule_with, sights_run, seen_all, seen_as, seen_with, sofar_of, Extends, Knows};
@@ -12,7 +12,7 @@ use crate::CheckCause;
 use crate::names::{Kind, Seen, is_known, kind_of};
 use crate::parts::{Bodies, Parts, blocks, capped, split, total};
 use crate::uses::{Uses, option_use};
-use rx_nodes::{BlockId, NameId, Script, Stmt};
+use rx_syntax::{BlockId, NameId, Script, Stmt};
 use std::alloc::Global;
 
 // The names assigned so far, those that are known here, and how many statements were gone through.

@@ -5,10 +5,10 @@ use Rattle.rx_base.specs.declared.values.Fault.{Fault}
 use Rattle.rx_base.specs.declared.values.Value.{Value}
 use Rattle.rx_rules.specs.Code.{Expr, Block, Stmt, SetTo, New, Get, Put, Forget, Census, Print, Throw, Async, AtAsync, At, Finish, If, Repeat, Try, Then}
 use Rattle.rx_rules.specs.Terms.{Term, Empty, Run, Raise, Turns as TurnsTerm, Trying, Body as BodyTerm, Held as HeldTerm, Fails, answered, answer_of, replaced, after_it, receives, stmt_receives, granted, stmt_granted, or_raise, at}
-use Rattle.rx_nodes.specs.declared.nodes.ExprId.{ExprId}
-use Rattle.rx_nodes.specs.declared.nodes.BlockId.{BlockId}
-use Rattle.rx_nodes.specs.declared.nodes.Stmt.TheVariants.{Finish as FinishNode, At as AtNode}
-use Rattle.rx_nodes.specs.Shape.{Shape, StmtIs, BlockStands}
+use Rattle.rx_syntax.specs.declared.nodes.ExprId.{ExprId}
+use Rattle.rx_syntax.specs.declared.nodes.BlockId.{BlockId}
+use Rattle.rx_syntax.specs.declared.nodes.Stmt.TheVariants.{Finish as FinishNode, At as AtNode}
+use Rattle.rx_syntax.specs.Shape.{Shape, StmtIs, BlockStands}
 use Rattle.rx_control.specs.Levels.{Level, More, Again, Tried, Inside, Waiting, seq, wrap, term_of}
 use Rattle.rx_control.specs.Inside.Front.{levels_opened}
 use Rattle.rx_control.proofs.Wrapping.{replaced-wrap, after-wrap, receives-wrap, granted-wrap}

@@ -2,8 +2,8 @@
 use Rattle.std.proofs.Common.{◌≡◌, ℕ, suc, List, ◌∷◌, ◌++◌, Option, ap, ◌∙◌}
 use Rattle.std.specs.Prelude.{option_to_list}
 use Rattle.rx_rules.specs.Terms.{Term, Run, stmt_child, child, at}
-use Rattle.rx_nodes.specs.Shape.{Shape}
-use Rattle.rx_nodes.specs.declared.nodes.BlockId.{BlockId}
+use Rattle.rx_syntax.specs.Shape.{Shape}
+use Rattle.rx_syntax.specs.declared.nodes.BlockId.{BlockId}
 use Rattle.rx_control.specs.Levels.{More, seq}
 use Rattle.rx_control.specs.declared.frame.Frame.{Frame}
 use Rattle.rx_control.specs.declared.control.Control.{Control}

@@ -7,15 +7,15 @@ use Rattle.rx_base.specs.declared.values.Value.TheVariants.{Num as Number}
 use Rattle.rx_base.specs.declared.values.Fault.TheVariants.{Thrown, WrongPlace}
 use Rattle.rx_rules.specs.Code.{Stmt, SetTo, New, Get, Put, Forget, Census, Print, Throw, Async, AtAsync, At, Finish, If, Repeat, Try}
 use Rattle.rx_rules.specs.Terms.{Vars, Term, Empty, Run, Raise, Turns, Trying, Body, Held, Does, Local, Makes, Gets, Puts, Forgets, Opens, Calls, Spawns, Waits, Releases, Prints, Counts, Done, does, stmt_does, begins, within, with_number, with_place, eval, target_of, ref_in, value_of, raise, at, bound, items, is_zero}
-use Rattle.rx_nodes.specs.declared.nodes.BlockId.{BlockId}
-use Rattle.rx_nodes.specs.declared.nodes.NameId.{NameId}
-use Rattle.rx_nodes.specs.declared.nodes.Stmt.{Stmt as Node}
-use Rattle.rx_nodes.specs.declared.nodes.Stmt.TheVariants.{Census as CensusNode}
-use Rattle.rx_nodes.specs.Shape.{Shape, StmtIs}
-use Rattle.rx_plan.specs.Next.{next_of}
+use Rattle.rx_syntax.specs.declared.nodes.BlockId.{BlockId}
+use Rattle.rx_syntax.specs.declared.nodes.NameId.{NameId}
+use Rattle.rx_syntax.specs.declared.nodes.Stmt.{Stmt as Node}
+use Rattle.rx_syntax.specs.declared.nodes.Stmt.TheVariants.{Census as CensusNode}
+use Rattle.rx_syntax.specs.Shape.{Shape, StmtIs}
+use Rattle.rx_history.specs.Next.{next_of}
 use Rattle.rx_control.specs.Levels.{Level, More, seq}
-use Rattle.rx_plan.specs.declared.step.Next.TheVariants.{Book}
-use Rattle.rx_plan.specs.declared.step.Want.TheVariants.{Census as CensusWanted}
+use Rattle.rx_history.specs.declared.step.Next.TheVariants.{Book}
+use Rattle.rx_history.specs.declared.step.Want.TheVariants.{Census as CensusWanted}
 use Rattle.rx_control.specs.declared.frame.Frame.{Frame}
 use Rattle.rx_control.specs.declared.control.Control.{Control}
 use Rattle.rx_control.specs.Stands.{path_of}

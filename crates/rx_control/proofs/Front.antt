@@ -6,15 +6,15 @@ use Rattle.std.proofs.lemmas.Option.{slice_get_within, get_or_from_slice_get}
 use Rattle.rx_base.specs.declared.values.Fault.{Fault}
 use Rattle.rx_rules.specs.Code.{Block, Stmt, Nothing, Then}
 use Rattle.rx_rules.specs.Terms.{Vars, Empty, Run, Raise, Turns, Trying, Body as BodyTerm, Held as HeldTerm, Does, Local, Makes, Gets, Puts, Forgets, Opens, Calls, Spawns, Waits, Releases, Prints, Counts, Done, does, stmt_does, items, at, catches}
-use Rattle.rx_nodes.specs.declared.nodes.StmtId.{StmtId}
-use Rattle.rx_nodes.specs.declared.nodes.BlockId.{BlockId}
-use Rattle.rx_nodes.specs.declared.nodes.Stmt.{Stmt as Node}
-use Rattle.rx_nodes.specs.Shape.{Shape, ListStands, StmtIs}
+use Rattle.rx_syntax.specs.declared.nodes.StmtId.{StmtId}
+use Rattle.rx_syntax.specs.declared.nodes.BlockId.{BlockId}
+use Rattle.rx_syntax.specs.declared.nodes.Stmt.{Stmt as Node}
+use Rattle.rx_syntax.specs.Shape.{Shape, ListStands, StmtIs}
 use Rattle.rx_control.specs.Levels.{Level, More, Again, Tried, Inside, Waiting, Settled, seq, wrap, term_of}
 use Rattle.rx_control.specs.declared.frame.Frame.{Frame}
 use Rattle.rx_control.specs.declared.frame.Frame.TheVariants.{Seq}
 use Rattle.rx_control.specs.Stands.{path_of, FramesStand}
-use Rattle.rx_plan.specs.Next.{next_of}
+use Rattle.rx_history.specs.Next.{next_of}
 use Rattle.rx_control.specs.Inside.Front.{lifted, Awaits}
 use Rattle.rx_control.proofs.Wrapping.{does-wrap}
 use Rattle.rx_control.proofs.Moves.{top-stands, path-snoc}

@@ -3,15 +3,15 @@ use Rattle.std.proofs.Common.{◌≡◌, ℕ, suc, List, [], ◌∷◌, ◌++◌
 use Rattle.std.specs.Prelude.{nat_le, option_to_list}
 use Rattle.rx_base.specs.declared.values.Fault.{Fault}
 use Rattle.rx_rules.specs.Terms.{Vars, Term, Raise, Turns as TurnsTerm, Does, Local, Waits, Releases, Done, does, stmt_does, items, at, catches}
-use Rattle.rx_nodes.specs.declared.nodes.BlockId.{BlockId}
-use Rattle.rx_nodes.specs.Shape.{Shape}
+use Rattle.rx_syntax.specs.declared.nodes.BlockId.{BlockId}
+use Rattle.rx_syntax.specs.Shape.{Shape}
 use Rattle.rx_control.specs.Levels.{More, seq, wrap, term_of}
 use Rattle.rx_control.specs.declared.frame.Frame.{Frame}
 use Rattle.rx_control.specs.declared.frame.Frame.TheVariants.{Turns, Try, Body, Held}
 use Rattle.rx_control.specs.declared.control.Control.{Control}
 use Rattle.rx_control.specs.Stands.{path_of, StandsFor, Leaves}
-use Rattle.rx_plan.specs.Next.{next_of}
-use Rattle.rx_plan.specs.declared.step.Next.TheVariants.{Local as LocalStep}
+use Rattle.rx_history.specs.Next.{next_of}
+use Rattle.rx_history.specs.declared.step.Next.TheVariants.{Local as LocalStep}
 use Rattle.rx_control.specs.Inside.Front.{lifted, AtStatement}
 use Rattle.rx_control.proofs.Front.{does-statement, does-turns, does-tried, does-inside, does-waiting, does-raised-tried, does-raised-inside}
 use Rattle.rx_control.proofs.Standing.{AtTop, calm-turns, at-end, at-turns, at-tried, at-inside, at-waiting}

@@ -5,8 +5,8 @@ use Rattle.std.proofs.lemmas.Bool.Decides.{nat_tests}
 use Rattle.rx_base.specs.declared.values.Fault.{Fault}
 use Rattle.rx_rules.specs.Code.{Block, Then}
 use Rattle.rx_rules.specs.Terms.{Vars, Term, Does, Local, at}
-use Rattle.rx_nodes.specs.declared.nodes.BlockId.{BlockId}
-use Rattle.rx_nodes.specs.Shape.{Shape, BlockStands}
+use Rattle.rx_syntax.specs.declared.nodes.BlockId.{BlockId}
+use Rattle.rx_syntax.specs.Shape.{Shape, BlockStands}
 use Rattle.rx_control.specs.Levels.{Level, More, Again, Tried, wrap, term_of}
 use Rattle.rx_control.specs.declared.frame.Frame.{Frame}
 use Rattle.rx_control.specs.declared.frame.Frame.TheVariants.{Seq, Turns, Try, Body}

@@ -2,14 +2,14 @@
 ghost use Rattle.std.specs.Prelude.{◌≡◌, ℕ, List, IfOk, MatchOption};
 ghost use Rattle.rx_rules.specs.Code.{Stmt as Tree, Block};
 ghost use Rattle.rx_rules.specs.Terms.{Empty, items, stmt_child};
-ghost use Rattle.rx_nodes.specs.Shape.{Shape, StmtIs, BlockStands};
+ghost use Rattle.rx_syntax.specs.Shape.{Shape, StmtIs, BlockStands};
 ghost use Rattle.rx_control.specs.Stands.{StandsFor};
 
 use crate::Control;
 use crate::frame::{enter, settle};
 use rx_base::{NoMemory, Path};
-use rx_nodes::{BlockId, Script, Stmt};
 use rx_plan::Variables;
+use rx_syntax::{BlockId, Script, Stmt};
 use std::alloc::Global;
 
 /// A control at the front of a block.

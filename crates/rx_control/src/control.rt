@@ -8,12 +8,12 @@ ghost use Rattle.rx_rules.specs.Terms.{no_vars, Term, at, Empty, Waits, does, be
 ghost use Rattle.rx_rules.specs.Terms.{answer_of, vars_after, receives, stmt_child};
 ghost use Rattle.rx_rules.specs.Plays.{vars_told};
 ghost use Rattle.rx_rules.specs.declared.entries.Act.{Act};
-ghost use Rattle.rx_nodes.specs.Shape.{Shape, Stands};
+ghost use Rattle.rx_syntax.specs.Shape.{Shape, Stands};
 ghost use Rattle.rx_control.specs.declared.frame.Frame.{Frame};
 ghost use Rattle.rx_control.specs.Stands.{StandsFor, path_of, Leaves, IsSame};
 ghost use Rattle.rx_control.specs.Bound.{StepFalls};
 ghost use Rattle.rx_runs.specs.Steps.{steps};
-ghost use Rattle.rx_plan.specs.Next.{next_of, carried};
+ghost use Rattle.rx_history.specs.Next.{next_of, carried};
 ghost use Rattle.rx_control.specs.Inside.Front.{lifted, Awaits, Due};
 
 use crate::birth::{born, start};
@@ -23,8 +23,8 @@ use crate::path::{front_path, is_front_path};
 use crate::statement::{at_hand, following, learn, open_after, receive, receiver, statement_of};
 use rx_base::{Fault, Faults, NoMemory, Path, PlaceId, Value};
 use rx_check::Program;
-use rx_nodes::{BlockId, Script, Stmt};
 use rx_plan::{Next, Plan, Variables, Want, make_plan, tell};
+use rx_syntax::{BlockId, Script, Stmt};
 use std::alloc::Global;
 
 /// What one activity has still to run, with its variables. It stands for terms of the rules, and the program passed to its calls
@@ -78,7 +78,7 @@ impl Control {
         ensures steps { (b : Block) → steps (items b [] Empty) ≡ 3 * work b }
     {
         let script = p.script();
-        rx_nodes::whole(script);
+        rx_syntax::whole(script);
         start(
             alloc,
             script,

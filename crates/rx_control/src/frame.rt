@@ -2,12 +2,12 @@
 ghost use Rattle.std.specs.Prelude.{◌≡◌, ℕ, List, [], ◌∷◌, ◌++◌, Option, Some, None, MatchOption, vec_len, vec_capacity, ◌-◌, ◌≤◌, ◌<◌};
 ghost use Rattle.rx_base.specs.declared.values.Fault.{Fault};
 ghost use Rattle.rx_control.specs.Levels.{Level};
-ghost use Rattle.rx_nodes.specs.Shape.{Shape};
+ghost use Rattle.rx_syntax.specs.Shape.{Shape};
 ghost use Rattle.rx_control.specs.declared.frame.Frame.{Frame};
 ghost use Rattle.rx_control.specs.Stands.{FrameStands, FramesStand};
 ghost use Rattle.rx_control.specs.Inside.Front.{LevelIsOver, IsCatch, SettlesTo};
 
-use rx_nodes::{BlockId, Script};
+use rx_syntax::{BlockId, Script};
 
 /// What is left at one level. The last frame of a stack is the innermost.
 #[derive(Clone, Copy, Debug, PartialEq, Eq)]

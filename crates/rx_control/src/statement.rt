@@ -4,7 +4,7 @@ ghost use Rattle.std.specs.Prelude.{Option, None, Ok, OnOk, OnErr, MatchOption, 
 ghost use Rattle.rx_rules.specs.Code.{Stmt as Tree, Block};
 ghost use Rattle.rx_base.specs.declared.values.Value.TheVariants.{Num as Number};
 ghost use Rattle.rx_rules.specs.Terms.{Term, begins, bound, stmt_receives, vars_after, answer_of};
-ghost use Rattle.rx_nodes.specs.Shape.{Shape, StmtIs};
+ghost use Rattle.rx_syntax.specs.Shape.{Shape, StmtIs};
 ghost use Rattle.rx_control.specs.declared.frame.Frame.{Frame};
 ghost use Rattle.rx_control.specs.declared.control.Control.{Control};
 ghost use Rattle.rx_control.specs.Levels.{Level};
@@ -13,8 +13,8 @@ ghost use Rattle.rx_control.specs.Inside.Front.{Awaits, SettlesTo, levels_opened
 
 use crate::frame::{Frame, enter, settle};
 use rx_base::{NoMemory, Value};
-use rx_nodes::{BlockId, NameId, Script, Stmt};
 use rx_plan::Variables;
+use rx_syntax::{BlockId, NameId, Script, Stmt};
 
 /// The statement at a position of a block.
 pub(crate) fn at_hand(script: &Script, block: BlockId, next: u32) -> Stmt

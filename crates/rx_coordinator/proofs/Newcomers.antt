@@ -29,7 +29,7 @@ use Rattle.rx_sound.proofs.Stay.{find_filter}
 use Rattle.rx_sound.proofs.Owning.{release_pops}
 use Rattle.rx_sound.proofs.Histories.{none_yet}
 use Rattle.rx_runs.proofs.Endings.{root_empties}
-use Rattle.rx_ledger.proofs.Linking.{link, links, top, inner_top, Linked, AllLinked, none_opened, linked_from}
+use Rattle.rx_chronicle.proofs.Linking.{link, links, top, inner_top, Linked, AllLinked, none_opened, linked_from}
 use Rattle.rx_coordinator.specs.declared.seats.Seat.{Seat}
 use Rattle.rx_coordinator.specs.Seats.{new_seat}
 use Rattle.rx_coordinator.specs.Telling.{seat_of, seat_in, seat_told}

@@ -23,8 +23,7 @@ use Rattle.rx_sound.proofs.Reach.{task_below}
 use Rattle.rx_sound.proofs.Stay.{find_filter}
 use Rattle.rx_sound.proofs.Staying.{find_unfiltered}
 use Rattle.rx_sound.proofs.Owning.{release_keeps}
-use Rattle.rx_ledger.proofs.Striking.{find-hit}
-use Rattle.rx_ledger.proofs.Linking.{Link, link, links, top, inner_top, links_faulted}
+use Rattle.rx_chronicle.proofs.Linking.{find-hit, Link, link, links, top, inner_top, links_faulted}
 use Rattle.rx_ledger.proofs.Others.{ended}
 use Rattle.rx_coordinator.specs.declared.seats.Seat.{Seat}
 use Rattle.rx_coordinator.specs.Seats.{unhit}

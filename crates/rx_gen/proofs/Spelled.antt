@@ -2,10 +2,10 @@
 use Rattle.std.specs.Prelude.{◌≡◌, ℕ, ◌+◌, ◌≤◌, zero, suc, List, [], Some, slice_get, refl}
 use Rattle.std.proofs.Common.{arith}
 use Rattle.std.proofs.Math.Nat.{mod-le}
-use Rattle.rx_token.specs.Lexical.{most}
-use Rattle.rx_nodes.specs.Grammar.{spellings, InRange, AllInRange}
-use Rattle.rx_token.specs.Tokens.{NamesInOrder, AreNames}
-use Rattle.rx_token.specs.Texts.{AreSpelled}
+use Rattle.rx_syntax.specs.Lexical.{most}
+use Rattle.rx_syntax.specs.Grammar.{spellings, InRange, AllInRange}
+use Rattle.rx_syntax.specs.Tokens.{NamesInOrder, AreNames}
+use Rattle.rx_syntax.specs.Texts.{AreSpelled}
 use Rattle.rx_gen.specs.Lines.{line, lines_from, lines}
 
 line-fits : (q i : ℕ) → InRange (line q i)

@@ -6,16 +6,16 @@ use Rattle.std.proofs.lemmas.Option.{same_Some}
 use Rattle.std.proofs.lemmas.List.{map-append}
 use Rattle.rx_base.proofs.Elements.{get-more, get-last}
 use Rattle.rx_rules.specs.Code.{Block, Nothing, Then}
-use Rattle.rx_nodes.specs.declared.nodes.StmtId.{StmtId}
-use Rattle.rx_nodes.specs.declared.nodes.Expr.{Expr as Part}
-use Rattle.rx_nodes.specs.declared.nodes.Expr.TheVariants.{Num as NumPart}
-use Rattle.rx_nodes.specs.declared.nodes.Stmt.{Stmt as Node}
-use Rattle.rx_nodes.specs.declared.nodes.Stmt.TheVariants.{Print as PrintNode, AtAsync as AtAsyncNode, Finish as FinishNode, Try as TryNode}
-use Rattle.rx_nodes.specs.Shape.{Shape, IsSmall, StmtIs, ListStands, Stands}
-use Rattle.rx_nodes.specs.Arenas.{shape_from}
-use Rattle.rx_nodes.specs.Whole.{IsWhole}
-use Rattle.rx_nodes.specs.Grammar.{spellings}
-use Rattle.rx_token.specs.Tokens.{AreNames}
+use Rattle.rx_syntax.specs.declared.nodes.StmtId.{StmtId}
+use Rattle.rx_syntax.specs.declared.nodes.Expr.{Expr as Part}
+use Rattle.rx_syntax.specs.declared.nodes.Expr.TheVariants.{Num as NumPart}
+use Rattle.rx_syntax.specs.declared.nodes.Stmt.{Stmt as Node}
+use Rattle.rx_syntax.specs.declared.nodes.Stmt.TheVariants.{Print as PrintNode, AtAsync as AtAsyncNode, Finish as FinishNode, Try as TryNode}
+use Rattle.rx_syntax.specs.Shape.{Shape, IsSmall, StmtIs, ListStands, Stands}
+use Rattle.rx_syntax.specs.Arenas.{shape_from}
+use Rattle.rx_syntax.specs.Whole.{IsWhole}
+use Rattle.rx_syntax.specs.Grammar.{spellings}
+use Rattle.rx_syntax.specs.Tokens.{AreNames}
 use Rattle.rx_gen.specs.Lines.{line, lines_from, lines}
 use Rattle.rx_gen.proofs.Spelled.{all-fit, are-names, spelled}
 

@@ -1,14 +1,14 @@
 // The program of a generated script. Its nodes are put down by their numbers; that they stand for the lines is proved, and the checker
 // vouches for the script as for any other.
 ghost use Rattle.std.specs.Prelude.{◌≡◌, ◌≤◌, ◌<◌, ◌+◌, ◌*◌, ◌%◌, ◌++◌, ◌∷◌, [], pos, true, map, IfOk, OnOk};
-ghost use Rattle.rx_nodes.specs.Shape.{Stands};
-ghost use Rattle.rx_nodes.specs.declared.nodes.Expr.TheVariants.{Num};
-ghost use Rattle.rx_nodes.specs.declared.nodes.Stmt.TheVariants.{Print, AtAsync, Finish, Try};
+ghost use Rattle.rx_syntax.specs.Shape.{Stands};
+ghost use Rattle.rx_syntax.specs.declared.nodes.Expr.TheVariants.{Num};
+ghost use Rattle.rx_syntax.specs.declared.nodes.Stmt.TheVariants.{Print, AtAsync, Finish, Try};
 ghost use Rattle.rx_gen.specs.Lines.{lines};
 
 use rx_base::NoMemory;
 use rx_check::{CheckCause, Program, check};
-use rx_nodes::{BlockId, Expr, ExprId, Script, Stmt, StmtId};
+use rx_syntax::{BlockId, Expr, ExprId, Script, Stmt, StmtId};
 use std::alloc::Global;
 
 /// The program of so many lines, from 1 to 10,000, over so many places, from 1 to 16. Line i, from 0 on, is

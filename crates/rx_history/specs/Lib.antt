@@ -3,3 +3,4 @@ pub mod JoinOrder
 pub mod Setups
 pub mod Logs
 pub mod Events
+pub mod Next

@@ -1,3 +1,4 @@
 pub mod Words
 pub mod Least
 pub mod Inside
+pub mod Deaths

@@ -1,5 +1,5 @@
 -- Who may ask for what after an act of its own, after an entry of another, and when it is started.
-use Rattle.std.specs.Prelude.{◌≡◌, ℕ, ◌<◌, ◌==◌, Bool, true, false, cond, drop, filter, List, [], ◌∷◌, ◌++◌, map, reverse, Some, None, slice_index_or, refl}
+use Rattle.std.specs.Prelude.{◌≡◌, ℕ, ◌<◌, ◌==◌, Bool, true, false, cond, drop, List, [], ◌∷◌, ◌++◌, map, reverse, Some, None, slice_index_or, refl}
 use Rattle.std.proofs.Common.{ap, ◌∙◌, sym, subst, arith, inl, inr}
 use Rattle.std.proofs.lemmas.Bool.{eq-eqb, ne_eqb}
 use Rattle.std.proofs.lemmas.List.{reverse-append, reverse-reverse}
@@ -19,7 +19,7 @@ use Rattle.rx_rules.specs.declared.entries.Entry.{Entry}
 use Rattle.rx_rules.specs.declared.entries.Entry.TheVariants.{Step, Root, Death, Join}
 use Rattle.rx_rules.specs.Plays.{Fits}
 use Rattle.rx_rules.specs.Terms.{Term, Does, Opens, Calls, Spawns, Waits, Releases, Prints, Counts}
-use Rattle.rx_rules.specs.Tree.{Tree, task_of, inner, own_scope, opened_by, the_root}
+use Rattle.rx_rules.specs.Tree.{Tree, task_of, inner, own_scope, the_root}
 use Rattle.rx_rules.specs.Entries.{Allowed, AllowedAct, Unstruck, made, made_act, born}
 use Rattle.rx_rules.specs.Fold.{tree_of}
 use Rattle.rx_rules.specs.Reached.{Reached}
@@ -32,19 +32,19 @@ use Rattle.rx_finish.specs.declared.ledger.Caller.{Caller}
 use Rattle.rx_finish.specs.Callers.{MayAsk, MayAskMoving, MayAskArrive, MayAskRelease, HasNumbers, HasFinish, IsMoving, Travels, WaitsInside, does_travel}
 use Rattle.rx_finish.specs.Calls.{landing}
 use Rattle.rx_finish.proofs.Allowed.{Free, own_is}
-use Rattle.rx_terms.specs.Held.{is_held, HeldInFront}
-use Rattle.rx_terms.specs.Spine.{Spine}
-use Rattle.rx_terms.proofs.Granting.{AfterGrant}
-use Rattle.rx_terms.proofs.SpineGrants.{GrantsSpine}
-use Rattle.rx_ledger.specs.Answering.{fresh_caller, parent_told}
+use Rattle.rx_sound.specs.Held.{is_held, HeldInFront}
+use Rattle.rx_sound.specs.Spine.{Spine}
+use Rattle.rx_sound.proofs.Granting.{AfterGrant}
+use Rattle.rx_sound.proofs.SpineGrants.{GrantsSpine}
+use Rattle.rx_chronicle.specs.Told.{parents_told, parent_told}
+use Rattle.rx_ledger.specs.Answering.{fresh_caller}
 use Rattle.rx_ledger.specs.Owned.{Owned, own_after, own_told}
 use Rattle.rx_ledger.specs.Staying.{NotBy}
 use Rattle.rx_ledger.specs.TermAsks.{kinds_told, Serves, MayAskNext, who_after}
-use Rattle.rx_ledger.specs.Told.{parents_told}
 use Rattle.rx_ledger.proofs.Begins.{unborn}
 use Rattle.rx_ledger.proofs.Called.{own_append}
 use Rattle.rx_ledger.proofs.GoesOn.{so_says, landed_on, released_on, opened_on, called_on, started_on, waits_on}
-use Rattle.rx_ledger.proofs.Linking.{link, links, top, inner_top}
+use Rattle.rx_chronicle.proofs.Linking.{link, links, top, inner_top}
 use Rattle.rx_ledger.proofs.StaysGood.{caller_stays, moving_stays, travels_stays, waits_stays}
 use Rattle.rx_ledger.proofs.TermAsks.{kinds_of, newest}
 

@@ -35,11 +35,12 @@ use Rattle.rx_base.proofs.SameIds.{task-is}
 use Rattle.rx_rules.specs.declared.tasks.Blow.{Blow}
 use Rattle.rx_rules.proofs.Lookups.{number-of}
 use Rattle.rx_rules.proofs.Append.{tree-push}
-use Rattle.rx_ledger.proofs.Uncovers.{uncovers}
+use Rattle.rx_chronicle.specs.Told.{parent_told}
+use Rattle.rx_chronicle.proofs.Uncovers.{uncovers}
 use Rattle.rx_ledger.specs.declared.asks.Request.{Request}
 use Rattle.rx_ledger.specs.declared.asks.Reply.TheVariants.{Opened, Called, Spawned, Landed, Waits, Released, Ended, Printed, Census as Counted, RootDone, NotYet, Lost, NoMemory}
 use Rattle.rx_ledger.specs.Asking.{MayApply}
-use Rattle.rx_ledger.specs.Answering.{Appends, parent_told}
+use Rattle.rx_ledger.specs.Answering.{Appends}
 use Rattle.rx_ledger.specs.GoingOn.{TicketsGoOn}
 
 -- a caller that acts stands as it says

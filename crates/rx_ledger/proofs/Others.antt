@@ -34,8 +34,7 @@ use Rattle.rx_sound.proofs.Staying.{find_unfiltered}
 use Rattle.rx_runs.proofs.Endings.{struck_if}
 use Rattle.rx_finish.specs.Callers.{gone_of}
 use Rattle.rx_ledger.specs.Staying.{NotBy}
-use Rattle.rx_ledger.proofs.Striking.{find-hit}
-use Rattle.rx_ledger.proofs.Linking.{links, link, links_faulted}
+use Rattle.rx_chronicle.proofs.Linking.{find-hit, links, link, links_faulted}
 
 -- Look-ups.
 

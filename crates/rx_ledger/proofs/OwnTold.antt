@@ -28,8 +28,7 @@ use Rattle.rx_sound.proofs.Histories.{reached_now, dead-now, none_yet}
 use Rattle.rx_sound.proofs.Owning.{release_pops}
 use Rattle.rx_ledger.specs.Owned.{Owned, sort_of, own_after, own_from, own_told, owned, OwnedAsTold, MayWaitNext, MayEndNext, NumbersAreLeft}
 use Rattle.rx_runs.proofs.Endings.{root_empties}
-use Rattle.rx_ledger.proofs.Striking.{find-hit}
-use Rattle.rx_ledger.proofs.Linking.{Link, link, links, links_faulted, none_opened}
+use Rattle.rx_chronicle.proofs.Linking.{find-hit, Link, link, links, links_faulted, none_opened}
 use Rattle.rx_ledger.proofs.Others.{none_act, passes_filter, ended, entry_lasts}
 
 -- Links tell numbers and kinds.

@@ -27,7 +27,7 @@ use Rattle.rx_history.specs.declared.asks.Ask.TheVariants.{Open, At as Calls, Sp
 use Rattle.rx_ledger.specs.Asking.{MayAskFor, IsTravelling as Moves, IsRunning, IsHeld}
 use Rattle.rx_ledger.specs.Staying.{NotBy, NotOf, EntryKeepsTicket, TicketsStayGood}
 use Rattle.rx_ledger.proofs.Keepers.{fold-append}
-use Rattle.rx_ledger.proofs.Linking.{Link, link, links, top, inner_top}
+use Rattle.rx_chronicle.proofs.Linking.{Link, link, links, top, inner_top}
 use Rattle.rx_ledger.proofs.Others.{Stays, entry_lasts, left_lasts}
 
 -- The newest own scope, as its link.

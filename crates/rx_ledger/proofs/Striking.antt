@@ -1,17 +1,17 @@
 -- What may be asked of a tree may be asked of it after a death, and after a join.
-use Rattle.std.specs.Prelude.{◌≡◌, ℕ, suc, ◌==◌, Bool, true, false, cond, List, [], ◌∷◌, map, Option, Some, None, option_map, refl}
-use Rattle.std.specs.List.{find}
+use Rattle.std.specs.Prelude.{◌≡◌, ℕ, suc, List, [], ◌∷◌, Option, Some, None, option_map}
 use Rattle.std.proofs.Common.{ap, ◌∙◌, arith, inl, inr}
 use Rattle.rx_base.specs.declared.ids.PlaceId.{PlaceId}
 use Rattle.rx_base.specs.declared.ids.TaskId.{TaskId}
 use Rattle.rx_base.specs.declared.ids.ScopeId.{ScopeId}
 use Rattle.rx_rules.specs.declared.tasks.Task.{Task}
 use Rattle.rx_rules.specs.declared.tasks.Blow.{Blow}
-use Rattle.rx_rules.specs.Tree.{Tree, is_task, inner, own_scope}
+use Rattle.rx_rules.specs.Tree.{Tree, inner, own_scope}
 use Rattle.rx_rules.specs.Entries.{strike, hit, widened}
 use Rattle.rx_rules.specs.Fold.{fold_from}
 use Rattle.rx_sound.proofs.Blows.{hit_number, hit_under, hit_place}
 use Rattle.rx_sound.proofs.Waiting.{hit_waits}
+use Rattle.rx_chronicle.proofs.Linking.{find-hit}
 use Rattle.rx_finish.specs.declared.ledger.Caller.{Caller}
 use Rattle.rx_finish.specs.Callers.{MayAsk, MayAskTo, IsMoving, Travels, HasFinish, WaitsInside, IsBare, does_travel}
 use Rattle.rx_ticket.specs.declared.tickets.AnyTicket.{AnyTicket}
@@ -22,17 +22,6 @@ use Rattle.rx_ledger.specs.Asking.{MayAskFor, IsTravelling as Moves, IsRunning, 
 use Rattle.rx_kills.specs.declared.schedule.Due.{Due}
 use Rattle.rx_kills.specs.declared.schedule.Due.TheVariants.{Join as Joins, Death as Dies}
 use Rattle.rx_ledger.specs.Told.{due_entries}
-
--- who stands there stands there still, and who does not does not
-found-hit : (b : Blow) (x : Task) (r o : Option Task) (c : Bool) → r ≡ option_map (hit b) o → cond c (Some (hit b x)) r ≡ option_map (hit b) (cond c (Some x) o)
-found-hit b x r o true h = refl
-found-hit b x r o false h = h
-
-pub find-hit : (b : Blow) (t : TaskId) (xs : List Task) → find (is_task t) (map (hit b) xs) ≡ option_map (hit b) (find (is_task t) xs)
-find-hit b t [] = refl
-find-hit b t (x ∷ xs) =
-    let same : is_task t (hit b x) ≡ is_task t x = ap (λ (n : TaskId). n.0 == t.0) (hit_number b x) in
-    ap (λ (c : Bool). cond c (Some (hit b x)) (find (is_task t) (map (hit b) xs))) same ∙ found-hit b x (find (is_task t) (map (hit b) xs)) (find (is_task t) xs) (is_task t x) (find-hit b t xs)
 
 -- Each kind of ticket.
 

@@ -13,12 +13,12 @@ use Rattle.rx_rules.specs.Fold.{tree_of}
 use Rattle.rx_rules.specs.Run.{Given, Folds}
 use Rattle.rx_finish.specs.declared.ledger.Caller.{Caller}
 use Rattle.rx_finish.specs.Callers.{MayAskMoving, MayAskWait, MayAskEnd}
-use Rattle.rx_terms.specs.Held.{is_held}
-use Rattle.rx_terms.specs.Spine.{Spine}
-use Rattle.rx_terms.specs.Steps.{Targets}
-use Rattle.rx_terms.proofs.Granting.{not_held, release_held}
-use Rattle.rx_terms.proofs.SpineGrants.{GrantsSpine, spine-grant, EmptyWhereDone, spine-done}
-use Rattle.rx_terms.proofs.Targets.{targets-exist}
+use Rattle.rx_sound.specs.Held.{is_held}
+use Rattle.rx_sound.specs.Spine.{Spine}
+use Rattle.rx_sound.specs.TermSteps.{Targets}
+use Rattle.rx_sound.proofs.Granting.{not_held, release_held}
+use Rattle.rx_sound.proofs.SpineGrants.{GrantsSpine, spine-grant, EmptyWhereDone, spine-done}
+use Rattle.rx_sound.proofs.Targets.{targets-exist}
 use Rattle.rx_ledger.specs.Owned.{Owned, own_told}
 use Rattle.rx_ledger.specs.TermAsks.{kinds_told, Serves, MayAskNext, LawOfAsking}
 use Rattle.rx_ledger.proofs.OwnTold.{may_wait_next, may_end_next}

@@ -1,5 +1,5 @@
 -- What a keeper answers, where no death and no join is due.
-use Rattle.std.specs.Prelude.{◌≡◌, ◌⊎◌, ℕ, ℤ, Bool, cond, ◌==◌, List, [], ◌∷◌, ◌++◌, Option, Some, None, is_some, slice_index_or}
+use Rattle.std.specs.Prelude.{◌≡◌, ◌⊎◌, ℕ, ℤ, Bool, cond, ◌==◌, List, [], ◌∷◌, ◌++◌, Option, Some, None, is_some}
 use Rattle.rx_base.specs.declared.ids.PlaceId.{PlaceId}
 use Rattle.rx_base.specs.declared.ids.TaskId.{TaskId}
 use Rattle.rx_base.specs.declared.ids.ScopeId.{ScopeId}
@@ -22,12 +22,12 @@ use Rattle.rx_history.specs.declared.asks.Ask.{Ask}
 use Rattle.rx_history.specs.declared.asks.Ask.TheVariants.{Open as AskOpen, At as AskCall, Spawn as AskSpawn, Arrive as AskArrive}
 use Rattle.rx_history.specs.declared.asks.Ask.TheVariants.{Wait as AskWait, Release as AskRelease, End as AskEnd}
 use Rattle.rx_history.specs.declared.asks.Ask.TheVariants.{Print as AskPrint, Root as AskRoot, Census as AskCensus}
+use Rattle.rx_chronicle.specs.Told.{parent_told}
 use Rattle.rx_ledger.specs.declared.asks.Request.{Request}
 use Rattle.rx_ledger.specs.declared.asks.Reply.{Reply}
 use Rattle.rx_ledger.specs.declared.asks.Reply.TheVariants.{Opened, Called, Spawned, Landed}
 use Rattle.rx_ledger.specs.declared.asks.Reply.TheVariants.{Waits, Released, Ended, Printed, Census as Counted}
 use Rattle.rx_ledger.specs.declared.asks.Reply.TheVariants.{RootDone, NotYet, Lost, NoMemory}
-use Rattle.rx_ledger.specs.Told.{parents_told}
 
 -- the request is this one
 abbrev pub Asks : Request → AnyTicket → Ask → Option (List ℕ) → Type 0
@@ -54,10 +54,6 @@ ticket_at lost task s from to =
 -- it is lost where that place is dead
 abbrev pub ticket_of : Tree → TaskId → ScopeId → PlaceId → PlaceId → Option AnyTicket
 ticket_of T child s from to = ticket_at (is_some (death_of T to)) child s from to
-
--- the parent of the scope, as the entries tell it
-abbrev pub parent_told : List Entry → ScopeId → ScopeId
-parent_told es s = slice_index_or (parents_told es) s.0 the_root
 
 -- a finish is opened
 pub record OpensFinish (T : Tree) (es : List Entry) (q : Request) (ticket : Caller) (scope : ScopeId)

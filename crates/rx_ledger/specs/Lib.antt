@@ -1,9 +1,7 @@
 pub mod Asking
 pub mod Told
 pub mod Answering
-pub mod Keeping
 pub mod Kept
-pub mod Uncovering
 pub mod GoingOn
 pub mod Staying
 pub mod Owned

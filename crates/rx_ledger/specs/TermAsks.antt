@@ -1,6 +1,5 @@
 -- What the term of a task asks for, the ledger may be asked.
 use Rattle.std.specs.Prelude.{ℕ, ◌<◌, ◌≤◌, Bool, true, false, List, map, reverse, slice_index_or}
-use Rattle.rx_base.specs.declared.ids.PlaceId.{PlaceId}
 use Rattle.rx_base.specs.declared.ids.ScopeId.{ScopeId}
 use Rattle.rx_base.specs.declared.ids.TaskId.{TaskId}
 use Rattle.rx_rules.specs.declared.tasks.Kind.{Kind}
@@ -14,8 +13,8 @@ use Rattle.rx_rules.specs.Fold.{tree_of}
 use Rattle.rx_rules.specs.Run.{Given, Folds}
 use Rattle.rx_finish.specs.declared.ledger.Caller.{Caller}
 use Rattle.rx_finish.specs.Callers.{MayAskMoving, MayAskTo, MayAskArrive, MayAskWait, MayAskRelease, MayAskEnd}
-use Rattle.rx_terms.specs.Held.{is_held}
-use Rattle.rx_terms.specs.Spine.{Spine}
+use Rattle.rx_sound.specs.Held.{is_held}
+use Rattle.rx_sound.specs.Spine.{Spine}
 use Rattle.rx_ledger.specs.Owned.{own_told}
 
 -- the kinds of the scopes that a task has opened and not released, as its entries tell them, the outermost first

@@ -1,44 +1,46 @@
 // A request where no death and no join is due.
-ghost use Rattle.std.specs.Prelude.{◌≡◌, ◌<◌, Some};
+ghost use Rattle.std.specs.Prelude.{◌≡◌, Some};
 ghost use Rattle.rx_ticket.specs.declared.tickets.AnyTicket.TheVariants.{Moving, Running, Held, Host};
+ghost use Rattle.rx_chronicle.specs.Requests.{tree_told, IsReady};
 ghost use Rattle.rx_ledger.specs.Asking.{MayApply, IsTravelling, IsRunning, IsHeld, HasPath};
-ghost use Rattle.rx_ledger.specs.Inside.Doing.{books_tree, Calm, DidRequest};
+ghost use Rattle.rx_ledger.specs.Inside.Doing.{DidRequest};
 
 use crate::asks::{Reply, Request};
-use crate::books::Books;
+use crate::moving::{arrive, census, print};
+use crate::opening::{call, open, spawn};
+use crate::releasing::{release, root};
+use crate::waiting::{end, wait};
 use rx_base::Path;
+use rx_chronicle::Chronicle;
 use rx_finish::FinishLedger;
 use rx_history::Ask;
 use rx_ticket::{AnyTicket, InTransit, Live, Ticket, Waiting};
 
-impl<L: FinishLedger> Books<L> {
-    /// Answers a request.
-    pub(crate) fn answer(&mut self, request: Request) -> Reply
-        requires room { 0 < self.old.history.spare }
-        requires calm { Calm L.stands self.old }
-        requires asks { MayApply (books_tree self.old) request }
-        ensures { DidRequest L.stands self.old request result self.new }
-    {
-        let Request {
-            ticket,
-            ask,
-            batch,
-            path,
-        } = request;
-        match ask {
-            Ask::Open => self.open(running(ticket), batch, given(path)),
-            Ask::At { to } => self.call(running(ticket), to, batch, given(path)),
-            Ask::Spawn { to } => self.spawn(running(ticket), to, batch, given(path)),
-            Ask::Arrive => self.arrive(moving(ticket), batch),
-            Ask::Wait { thrown } => self.wait(running(ticket), thrown, batch),
-            Ask::Release => self.release(held(ticket), batch),
-            Ask::End { thrown } => self.end(running(ticket), thrown, batch),
-            Ask::Print { value } => self.print(running(ticket), value, batch, given(path)),
-            Ask::Census => self.census(running(ticket), batch, given(path)),
-            Ask::Root => {
-                host(ticket);
-                self.root(batch)
-            }
+/// Answers a request.
+pub(crate) fn answer<L: FinishLedger>(chronicle: &mut Chronicle<L>, request: Request) -> Reply
+    requires ready { IsReady chronicle.old }
+    requires asks { MayApply (tree_told chronicle.old) request }
+    ensures { DidRequest chronicle.old request result chronicle.new }
+{
+    let Request {
+        ticket,
+        ask,
+        batch,
+        path,
+    } = request;
+    match ask {
+        Ask::Open => open(chronicle, running(ticket), batch, given(path)),
+        Ask::At { to } => call(chronicle, running(ticket), to, batch, given(path)),
+        Ask::Spawn { to } => spawn(chronicle, running(ticket), to, batch, given(path)),
+        Ask::Arrive => arrive(chronicle, moving(ticket), batch),
+        Ask::Wait { thrown } => wait(chronicle, running(ticket), thrown, batch),
+        Ask::Release => release(chronicle, held(ticket), batch),
+        Ask::End { thrown } => end(chronicle, running(ticket), thrown, batch),
+        Ask::Print { value } => print(chronicle, running(ticket), value, batch, given(path)),
+        Ask::Census => census(chronicle, running(ticket), batch, given(path)),
+        Ask::Root => {
+            host(ticket);
+            root(chronicle, batch)
         }
     }
 }

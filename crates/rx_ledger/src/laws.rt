@@ -4,13 +4,9 @@ ghost use Rattle.rx_ledger.specs.GoingOn.{ChildrenBegin, TicketsGoOn};
 ghost use Rattle.rx_ledger.specs.Owned.{MayEndNext, MayWaitNext, NumbersAreLeft, OwnedAsTold};
 ghost use Rattle.rx_ledger.specs.Staying.{EntryKeepsTicket, TicketsStayGood};
 ghost use Rattle.rx_ledger.specs.TermAsks.{LawOfAsking};
-ghost use Rattle.rx_ledger.specs.Uncovering.{UncoversParent};
 
-/// A law: after a release the inner scope of its task is the parent of the released scope, as the history tells it. So the ticket
-/// that comes with `Released` names the inner scope of its task.
-pub fn release_uncovers_parent()
-    ensures { UncoversParent }
-{}
+// So the ticket that comes with `Released` names the inner scope of its task.
+pub use rx_chronicle::laws::release_uncovers_parent;
 
 /// A law: the ticket that comes with `Opened`, `Spawned`, `Landed`, `Released` or `Printed` is of a task that may go on, and the one
 /// that comes with `Called` or `Waits` of a task that may ask for its release, as long as numbers of tasks and scopes suffice. A

@@ -8,8 +8,8 @@ use Rattle.rx_book.specs.declared.passes.Pass.{Pass}
 use Rattle.rx_book.specs.declared.passes.Note.{Note}
 use Rattle.rx_book.specs.Passes.{view_of, word_of, note_view}
 use Rattle.rx_book.specs.Named.{BookName}
-use Rattle.rx_parts_book.specs.declared.items.EntryItem.{EntryItem}
-use Rattle.rx_parts_book.specs.declared.items.EventItem.{EventItem}
+use Rattle.rx_parts.specs.declared.items.EntryItem.{EntryItem}
+use Rattle.rx_parts.specs.declared.items.EventItem.{EventItem}
 use Rattle.rx_objects.specs.declared.ledger.LedgerFixed.{LedgerFixed}
 use Rattle.rx_objects.specs.Ending.{IsHeard, EachEnds}
 use Rattle.rx_stations.specs.Stations.{PostName, AreFrom}

@@ -7,7 +7,7 @@ use Rattle.rx_rules.specs.declared.entries.Entry.{Entry}
 use Rattle.rx_rules.specs.declared.entries.Entry.TheVariants.{Step, Root, Death, Join}
 use Rattle.rx_rules.specs.Code.{Block}
 use Rattle.rx_rules.specs.Run.{EndsWithRoot, death_number}
-use Rattle.rx_nodes.specs.Shape.{Stands}
+use Rattle.rx_syntax.specs.Shape.{Stands}
 use Rattle.rx_history.specs.Setups.{given}
 use Rattle.rx_store.specs.Kept.{Kept}
 use Rattle.rx_book.specs.declared.views.Stamped.{Stamped}
@@ -18,9 +18,9 @@ use Rattle.rx_book.specs.Passes.{view_of, word_of, note_view}
 use Rattle.rx_book.specs.Named.{BookName}
 use Rattle.rx_parts.specs.Ledger.{LegalLedger}
 use Rattle.rx_parts.proofs.Reading.{root-ends}
-use Rattle.rx_parts_book.specs.declared.items.EntryItem.{EntryItem}
-use Rattle.rx_parts_book.specs.declared.items.EventItem.{EventItem}
-use Rattle.rx_parts_book.specs.Histories.{ledger_item, ledger_items}
+use Rattle.rx_parts.specs.declared.items.EntryItem.{EntryItem}
+use Rattle.rx_parts.specs.declared.items.EventItem.{EventItem}
+use Rattle.rx_parts.specs.Histories.{ledger_item, ledger_items}
 use Rattle.rx_objects.specs.declared.ledger.LedgerFixed.{LedgerFixed}
 use Rattle.rx_objects.specs.Ledger.{LedgerIsLegal}
 use Rattle.rx_objects.specs.Ending.{entries_at, IsHeard, PlaceEnds, EachEnds, StampsBeforeDeath}

@@ -9,7 +9,7 @@ use Rattle.rx_rules.specs.Code.{Block}
 use Rattle.rx_rules.specs.Fold.{tree_of}
 use Rattle.rx_rules.specs.Run.{EndsWithRoot, NoRoot}
 use Rattle.rx_rules.specs.Tree.{Tree}
-use Rattle.rx_nodes.specs.Shape.{Stands}
+use Rattle.rx_syntax.specs.Shape.{Stands}
 use Rattle.rx_history.specs.declared.setup.Setup.{Setup}
 use Rattle.rx_history.specs.Setups.{given, to_join}
 use Rattle.rx_book.specs.declared.views.Stamped.{Stamped}
@@ -17,9 +17,9 @@ use Rattle.rx_book.specs.declared.passes.Pass.{Pass}
 use Rattle.rx_book.specs.History.{items_of}
 use Rattle.rx_book.specs.Passes.{view_of}
 use Rattle.rx_book.specs.Named.{BookName}
-use Rattle.rx_ledger.specs.Keeping.{left_to_join}
-use Rattle.rx_ledger.specs.Kept.{Kept, IsHistory, RootLast}
-use Rattle.rx_parts_book.specs.declared.items.EntryItem.{EntryItem}
+use Rattle.rx_chronicle.specs.Told.{left_to_join, RootLast}
+use Rattle.rx_ledger.specs.Kept.{Kept, IsHistory}
+use Rattle.rx_parts.specs.declared.items.EntryItem.{EntryItem}
 use Rattle.rx_objects.specs.declared.ledger.LedgerFixed.{LedgerFixed}
 use Rattle.rx_objects.specs.Mentioned.{entries_in}
 use Rattle.rx_objects.specs.Ledger.{LedgerIsLegal}

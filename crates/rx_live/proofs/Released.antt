@@ -3,7 +3,7 @@ use Rattle.std.specs.Prelude.{ℕ, Option}
 use Rattle.std.proofs.Common.{sym, subst}
 use Rattle.rx_book.specs.declared.views.View.{View}
 use Rattle.rx_book.specs.Calls.{Called}
-use Rattle.rx_parts_book.specs.declared.items.EntryItem.{EntryItem}
+use Rattle.rx_parts.specs.declared.items.EntryItem.{EntryItem}
 use Rattle.rx_objects.specs.declared.ledger.LedgerFixed.{LedgerFixed}
 use Rattle.rx_objects.specs.declared.ledger.LedgerOp.{LedgerOp}
 use Rattle.rx_objects.specs.declared.ledger.LedgerReply.{LedgerReply}

@@ -9,7 +9,7 @@ use Rattle.rx_rules.specs.Fold.{tree_of}
 use Rattle.rx_rules.specs.Tree.{Tree}
 use Rattle.rx_rules.specs.Run.{Proper, NoRoot, IsRun, in_all}
 use Rattle.rx_rules.specs.Terms.{Empty, items, no_vars}
-use Rattle.rx_nodes.specs.Shape.{Stands}
+use Rattle.rx_syntax.specs.Shape.{Stands}
 use Rattle.rx_control.specs.declared.control.Control.{Control}
 use Rattle.rx_control.specs.Stands.{StandsFor}
 use Rattle.rx_check.specs.Checked.{Checked}
@@ -28,8 +28,8 @@ use Rattle.rx_book.specs.History.{items_of, entries_by}
 use Rattle.rx_book.specs.Kept.{born, parent_left}
 use Rattle.rx_book.specs.Named.{BookName}
 use Rattle.rx_book.specs.Passes.{view_of, word_of}
-use Rattle.rx_parts_book.specs.declared.items.EntryItem.{EntryItem}
-use Rattle.rx_parts_book.specs.declared.items.EventItem.{EventItem}
+use Rattle.rx_parts.specs.declared.items.EntryItem.{EntryItem}
+use Rattle.rx_parts.specs.declared.items.EventItem.{EventItem}
 use Rattle.rx_objects.specs.declared.ledger.LedgerFixed.{LedgerFixed}
 use Rattle.rx_objects.specs.Noted.{Notes, AllNoted}
 use Rattle.rx_objects.specs.Ending.{entries_at, IsMet, EachEnds, EachShut, RootIsTold, StampsBeforeDeath, BooksMakeRun}

@@ -8,7 +8,7 @@ ghost use Rattle.rx_history.specs.Events.{events_of};
 ghost use Rattle.rx_book.specs.declared.views.Stamped.{Stamped};
 ghost use Rattle.rx_book.specs.History.{items_of};
 ghost use Rattle.rx_book.specs.Passes.{view_of, word_of, note_view, note_word};
-ghost use Rattle.rx_parts_book.specs.declared.items.EntryItem.{EntryItem as Item};
+ghost use Rattle.rx_parts.specs.declared.items.EntryItem.{EntryItem as Item};
 ghost use Rattle.rx_objects.specs.Ledger.{LedgerIsLegal};
 ghost use Rattle.rx_objects.specs.Noted.{AreOfPlaces};
 ghost use Rattle.rx_objects.specs.Shown.{board_of, BoardShows};
@@ -25,17 +25,17 @@ use rx_check::{Program, checked};
 use rx_counts::CountLedger;
 use rx_finish::FinishLedger;
 use rx_history::{Ask, History, Journal, Journals};
+use rx_kills::deaths_of;
 use rx_ledger::{Keeper, Reply, Request};
 use rx_monitor::BoardWriter;
 use rx_objects::{
     LedgerBook, LedgerObject, LedgerOp, LedgerParts, LedgerReply, Mentions, PlaceBook,
     host_is_told, host_may_ask, ledger_op_fits,
 };
-use rx_parts_book::{EntryItem, EventItem};
+use rx_parts::{EntryItem, EventItem};
 use rx_stations::{Station, abandon_all};
 use rx_store::Store;
 use rx_ticket::AnyTicket;
-use rx_timely::deaths_of;
 use std::alloc::Global;
 use std::snapshot::Snapshot;
 use std::sync::Wait;

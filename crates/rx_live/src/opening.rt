@@ -20,7 +20,7 @@ use rx_history::Setup;
 use rx_ledger::Keeper;
 use rx_monitor::BoardWriter;
 use rx_objects::{LedgerAndGate, LedgerObject, PlaceBook, PlaceObject, objects_open};
-use rx_parts_book::{EntryItem, EventItem};
+use rx_parts::{EntryItem, EventItem};
 use rx_stations::{Station, abandon_all};
 use rx_store::Store;
 use rx_ticket::{Live, Ticket};

@@ -1,70 +1,78 @@
--- What the machine may ask of its ledger, and answers that cannot come.
-use Rattle.std.specs.Prelude.{◌≡◌, ℕ, Bool, true, false, cond, List, [], ◌∷◌, map, filter, reverse, Some, None, refl}
-use Rattle.std.specs.List.{find}
-use Rattle.std.proofs.Common.{ap, ◌∙◌, sym, subst, inl}
+-- What the machine may ask of its chronicle.
+use Rattle.std.specs.Prelude.{◌≡◌, ℕ, false, Some, None, refl}
+use Rattle.std.proofs.Common.{◌∙◌, sym, subst, inl}
 use Rattle.rx_base.specs.declared.ids.PlaceId.{PlaceId}
 use Rattle.rx_base.specs.declared.ids.TaskId.{TaskId}
-use Rattle.rx_base.specs.declared.ids.ScopeId.{ScopeId}
+use Rattle.rx_base.proofs.SameIds.{task-is}
 use Rattle.rx_rules.specs.declared.tasks.Task.{Task}
-use Rattle.rx_rules.specs.declared.tasks.Scope.{Scope}
-use Rattle.rx_rules.specs.declared.tasks.Blow.{Blow}
 use Rattle.rx_rules.specs.declared.tasks.Where.TheVariants.{At}
-use Rattle.rx_rules.specs.Tree.{Tree, task_of, opened_by, inner}
-use Rattle.rx_rules.specs.Picked.{Player}
-use Rattle.rx_finish.specs.Callers.{MayAsk, HasNumbers, IsMoving}
-use Rattle.rx_finish.specs.Calls.{blow_of}
-use Rattle.rx_nodes.specs.Shape.{Shape}
-use Rattle.rx_seats.specs.declared.seat.Seat.{Seat}
-use Rattle.rx_seats.specs.Callers.{caller, first_scope}
-use Rattle.rx_machine.specs.Slots.{IsSeat}
-use Rattle.rx_terms.specs.Held.{is_held}
+use Rattle.rx_rules.specs.Code.{Block}
+use Rattle.rx_rules.specs.Terms.{Does, Releases, does}
+use Rattle.rx_rules.specs.Tree.{Tree, task_of}
+use Rattle.rx_rules.specs.Run.{Given}
+use Rattle.rx_rules.specs.Picked.{Game, Player}
+use Rattle.rx_finish.specs.declared.ledger.LedgerFault.{LedgerFault}
+use Rattle.rx_finish.specs.declared.ledger.LedgerFault.TheVariants.{NoMemory}
+use Rattle.rx_finish.specs.Callers.{MayAsk, MayAskMoving, HasNumbers, IsMoving}
+use Rattle.rx_finish.specs.Calls.{IsUnstruck, blow_of}
+use Rattle.rx_chronicle.specs.Requests.{tree_told, IsRefused, NoWait}
+use Rattle.rx_chronicle.proofs.Granting.{memory_alone}
+use Rattle.rx_syntax.specs.Shape.{Shape}
+use Rattle.rx_machine.specs.declared.machine.Machine.{Machine}
+use Rattle.rx_machine.specs.declared.seat.Seat.{Seat}
+use Rattle.rx_machine.specs.declared.seat.Mover.{Mover}
+use Rattle.rx_machine.specs.Slots.{row_of, IsSeat}
+use Rattle.rx_machine.specs.Holds.{Acting}
+use Rattle.rx_sound.specs.Held.{is_held}
+use Rattle.rx_sound.proofs.Granting.{not_held}
 use Rattle.rx_machine.proofs.Live.{live_stands, live_number}
+use Rattle.rx_machine.proofs.Acted.{of-told, of-game}
 
 -- an id is that of its number
 pub id_of : (t : TaskId) (n : ℕ) → t.0 ≡ n → t ≡ record { 0 = n }
-id_of t n e = ap (λ (k : ℕ). let q : TaskId = record { 0 = k } in q) e
+id_of t n e = task-is t (record { 0 = n }) e
 
-first_found : (p : Scope → Bool) (gs : List Scope) (under : ScopeId) → (elim (find p gs) as (λ _. ScopeId) [ Some g ↦ g.number | None ↦ under ]) ≡ first_scope under (map (λ g. g.number) (filter p gs))
-first_found p [] under = refl
-first_found p (g ∷ gs) under =
-    elim (p g) as (λ b. (elim (cond b (Some g) (find p gs)) as (λ _. ScopeId) [ Some g ↦ g.number | None ↦ under ]) ≡ first_scope under (map (λ g. g.number) (cond b (g ∷ filter p gs) (filter p gs)))) [
-      | true ↦ refl
-      | false ↦ first_found p gs under
-    ]
+module _ {shape : Shape} {T : Tree} {n : ℕ} {q : Player} {seat : Seat} (s : IsSeat shape T n q seat) where
+  pub seat-id : seat.who.task ≡ record { 0 = n }
+  seat-id = id_of seat.who.task n (live_number T n (row_of seat) s.row)
 
--- the task of a seat stands in the tree as the seat's caller says
-pub seat_asks : (shape : Shape) (T : Tree) (n : ℕ) (q : Player) (seat : Seat) (P : Task → Type 0) → IsSeat shape T n q seat → HasNumbers T → P seat.row → MayAsk T (caller seat.row seat.scopes.items) P
-seat_asks shape T n q seat P h numbers may =
-    let number : seat.row.number.0 ≡ n = live_number T n seat.row h.row in
-    let id : seat.row.number ≡ record { 0 = n } = id_of seat.row.number n number in
-    let found : task_of T (record { 0 = n }) ≡ Some seat.row = (live_stands T n seat.row h.row).0 in
-    let inner_is : inner T seat.row ≡ first_scope seat.row.under (reverse seat.scopes.items) =
-    subst (λ (t : TaskId). (elim (find (opened_by t) T.scopes) as (λ _. ScopeId) [ Some g ↦ g.number | None ↦ seat.row.under ]) ≡ first_scope seat.row.under (reverse seat.scopes.items)) (sym id)
-    (first_found (opened_by (record { 0 = n })) T.scopes seat.row.under ∙ ap (first_scope seat.row.under) h.scopes) in
-    record {
-      caller = inl (record { task = seat.row; stands = subst (λ (t : TaskId). task_of T t ≡ Some seat.row) (sym id) found; says = record { under = refl; place = refl }; inner_is = inner_is; allowed = may });
-      numbers = numbers;
-    }
+  -- the task of a seat stands in the tree
+  pub seat-found : task_of T seat.who.task ≡ Some (row_of seat)
+  seat-found = subst (λ (t : TaskId). task_of T t ≡ Some (row_of seat)) (sym seat-id) (live_stands T n (row_of seat) s.row).0
 
--- no death has struck it
-pub seat_unstruck : (shape : Shape) (T : Tree) (n : ℕ) (q : Player) (seat : Seat) → IsSeat shape T n q seat → blow_of T seat.row.number ≡ None
-seat_unstruck shape T n q seat h =
-    let number : seat.row.number.0 ≡ n = live_number T n seat.row h.row in
-    let id : seat.row.number ≡ record { 0 = n } = id_of seat.row.number n number in
-    let both = live_stands T n seat.row h.row in
-    subst (λ (t : TaskId). blow_of T t ≡ None) (sym id) (rw (both.0, blow_of) both.1)
+  -- as its caller says
+  pub seat_asks : (P : Task → Type 0) → HasNumbers T → P (row_of seat) → MayAsk T seat.who P
+  seat_asks P numbers may =
+      record {
+        caller = inl (record { task = row_of seat; stands = seat-found; says = record { under = refl; place = refl }; inner_is = s.inner; allowed = may });
+        numbers = numbers;
+      }
 
--- a task that is not lost is not told so
-pub not_lost : (T : Tree) (t : TaskId) (b : Blow) → blow_of T t ≡ None → blow_of T t ≡ Some b → ⊥
-not_lost T t b free lost = let f : None ≡ Some b = sym free ∙ lost in cc
+  -- no death has struck it
+  pub seat_unstruck : IsUnstruck T seat.who
+  seat_unstruck =
+      let both = live_stands T n (row_of seat) s.row in
+      subst (λ (t : TaskId). blow_of T t ≡ None) (sym seat-id) (rw (both.0, blow_of) both.1)
 
--- a task at a place that does not wait
-pub moving : (shape : Shape) (T : Tree) (n : ℕ) (q : Player) (seat : Seat) (here : PlaceId) → IsSeat shape T n q seat → seat.row.place ≡ At here → is_held q.term ≡ false → IsMoving seat.row
-moving shape T n q seat here h at free = record { place = here; is_at = at; moves = h.waits ∙ free }
+  -- so a request that waits for no task is refused for want of memory alone
+  pub no-memory : (f : LedgerFault) → IsRefused T seat.who NoWait f → f ≡ NoMemory
+  no-memory f h = memory_alone T seat.who NoWait f seat_unstruck (λ place w. w) h
 
--- its innermost scope is the one that the seat's caller names
-pub seat_inner : (shape : Shape) (T : Tree) (n : ℕ) (q : Player) (seat : Seat) → IsSeat shape T n q seat → inner T seat.row ≡ first_scope seat.row.under (reverse seat.scopes.items)
-seat_inner shape T n q seat h =
-    let id : seat.row.number ≡ record { 0 = n } = id_of seat.row.number n (live_number T n seat.row h.row) in
-    subst (λ (t : TaskId). (elim (find (opened_by t) T.scopes) as (λ _. ScopeId) [ Some g ↦ g.number | None ↦ seat.row.under ]) ≡ first_scope seat.row.under (reverse seat.scopes.items)) (sym id)
-    (first_found (opened_by (record { 0 = n })) T.scopes seat.row.under ∙ ap (first_scope seat.row.under) h.scopes)
+  -- a task at a place that does not wait
+  pub moving : (here : PlaceId) → seat.who.place ≡ At here → is_held q.term ≡ false → IsMoving (row_of seat)
+  moving here at free = record { place = here; is_at = at; moves = s.waits ∙ free }
+
+-- a task that asks for something but a release does not wait
+pub asks-free : (q : Player) (here : ℕ) (d : Does) → does q.vars here q.term ≡ d → (d ≡ Releases → ⊥) → is_held q.term ≡ false
+asks-free q here d is never = not_held q.vars here q.term (λ f. never (sym is ∙ f))
+
+module _ {L : Type 0} {shape : Shape} {code : Block} {U : Given} {m : Machine L} {k i : ℕ} {here : PlaceId} {q : Player} {mover : Mover} {G : Game} (a : Acting shape code U m k i here q mover G) where
+  -- it may ask the chronicle
+  pub may-move : (d : Does) → does q.vars here.0 q.term ≡ d → (d ≡ Releases → ⊥) → MayAskMoving (tree_told m.chronicle) mover.seat.who
+  may-move d is never =
+      let s = a.gone.seat_is in
+      of-told (λ (T : Tree). MayAskMoving T mover.seat.who) a.but.shares (seat_asks s IsMoving a.numbers (moving s here a.gone.is_at (asks-free q here.0 d is never)))
+
+  -- which refuses it for want of memory alone, unless it has to wait
+  pub memory-out : (f : LedgerFault) → IsRefused (tree_told m.chronicle) mover.seat.who NoWait f → f ≡ NoMemory
+  memory-out f h = no-memory a.gone.seat_is f (of-game (λ (T : Tree). IsRefused T mover.seat.who NoWait f) a.but.shares h)

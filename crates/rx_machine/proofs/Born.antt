@@ -16,38 +16,33 @@ use Rattle.rx_rules.specs.declared.tasks.Kind.{Kind}
 use Rattle.rx_rules.specs.declared.tasks.Blow.{Blow}
 use Rattle.rx_rules.specs.declared.entries.Act.{Act}
 use Rattle.rx_rules.specs.declared.entries.Entry.TheVariants.{Step}
-use Rattle.rx_rules.specs.declared.events.PlaceEvent.{PlaceEvent}
 use Rattle.rx_rules.specs.Code.{Block}
 use Rattle.rx_rules.specs.Terms.{does, child}
 use Rattle.rx_rules.specs.Tree.{Tree, is_task, opened_by, death_of}
 use Rattle.rx_rules.specs.Entries.{AllowedAct, made_act, born}
-use Rattle.rx_rules.specs.Store.{State}
 use Rattle.rx_rules.specs.Plays.{Fits, started_by}
 use Rattle.rx_rules.specs.Run.{Given}
 use Rattle.rx_rules.specs.Picked.{Game, Player, Turn, tree_in, child_of, acted as played}
 use Rattle.rx_sound.specs.Chains.{Opened, HasOpener}
 use Rattle.rx_sound.specs.Sound.{Sound, TasksFall}
-use Rattle.rx_store.specs.Kept.{Kept}
-use Rattle.rx_nodes.specs.Shape.{Shape}
+use Rattle.rx_syntax.specs.Shape.{Shape}
 use Rattle.rx_control.specs.declared.control.Control.{Control}
 use Rattle.rx_control.specs.Stands.{StandsFor}
 use Rattle.rx_machine.specs.declared.machine.Machine.{Machine}
-use Rattle.rx_seats.specs.declared.seat.Seat.{Seat}
-use Rattle.rx_terms.specs.Held.{is_held, HeldInFront}
-use Rattle.rx_terms.specs.Spine.{Spine}
-use Rattle.rx_seats.specs.Slots.{seat_at, seat_in}
-use Rattle.rx_machine.specs.Slots.{live_task, if_unstruck, own_scopes, own_kinds, SlotIs, IsSeat}
-use Rattle.rx_stores.specs.Kepts.{StoresAre}
-use Rattle.rx_history.specs.Setups.{to_join}
-use Rattle.rx_machine.specs.Holds.{Seated, HoldsBut, IsPick, HasGone, LeadsTo}
-use Rattle.rx_machine.proofs.Acted.{Went, game_after, tree-after, turned, shared}
+use Rattle.rx_machine.specs.declared.seat.Seat.{Seat}
+use Rattle.rx_machine.specs.declared.seat.Mover.{Mover}
+use Rattle.rx_sound.specs.Held.{is_held, HeldInFront}
+use Rattle.rx_sound.specs.Spine.{Spine}
+use Rattle.rx_machine.specs.Slots.{row_of, seat_at, seat_in, live_task, if_unstruck, own_kinds, SlotIs, IsSeat}
+use Rattle.rx_machine.specs.Holds.{Seated, Acting, LeadsTo}
+use Rattle.rx_machine.proofs.Acted.{Went, game_after, tree-after, turned, shared, stores-after}
 use Rattle.rx_machine.proofs.Finding.{same_or_not, get_other, get_before}
-use Rattle.rx_terms.proofs.Granting.{unheld-child}
-use Rattle.rx_terms.proofs.Holding.{unheld-front}
-use Rattle.rx_machine.proofs.Live.{none_above}
-use Rattle.rx_machine.proofs.Own.{SameOwn, slot-on}
-use Rattle.rx_terms.proofs.SpineGrants.{flat-child}
-use Rattle.rx_terms.proofs.Spines.{flat-spine}
+use Rattle.rx_sound.proofs.Granting.{unheld-child}
+use Rattle.rx_sound.proofs.Holding.{unheld-front}
+use Rattle.rx_machine.proofs.Live.{none_above, live_number}
+use Rattle.rx_machine.proofs.Own.{own_scopes, newest, inner-newest, SameOwn, slot-on}
+use Rattle.rx_sound.proofs.SpineGrants.{flat-child}
+use Rattle.rx_sound.proofs.Spines.{flat-spine}
 
 -- A task that is not yet born opened no scope.
 
@@ -96,82 +91,85 @@ NewSlot shape T n p None = live_task T n ≡ None
 NewSlot shape T n p (Some seat) = IsSeat shape T n p seat
 
 -- the seat of a new task that no death struck
-abbrev pub NewSeat : Control → Seat → Type 0
-NewSeat control seat = (seat.scopes.items ≡ []) × (seat.control.value ≡ control) × (seat.batch ≡ [])
+abbrev pub NewSeat : Control → ScopeId → Seat → Type 0
+NewSeat control under seat = (seat.who.inner ≡ under) × (seat.control.value ≡ control)
 
-pub new-slot : (shape : Shape) (T T' : Tree) (n : ℕ) (q : Player) (slot : Option Seat) (control : Control) (number : TaskId) (under : ScopeId) (from to : PlaceId) → live_task T' n ≡ if_unstruck (born T number under from to) → (own_scopes T' n ≡ []) × (own_kinds T' n ≡ []) → StandsFor shape control (child q.term) → control.vars ≡ q.vars → is_none slot ≡ is_some (death_of T to) → IfSome slot (λ seat. (V : Tree) → death_of V to ≡ None → seat.row ≡ born V number under from to) → IfSome slot (NewSeat control) → NewSlot shape T' n (child_player q) slot
+pub new-slot : (shape : Shape) (T T' : Tree) (n : ℕ) (q : Player) (slot : Option Seat) (control : Control) (number : TaskId) (under : ScopeId) (from to : PlaceId) → live_task T' n ≡ if_unstruck (born T number under from to) → (own_scopes T' n ≡ []) × (own_kinds T' n ≡ []) → StandsFor shape control (child q.term) → control.vars ≡ q.vars → is_none slot ≡ is_some (death_of T to) → IfSome slot (λ seat. (V : Tree) → death_of V to ≡ None → row_of seat ≡ born V number under from to) → IfSome slot (NewSeat control under) → NewSlot shape T' n (child_player q) slot
 new-slot shape T T' n q None control number under from to live own stands vars lost row rest = live ∙ born-struck T number under from to true (sym lost)
 new-slot shape T T' n q (Some seat) control number under from to live own stands vars lost row rest =
-    let is : seat.row ≡ born T number under from to = row T (none-of (death_of T to) (sym lost)) in
+    let is : row_of seat ≡ born T number under from to = row T (none-of (death_of T to) (sym lost)) in
+    let there : live_task T' n ≡ Some (row_of seat) = live ∙ (born-struck T number under from to false (sym lost) ∙ ap (λ (r : Task). Some r) (sym is)) in
     let front : HeldInFront (child q.term) × (is_held (child q.term) ≡ false) = unheld-front (child q.term) (unheld-child q.term) in
     record {
-      row = live ∙ (born-struck T number under from to false (sym lost) ∙ ap (λ r. Some r) (sym is));
-      scopes = own.0 ∙ ap (λ ss. reverse ss) (sym rest.0);
+      row = there;
+      inner = inner-newest T' n (row_of seat) (live_number T' n (row_of seat) there)
+          ∙ (ap (λ (ss : List ScopeId). newest ss seat.who.scope) own.0 ∙ (ap (λ (r : Task). r.under) is ∙ sym rest.0));
       term = subst (λ (c : Control). StandsFor shape c (child q.term)) (sym rest.1) stands;
       vars = ap (λ c. c.vars) rest.1 ∙ vars;
-      batch = rest.2;
-      waits = ap (λ r. r.waits) is ∙ sym front.1;
+      waits = ap (λ (r : Task). r.waits) is ∙ sym front.1;
       held = front.0;
       spine = subst (λ (ks : List Kind). Spine (child q.term) (reverse ks)) (sym own.1) (flat-spine (child q.term) (flat-child q.term));
     }
 
-new-is : (shape : Shape) (T : Tree) (players : List Player) (n : ℕ) (p : Player) (slot : Option Seat) → slice_get players n ≡ Some p → NewSlot shape T n p slot → SlotIs shape T players n slot
-new-is shape T players n p None player h = h
-new-is shape T players n p (Some seat) player h = (p, player, h)
+new-is : (shape : Shape) (T : Tree) (players : List Player) (n : ℕ) (p : Player) (slot : Option Seat) → slice_get players n ≡ Some p → p.batch ≡ [] → NewSlot shape T n p slot → SlotIs shape T players n slot
+new-is shape T players n p None player none h = h
+new-is shape T players n p (Some seat) player none h = (p, player, none, h)
 
 -- An entry that starts a task: the seat goes back changed, the child gets a slot of its own at the end, and all others stay.
-pub started : {L : Type 0} (stands : L → ℕ → Tree → Type 0) (shape : Shape) (code : Block) (U : Given) (m m' : Machine L) (k i : ℕ) (here : PlaceId) (p q : Player) (S Z : State) (j : List PlaceEvent) (seat seat' : Seat) (slot : Option Seat) (G : Game) (act : Act) (c : TaskId) → HoldsBut stands shape code U m i G → IsPick U k i seat G → HasGone shape U i here p q S Z j seat G → Fits here q.term (does q.vars here.0 q.term) act → AllowedAct (tree_in U G) seat.row.number act → started_by act ≡ Some c → length G.players ≡ (tree_in U G).next_task → ((n : ℕ) → n ≢ i → n ≢ (tree_in U G).next_task → live_task (made_act (tree_in U G) seat.row.number act) n ≡ live_task (tree_in U G) n) → ((n : ℕ) → n ≢ i → n ≢ (tree_in U G).next_task → SameOwn (tree_in U G) (made_act (tree_in U G) seat.row.number act) n) → (made_act (tree_in U G) seat.row.number act).next_task ≡ suc (tree_in U G).next_task → IsSeat shape (made_act (tree_in U G) seat.row.number act) i (played here q act) seat' → NewSlot shape (made_act (tree_in U G) seat.row.number act) (tree_in U G).next_task (child_player q) slot → Went stands m m' (to_join U (tree_in U G)) (made_act (tree_in U G) seat.row.number act) (Step seat.row.number act q.batch) → i < length m.seats.items → m'.seats.items ≡ slice_set m.seats.items i (Some seat') ++ slot ∷ [] → StoresAre U.heap 0 m.stores.items (slice_set G.journals here.0 j) → LeadsTo (Turn U k G true) (Seated stands shape code U m')
-started stands shape code U m m' k i here p q S Z j seat seat' slot G act c but pick gone fits may starts count live own next new born_so went inside back stored =
-    let T : Tree = tree_in U G in
-    let T' : Tree = made_act T seat.row.number act in
-    let G' : Game = game_after G seat.row.number here q Z j act in
-    let same : T' ≡ tree_in U G' = sym (tree-after U G seat.row.number here q Z j act) in
-    let ps : List Player = slice_set G.players i (played here q act) in
-    let xs : List (Option Seat) = slice_set m.seats.items i (Some seat') in
-    let players : ps ++ child_player q ∷ [] ≡ G'.players =
-    subst (λ (n : ℕ). slice_set G.players n (played here q act) ++ child_player q ∷ [] ≡ G'.players) pick.number
-    (ap (λ d. slice_set G.players seat.row.number.0 (played here q act) ++ d) (sym (child_is q act c starts))) in
-    let ps_long : length ps ≡ T.next_task = length-set G.players i (played here q act) ∙ count in
-    let xs_long : length xs ≡ T.next_task = length-set m.seats.items i (Some seat') ∙ but.shares.slots in
-    let older : i ≢ T.next_task = λ e. let low : i < T.next_task = subst (λ (v : ℕ). i < v) but.shares.slots inside in absurd (omega (arith, e)) in
-    let within : i < length G.players = slice_get_within G.players i p gone.player in
-    let mine : slice_get G'.players i ≡ Some (played here q act) =
-    subst (λ (v : List Player). slice_get v i ≡ Some (played here q act)) players
-    (get_before ps (child_player q) i (λ e. older (e ∙ ps_long)) ∙ get-set G.players i (played here q act) within) in
-    let its : slice_get G'.players T.next_task ≡ Some (child_player q) =
-    subst (λ (v : List Player). slice_get v T.next_task ≡ Some (child_player q)) players
-    (subst (λ (v : ℕ). slice_get (ps ++ child_player q ∷ []) v ≡ Some (child_player q)) ps_long (get-pushed ps (child_player q))) in
-    let others : (n : ℕ) → n ≢ i → n ≢ T.next_task → slice_get G'.players n ≡ slice_get G.players n = λ n apart fresh.
-    subst (λ (v : List Player). slice_get v n ≡ slice_get G.players n) players
-    (get_before ps (child_player q) n (λ e. fresh (e ∙ ps_long)) ∙ get_other G.players i n (played here q act) apart) in
-    let seat_mine : seat_at (xs ++ slot ∷ []) i ≡ Some seat' = ap seat_in (get_before xs slot i (λ e. older (e ∙ xs_long)) ∙ get-set m.seats.items i (Some seat') inside) in
-    let seat_new : seat_at (xs ++ slot ∷ []) T.next_task ≡ slot =
-    ap seat_in (subst (λ (v : ℕ). slice_get (xs ++ slot ∷ []) v ≡ Some slot) xs_long (get-pushed xs slot)) in
-    let seat_others : (n : ℕ) → n ≢ i → n ≢ T.next_task → seat_at (xs ++ slot ∷ []) n ≡ seat_at m.seats.items n = λ n apart fresh.
-    ap seat_in (get_before xs slot n (λ e. fresh (e ∙ xs_long)) ∙ get_other m.seats.items i n (Some seat') apart) in
-    let pushed : length (xs ++ slot ∷ []) ≡ suc T.next_task = let one : length (xs ++ slot ∷ []) ≡ length xs + 1 = length-append xs (slot ∷ []) in omega (arith, one, xs_long) in
-    let length_is : length m'.seats.items ≡ T'.next_task = ap (λ v. length v) back ∙ (pushed ∙ sym next) in (
-      G',
-      turned shape U k i here p q S Z j seat G act pick gone fits may,
-      record {
-        shares = shared stands shape code U m m' k i here p q S Z j seat G act but.shares pick gone fits may went length_is;
-        stores = subst (λ (ss : List Kept). StoresAre U.heap 0 ss (slice_set G.journals here.0 j)) (ap (λ v. v.items) (sym went.stores)) stored;
-        seats = λ n.
-            subst (λ (V : Tree). SlotIs shape V G'.players n (seat_at m'.seats.items n)) same
-            (subst (λ (v : List (Option Seat)). SlotIs shape T' G'.players n (seat_at v n)) (sym back)
-            (elim (same_or_not n i) [
-              | inl e ↦ subst (λ (v : ℕ). SlotIs shape T' G'.players v (seat_at (xs ++ slot ∷ []) v)) (sym e)
-                  (subst (λ (o : Option Seat). SlotIs shape T' G'.players i o) (sym seat_mine) (played here q act, mine, new))
-              | inr apart ↦
-                  elim (same_or_not n T.next_task) [
-                    | inl e ↦ subst (λ (v : ℕ). SlotIs shape T' G'.players v (seat_at (xs ++ slot ∷ []) v)) (sym e)
-                        (subst (λ (o : Option Seat). SlotIs shape T' G'.players T.next_task o) (sym seat_new) (new-is shape T' G'.players T.next_task (child_player q) slot its born_so))
-                    | inr fresh ↦ subst (λ (o : Option Seat). SlotIs shape T' G'.players n o) (sym (seat_others n apart fresh))
-                        (slot-on shape T T' G.players G'.players n (seat_at m.seats.items n) (live n apart fresh) (λ x h. own n apart fresh) (others n apart fresh) (but.others n apart))
-                  ]
-            ]));
-      },
-    )
-  where
-    child_is : (q : Player) (act : Act) (c : TaskId) → started_by act ≡ Some c → child_of q act ≡ child_player q ∷ []
-    child_is q act c e = rw (e, child_of) refl
+module _ {L : Type 0} {shape : Shape} {code : Block} {U : Given} {m : Machine L} {k i : ℕ} {here : PlaceId} {q : Player} {mover : Mover} {G : Game} (a : Acting shape code U m k i here q mover G) (act : Act) (fits : Fits here q.term (does q.vars here.0 q.term) act) (may : AllowedAct (tree_in U G) mover.seat.who.task act) where
+  pub started : (m' : Machine L) (seat' : Seat) (slot : Option Seat) (c : TaskId) → started_by act ≡ Some c → ((n : ℕ) → n ≢ i → n ≢ (tree_in U G).next_task → live_task (made_act (tree_in U G) mover.seat.who.task act) n ≡ live_task (tree_in U G) n) → ((n : ℕ) → n ≢ i → n ≢ (tree_in U G).next_task → SameOwn (tree_in U G) (made_act (tree_in U G) mover.seat.who.task act) n) → (made_act (tree_in U G) mover.seat.who.task act).next_task ≡ suc (tree_in U G).next_task → IsSeat shape (made_act (tree_in U G) mover.seat.who.task act) i (played here q act) seat' → NewSlot shape (made_act (tree_in U G) mover.seat.who.task act) (tree_in U G).next_task (child_player q) slot → Went m m' (Step mover.seat.who.task act mover.batch) → m'.seats.items ≡ slice_set m.seats.items i (Some seat') ++ slot ∷ [] → LeadsTo (Turn U k G true) (Seated shape code U m')
+  started m' seat' slot c starts live own next new born_so went back =
+      let t : TaskId = mover.seat.who.task in
+      let T : Tree = tree_in U G in
+      let T' : Tree = made_act T t act in
+      let G' : Game = game_after G t here q a.left a.events act in
+      let same : T' ≡ tree_in U G' = sym (tree-after U G t here q a.left a.events act) in
+      let ps : List Player = slice_set G.players i (played here q act) in
+      let xs : List (Option Seat) = slice_set m.seats.items i (Some seat') in
+      let players : ps ++ child_player q ∷ [] ≡ G'.players =
+      subst (λ (n : ℕ). slice_set G.players n (played here q act) ++ child_player q ∷ [] ≡ G'.players) a.pick.number
+      (ap (λ d. slice_set G.players t.0 (played here q act) ++ d) (sym (child_is q act c starts))) in
+      let ps_long : length ps ≡ T.next_task = length-set G.players i (played here q act) ∙ a.players in
+      let xs_long : length xs ≡ T.next_task = length-set m.seats.items i (Some seat') ∙ a.but.shares.slots in
+      let older : i ≢ T.next_task = λ e. let low : i < T.next_task = subst (λ (v : ℕ). i < v) a.but.shares.slots a.inside in absurd (omega (arith, e)) in
+      let within : i < length G.players = slice_get_within G.players i a.began a.gone.player in
+      let mine : slice_get G'.players i ≡ Some (played here q act) =
+      subst (λ (v : List Player). slice_get v i ≡ Some (played here q act)) players
+      (get_before ps (child_player q) i (λ e. older (e ∙ ps_long)) ∙ get-set G.players i (played here q act) within) in
+      let its : slice_get G'.players T.next_task ≡ Some (child_player q) =
+      subst (λ (v : List Player). slice_get v T.next_task ≡ Some (child_player q)) players
+      (subst (λ (v : ℕ). slice_get (ps ++ child_player q ∷ []) v ≡ Some (child_player q)) ps_long (get-pushed ps (child_player q))) in
+      let others : (n : ℕ) → n ≢ i → n ≢ T.next_task → slice_get G'.players n ≡ slice_get G.players n = λ n apart fresh.
+      subst (λ (v : List Player). slice_get v n ≡ slice_get G.players n) players
+      (get_before ps (child_player q) n (λ e. fresh (e ∙ ps_long)) ∙ get_other G.players i n (played here q act) apart) in
+      let seat_mine : seat_at (xs ++ slot ∷ []) i ≡ Some seat' = ap seat_in (get_before xs slot i (λ e. older (e ∙ xs_long)) ∙ get-set m.seats.items i (Some seat') a.inside) in
+      let seat_new : seat_at (xs ++ slot ∷ []) T.next_task ≡ slot =
+      ap seat_in (subst (λ (v : ℕ). slice_get (xs ++ slot ∷ []) v ≡ Some slot) xs_long (get-pushed xs slot)) in
+      let seat_others : (n : ℕ) → n ≢ i → n ≢ T.next_task → seat_at (xs ++ slot ∷ []) n ≡ seat_at m.seats.items n = λ n apart fresh.
+      ap seat_in (get_before xs slot n (λ e. fresh (e ∙ xs_long)) ∙ get_other m.seats.items i n (Some seat') apart) in
+      let pushed : length (xs ++ slot ∷ []) ≡ suc T.next_task = let one : length (xs ++ slot ∷ []) ≡ length xs + 1 = length-append xs (slot ∷ []) in omega (arith, one, xs_long) in
+      let length_is : length m'.seats.items ≡ T'.next_task = ap (λ v. length v) back ∙ (pushed ∙ sym next) in (
+        G',
+        turned a act fits may,
+        record {
+          shares = shared a act fits may m' went length_is;
+          stores = stores-after a act fits may m' went;
+          seats = λ n.
+              subst (λ (V : Tree). SlotIs shape V G'.players n (seat_at m'.seats.items n)) same
+              (subst (λ (v : List (Option Seat)). SlotIs shape T' G'.players n (seat_at v n)) (sym back)
+              (elim (same_or_not n i) [
+                | inl e ↦ subst (λ (v : ℕ). SlotIs shape T' G'.players v (seat_at (xs ++ slot ∷ []) v)) (sym e)
+                    (subst (λ (o : Option Seat). SlotIs shape T' G'.players i o) (sym seat_mine) (played here q act, mine, refl, new))
+                | inr apart ↦
+                    elim (same_or_not n T.next_task) [
+                      | inl e ↦ subst (λ (v : ℕ). SlotIs shape T' G'.players v (seat_at (xs ++ slot ∷ []) v)) (sym e)
+                          (subst (λ (o : Option Seat). SlotIs shape T' G'.players T.next_task o) (sym seat_new) (new-is shape T' G'.players T.next_task (child_player q) slot its refl born_so))
+                      | inr fresh ↦ subst (λ (o : Option Seat). SlotIs shape T' G'.players n o) (sym (seat_others n apart fresh))
+                          (slot-on shape T T' G.players G'.players n (seat_at m.seats.items n) (live n apart fresh) (λ x h. own n apart fresh) (others n apart fresh) (a.but.others n apart))
+                    ]
+              ]));
+        },
+      )
+    where
+      child_is : (q : Player) (act : Act) (c : TaskId) → started_by act ≡ Some c → child_of q act ≡ child_player q ∷ []
+      child_is q act c e = rw (e, child_of) refl

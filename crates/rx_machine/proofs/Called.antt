@@ -13,8 +13,7 @@ use Rattle.rx_rules.specs.declared.events.Cell.{Cell}
 use Rattle.rx_rules.specs.declared.events.PlaceEvent.{PlaceEvent}
 use Rattle.rx_rules.specs.declared.events.PlaceEvent.TheVariants.{Done as Did, Close}
 use Rattle.rx_rules.specs.Code.{Block, work}
-use Rattle.rx_rules.specs.Terms.{items, at, Answer, answered, vars_after, answer_of, Releases, does, begins, receives}
-use Rattle.rx_rules.specs.Tree.{Tree}
+use Rattle.rx_rules.specs.Terms.{items, at, Answer, answered, vars_after, answer_of, does, begins, receives}
 use Rattle.rx_rules.specs.Store.{State, opening_state, MayCell, after_cell}
 use Rattle.rx_rules.specs.Plays.{Tells, begun, journal_at}
 use Rattle.rx_rules.specs.Run.{Given, in_all, Proper, death_number}
@@ -24,33 +23,33 @@ use Rattle.rx_runs.specs.Games.{Leads, rests, steps as more, NotAbove, JournalSo
 use Rattle.rx_runs.specs.Ties.{RowSo}
 use Rattle.rx_runs.specs.Coming.{CameTo, GamesCome}
 use Rattle.rx_runs.specs.Events.{FewEvents, GoingTells}
-use Rattle.rx_runs.specs.SomeWords.{MakesSome, TermMakesSome, ComesSome, GoesSome}
+use Rattle.rx_runs.specs.SomeWords.{TermMakesSome, ComesSome, GoesSome}
 use Rattle.rx_runs.proofs.Pairs.{pairs-get}
 use Rattle.rx_runs.proofs.Rows.{row-found}
-use Rattle.rx_nodes.specs.Shape.{Shape}
+use Rattle.rx_syntax.specs.Shape.{Shape}
 use Rattle.rx_store.specs.Kept.{Kept, state_from, state_of, closed_from, ends_closed, stamp_from, last_stamp}
 use Rattle.rx_store.specs.Answers.{event_told}
 use Rattle.rx_store.specs.declared.calls.Mark.{Mark}
 use Rattle.rx_store.proofs.Running.{state_done, closed_done, stamp_done}
-use Rattle.rx_plan.specs.declared.step.CellOp.{CellOp}
-use Rattle.rx_plan.specs.declared.step.Next.TheVariants.{Cell as CellStep}
-use Rattle.rx_plan.specs.Next.{next_of}
+use Rattle.rx_history.specs.declared.step.CellOp.{CellOp}
+use Rattle.rx_history.specs.declared.step.Next.TheVariants.{Cell as CellStep}
+use Rattle.rx_history.specs.Next.{next_of}
 use Rattle.rx_control.specs.Stands.{StandsFor}
 use Rattle.rx_machine.specs.declared.machine.Machine.{Machine}
-use Rattle.rx_seats.specs.declared.seat.Seat.{Seat}
-use Rattle.rx_terms.specs.Held.{is_held, HeldInFront}
-use Rattle.rx_machine.specs.Slots.{IsSeat, live_task, own_kinds}
-use Rattle.rx_stores.specs.Kepts.{StoresAre}
+use Rattle.rx_machine.specs.declared.seat.Mover.{Mover}
+use Rattle.rx_sound.specs.Held.{is_held, HeldInFront}
+use Rattle.rx_machine.specs.Slots.{row_of, live_task, own_kinds}
+use Rattle.rx_store.specs.Kepts.{StoresAre}
 use Rattle.rx_machine.specs.Holds.{Acting}
 use Rattle.rx_machine.specs.Inside.Requests.{OnlyStores, AfterStep}
-use Rattle.rx_stores.specs.Asked.{Asked}
+use Rattle.rx_store.specs.Asked.{Asked}
 use Rattle.rx_machine.proofs.Live.{live_stands}
-use Rattle.rx_terms.proofs.Beginning.{begins-so, begun_one}
-use Rattle.rx_terms.proofs.Receiving.{call-so}
-use Rattle.rx_stores.proofs.StoreCalls.{IsCall, is_call}
-use Rattle.rx_terms.proofs.SpineGrants.{answer_spine, begun_is}
-use Rattle.rx_machine.proofs.Stepping.{goes-stores, acting-on}
-use Rattle.rx_terms.proofs.Granting.{answer_waits, not_held}
+use Rattle.rx_sound.proofs.Beginning.{begins-so, begun_one}
+use Rattle.rx_sound.proofs.Receiving.{call-so}
+use Rattle.rx_store.proofs.StoreCalls.{IsCall, is_call}
+use Rattle.rx_sound.proofs.SpineGrants.{answer_spine, begun_is}
+use Rattle.rx_machine.proofs.Stepping.{goes-stores, acting-on, moved-seat}
+use Rattle.rx_sound.proofs.Granting.{answer_waits, not_held}
 
 -- Stores by their places.
 
@@ -120,30 +119,40 @@ journal-is code U G i row here S ok live is_at place store =
     let journal : both.left ≡ journal_at G.journals here.0 = sym (ap (λ (o : Option (List PlaceEvent)). elim o as (λ _. List PlaceEvent) [ Some j ↦ j | None ↦ [] ]) both.at_left) in
     subst (λ (v : State). JournalIs (length G.entries) v (journal_at G.journals here.0)) same (subst (λ (l : List PlaceEvent). JournalIs (length G.entries) both.right l) journal is)
 
-module _ {L : Type 0} (stands : L → ℕ → Tree → Type 0) (shape : Shape) (code : Block) (U : Given) (m : Machine L) (k i : ℕ) (here : PlaceId) (q : Player) (seat : Seat) (G : Game) (a : Acting stands shape code U m k i here q seat G) where
+-- the store of the place of a task that acts has the words of the heap, and the events of its walk
+pub record StoreIs {L : Type 0} (U : Given) (m : Machine L) (here : PlaceId) (G : Game) (Z : State) (l : List PlaceEvent) (old : Kept) : Type 0 where
+  pub found : slice_get m.stores.items here.0 ≡ Some old
+  pub place : old.place ≡ here
+  pub words : old.words ≡ U.heap
+  pub events : old.events ≡ l
+  pub journal : JournalIs (length G.entries) Z l
+
+-- the mark's event
+event-is : (n : ℕ) (t : TaskId) (x : List ℕ) (es : List PlaceEvent) (mark : Mark) (cell : Cell) → mark.task ≡ t → mark.stamp ≡ n → mark.path ≡ x → last_stamp es ≤ n → event_told es mark cell ≡ Did t n cell x
+event-is n t x es mark cell task stamp path last =
+    let most : max mark.stamp (last_stamp es) ≡ n = ap (λ v. max v (last_stamp es)) stamp ∙ max-left n (last_stamp es) last in
+    ap (λ v. Did v (max mark.stamp (last_stamp es)) cell mark.path) task ∙ (ap (λ v. Did t v cell mark.path) most ∙ ap (λ v. Did t n cell v) path)
+  where
+    max-left : (n s : ℕ) → s ≤ n → max n s ≡ n
+    max-left n s le = omega arith
+
+module _ {L : Type 0} {shape : Shape} {code : Block} {U : Given} {m : Machine L} {k i : ℕ} {here : PlaceId} {q : Player} {mover : Mover} {G : Game} (a : Acting shape code U m k i here q mover G) where
   -- the call that is next
-  pub call_is : (op : CellOp) → TermSinks → ComesSome → GoesSome → MakesSome code → next_of (does q.vars here.0 q.term) ≡ CellStep op → IsCall q.term here op (does q.vars here.0 q.term)
-  call_is op sink comes goes some e =
-      let began : TermMakesSome a.began.term = comes code U G some a.but.shares.comes i a.began a.gone.player in
-      let both = goes U.heap (length G.entries) seat.row.number here a.began q a.store a.left (journal_at G.journals here.0) a.events a.gone.goes began in
+  pub call_is : (op : CellOp) → TermSinks → ComesSome → GoesSome → next_of (does q.vars here.0 q.term) ≡ CellStep op → IsCall q.term here op (does q.vars here.0 q.term)
+  call_is op sink comes goes e =
+      let began : TermMakesSome a.began.term = comes code U G a.but.shares.on.makes a.but.shares.comes i a.began a.gone.player in
+      let both = goes U.heap (length G.entries) mover.seat.who.task here a.began q a.store a.left (journal_at G.journals here.0) a.events a.gone.goes began in
       is_call q.term here op (does q.vars here.0 q.term) e (begins-so q.vars here.0 q.term) (call-so q.vars here.0 q.term) (both.1 q.vars) (sink q.vars here.0 q.term)
 
   -- the store of the place
-  pub record StoreIs (old : Kept) : Type 0 where
-    pub found : slice_get m.stores.items here.0 ≡ Some old
-    pub place : old.place ≡ here
-    pub words : old.words ≡ U.heap
-    pub events : old.events ≡ a.events
-    pub journal : JournalIs (length G.entries) a.left a.events
-
-  pub store_is : GamesCome → Proper U → (old : Kept) × StoreIs old
-  store_is come proper =
-      let came : CameTo code U G = come code U G proper a.but.shares.comes a.pick.stands in
+  pub store_is : GamesCome → (old : Kept) × StoreIs U m here G a.left a.events old
+  store_is come =
+      let came : CameTo code U G = come code U G a.but.shares.on.proper a.but.shares.comes a.pick.stands in
       let ok = came.ok in
       let low : here.0 < length G.journals = rw ok.one_each a.stored in
       let at : slice_get (slice_set G.journals here.0 a.events) here.0 ≡ Some a.events = get-set G.journals here.0 a.events low in
       let s = stores-at U.heap 0 m.stores.items (slice_set G.journals here.0 a.events) here.0 a.events a.stores at in
-      let start : JournalIs (length G.entries) a.store (journal_at G.journals here.0) = journal-is code U G i seat.row here a.store ok a.gone.seat_is.row a.gone.is_at a.stored a.gone.store in (
+      let start : JournalIs (length G.entries) a.store (journal_at G.journals here.0) = journal-is code U G i (row_of mover.seat) here a.store ok a.gone.seat_is.row a.gone.is_at a.stored a.gone.store in (
         s.0,
         record {
           found = s.1;
@@ -155,63 +164,57 @@ module _ {L : Type 0} (stands : L → ℕ → Tree → Type 0) (shape : Shape) (
       )
 
   -- its journal is short
-  pub events_few : GamesCome → FewEvents → GoingTells → Proper U → work code ≤ 100000 → length a.events < 2 ^ 31
-  events_few come most tells proper few =
+  pub events_few : GamesCome → FewEvents → GoingTells → length a.events < 2 ^ 31
+  events_few come most tells =
+      let proper : Proper U = a.but.shares.on.proper in
+      let few : work code ≤ 100000 = a.but.shares.on.few in
       let came : CameTo code U G = come code U G proper a.but.shares.comes a.pick.stands in
-      let found = live_stands (tree_in U G) i seat.row a.gone.seat_is.row in
-      let row : RowSo G.entries i seat.row.place = (row-found (record { 0 = i }) seat.row (length came.ok.starts) G.entries (tree_in U G).tasks found.0 found.1 came.ok.ties.rows).1 in
+      let found = live_stands (tree_in U G) i (row_of mover.seat) a.gone.seat_is.row in
+      let row : RowSo G.entries i mover.seat.who.place = (row-found (record { 0 = i }) (row_of mover.seat) (length came.ok.starts) G.entries (tree_in U G).tasks found.0 found.1 came.ok.ties.rows).1 in
       let first : length (journal_at G.journals here.0) + steps a.began.term ≤ 3 * work code + length G.entries = most code U G proper a.but.shares.comes here.0 i a.began a.gone.player row.going in
-      let rest : length a.events + steps q.term ≤ length (journal_at G.journals here.0) + steps a.began.term = tells U.heap (length G.entries) seat.row.number here a.began q a.store a.left (journal_at G.journals here.0) a.events a.gone.goes in
+      let rest : length a.events + steps q.term ≤ length (journal_at G.journals here.0) + steps a.began.term = tells U.heap (length G.entries) mover.seat.who.task here a.began q a.store a.left (journal_at G.journals here.0) a.events a.gone.goes in
       let entries : length G.entries ≤ 4 * work code + U.places + 2 * length U.joins = came.entries in
       let places : U.places + length U.joins ≤ 16 = proper.few in omega (arith, first, rest, entries, places, few)
 
--- the new seat
-answered-seat : (shape : Shape) (T : Tree) (i : ℕ) (here : PlaceId) (q : Player) (seat seat' : Seat) (x : List ℕ) (ans : Answer) → IsSeat shape T i q seat → begins q.term ≡ Some x → (does q.vars here.0 q.term ≡ Releases → ⊥) → StandsFor shape seat'.control.value (answered ans q.term) → seat'.control.value.vars ≡ vars_after ans seat.control.value.vars → seat'.batch ≡ seat.batch ++ x ∷ [] → seat'.row ≡ seat.row → seat'.scopes ≡ seat.scopes → IsSeat shape T i (record { term = answered ans q.term; vars = vars_after ans q.vars; batch = begun q.term q.batch }) seat'
-answered-seat shape T i here q seat seat' x ans s b free term vars batch row scopes =
-    let away : is_held q.term ≡ false = not_held q.vars here.0 q.term free in
-    let waits : HeldInFront (answered ans q.term) × (is_held (answered ans q.term) ≡ false) = answer_waits ans q.term s.held in
-    record {
-      row = s.row ∙ ap (λ (y : Task). Some y) (sym row);
-      scopes = s.scopes ∙ ap (λ ss. reverse ss.items) (sym scopes);
-      term = term;
-      vars = vars ∙ ap (vars_after ans) s.vars;
-      batch = batch ∙ (ap (λ (l : List (List ℕ)). l ++ x ∷ []) s.batch ∙ sym (begun_one q.term q.batch x b));
-      waits = ap (λ (y : Task). y.waits) row ∙ (s.waits ∙ (away ∙ sym waits.1));
-      held = waits.0;
-      spine = answer_spine ans q.term (reverse (own_kinds T i)) s.spine (begun_is q.term x b);
-    }
+  -- and so is the history
+  pub entries_few : GamesCome → length m.chronicle.entries < 2 ^ 31
+  entries_few come =
+      let came : CameTo code U G = come code U G a.but.shares.on.proper a.but.shares.comes a.pick.stands in
+      let few : work code ≤ 100000 = a.but.shares.on.few in
+      let most : length G.entries ≤ 4 * work code + U.places + 2 * length U.joins = came.entries in
+      let places : U.places + length U.joins ≤ 16 = a.but.shares.on.proper.few in
+      let same : length m.chronicle.entries ≡ length G.entries = ap length a.but.shares.entries in omega (arith, few, most, places, same)
 
--- the mark's event
-event-is : (n : ℕ) (t : TaskId) (x : List ℕ) (es : List PlaceEvent) (mark : Mark) (cell : Cell) → mark.task ≡ t → mark.stamp ≡ n → mark.path ≡ x → last_stamp es ≤ n → event_told es mark cell ≡ Did t n cell x
-event-is n t x es mark cell task stamp path last =
-    let most : max mark.stamp (last_stamp es) ≡ n = ap (λ v. max v (last_stamp es)) stamp ∙ max-left n (last_stamp es) last in
-    ap (λ v. Did v (max mark.stamp (last_stamp es)) cell mark.path) task ∙ (ap (λ v. Did t v cell mark.path) most ∙ ap (λ v. Did t n cell v) path)
-  where
-    max-left : (n s : ℕ) → s ≤ n → max n s ≡ n
-    max-left n s le = omega arith
+  -- a store call lengthens the walk by its event
+  pub call-told : (op : CellOp) (answer : Result (Option Value) Fault) (x : List ℕ) (old new : Kept) (mark : Mark) (items : List Kept) → IsCall q.term here op (does q.vars here.0 q.term) → begins q.term ≡ Some x → next_of (does q.vars here.0 q.term) ≡ CellStep op → StoreIs U m here G a.left a.events old → items ≡ slice_set m.stores.items here.0 new → mark.task ≡ mover.seat.who.task → mark.stamp ≡ length G.entries → mark.path ≡ x → Asked old new mark op answer → (Z : State) × (l : List PlaceEvent) × Goes U.heap (length G.entries) mover.seat.who.task here a.began a.store (journal_at G.journals here.0) (record { term = answered (answer_of (receives q.term) answer) q.term; vars = vars_after (answer_of (receives q.term) answer) q.vars; batch = begun q.term q.batch }) Z l × StoresAre U.heap 0 items (slice_set G.journals here.0 l)
+  call-told op answer x old new mark items c b e is put task stamp path asked =
+      let t : TaskId = mover.seat.who.task in
+      let ans : Answer = answer_of (receives q.term) answer in
+      let cell : Cell = asked.cell in
+      let told : Tells (does q.vars here.0 q.term) here cell ans = subst (λ (p : PlaceId). Tells (does q.vars here.0 q.term) p cell ans) is.place (asked.told (does q.vars here.0 q.term) (receives q.term) e c.receives) in
+      let state : state_of old.events ≡ a.left = ap state_of is.events ∙ is.journal.state in
+      let may : MayCell U.heap a.left cell = subst (λ (S : State). MayCell U.heap S cell) state (subst (λ (w : ℕ). MayCell w (state_of old.events) cell) is.words asked.law) in
+      let last : last_stamp old.events ≤ length G.entries = (let w : last_stamp old.events ≡ last_stamp a.events = ap last_stamp is.events in let v : last_stamp a.events ≤ length G.entries = is.journal.last in omega (arith, w, v)) in
+      let event : event_told old.events mark cell ≡ Did t (length G.entries) cell x = event-is (length G.entries) t x old.events mark cell task stamp path last in
+      let longer : List PlaceEvent = a.events ++ Did t (length G.entries) cell x ∷ [] in
+      let events : new.events ≡ longer = asked.events ∙ (ap (λ v. old.events ++ v ∷ []) event ∙ ap (λ l. l ++ Did t (length G.entries) cell x ∷ []) is.events) in
+      let place : new.place.0 ≡ 0 + here.0 = (let w : new.place.0 ≡ here.0 = ap (λ (p : PlaceId). p.0) (asked.place ∙ is.place) in omega (arith, w)) in
+      let kept : StoresAre U.heap 0 (slice_set m.stores.items here.0 new) (slice_set (slice_set G.journals here.0 a.events) here.0 longer) = stores-set U.heap 0 m.stores.items (slice_set G.journals here.0 a.events) here.0 new longer a.stores place (asked.words ∙ is.words) events in
+      let stored : StoresAre U.heap 0 items (slice_set G.journals here.0 longer) = subst (λ (ss : List Kept). StoresAre U.heap 0 ss (slice_set G.journals here.0 longer)) (sym put) (subst (λ (js : List (List PlaceEvent)). StoresAre U.heap 0 (slice_set m.stores.items here.0 new) js) (set-twice G.journals here.0 a.events longer) kept) in
+      (after_cell a.left cell, longer, goes-stores cell x ans a.gone.goes told b may, stored)
 
--- a store call lengthens the walk by its event
-pub call-told : {L : Type 0} (stands : L → ℕ → Tree → Type 0) (shape : Shape) (code : Block) (U : Given) (m : Machine L) (k i : ℕ) (here : PlaceId) (q : Player) (seat : Seat) (G : Game) (op : CellOp) (answer : Result (Option Value) Fault) (x : List ℕ) (old new : Kept) (mark : Mark) (items : List Kept) → (a : Acting stands shape code U m k i here q seat G) → (c : IsCall q.term here op (does q.vars here.0 q.term)) → begins q.term ≡ Some x → next_of (does q.vars here.0 q.term) ≡ CellStep op → StoreIs stands shape code U m k i here q seat G a old → items ≡ slice_set m.stores.items here.0 new → mark.task ≡ seat.row.number → mark.stamp ≡ length G.entries → mark.path ≡ x → Asked old new mark op answer → (Z : State) × (l : List PlaceEvent) × Goes U.heap (length G.entries) seat.row.number here a.began a.store (journal_at G.journals here.0) (record { term = answered (answer_of (receives q.term) answer) q.term; vars = vars_after (answer_of (receives q.term) answer) q.vars; batch = begun q.term q.batch }) Z l × StoresAre U.heap 0 items (slice_set G.journals here.0 l)
-call-told stands shape code U m k i here q seat G op answer x old new mark items a c b e is put task stamp path asked =
-    let ans : Answer = answer_of (receives q.term) answer in
-    let cell : Cell = asked.cell in
-    let told : Tells (does q.vars here.0 q.term) here cell ans = subst (λ (p : PlaceId). Tells (does q.vars here.0 q.term) p cell ans) is.place (asked.told (does q.vars here.0 q.term) (receives q.term) e c.receives) in
-    let state : state_of old.events ≡ a.left = ap state_of is.events ∙ is.journal.state in
-    let may : MayCell U.heap a.left cell = subst (λ (S : State). MayCell U.heap S cell) state (subst (λ (w : ℕ). MayCell w (state_of old.events) cell) is.words asked.law) in
-    let last : last_stamp old.events ≤ length G.entries = (let w : last_stamp old.events ≡ last_stamp a.events = ap last_stamp is.events in let v : last_stamp a.events ≤ length G.entries = is.journal.last in omega (arith, w, v)) in
-    let event : event_told old.events mark cell ≡ Did seat.row.number (length G.entries) cell x = event-is (length G.entries) seat.row.number x old.events mark cell task stamp path last in
-    let longer : List PlaceEvent = a.events ++ Did seat.row.number (length G.entries) cell x ∷ [] in
-    let events : new.events ≡ longer = asked.events ∙ (ap (λ v. old.events ++ v ∷ []) event ∙ ap (λ l. l ++ Did seat.row.number (length G.entries) cell x ∷ []) is.events) in
-    let place : new.place.0 ≡ 0 + here.0 = (let w : new.place.0 ≡ here.0 = ap (λ (p : PlaceId). p.0) (asked.place ∙ is.place) in omega (arith, w)) in
-    let kept : StoresAre U.heap 0 (slice_set m.stores.items here.0 new) (slice_set (slice_set G.journals here.0 a.events) here.0 longer) = stores-set U.heap 0 m.stores.items (slice_set G.journals here.0 a.events) here.0 new longer a.stores place (asked.words ∙ is.words) events in
-    let stored : StoresAre U.heap 0 items (slice_set G.journals here.0 longer) = subst (λ (ss : List Kept). StoresAre U.heap 0 ss (slice_set G.journals here.0 longer)) (sym put) (subst (λ (js : List (List PlaceEvent)). StoresAre U.heap 0 (slice_set m.stores.items here.0 new) js) (set-twice G.journals here.0 a.events longer) kept) in
-    (after_cell a.left cell, longer, goes-stores cell x ans a.gone.goes told b may, stored)
-
-pub called : {L : Type 0} (stands : L → ℕ → Tree → Type 0) (shape : Shape) (code : Block) (U : Given) (m m' : Machine L) (k i : ℕ) (here : PlaceId) (q : Player) (seat seat' : Seat) (G : Game) (op : CellOp) (answer : Result (Option Value) Fault) (x : List ℕ) (old new : Kept) (mark : Mark) → (a : Acting stands shape code U m k i here q seat G) → (c : IsCall q.term here op (does q.vars here.0 q.term)) → begins q.term ≡ Some x → next_of (does q.vars here.0 q.term) ≡ CellStep op → StoreIs stands shape code U m k i here q seat G a old → OnlyStores m m' → m'.stores.items ≡ slice_set m.stores.items here.0 new → mark.task ≡ seat.row.number → mark.stamp ≡ length G.entries → mark.path ≡ x → Asked old new mark op answer → StandsFor shape seat'.control.value (answered (answer_of (receives q.term) answer) q.term) → seat'.control.value.vars ≡ vars_after (answer_of (receives q.term) answer) seat.control.value.vars → seat'.batch ≡ seat.batch ++ x ∷ [] → seat'.row ≡ seat.row → seat'.scopes ≡ seat.scopes → AfterStep stands shape code U m' k i here q seat' G None
-called stands shape code U m m' k i here q seat seat' G op answer x old new mark a c b e is only put task stamp path asked term vars batch row scopes =
-    let ans : Answer = answer_of (receives q.term) answer in
-    let w = call-told stands shape code U m k i here q seat G op answer x old new mark m'.stores.items a c b e is put task stamp path asked in (
-      record { term = answered ans q.term; vars = vars_after ans q.vars; batch = begun q.term q.batch },
-      acting-on stands shape code U m m' k i here q _ seat seat' G w.0 w.1 a only row w.2 (answered-seat shape (tree_in U G) i here q seat seat' x ans a.gone.seat_is b c.free term vars batch row scopes) w.3,
-      c.sinks ans,
-    )
+  -- and the task goes on with its answer
+  pub called : (m' : Machine L) (mover' : Mover) (op : CellOp) (answer : Result (Option Value) Fault) (x : List ℕ) (old new : Kept) (mark : Mark) → IsCall q.term here op (does q.vars here.0 q.term) → begins q.term ≡ Some x → next_of (does q.vars here.0 q.term) ≡ CellStep op → StoreIs U m here G a.left a.events old → OnlyStores m m' → m'.stores.items ≡ slice_set m.stores.items here.0 new → mark.task ≡ mover.seat.who.task → mark.stamp ≡ length G.entries → mark.path ≡ x → Asked old new mark op answer → StandsFor shape mover'.seat.control.value (answered (answer_of (receives q.term) answer) q.term) → mover'.seat.control.value.vars ≡ vars_after (answer_of (receives q.term) answer) mover.seat.control.value.vars → mover'.batch ≡ mover.batch ++ x ∷ [] → mover'.seat.who ≡ mover.seat.who → mover'.seat.waits ≡ mover.seat.waits → AfterStep shape code U m' k i here q mover' G None
+  called m' mover' op answer x old new mark c b e is only put task stamp path asked term vars batch who waits =
+      let ans : Answer = answer_of (receives q.term) answer in
+      let s = a.gone.seat_is in
+      let w = call-told op answer x old new mark m'.stores.items c b e is put task stamp path asked in
+      let free : is_held q.term ≡ false = not_held q.vars here.0 q.term c.free in
+      let held : HeldInFront (answered ans q.term) × (is_held (answered ans q.term) ≡ false) = answer_waits ans q.term s.held in
+      let r : Player = record { term = answered ans q.term; vars = vars_after ans q.vars; batch = begun q.term q.batch } in (
+        r,
+        acting-on a m' r mover' w.0 w.1 only who waits w.2
+            (moved-seat r mover'.seat s who waits term (vars ∙ ap (vars_after ans) s.vars) free held.0 held.1 (answer_spine ans q.term (reverse (own_kinds (tree_in U G) i)) s.spine (begun_is q.term x b)))
+            (batch ∙ (ap (λ (l : List (List ℕ)). l ++ x ∷ []) a.gone.batch ∙ sym (begun_one q.term q.batch x b))) w.3,
+        c.sinks ans,
+      )

@@ -1,5 +1,5 @@
 -- The turn of a death.
-use Rattle.std.specs.Prelude.{◌≡◌, ◌≢◌, ◌⊎◌, ℕ, zero, suc, ◌+◌, ◌*◌, ◌^◌, ◌<◌, ◌≤◌, Bool, true, false, cond, List, [], ◌∷◌, ◌++◌, length, Option, Some, None, All, slice_get, slice_set, slice_index_or, refl}
+use Rattle.std.specs.Prelude.{◌≡◌, ◌≢◌, ◌⊎◌, ℕ, zero, suc, ◌+◌, ◌<◌, ◌≤◌, Bool, true, false, cond, List, [], ◌∷◌, ◌++◌, length, Option, Some, None, slice_get, slice_set, slice_index_or, refl}
 use Rattle.std.proofs.Common.{ap, ◌∙◌, sym, subst, arith, inl, inr}
 use Rattle.std.proofs.lemmas.List.{length-set}
 use Rattle.rx_base.specs.declared.ids.PlaceId.{PlaceId}
@@ -9,31 +9,29 @@ use Rattle.rx_rules.specs.declared.entries.Entry.{Entry}
 use Rattle.rx_rules.specs.declared.entries.Entry.TheVariants.{Death}
 use Rattle.rx_rules.specs.declared.events.PlaceEvent.{PlaceEvent}
 use Rattle.rx_rules.specs.declared.events.PlaceEvent.TheVariants.{Close}
-use Rattle.rx_rules.specs.Code.{Block, work}
+use Rattle.rx_rules.specs.Code.{Block}
 use Rattle.rx_rules.specs.Tree.{Tree}
 use Rattle.rx_rules.specs.Entries.{strike, is_hit}
-use Rattle.rx_rules.specs.Fold.{opening}
 use Rattle.rx_rules.specs.Plays.{journal_at}
-use Rattle.rx_rules.specs.Reached.{IsOlder}
 use Rattle.rx_rules.specs.Store.{opening_state}
-use Rattle.rx_rules.specs.Run.{Given, Event, in_all, IsDue, rest_of, death_number}
+use Rattle.rx_rules.specs.Run.{Given, Event, in_all, NoRoot, IsDue, rest_of, death_number}
 use Rattle.rx_rules.specs.Picked.{Game, Player, Turn, due as due_turn, turns, tree_in}
 use Rattle.rx_rules.proofs.Append.{no_root-death, tree-push}
-use Rattle.rx_sound.proofs.Histories.{none_yet, older-from}
 use Rattle.rx_runs.specs.Coming.{CameTo, GamesCome}
 use Rattle.rx_runs.specs.Games.{JournalSo, Leads}
 use Rattle.rx_runs.specs.Ties.{MayBe, MayCome}
 use Rattle.rx_runs.proofs.Pairs.{pairs-get, journal_got}
-use Rattle.rx_finish.specs.Callers.{MayStrike}
-use Rattle.rx_history.specs.Setups.{given, to_join}
+use Rattle.rx_history.specs.Logs.{Log}
+use Rattle.rx_history.specs.Setups.{given}
+use Rattle.rx_chronicle.specs.Requests.{with_entry}
 use Rattle.rx_store.specs.Kept.{Kept, ends_closed, last_stamp}
-use Rattle.rx_nodes.specs.Shape.{Shape}
+use Rattle.rx_syntax.specs.Shape.{Shape}
 use Rattle.rx_machine.specs.declared.machine.Machine.{Machine}
-use Rattle.rx_seats.specs.declared.seat.Seat.{Seat}
-use Rattle.rx_seats.specs.Slots.{seat_at, seat_in}
-use Rattle.rx_machine.specs.Slots.{live_task, SlotIs, left_by}
-use Rattle.rx_stores.specs.Kepts.{StoresAre}
-use Rattle.rx_machine.specs.Runs.{Falling, HasFallen}
+use Rattle.rx_machine.specs.declared.seat.Seat.{Seat}
+use Rattle.rx_machine.specs.Slots.{row_of, seat_at, seat_in, live_task, SlotIs, left_by}
+use Rattle.rx_store.specs.Kepts.{StoresAre}
+use Rattle.rx_machine.specs.Holds.{Seated, LeadsTo}
+use Rattle.rx_machine.specs.Runs.{Falling}
 use Rattle.rx_machine.proofs.Finding.{same_or_not}
 use Rattle.rx_machine.proofs.Acted.{seat_other}
 use Rattle.rx_machine.proofs.Live.{if_missed, strike-live}
@@ -43,14 +41,13 @@ use Rattle.rx_machine.proofs.Called.{stores-at, stores-set, leads-open, stamp-mo
 
 pub record DueSo (q : ℕ) (es : List Entry) (d : PlaceId) : Type 0 where
   pub inside : d.0 < q
-  pub not_zero : d.0 ≢ 0
   pub lives : death_number 0 d es ≡ None
 
 due-so : (all here n : ℕ) (es : List Entry) (d : PlaceId) (xs : List Event) → IsDue n (Death d) xs → MayCome all here es xs → DueSo here es d
 due-so all here n es d [] due h = absurd due
 due-so all here n es d (x ∷ xs) due h =
     let may : MayBe here es xs (Death d) = subst (λ (e : Entry). MayBe here es xs e) due.0 h.0 in
-    record { inside = may.0; not_zero = may.1; lives = may.2 }
+    record { inside = may.0; lives = may.2 }
 
 -- The slots.
 
@@ -58,26 +55,26 @@ due-so all here n es d (x ∷ xs) due h =
 pub slot-struck : (shape : Shape) (T : Tree) (b : Blow) (players : List Player) (n : ℕ) (o : Option Seat) → SlotIs shape T players n o → SlotIs shape (strike b T) players n (left_by b.place o)
 slot-struck shape T b players n None h = strike-live b T.tasks n ∙ ap (if_missed b) h
 slot-struck shape T b players n (Some seat) h =
-    (elim (is_hit b.place seat.row.place) as (λ c. is_hit b.place seat.row.place ≡ c → SlotIs shape (strike b T) players n (cond c None (Some seat))) [
-      | true ↦ λ e. row ∙ ap (λ (c : Bool). cond c None (Some seat.row)) e
+    (elim (is_hit b.place seat.who.place) as (λ c. is_hit b.place seat.who.place ≡ c → SlotIs shape (strike b T) players n (cond c None (Some seat))) [
+      | true ↦ λ e. row ∙ ap (λ (c : Bool). cond c None (Some (row_of seat))) e
       | false ↦ λ e. (
         h.0,
         h.1,
+        h.2,
         record {
-          row = row ∙ ap (λ (c : Bool). cond c None (Some seat.row)) e;
-          scopes = h.2.scopes;
-          term = h.2.term;
-          vars = h.2.vars;
-          batch = h.2.batch;
-          waits = h.2.waits;
-          held = h.2.held;
-          spine = h.2.spine;
+          row = row ∙ ap (λ (c : Bool). cond c None (Some (row_of seat))) e;
+          inner = h.3.inner;
+          term = h.3.term;
+          vars = h.3.vars;
+          waits = h.3.waits;
+          held = h.3.held;
+          spine = h.3.spine;
         },
       )
     ]) refl
   where
-    row : live_task (strike b T) n ≡ cond (is_hit b.place seat.row.place) None (Some seat.row)
-    row = strike-live b T.tasks n ∙ ap (if_missed b) h.2.row
+    row : live_task (strike b T) n ≡ cond (is_hit b.place seat.who.place) None (Some (row_of seat))
+    row = strike-live b T.tasks n ∙ ap (if_missed b) h.3.row
 
 -- no slot beyond the list has a seat
 pub none-beyond : (seats : List (Option Seat)) (n : ℕ) → length seats ≤ n → seat_at seats n ≡ None
@@ -94,45 +91,27 @@ pub record IsOpen (n : ℕ) (d : PlaceId) (heap : ℕ) (items : List Kept) (j : 
   pub unclosed : ends_closed s.events ≡ false
   pub last : last_stamp s.events ≤ n
 
+-- a turn without a pick leads to a game for which the machine stands, but for what tells which tasks are enabled, and the root stands
+abbrev pub HasFallen : {L : Type 0} → Shape → Block → Given → Machine L → ℕ → Game → Type 0
+HasFallen shape code U m k G = LeadsTo (Turn U k G false) (λ G'. Seated shape code U m G' × NoRoot G'.entries)
+
 -- what a death leaves of a machine
-pub record Fell {L : Type 0} (stands : L → ℕ → Tree → Type 0) (m m' : Machine L) (d : PlaceId) (n room : ℕ) (T : Tree) : Type 0 where
-  pub setup : m'.history.setup ≡ m.history.setup
-  pub entries : m'.history.entries ≡ m.history.entries ++ Death d ∷ []
-  pub plan : m'.plan ≡ rest_of m.plan
+pub record Fell {L : Type 0} (m m' : Machine L) (d : PlaceId) (n : ℕ) : Type 0 where
+  pub told : m'.chronicle ≡ with_entry m.chronicle (Death d)
   pub failed : m'.failed ≡ m.failed
-  pub ledger : stands m'.ledger room (strike (record { place = d; entry = n }) T)
   pub stores : (s : Kept) → slice_get m.stores.items d.0 ≡ Some s → m'.stores.items ≡ slice_set m.stores.items d.0 (record s { events = s.events ++ Close n ∷ [] })
   pub many : length m'.seats.items ≡ length m.seats.items
   pub each : (i : ℕ) → seat_at m'.seats.items i ≡ left_by d (seat_at m.seats.items i)
 
-module _ {L : Type 0} (stands : L → ℕ → Tree → Type 0) (shape : Shape) (code : Block) (U : Given) (m : Machine L) (d : PlaceId) (G : Game) (come : GamesCome) (t : Falling stands shape code U m (Death d) G) where
+module _ {L : Type 0} {shape : Shape} {code : Block} {U : Given} {m : Machine L} {G : Game} (d : PlaceId) (come : GamesCome) (t : Falling shape code U m (Death d) G) where
   came : CameTo code U G
   came = come code U G t.can.holds.shares.on.proper t.can.holds.shares.comes t.can.unreleased
 
   due : DueSo (tree_in U G).places G.entries d
   due = due-so (in_all U) (tree_in U G).places (length G.entries) G.entries d G.plan t.due came.ok.plan
 
-  few : in_all U ≤ 16
-  few = t.can.holds.shares.on.proper.few
-
   stored : d.0 < in_all U
   stored = let here : d.0 < (tree_in U G).places = due.inside in let most : (tree_in U G).places ≤ in_all U = came.ok.ties.within in omega (arith, here, most)
-
-  pub may-strike : MayStrike (tree_in U G) d (length G.entries)
-  may-strike =
-      let zero_on : 0 + length G.entries ≡ length G.entries = omega arith in
-      let inside : d.0 < in_all U = stored in
-      let most : in_all U ≤ 16 = few in
-      record {
-        dies = (due.inside, due.not_zero, came.ok.ties.deaths d (omega (arith, inside, most)) ∙ due.lives);
-        later = subst (λ (n : ℕ). All (IsOlder n) (tree_in U G).dead) zero_on (older-from 0 (opening U.places) G.entries none_yet);
-      }
-
-  pub entries-few : length G.entries < 2 ^ 31
-  entries-few =
-      let entries : length G.entries ≤ 4 * work code + U.places + 2 * length U.joins = came.entries in
-      let most : U.places + length U.joins ≤ 16 = few in
-      let small : work code ≤ 100000 = t.can.holds.shares.on.few in omega (arith, entries, most, small)
 
   pub store-open : (s : Kept) × IsOpen (length G.entries) d U.heap m.stores.items (journal_at G.journals d.0) s
   store-open =
@@ -153,9 +132,8 @@ module _ {L : Type 0} (stands : L → ℕ → Tree → Type 0) (shape : Shape) (
         },
       )
 
-  pub fallen : (m' : Machine L) (k : ℕ) → Fell stands m m' d (length G.entries) (to_join U (tree_in U G)) (tree_in U G) → HasFallen stands shape code U m' k G
+  pub fallen : (m' : Machine L) (k : ℕ) → Fell m m' d (length G.entries) → HasFallen shape code U m' k G
   fallen m' k f =
-      let n : ℕ = length G.entries in
       let b : Blow = record { place = d; entry = length G.entries } in
       let h = t.can.holds in
       let j : List PlaceEvent = journal_at G.journals d.0 ++ Close (length G.entries) ∷ [] in
@@ -173,10 +151,8 @@ module _ {L : Type 0} (stands : L → ℕ → Tree → Type 0) (shape : Shape) (
             shares = record {
               on = h.shares.on;
               comes = turns h.shares.comes t.can.unreleased turn;
-              setup = ap given f.setup ∙ h.shares.setup;
-              entries = f.entries ∙ ap (λ es. es ++ Death d ∷ []) h.shares.entries;
-              plan = f.plan ∙ ap rest_of h.shares.plan;
-              ledger = subst (λ (T : Tree). stands m'.ledger (to_join U T) T) same f.ledger;
+              setup = ap (λ (c : Log). given c.setup) f.told ∙ h.shares.setup;
+              entries = ap (λ (c : Log). c.entries) f.told ∙ ap (λ (es : List Entry). es ++ Death d ∷ []) h.shares.entries;
               slots = f.many ∙ (h.shares.slots ∙ ap (λ (T : Tree). T.next_task) same);
               failed = f.failed ∙ h.shares.failed;
             };

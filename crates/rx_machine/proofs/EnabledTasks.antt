@@ -9,10 +9,9 @@ use Rattle.rx_rules.specs.declared.tasks.Task.{Task}
 use Rattle.rx_rules.specs.Tree.{Tree, is_task, task_of, quiet, inner}
 use Rattle.rx_rules.specs.Picked.{is_enabled, enabled, Player}
 use Rattle.rx_sound.specs.Sound.{TasksFall}
-use Rattle.rx_nodes.specs.Shape.{Shape}
-use Rattle.rx_seats.specs.declared.seat.Seat.{Seat}
-use Rattle.rx_seats.specs.Slots.{seat_at}
-use Rattle.rx_machine.specs.Slots.{live_task, live_in, SlotIs}
+use Rattle.rx_syntax.specs.Shape.{Shape}
+use Rattle.rx_machine.specs.declared.seat.Seat.{Seat}
+use Rattle.rx_machine.specs.Slots.{row_of, seat_at, live_task, live_in, SlotIs}
 use Rattle.rx_machine.specs.Picking.{slot_able}
 use Rattle.rx_machine.proofs.Live.{live_stands, none_above}
 
@@ -78,7 +77,7 @@ gathered q (x ∷ xs) n h =
 abbrev rows_from : Tree → List (Option Seat) → List Task
 rows_from T [] = []
 rows_from T (None ∷ os) = rows_from T os
-rows_from T (Some seat ∷ os) = cond (is_enabled T seat.row) (seat.row ∷ rows_from T os) (rows_from T os)
+rows_from T (Some seat ∷ os) = cond (is_enabled T (row_of seat)) (row_of seat ∷ rows_from T os) (rows_from T os)
 
 -- a struck task is not enabled
 struck_off : (T : Tree) (o : Option Task) → live_in o ≡ None → found (is_enabled T) o ≡ []
@@ -99,9 +98,9 @@ rows_gather shape T ps n (None ∷ os) h =
 rows_gather shape T ps n (Some seat ∷ os) h =
     let z : n + 0 ≡ n = omega arith in
     let is = subst (λ (v : ℕ). SlotIs shape T ps v (Some seat)) z (h 0 (omega arith)) in
-    let stands : task_of T (record { 0 = n }) ≡ Some seat.row = (live_stands T n seat.row is.2.row).0 in
+    let stands : task_of T (record { 0 = n }) ≡ Some (row_of seat) = (live_stands T n (row_of seat) is.3.row).0 in
     let rest = rows_gather shape T ps (suc n) os (λ j low. let e : n + suc j ≡ suc n + j = omega arith in subst (λ (v : ℕ). SlotIs shape T ps v (seat_at os j)) e (h (suc j) (omega arith))) in
-    front (is_enabled T seat.row) seat.row (rows_from T os) (gather (is_enabled T) T.tasks (suc n) (length os)) rest
+    front (is_enabled T (row_of seat)) (row_of seat) (rows_from T os) (gather (is_enabled T) T.tasks (suc n) (length os)) rest
     ∙ ap (λ o. found (is_enabled T) o ++ gather (is_enabled T) T.tasks (suc n) (length os)) (sym stands)
   where
     front : (b : Bool) (x : Task) (xs ys : List Task) → xs ≡ ys → cond b (x ∷ xs) xs ≡ cond b (x ∷ []) [] ++ ys
@@ -118,14 +117,14 @@ pub able_length : (T : Tree) (n : ℕ) (os : List (Option Seat)) → length (abl
 able_length T n [] = refl
 able_length T n (None ∷ os) = able_length T (suc n) os
 able_length T n (Some seat ∷ os) =
-    elim (is_enabled T seat.row) as (λ b. length (cond b (n ∷ able_from T (suc n) os) (able_from T (suc n) os)) ≡ length (cond b (seat.row ∷ rows_from T os) (rows_from T os))) [
+    elim (is_enabled T (row_of seat)) as (λ b. length (cond b (n ∷ able_from T (suc n) os) (able_from T (suc n) os)) ≡ length (cond b (row_of seat ∷ rows_from T os) (rows_from T os))) [
       | true ↦ ap suc (able_length T (suc n) os)
       | false ↦ able_length T (suc n) os
     ]
 
 -- what the numbers of the slots from n on say of number i
 abbrev AbleAt : Tree → ℕ → List (Option Seat) → List Task → ℕ → ℕ → Type 0
-AbleAt T n os rows k i = (seat : Seat) × (n ≤ i) × (seat_at os (i - n) ≡ Some seat) × (slice_get rows k ≡ Some seat.row)
+AbleAt T n os rows k i = (seat : Seat) × (n ≤ i) × (seat_at os (i - n) ≡ Some seat) × (slice_get rows k ≡ Some (row_of seat))
 
 able_later : (T : Tree) (n : ℕ) (o : Option Seat) (os : List (Option Seat)) (k i : ℕ) → AbleAt T (suc n) os (rows_from T os) k i → AbleAt T n (o ∷ os) (rows_from T os) k i
 able_later T n o os k i r =
@@ -133,7 +132,7 @@ able_later T n o os k i r =
     let e : i - n ≡ suc (i - suc n) = omega arith in
     (r.0, omega arith, ap (seat_at (o ∷ os)) e ∙ r.2, r.3)
 
-able_here : (T : Tree) (n : ℕ) (seat : Seat) (os : List (Option Seat)) (b : Bool) (k i : ℕ) → ((j : ℕ) → slice_get (able_from T (suc n) os) j ≡ Some i → AbleAt T (suc n) os (rows_from T os) j i) → slice_get (cond b (n ∷ able_from T (suc n) os) (able_from T (suc n) os)) k ≡ Some i → AbleAt T n (Some seat ∷ os) (cond b (seat.row ∷ rows_from T os) (rows_from T os)) k i
+able_here : (T : Tree) (n : ℕ) (seat : Seat) (os : List (Option Seat)) (b : Bool) (k i : ℕ) → ((j : ℕ) → slice_get (able_from T (suc n) os) j ≡ Some i → AbleAt T (suc n) os (rows_from T os) j i) → slice_get (cond b (n ∷ able_from T (suc n) os) (able_from T (suc n) os)) k ≡ Some i → AbleAt T n (Some seat ∷ os) (cond b (row_of seat ∷ rows_from T os) (rows_from T os)) k i
 able_here T n seat os false k i more h = able_later T n (Some seat) os k i (more k h)
 able_here T n seat os true zero i more h =
     let same : n ≡ i = cc in
@@ -143,8 +142,8 @@ able_here T n seat os true (suc k) i more h =
     let r = able_later T n (Some seat) os k i (more k h) in (r.0, r.1, r.2, r.3)
 
 -- the k-th of the numbers is the slot of the k-th enabled task
-pub able_at : (T : Tree) (n : ℕ) (os : List (Option Seat)) (k i : ℕ) → slice_get (able_from T n os) k ≡ Some i → (seat : Seat) × (n ≤ i) × (seat_at os (i - n) ≡ Some seat) × (slice_get (rows_from T os) k ≡ Some seat.row)
+pub able_at : (T : Tree) (n : ℕ) (os : List (Option Seat)) (k i : ℕ) → slice_get (able_from T n os) k ≡ Some i → (seat : Seat) × (n ≤ i) × (seat_at os (i - n) ≡ Some seat) × (slice_get (rows_from T os) k ≡ Some (row_of seat))
 able_at T n [] k i h = absurd (let f : ⊥ = cc in f)
 able_at T n (None ∷ os) k i h =
     able_later T n None os k i (able_at T (suc n) os k i h)
-able_at T n (Some seat ∷ os) k i h = able_here T n seat os (is_enabled T seat.row) k i (λ j e. able_at T (suc n) os j i e) h
+able_at T n (Some seat ∷ os) k i h = able_here T n seat os (is_enabled T (row_of seat)) k i (λ j e. able_at T (suc n) os j i e) h

@@ -1,69 +1,64 @@
 -- What a machine holds before the first turn.
-use Rattle.std.specs.Prelude.{◌≡◌, ◌≢◌, ◌==◌, ℕ, zero, suc, ◌≤◌, ◌||◌, Bool, true, false, cond, List, [], ◌∷◌, length, replicate, reverse, Option, Some, None, refl}
+use Rattle.std.specs.Prelude.{◌≡◌, ◌≢◌, ◌==◌, ℕ, zero, suc, ◌≤◌, ◌||◌, Bool, true, false, cond, List, [], ◌∷◌, length, replicate, Option, Some, None, refl}
 use Rattle.std.proofs.Common.{ap, ◌∙◌, sym, subst, arith}
 use Rattle.std.proofs.lemmas.Bool.{ne_eqb}
+use Rattle.rx_rules.specs.declared.tasks.Task.{Task}
 use Rattle.rx_rules.specs.Code.{Block}
 use Rattle.rx_rules.specs.Terms.{Empty, items, no_vars}
-use Rattle.rx_rules.specs.Tree.{Tree}
+use Rattle.rx_rules.specs.Tree.{inner, the_root}
 use Rattle.rx_rules.specs.Fold.{opening}
-use Rattle.rx_rules.specs.Run.{Given, in_all, plan_of}
+use Rattle.rx_rules.specs.Run.{Given, in_all}
 use Rattle.rx_rules.specs.Picked.{Comes, start_game, tree_in}
 use Rattle.rx_history.specs.Setups.{given}
-use Rattle.rx_nodes.specs.Shape.{Shape}
+use Rattle.rx_syntax.specs.Shape.{Shape}
 use Rattle.rx_control.specs.Stands.{StandsFor}
 use Rattle.rx_machine.specs.declared.machine.Machine.{Machine}
-use Rattle.rx_seats.specs.declared.seat.Seat.{Seat}
-use Rattle.rx_terms.specs.Held.{is_held, HeldInFront}
-use Rattle.rx_seats.specs.Slots.{seat_at}
-use Rattle.rx_machine.specs.Slots.{SlotIs, live_in, root_row}
+use Rattle.rx_machine.specs.declared.seat.Seat.{Seat}
+use Rattle.rx_sound.specs.Held.{is_held, HeldInFront}
+use Rattle.rx_machine.specs.Slots.{row_of, seat_at, SlotIs, live_in, root_row}
 use Rattle.rx_sound.specs.Enabling.{able_in}
 use Rattle.rx_machine.specs.Picking.{IsReady}
-use Rattle.rx_origins.specs.Origins.{TellsOrigins}
-use Rattle.rx_origins.specs.declared.origin.Origin.{Origin}
-use Rattle.rx_stores.specs.Kepts.{StoresAre}
+use Rattle.rx_store.specs.Kepts.{StoresAre}
 use Rattle.rx_machine.specs.Holds.{RunsOn, Seated}
-use Rattle.rx_terms.proofs.Holding.{unheld-front, unheld-items}
-use Rattle.rx_machine.proofs.OriginsKept.{tells_root}
-use Rattle.rx_terms.proofs.Spines.{flat-spine, flat-items}
+use Rattle.rx_sound.proofs.Holding.{unheld-front, unheld-items}
+use Rattle.rx_sound.proofs.Spines.{flat-spine, flat-items}
 
 -- its seat stands in slot 0, and no other slot has one
-pub opens-seats : (shape : Shape) (code : Block) (U : Given) (seat : Seat) (n : ℕ) → seat.row ≡ root_row → seat.scopes.items ≡ [] → seat.batch ≡ [] → StandsFor shape seat.control.value (items code [] Empty) → seat.control.value.vars ≡ no_vars U.places → SlotIs shape (opening U.places) (start_game code U).players n (seat_at (Some seat ∷ []) n)
-opens-seats shape code U seat zero row scopes batch term vars =
+pub opens-seats : (shape : Shape) (code : Block) (U : Given) (seat : Seat) (n : ℕ) → row_of seat ≡ root_row → seat.who.inner ≡ the_root → StandsFor shape seat.control.value (items code [] Empty) → seat.control.value.vars ≡ no_vars U.places → SlotIs shape (opening U.places) (start_game code U).players n (seat_at (Some seat ∷ []) n)
+opens-seats shape code U seat zero row inside term vars =
     let front : HeldInFront (items code [] Empty) × (is_held (items code [] Empty) ≡ false) = unheld-front (items code [] Empty) (unheld-items code [] 0 Empty tt) in (
       record { term = items code [] Empty; vars = no_vars U.places; batch = [] },
       refl,
+      refl,
       record {
-        row = ap (λ r. Some r) (sym row);
-        scopes = ap (λ ss. reverse ss) (sym scopes);
+        row = ap (λ (x : Task). Some x) (sym row);
+        inner = ap (λ (x : Task). inner (opening U.places) x) row ∙ sym inside;
         term = term;
         vars = vars;
-        batch = batch;
-        waits = ap (λ r. r.waits) row ∙ sym front.1;
+        waits = ap (λ (x : Task). x.waits) row ∙ sym front.1;
         held = front.0;
         spine = flat-spine (items code [] Empty) (flat-items code [] 0 Empty tt);
       },
     )
-opens-seats shape code U seat (suc n) row scopes batch term vars =
+opens-seats shape code U seat (suc n) row inside term vars =
     let apart : 0 ≢ suc n = λ e. absurd (omega (arith, e)) in
     let other : (0 == suc n) ≡ false = ne_eqb 0 (suc n) apart in
     ap (λ (b : Bool). live_in (cond b (Some root_row) None)) other
 
 -- the machine stands for the game before the first turn
-pub opens-so : {L : Type 0} (stands : L → ℕ → Tree → Type 0) (shape : Shape) (code : Block) (U : Given) (m : Machine L) (seat : Seat) → RunsOn code U → given m.history.setup ≡ U → m.history.entries ≡ [] → m.plan ≡ plan_of U → m.failed ≡ false → stands m.ledger (length U.joins) (opening U.places) → StoresAre U.heap 0 m.stores.items (replicate (in_all U) []) → m.seats.items ≡ Some seat ∷ [] → seat.row ≡ root_row → seat.scopes.items ≡ [] → seat.batch ≡ [] → StandsFor shape seat.control.value (items code [] Empty) → seat.control.value.vars ≡ no_vars U.places → Seated stands shape code U m (start_game code U)
-opens-so stands shape code U m seat on setup entries plan failed ledger stores seats row scopes batch term vars =
+pub opens-so : {L : Type 0} (shape : Shape) (code : Block) (U : Given) (m : Machine L) (seat : Seat) → RunsOn code U → given m.chronicle.setup ≡ U → m.chronicle.entries ≡ [] → m.failed ≡ false → StoresAre U.heap 0 m.stores.items (replicate (in_all U) []) → m.seats.items ≡ Some seat ∷ [] → row_of seat ≡ root_row → seat.who.inner ≡ the_root → StandsFor shape seat.control.value (items code [] Empty) → seat.control.value.vars ≡ no_vars U.places → Seated shape code U m (start_game code U)
+opens-so shape code U m seat on setup entries failed stores seats row inside term vars =
     record {
       shares = record {
         on = on;
         comes = Comes.opens;
         setup = setup;
         entries = entries;
-        plan = plan;
-        ledger = subst (λ (n : ℕ). stands m.ledger n (opening U.places)) (omega arith) ledger;
         slots = ap (λ v. length v) seats;
         failed = failed;
       };
       stores = stores;
-      seats = λ n. subst (λ (v : List (Option Seat)). SlotIs shape (opening U.places) (start_game code U).players n (seat_at v n)) (sym seats) (opens-seats shape code U seat n row scopes batch term vars);
+      seats = λ n. subst (λ (v : List (Option Seat)). SlotIs shape (opening U.places) (start_game code U).players n (seat_at v n)) (sym seats) (opens-seats shape code U seat n row inside term vars);
     }
 
 -- the main activity alone is enabled
@@ -73,7 +68,3 @@ opens-ready code U ns e =
       ((let r : 0 ≤ 0 = omega arith in r), tt),
       λ n. elim (0 == n) as (λ b. (b || false) ≡ able_in (opening U.places) (cond b (Some root_row) None)) [ true ↦ refl | false ↦ refl ],
     )
-
--- the root alone stands, and no task opened it
-pub opens-told : (code : Block) (U : Given) (origins : List Origin) → length origins ≡ 1 → TellsOrigins (tree_in U (start_game code U)) origins
-opens-told code U origins size = tells_root origins (opening U.places) _ refl refl refl size

@@ -1,6 +1,6 @@
 -- What is told when a turn is refused is told by the turn.
-use Rattle.std.specs.Prelude.{◌≡◌, ℕ, zero, suc, ◌%◌, Bool, List, [], ◌∷◌, ◌++◌, map, length, Option, Some, Result, slice_get, slice_set, refl}
-use Rattle.std.proofs.Common.{ap, ◌∙◌, sym, subst}
+use Rattle.std.specs.Prelude.{◌≡◌, ℕ, zero, suc, ◌%◌, Bool, true, List, [], ◌∷◌, ◌++◌, map, length, Option, Some, Result, slice_get, slice_set, refl}
+use Rattle.std.proofs.Common.{ap, ◌∙◌, sym, subst, inl, inr}
 use Rattle.std.proofs.lemmas.List.{append-nil, append_assoc}
 use mathlib.Core.List.{IsPrefix}
 use Rattle.rx_base.specs.declared.ids.PlaceId.{PlaceId}
@@ -30,21 +30,24 @@ use Rattle.rx_runs.proofs.Walks.{IsLast, fits_last, tells_not}
 use Rattle.rx_runs.proofs.Telling.{tell_once}
 use Rattle.rx_store.specs.Kept.{Kept}
 use Rattle.rx_store.specs.declared.calls.Mark.{Mark}
-use Rattle.rx_nodes.specs.Shape.{Shape}
-use Rattle.rx_plan.specs.declared.step.CellOp.{CellOp}
-use Rattle.rx_plan.specs.declared.step.Next.TheVariants.{Cell as CellStep}
-use Rattle.rx_plan.specs.Next.{next_of}
+use Rattle.rx_syntax.specs.Shape.{Shape}
+use Rattle.rx_history.specs.Logs.{Log}
+use Rattle.rx_history.specs.declared.step.CellOp.{CellOp}
+use Rattle.rx_history.specs.declared.step.Next.TheVariants.{Cell as CellStep}
+use Rattle.rx_history.specs.Next.{next_of}
 use Rattle.rx_machine.specs.declared.machine.Machine.{Machine}
-use Rattle.rx_seats.specs.declared.seat.Seat.{Seat}
-use Rattle.rx_stores.specs.Kepts.{StoresAre}
-use Rattle.rx_machine.specs.Holds.{Seated, Acting}
-use Rattle.rx_machine.specs.Refusals.{BeginEach, HasBegun, HasTold}
-use Rattle.rx_stores.specs.Asked.{Asked}
-use Rattle.rx_stores.proofs.StoreCalls.{IsCall}
+use Rattle.rx_machine.specs.declared.seat.Seat.{Seat}
+use Rattle.rx_machine.specs.declared.seat.Mover.{Mover}
+use Rattle.rx_machine.specs.Slots.{row_of}
+use Rattle.rx_store.specs.Kepts.{StoresAre}
+use Rattle.rx_machine.specs.Holds.{Seated, Acting, Landing}
+use Rattle.rx_machine.specs.Refusals.{BeginEach, HasBegun, HasTold, HasMade, HasStopped, NothingMore}
+use Rattle.rx_store.specs.Asked.{Asked}
+use Rattle.rx_store.proofs.StoreCalls.{IsCall}
 use Rattle.rx_machine.proofs.Called.{StoreIs, call-told}
 use Rattle.rx_machine.proofs.Asking.{id_of}
 use Rattle.rx_machine.proofs.Live.{live_stands}
-use Rattle.rx_stores.proofs.Journals.{journals_are}
+use Rattle.rx_store.proofs.Journals.{journals_are}
 
 -- Walks.
 
@@ -180,47 +183,87 @@ begun-told code U k G es items law proper comes unreleased entries h =
     subst (λ (v : List Entry). HasBegun U k G v (map (λ (s : Kept). s.events) items)) (sym entries)
     (subst (λ (v : List (List PlaceEvent)). HasBegun U k G G.entries v) (sym (journals_are U.heap 0 items (slice_set G.journals h.here.0 h.events) h.stores)) so)
 
--- what the task that the pick k moves has told
-walk-told : {L : Type 0} (stands : L → ℕ → Tree → Type 0) (shape : Shape) (code : Block) (U : Given) (m : Machine L) (k i : ℕ) (here : PlaceId) (q r : Player) (seat : Seat) (G : Game) (items : List Kept) (Z : State) (l : List PlaceEvent) → (a : Acting stands shape code U m k i here q seat G) → Goes U.heap (length G.entries) seat.row.number here a.began a.store (journal_at G.journals here.0) r Z l → StoresAre U.heap 0 items (slice_set G.journals here.0 l) → HasTold U k G items
-walk-told stands shape code U m k i here q r seat G items Z l a goes stored =
+-- the entry of the turn was told
+pub begun-made : {L : Type 0} (U : Given) (k : ℕ) (G : Game) (m : Machine L) → HasMade U k G m → HasBegun U k G m.chronicle.entries (map (λ s. s.events) m.stores.items)
+begun-made U k G m made =
+    let tells = turn-tells U k true G made.after made.turn in
+    let js : map (λ (s : Kept). s.events) m.stores.items ≡ made.after.journals = journals_are U.heap 0 m.stores.items made.after.journals made.stores in
     record {
-      task = seat.row;
-      here = here;
-      began = a.began;
-      now = r;
-      store = a.store;
-      left = Z;
-      events = l;
-      none_due = a.pick.none_due;
-      picked = a.pick.picked;
-      stands = subst (λ (v : TaskId). task_of (tree_in U G) v ≡ Some seat.row) (sym (id_of seat.row.number i a.pick.number)) (live_stands (tree_in U G) i seat.row a.gone.seat_is.row).0;
-      is_at = a.gone.is_at;
-      player = subst (λ (n : ℕ). slice_get G.players n ≡ Some a.began) (sym a.pick.number) a.gone.player;
-      found = a.gone.store;
-      goes = goes;
-      stores = stored;
+      used = true;
+      after = made.after;
+      turn = made.turn;
+      entries_before = subst (λ (v : List Entry). IsPrefix G.entries v) (sym made.entries) tells.0;
+      entries_after = ([], append-nil m.chronicle.entries ∙ made.entries);
+      journals_before = subst (λ (v : List (List PlaceEvent)). BeginEach G.journals v) (sym js) tells.1;
+      journals_after = subst (λ (v : List (List PlaceEvent)). BeginEach v made.after.journals) (sym js) (begin-same made.after.journals);
     }
 
--- in the middle of a turn
-pub acting-told : {L : Type 0} (stands : L → ℕ → Tree → Type 0) (shape : Shape) (code : Block) (U : Given) (m : Machine L) (k i : ℕ) (here : PlaceId) (q : Player) (seat : Seat) (G : Game) (items : List Kept) → items ≡ m.stores.items → Acting stands shape code U m k i here q seat G → HasTold U k G items
-acting-told stands shape code U m k i here q seat G items same a =
-    walk-told stands shape code U m k i here q q seat G items a.left a.events a a.gone.goes (subst (λ (v : List Kept). StoresAre U.heap 0 v (slice_set G.journals here.0 a.events)) (sym same) a.stores)
+module _ {L : Type 0} {shape : Shape} {code : Block} {U : Given} {m : Machine L} {k i : ℕ} {here : PlaceId} {q : Player} {mover : Mover} {G : Game} (a : Acting shape code U m k i here q mover G) where
+  -- what the task that the pick k moves has told
+  walk-told : (r : Player) (items : List Kept) (Z : State) (l : List PlaceEvent) → Goes U.heap (length G.entries) mover.seat.who.task here a.began a.store (journal_at G.journals here.0) r Z l → StoresAre U.heap 0 items (slice_set G.journals here.0 l) → HasTold U k G items
+  walk-told r items Z l goes stored =
+      record {
+        task = row_of mover.seat;
+        here = here;
+        began = a.began;
+        now = r;
+        store = a.store;
+        left = Z;
+        events = l;
+        none_due = a.pick.none_due;
+        picked = a.pick.picked;
+        stands = subst (λ (v : TaskId). task_of (tree_in U G) v ≡ Some (row_of mover.seat)) (sym (id_of mover.seat.who.task i a.pick.number)) (live_stands (tree_in U G) i (row_of mover.seat) a.gone.seat_is.row).0;
+        is_at = a.gone.is_at;
+        player = subst (λ (n : ℕ). slice_get G.players n ≡ Some a.began) (sym a.pick.number) a.gone.player;
+        found = a.gone.store;
+        goes = goes;
+        stores = stored;
+      }
 
--- where a store has answered
-pub called-told : {L : Type 0} (stands : L → ℕ → Tree → Type 0) (shape : Shape) (code : Block) (U : Given) (m : Machine L) (k i : ℕ) (here : PlaceId) (q : Player) (seat : Seat) (G : Game) (op : CellOp) (answer : Result (Option Value) Fault) (x : List ℕ) (old new : Kept) (mark : Mark) (items : List Kept) → (a : Acting stands shape code U m k i here q seat G) → (c : IsCall q.term here op (does q.vars here.0 q.term)) → begins q.term ≡ Some x → next_of (does q.vars here.0 q.term) ≡ CellStep op → StoreIs stands shape code U m k i here q seat G a old → items ≡ slice_set m.stores.items here.0 new → mark.task ≡ seat.row.number → mark.stamp ≡ length G.entries → mark.path ≡ x → Asked old new mark op answer → HasTold U k G items
-called-told stands shape code U m k i here q seat G op answer x old new mark items a c b e is put task stamp path asked =
-    let w = call-told stands shape code U m k i here q seat G op answer x old new mark items a c b e is put task stamp path asked in
-    walk-told stands shape code U m k i here q _ seat G items w.0 w.1 a w.2 w.3
+  -- in the middle of a turn
+  pub acting-told : (items : List Kept) → items ≡ m.stores.items → HasTold U k G items
+  acting-told items same =
+      walk-told q items a.left a.events a.gone.goes (subst (λ (v : List Kept). StoresAre U.heap 0 v (slice_set G.journals here.0 a.events)) (sym same) a.stores)
+
+  -- where a store has answered
+  pub called-told : (op : CellOp) (answer : Result (Option Value) Fault) (x : List ℕ) (old new : Kept) (mark : Mark) (items : List Kept) → IsCall q.term here op (does q.vars here.0 q.term) → begins q.term ≡ Some x → next_of (does q.vars here.0 q.term) ≡ CellStep op → StoreIs U m here G a.left a.events old → items ≡ slice_set m.stores.items here.0 new → mark.task ≡ mover.seat.who.task → mark.stamp ≡ length G.entries → mark.path ≡ x → Asked old new mark op answer → HasTold U k G items
+  called-told op answer x old new mark items c b e is put task stamp path asked =
+      let w = call-told a op answer x old new mark items c b e is put task stamp path asked in walk-told _ items w.0 w.1 w.2 w.3
+
+  -- a turn that stops there has told that
+  pub stopped-told : (m' : Machine L) → m'.chronicle ≡ m.chronicle → HasTold U k G m'.stores.items → HasStopped U k G m'
+  stopped-told m' chronicle told = inl (ap (λ (c : Log). c.entries) chronicle ∙ a.but.shares.entries, inr told)
+
+  pub stopped : (m' : Machine L) → m'.chronicle ≡ m.chronicle → m'.stores ≡ m.stores → HasStopped U k G m'
+  stopped m' chronicle stored = stopped-told m' chronicle (acting-told m'.stores.items (ap (λ v. v.items) stored))
+
+  -- and a request that was refused tells no more, or its entry
+  pub stopped-more : (m' : Machine L) → NothingMore U k G m m' → HasStopped U k G m'
+  stopped-more m' more =
+      elim more [
+        | inl same ↦ inl (same.0 ∙ a.but.shares.entries, inr (acting-told m'.stores.items (ap (λ v. v.items) same.1)))
+        | inr made ↦ inr made
+      ]
+
+-- a refused arrival has told nothing
+pub nothing-told : {L : Type 0} {shape : Shape} {code : Block} {U : Given} {m : Machine L} {k i : ℕ} {to : PlaceId} {seat : Seat} {G : Game} (l : Landing shape code U m k i to seat G) (m' : Machine L) → m' ≡ m → HasStopped U k G m'
+nothing-told {L = L} {U = U} {k = k} {G = G} l m' same = subst (λ (x : Machine L). HasStopped U k G x) (sym same) (inl (l.but.shares.entries, inl l.stores))
 
 -- A turn that was refused.
 
 -- it has told nothing
-pub refused-same : {L : Type 0} (stands : L → ℕ → Tree → Type 0) (shape : Shape) (code : Block) (U : Given) (m m' : Machine L) (k : ℕ) (G : Game) → GoesOn → Seated stands shape code U m G → NoRoot G.entries → m'.history.entries ≡ m.history.entries → m'.stores ≡ m.stores → HasBegun U k G m'.history.entries (map (λ s. s.events) m'.stores.items)
-refused-same stands shape code U m m' k G law h unreleased history stored =
-    begun-same code U k G m'.history.entries (map (λ (s : Kept). s.events) m'.stores.items) law h.shares.on.proper h.shares.comes unreleased (history ∙ h.shares.entries)
+pub refused-same : {L : Type 0} (shape : Shape) (code : Block) (U : Given) (m m' : Machine L) (k : ℕ) (G : Game) → GoesOn → Seated shape code U m G → NoRoot G.entries → m'.chronicle.entries ≡ m.chronicle.entries → m'.stores ≡ m.stores → HasBegun U k G m'.chronicle.entries (map (λ s. s.events) m'.stores.items)
+refused-same shape code U m m' k G law h unreleased history stored =
+    begun-same code U k G m'.chronicle.entries (map (λ (s : Kept). s.events) m'.stores.items) law h.shares.on.proper h.shares.comes unreleased (history ∙ h.shares.entries)
     (ap (λ v. map (λ (s : Kept). s.events) v.items) stored ∙ journals_are U.heap 0 m.stores.items G.journals h.stores)
 
--- it has told a part
-pub refused-told : {L : Type 0} (stands : L → ℕ → Tree → Type 0) (shape : Shape) (code : Block) (U : Given) (m m' : Machine L) (k : ℕ) (G : Game) → GoesOn → Seated stands shape code U m G → NoRoot G.entries → m'.history ≡ m.history → HasTold U k G m'.stores.items → HasBegun U k G m'.history.entries (map (λ s. s.events) m'.stores.items)
-refused-told stands shape code U m m' k G law h unreleased history told =
-    begun-told code U k G m'.history.entries m'.stores.items law h.shares.on.proper h.shares.comes unreleased (ap (λ l. l.entries) history ∙ h.shares.entries) told
+-- it has told a part, or its entry
+pub refused-stopped : {L : Type 0} (shape : Shape) (code : Block) (U : Given) (m m' : Machine L) (k : ℕ) (G : Game) → GoesOn → Seated shape code U m G → NoRoot G.entries → HasStopped U k G m' → HasBegun U k G m'.chronicle.entries (map (λ s. s.events) m'.stores.items)
+refused-stopped shape code U m m' k G law h unreleased stop =
+    elim stop [
+      | inl half ↦ elim half.1 [
+        | inl stored ↦ begun-same code U k G m'.chronicle.entries (map (λ (s : Kept). s.events) m'.stores.items) law h.shares.on.proper h.shares.comes unreleased half.0 (journals_are U.heap 0 m'.stores.items G.journals stored)
+        | inr told ↦ begun-told code U k G m'.chronicle.entries m'.stores.items law h.shares.on.proper h.shares.comes unreleased half.0 told
+      ]
+      | inr made ↦ begun-made U k G m' made
+    ]

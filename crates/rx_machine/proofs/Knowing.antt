@@ -3,23 +3,22 @@ use Rattle.std.specs.Prelude.{◌≡◌, ℕ, ◌≤◌, length}
 use Rattle.std.proofs.Common.{arith}
 use Rattle.rx_base.specs.declared.ids.PlaceId.{PlaceId}
 use Rattle.rx_rules.specs.Code.{Block}
-use Rattle.rx_rules.specs.Tree.{Tree}
 use Rattle.rx_rules.specs.Plays.{journal_at}
 use Rattle.rx_rules.specs.Run.{Given, in_all, Proper, NoRoot}
 use Rattle.rx_rules.specs.Picked.{Game, Player, Comes, tree_in}
 use Rattle.rx_rules.proofs.Append.{tree-places}
 use Rattle.rx_runs.specs.Coming.{GamesCome}
 use Rattle.rx_runs.specs.Knowing.{ComesKnowing, GoesKnowing}
-use Rattle.rx_nodes.specs.Shape.{Shape}
+use Rattle.rx_syntax.specs.Shape.{Shape}
 use Rattle.rx_machine.specs.declared.machine.Machine.{Machine}
-use Rattle.rx_seats.specs.declared.seat.Seat.{Seat}
+use Rattle.rx_machine.specs.declared.seat.Mover.{Mover}
 use Rattle.rx_machine.specs.Holds.{Acting}
 
 -- it knows of no place that is not there
-pub known-there : {L : Type 0} (stands : L → ℕ → Tree → Type 0) (shape : Shape) (code : Block) (U : Given) (m : Machine L) (k i : ℕ) (here : PlaceId) (q : Player) (seat : Seat) (G : Game) → ComesKnowing → GoesKnowing → Acting stands shape code U m k i here q seat G → q.vars.places ≤ (tree_in U G).places
-known-there stands shape code U m k i here q seat G come goes a =
+pub known-there : {L : Type 0} {shape : Shape} {code : Block} {U : Given} {m : Machine L} {k i : ℕ} {here : PlaceId} {q : Player} {mover : Mover} {G : Game} (a : Acting shape code U m k i here q mover G) → ComesKnowing → GoesKnowing → q.vars.places ≤ (tree_in U G).places
+known-there {code = code} {U = U} {i = i} {here = here} {q = q} {mover = mover} {G = G} a come goes =
     let was : a.began.vars.places ≤ (tree_in U G).places = come code U G a.but.shares.comes i a.began a.gone.player in
-    let same : q.vars.places ≡ a.began.vars.places = goes U.heap (length G.entries) seat.row.number here a.began q a.store a.left (journal_at G.journals here.0) a.events a.gone.goes in
+    let same : q.vars.places ≡ a.began.vars.places = goes U.heap (length G.entries) mover.seat.who.task here a.began q a.store a.left (journal_at G.journals here.0) a.events a.gone.goes in
     omega (arith, was, same)
 
 -- there is a place, and there are sixteen at most

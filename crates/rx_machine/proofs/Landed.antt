@@ -1,126 +1,150 @@
 -- The turn of an arrival, and the root's release.
-use Rattle.std.specs.Prelude.{◌≡◌, ℕ, true, false, List, [], ◌∷◌, ◌++◌, length, filter, reverse, Option, Some, None, Err, slice_set, refl}
+use Rattle.std.specs.Prelude.{◌≡◌, ℕ, true, List, [], ◌∷◌, ◌++◌, length, filter, reverse, Option, Some, slice_set, refl, false}
 use Rattle.std.proofs.Common.{ap, ◌∙◌, sym, subst, inl, inr}
 use Rattle.std.proofs.lemmas.List.{length-set}
 use Rattle.rx_base.specs.declared.ids.PlaceId.{PlaceId}
 use Rattle.rx_base.specs.declared.ids.TaskId.{TaskId}
-use Rattle.rx_base.specs.declared.place_set.PlaceSet.{PlaceSet}
-use Rattle.rx_base.specs.declared.values.Fault.{Fault}
 use Rattle.rx_rules.specs.declared.tasks.Task.{Task}
+use Rattle.rx_rules.specs.declared.tasks.Where.{Where}
 use Rattle.rx_rules.specs.declared.tasks.Where.TheVariants.{At}
 use Rattle.rx_rules.specs.declared.entries.Act.TheVariants.{Arrive}
+use Rattle.rx_rules.specs.declared.entries.Entry.{Entry}
 use Rattle.rx_rules.specs.declared.entries.Entry.TheVariants.{Step, Root}
 use Rattle.rx_rules.specs.Code.{Block}
-use Rattle.rx_rules.specs.Tree.{Tree, the_root, quiet}
+use Rattle.rx_rules.specs.Tree.{Tree, inner, the_root, quiet}
 use Rattle.rx_rules.specs.Entries.{AllowedAct, Allowed, made_act, without}
 use Rattle.rx_rules.specs.Run.{Given, NoRoot}
 use Rattle.rx_rules.specs.Picked.{Game, Turn, arrives, root, turns, is_enabled, enabled, tree_in}
 use Rattle.rx_rules.proofs.Append.{root-push, tree-push}
-use Rattle.rx_finish.specs.declared.ledger.Caller.{Caller}
 use Rattle.rx_finish.specs.declared.ledger.LedgerFault.{LedgerFault}
 use Rattle.rx_finish.specs.declared.ledger.LedgerFault.TheVariants.{NotYet, Lost, NoMemory}
-use Rattle.rx_finish.specs.Calls.{ArriveReply, RootReply, blow_of}
-use Rattle.rx_history.specs.Setups.{given, to_join}
+use Rattle.rx_finish.specs.Callers.{MayAskArrive, Travels, does_travel}
+use Rattle.rx_finish.specs.Calls.{landing}
+use Rattle.rx_history.specs.Logs.{Log}
+use Rattle.rx_history.specs.Setups.{given}
+use Rattle.rx_chronicle.specs.Requests.{tree_told, IsRefused, NoWait, Granted, Freed, RootDone, IsRootRefused}
+use Rattle.rx_chronicle.proofs.Ended.{root_or_none}
+use Rattle.rx_chronicle.proofs.Granting.{unhindered}
 use Rattle.rx_store.specs.Kept.{Kept}
-use Rattle.rx_nodes.specs.Shape.{Shape}
+use Rattle.rx_syntax.specs.Shape.{Shape}
 use Rattle.rx_control.specs.declared.control.Control.{Control}
 use Rattle.rx_control.specs.Stands.{StandsFor}
 use Rattle.rx_machine.specs.declared.machine.Machine.{Machine}
-use Rattle.rx_machine.specs.declared.enabled.Ready.{Ready}
-use Rattle.rx_seats.specs.declared.seat.Seat.{Seat}
-use Rattle.rx_seats.specs.Slots.{seat_at}
-use Rattle.rx_machine.specs.Slots.{live_task, SlotIs, IsSeat}
-use Rattle.rx_stores.specs.Kepts.{StoresAre}
-use Rattle.rx_machine.specs.Holds.{Seated, Landing, Finished, Releasing, LeadsTo}
-use Rattle.rx_machine.proofs.Asking.{not_lost}
+use Rattle.rx_machine.specs.declared.seat.Seat.{Seat}
+use Rattle.rx_machine.specs.Slots.{row_of, seat_at, live_task, SlotIs, IsSeat}
+use Rattle.rx_store.specs.Kepts.{StoresAre}
+use Rattle.rx_machine.specs.Holds.{Seated, Landing, Finished, LeadsTo}
+use Rattle.rx_machine.proofs.Asking.{seat_asks, no-memory}
+use Rattle.rx_machine.proofs.BeforeTurn.{Releasing}
 use Rattle.rx_machine.proofs.Finding.{same_or_not}
 use Rattle.rx_machine.proofs.Live.{change-other, change-same, live_stands}
 use Rattle.rx_machine.proofs.Own.{slot-on}
-use Rattle.rx_machine.proofs.Acted.{Went, seat_back, seat_other}
-
--- the ledger does not refuse an arrival
-pub arrival-granted : (T : Tree) (who : Caller) (e : LedgerFault) (S : Tree → Type 0) → blow_of T who.task ≡ None → ArriveReply T who (Err e) S → ⊥
-arrival-granted T who NoMemory S free h = h
-arrival-granted T who (Lost place at) S free h = not_lost T who.task (record { place = place; entry = at }) free h.0
-arrival-granted T who (NotYet place) S free h = h
-
--- and a release of the root that is quiet only for lack of memory
-pub root-refused : (T : Tree) (e : LedgerFault) (S : Tree → Type 0) → quiet T the_root ≡ true → RootReply T (Err e) S → e ≡ NoMemory
-root-refused T NoMemory S calm h = refl
-root-refused T (Lost place at) S calm h = absurd h
-root-refused T (NotYet place) S calm h = absurd (let f : true ≡ false = sym calm ∙ h.0.busy in let g : ⊥ = cc in g)
+use Rattle.rx_machine.proofs.Acted.{went, of-told, of-game, seat_back, seat_other}
 
 -- where the task lands
-abbrev there : PlaceId → Task → Task
+abbrev pub there : PlaceId → Task → Task
 there to x = record x { place = At to }
 
-pub landed : {L : Type 0} (stands : L → ℕ → Tree → Type 0) (shape : Shape) (code : Block) (U : Given) (m m' : Machine L) (k i : ℕ) (to : PlaceId) (seat seat' : Seat) (G : Game) → Landing stands shape code U m k i to seat G → AllowedAct (tree_in U G) seat.row.number (Arrive to) → seat'.row ≡ there to seat.row → seat'.scopes ≡ seat.scopes → seat'.control.value ≡ seat.control.value → seat'.batch ≡ seat.batch → Went stands m m' (to_join U (tree_in U G)) (made_act (tree_in U G) seat.row.number (Arrive to)) (Step seat.row.number (Arrive to) []) → m'.seats.items ≡ slice_set m.seats.items i (Some seat') → LeadsTo (Turn U k G true) (Seated stands shape code U m')
-landed stands shape code U m m' k i to seat seat' G a may row scopes control batch went back =
-    let T : Tree = tree_in U G in
-    let t : TaskId = seat.row.number in
-    let T' : Tree = made_act T t (Arrive to) in
-    let G' : Game = record G { entries = G.entries ++ Step t (Arrive to) [] ∷ [] } in
-    let same : T' ≡ tree_in U G' = sym (tree-push U.places G.entries (Step t (Arrive to) [])) in
-    let h = a.but.shares in
-    let turn : Turn U k G true G' = arrives seat.row to (a.pick.none_due, a.pick.picked) may in
-    let number : t.0 ≡ i = a.pick.number in
-    let s = a.seat_is in
-    let live_t : live_task T t.0 ≡ Some seat.row = subst (λ (n : ℕ). live_task T n ≡ Some seat.row) (sym number) s.row in
-    let now : live_task T' i ≡ Some (there to seat.row) = subst (λ (n : ℕ). live_task T' n ≡ Some (there to seat.row)) number (change-same T (there to) t seat.row (λ x. refl) live_t (live_stands T t.0 seat.row live_t).1) in
-    let new : IsSeat shape T' i a.player seat' = record {
-      row = now ∙ ap (λ r. Some r) (sym row);
-      scopes = s.scopes ∙ ap (λ ss. reverse ss.items) (sym scopes);
-      term = subst (λ (c : Control). StandsFor shape c a.player.term) (sym control) s.term;
-      vars = ap (λ c. c.vars) control ∙ s.vars;
-      batch = batch ∙ s.batch;
-      waits = ap (λ r. r.waits) row ∙ s.waits;
-      held = s.held;
-      spine = s.spine;
-    } in (
-      G',
-      turn,
-      record {
-        shares = record {
-          on = h.on;
-          comes = turns h.comes a.pick.stands turn;
-          setup = ap given went.setup ∙ h.setup;
-          entries = went.entries ∙ ap (λ es. es ++ Step t (Arrive to) [] ∷ []) h.entries;
-          plan = went.plan ∙ h.plan;
-          ledger = subst (λ (T : Tree). stands m'.ledger (to_join U T) T) same went.ledger;
-          slots = ap (λ xs. length xs) back ∙ (length-set m.seats.items i (Some seat') ∙ (h.slots ∙ ap (λ (T : Tree). T.next_task) same));
-          failed = went.failed ∙ h.failed;
-        };
-        stores = subst (λ (ss : List Kept). StoresAre U.heap 0 ss G.journals) (ap (λ v. v.items) (sym went.stores)) a.stores;
-        seats = λ n.
-            subst (λ (T : Tree). SlotIs shape T G.players n (seat_at m'.seats.items n)) same
-            (subst (λ (xs : List (Option Seat)). SlotIs shape T' G.players n (seat_at xs n)) (sym back)
-            (elim (same_or_not n i) [
-              | inl e ↦ subst (λ (v : ℕ). SlotIs shape T' G.players v (seat_at (slice_set m.seats.items i (Some seat')) v)) (sym e)
-                  (subst (λ (o : Option Seat). SlotIs shape T' G.players i o) (sym (seat_back m.seats.items i seat' a.inside)) (a.player, a.is_player, new))
-              | inr apart ↦ subst (λ (o : Option Seat). SlotIs shape T' G.players n o) (sym (seat_other m.seats.items i n (Some seat') apart))
-                  (slot-on shape T T' G.players G.players n (seat_at m.seats.items n) (change-other T (there to) t n (λ x. refl) (λ e. apart (sym e ∙ number))) (λ x live. (refl, refl)) refl (a.but.others n apart))
-            ]));
-      },
-    )
+module _ {L : Type 0} {shape : Shape} {code : Block} {U : Given} {m : Machine L} {k i : ℕ} {to : PlaceId} {seat : Seat} {G : Game} (a : Landing shape code U m k i to seat G) where
+  -- the chronicle may be asked
+  pub arrive-may : MayAskArrive (tree_told m.chronicle) seat.who
+  arrive-may =
+      of-told (λ (V : Tree). MayAskArrive V seat.who) a.but.shares
+      (seat_asks a.seat_is Travels a.numbers (record { travels = ap (λ (w : Where). does_travel w) a.travels }))
+
+  -- and refuses for want of memory alone
+  pub arrive-out : (f : LedgerFault) → IsRefused (tree_told m.chronicle) seat.who NoWait f → f ≡ NoMemory
+  arrive-out f h = no-memory a.seat_is f (of-game (λ (V : Tree). IsRefused V seat.who NoWait f) a.but.shares h)
+
+  pub landed : (m' : Machine L) (seat' : Seat) (batch : List (List ℕ)) → batch ≡ [] → m' ≡ record m { chronicle = m'.chronicle; seats = m'.seats } → Granted m.chronicle seat.who (Arrive (landing seat.who.place)) batch m'.chronicle → row_of seat' ≡ there to (row_of seat) → seat'.who.inner ≡ seat.who.inner → seat'.control.value ≡ seat.control.value → m'.seats.items ≡ slice_set m.seats.items i (Some seat') → LeadsTo (Turn U k G true) (Seated shape code U m')
+  landed m' seat' batch none on granted_so row inside control back =
+      let T : Tree = tree_in U G in
+      let t : TaskId = seat.who.task in
+      let T' : Tree = made_act T t (Arrive to) in
+      let G' : Game = record G { entries = G.entries ++ Step t (Arrive to) [] ∷ [] } in
+      let same : T' ≡ tree_in U G' = sym (tree-push U.places G.entries (Step t (Arrive to) [])) in
+      let h = a.but.shares in
+      let here : landing seat.who.place ≡ to = ap (λ (w : Where). landing w) a.travels in
+      let did : Granted m.chronicle seat.who (Arrive to) [] m'.chronicle =
+      subst (λ (b : List (List ℕ)). Granted m.chronicle seat.who (Arrive to) b m'.chronicle) none
+      (subst (λ (p : PlaceId). Granted m.chronicle seat.who (Arrive p) batch m'.chronicle) here granted_so) in
+      let e = went m m' on did in
+      let may : AllowedAct T t (Arrive to) = of-game (λ (V : Tree). AllowedAct V t (Arrive to)) h did.allowed in
+      let turn : Turn U k G true G' = arrives (row_of seat) to (a.pick.none_due, a.pick.picked) may in
+      let number : t.0 ≡ i = a.pick.number in
+      let s = a.seat_is in
+      let live_t : live_task T t.0 ≡ Some (row_of seat) = subst (λ (n : ℕ). live_task T n ≡ Some (row_of seat)) (sym number) s.row in
+      let now : live_task T' i ≡ Some (there to (row_of seat)) = subst (λ (n : ℕ). live_task T' n ≡ Some (there to (row_of seat))) number (change-same T (there to) t (row_of seat) (λ x. refl) live_t (live_stands T t.0 (row_of seat) live_t).1) in
+      let new : IsSeat shape T' i a.player seat' = record {
+        row = now ∙ ap (λ (x : Task). Some x) (sym row);
+        inner = ap (λ (x : Task). inner T x) row ∙ (s.inner ∙ sym inside);
+        term = subst (λ (c : Control). StandsFor shape c a.player.term) (sym control) s.term;
+        vars = ap (λ c. c.vars) control ∙ s.vars;
+        waits = ap (λ (x : Task). x.waits) row ∙ s.waits;
+        held = s.held;
+        spine = s.spine;
+      } in (
+        G',
+        turn,
+        record {
+          shares = record {
+            on = h.on;
+            comes = turns h.comes a.pick.stands turn;
+            setup = ap (λ (c : Log). given c.setup) e.told ∙ h.setup;
+            entries = ap (λ (c : Log). c.entries) e.told ∙ ap (λ (es : List Entry). es ++ Step t (Arrive to) [] ∷ []) h.entries;
+            slots = ap (λ xs. length xs) back ∙ (length-set m.seats.items i (Some seat') ∙ (h.slots ∙ ap (λ (V : Tree). V.next_task) same));
+            failed = e.failed ∙ h.failed;
+          };
+          stores = subst (λ (ss : List Kept). StoresAre U.heap 0 ss G.journals) (ap (λ v. v.items) (sym e.stores)) a.stores;
+          seats = λ n.
+              subst (λ (V : Tree). SlotIs shape V G.players n (seat_at m'.seats.items n)) same
+              (subst (λ (xs : List (Option Seat)). SlotIs shape T' G.players n (seat_at xs n)) (sym back)
+              (elim (same_or_not n i) [
+                | inl w ↦ subst (λ (v : ℕ). SlotIs shape T' G.players v (seat_at (slice_set m.seats.items i (Some seat')) v)) (sym w)
+                    (subst (λ (o : Option Seat). SlotIs shape T' G.players i o) (sym (seat_back m.seats.items i seat' a.inside)) (a.player, a.is_player, a.none_begun, new))
+                | inr apart ↦ subst (λ (o : Option Seat). SlotIs shape T' G.players n o) (sym (seat_other m.seats.items i n (Some seat') apart))
+                    (slot-on shape T T' G.players G.players n (seat_at m.seats.items n) (change-other T (there to) t n (λ x. refl) (λ w. apart (sym w ∙ number))) (λ x live. (refl, refl)) refl (a.but.others n apart))
+              ]));
+        },
+      )
+
+-- a release of the root that is quiet is refused for want of memory alone
+root-refused : (T : Tree) (f : LedgerFault) → quiet T the_root ≡ true → IsRootRefused T f → f ≡ NoMemory
+root-refused T NoMemory calm h = refl
+root-refused T (Lost place at) calm h = absurd h
+root-refused T (NotYet place) calm h = absurd (unhindered T the_root place calm h)
 
 -- where no task is left none is enabled
 none-left : (T : Tree) → T.tasks ≡ [] → enabled T ≡ []
 none-left T e = ap (λ (xs : List Task). reverse (filter (is_enabled T) xs)) e
 
-pub finished : {L : Type 0} (stands : L → ℕ → Tree → Type 0) (shape : Shape) (code : Block) (U : Given) (m m' : Machine L) (k : ℕ) (G : Game) (lost : PlaceSet) (masked : ℕ) (thrown : List Fault) → Releasing stands shape code U m G → NoRoot G.entries → Allowed (tree_in U G) (Root lost masked thrown) → m'.history.entries ≡ m.history.entries ++ Root lost masked thrown ∷ [] → m'.history.setup ≡ m.history.setup → m'.stores ≡ m.stores → m'.ready ≡ m.ready → stands m'.ledger (to_join U (tree_in U G)) (without (tree_in U G) the_root) → LeadsTo (Turn U k G false) (Finished stands U m')
-finished stands shape code U m m' k G lost masked thrown a open_still may entries setup stores ready ledger =
-    let G' : Game = record G { entries = G.entries ++ Root lost masked thrown ∷ [] } in
-    let h = a.holds.shares in
-    let same : without (tree_in U G) the_root ≡ tree_in U G' = sym (tree-push U.places G.entries (Root lost masked thrown)) in (
-      G',
-      root lost masked thrown a.none_due a.none_enabled may,
-      record {
-        entries = entries ∙ ap (λ es. es ++ Root lost masked thrown ∷ []) h.entries;
-        setup = ap given setup ∙ h.setup;
-        ledger = subst (λ (T : Tree). stands m'.ledger (to_join U T) T) same ledger;
-        stores = subst (λ (ss : List Kept). StoresAre U.heap 0 ss G.journals) (ap (λ v. v.items) (sym stores)) a.holds.stores;
-        ended = root-push G.entries lost masked thrown open_still;
-        none_enabled = subst (λ (T : Tree). enabled T ≡ []) same (none-left (without (tree_in U G) the_root) a.none_left);
-        none_ready = ap (λ (r : Ready). r.tasks.members) ready ∙ a.none_ready;
-      },
-    )
+module _ {L : Type 0} {shape : Shape} {code : Block} {U : Given} {m : Machine L} {G : Game} (a : Releasing shape code U m G) where
+  pub root-out : (f : LedgerFault) → IsRootRefused (tree_told m.chronicle) f → f ≡ NoMemory
+  root-out f h = root-refused (tree_in U G) f a.is_quiet (of-game (λ (V : Tree). IsRootRefused V f) a.holds.shares h)
+
+  pub finished : (m' : Machine L) (k : ℕ) → m' ≡ record m { chronicle = m'.chronicle } → RootDone m.chronicle m'.chronicle → LeadsTo (Turn U k G false) (Finished U m')
+  finished m' k on done =
+      elim done [
+        | inl old ↦ absurd (root_or_none m.chronicle.entries old.0 (subst (λ (es : List Entry). NoRoot es) (sym a.holds.shares.entries) a.unreleased))
+        | inr f ↦ freed m' k on f
+      ]
+    where
+      freed : (m' : Machine L) (k : ℕ) → m' ≡ record m { chronicle = m'.chronicle } → Freed m.chronicle m'.chronicle → LeadsTo (Turn U k G false) (Finished U m')
+      freed m' k on f =
+          let e : Entry = Root f.lost f.masked f.thrown in
+          let T : Tree = tree_in U G in
+          let G' : Game = record G { entries = G.entries ++ e ∷ [] } in
+          let h = a.holds.shares in
+          let may : Allowed T e = of-game (λ (V : Tree). Allowed V e) h f.allowed in
+          let same : without T the_root ≡ tree_in U G' = sym (tree-push U.places G.entries e) in (
+            G',
+            root f.lost f.masked f.thrown a.none_due a.none_enabled may,
+            record {
+              entries = ap (λ (c : Log). c.entries) f.told ∙ ap (λ (es : List Entry). es ++ e ∷ []) h.entries;
+              setup = ap (λ (c : Log). given c.setup) f.told ∙ h.setup;
+              stores = subst (λ (x : Machine L). StoresAre U.heap 0 x.stores.items G.journals) (sym on) a.holds.stores;
+              ended = root-push G.entries f.lost f.masked f.thrown a.unreleased;
+              none_enabled = subst (λ (V : Tree). enabled V ≡ []) same (none-left (without T the_root) a.none_left);
+              none_ready = ap (λ (x : Machine L). x.ready.members) on ∙ a.none_ready;
+            },
+          )

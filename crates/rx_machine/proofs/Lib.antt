@@ -6,7 +6,7 @@ pub mod Asking
 pub mod Printed
 pub mod Counted
 pub mod FinishBegun
-pub mod OriginsKept
+pub mod Walking
 pub mod FirstGame
 pub mod Landed
 pub mod EnabledTasks

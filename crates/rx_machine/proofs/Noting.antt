@@ -1,11 +1,10 @@
 -- The set of the enabled tasks after a turn.
-use Rattle.std.specs.Prelude.{◌≡◌, ◌≢◌, ℕ, suc, ◌-◌, ◌<◌, ◌≤◌, ◌%◌, Bool, true, false, List, [], ◌∷◌, ◌++◌, length, Option, Some, None, slice_get, refl}
+use Rattle.std.specs.Prelude.{◌≡◌, ◌≢◌, ℕ, suc, ◌<◌, ◌≤◌, ◌%◌, Bool, true, false, List, [], ◌∷◌, ◌++◌, length, Option, Some, None, slice_get, refl}
 use Rattle.std.proofs.Common.{ap, ◌∙◌, sym, subst, arith, inl, inr}
 use Rattle.std.proofs.lemmas.Bool.{cases_lt}
 use Rattle.rx_base.specs.declared.ids.TaskId.{TaskId}
 use Rattle.rx_base.specs.declared.ids.ScopeId.{ScopeId}
 use Rattle.rx_base.specs.declared.values.Fault.{Fault}
-use Rattle.rx_base.proofs.Elements.{get-pushed, length-push}
 use Rattle.rx_rules.specs.declared.tasks.Task.{Task}
 use Rattle.rx_rules.specs.declared.entries.Act.{Act}
 use Rattle.rx_rules.specs.declared.entries.Act.TheVariants.{Open, At as Calls, Spawn, Arrive, Wait, Release, End, Print, Census}
@@ -19,51 +18,30 @@ use Rattle.rx_rules.specs.Reached.{Reached}
 use Rattle.rx_rules.specs.Run.{Given}
 use Rattle.rx_rules.specs.Picked.{Game, Player, Turn, due, arrives, moves, ends, root, enabled, tree_in}
 use Rattle.rx_rules.proofs.Append.{tree-push}
-use Rattle.rx_rank.specs.Numbers.{Ascends, marked}
+use Rattle.rx_rank.specs.Numbers.{Numbers, Ascends, marked}
 use Rattle.rx_sound.specs.Sound.{Sound, ReachedSound}
 use Rattle.rx_sound.specs.Enabling.{able, OthersStay, nearest_opener, FreesOne, WayStays}
 use Rattle.rx_sound.specs.Histories.{FoldReached}
 use Rattle.rx_runs.specs.Coming.{GamesCome}
-use Rattle.rx_nodes.specs.Shape.{Shape}
-use Rattle.rx_runs.specs.Ties.{MayCome}
-use Rattle.rx_runs.proofs.Planned.{due_planned}
+use Rattle.rx_syntax.specs.Shape.{Shape}
+use Rattle.rx_history.specs.Logs.{Log}
 use Rattle.rx_machine.specs.declared.machine.Machine.{Machine}
-use Rattle.rx_machine.specs.declared.enabled.Ready.{Ready}
-use Rattle.rx_origins.specs.declared.origin.Origin.{Origin}
-use Rattle.rx_seats.specs.declared.seat.Seat.{Seat}
-use Rattle.rx_seats.specs.Slots.{seat_at}
-use Rattle.rx_machine.specs.Slots.{live_task, SlotIs}
+use Rattle.rx_machine.specs.declared.seat.Seat.{Seat}
+use Rattle.rx_machine.specs.Slots.{row_of, seat_at, live_task, SlotIs}
 use Rattle.rx_machine.specs.Picking.{slot_able, is_listed, IsReady}
-use Rattle.rx_origins.specs.Origins.{TellsOrigins, origin_in, origin_by}
 use Rattle.rx_machine.specs.Holds.{Seated, Holds, CanTurn}
-use Rattle.rx_machine.specs.Runs.{HasMoved, HasFallen, AfterTurn, WentOn, Taken}
+use Rattle.rx_machine.specs.Runs.{HasMoved, AfterTurn, WentOn, Taken}
 use Rattle.rx_machine.proofs.Finding.{same_or_not}
 use Rattle.rx_machine.proofs.Live.{live_stands, live_number}
 use Rattle.rx_machine.proofs.Whole.{stays_open}
-use Rattle.rx_machine.proofs.BeforeTurn.{roomier, can-turn}
-use Rattle.rx_machine.proofs.OriginsKept.{with_row, tells_act, tells_without, acts_on}
+use Rattle.rx_machine.proofs.BeforeTurn.{seated-on, can-turn}
+use Rattle.rx_machine.proofs.Deaths.{HasFallen}
+use Rattle.rx_machine.proofs.Walking.{acts_on}
 use Rattle.rx_machine.proofs.Readying.{marked_same, marked_other, ascends_marked, slot_task, able_high}
 
 -- nothing but the set is another
-pub seated-same : {L : Type 0} (stands : L → ℕ → Tree → Type 0) (shape : Shape) (code : Block) (U : Given) (m : Machine L) (r : Ready) (G : Game) → Seated stands shape code U m G → Seated stands shape code U (record m { ready = r }) G
-seated-same stands shape code U m r G a =
-    record {
-      shares = record {
-        on = a.shares.on;
-        comes = a.shares.comes;
-        setup = a.shares.setup;
-        entries = a.shares.entries;
-        plan = a.shares.plan;
-        ledger = a.shares.ledger;
-        slots = a.shares.slots;
-        failed = a.shares.failed;
-      };
-      stores = a.stores;
-      seats = a.seats;
-    }
-
-pub can-same : {L : Type 0} (stands : L → ℕ → Tree → Type 0) (shape : Shape) (code : Block) (U : Given) (m : Machine L) (r : Ready) (G : Game) → CanTurn stands shape code U m G → CanTurn stands shape code U (record m { ready = r }) G
-can-same stands shape code U m r G c = record { holds = seated-same stands shape code U m r G c.holds; unreleased = c.unreleased; numbers = c.numbers; reached = c.reached }
+pub can-same : {L : Type 0} (shape : Shape) (code : Block) (U : Given) (m : Machine L) (r : Numbers) (G : Game) → CanTurn shape code U m G → CanTurn shape code U (record m { ready = r }) G
+can-same shape code U m r G c = record { holds = seated-on m (record m { ready = r }) refl refl refl refl refl c.holds; unreleased = c.unreleased; numbers = c.numbers; reached = c.reached }
 
 -- How many tasks there are after an entry.
 
@@ -112,18 +90,16 @@ turn-grows U k used G H (root lost masked thrown none_due none may) = grows-push
 pub record TurnAct (U : Given) (k : ℕ) (G H : Game) : Type 0 where
   pub task : Task
   pub act : Act
-  pub batch : List (List ℕ)
-  pub entries : H.entries ≡ G.entries ++ Step task.number act batch ∷ []
   pub picked : slice_get (enabled (tree_in U G)) (k % length (enabled (tree_in U G))) ≡ Some task
   pub allowed : AllowedAct (tree_in U G) task.number act
   pub tree : tree_in U H ≡ made_act (tree_in U G) task.number act
 
 pub turn-act : (U : Given) (k : ℕ) (G H : Game) → Turn U k G true H → TurnAct U k G H
-turn-act U k G H (arrives x p (none_due, pick) may) = record { task = x; act = Arrive p; batch = []; entries = refl; picked = pick; allowed = may; tree = tree-push U.places G.entries (Step x.number (Arrive p) []) }
-turn-act U k G H (moves x here p q S Z j act (none_due, pick) at player store goes fits may) = record { task = x; act = act; batch = q.batch; entries = refl; picked = pick; allowed = may; tree = tree-push U.places G.entries (Step x.number act q.batch) }
-turn-act U k G H (ends x here p q S Z j f (none_due, pick) at player store goes done may) = record { task = x; act = End f; batch = q.batch; entries = refl; picked = pick; allowed = may; tree = tree-push U.places G.entries (Step x.number (End f) q.batch) }
+turn-act U k G H (arrives x p (none_due, pick) may) = record { task = x; act = Arrive p; picked = pick; allowed = may; tree = tree-push U.places G.entries (Step x.number (Arrive p) []) }
+turn-act U k G H (moves x here p q S Z j act (none_due, pick) at player store goes fits may) = record { task = x; act = act; picked = pick; allowed = may; tree = tree-push U.places G.entries (Step x.number act q.batch) }
+turn-act U k G H (ends x here p q S Z j f (none_due, pick) at player store goes done may) = record { task = x; act = End f; picked = pick; allowed = may; tree = tree-push U.places G.entries (Step x.number (End f) q.batch) }
 
-module _ {L : Type 0} (stands : L → ℕ → Tree → Type 0) (shape : Shape) (code : Block) (U : Given) (m : Machine L) (k i : ℕ) (under : ScopeId) (before : ℕ) (G H : Game) (sound : ReachedSound) (h : HasMoved stands shape code U m k i under before G H) where
+module _ {L : Type 0} (shape : Shape) (code : Block) (U : Given) (m : Machine L) (k i : ℕ) (under : ScopeId) (before : ℕ) (G H : Game) (sound : ReachedSound) (h : HasMoved shape code U m k i under before G H) where
   abbrev mine : TurnAct U k G H
   mine = turn-act U k G H h.turn
 
@@ -139,31 +115,31 @@ module _ {L : Type 0} (stands : L → ℕ → Tree → Type 0) (shape : Shape) (
       let a : TurnAct U k G H = mine in
       let number : a.task.number.0 ≡ i = mover-number in
       let slot = subst (λ (o : Option Seat). SlotIs shape (tree_in U H) H.players i o) at (h.can.holds.seats i) in
-      let stays : task_of (tree_in U H) (record { 0 = i }) ≡ Some seat.row = (live_stands (tree_in U H) i seat.row slot.2.row).0 in
-      let found : task_of (made_act (tree_in U G) a.task.number a.act) a.task.number ≡ Some seat.row =
-      subst (λ (T : Tree). task_of T a.task.number ≡ Some seat.row) a.tree (subst (λ (v : ℕ). task_of (tree_in U H) (record { 0 = v }) ≡ Some seat.row) (sym number) stays)
+      let stays : task_of (tree_in U H) (record { 0 = i }) ≡ Some (row_of seat) = (live_stands (tree_in U H) i (row_of seat) slot.3.row).0 in
+      let found : task_of (made_act (tree_in U G) a.task.number a.act) a.task.number ≡ Some (row_of seat) =
+      subst (λ (T : Tree). task_of T a.task.number ≡ Some (row_of seat)) a.tree (subst (λ (v : ℕ). task_of (tree_in U H) (record { 0 = v }) ≡ Some (row_of seat)) (sym number) stays)
       in
       ap (λ (T : Tree). able T (record { 0 = n })) a.tree
-      ∙ stay (tree_in U G) a.task.number a.act seat.row (record { 0 = n }) h.reached a.allowed found (λ e. apart (e ∙ number)) (let z = h.slots in omega (arith, low, z))
+      ∙ stay (tree_in U G) a.task.number a.act (row_of seat) (record { 0 = n }) h.reached a.allowed found (λ e. apart (e ∙ number)) (let z = h.slots in omega (arith, low, z))
 
   now-able : (n : ℕ) → slot_able (tree_in U H) (seat_at m.seats.items n) ≡ able (tree_in U H) (record { 0 = n })
   now-able n = slot_task shape (tree_in U H) H.players n (seat_at m.seats.items n) (h.can.holds.seats n)
 
-  was-not : (n : ℕ) → before ≤ n → is_listed n m.ready.tasks.members ≡ false
+  was-not : (n : ℕ) → before ≤ n → is_listed n m.ready.members ≡ false
   was-not n high = h.ready.1 n ∙ able_high (tree_in U G) n (sound (tree_in U G) h.reached) (let z = h.slots in omega (arith, high, z))
 
   is-not : (n : ℕ) → length m.seats.items ≤ n → able (tree_in U H) (record { 0 = n }) ≡ false
   is-not n high = able_high (tree_in U H) n (sound (tree_in U H) h.can.reached) (let z = h.can.holds.shares.slots in omega (arith, high, z))
 
   -- the task has moved and started no other
-  pub noted-one : OthersStay → (seat : Seat) → seat_at m.seats.items i ≡ Some seat → length m.seats.items ≤ before → (ns : List ℕ) → ns ≡ marked (slot_able (tree_in U H) (seat_at m.seats.items i)) i m.ready.tasks.members → IsReady (tree_in U H) ns
+  pub noted-one : OthersStay → (seat : Seat) → seat_at m.seats.items i ≡ Some seat → length m.seats.items ≤ before → (ns : List ℕ) → ns ≡ marked (slot_able (tree_in U H) (seat_at m.seats.items i)) i m.ready.members → IsReady (tree_in U H) ns
   noted-one stay seat at few ns e =
       let b : Bool = slot_able (tree_in U H) (seat_at m.seats.items i) in
       subst (IsReady (tree_in U H)) (sym e) (
-        ascends_marked b i m.ready.tasks.members h.ready.0,
+        ascends_marked b i m.ready.members h.ready.0,
         λ n. elim (same_or_not n i) [
-          | inl w ↦ subst (λ (v : ℕ). is_listed v (marked b i m.ready.tasks.members) ≡ able (tree_in U H) (record { 0 = v })) (sym w) (marked_same b i m.ready.tasks.members ∙ now-able i)
-          | inr apart ↦ marked_other b i n m.ready.tasks.members apart ∙ (elim (cases_lt n before) [
+          | inl w ↦ subst (λ (v : ℕ). is_listed v (marked b i m.ready.members) ≡ able (tree_in U H) (record { 0 = v })) (sym w) (marked_same b i m.ready.members ∙ now-able i)
+          | inr apart ↦ marked_other b i n m.ready.members apart ∙ (elim (cases_lt n before) [
             | inl low ↦ h.ready.1 n ∙ sym (others-stay stay seat at n apart low)
             | inr high ↦ was-not n high ∙ sym (is-not n (omega (arith, few, high)))
           ])
@@ -171,18 +147,18 @@ module _ {L : Type 0} (stands : L → ℕ → Tree → Type 0) (shape : Shape) (
       )
 
   -- the task has moved and started another
-  pub noted-two : OthersStay → (seat : Seat) → seat_at m.seats.items i ≡ Some seat → (ns : List ℕ) → ns ≡ marked (slot_able (tree_in U H) (seat_at m.seats.items before)) before (marked (slot_able (tree_in U H) (seat_at m.seats.items i)) i m.ready.tasks.members) → IsReady (tree_in U H) ns
+  pub noted-two : OthersStay → (seat : Seat) → seat_at m.seats.items i ≡ Some seat → (ns : List ℕ) → ns ≡ marked (slot_able (tree_in U H) (seat_at m.seats.items before)) before (marked (slot_able (tree_in U H) (seat_at m.seats.items i)) i m.ready.members) → IsReady (tree_in U H) ns
   noted-two stay seat at ns e =
       let b : Bool = slot_able (tree_in U H) (seat_at m.seats.items i) in
       let c : Bool = slot_able (tree_in U H) (seat_at m.seats.items before) in
-      let old : List ℕ = marked b i m.ready.tasks.members in
+      let old : List ℕ = marked b i m.ready.members in
       subst (IsReady (tree_in U H)) (sym e) (
-        ascends_marked c before old (ascends_marked b i m.ready.tasks.members h.ready.0),
+        ascends_marked c before old (ascends_marked b i m.ready.members h.ready.0),
         λ n. elim (same_or_not n before) [
           | inl w ↦ subst (λ (v : ℕ). is_listed v (marked c before old) ≡ able (tree_in U H) (record { 0 = v })) (sym w) (marked_same c before old ∙ now-able before)
           | inr other ↦ marked_other c before n old other ∙ (elim (same_or_not n i) [
-            | inl w ↦ subst (λ (v : ℕ). is_listed v old ≡ able (tree_in U H) (record { 0 = v })) (sym w) (marked_same b i m.ready.tasks.members ∙ now-able i)
-            | inr apart ↦ marked_other b i n m.ready.tasks.members apart ∙ (elim (cases_lt n before) [
+            | inl w ↦ subst (λ (v : ℕ). is_listed v old ≡ able (tree_in U H) (record { 0 = v })) (sym w) (marked_same b i m.ready.members ∙ now-able i)
+            | inr apart ↦ marked_other b i n m.ready.members apart ∙ (elim (cases_lt n before) [
               | inl low ↦ h.ready.1 n ∙ sym (others-stay stay seat at n apart low)
               | inr high ↦ was-not n high ∙ sym (is-not n (let z = h.can.holds.shares.slots in let y = h.slots in let most = (turn-grows U k true G H h.turn).most in omega (arith, z, y, most, high, other)))
             ])
@@ -231,52 +207,36 @@ module _ {L : Type 0} (stands : L → ℕ → Tree → Type 0) (shape : Shape) (
       (λ k. other (ap (λ (T : Tree). nearest_opener T (Some under)) (end-tree e) ∙ (sym (ap (λ (v : ScopeId). nearest_opener (made_act (tree_in U G) mine.task.number (End e.0)) (Some v)) h.hung) ∙ k)))
 
   -- and none was left above it
-  pub noted-alone : FreesOne → seat_at m.seats.items i ≡ None → nearest_opener (tree_in U H) (Some under) ≡ None → (ns : List ℕ) → ns ≡ marked (slot_able (tree_in U H) (seat_at m.seats.items i)) i m.ready.tasks.members → IsReady (tree_in U H) ns
+  pub noted-alone : FreesOne → seat_at m.seats.items i ≡ None → nearest_opener (tree_in U H) (Some under) ≡ None → (ns : List ℕ) → ns ≡ marked (slot_able (tree_in U H) (seat_at m.seats.items i)) i m.ready.members → IsReady (tree_in U H) ns
   noted-alone law gone none ns e =
       let b : Bool = slot_able (tree_in U H) (seat_at m.seats.items i) in
       subst (IsReady (tree_in U H)) (sym e) (
-        ascends_marked b i m.ready.tasks.members h.ready.0,
+        ascends_marked b i m.ready.members h.ready.0,
         λ n. elim (same_or_not n i) [
-          | inl w ↦ subst (λ (v : ℕ). is_listed v (marked b i m.ready.tasks.members) ≡ able (tree_in U H) (record { 0 = v })) (sym w) (marked_same b i m.ready.tasks.members ∙ now-able i)
-          | inr apart ↦ marked_other b i n m.ready.tasks.members apart ∙ (h.ready.1 n ∙ sym (others-free law gone n apart (λ k. let f : None ≡ Some (record { 0 = n }) = sym none ∙ k in cc)))
+          | inl w ↦ subst (λ (v : ℕ). is_listed v (marked b i m.ready.members) ≡ able (tree_in U H) (record { 0 = v })) (sym w) (marked_same b i m.ready.members ∙ now-able i)
+          | inr apart ↦ marked_other b i n m.ready.members apart ∙ (h.ready.1 n ∙ sym (others-free law gone n apart (λ k. let f : None ≡ Some (record { 0 = n }) = sym none ∙ k in cc)))
         ],
       )
 
   -- or the nearest opener was asked
-  pub noted-end : FreesOne → seat_at m.seats.items i ≡ None → (o : TaskId) → nearest_opener (tree_in U H) (Some under) ≡ Some o → (ns : List ℕ) → ns ≡ marked (slot_able (tree_in U H) (seat_at m.seats.items o.0)) o.0 (marked (slot_able (tree_in U H) (seat_at m.seats.items i)) i m.ready.tasks.members) → IsReady (tree_in U H) ns
+  pub noted-end : FreesOne → seat_at m.seats.items i ≡ None → (o : TaskId) → nearest_opener (tree_in U H) (Some under) ≡ Some o → (ns : List ℕ) → ns ≡ marked (slot_able (tree_in U H) (seat_at m.seats.items o.0)) o.0 (marked (slot_able (tree_in U H) (seat_at m.seats.items i)) i m.ready.members) → IsReady (tree_in U H) ns
   noted-end law gone o near ns e =
       let b : Bool = slot_able (tree_in U H) (seat_at m.seats.items i) in
       let c : Bool = slot_able (tree_in U H) (seat_at m.seats.items o.0) in
-      let old : List ℕ = marked b i m.ready.tasks.members in
+      let old : List ℕ = marked b i m.ready.members in
       subst (IsReady (tree_in U H)) (sym e) (
-        ascends_marked c o.0 old (ascends_marked b i m.ready.tasks.members h.ready.0),
+        ascends_marked c o.0 old (ascends_marked b i m.ready.members h.ready.0),
         λ n. elim (same_or_not n o.0) [
           | inl w ↦ subst (λ (v : ℕ). is_listed v (marked c o.0 old) ≡ able (tree_in U H) (record { 0 = v })) (sym w) (marked_same c o.0 old ∙ now-able o.0)
           | inr other ↦ marked_other c o.0 n old other ∙ (elim (same_or_not n i) [
-            | inl w ↦ subst (λ (v : ℕ). is_listed v old ≡ able (tree_in U H) (record { 0 = v })) (sym w) (marked_same b i m.ready.tasks.members ∙ now-able i)
-            | inr apart ↦ marked_other b i n m.ready.tasks.members apart ∙ (h.ready.1 n ∙ sym (others-free law gone n apart (λ k.
+            | inl w ↦ subst (λ (v : ℕ). is_listed v old ≡ able (tree_in U H) (record { 0 = v })) (sym w) (marked_same b i m.ready.members ∙ now-able i)
+            | inr apart ↦ marked_other b i n m.ready.members apart ∙ (h.ready.1 n ∙ sym (others-free law gone n apart (λ k.
                 let f : Some o ≡ Some (record { 0 = n }) = sym near ∙ k in
                 let g : o ≡ record { 0 = n } = cc in
                 other (sym (ap (λ (v : TaskId). v.0) g)))))
           ])
         ],
       )
-
--- nothing but what tells of enabled tasks is another, and the set is the same
-pub moved-same : {L : Type 0} (stands : L → ℕ → Tree → Type 0) (shape : Shape) (code : Block) (U : Given) (m : Machine L) (r : Ready) (k i : ℕ) (under : ScopeId) (before : ℕ) (G H : Game) → r.tasks ≡ m.ready.tasks → HasMoved stands shape code U m k i under before G H → HasMoved stands shape code U (record m { ready = r }) k i under before G H
-moved-same stands shape code U m r k i under before G H same h =
-    record {
-      can = can-same stands shape code U m r H h.can;
-      turn = h.turn;
-      reached = h.reached;
-      mover = h.mover;
-      picked = h.picked;
-      number = h.number;
-      found = h.found;
-      hung = h.hung;
-      slots = h.slots;
-      ready = subst (λ (ns : List ℕ). IsReady (tree_in U G) ns) (sym (ap (λ t. t.members) same)) h.ready;
-    }
 
 -- every task was asked
 pub noted-all : (shape : Shape) (T T' : Tree) (ps : List Player) (os : List (Option Seat)) (old ns : List ℕ) → Sound T → Sound T' → Grows T T' → length os ≡ T'.next_task → ((n : ℕ) → SlotIs shape T' ps n (seat_at os n)) → IsReady T old → (Ascends 0 old → Ascends 0 ns) → ((n : ℕ) → n < length os → is_listed n ns ≡ slot_able T' (seat_at os n)) → ((n : ℕ) → length os ≤ n → is_listed n ns ≡ is_listed n old) → IsReady T' ns
@@ -289,34 +249,34 @@ noted-all shape T T' ps os old ns before after more size slots ready ascends not
 )
 
 -- what is noted after a turn of the task of slot i
-pub has-moved : {L : Type 0} (stands : L → ℕ → Tree → Type 0) (shape : Shape) (code : Block) (U : Given) (m m' : Machine L) (k i : ℕ) (under : ScopeId) (before : ℕ) (G : Game) → GamesCome → FoldReached → (t : Taken stands shape code U m k i G) → IsReady (tree_in U G) m.ready.tasks.members → (a : AfterTurn stands shape code U m' k G) → m'.ready ≡ m.ready → ((seat : Seat) → seat_at m.seats.items i ≡ Some seat → under ≡ seat.row.under) → before ≡ length m.seats.items → HasMoved stands shape code U m' k i under before G a.0
-has-moved stands shape code U m m' k i under before G come fold t ready a same hung size =
+pub has-moved : {L : Type 0} (shape : Shape) (code : Block) (U : Given) (m m' : Machine L) (k i : ℕ) (under : ScopeId) (before : ℕ) (G : Game) → GamesCome → FoldReached → (t : Taken shape code U m k i G) → IsReady (tree_in U G) m.ready.members → (a : AfterTurn shape code U m' k G) → m'.ready ≡ m.ready → ((seat : Seat) → seat_at m.seats.items i ≡ Some seat → under ≡ seat.who.scope) → before ≡ length m.seats.items → HasMoved shape code U m' k i under before G a.0
+has-moved shape code U m m' k i under before G come fold t ready a same hung size =
     let slot = subst (λ (o : Option Seat). SlotIs shape (tree_in U G) G.players i o) t.at (t.can.holds.seats i) in
     record {
-      can = can-turn stands shape code U m' a.0 come fold a.2 (stays_open U k G a.0 a.1 t.can.unreleased);
+      can = can-turn shape code U m' a.0 come fold a.2 (stays_open U k G a.0 a.1 t.can.unreleased);
       turn = a.1;
       reached = t.can.reached;
-      mover = t.seat.row;
+      mover = row_of t.seat;
       picked = t.picked;
-      number = live_number (tree_in U G) i t.seat.row slot.2.row;
-      found = subst (λ (v : ℕ). task_of (tree_in U G) (record { 0 = v }) ≡ Some t.seat.row) (sym (live_number (tree_in U G) i t.seat.row slot.2.row)) (live_stands (tree_in U G) i t.seat.row slot.2.row).0;
+      number = live_number (tree_in U G) i (row_of t.seat) slot.3.row;
+      found = subst (λ (v : ℕ). task_of (tree_in U G) (record { 0 = v }) ≡ Some (row_of t.seat)) (sym (live_number (tree_in U G) i (row_of t.seat) slot.3.row)) (live_stands (tree_in U G) i (row_of t.seat) slot.3.row).0;
       hung = sym (hung t.seat t.at);
       slots = size ∙ t.can.holds.shares.slots;
-      ready = subst (λ (r : Ready). IsReady (tree_in U G) r.tasks.members) (sym same) ready;
+      ready = subst (λ (r : Numbers). IsReady (tree_in U G) r.members) (sym same) ready;
     }
 
 -- there is room for the numbers of all slots
-pub room-left : {L : Type 0} (stands : L → ℕ → Tree → Type 0) (shape : Shape) (code : Block) (U : Given) (m m' : Machine L) (k i : ℕ) (G : Game) → Taken stands shape code U m k i G → AfterTurn stands shape code U m' k G → m'.ready ≡ m.ready → length m.seats.items < m.ready.tasks.room → length m'.seats.items ≤ m'.ready.tasks.room
-room-left stands shape code U m m' k i G t a same room =
+pub room-left : {L : Type 0} (shape : Shape) (code : Block) (U : Given) (m m' : Machine L) (k i : ℕ) (G : Game) → Taken shape code U m k i G → AfterTurn shape code U m' k G → m'.ready ≡ m.ready → length m.seats.items < m.ready.room → length m'.seats.items ≤ m'.ready.room
+room-left shape code U m m' k i G t a same room =
     let most = (turn-grows U k true G a.0 a.1).most in
     let old = t.can.holds.shares.slots in
     let new = a.2.shares.slots in
-    let size : m'.ready.tasks.room ≡ m.ready.tasks.room = ap (λ (r : Ready). r.tasks.room) same in
+    let size : m'.ready.room ≡ m.ready.room = ap (λ (r : Numbers). r.room) same in
     omega (arith, most, old, new, room, size)
 
 -- the slot of the task is there still
-pub inside-still : {L : Type 0} (stands : L → ℕ → Tree → Type 0) (shape : Shape) (code : Block) (U : Given) (m m' : Machine L) (k i : ℕ) (G : Game) → Taken stands shape code U m k i G → AfterTurn stands shape code U m' k G → i < length m'.seats.items
-inside-still stands shape code U m m' k i G t a =
+pub inside-still : {L : Type 0} (shape : Shape) (code : Block) (U : Given) (m m' : Machine L) (k i : ℕ) (G : Game) → Taken shape code U m k i G → AfterTurn shape code U m' k G → i < length m'.seats.items
+inside-still shape code U m m' k i G t a =
     let least = (turn-grows U k true G a.0 a.1).least in
     let old = t.can.holds.shares.slots in
     let new = a.2.shares.slots in
@@ -324,74 +284,32 @@ inside-still stands shape code U m m' k i G t a =
     omega (arith, least, old, new, inside)
 
 -- the turn was noted
-pub went-on : {L : Type 0} (stands : L → ℕ → Tree → Type 0) (shape : Shape) (code : Block) (U : Given) (m m' : Machine L) (k i : ℕ) (under : ScopeId) (before : ℕ) (G H : Game) → HasMoved stands shape code U m k i under before G H → m' ≡ record m { ready = m'.ready } → IsReady (tree_in U H) m'.ready.tasks.members → TellsOrigins (tree_in U H) m'.ready.origins.items → WentOn stands shape code U m' k true G
-went-on {L = L} stands shape code U m m' k i under before G H h same ready told = (
+pub went-on : {L : Type 0} (shape : Shape) (code : Block) (U : Given) (m m' : Machine L) (k i : ℕ) (under : ScopeId) (before : ℕ) (G H : Game) → HasMoved shape code U m k i under before G H → m' ≡ record m { ready = m'.ready } → IsReady (tree_in U H) m'.ready.members → WentOn shape code U m' k true G
+went-on {L = L} shape code U m m' k i under before G H h same ready = (
   H,
   h.turn,
   record {
-    seated = subst (λ (x : Machine L). Seated stands shape code U x H) (sym same) (seated-same stands shape code U m m'.ready H h.can.holds);
+    seated = subst (λ (x : Machine L). Seated shape code U x H) (sym same) (can-same shape code U m m'.ready H h.can).holds;
     unreleased = h.can.unreleased;
     ready = ready;
-    origins = told;
   },
 )
 
--- a turn without a pick opens no scope
-turn-tells : (U : Given) (k : ℕ) (G H : Game) (origins : List Origin) (all here : ℕ) → MayCome all here G.entries G.plan → Turn U k G false H → TellsOrigins (tree_in U G) origins → TellsOrigins (tree_in U H) origins
-turn-tells U k G H origins all here come (due (Step t act batch) is) h = absurd (due_planned (length G.entries) all here G.entries G.plan (Step t act batch) is come)
-turn-tells U k G H origins all here come (due (Root lost masked thrown) is) h = absurd (due_planned (length G.entries) all here G.entries G.plan (Root lost masked thrown) is come)
-turn-tells U k G H origins all here come (due (Death d) is) h =
-    subst (λ (T : Tree). TellsOrigins T origins) (sym (tree-push U.places G.entries (Death d))) (record { size = h.size; tells = h.tells })
-turn-tells U k G H origins all here come (due (Join p) is) h =
-    subst (λ (T : Tree). TellsOrigins T origins) (sym (tree-push U.places G.entries (Join p))) (record { size = h.size; tells = h.tells })
-turn-tells U k G H origins all here come (root lost masked thrown none_due none may) h =
-    subst (λ (T : Tree). TellsOrigins T origins) (sym (tree-push U.places G.entries (Root lost masked thrown))) (tells_without (tree_in U G) the_root origins h)
-
 -- the death was noted
-pub died-on : {L : Type 0} (stands : L → ℕ → Tree → Type 0) (shape : Shape) (code : Block) (U : Given) (m m' : Machine L) (k : ℕ) (G : Game) (old : List ℕ) (all here : ℕ) → MayCome all here G.entries G.plan → ReachedSound → Reached (tree_in U G) → (a : HasFallen stands shape code U m k G) → CanTurn stands shape code U m a.0 → IsReady (tree_in U G) old → m' ≡ record m { ready = m'.ready } → (Ascends 0 old → Ascends 0 m'.ready.tasks.members) → ((n : ℕ) → n < length m.seats.items → is_listed n m'.ready.tasks.members ≡ slot_able (tree_in U a.0) (seat_at m.seats.items n)) → ((n : ℕ) → length m.seats.items ≤ n → is_listed n m'.ready.tasks.members ≡ is_listed n old) → TellsOrigins (tree_in U G) m'.ready.origins.items → WentOn stands shape code U m' k false G
-died-on {L = L} stands shape code U m m' k G old all here come sound reached a can ready same ascends noted others told = (
+pub died-on : {L : Type 0} (shape : Shape) (code : Block) (U : Given) (m m' : Machine L) (k : ℕ) (G : Game) (old : List ℕ) → ReachedSound → Reached (tree_in U G) → (a : HasFallen shape code U m k G) → CanTurn shape code U m a.0 → IsReady (tree_in U G) old → m' ≡ record m { ready = m'.ready } → (Ascends 0 old → Ascends 0 m'.ready.members) → ((n : ℕ) → n < length m.seats.items → is_listed n m'.ready.members ≡ slot_able (tree_in U a.0) (seat_at m.seats.items n)) → ((n : ℕ) → length m.seats.items ≤ n → is_listed n m'.ready.members ≡ is_listed n old) → WentOn shape code U m' k false G
+died-on {L = L} shape code U m m' k G old sound reached a can ready same ascends noted others = (
   a.0,
   a.1,
   record {
-    seated = subst (λ (x : Machine L). Seated stands shape code U x a.0) (sym same) (seated-same stands shape code U m m'.ready a.0 a.2.0);
+    seated = subst (λ (x : Machine L). Seated shape code U x a.0) (sym same) (can-same shape code U m m'.ready a.0 can).holds;
     unreleased = a.2.1;
     ready =
-        noted-all shape (tree_in U G) (tree_in U a.0) a.0.players m.seats.items old m'.ready.tasks.members
+        noted-all shape (tree_in U G) (tree_in U a.0) a.0.players m.seats.items old m'.ready.members
         (sound (tree_in U G) reached) (sound (tree_in U a.0) can.reached) (turn-grows U k false G a.0 a.1) a.2.0.shares.slots a.2.0.seats ready ascends noted others;
-    origins = turn-tells U k G a.0 m'.ready.origins.items all here come a.1 told;
   },
 )
 
 -- a turn can be made where there is more room
-pub roomy-can : {L : Type 0} (stands : L → ℕ → Tree → Type 0) (shape : Shape) (code : Block) (U : Given) (m m' : Machine L) (G : Game) → GamesCome → FoldReached → m' ≡ record m { history = m'.history; ready = m'.ready } → (m'.history.entries ≡ m.history.entries) × (m'.history.setup ≡ m.history.setup) → Holds stands shape code U m G → CanTurn stands shape code U m' G
-roomy-can {L = L} stands shape code U m m' G come fold same told h =
-    subst (λ (x : Machine L). CanTurn stands shape code U x G) (sym same)
-    (can-same stands shape code U (record m { history = m'.history }) m'.ready G
-    (can-turn stands shape code U (record m { history = m'.history }) G come fold (roomier stands shape code U m m'.history G told.0 told.1 h.seated) h.unreleased))
-
--- The last entry.
-
-last-item : (es : List Entry) (e : Entry) (n : ℕ) → n ≡ length (es ++ e ∷ []) - 1 → slice_get (es ++ e ∷ []) n ≡ Some e
-last-item es e n at =
-    let size : length (es ++ e ∷ []) ≡ suc (length es) = length-push es e in
-    let here : n ≡ length es = omega (arith, at, size) in
-    ap (λ (v : ℕ). slice_get (es ++ e ∷ []) v) here ∙ get-pushed es e
-
--- the origin that it tells is that of the act
-pub last-origin : (U : Given) (k : ℕ) (G H : Game) (es : List Entry) (e : Entry) (n : ℕ) → (turn : Turn U k G true H) → es ≡ H.entries → n ≡ length es - 1 → slice_get es n ≡ Some e → origin_by e ≡ origin_in (turn-act U k G H turn).task.number (turn-act U k G H turn).act
-last-origin U k G H es e n turn same at got =
-    let a : TurnAct U k G H = turn-act U k G H turn in
-    let all : es ≡ G.entries ++ Step a.task.number a.act a.batch ∷ [] = same ∙ a.entries in
-    let last : slice_get es n ≡ Some (Step a.task.number a.act a.batch) =
-    subst (λ (xs : List Entry). slice_get xs n ≡ Some (Step a.task.number a.act a.batch)) (sym all) (last-item G.entries (Step a.task.number a.act a.batch) n (at ∙ ap (λ (xs : List Entry). length xs - 1) all))
-    in
-    let is : e ≡ Step a.task.number a.act a.batch = (let q : Some e ≡ Some (Step a.task.number a.act a.batch) = sym got ∙ last in cc) in
-    ap origin_by is
-
--- with its row the table tells of the scopes after the turn
-pub turn-told : (U : Given) (k : ℕ) (G H : Game) (origins : List Origin) (o : Option Origin) → (turn : Turn U k G true H) → o ≡ origin_in (turn-act U k G H turn).task.number (turn-act U k G H turn).act → TellsOrigins (tree_in U G) origins → TellsOrigins (tree_in U H) (with_row o origins)
-turn-told U k G H origins o turn e h =
-    let a : TurnAct U k G H = turn-act U k G H turn in
-    subst (λ (T : Tree). TellsOrigins T (with_row o origins)) (sym a.tree)
-    (subst (λ (v : Option Origin). TellsOrigins (made_act (tree_in U G) a.task.number a.act) (with_row v origins)) (sym e)
-    (tells_act (tree_in U G) a.task.number a.act origins a.allowed h))
+pub roomy-can : {L : Type 0} (shape : Shape) (code : Block) (U : Given) (m : Machine L) (c : Log) (r : Numbers) (G : Game) → GamesCome → FoldReached → (c.entries ≡ m.chronicle.entries) × (c.setup ≡ m.chronicle.setup) → Holds shape code U m G → CanTurn shape code U (record m { chronicle = c; ready = r }) G
+roomy-can shape code U m c r G come fold told h =
+    can-turn shape code U (record m { chronicle = c; ready = r }) G come fold (seated-on m (record m { chronicle = c; ready = r }) told.0 told.1 refl refl refl h.seated) h.unreleased

@@ -1,21 +1,56 @@
 -- The own scopes of tasks after each kind of change, and slots that a change leaves as they were.
 use Rattle.std.specs.Prelude.{◌≡◌, ◌≢◌, ℕ, Bool, true, false, cond, ◌==◌, List, [], ◌∷◌, ◌++◌, map, filter, reverse, Option, Some, None, slice_get, refl}
+use Rattle.std.specs.List.{find}
 use Rattle.std.proofs.Common.{ap, ◌∙◌, sym, subst}
 use Rattle.std.proofs.lemmas.Bool.{eq-eqb, ne_eqb}
 use Rattle.rx_base.specs.declared.ids.TaskId.{TaskId}
 use Rattle.rx_base.specs.declared.ids.ScopeId.{ScopeId}
 use Rattle.rx_base.specs.declared.values.Fault.{Fault}
+use Rattle.rx_base.proofs.SameIds.{task-is}
 use Rattle.rx_rules.specs.declared.tasks.Task.{Task}
 use Rattle.rx_rules.specs.declared.tasks.Scope.{Scope}
 use Rattle.rx_rules.specs.declared.tasks.Kind.{Kind}
-use Rattle.rx_rules.specs.Tree.{Tree, task_of, opened_by}
+use Rattle.rx_rules.specs.Tree.{Tree, task_of, inner, opened_by}
 use Rattle.rx_rules.specs.Entries.{change_first, change_scope, opened, after_end}
 use Rattle.rx_rules.specs.Picked.{Player}
-use Rattle.rx_nodes.specs.Shape.{Shape}
-use Rattle.rx_seats.specs.declared.seat.Seat.{Seat}
-use Rattle.rx_machine.specs.Slots.{live_task, own_scopes, own_kinds, SlotIs}
-use Rattle.rx_terms.specs.Spine.{Spine}
-use Rattle.rx_machine.proofs.Live.{without_task}
+use Rattle.rx_syntax.specs.Shape.{Shape}
+use Rattle.rx_machine.specs.declared.seat.Seat.{Seat}
+use Rattle.rx_machine.specs.Slots.{row_of, live_task, own_kinds, SlotIs}
+use Rattle.rx_sound.specs.Spine.{Spine}
+use Rattle.rx_machine.proofs.Live.{live_number, without_task}
+
+-- the scopes that a task opened and that stand, the newest first
+abbrev pub own_scopes : Tree → ℕ → List ScopeId
+own_scopes T n = map (λ g. g.number) (filter (opened_by (record { 0 = n })) T.scopes)
+
+-- the newest of them, or else the scope that the task hangs under
+abbrev pub newest : List ScopeId → ScopeId → ScopeId
+newest [] under = under
+newest (s ∷ ss) under = s
+
+first_found : (p : Scope → Bool) (gs : List Scope) (under : ScopeId) → (elim (find p gs) as (λ _. ScopeId) [ Some g ↦ g.number | None ↦ under ]) ≡ newest (map (λ g. g.number) (filter p gs)) under
+first_found p [] under = refl
+first_found p (g ∷ gs) under =
+    elim (p g) as (λ b. (elim (cond b (Some g) (find p gs)) as (λ _. ScopeId) [ Some g ↦ g.number | None ↦ under ]) ≡ newest (map (λ g. g.number) (cond b (g ∷ filter p gs) (filter p gs))) under) [
+      | true ↦ refl
+      | false ↦ first_found p gs under
+    ]
+
+-- that is the innermost scope of the task
+pub inner-newest : (T : Tree) (n : ℕ) (x : Task) → x.number.0 ≡ n → inner T x ≡ newest (own_scopes T n) x.under
+inner-newest T n x number =
+    let id : x.number ≡ record { 0 = n } = task-is x.number (record { 0 = n }) number in
+    subst (λ (t : TaskId). (elim (find (opened_by t) T.scopes) as (λ _. ScopeId) [ Some g ↦ g.number | None ↦ x.under ]) ≡ newest (own_scopes T n) x.under) (sym id)
+    (first_found (opened_by (record { 0 = n })) T.scopes x.under)
+
+-- where the own scopes are the same, so is the innermost one
+pub inner-same : (T T' : Tree) (n : ℕ) (x : Task) → x.number.0 ≡ n → own_scopes T' n ≡ own_scopes T n → inner T' x ≡ inner T x
+inner-same T T' n x number own =
+    inner-newest T' n x number ∙ (ap (λ (ss : List ScopeId). newest ss x.under) own ∙ sym (inner-newest T n x number))
+
+-- and where a scope is the newest, it is the innermost one
+pub inner-opened : (T : Tree) (n : ℕ) (x : Task) (s : ScopeId) (ss : List ScopeId) → x.number.0 ≡ n → own_scopes T n ≡ s ∷ ss → inner T x ≡ s
+inner-opened T n x s ss number own = inner-newest T n x number ∙ ap (λ (v : List ScopeId). newest v x.under) own
 
 -- the own scopes of a task, their numbers and kinds, are those of another tree
 abbrev pub SameOwn : Tree → Tree → ℕ → Type 0
@@ -67,16 +102,16 @@ release-own T T' n e = (ap (map (λ g. g.number)) e, ap (map (λ g. g.kind)) e)
 pub slot-on : (shape : Shape) (T T' : Tree) (ps ps' : List Player) (n : ℕ) (o : Option Seat) → live_task T' n ≡ live_task T n → ((x : Task) → live_task T n ≡ Some x → SameOwn T T' n) → slice_get ps' n ≡ slice_get ps n → SlotIs shape T ps n o → SlotIs shape T' ps' n o
 slot-on shape T T' ps ps' n None live own player h = live ∙ h
 slot-on shape T T' ps ps' n (Some seat) live own player h =
-    let s = h.2 in
-    let o = own seat.row s.row in (
+    let s = h.3 in
+    let o = own (row_of seat) s.row in (
       h.0,
       player ∙ h.1,
+      h.2,
       record {
         row = live ∙ s.row;
-        scopes = o.0 ∙ s.scopes;
+        inner = inner-same T T' n (row_of seat) (live_number T n (row_of seat) s.row) o.0 ∙ s.inner;
         term = s.term;
         vars = s.vars;
-        batch = s.batch;
         waits = s.waits;
         held = s.held;
         spine = subst (λ (ks : List Kind). Spine h.0.term (reverse ks)) (sym o.1) s.spine;

@@ -2,7 +2,7 @@
 use Rattle.std.specs.Prelude.{◌≤◌}
 use Rattle.rx_rules.specs.Code.{Block, work}
 use Rattle.rx_rules.specs.Run.{Given, Proper}
-use Rattle.rx_nodes.specs.Grammar.{AllInRange}
+use Rattle.rx_syntax.specs.Grammar.{AllInRange}
 use Rattle.rx_control.proofs.SomeWords.{makes-some}
 use Rattle.rx_machine.specs.Holds.{RunsOn}
 

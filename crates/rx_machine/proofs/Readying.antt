@@ -9,10 +9,9 @@ use Rattle.rx_rank.specs.Numbers.{Ascends, inserted, removed, marked}
 use Rattle.rx_sound.specs.Sound.{Sound}
 use Rattle.rx_sound.specs.Enabling.{able, able_in}
 use Rattle.rx_sound.proofs.Reach.{task_below}
-use Rattle.rx_nodes.specs.Shape.{Shape}
-use Rattle.rx_seats.specs.declared.seat.Seat.{Seat}
-use Rattle.rx_seats.specs.Slots.{seat_at}
-use Rattle.rx_machine.specs.Slots.{live_in, SlotIs}
+use Rattle.rx_syntax.specs.Shape.{Shape}
+use Rattle.rx_machine.specs.declared.seat.Seat.{Seat}
+use Rattle.rx_machine.specs.Slots.{row_of, seat_at, live_in, SlotIs}
 use Rattle.rx_machine.specs.Picking.{slot_able, is_listed, IsReady}
 use Rattle.rx_machine.proofs.Live.{live_stands}
 use Rattle.rx_machine.proofs.EnabledTasks.{able_from}
@@ -178,7 +177,7 @@ able_has T i (suc j) (o ∷ os) =
 
 -- a slot is enabled where the task of its number is
 pub slot_task : (shape : Shape) (T : Tree) (ps : List Player) (n : ℕ) (o : Option Seat) → SlotIs shape T ps n o → slot_able T o ≡ able T (record { 0 = n })
-slot_task shape T ps n (Some seat) is = sym (ap (able_in T) (live_stands T n seat.row is.2.row).0)
+slot_task shape T ps n (Some seat) is = sym (ap (able_in T) (live_stands T n (row_of seat) is.3.row).0)
 slot_task shape T ps n None none = sym (off (task_of T (record { 0 = n })) none) where
   off : (o : Option Task) → live_in o ≡ None → able_in T o ≡ false
   off None h = refl

@@ -4,12 +4,12 @@ use Rattle.std.proofs.Common.{ap, sym, ◌∙◌}
 use Rattle.rx_base.specs.declared.ids.PlaceId.{PlaceId}
 use Rattle.rx_base.specs.declared.values.Fault.{Fault}
 use Rattle.rx_rules.specs.Terms.{Does, Local, Makes, Gets, Puts, Forgets, Opens, Calls, Spawns, Waits, Releases, Prints, Counts, Done}
-use Rattle.rx_plan.specs.declared.step.CellOp.{CellOp}
-use Rattle.rx_plan.specs.declared.step.Want.{Want}
-use Rattle.rx_plan.specs.declared.step.Want.TheVariants.{Open, At, Spawn, Wait, Release, Print, Census}
-use Rattle.rx_plan.specs.declared.step.Next.{Next}
-use Rattle.rx_plan.specs.declared.step.Next.TheVariants.{Local as LocalStep, Cell, Book, Done as Ended}
-use Rattle.rx_plan.specs.Next.{next_of}
+use Rattle.rx_history.specs.declared.step.CellOp.{CellOp}
+use Rattle.rx_history.specs.declared.step.Want.{Want}
+use Rattle.rx_history.specs.declared.step.Want.TheVariants.{Open, At, Spawn, Wait, Release, Print, Census}
+use Rattle.rx_history.specs.declared.step.Next.{Next}
+use Rattle.rx_history.specs.declared.step.Next.TheVariants.{Local as LocalStep, Cell, Book, Done as Ended}
+use Rattle.rx_history.specs.Next.{next_of}
 use Rattle.rx_plan.proofs.Requests.{asks_open, asks_call, asks_spawn, asks_wait, asks_release, asks_print, asks_census, asks_end}
 use Rattle.rx_machine.specs.Inside.Requests.{IsAsked, IsRequest}
 

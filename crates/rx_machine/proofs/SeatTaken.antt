@@ -1,5 +1,5 @@
 -- The start of a turn: the seat of the task that moves is taken out of its slot.
-use Rattle.std.specs.Prelude.{◌≡◌, ℕ, ◌<◌, ◌≤◌, List, length, Option, Some, None, slice_get, slice_set}
+use Rattle.std.specs.Prelude.{◌≡◌, ℕ, ◌<◌, ◌≤◌, List, [], length, Option, Some, None, slice_get, slice_set}
 use Rattle.std.proofs.Common.{arith, ap, ◌∙◌, sym, subst}
 use Rattle.std.proofs.lemmas.List.{length-set}
 use Rattle.rx_base.specs.declared.ids.PlaceId.{PlaceId}
@@ -17,13 +17,12 @@ use Rattle.rx_sound.specs.Sound.{Sound, Inside}
 use Rattle.rx_sound.proofs.Reach.{fits_of}
 use Rattle.rx_runs.specs.Coming.{CameTo, GamesCome}
 use Rattle.rx_runs.proofs.Pairs.{pairs-get, journal_got, set_same}
-use Rattle.rx_history.specs.Setups.{given, to_join}
-use Rattle.rx_nodes.specs.Shape.{Shape}
+use Rattle.rx_history.specs.Setups.{given}
+use Rattle.rx_syntax.specs.Shape.{Shape}
 use Rattle.rx_machine.specs.declared.machine.Machine.{Machine}
-use Rattle.rx_seats.specs.declared.seat.Seat.{Seat}
-use Rattle.rx_seats.specs.Slots.{seat_at, seat_in}
-use Rattle.rx_machine.specs.Slots.{IsSeat, SlotIs}
-use Rattle.rx_stores.specs.Kepts.{StoresAre}
+use Rattle.rx_machine.specs.declared.seat.Seat.{Seat}
+use Rattle.rx_machine.specs.Slots.{row_of, seat_at, seat_in, IsSeat, SlotIs}
+use Rattle.rx_store.specs.Kepts.{StoresAre}
 use Rattle.rx_machine.specs.Holds.{Seated, HoldsBut, IsPick, Acting, Landing}
 use Rattle.rx_machine.specs.Runs.{Taken}
 use Rattle.rx_machine.proofs.Acted.{seat_other}
@@ -39,31 +38,31 @@ pub record Found (shape : Shape) (U : Given) (k i : ℕ) (seat : Seat) (G : Game
   pub pick : IsPick U k i seat G
   pub player : Player
   pub is_player : slice_get G.players i ≡ Some player
+  pub none_begun : player.batch ≡ []
   pub seat_is : IsSeat shape (tree_in U G) i player seat
 
-pub found : {L : Type 0} (stands : L → ℕ → Tree → Type 0) (shape : Shape) (code : Block) (U : Given) (m : Machine L) (k i : ℕ) (seat : Seat) (G : Game) → Taken stands shape code U m k i G → seat_at m.seats.items i ≡ Some seat → Found shape U k i seat G
-found stands shape code U m k i seat G t at =
+pub found : {L : Type 0} (shape : Shape) (code : Block) (U : Given) (m : Machine L) (k i : ℕ) (seat : Seat) (G : Game) → Taken shape code U m k i G → seat_at m.seats.items i ≡ Some seat → Found shape U k i seat G
+found shape code U m k i seat G t at =
     let T = tree_in U G in
     let same : t.seat ≡ seat = let e : Some t.seat ≡ Some seat = sym t.at ∙ at in cc in
-    let slot : (p : Player) × (slice_get G.players i ≡ Some p) × IsSeat shape T i p seat = subst (λ (o : Option Seat). SlotIs shape T G.players i o) at (t.can.holds.seats i) in
+    let slot : (p : Player) × (slice_get G.players i ≡ Some p) × (p.batch ≡ []) × IsSeat shape T i p seat = subst (λ (o : Option Seat). SlotIs shape T G.players i o) at (t.can.holds.seats i) in
     record {
-      pick = record { stands = t.can.unreleased; none_due = t.none_due; picked = t.picked ∙ ap (λ (s : Seat). Some s.row) same; number = live_number T i seat.row slot.2.row };
+      pick = record { stands = t.can.unreleased; none_due = t.none_due; picked = t.picked ∙ ap (λ (s : Seat). Some (row_of s)) same; number = live_number T i (row_of seat) slot.3.row };
       player = slot.0;
       is_player = slot.1;
-      seat_is = slot.2;
+      none_begun = slot.2;
+      seat_is = slot.3;
     }
 
-pub holds-but : {L : Type 0} (stands : L → ℕ → Tree → Type 0) (shape : Shape) (code : Block) (U : Given) (m m' : Machine L) (i : ℕ) (G : Game) → Seated stands shape code U m G → i < length m.seats.items → Emptied m m' i → HoldsBut stands shape code U m' i G
-holds-but {L = L} stands shape code U m m' i G h inside e =
+pub holds-but : {L : Type 0} (shape : Shape) (code : Block) (U : Given) (m m' : Machine L) (i : ℕ) (G : Game) → Seated shape code U m G → i < length m.seats.items → Emptied m m' i → HoldsBut shape code U m' i G
+holds-but {L = L} shape code U m m' i G h inside e =
     let s = h.shares in
     record {
       shares = record {
         on = s.on;
         comes = s.comes;
-        setup = ap (λ (x : Machine L). given x.history.setup) e.same ∙ s.setup;
-        entries = ap (λ (x : Machine L). x.history.entries) e.same ∙ s.entries;
-        plan = ap (λ (x : Machine L). x.plan) e.same ∙ s.plan;
-        ledger = subst (λ (x : Machine L). stands x.ledger (to_join U (tree_in U G)) (tree_in U G)) (sym e.same) s.ledger;
+        setup = ap (λ (x : Machine L). given x.chronicle.setup) e.same ∙ s.setup;
+        entries = ap (λ (x : Machine L). x.chronicle.entries) e.same ∙ s.entries;
         slots = ap (λ xs. length xs) e.left ∙ (length-set m.seats.items i None ∙ s.slots);
         failed = ap (λ (x : Machine L). x.failed) e.same ∙ s.failed;
       };
@@ -78,14 +77,15 @@ pub inside-still : {L : Type 0} (m m' : Machine L) (i : ℕ) → Emptied m m' i 
 inside-still m m' i e inside = subst (λ (n : ℕ). i < n) (sym (ap (λ xs. length xs) e.left ∙ length-set m.seats.items i None)) inside
 
 -- a task that travels is landing
-pub lands : {L : Type 0} (stands : L → ℕ → Tree → Type 0) (shape : Shape) (code : Block) (U : Given) (m m' : Machine L) (k i : ℕ) (from to : PlaceId) (seat : Seat) (G : Game) → Taken stands shape code U m k i G → seat_at m.seats.items i ≡ Some seat → Emptied m m' i → seat.row.place ≡ Travel from to → Landing stands shape code U m' k i to seat G
-lands stands shape code U m m' k i from to seat G t at e travels =
-    let f = found stands shape code U m k i seat G t at in
+pub lands : {L : Type 0} (shape : Shape) (code : Block) (U : Given) (m m' : Machine L) (k i : ℕ) (from to : PlaceId) (seat : Seat) (G : Game) → Taken shape code U m k i G → seat_at m.seats.items i ≡ Some seat → Emptied m m' i → seat.who.place ≡ Travel from to → Landing shape code U m' k i to seat G
+lands shape code U m m' k i from to seat G t at e travels =
+    let f = found shape code U m k i seat G t at in
     record {
-      but = holds-but stands shape code U m m' i G t.can.holds t.inside e;
+      but = holds-but shape code U m m' i G t.can.holds t.inside e;
       pick = f.pick;
       player = f.player;
       is_player = f.is_player;
+      none_begun = f.none_begun;
       seat_is = f.seat_is;
       from = from;
       travels = travels;
@@ -95,13 +95,13 @@ lands stands shape code U m m' k i from to seat G t at e travels =
     }
 
 -- a task at a place is acting, as the player that it was
-pub acts : {L : Type 0} (stands : L → ℕ → Tree → Type 0) (shape : Shape) (code : Block) (U : Given) (m m' : Machine L) (k i : ℕ) (here : PlaceId) (seat : Seat) (G : Game) → GamesCome → ((T : Tree) → Reached T → Sound T) → Taken stands shape code U m k i G → seat_at m.seats.items i ≡ Some seat → Emptied m m' i → seat.row.place ≡ At here → (q : Player) × Acting stands shape code U m' k i here q seat G
-acts stands shape code U m m' k i here seat G come sound t at e is_at =
+pub acts : {L : Type 0} (shape : Shape) (code : Block) (U : Given) (m m' : Machine L) (k i : ℕ) (here : PlaceId) (seat : Seat) (batch : List (List ℕ)) (G : Game) → GamesCome → ((T : Tree) → Reached T → Sound T) → Taken shape code U m k i G → seat_at m.seats.items i ≡ Some seat → Emptied m m' i → seat.who.place ≡ At here → batch ≡ [] → (q : Player) × Acting shape code U m' k i here q (record { seat = seat; batch = batch }) G
+acts shape code U m m' k i here seat batch G come sound t at e is_at none =
     let T = tree_in U G in
-    let f = found stands shape code U m k i seat G t at in
+    let f = found shape code U m k i seat G t at in
     let came : CameTo code U G = come code U G t.can.holds.shares.on.proper t.can.holds.shares.comes t.can.unreleased in
-    let row = live_stands T i seat.row f.seat_is.row in
-    let fits = fits_of T (record { 0 = i }) seat.row (sound T t.can.reached) row.0 in
+    let row = live_stands T i (row_of seat) f.seat_is.row in
+    let fits = fits_of T (record { 0 = i }) (row_of seat) (sound T t.can.reached) row.0 in
     let place : here.0 < T.places = subst (λ (w : Where). Inside T.places w) is_at fits.inside in
     let most : T.places ≤ in_all U = came.ok.ties.within in
     let stored : here.0 < in_all U = omega (arith, place, most) in
@@ -110,13 +110,13 @@ acts stands shape code U m m' k i here seat G come sound t at e is_at =
     let got : slice_get G.journals here.0 ≡ Some (journal_at G.journals here.0) = both.at_left ∙ ap (λ (j : List PlaceEvent). Some j) (sym (journal_got G.journals here.0 both.left both.at_left)) in (
       f.player,
       record {
-        but = holds-but stands shape code U m m' i G t.can.holds t.inside e;
+        but = holds-but shape code U m m' i G t.can.holds t.inside e;
         pick = f.pick;
         began = f.player;
         store = both.right;
         left = both.right;
         events = journal_at G.journals here.0;
-        gone = record { player = f.is_player; store = both.at_right; is_at = is_at; goes = stays; seat_is = f.seat_is };
+        gone = record { player = f.is_player; store = both.at_right; is_at = is_at; goes = stays; seat_is = f.seat_is; batch = none ∙ sym f.none_begun };
         numbers = t.can.numbers;
         reached = t.can.reached;
         inside = inside-still m m' i e t.inside;

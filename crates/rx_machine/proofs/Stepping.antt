@@ -1,5 +1,5 @@
 -- One step more of a task that makes its turn.
-use Rattle.std.specs.Prelude.{◌≡◌, ℕ, ◌+◌, ◌*◌, ◌≤◌, false, List, [], ◌∷◌, ◌++◌, reverse, length, Some, None, slice_set, refl}
+use Rattle.std.specs.Prelude.{◌≡◌, ℕ, ◌+◌, ◌*◌, ◌≤◌, Bool, false, List, [], ◌∷◌, ◌++◌, reverse, length, Some, None, slice_set, refl}
 use Rattle.std.proofs.Common.{ap, ◌∙◌, sym, subst, arith}
 use Rattle.rx_base.specs.declared.ids.PlaceId.{PlaceId}
 use Rattle.rx_base.specs.declared.ids.TaskId.{TaskId}
@@ -9,31 +9,35 @@ use Rattle.rx_rules.specs.declared.events.PlaceEvent.{PlaceEvent}
 use Rattle.rx_rules.specs.declared.events.PlaceEvent.TheVariants.{Done as Did}
 use Rattle.rx_rules.specs.Code.{Block, work}
 use Rattle.rx_rules.specs.Terms.{Term, Vars, Answer, answered, vars_after, Does, Local, Makes, Gets, Puts, Forgets, Opens, Calls, Spawns, Waits, Releases, Prints, Counts, Done, does, begins}
-use Rattle.rx_rules.specs.Tree.{Tree}
+use Rattle.rx_rules.specs.Tree.{Tree, inner}
 use Rattle.rx_rules.specs.Store.{State, MayCell, after_cell}
 use Rattle.rx_rules.specs.Plays.{Tells, begun, journal_at}
 use Rattle.rx_rules.specs.Run.{Given}
 use Rattle.rx_rules.specs.Picked.{Game, Player, Goes, stays, local, stores, tree_in}
 use Rattle.rx_runs.specs.Steps.{steps, Sinks, TermSinks}
 use Rattle.rx_runs.specs.Left.{FewLeft, GoingSinks}
-use Rattle.rx_history.specs.Setups.{given, to_join}
-use Rattle.rx_nodes.specs.Shape.{Shape}
-use Rattle.rx_plan.specs.declared.step.Next.TheVariants.{Local as LocalStep, Book, Done as Ended}
-use Rattle.rx_plan.specs.declared.step.Want.{Want}
-use Rattle.rx_plan.specs.declared.step.Next.{Next}
-use Rattle.rx_plan.specs.Next.{next_of}
+use Rattle.rx_history.specs.Setups.{given}
+use Rattle.rx_syntax.specs.Shape.{Shape}
+use Rattle.rx_history.specs.declared.step.Next.TheVariants.{Local as LocalStep, Book, Done as Ended}
+use Rattle.rx_history.specs.declared.step.Want.{Want}
+use Rattle.rx_history.specs.declared.step.Next.{Next}
+use Rattle.rx_history.specs.Next.{next_of}
 use Rattle.rx_control.specs.Stands.{StandsFor, Leaves}
+use Rattle.rx_control.specs.declared.control.Control.{Control}
 use Rattle.rx_plan.proofs.Told.{told_local}
 use Rattle.rx_machine.specs.declared.machine.Machine.{Machine}
-use Rattle.rx_seats.specs.declared.seat.Seat.{Seat}
-use Rattle.rx_terms.specs.Held.{is_held}
-use Rattle.rx_machine.specs.Slots.{IsSeat, own_kinds}
-use Rattle.rx_stores.specs.Kepts.{StoresAre}
+use Rattle.rx_finish.specs.declared.ledger.Caller.{Caller}
+use Rattle.rx_machine.specs.declared.seat.Seat.{Seat}
+use Rattle.rx_machine.specs.declared.seat.Mover.{Mover}
+use Rattle.rx_sound.specs.Held.{is_held, HeldInFront}
+use Rattle.rx_sound.specs.Spine.{Spine}
+use Rattle.rx_machine.specs.Slots.{row_of, IsSeat, own_kinds}
+use Rattle.rx_store.specs.Kepts.{StoresAre}
 use Rattle.rx_machine.specs.Holds.{Shares, Acting}
 use Rattle.rx_machine.specs.Inside.Requests.{IsAsked, OnlyStores, AfterStep}
-use Rattle.rx_terms.proofs.Holding.{AfterLocal, after-local}
-use Rattle.rx_terms.proofs.Granting.{not_held}
-use Rattle.rx_terms.proofs.Spines.{LeavesSpine, spine-local}
+use Rattle.rx_sound.proofs.Holding.{AfterLocal, after-local}
+use Rattle.rx_sound.proofs.Granting.{not_held}
+use Rattle.rx_sound.proofs.Spines.{LeavesSpine, spine-local}
 
 -- Steps at the end.
 
@@ -49,33 +53,37 @@ goes-stores cell x a (stores c y d t e m g) told b may = stores c y d t e m (goe
 
 -- The machine goes on with the game.
 
-pub shares-on : {L : Type 0} (stands : L → ℕ → Tree → Type 0) (code : Block) (U : Given) (m m' : Machine L) (G : Game) → Shares stands code U m G → OnlyStores m m' → Shares stands code U m' G
-shares-on stands code U m m' G h o =
+shares-on : {L : Type 0} {code : Block} {U : Given} (m m' : Machine L) {G : Game} → Shares code U m G → OnlyStores m m' → Shares code U m' G
+shares-on m m' h o =
     record {
       on = h.on;
       comes = h.comes;
-      setup = ap (λ l. given l.setup) o.history ∙ h.setup;
-      entries = ap (λ l. l.entries) o.history ∙ h.entries;
-      plan = o.plan ∙ h.plan;
-      ledger = subst (λ l. stands l (to_join U (tree_in U G)) (tree_in U G)) (sym o.ledger) h.ledger;
+      setup = ap (λ l. given l.setup) o.chronicle ∙ h.setup;
+      entries = ap (λ l. l.entries) o.chronicle ∙ h.entries;
       slots = ap (λ v. length v.items) o.seats ∙ h.slots;
       failed = o.failed ∙ h.failed;
     }
 
-pub acting-on : {L : Type 0} (stands : L → ℕ → Tree → Type 0) (shape : Shape) (code : Block) (U : Given) (m m' : Machine L) (k i : ℕ) (here : PlaceId) (q r : Player) (seat seat' : Seat) (G : Game) (Z : State) (events : List PlaceEvent) → (a : Acting stands shape code U m k i here q seat G) → OnlyStores m m' → seat'.row ≡ seat.row → Goes U.heap (length G.entries) seat.row.number here a.began a.store (journal_at G.journals here.0) r Z events → IsSeat shape (tree_in U G) i r seat' → StoresAre U.heap 0 m'.stores.items (slice_set G.journals here.0 events) → Acting stands shape code U m' k i here r seat' G
-acting-on stands shape code U m m' k i here q r seat seat' G Z events a o row goes is stored =
+-- the same caller that waits, or does not, is the same task
+row-same : (s s' : Seat) → s'.who ≡ s.who → s'.waits ≡ s.waits → row_of s' ≡ row_of s
+row-same s s' who waits =
+    ap (λ (w : Caller). let x : Task = record { number = w.task; under = w.scope; place = w.place; waits = s'.waits; struck = None } in x) who
+    ∙ ap (λ (b : Bool). let x : Task = record { number = s.who.task; under = s.who.scope; place = s.who.place; waits = b; struck = None } in x) waits
+
+pub acting-on : {L : Type 0} {shape : Shape} {code : Block} {U : Given} {m : Machine L} {k i : ℕ} {here : PlaceId} {q : Player} {mover : Mover} {G : Game} (a : Acting shape code U m k i here q mover G) (m' : Machine L) (r : Player) (mover' : Mover) (Z : State) (events : List PlaceEvent) → OnlyStores m m' → mover'.seat.who ≡ mover.seat.who → mover'.seat.waits ≡ mover.seat.waits → Goes U.heap (length G.entries) mover.seat.who.task here a.began a.store (journal_at G.journals here.0) r Z events → IsSeat shape (tree_in U G) i r mover'.seat → mover'.batch ≡ r.batch → StoresAre U.heap 0 m'.stores.items (slice_set G.journals here.0 events) → Acting shape code U m' k i here r mover' G
+acting-on {U = U} {m = m} {here = here} {mover = mover} {G = G} a m' r mover' Z events o who waits goes is batch stored =
     let items : m'.seats.items ≡ m.seats.items = ap (λ v. v.items) o.seats in
     record {
       but = record {
-        shares = shares-on stands code U m m' G a.but.shares o;
+        shares = shares-on m m' a.but.shares o;
         empty = rw items a.but.empty;
         others = rw items a.but.others;
       };
       pick = record {
         stands = a.pick.stands;
         none_due = a.pick.none_due;
-        picked = a.pick.picked ∙ ap (λ (x : Task). Some x) (sym row);
-        number = ap (λ (x : Task). x.number.0) row ∙ a.pick.number;
+        picked = a.pick.picked ∙ ap (λ (x : Task). Some x) (sym (row-same mover.seat mover'.seat who waits));
+        number = ap (λ (w : Caller). w.task.0) who ∙ a.pick.number;
       };
       began = a.began;
       store = a.store;
@@ -84,9 +92,10 @@ acting-on stands shape code U m m' k i here q r seat seat' G Z events a o row go
       gone = record {
         player = a.gone.player;
         store = a.gone.store;
-        is_at = ap (λ (x : Task). x.place) row ∙ a.gone.is_at;
-        goes = subst (λ (x : Task). Goes U.heap (length G.entries) x.number here a.began a.store (journal_at G.journals here.0) r Z events) (sym row) goes;
+        is_at = ap (λ (w : Caller). w.place) who ∙ a.gone.is_at;
+        goes = subst (λ (w : Caller). Goes U.heap (length G.entries) w.task here a.began a.store (journal_at G.journals here.0) r Z events) (sym who) goes;
         seat_is = is;
+        batch = batch;
       };
       numbers = a.numbers;
       reached = a.reached;
@@ -95,6 +104,20 @@ acting-on stands shape code U m m' k i here q r seat seat' G Z events a o row go
       stored = a.stored;
       stores = stored;
       players = a.players;
+    }
+
+-- the seat of a task that has come further, and has the same scopes
+pub moved-seat : {shape : Shape} {T : Tree} {i : ℕ} {q : Player} {seat : Seat} (r : Player) (seat' : Seat) → IsSeat shape T i q seat → seat'.who ≡ seat.who → seat'.waits ≡ seat.waits → StandsFor shape seat'.control.value r.term → seat'.control.value.vars ≡ r.vars → is_held q.term ≡ false → HeldInFront r.term → is_held r.term ≡ false → Spine r.term (reverse (own_kinds T i)) → IsSeat shape T i r seat'
+moved-seat {T = T} {seat = seat} r seat' s who waits term vars free held still spine =
+    let row = row-same seat seat' who waits in
+    record {
+      row = s.row ∙ ap (λ (x : Task). Some x) (sym row);
+      inner = ap (λ (x : Task). inner T x) row ∙ (s.inner ∙ sym (ap (λ (w : Caller). w.inner) who));
+      term = term;
+      vars = vars;
+      waits = waits ∙ (s.waits ∙ (free ∙ sym still));
+      held = held;
+      spine = spine;
     }
 
 -- What the control tells.
@@ -131,51 +154,56 @@ asked_done (Done faults) e = tt
 
 -- Local steps.
 
-local-seat : (shape : Shape) (T : Tree) (i : ℕ) (here : PlaceId) (q : Player) (seat seat' : Seat) (after : Term) (left : Vars) → IsSeat shape T i q seat → does q.vars here.0 q.term ≡ Local after left → StandsFor shape seat'.control.value after → seat'.control.value.vars ≡ left → seat'.batch ≡ begun q.term seat.batch → seat'.row ≡ seat.row → seat'.scopes ≡ seat.scopes → IsSeat shape T i (record { term = after; vars = left; batch = begun q.term q.batch }) seat'
-local-seat shape T i here q seat seat' after left s e term vars batch row scopes =
-    let waits : AfterLocal (Local after left) = subst (λ (d : Does). AfterLocal d) e (after-local q.vars here.0 q.term s.held) in
-    let spine : LeavesSpine (reverse (own_kinds T i)) (Local after left) = subst (λ (d : Does). LeavesSpine (reverse (own_kinds T i)) d) e (spine-local (reverse (own_kinds T i)) q.vars here.0 q.term s.spine) in
-    let free : is_held q.term ≡ false = not_held q.vars here.0 q.term (λ f. (let c : Local after left ≡ Releases = sym e ∙ f in cc)) in
-    record {
-      row = s.row ∙ ap (λ (x : Task). Some x) (sym row);
-      scopes = s.scopes ∙ ap (λ ss. reverse ss.items) (sym scopes);
-      term = term;
-      vars = vars;
-      batch = batch ∙ ap (begun q.term) s.batch;
-      waits = ap (λ (x : Task). x.waits) row ∙ (s.waits ∙ (free ∙ sym waits.1));
-      held = waits.0;
-      spine = spine;
-    }
-
 pub same : {L : Type 0} (m : Machine L) → OnlyStores m m
-same m = record { history = refl; ledger = refl; seats = refl; ready = refl; plan = refl; failed = refl }
+same m = record { chronicle = refl; seats = refl; ready = refl; failed = refl }
 
-pub stepped-local : {L : Type 0} (stands : L → ℕ → Tree → Type 0) (shape : Shape) (code : Block) (U : Given) (m : Machine L) (k i : ℕ) (here : PlaceId) (q : Player) (seat seat' : Seat) (G : Game) → TermSinks → Acting stands shape code U m k i here q seat G → next_of (does q.vars here.0 q.term) ≡ LocalStep → Leaves shape seat'.control.value (does q.vars here.0 q.term) → seat'.batch ≡ begun q.term seat.batch → seat'.row ≡ seat.row → seat'.scopes ≡ seat.scopes → AfterStep stands shape code U m k i here q seat' G None
-stepped-local stands shape code U m k i here q seat seat' G law a e leaves batch row scopes =
+pub stepped-local : {L : Type 0} {shape : Shape} {code : Block} {U : Given} {m : Machine L} {k i : ℕ} {here : PlaceId} {q : Player} {mover : Mover} {G : Game} (a : Acting shape code U m k i here q mover G) (mover' : Mover) → TermSinks → next_of (does q.vars here.0 q.term) ≡ LocalStep → Leaves shape mover'.seat.control.value (does q.vars here.0 q.term) → mover'.batch ≡ begun q.term mover.batch → mover'.seat.who ≡ mover.seat.who → mover'.seat.waits ≡ mover.seat.waits → AfterStep shape code U m k i here q mover' G None
+stepped-local {shape = shape} {U = U} {m = m} {i = i} {here = here} {q = q} {G = G} a mover' law e leaves batch who waits =
+    let s = a.gone.seat_is in
+    let ks = reverse (own_kinds (tree_in U G) i) in
     let l = told_local (does q.vars here.0 q.term) e in
-    let left : StandsFor shape seat'.control.value l.0 × (seat'.control.value.vars ≡ l.1) = subst (λ (d : Does). Leaves shape seat'.control.value d) l.2 leaves in
+    let r : Player = record { term = l.0; vars = l.1; batch = begun q.term q.batch } in
+    let left : StandsFor shape mover'.seat.control.value l.0 × (mover'.seat.control.value.vars ≡ l.1) = subst (λ (d : Does). Leaves shape mover'.seat.control.value d) l.2 leaves in
     let less : steps l.0 + 1 ≤ steps q.term = subst (λ (d : Does). Sinks q.term d) l.2 (law q.vars here.0 q.term) in
-    (record { term = l.0; vars = l.1; batch = begun q.term q.batch }, acting-on stands shape code U m m k i here q _ seat seat' G a.left a.events a (same m) row (goes-local a.gone.goes l.2) (local-seat shape (tree_in U G) i here q seat seat' l.0 l.1 a.gone.seat_is l.2 left.0 left.1 batch row scopes) a.stores, less)
+    let after : AfterLocal (Local l.0 l.1) = subst (λ (d : Does). AfterLocal d) l.2 (after-local q.vars here.0 q.term s.held) in
+    let spine : LeavesSpine ks (Local l.0 l.1) = subst (λ (d : Does). LeavesSpine ks d) l.2 (spine-local ks q.vars here.0 q.term s.spine) in
+    let free : is_held q.term ≡ false = not_held q.vars here.0 q.term (λ f. (let c : Local l.0 l.1 ≡ Releases = sym l.2 ∙ f in cc)) in (
+      r,
+      acting-on a m r mover' a.left a.events (same m) who waits (goes-local a.gone.goes l.2)
+          (moved-seat r mover'.seat s who waits left.0 left.1 free after.0 after.1 spine)
+          (batch ∙ ap (begun q.term) a.gone.batch) a.stores,
+      less,
+    )
 
 -- what the control tells, said of the player
-pub told-next : {L : Type 0} (stands : L → ℕ → Tree → Type 0) (shape : Shape) (code : Block) (U : Given) (m : Machine L) (k i : ℕ) (here : PlaceId) (q : Player) (seat : Seat) (G : Game) (next : Next) → Acting stands shape code U m k i here q seat G → next ≡ next_of (does seat.control.value.vars here.0 q.term) → next_of (does q.vars here.0 q.term) ≡ next
-told-next stands shape code U m k i here q seat G next a e =
+pub told-next : {L : Type 0} {shape : Shape} {code : Block} {U : Given} {m : Machine L} {k i : ℕ} {here : PlaceId} {q : Player} {mover : Mover} {G : Game} (a : Acting shape code U m k i here q mover G) (next : Next) → next ≡ next_of (does mover.seat.control.value.vars here.0 q.term) → next_of (does q.vars here.0 q.term) ≡ next
+told-next {here = here} {q = q} a next e =
     sym (e ∙ ap (λ (v : Vars). next_of (does v here.0 q.term)) a.gone.seat_is.vars)
 
+-- the same where the control is told by another name
+pub told-by : {L : Type 0} {shape : Shape} {code : Block} {U : Given} {m : Machine L} {k i : ℕ} {here : PlaceId} {q : Player} {mover : Mover} {G : Game} (a : Acting shape code U m k i here q mover G) (next : Next) (w : Control) → w ≡ mover.seat.control.value → ((t : Term) → StandsFor shape w t → next ≡ next_of (does w.vars here.0 t)) → next_of (does q.vars here.0 q.term) ≡ next
+told-by {shape = shape} {here = here} {q = q} {mover = mover} a next w is told =
+    let all : (t : Term) → StandsFor shape mover.seat.control.value t → next ≡ next_of (does mover.seat.control.value.vars here.0 t) = subst (λ (v : Control). (t : Term) → StandsFor shape v t → next ≡ next_of (does v.vars here.0 t)) is told in
+    told-next a next (all q.term a.gone.seat_is.term)
+
+pub stands-by : {L : Type 0} {shape : Shape} {code : Block} {U : Given} {m : Machine L} {k i : ℕ} {here : PlaceId} {q : Player} {mover : Mover} {G : Game} (a : Acting shape code U m k i here q mover G) (w : Control) → w ≡ mover.seat.control.value → StandsFor shape w q.term
+stands-by {shape = shape} {q = q} a w is = subst (λ (v : Control). StandsFor shape v q.term) (sym is) a.gone.seat_is.term
+
+pub does-by : {L : Type 0} {shape : Shape} {code : Block} {U : Given} {m : Machine L} {k i : ℕ} {here : PlaceId} {q : Player} {mover : Mover} {G : Game} (a : Acting shape code U m k i here q mover G) (w : Control) → w ≡ mover.seat.control.value → does w.vars here.0 q.term ≡ does q.vars here.0 q.term
+does-by {here = here} {q = q} a w is = ap (λ (v : Control). does v.vars here.0 q.term) is ∙ ap (λ (v : Vars). does v here.0 q.term) a.gone.seat_is.vars
+
 -- the steps that are left
-pub few-now : {L : Type 0} (stands : L → ℕ → Tree → Type 0) (shape : Shape) (code : Block) (U : Given) (m : Machine L) (k i : ℕ) (here : PlaceId) (q : Player) (seat : Seat) (G : Game) → FewLeft → GoingSinks → Acting stands shape code U m k i here q seat G → work code ≤ 100000 → steps q.term + 0 ≤ 300000
-few-now stands shape code U m k i here q seat G left sinks a few =
+pub few-now : {L : Type 0} {shape : Shape} {code : Block} {U : Given} {m : Machine L} {k i : ℕ} {here : PlaceId} {q : Player} {mover : Mover} {G : Game} (a : Acting shape code U m k i here q mover G) → FewLeft → GoingSinks → work code ≤ 100000 → steps q.term + 0 ≤ 300000
+few-now {code = code} {U = U} {i = i} {here = here} {q = q} {mover = mover} {G = G} a left sinks few =
     let first : steps a.began.term ≤ 3 * work code = left code U G a.but.shares.comes i a.began a.gone.player in
-    let less : steps q.term ≤ steps a.began.term = sinks U.heap (length G.entries) seat.row.number here a.began q a.store a.left (journal_at G.journals here.0) a.events a.gone.goes in
+    let less : steps q.term ≤ steps a.began.term = sinks U.heap (length G.entries) mover.seat.who.task here a.began q a.store a.left (journal_at G.journals here.0) a.events a.gone.goes in
     omega (arith, first, less, few)
 
 pub same-twice : {L : Type 0} (m m' m'' : Machine L) → OnlyStores m m' → OnlyStores m' m'' → OnlyStores m m''
 same-twice m m' m'' a b =
     record {
-      history = b.history ∙ a.history;
-      ledger = b.ledger ∙ a.ledger;
+      chronicle = b.chronicle ∙ a.chronicle;
       seats = b.seats ∙ a.seats;
       ready = b.ready ∙ a.ready;
-      plan = b.plan ∙ a.plan;
       failed = b.failed ∙ a.failed;
     }

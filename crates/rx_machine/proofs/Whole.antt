@@ -10,6 +10,7 @@ use Rattle.rx_rules.specs.declared.entries.Entry.{Entry}
 use Rattle.rx_rules.specs.declared.entries.Entry.TheVariants.{Step, Root, Death, Join}
 use Rattle.rx_rules.specs.Code.{Block, work}
 use Rattle.rx_rules.specs.Tree.{Tree}
+use Rattle.rx_rules.specs.Fold.{tree_of}
 use Rattle.rx_rules.specs.Run.{Given, IsDue, in_all, NoRoot}
 use Rattle.rx_rules.specs.Picked.{Game, Turn, due, arrives, moves, ends, root, Turns, none, more, IsPicked, start_game, tree_in, used_after}
 use Rattle.rx_rules.proofs.Append.{no_root-push}
@@ -18,9 +19,11 @@ use Rattle.rx_runs.specs.Coming.{GamesCome}
 use Rattle.rx_history.specs.Logs.{Log}
 use Rattle.rx_history.specs.Events.{AllEvents, events_of}
 use Rattle.rx_history.specs.Setups.{given, to_join}
-use Rattle.rx_nodes.specs.Shape.{Shape}
+use Rattle.rx_chronicle.specs.Requests.{tree_told}
+use Rattle.rx_store.specs.Kepts.{StoresAre}
+use Rattle.rx_syntax.specs.Shape.{Shape}
 use Rattle.rx_machine.specs.declared.machine.Machine.{Machine}
-use Rattle.rx_stores.proofs.Journals.{journals_are}
+use Rattle.rx_store.proofs.Journals.{journals_are}
 use Rattle.rx_machine.specs.Holds.{Holds, Finished, LeadsTo}
 use Rattle.rx_machine.specs.Runs.{WentOn, picks_in, RanFrom, Gives}
 
@@ -70,17 +73,17 @@ turn-uses U k G G' used planned t = let a = turn-adds U k G G' used planned t in
 -- Turns from a game on.
 
 -- after i turns from a game on, of which j used a pick, the machine stands for a game
-pub record RunTo {L : Type 0} (stands : L → ℕ → Tree → Type 0) (shape : Shape) (code : Block) (U : Given) (picks : ℕ → ℕ) (G : Game) (m : Machine L) (i j : ℕ) : Type 0 where
+pub record RunTo {L : Type 0} (shape : Shape) (code : Block) (U : Given) (picks : ℕ → ℕ) (G : Game) (m : Machine L) (i j : ℕ) : Type 0 where
   pub game : Game
-  pub holds : Holds stands shape code U m game
+  pub holds : Holds shape code U m game
   pub added : List Entry
   pub adds : game.entries ≡ G.entries ++ added
   pub size : length added ≡ i
   pub used : j ≡ picks_in added
   pub made : (n : ℕ) (G' : Game) → Turns U picks n j game G' → Turns U picks (i + n) 0 G G'
 
-pub run-begins : {L : Type 0} (stands : L → ℕ → Tree → Type 0) (shape : Shape) (code : Block) (U : Given) (picks : ℕ → ℕ) (G : Game) (m : Machine L) → Holds stands shape code U m G → RunTo stands shape code U picks G m 0 0
-run-begins stands shape code U picks G m h =
+pub run-begins : {L : Type 0} (shape : Shape) (code : Block) (U : Given) (picks : ℕ → ℕ) (G : Game) (m : Machine L) → Holds shape code U m G → RunTo shape code U picks G m 0 0
+run-begins shape code U picks G m h =
     record {
       game = G;
       holds = h;
@@ -97,8 +100,8 @@ added-more es fs added e gs grown adds = grown ∙ (ap (λ xs. xs ++ e ∷ []) a
 size-more : (added : List Entry) (e : Entry) (i : ℕ) → length added ≡ i → length (added ++ e ∷ []) ≡ i + 1
 size-more added e i h = let one : length (e ∷ []) ≡ 1 = refl in omega (arith, length-append added (e ∷ []), h, one)
 
-pub run-goes : {L : Type 0} (stands : L → ℕ → Tree → Type 0) (shape : Shape) (code : Block) (U : Given) (picks : ℕ → ℕ) (G : Game) (m m' : Machine L) (i j k : ℕ) (used : Bool) → GamesCome → (r : RunTo stands shape code U picks G m i j) → k ≡ picks j → WentOn stands shape code U m' k used r.game → RunTo stands shape code U picks G m' (i + 1) (used_after used j)
-run-goes stands shape code U picks G m m' i j k used come r e a =
+pub run-goes : {L : Type 0} (shape : Shape) (code : Block) (U : Given) (picks : ℕ → ℕ) (G : Game) (m m' : Machine L) (i j k : ℕ) (used : Bool) → GamesCome → (r : RunTo shape code U picks G m i j) → k ≡ picks j → WentOn shape code U m' k used r.game → RunTo shape code U picks G m' (i + 1) (used_after used j)
+run-goes shape code U picks G m m' i j k used come r e a =
     let s = r.holds.seated.shares in
     let more_one = turn-adds U k r.game a.0 used (λ x d. due_planned (length r.game.entries) (in_all U) (tree_in U r.game).places r.game.entries r.game.plan x d (come code U r.game s.on.proper s.comes r.holds.unreleased).ok.plan) a.1 in
     record {
@@ -119,16 +122,16 @@ picks-left picks old new j true were are n = let e : j + suc n ≡ suc j + n = o
 picks-left picks old new j false were are n = are n ∙ were n
 
 -- its turns and the entries before them are few
-run-few : {L : Type 0} (stands : L → ℕ → Tree → Type 0) (shape : Shape) (code : Block) (U : Given) (picks : ℕ → ℕ) (G : Game) (m : Machine L) (i j : ℕ) → GamesCome → (r : RunTo stands shape code U picks G m i j) → length G.entries + i ≤ 4 * work code + U.places + 2 * length U.joins
-run-few stands shape code U picks G m i j come r =
+run-few : {L : Type 0} (shape : Shape) (code : Block) (U : Given) (picks : ℕ → ℕ) (G : Game) (m : Machine L) (i j : ℕ) → GamesCome → (r : RunTo shape code U picks G m i j) → length G.entries + i ≤ 4 * work code + U.places + 2 * length U.joins
+run-few shape code U picks G m i j come r =
     let s = r.holds.seated.shares in
     let most : length r.game.entries ≤ 4 * work code + U.places + 2 * length U.joins = (come code U r.game s.on.proper s.comes r.holds.unreleased).entries in
     omega (arith, most, r.size, ap (λ es. length es) r.adds, length-append G.entries r.added)
 
 -- no run makes so many turns
-pub run-stops : {L : Type 0} (stands : L → ℕ → Tree → Type 0) (shape : Shape) (code : Block) (U : Given) (picks : ℕ → ℕ) (G : Game) (m : Machine L) (i j : ℕ) → GamesCome → RunTo stands shape code U picks G m i j → i ≤ 400055
-run-stops stands shape code U picks G m i j come r =
-    let most = run-few stands shape code U picks G m i j come r in
+pub run-stops : {L : Type 0} (shape : Shape) (code : Block) (U : Given) (picks : ℕ → ℕ) (G : Game) (m : Machine L) (i j : ℕ) → GamesCome → RunTo shape code U picks G m i j → i ≤ 400055
+run-stops shape code U picks G m i j come r =
+    let most = run-few shape code U picks G m i j come r in
     let few : work code ≤ 100000 = r.holds.seated.shares.on.few in
     let places : U.places + length U.joins ≤ 16 = r.holds.seated.shares.on.proper.few in
     omega (arith, most, few, places)
@@ -136,31 +139,24 @@ run-stops stands shape code U picks G m i j come r =
 -- The end.
 
 -- what the machine gives out is that of the game
-pub gives-holds : {L : Type 0} (stands : L → ℕ → Tree → Type 0) (shape : Shape) (code : Block) (U : Given) (m : Machine L) (G : Game) (r : Log × AllEvents × L) → r.0 ≡ m.history → events_of r.1 ≡ map (λ s. s.events) m.stores.items → r.2 ≡ m.ledger → Holds stands shape code U m G → Gives stands U G r
-gives-holds stands shape code U m G r history events ledger h =
+pub gives-so : {L : Type 0} (stands : L → ℕ → Tree → Type 0) (U : Given) (m : Machine L) (G : Game) (r : Log × AllEvents × L) → r.0 ≡ m.chronicle → events_of r.1 ≡ map (λ s. s.events) m.stores.items → stands r.2 (to_join (given m.chronicle.setup) (tree_told m.chronicle)) (tree_told m.chronicle) → given m.chronicle.setup ≡ U → m.chronicle.entries ≡ G.entries → StoresAre U.heap 0 m.stores.items G.journals → Gives stands U G r
+gives-so stands U m G r history events ledger setup entries stores =
     record {
-      entries = ap (λ l. l.entries) history ∙ h.seated.shares.entries;
-      setup = ap (λ l. given l.setup) history ∙ h.seated.shares.setup;
-      journals = events ∙ journals_are U.heap 0 m.stores.items G.journals h.seated.stores;
-      ledger = subst (λ x. stands x (to_join U (tree_in U G)) (tree_in U G)) (sym ledger) h.seated.shares.ledger;
+      entries = ap (λ l. l.entries) history ∙ entries;
+      setup = ap (λ l. given l.setup) history ∙ setup;
+      journals = events ∙ journals_are U.heap 0 m.stores.items G.journals stores;
+      ledger =
+          subst (λ (es : List Entry). stands r.2 (to_join U (tree_of U.places es)) (tree_of U.places es)) entries
+          (subst (λ (V : Given). stands r.2 (to_join V (tree_of V.places m.chronicle.entries)) (tree_of V.places m.chronicle.entries)) setup ledger);
     }
 
-pub gives-finished : {L : Type 0} (stands : L → ℕ → Tree → Type 0) (U : Given) (m : Machine L) (G : Game) (r : Log × AllEvents × L) → r.0 ≡ m.history → events_of r.1 ≡ map (λ s. s.events) m.stores.items → r.2 ≡ m.ledger → Finished stands U m G → Gives stands U G r
-gives-finished stands U m G r history events ledger f =
-    record {
-      entries = ap (λ l. l.entries) history ∙ f.entries;
-      setup = ap (λ l. given l.setup) history ∙ f.setup;
-      journals = events ∙ journals_are U.heap 0 m.stores.items G.journals f.stores;
-      ledger = subst (λ x. stands x (to_join U (tree_in U G)) (tree_in U G)) (sym ledger) f.ledger;
-    }
-
-pub run-ends : {L : Type 0} (stands : L → ℕ → Tree → Type 0) (shape : Shape) (code : Block) (U : Given) (picks : ℕ → ℕ) (G : Game) (m m' : Machine L) (i j k : ℕ) (left : ℕ → ℕ) → GamesCome → (r : RunTo stands shape code U picks G m i j) → k ≡ picks j → ((n : ℕ) → left n ≡ picks (j + n)) → (a : LeadsTo (Turn U k r.game false) (Finished stands U m')) → (parts : Log × AllEvents × L) → Gives stands U a.0 parts → RanFrom stands code U picks left G parts
+pub run-ends : {L : Type 0} (stands : L → ℕ → Tree → Type 0) (shape : Shape) (code : Block) (U : Given) (picks : ℕ → ℕ) (G : Game) (m m' : Machine L) (i j k : ℕ) (left : ℕ → ℕ) → GamesCome → (r : RunTo shape code U picks G m i j) → k ≡ picks j → ((n : ℕ) → left n ≡ picks (j + n)) → (a : LeadsTo (Turn U k r.game false) (Finished U m')) → (parts : Log × AllEvents × L) → Gives stands U a.0 parts → RanFrom stands code U picks left G parts
 run-ends stands shape code U picks G m m' i j k left come r e are a parts gives =
     let t : Turn U (picks j) r.game false a.0 = subst (λ x. Turn U x r.game false a.0) e a.1 in
     let s = r.holds.seated.shares in
     let last = turn-adds U k r.game a.0 false (λ x d. due_planned (length r.game.entries) (in_all U) (tree_in U r.game).places r.game.entries r.game.plan x d (come code U r.game s.on.proper s.comes r.holds.unreleased).ok.plan) a.1 in
     let used : j ≡ picks_in (r.added ++ last.entry ∷ []) = r.used ∙ sym (last.uses r.added) in
-    let most = run-few stands shape code U picks G m i j come r in
+    let most = run-few shape code U picks G m i j come r in
     record {
       turns = i + 1;
       game = a.0;

@@ -1,3 +1,4 @@
+pub mod Seeds
 pub mod Slots
 pub mod Picking
 pub mod Holds

@@ -5,12 +5,13 @@ use Rattle.rx_rules.specs.Tree.{Tree}
 use Rattle.rx_rules.specs.Picked.{is_enabled}
 use Rattle.rx_sound.specs.Enabling.{able}
 use Rattle.rx_rank.specs.Numbers.{Ascends}
-use Rattle.rx_seats.specs.declared.seat.Seat.{Seat}
+use Rattle.rx_machine.specs.declared.seat.Seat.{Seat}
+use Rattle.rx_machine.specs.Slots.{row_of}
 
 -- the task of a slot is enabled
 abbrev pub slot_able : Tree → Option Seat → Bool
 slot_able T None = false
-slot_able T (Some seat) = is_enabled T seat.row
+slot_able T (Some seat) = is_enabled T (row_of seat)
 
 -- the number is in the list
 abbrev pub is_listed : ℕ → List ℕ → Bool

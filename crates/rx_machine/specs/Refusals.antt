@@ -1,5 +1,5 @@
 -- What a refused turn leaves: a beginning of what the turn tells.
-use Rattle.std.specs.Prelude.{◌≡◌, ℕ, ◌%◌, Bool, List, [], ◌∷◌, map, length, Some, slice_get, slice_set}
+use Rattle.std.specs.Prelude.{◌≡◌, ◌⊎◌, ℕ, ◌%◌, Bool, List, [], ◌∷◌, map, length, Some, slice_get, slice_set, true}
 use mathlib.Core.List.{IsPrefix}
 use Rattle.rx_base.specs.declared.ids.PlaceId.{PlaceId}
 use Rattle.rx_rules.specs.declared.tasks.Task.{Task}
@@ -13,7 +13,7 @@ use Rattle.rx_rules.specs.Run.{Given, NoneDue}
 use Rattle.rx_rules.specs.Picked.{Game, Player, Turn, Goes, enabled, tree_in}
 use Rattle.rx_store.specs.Kept.{Kept}
 use Rattle.rx_machine.specs.declared.machine.Machine.{Machine}
-use Rattle.rx_stores.specs.Kepts.{StoresAre}
+use Rattle.rx_store.specs.Kepts.{StoresAre}
 
 -- each list begins the one at its place
 abbrev pub BeginEach : List (List PlaceEvent) → List (List PlaceEvent) → Type 0
@@ -53,10 +53,21 @@ pub record HasTold (U : Given) (k : ℕ) (G : Game) (items : List Kept) : Type 0
 -- a turn with the pick k was refused from the game: what is told of it begins what the turn leads to, and as many tasks are told as
 -- enabled as were before it
 pub record HasFailed {L : Type 0} (U : Given) (k : ℕ) (m : Machine L) (G : Game) : Type 0 where
-  pub begun : HasBegun U k G m.history.entries (map (λ s. s.events) m.stores.items)
-  pub ready : length m.ready.tasks.members ≡ length (enabled (tree_in U G))
+  pub begun : HasBegun U k G m.chronicle.entries (map (λ s. s.events) m.stores.items)
+  pub ready : length m.ready.members ≡ length (enabled (tree_in U G))
 
--- nothing is told: history and stores are as they were
-pub record NothingTold {L : Type 0} (m m' : Machine L) : Type 0 where
-  pub history : m'.history ≡ m.history
-  pub stores : m'.stores ≡ m.stores
+-- the entries are those of a game to which a turn with the pick k leads, and so are the events of the stores
+pub record HasMade {L : Type 0} (U : Given) (k : ℕ) (G : Game) (m : Machine L) : Type 0 where
+  pub after : Game
+  pub turn : Turn U k G true after
+  pub entries : m.chronicle.entries ≡ after.entries
+  pub stores : StoresAre U.heap 0 m.stores.items after.journals
+
+-- A turn was refused before its first event, on the way to its entry, or after it.
+abbrev pub HasStopped : {L : Type 0} → Given → ℕ → Game → Machine L → Type 0
+HasStopped U k G m =
+    ((m.chronicle.entries ≡ G.entries) × (StoresAre U.heap 0 m.stores.items G.journals ⊎ HasTold U k G m.stores.items)) ⊎ HasMade U k G m
+
+-- a refused request has told nothing, or the entry of its turn
+abbrev pub NothingMore : {L : Type 0} → Given → ℕ → Game → Machine L → Machine L → Type 0
+NothingMore U k G m m' = ((m'.chronicle.entries ≡ m.chronicle.entries) × (m'.stores ≡ m.stores)) ⊎ HasMade U k G m'

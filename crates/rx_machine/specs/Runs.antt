@@ -6,50 +6,48 @@ use Rattle.rx_rules.specs.declared.entries.Entry.{Entry}
 use Rattle.rx_rules.specs.declared.entries.Entry.TheVariants.{Step, Root, Death, Join}
 use Rattle.rx_rules.specs.Code.{Block, work}
 use Rattle.rx_rules.specs.Tree.{Tree, task_of}
-use Rattle.rx_rules.specs.Run.{Given, NoneDue, IsDue, NoRoot, EndsWithRoot}
+use Rattle.rx_rules.specs.Run.{Given, NoneDue, IsDue, EndsWithRoot}
 use Rattle.rx_rules.specs.Reached.{Reached}
 use Rattle.rx_rules.specs.Picked.{Game, Turn, Turns, enabled, tree_in, used_after}
 use Rattle.rx_history.specs.Logs.{Log}
 use Rattle.rx_history.specs.Events.{AllEvents, events_of}
 use Rattle.rx_history.specs.Setups.{given, to_join}
-use Rattle.rx_nodes.specs.Shape.{Shape}
+use Rattle.rx_syntax.specs.Shape.{Shape}
 use Rattle.rx_machine.specs.declared.machine.Machine.{Machine}
-use Rattle.rx_seats.specs.declared.seat.Seat.{Seat}
-use Rattle.rx_seats.specs.Slots.{seat_at}
+use Rattle.rx_machine.specs.declared.seat.Seat.{Seat}
+use Rattle.rx_machine.specs.Slots.{row_of, seat_at}
 use Rattle.rx_machine.specs.Picking.{IsReady}
-use Rattle.rx_origins.specs.Origins.{TellsOrigins}
 use Rattle.rx_machine.specs.Holds.{Seated, Holds, Finished, CanTurn, LeadsTo}
 use Rattle.rx_machine.specs.Refusals.{HasFailed}
 
 -- a turn can be made, nothing planned is due, and it is told which tasks are enabled
-pub record Calm {L : Type 0} (stands : L → ℕ → Tree → Type 0) (shape : Shape) (code : Block) (U : Given) (m : Machine L) (G : Game)
+pub record Calm {L : Type 0} (shape : Shape) (code : Block) (U : Given) (m : Machine L) (G : Game)
     : Type 0 where
-  pub can : CanTurn stands shape code U m G
+  pub can : CanTurn shape code U m G
   pub none_due : NoneDue (length G.entries) G.plan
-  pub ready : IsReady (tree_in U G) m.ready.tasks.members
-  pub origins : TellsOrigins (tree_in U G) m.ready.origins.items
+  pub ready : IsReady (tree_in U G) m.ready.members
 
 -- the entry is due: a death or a join
-pub record Falling {L : Type 0} (stands : L → ℕ → Tree → Type 0) (shape : Shape) (code : Block) (U : Given) (m : Machine L) (e : Entry)
+pub record Falling {L : Type 0} (shape : Shape) (code : Block) (U : Given) (m : Machine L) (e : Entry)
     (G : Game) : Type 0 where
-  pub can : CanTurn stands shape code U m G
+  pub can : CanTurn shape code U m G
   pub due : IsDue (length G.entries) e G.plan
 
 -- the pick k moves the task of slot i
-pub record Taken {L : Type 0} (stands : L → ℕ → Tree → Type 0) (shape : Shape) (code : Block) (U : Given) (m : Machine L) (k i : ℕ)
+pub record Taken {L : Type 0} (shape : Shape) (code : Block) (U : Given) (m : Machine L) (k i : ℕ)
     (G : Game) : Type 0 where
-  pub can : CanTurn stands shape code U m G
+  pub can : CanTurn shape code U m G
   pub none_due : NoneDue (length G.entries) G.plan
   pub inside : i < length m.seats.items
   pub seat : Seat
   pub at : seat_at m.seats.items i ≡ Some seat
-  pub picked : slice_get (enabled (tree_in U G)) (k % length (enabled (tree_in U G))) ≡ Some seat.row
+  pub picked : slice_get (enabled (tree_in U G)) (k % length (enabled (tree_in U G))) ≡ Some (row_of seat)
 
 -- the pick k has moved the task of slot i, which hung under that scope, there were so many slots before, and the set still has the
 -- tasks that were enabled then
-pub record HasMoved {L : Type 0} (stands : L → ℕ → Tree → Type 0) (shape : Shape) (code : Block) (U : Given) (m : Machine L) (k i : ℕ)
+pub record HasMoved {L : Type 0} (shape : Shape) (code : Block) (U : Given) (m : Machine L) (k i : ℕ)
     (under : ScopeId) (before : ℕ) (G H : Game) : Type 0 where
-  pub can : CanTurn stands shape code U m H
+  pub can : CanTurn shape code U m H
   pub turn : Turn U k G true H
   pub reached : Reached (tree_in U G)
   pub mover : Task
@@ -58,39 +56,35 @@ pub record HasMoved {L : Type 0} (stands : L → ℕ → Tree → Type 0) (shape
   pub found : task_of (tree_in U G) mover.number ≡ Some mover
   pub hung : mover.under ≡ under
   pub slots : before ≡ (tree_in U G).next_task
-  pub ready : IsReady (tree_in U G) m.ready.tasks.members
+  pub ready : IsReady (tree_in U G) m.ready.members
 
 -- a turn with the pick k leads to a game for which the machine stands, but for what tells which tasks are enabled
-abbrev pub AfterTurn : {L : Type 0} → (L → ℕ → Tree → Type 0) → Shape → Block → Given → Machine L → ℕ → Game → Type 0
-AfterTurn stands shape code U m k G = LeadsTo (Turn U k G true) (Seated stands shape code U m)
-
--- the same of a death or a join, after which the root stands
-abbrev pub HasFallen : {L : Type 0} → (L → ℕ → Tree → Type 0) → Shape → Block → Given → Machine L → ℕ → Game → Type 0
-HasFallen stands shape code U m k G = LeadsTo (Turn U k G false) (λ G'. Seated stands shape code U m G' × NoRoot G'.entries)
+abbrev pub AfterTurn : {L : Type 0} → Shape → Block → Given → Machine L → ℕ → Game → Type 0
+AfterTurn shape code U m k G = LeadsTo (Turn U k G true) (Seated shape code U m)
 
 -- a turn, with the pick or as a death or a join, leads to a game for which the machine stands
-abbrev pub WentOn : {L : Type 0} → (L → ℕ → Tree → Type 0) → Shape → Block → Given → Machine L → ℕ → Bool → Game → Type 0
-WentOn stands shape code U m k used G = LeadsTo (Turn U k G used) (Holds stands shape code U m)
+abbrev pub WentOn : {L : Type 0} → Shape → Block → Given → Machine L → ℕ → Bool → Game → Type 0
+WentOn shape code U m k used G = LeadsTo (Turn U k G used) (Holds shape code U m)
 
 -- there is a game for which the machine stands
-abbrev pub CanRun : {L : Type 0} → (L → ℕ → Tree → Type 0) → Shape → Machine L → Type 0
-CanRun stands shape m = (code : Block) × (U : Given) × (G : Game) × Holds stands shape code U m G
+abbrev pub CanRun : {L : Type 0} → Shape → Machine L → Type 0
+CanRun shape m = (code : Block) × (U : Given) × (G : Game) × Holds shape code U m G
 
 -- from each game for which the machine stood, it went on with the first of the picks or without it, and these are left
-abbrev pub HasGoneOn : {L : Type 0} → (L → ℕ → Tree → Type 0) → Shape → Machine L → Machine L → (ℕ → ℕ) → (ℕ → ℕ) → Type 0
-HasGoneOn stands shape m m' picks left =
+abbrev pub HasGoneOn : {L : Type 0} → Shape → Machine L → Machine L → (ℕ → ℕ) → (ℕ → ℕ) → Type 0
+HasGoneOn shape m m' picks left =
     (used : Bool)
-    × ((code : Block) (U : Given) (G : Game) → Holds stands shape code U m G → WentOn stands shape code U m' (picks 0) used G)
+    × ((code : Block) (U : Given) (G : Game) → Holds shape code U m G → WentOn shape code U m' (picks 0) used G)
     × ((j : ℕ) → left j ≡ picks (used_after used j))
 
 -- from each game for which the machine stood, the root was released
-abbrev pub HasEnded : {L : Type 0} → (L → ℕ → Tree → Type 0) → Shape → Machine L → Machine L → ℕ → Type 0
-HasEnded stands shape m m' k =
-    (code : Block) (U : Given) (G : Game) → Holds stands shape code U m G → LeadsTo (Turn U k G false) (Finished stands U m')
+abbrev pub HasEnded : {L : Type 0} → Shape → Machine L → Machine L → ℕ → Type 0
+HasEnded shape m m' k =
+    (code : Block) (U : Given) (G : Game) → Holds shape code U m G → LeadsTo (Turn U k G false) (Finished U m')
 
 -- from each game for which the machine stood, a turn with the pick k was refused
-abbrev pub WasRefused : {L : Type 0} → (L → ℕ → Tree → Type 0) → Shape → Machine L → Machine L → ℕ → Type 0
-WasRefused stands shape m m' k = (code : Block) (U : Given) (G : Game) → Holds stands shape code U m G → HasFailed U k m' G
+abbrev pub WasRefused : {L : Type 0} → Shape → Machine L → Machine L → ℕ → Type 0
+WasRefused shape m m' k = (code : Block) (U : Given) (G : Game) → Holds shape code U m G → HasFailed U k m' G
 
 -- the number of picks that the entries used: one for each that is a task's
 abbrev pub picks_in : List Entry → ℕ

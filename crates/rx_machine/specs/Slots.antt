@@ -1,18 +1,30 @@
 -- What the slots of a machine say of the tasks of a tree.
-use Rattle.std.specs.Prelude.{◌≡◌, ℕ, Bool, false, cond, List, map, filter, reverse, Option, Some, None, is_none, slice_get}
+use Rattle.std.specs.Prelude.{◌≡◌, ℕ, Bool, false, cond, List, [], map, filter, reverse, Option, Some, None, is_none, slice_get}
 use Rattle.rx_base.specs.declared.ids.PlaceId.{PlaceId}
-use Rattle.rx_base.specs.declared.ids.ScopeId.{ScopeId}
 use Rattle.rx_rules.specs.declared.tasks.Task.{Task}
 use Rattle.rx_rules.specs.declared.tasks.Kind.{Kind}
 use Rattle.rx_rules.specs.declared.tasks.Where.TheVariants.{At}
-use Rattle.rx_rules.specs.Tree.{Tree, task_of, opened_by, the_root}
+use Rattle.rx_rules.specs.Tree.{Tree, task_of, inner, opened_by, the_root}
 use Rattle.rx_rules.specs.Entries.{is_hit}
 use Rattle.rx_rules.specs.Picked.{Player}
-use Rattle.rx_nodes.specs.Shape.{Shape}
+use Rattle.rx_syntax.specs.Shape.{Shape}
 use Rattle.rx_control.specs.Stands.{StandsFor}
-use Rattle.rx_seats.specs.declared.seat.Seat.{Seat}
-use Rattle.rx_terms.specs.Held.{is_held, HeldInFront}
-use Rattle.rx_terms.specs.Spine.{Spine}
+use Rattle.rx_machine.specs.declared.seat.Seat.{Seat}
+use Rattle.rx_sound.specs.Held.{is_held, HeldInFront}
+use Rattle.rx_sound.specs.Spine.{Spine}
+
+-- the task of a seat, as the tree has it
+abbrev pub row_of : Seat → Task
+row_of seat = record { number = seat.who.task; under = seat.who.scope; place = seat.who.place; waits = seat.waits; struck = None }
+
+-- the seat in a slot of the list
+abbrev pub seat_in : Option (Option Seat) → Option Seat
+seat_in None = None
+seat_in (Some o) = o
+
+-- the seat of a number; none where the slot is empty, or where there is none
+abbrev pub seat_at : List (Option Seat) → ℕ → Option Seat
+seat_at seats n = seat_in (slice_get seats n)
 
 -- the row of the main activity
 abbrev pub root_row : Task
@@ -31,35 +43,30 @@ live_in (Some x) = if_unstruck x
 abbrev pub live_task : Tree → ℕ → Option Task
 live_task T n = live_in (task_of T (record { 0 = n }))
 
--- the scopes that a task opened and that stand, the newest first
-abbrev pub own_scopes : Tree → ℕ → List ScopeId
-own_scopes T n = map (λ g. g.number) (filter (opened_by (record { 0 = n })) T.scopes)
-
--- their kinds
+-- the kinds of the scopes that a task opened and that stand, the newest first
 abbrev pub own_kinds : Tree → ℕ → List Kind
 own_kinds T n = map (λ g. g.kind) (filter (opened_by (record { 0 = n })) T.scopes)
 
 -- the seat is that of the unstruck task of a number, and its control stands for what the player has still to run
 pub record IsSeat (shape : Shape) (T : Tree) (n : ℕ) (p : Player) (seat : Seat) : Type 0 where
-  pub row : live_task T n ≡ Some seat.row
-  pub scopes : own_scopes T n ≡ reverse seat.scopes.items
+  pub row : live_task T n ≡ Some (row_of seat)
+  pub inner : inner T (row_of seat) ≡ seat.who.inner
   pub term : StandsFor shape seat.control.value p.term
   pub vars : seat.control.value.vars ≡ p.vars
-  pub batch : seat.batch ≡ p.batch
   -- it waits exactly where its term does, and its open scopes are those of its term
-  pub waits : seat.row.waits ≡ is_held p.term
+  pub waits : seat.waits ≡ is_held p.term
   pub held : HeldInFront p.term
   pub spine : Spine p.term (reverse (own_kinds T n))
 
--- what stands in a slot: no seat exactly where no unstruck task has the number
+-- what stands in a slot: no seat exactly where no unstruck task has the number. Between turns no statement is left to tell
 abbrev pub SlotIs : Shape → Tree → List Player → ℕ → Option Seat → Type 0
 SlotIs shape T players n None = live_task T n ≡ None
-SlotIs shape T players n (Some seat) = (p : Player) × (slice_get players n ≡ Some p) × IsSeat shape T n p seat
+SlotIs shape T players n (Some seat) = (p : Player) × (slice_get players n ≡ Some p) × (p.batch ≡ []) × IsSeat shape T n p seat
 
 -- a death at the place strikes the task of a slot
 abbrev pub is_struck : PlaceId → Option Seat → Bool
 is_struck d None = false
-is_struck d (Some seat) = is_hit d seat.row.place
+is_struck d (Some seat) = is_hit d seat.who.place
 
 -- what it leaves in the slot
 abbrev pub left_by : PlaceId → Option Seat → Option Seat

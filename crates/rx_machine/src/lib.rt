@@ -1,27 +1,26 @@
-//! Runs on one thread: the machine that makes the turns of a picked run, deaths and joins among them, over any ledger that keeps its
-//! promises. It stands on rx_finish, rx_history, rx_seats, rx_kills, rx_picks, rx_rank, rx_stores and the laws of rx_sound and rx_runs.
-//! The layer above uses `run`, which makes the turns that are left of the picked run of a program under a setup, or `turn` and
-//! `into_parts`, and the laws of histories and journals, which stand in the module `laws`.
+//! Runs on one thread: the machine that makes the turns of a picked run, deaths and joins among them, over a chronicle of any ledger
+//! that keeps its promises. It stands on rx_chronicle, rx_control, rx_rank, rx_store and the laws of rx_sound and rx_runs. The layer
+//! above uses `run`, which makes the turns that are left of the picked run of a program under a setup, or `turn` and `into_parts`, and
+//! the laws of histories and journals, which stand in the module `laws`. Where picks come from stands here too: `Picks` are a list
+//! (`ListPicks`), or the words of the kit's generator PCG from a seed (`SeedPicks`), and `number` is the pick that each later call
+//! gives.
 #![tactic(auto)]
 
-mod arrival;
-mod birth;
-mod census;
-mod death;
 mod enabled;
-mod end;
-mod entry;
-mod finish;
-mod join;
 pub mod laws;
 mod machine;
-mod moves;
-mod print;
-mod release;
+mod moving;
+mod picks;
+mod planned;
+mod releasing;
 mod run;
+mod seat;
+mod seeds;
+mod starting;
 mod steps;
 mod turn;
 
 pub use machine::Machine;
-pub use rx_picks::{ListPicks, Picks};
+pub use picks::{ListPicks, Picks};
+pub use seeds::SeedPicks;
 pub use turn::Turn;

@@ -7,14 +7,16 @@ ghost use Rattle.rx_history.specs.Events.{events_of};
 ghost use Rattle.rx_machine.specs.Holds.{Holds, Finished};
 ghost use Rattle.rx_machine.specs.Refusals.{HasBegun, HasFailed};
 ghost use Rattle.rx_machine.specs.Runs.{CanRun, RanFrom, Gives};
-ghost use Rattle.rx_nodes.specs.Shape.{Shape};
+ghost use Rattle.rx_history.specs.Setups.{given, to_join};
+ghost use Rattle.rx_syntax.specs.Shape.{Shape};
+ghost use Rattle.rx_chronicle.specs.Requests.{tree_told};
 
+use crate::Picks;
 use crate::machine::Machine;
 use rx_base::NoMemory;
 use rx_check::Program;
 use rx_finish::FinishLedger;
 use rx_history::{History, Journals};
-use rx_picks::Picks;
 
 // More turns than a run can make of a script whose work is at most 100,000.
 const LIMIT: u32 = 400_056;
@@ -28,10 +30,10 @@ impl<L: FinishLedger> Machine<L> {
         p: &Program,
         picks: &mut P,
     ) -> Result<(History, Journals, L), NoMemory>
-        requires game { self.failed ≡ false → CanRun L.stands p.now.script self }
-        ensures ran { IfOk result (λ r. (code : Block) (U : Given) (G : Game) → Holds L.stands p.now.script code U self G
+        requires game { self.failed ≡ false → CanRun p.now.script self }
+        ensures ran { IfOk result (λ r. (code : Block) (U : Given) (G : Game) → Holds p.now.script code U self G
             → RanFrom L.stands code U (P.number picks.old) (P.number picks.new) G r) }
-        ensures picked { IfOk result (λ r. (code : Block) (U : Given) → Holds L.stands p.now.script code U self (start_game code U)
+        ensures picked { IfOk result (λ r. (code : Block) (U : Given) → Holds p.now.script code U self (start_game code U)
             → IsPicked code U (P.number picks.old) r.0.entries (events_of r.1)) }
         ensures failed { OnOk result (self.failed ≡ false) }
         ensures stays { self.failed ≡ true → picks.new ≡ picks.old }
@@ -48,24 +50,24 @@ impl<L: FinishLedger> Machine<L> {
         unreachable!()
     }
 
-    /// The history and the journals of the turns so far, and the ledger, which stands for the tree to which the history folds
-    /// where no turn was refused. It may be called between turns, after the end of the run and after a refusal. It takes no memory.
+    /// The history and the journals of the turns so far, and the ledger, which stands for the tree to which the history folds. It may
+    /// be called between turns, after the end of the run and after a refusal. It takes no memory.
     pub fn into_parts(self) -> (History, Journals, L)
-        ensures history { result.0 ≡ self.history }
+        ensures history { result.0 ≡ self.chronicle }
         ensures journals { events_of result.1 ≡ map (λ s. s.events) self.stores.items }
-        ensures ledger { result.2 ≡ self.ledger }
-        ensures holds { (shape : Shape) (code : Block) (U : Given) (G : Game) → Holds L.stands shape code U self G
+        ensures ledger { L.stands result.2 (to_join (given self.chronicle.setup) (tree_told self.chronicle)) (tree_told self.chronicle) }
+        ensures holds { (shape : Shape) (code : Block) (U : Given) (G : Game) → Holds shape code U self G
             → Gives L.stands U G result }
-        ensures finished { (U : Given) (G : Game) → Finished L.stands U self G → Gives L.stands U G result }
+        ensures finished { (U : Given) (G : Game) → Finished U self G → Gives L.stands U G result }
         ensures refused { (U : Given) (k : ℕ) (G : Game) → HasFailed U k self G
             → HasBegun U k G result.0.entries (events_of result.1) }
     {
         let Machine {
-            ledger,
-            history,
+            chronicle,
             stores,
             ..
         } = self;
+        let (history, ledger) = chronicle.into_parts();
         (history, stores.into_journals(), ledger)
     }
 }

@@ -6,3 +6,4 @@ pub mod Looks
 pub mod Holds
 pub mod Watches
 pub mod Tells
+mod Places

@@ -1,3 +1,4 @@
 pub mod Boards
 pub mod Sums
 pub mod Inside
+pub mod Text

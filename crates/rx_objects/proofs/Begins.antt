@@ -11,9 +11,9 @@ use Rattle.rx_book.specs.declared.views.Stamped.{Stamped}
 use Rattle.rx_parts.specs.Ledger.{LedgerItem, LegalLedger}
 use Rattle.rx_parts.specs.Places.{MadeEvent, event_of, LegalFrom, LegalPlace}
 use Rattle.rx_parts.proofs.Prefixes.{prefix-legal}
-use Rattle.rx_parts_book.specs.declared.items.EntryItem.{EntryItem}
-use Rattle.rx_parts_book.specs.declared.items.EventItem.{EventItem}
-use Rattle.rx_parts_book.specs.Histories.{ledger_item, ledger_items, made_event, made_events}
+use Rattle.rx_parts.specs.declared.items.EntryItem.{EntryItem}
+use Rattle.rx_parts.specs.declared.items.EventItem.{EventItem}
+use Rattle.rx_parts.specs.Histories.{ledger_item, ledger_items, made_event, made_events}
 use Rattle.rx_objects.specs.declared.ledger.LedgerFixed.{LedgerFixed}
 use Rattle.rx_objects.specs.declared.place.PlaceFixed.{PlaceFixed}
 use Rattle.rx_objects.specs.Ledger.{HostReleases, LedgerIsLegal}

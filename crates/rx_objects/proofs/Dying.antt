@@ -13,7 +13,7 @@ use Rattle.rx_rules.specs.declared.entries.Entry.TheVariants.{Step, Root, Death,
 use Rattle.rx_rules.specs.Tree.{Tree}
 use Rattle.rx_rules.specs.Entries.{made, made_act}
 use Rattle.rx_rules.specs.Fold.{opening, fold_from, tree_of}
-use Rattle.rx_ledger.specs.Told.{dies_in}
+use Rattle.rx_chronicle.specs.Told.{dies_in}
 use Rattle.rx_objects.specs.Shown.{dead_bits}
 use Rattle.rx_sound.proofs.Histories.{no_dead, dead-act}
 

@@ -12,7 +12,7 @@ use Rattle.rx_rules.specs.declared.events.PlaceEvent.{PlaceEvent}
 use Rattle.rx_rules.specs.declared.events.PlaceEvent.TheVariants.{Close}
 use Rattle.rx_rules.specs.Code.{Block}
 use Rattle.rx_rules.specs.Run.{Given, EndsWithRoot, IsRun, death_number}
-use Rattle.rx_nodes.specs.Shape.{Stands}
+use Rattle.rx_syntax.specs.Shape.{Stands}
 use Rattle.rx_history.specs.Setups.{given}
 use Rattle.rx_store.specs.Kept.{Kept, last_stamp}
 use Rattle.rx_book.specs.declared.views.Stamped.{Stamped}
@@ -31,10 +31,10 @@ use Rattle.rx_parts.proofs.Lists.{got_set, got_other, got_map, one_item}
 use Rattle.rx_parts.proofs.Growing.{ledger-opens, top-stamp}
 use Rattle.rx_parts.proofs.Reading.{root-ends}
 use Rattle.rx_parts.proofs.Closing.{parts-run}
-use Rattle.rx_parts_book.specs.declared.items.EntryItem.{EntryItem}
-use Rattle.rx_parts_book.specs.declared.items.EventItem.{EventItem}
-use Rattle.rx_parts_book.specs.Histories.{ledger_item, ledger_items, made_events}
-use Rattle.rx_parts_book.proofs.Closes.{closes-fit, prefixes-stay}
+use Rattle.rx_parts.specs.declared.items.EntryItem.{EntryItem}
+use Rattle.rx_parts.specs.declared.items.EventItem.{EventItem}
+use Rattle.rx_parts.specs.Histories.{ledger_item, ledger_items, made_events}
+use Rattle.rx_parts.proofs.Closes.{closes-fit, prefixes-stay}
 use Rattle.rx_objects.specs.declared.ledger.LedgerFixed.{LedgerFixed}
 use Rattle.rx_objects.specs.Noted.{Notes}
 use Rattle.rx_objects.specs.Ledger.{LedgerIsLegal}

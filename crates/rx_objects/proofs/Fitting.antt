@@ -16,7 +16,7 @@ use Rattle.rx_sound.specs.Sound.{Each}
 use Rattle.rx_finish.specs.declared.ledger.Caller.{Caller}
 use Rattle.rx_ticket.specs.declared.tickets.AnyTicket.{AnyTicket}
 use Rattle.rx_ticket.specs.declared.tickets.AnyTicket.TheVariants.{Moving, Running, Held, Host}
-use Rattle.rx_nodes.specs.Shape.{Stands}
+use Rattle.rx_syntax.specs.Shape.{Stands}
 use Rattle.rx_history.specs.Setups.{given}
 use Rattle.rx_history.specs.declared.asks.Ask.{Ask}
 use Rattle.rx_history.specs.declared.asks.Ask.TheVariants.{Open as AskOpen, At as AskCall, Spawn as AskSpawn, Arrive as AskArrive, Wait as AskWait, Release as AskRelease, End as AskEnd, Print as AskPrint, Root as AskRoot, Census as AskCensus}
@@ -40,10 +40,10 @@ use Rattle.rx_parts.specs.Growing.{NoneBy, NoneOf}
 use Rattle.rx_parts.specs.Calling.{MayCallStore}
 use Rattle.rx_parts.proofs.Reading.{of_own}
 use Rattle.rx_parts.proofs.Growing.{task-stays, others-act}
-use Rattle.rx_parts_book.specs.declared.items.EntryItem.{EntryItem}
-use Rattle.rx_parts_book.specs.declared.items.EventItem.{EventItem}
-use Rattle.rx_parts_book.specs.Histories.{event_named, ledger_item, ledger_items, made_events}
-use Rattle.rx_parts_book.proofs.Fitting.{caller-is-alone, call-fits}
+use Rattle.rx_parts.specs.declared.items.EntryItem.{EntryItem}
+use Rattle.rx_parts.specs.declared.items.EventItem.{EventItem}
+use Rattle.rx_parts.specs.Histories.{event_named, ledger_item, ledger_items, made_events}
+use Rattle.rx_parts.proofs.Fitting.{caller-is-alone, call-fits}
 use Rattle.rx_objects.specs.declared.ledger.LedgerOp.{LedgerOp}
 use Rattle.rx_objects.specs.declared.ledger.LedgerFixed.{LedgerFixed}
 use Rattle.rx_objects.specs.declared.place.PlaceOp.{PlaceOp}

@@ -20,7 +20,7 @@ use Rattle.rx_ledger.specs.Told.{due_entries}
 use Rattle.rx_ledger.specs.Answering.{Answers}
 use Rattle.rx_ledger.specs.Kept.{Kept, is_refusal, Applied, AppliedIf, Answered}
 use Rattle.rx_parts.specs.Ledger.{RootIsLast}
-use Rattle.rx_parts_book.specs.declared.items.EntryItem.{EntryItem}
+use Rattle.rx_parts.specs.declared.items.EntryItem.{EntryItem}
 use Rattle.rx_objects.specs.declared.ledger.LedgerOp.{LedgerOp}
 use Rattle.rx_objects.specs.declared.ledger.LedgerReply.{LedgerReply}
 use Rattle.rx_objects.specs.declared.ledger.LedgerFixed.{LedgerFixed}

@@ -6,9 +6,9 @@ use Rattle.std.proofs.lemmas.Bool.Decides.{leb_tells}
 use Rattle.rx_rules.specs.declared.entries.Entry.{Entry}
 use Rattle.rx_rules.specs.declared.entries.Entry.TheVariants.{Step, Root, Death, Join}
 use Rattle.rx_book.specs.History.{has_death, is_place}
-use Rattle.rx_ledger.specs.Told.{dies_in}
-use Rattle.rx_parts_book.specs.declared.items.EntryItem.{EntryItem}
-use Rattle.rx_parts_book.specs.Deaths.{place_shown}
+use Rattle.rx_chronicle.specs.Told.{dies_in}
+use Rattle.rx_parts.specs.declared.items.EntryItem.{EntryItem}
+use Rattle.rx_parts.specs.Deaths.{place_shown}
 use Rattle.rx_objects.specs.Mentioned.{entries_in}
 
 -- a place below 16 is shown as itself

@@ -25,9 +25,9 @@ use Rattle.rx_parts.proofs.Lists.{one_item, got_map}
 use Rattle.rx_parts.proofs.Tasks.{Later, later}
 use Rattle.rx_parts.proofs.Reading.{actors-say}
 use Rattle.rx_parts.proofs.Whole.{legal_later, LastEvent, LastOrNone, last_from, AtPlace, at_place}
-use Rattle.rx_parts_book.specs.declared.items.EntryItem.{EntryItem}
-use Rattle.rx_parts_book.specs.declared.items.EventItem.{EventItem}
-use Rattle.rx_parts_book.specs.Histories.{event_named, ledger_items, made_events}
+use Rattle.rx_parts.specs.declared.items.EntryItem.{EntryItem}
+use Rattle.rx_parts.specs.declared.items.EventItem.{EventItem}
+use Rattle.rx_parts.specs.Histories.{event_named, ledger_items, made_events}
 use Rattle.rx_objects.specs.Noted.{Notes, cells_at, cells_named, IsNoted}
 use Rattle.rx_objects.specs.Laws.{HasBeginning, NotesBegin, NotedAreNamed}
 

@@ -23,9 +23,9 @@ use Rattle.rx_ledger.specs.declared.asks.Reply.TheVariants.{Opened, Called, Spaw
 use Rattle.rx_ledger.specs.Told.{due_entries}
 use Rattle.rx_ledger.specs.Answering.{Answers, asker}
 use Rattle.rx_ledger.specs.Kept.{Kept, is_refusal, Applied, AppliedIf}
-use Rattle.rx_parts_book.specs.declared.items.EntryItem.{EntryItem}
-use Rattle.rx_parts_book.specs.declared.items.EventItem.{EventItem}
-use Rattle.rx_parts_book.specs.Histories.{event_named, cells_in}
+use Rattle.rx_parts.specs.declared.items.EntryItem.{EntryItem}
+use Rattle.rx_parts.specs.declared.items.EventItem.{EventItem}
+use Rattle.rx_parts.specs.Histories.{event_named, cells_in}
 use Rattle.rx_objects.specs.declared.mentions.Mentions.{Mentions}
 use Rattle.rx_objects.specs.Mentioned.{events_new, item_for}
 use Rattle.rx_objects.specs.Noted.{Notes, cells_at, cells_named, IsNoted, AllNoted, IsOfPlace, AreOfPlaces, asked_place, with_note, NoteSuits}

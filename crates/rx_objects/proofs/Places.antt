@@ -12,12 +12,12 @@ use Rattle.rx_rules.specs.Code.{Block}
 use Rattle.rx_rules.specs.Terms.{Does, Local, Makes, Gets, Puts, Forgets, Opens, Calls, Spawns, Waits, Releases, Prints, Counts, Done, answer_of}
 use Rattle.rx_rules.specs.Plays.{Tells}
 use Rattle.rx_rules.specs.Run.{Given}
-use Rattle.rx_nodes.specs.Shape.{Stands}
+use Rattle.rx_syntax.specs.Shape.{Stands}
 use Rattle.rx_history.specs.Setups.{given}
 use Rattle.rx_store.specs.Kept.{Kept, last_stamp, stamp_from, ends_closed}
 use Rattle.rx_store.specs.Answers.{event_told}
 use Rattle.rx_store.proofs.Running.{closed_done, stamp_done}
-use Rattle.rx_stores.specs.Asked.{Receives, Asked, CallIsTold}
+use Rattle.rx_store.specs.Asked.{Receives, Asked, CallIsTold}
 use Rattle.rx_book.specs.declared.views.Stamped.{Stamped}
 use Rattle.rx_book.specs.declared.views.View.{View}
 use Rattle.rx_book.specs.declared.passes.Note.{Note}
@@ -30,9 +30,9 @@ use Rattle.rx_parts.specs.Ledger.{LedgerItem}
 use Rattle.rx_parts.specs.Places.{MadeEvent, MayMake, LegalPlace, last_carried as last_seen, journal_of}
 use Rattle.rx_parts.specs.Calling.{top_stamp}
 use Rattle.rx_parts.proofs.Growing.{top-stamp, place-grows, call-makes}
-use Rattle.rx_parts_book.specs.declared.items.EntryItem.{EntryItem}
-use Rattle.rx_parts_book.specs.declared.items.EventItem.{EventItem}
-use Rattle.rx_parts_book.specs.Histories.{ledger_item, ledger_items, made_event, made_events}
+use Rattle.rx_parts.specs.declared.items.EntryItem.{EntryItem}
+use Rattle.rx_parts.specs.declared.items.EventItem.{EventItem}
+use Rattle.rx_parts.specs.Histories.{ledger_item, ledger_items, made_event, made_events}
 use Rattle.rx_objects.specs.declared.place.PlaceOp.{PlaceOp}
 use Rattle.rx_objects.specs.declared.place.PlaceFixed.{PlaceFixed}
 use Rattle.rx_objects.specs.declared.place.PlaceReply.{PlaceReply}

@@ -9,9 +9,9 @@ use Rattle.rx_rules.specs.Fold.{tree_of}
 use Rattle.rx_rules.specs.Run.{Given, Folds}
 use Rattle.rx_rules.specs.Plays.{Cells, cell_of}
 use Rattle.std.specs.List.{filter_map}
-use Rattle.rx_plan.specs.declared.step.Next.TheVariants.{Cell as CellStep, Book as BookStep}
-use Rattle.rx_plan.specs.declared.step.Want.TheVariants.{Open as WantOpen}
-use Rattle.rx_plan.specs.Next.{next_of}
+use Rattle.rx_history.specs.declared.step.Next.TheVariants.{Cell as CellStep, Book as BookStep}
+use Rattle.rx_history.specs.declared.step.Want.TheVariants.{Open as WantOpen}
+use Rattle.rx_history.specs.Next.{next_of}
 use Rattle.rx_history.specs.Setups.{given}
 use Rattle.rx_history.specs.declared.asks.Ask.TheVariants.{Open as AskOpen}
 use Rattle.rx_finish.specs.declared.ledger.Caller.{Caller}
@@ -28,9 +28,9 @@ use Rattle.rx_book.specs.Passes.{view_of}
 use Rattle.rx_parts.specs.Ledger.{LegalLedger, RootIsLast, AllMake, main_actor, entries_of, Walks, stays}
 use Rattle.rx_parts.specs.Places.{journal_of}
 use Rattle.rx_parts.proofs.Growing.{ledger-opens}
-use Rattle.rx_parts_book.specs.declared.items.EntryItem.{EntryItem}
-use Rattle.rx_parts_book.specs.declared.items.EventItem.{EventItem}
-use Rattle.rx_parts_book.specs.Histories.{event_named, ledger_items, made_events}
+use Rattle.rx_parts.specs.declared.items.EntryItem.{EntryItem}
+use Rattle.rx_parts.specs.declared.items.EventItem.{EventItem}
+use Rattle.rx_parts.specs.Histories.{event_named, ledger_items, made_events}
 use Rattle.rx_objects.specs.declared.ledger.LedgerFixed.{LedgerFixed}
 use Rattle.rx_objects.specs.declared.ledger.LedgerOp.{LedgerOp}
 use Rattle.rx_objects.specs.declared.place.PlaceOp.{PlaceOp}

@@ -16,12 +16,11 @@ use Rattle.rx_history.specs.declared.setup.Setup.{Setup}
 use Rattle.rx_finish.specs.declared.totals.Totals.{Totals}
 use Rattle.rx_finish.specs.Totals.{totals_of}
 use Rattle.rx_counts.proofs.Hindering.{filter_same, places_low}
-use Rattle.rx_ledger.specs.Keeping.{HasDead}
 use Rattle.rx_ledger.specs.declared.asks.Request.{Request}
 use Rattle.rx_ledger.specs.declared.asks.Reply.{Reply}
 use Rattle.rx_ledger.specs.Kept.{Kept, is_refusal, Applied, AppliedIf}
-use Rattle.rx_ledger.specs.Told.{dies_in}
-use Rattle.rx_ledger.proofs.Granted.{map_snoc}
+use Rattle.rx_chronicle.specs.Told.{dies_in, HasDead}
+use Rattle.rx_chronicle.proofs.Granting.{map_snoc}
 use Rattle.rx_monitor.specs.declared.summary.Summary.{Summary}
 use Rattle.rx_monitor.specs.Boards.{Listing, EndsWith, MayFollow}
 use Rattle.rx_monitor.specs.Sums.{Rises}

@@ -33,8 +33,8 @@ use Rattle.rx_parts.specs.Ledger.{LedgerItem, Actor, RootIsLast, LegalLedger, en
 use Rattle.rx_parts.specs.Growing.{MayRequest}
 use Rattle.rx_parts.specs.Calling.{AllHostItems, Grants}
 use Rattle.rx_parts.proofs.Growing.{call-step, host-step, arrival-step}
-use Rattle.rx_parts_book.specs.declared.items.EntryItem.{EntryItem}
-use Rattle.rx_parts_book.specs.Histories.{event_named, ledger_item, ledger_items}
+use Rattle.rx_parts.specs.declared.items.EntryItem.{EntryItem}
+use Rattle.rx_parts.specs.Histories.{event_named, ledger_item, ledger_items}
 use Rattle.rx_objects.specs.declared.mentions.Mentions.{Mentions}
 use Rattle.rx_objects.specs.declared.ledger.LedgerOp.{LedgerOp}
 use Rattle.rx_objects.specs.declared.ledger.LedgerReply.{LedgerReply}

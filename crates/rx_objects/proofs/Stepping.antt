@@ -16,7 +16,7 @@ use Rattle.rx_ledger.specs.declared.asks.Reply.{Reply}
 use Rattle.rx_ledger.specs.declared.asks.Reply.TheVariants.{Opened, Called, Spawned, Landed, Waits, Released, Ended, Printed, Census as Counted, RootDone, NotYet, Lost, NoMemory}
 use Rattle.rx_ledger.specs.Told.{due_entries}
 use Rattle.rx_ledger.specs.Answering.{Answers}
-use Rattle.rx_ledger.specs.Keeping.{Ending}
+use Rattle.rx_chronicle.specs.Told.{Ending}
 use Rattle.rx_ledger.specs.Kept.{Kept, is_refusal, Applied, AppliedIf, Answered, IsHistory}
 use Rattle.rx_runs.proofs.RootLast.{root_last-ends}
 use Rattle.rx_parts.specs.Ledger.{RootIsLast}

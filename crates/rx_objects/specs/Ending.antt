@@ -8,7 +8,7 @@ use Rattle.rx_rules.specs.declared.events.PlaceEvent.TheVariants.{Close}
 use Rattle.rx_rules.specs.Code.{Block}
 use Rattle.rx_rules.specs.Store.{IsStoreRun, opening_state}
 use Rattle.rx_rules.specs.Run.{Proper, NoRoot, EndsWithRoot, IsRun, in_all, death_number}
-use Rattle.rx_nodes.specs.Shape.{Stands}
+use Rattle.rx_syntax.specs.Shape.{Stands}
 use Rattle.rx_history.specs.Setups.{given}
 use Rattle.rx_store.specs.Kept.{Kept, last_stamp}
 use Rattle.rx_book.specs.declared.views.Stamped.{Stamped}
@@ -19,8 +19,8 @@ use Rattle.rx_book.specs.Passes.{note_view}
 use Rattle.rx_book.specs.Named.{BookName}
 use Rattle.rx_book.specs.Calls.{Called, Met}
 use Rattle.rx_ledger.specs.declared.asks.Reply.TheVariants.{RootDone}
-use Rattle.rx_parts_book.specs.declared.items.EntryItem.{EntryItem}
-use Rattle.rx_parts_book.specs.declared.items.EventItem.{EventItem}
+use Rattle.rx_parts.specs.declared.items.EntryItem.{EntryItem}
+use Rattle.rx_parts.specs.declared.items.EventItem.{EventItem}
 use Rattle.rx_objects.specs.declared.ledger.LedgerFixed.{LedgerFixed}
 use Rattle.rx_objects.specs.declared.ledger.LedgerOp.{LedgerOp}
 use Rattle.rx_objects.specs.declared.ledger.LedgerReply.{LedgerReply}

@@ -3,9 +3,9 @@ use Rattle.std.specs.Prelude.{List, [], ◌++◌, map, drop, length}
 use Rattle.rx_rules.specs.declared.entries.Entry.{Entry}
 use Rattle.rx_book.specs.declared.views.Stamped.{Stamped}
 use Rattle.rx_book.specs.Passes.{view_of}
-use Rattle.rx_parts_book.specs.declared.items.NamedEvent.{NamedEvent}
-use Rattle.rx_parts_book.specs.declared.items.EntryItem.{EntryItem}
-use Rattle.rx_parts_book.specs.declared.items.EventItem.{EventItem}
+use Rattle.rx_parts.specs.declared.items.NamedEvent.{NamedEvent}
+use Rattle.rx_parts.specs.declared.items.EntryItem.{EntryItem}
+use Rattle.rx_parts.specs.declared.items.EventItem.{EventItem}
 use Rattle.rx_objects.specs.declared.mentions.Mentions.{Mentions}
 use Rattle.rx_objects.specs.declared.trail.Trail.{Trail}
 use Rattle.rx_objects.specs.declared.trail.Trail.TheVariants.{Empty, After'}

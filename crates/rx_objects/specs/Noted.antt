@@ -12,9 +12,9 @@ use Rattle.atomic_table.specs.Seated.{TableId}
 use Rattle.rx_book.specs.declared.passes.Note.{Note}
 use Rattle.rx_book.specs.Passes.{note_view, note_word}
 use Rattle.rx_ledger.specs.Answering.{asker}
-use Rattle.rx_parts_book.specs.declared.items.EntryItem.{EntryItem}
-use Rattle.rx_parts_book.specs.declared.items.EventItem.{EventItem}
-use Rattle.rx_parts_book.specs.Histories.{event_named, cells_in}
+use Rattle.rx_parts.specs.declared.items.EntryItem.{EntryItem}
+use Rattle.rx_parts.specs.declared.items.EventItem.{EventItem}
+use Rattle.rx_parts.specs.Histories.{event_named, cells_in}
 
 -- notes with the places of which they are
 abbrev pub Notes : Type 0

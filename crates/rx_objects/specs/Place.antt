@@ -10,12 +10,12 @@ use Rattle.rx_rules.specs.declared.events.PlaceEvent.{PlaceEvent}
 use Rattle.rx_rules.specs.declared.events.PlaceEvent.TheVariants.{Done as Did, Close}
 use Rattle.rx_rules.specs.Code.{Block}
 use Rattle.rx_rules.specs.Terms.{Does}
-use Rattle.rx_nodes.specs.Shape.{Stands}
-use Rattle.rx_plan.specs.declared.step.Next.TheVariants.{Cell as CellStep}
-use Rattle.rx_plan.specs.Next.{next_of}
+use Rattle.rx_syntax.specs.Shape.{Stands}
+use Rattle.rx_history.specs.declared.step.Next.TheVariants.{Cell as CellStep}
+use Rattle.rx_history.specs.Next.{next_of}
 use Rattle.rx_history.specs.Setups.{given}
 use Rattle.rx_store.specs.Kept.{Kept, ends_closed, last_stamp}
-use Rattle.rx_stores.specs.Asked.{CallIsTold, MayAskStore}
+use Rattle.rx_store.specs.Asked.{CallIsTold, MayAskStore}
 use Rattle.rx_book.specs.declared.views.Stamped.{Stamped}
 use Rattle.rx_book.specs.declared.views.View.{View}
 use Rattle.rx_book.specs.declared.passes.Pass.{Pass}
@@ -25,10 +25,10 @@ use Rattle.rx_book.specs.Passes.{view_of, word_of, note_view, note_word}
 use Rattle.rx_book.specs.Named.{BookName}
 use Rattle.rx_parts.specs.Places.{LegalPlace}
 use Rattle.rx_parts.specs.Calling.{MayCallStore}
-use Rattle.rx_parts_book.specs.declared.items.EntryItem.{EntryItem}
-use Rattle.rx_parts_book.specs.declared.items.EventItem.{EventItem}
-use Rattle.rx_parts_book.specs.Deaths.{place_shown}
-use Rattle.rx_parts_book.specs.Histories.{ledger_items, made_events}
+use Rattle.rx_parts.specs.declared.items.EntryItem.{EntryItem}
+use Rattle.rx_parts.specs.declared.items.EventItem.{EventItem}
+use Rattle.rx_parts.specs.Deaths.{place_shown}
+use Rattle.rx_parts.specs.Histories.{ledger_items, made_events}
 use Rattle.rx_objects.specs.declared.trail.Trail.{Trail}
 use Rattle.rx_objects.specs.declared.trail.Trail.TheVariants.{Empty, After'}
 use Rattle.rx_objects.specs.declared.ledger.LedgerFixed.{LedgerFixed}

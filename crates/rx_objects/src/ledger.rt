@@ -17,7 +17,7 @@ use rx_finish::place_of;
 use rx_history::Setup;
 use rx_ledger::{CountLedger, Keeper, Reply, Request};
 use rx_monitor::BoardWriter;
-use rx_parts_book::{EntryItem, EventItem};
+use rx_parts::{EntryItem, EventItem};
 use rx_ticket::AnyTicket;
 use std::alloc::Global;
 use std::collections::LinkedList;

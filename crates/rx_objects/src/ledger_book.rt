@@ -5,7 +5,7 @@ ghost use Rattle.rx_book.specs.Kept.{parent_left, born};
 ghost use Rattle.rx_book.specs.Calls.{Begins, Called, Met, Looked};
 ghost use Rattle.rx_book.specs.Passes.{view_of, word_of, note_view, note_word, IsAsSeen};
 ghost use Rattle.rx_book.specs.Named.{BookName};
-ghost use Rattle.rx_parts_book.specs.declared.items.EntryItem.{EntryItem as Item};
+ghost use Rattle.rx_parts.specs.declared.items.EntryItem.{EntryItem as Item};
 ghost use Rattle.rx_objects.specs.declared.ledger.LedgerFixed.{LedgerFixed};
 ghost use Rattle.rx_objects.specs.Ledger.{LedgerIsLegal, LedgerFits, LedgerDoes};
 ghost use Rattle.rx_objects.specs.Place.{shown};
@@ -13,7 +13,7 @@ ghost use Rattle.rx_objects.specs.Place.{shown};
 use crate::ledger::{LedgerObject, LedgerOp, LedgerReply};
 use rx_base::{NoMemory, PlaceSet};
 use rx_book::{Book, Note, Pass};
-use rx_parts_book::EntryItem;
+use rx_parts::EntryItem;
 use std::sync::Wait;
 
 /// The ledger's book, for those who need not know what lies in it. Contracts see its name. Its calls are those of `Book`.

@@ -1,10 +1,10 @@
-//! The objects of a run in parts: the ledger with the notes of places that it keeps, and the store of a place with the ledger's
-//! history that its callers had seen. Each lies in a book of its own (rx_book). It stands on the keeper (rx_ledger), on the stores
-//! (rx_store), and on rx_parts and rx_parts_book, which say which histories of the two books are legal and what their items are.
-//! Those who use the books need not name the objects: `LedgerBook` and `PlaceBook` have the calls of the two books that activities make.
-//! The ledger's object may have a board (rx_monitor), on which it shows a summary of its history after each call that appends entries.
-//! The layers above use that every history of these books is legal, that the notes which come with the root's release have all events
-//! that entries name, and that what the board has shown are the summaries of beginnings of the history, none shorter than the one before.
+//! The objects of a run in parts: the ledger with the notes of places that it keeps, and the store of a place with the ledger's history
+//! that its callers had seen. Each lies in a book of its own (rx_book). It stands on the keeper (rx_ledger), on the stores (rx_store),
+//! and on rx_parts, which says which histories of the two books are legal and what their items are. Those who use the books need not
+//! name the objects: `LedgerBook` and `PlaceBook` have the calls of the two books that activities make. The ledger's object may have a
+//! board (rx_monitor), on which it shows a summary of its history after each call that appends entries. The layers above use that every
+//! history of these books is legal, that the notes which come with the root's release have all events that entries name, and that what
+//! the board has shown are the summaries of beginnings of the history, none shorter than the one before.
 #![tactic(auto)]
 
 mod laws;

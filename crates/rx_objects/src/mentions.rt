@@ -1,6 +1,6 @@
 // What an operation mentions for its entry.
 use rx_book::Pass;
-use rx_parts_book::{EntryItem, EventItem};
+use rx_parts::{EntryItem, EventItem};
 use std::snapshot::Snapshot;
 
 /// What an operation of the ledger's book mentions beside its entry, for contracts alone. It has no bytes.

@@ -5,7 +5,7 @@ ghost use Rattle.rx_book.specs.Kept.{parent_left, born};
 ghost use Rattle.rx_book.specs.Calls.{Begins, Called, Met};
 ghost use Rattle.rx_book.specs.Passes.{view_of, word_of, note_view, note_word, IsAsSeen};
 ghost use Rattle.rx_book.specs.Named.{BookName};
-ghost use Rattle.rx_parts_book.specs.declared.items.EventItem.{EventItem as Item};
+ghost use Rattle.rx_parts.specs.declared.items.EventItem.{EventItem as Item};
 ghost use Rattle.rx_objects.specs.declared.place.PlaceFixed.{PlaceFixed};
 ghost use Rattle.rx_objects.specs.Place.{unshown, PlaceIsLegal, PlaceFits, PlaceDoes, PlaceCloses};
 
@@ -13,7 +13,7 @@ use crate::place::{PlaceObject, PlaceOp, PlaceReply};
 use crate::surroundings::Surroundings;
 use rx_base::NoMemory;
 use rx_book::{Book, Note, Pass};
-use rx_parts_book::{EntryItem, EventItem};
+use rx_parts::{EntryItem, EventItem};
 use rx_store::Store;
 use std::sync::Wait;
 

@@ -5,7 +5,7 @@ use Rattle.std.proofs.lemmas.Bool.{eq-eqb, ne_eqb}
 use Rattle.std.proofs.lemmas.Option.{same_Some}
 use Rattle.rx_base.proofs.Elements.{drop-next}
 use Rattle.rx_rules.specs.Code.{Stmt, SetTo, New, Get, Put, Forget, Census, Print, Throw, Async, AtAsync, At, Finish, If, Repeat, Try, Block, Nothing, Then}
-use Rattle.rx_nodes.specs.Shape.{Shape, BlockStands}
+use Rattle.rx_syntax.specs.Shape.{Shape, BlockStands}
 use Rattle.rx_order.specs.declared.marks.Mark.{Mark}
 use Rattle.rx_order.specs.declared.marks.Mark.TheVariants.{Follows, Branches}
 use Rattle.rx_order.specs.declared.parts.Part.{Part}

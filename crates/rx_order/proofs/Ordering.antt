@@ -5,7 +5,7 @@ use Rattle.std.proofs.lemmas.Bool.Decides.{nat_tests}
 use Rattle.rx_base.proofs.Elements.{drop-next}
 use Rattle.rx_rules.specs.Code.{Stmt, Block, SetTo, New, Get, Put, Forget, Census, Print, Throw, Async, AtAsync, At, Finish, If, Repeat, Try}
 use Rattle.rx_rules.specs.Order.{before_inside, is_before_in, comes_before}
-use Rattle.rx_nodes.specs.Shape.{Shape, BlockStands}
+use Rattle.rx_syntax.specs.Shape.{Shape, BlockStands}
 use Rattle.rx_order.specs.declared.parts.Part.{Part}
 use Rattle.rx_order.specs.Inside.Parts.{is_kept_along, part_in, is_ordered, IsPart}
 

@@ -4,10 +4,10 @@ use Rattle.std.specs.Prelude.{Option, Some, None, IfSome, slice_get}
 use Rattle.std.proofs.lemmas.Option.{slice_get_within, same_Some}
 use Rattle.rx_rules.specs.Code.{Stmt, Block, Nothing, Then}
 use Rattle.rx_rules.specs.Order.{is_kept, is_kept_in, before_inside, is_before_in}
-use Rattle.rx_nodes.specs.Shape.{Shape, StmtIs, ListStands, BlockStands}
-use Rattle.rx_nodes.specs.declared.nodes.StmtId.{StmtId}
-use Rattle.rx_nodes.specs.declared.nodes.BlockId.{BlockId}
-use Rattle.rx_nodes.specs.declared.nodes.Stmt.{Stmt as Node}
+use Rattle.rx_syntax.specs.Shape.{Shape, StmtIs, ListStands, BlockStands}
+use Rattle.rx_syntax.specs.declared.nodes.StmtId.{StmtId}
+use Rattle.rx_syntax.specs.declared.nodes.BlockId.{BlockId}
+use Rattle.rx_syntax.specs.declared.nodes.Stmt.{Stmt as Node}
 use Rattle.rx_order.specs.Inside.Parts.{item_of}
 
 -- the statement at a position of a block

@@ -2,11 +2,11 @@
 ghost use Rattle.std.specs.Prelude.{◌≡◌, ◌<◌, ℕ, List, MatchOption, drop, length};
 ghost use Rattle.rx_rules.specs.Code.{Stmt as Tree, Block};
 ghost use Rattle.rx_rules.specs.Order.{is_kept, is_kept_in};
-ghost use Rattle.rx_nodes.specs.Shape.{Shape, StmtIs, BlockStands};
+ghost use Rattle.rx_syntax.specs.Shape.{Shape, StmtIs, BlockStands};
 ghost use Rattle.rx_order.specs.Inside.Parts.{is_kept_along, WalkGoes, IsOpen};
 
 use crate::parts::{Walk, number_at, part_of, stmt_at};
-use rx_nodes::{BlockId, Script, Stmt};
+use rx_syntax::{BlockId, Script, Stmt};
 
 /// Whether each `async` along the path has a `finish` before it, from the statement on whose position in the block is the number of
 /// the path at `first`. It is false where the block has no such statement.

@@ -1,5 +1,5 @@
 //! The order of the statements of a program: `before` decides of two instances of statements, by their paths alone, whether one is
-//! before the other. It stands on rx_base, rx_rules, rx_nodes and rx_check, and its contract is the order itself, `comes_before`.
+//! before the other. It stands on rx_base, rx_rules, rx_syntax and rx_check, and its contract is the order itself, `comes_before`.
 //! docs/semantics.md states it under "The order of statements".
 //!
 //! x is before y where the two paths part at a position in a block, at a turn of a `repeat` or at the body and handler of a `try`, x

@@ -1,14 +1,14 @@
 // What each number of a path stands for.
 ghost use Rattle.std.specs.Prelude.{◌≡◌, ◌++◌, [], ◌∷◌, drop, IfOk, MatchOption, option_to_list};
 ghost use Rattle.rx_rules.specs.Code.{Stmt as Tree, Block};
-ghost use Rattle.rx_nodes.specs.Shape.{Shape, Stands, StmtIs};
+ghost use Rattle.rx_syntax.specs.Shape.{Shape, Stands, StmtIs};
 ghost use Rattle.rx_order.specs.Marks.{mark_of, marks_of};
 ghost use Rattle.rx_order.specs.Inside.Parts.{part_mark};
 
 use crate::parts::{number_at, part_of, stmt_at};
 use rx_base::NoMemory;
 use rx_check::Program;
-use rx_nodes::{Stmt, whole};
+use rx_syntax::{Stmt, whole};
 
 /// What a number of a path stands for, as far as the order of statements asks.
 #[derive(Clone, Copy, Debug, PartialEq, Eq)]

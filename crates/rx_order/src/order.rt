@@ -2,14 +2,14 @@
 ghost use Rattle.std.specs.Prelude.{◌≡◌, ◌<◌, ◌+◌, drop, length};
 ghost use Rattle.rx_rules.specs.Code.{Stmt as Tree, Block};
 ghost use Rattle.rx_rules.specs.Order.{comes_before, before_inside};
-ghost use Rattle.rx_nodes.specs.Shape.{Shape, Stands, StmtIs, BlockStands};
+ghost use Rattle.rx_syntax.specs.Shape.{Shape, Stands, StmtIs, BlockStands};
 ghost use Rattle.rx_order.specs.Inside.Parts.{WalkGoes, is_ordered};
 
 use crate::kept::is_kept;
 use crate::parts::{Walk, number_at, part_of, stmt_at};
 use rx_base::Path;
 use rx_check::Program;
-use rx_nodes::{BlockId, Script, Stmt, whole};
+use rx_syntax::{BlockId, Script, Stmt, whole};
 
 /// Whether the statement instance that x names is before the one that y names. Any paths may be passed: where the program has no
 /// statement at a position that is looked at, the answer is false. The time is linear in the two paths, and no memory is taken.

@@ -1,10 +1,10 @@
 // Where a path goes on inside a statement.
 ghost use Rattle.std.specs.Prelude.{◌≡◌, ◌+◌, ◌<◌, MatchOption, Some, drop, length, slice_get};
 ghost use Rattle.rx_rules.specs.Code.{Stmt as Tree, Block};
-ghost use Rattle.rx_nodes.specs.Shape.{Shape, StmtIs, BlockStands};
+ghost use Rattle.rx_syntax.specs.Shape.{Shape, StmtIs, BlockStands};
 ghost use Rattle.rx_order.specs.Inside.Parts.{item_of, turn_in, one_in, part_in, numbers_of, IsPart};
 
-use rx_nodes::{BlockId, Script, Stmt};
+use rx_syntax::{BlockId, Script, Stmt};
 
 /// The part of a statement into which a path goes: its number, 0 where there is one alone, its block, and where in the path the
 /// position in this block stands.

@@ -11,3 +11,6 @@ pub mod Prefixes
 pub mod Notes
 pub mod Closing
 pub mod Reading
+pub mod Fitting
+pub mod Closes
+pub mod Called

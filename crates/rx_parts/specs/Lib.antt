@@ -8,3 +8,7 @@ pub mod Calling
 pub mod Telling
 pub mod Notes
 pub mod Merges
+pub mod Deaths
+pub mod Histories
+pub mod Passes
+pub mod Inside

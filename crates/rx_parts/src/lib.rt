@@ -1,9 +1,10 @@
 //! Runs in parts: what the history of the ledger and the histories of the places say together. In a run in parts the ledger and
 //! each place have a book of their own, and no lock is held over two of them. Here stands when the history of such a book is
-//! legal, and the law that legal histories, which name and carry each other, are one whole run of the script. Every statement is
-//! over plain lists, without words, seats or locks. The crate stands on rx_rules, rx_sound and rx_runs and holds no code but laws:
-//! each public function has an empty body, and its contract is the law. The crates above cite the lemmas below these laws;
-//! specs/ has the statements.
+//! legal, and the law that legal histories, which name and carry each other, are one whole run of the script. These statements are
+//! over plain lists, without words, seats or locks. Here stand also the items of such books, how a book's history is such a list, and
+//! the laws by which what a pass has seen meets the condition of `Book::call`. The crate stands on rx_rules, rx_sound, rx_runs and
+//! rx_book. Beside the items it holds no code but laws: each public function has an empty body, and its contract is the law. The
+//! crates above cite the laws, or the lemmas below them; specs/ has the statements.
 #![tactic(auto)]
 
 ghost use Rattle.rx_parts.specs.Merges.{AccountsMerge};
@@ -15,6 +16,11 @@ ghost use Rattle.rx_parts.specs.Growing.{RequestKeeps, RequestMakes, EndMakes, A
 ghost use Rattle.rx_parts.specs.Calling.{CallStep, HostStep, ArrivalStep, TopStamp, PlaceGrows, SeatMakes, CallKeeps, CallMakes};
 ghost use Rattle.rx_parts.specs.Telling.{RequestTells, BirthTells, ArrivalTells, EndTells, EventTells, WalksJoin};
 ghost use Rattle.rx_parts.specs.Notes.{NotesGrow, NotesName};
+ghost use Rattle.rx_parts.specs.Passes.{AskFits, TaskFits, CellsStay, CallFits, MetAlone, ClosesFit};
+
+mod items;
+
+pub use items::{EntryItem, EventItem, NamedEvent};
 
 /// A law: a legal history of the ledger and legal histories of the places, which have all events that it names and have seen no
 /// more than it, are together one run of each task's term.
@@ -212,4 +218,39 @@ pub fn notes_grow()
 /// A law: so at the end the histories of the places have them.
 pub fn notes_name()
     ensures { NotesName }
+{}
+
+/// A law: a request that a pass may make by what it has seen may be made in each legal history that begins with this and has just
+/// the pass's entries.
+pub fn ask_fits()
+    ensures { AskFits }
+{}
+
+/// A law: what the history that a pass has seen says of a task that the pass's caller holds, each legal history says that begins
+/// with this and has just the pass's entries.
+pub fn task_fits()
+    ensures { TaskFits }
+{}
+
+/// A law: in each history of a place's book that begins with what the pass of a task has seen and has just its entries, the task's
+/// events are those that the pass has seen.
+pub fn cells_stay()
+    ensures { CellsStay }
+{}
+
+/// A law: a call of the store that a pass may make by what it has seen may be made in each legal history of the place that begins
+/// with this and has just the pass's entries.
+pub fn call_fits()
+    ensures { CallFits }
+{}
+
+/// A law: nothing of what a pass has newly seen after it met a note is by its caller.
+pub fn met_alone()
+    ensures { MetAlone }
+{}
+
+/// A law: where a note knows of no death of its place and no stamp of the place is above the number of entries that the note knows
+/// of, none is above the number of the place's death.
+pub fn closes_fit()
+    ensures { ClosesFit }
 {}

@@ -6,16 +6,16 @@ use Rattle.rx_base.specs.declared.ids.PlaceId.{PlaceId}
 use Rattle.rx_base.specs.declared.values.Fault.TheVariants.{WrongPlace, Thrown}
 use Rattle.rx_rules.specs.Code.{Expr, Stmt, SetTo, Get, Put, Throw, If, Repeat, Try}
 use Rattle.rx_rules.specs.Terms.{Vars, Term, Does, Local, Gets, Puts, bound, raise, ref_in, value_of, eval, with_number, is_zero, items, at, stmt_does}
-use Rattle.rx_nodes.specs.declared.nodes.ExprId.{ExprId}
-use Rattle.rx_nodes.specs.declared.nodes.BlockId.{BlockId}
-use Rattle.rx_nodes.specs.declared.nodes.NameId.{NameId}
-use Rattle.rx_nodes.specs.declared.nodes.Stmt.TheVariants.{Set as SetNode, Get as GetNode, Put as PutNode, Throw as ThrowNode, If as IfNode, Repeat as RepeatNode, Try as TryNode}
-use Rattle.rx_nodes.specs.Shape.{Shape, StmtIs, ExprStands}
+use Rattle.rx_syntax.specs.declared.nodes.ExprId.{ExprId}
+use Rattle.rx_syntax.specs.declared.nodes.BlockId.{BlockId}
+use Rattle.rx_syntax.specs.declared.nodes.NameId.{NameId}
+use Rattle.rx_syntax.specs.declared.nodes.Stmt.TheVariants.{Set as SetNode, Get as GetNode, Put as PutNode, Throw as ThrowNode, If as IfNode, Repeat as RepeatNode, Try as TryNode}
+use Rattle.rx_syntax.specs.Shape.{Shape, StmtIs, ExprStands}
 use Rattle.rx_plan.specs.declared.plan.Plan.{Plan}
 use Rattle.rx_plan.specs.declared.plan.Plan.TheVariants.{Assign, Raise, Choose, Loop, Attempt, Ask}
-use Rattle.rx_plan.specs.declared.step.Next.{Next}
-use Rattle.rx_plan.specs.declared.step.Next.TheVariants.{Local as LocalStep}
-use Rattle.rx_plan.specs.Next.{next_of}
+use Rattle.rx_history.specs.declared.step.Next.{Next}
+use Rattle.rx_history.specs.declared.step.Next.TheVariants.{Local as LocalStep}
+use Rattle.rx_history.specs.Next.{next_of}
 use Rattle.rx_plan.specs.Plans.{Plans, IsPlan}
 
 -- an expression has the value z

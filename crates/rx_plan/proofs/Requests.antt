@@ -4,9 +4,9 @@ use Rattle.std.proofs.Common.{ap}
 use Rattle.rx_base.specs.declared.ids.PlaceId.{PlaceId}
 use Rattle.rx_base.specs.declared.values.Fault.{Fault}
 use Rattle.rx_rules.specs.Terms.{Does, Local, Makes, Gets, Puts, Forgets, Opens, Calls, Spawns, Waits, Releases, Prints, Counts, Done}
-use Rattle.rx_plan.specs.declared.step.Want.TheVariants.{Open, At, Spawn, Wait, Release, Print, Census}
-use Rattle.rx_plan.specs.declared.step.Next.TheVariants.{Book, Done as Ended}
-use Rattle.rx_plan.specs.Next.{next_of}
+use Rattle.rx_history.specs.declared.step.Want.TheVariants.{Open, At, Spawn, Wait, Release, Print, Census}
+use Rattle.rx_history.specs.declared.step.Next.TheVariants.{Book, Done as Ended}
+use Rattle.rx_history.specs.Next.{next_of}
 
 pub asks_open : (d : Does) → next_of d ≡ Book Open → d ≡ Opens
 asks_open (Local left vars) h = cc

@@ -2,9 +2,9 @@
 use Rattle.std.specs.Prelude.{◌≡◌, ℕ, List, Some, refl}
 use Rattle.rx_base.specs.declared.values.Fault.{Fault}
 use Rattle.rx_rules.specs.Terms.{Vars, Term, Does, Local, Makes, Gets, Puts, Forgets, Opens, Calls, Spawns, Waits, Releases, Prints, Counts, Done}
-use Rattle.rx_plan.specs.declared.step.Next.TheVariants.{Local as LocalStep, Book}
-use Rattle.rx_plan.specs.declared.step.Want.TheVariants.{Wait, Census}
-use Rattle.rx_plan.specs.Next.{next_of, carried}
+use Rattle.rx_history.specs.declared.step.Next.TheVariants.{Local as LocalStep, Book}
+use Rattle.rx_history.specs.declared.step.Want.TheVariants.{Wait, Census}
+use Rattle.rx_history.specs.Next.{next_of, carried}
 
 pub told_local : (d : Does) → next_of d ≡ LocalStep → (left : Term) × (vars : Vars) × (d ≡ Local left vars)
 told_local (Local left vars) e = (left, vars, refl)

@@ -3,9 +3,9 @@ use Rattle.std.specs.Prelude.{◌≡◌, ◌≢◌, ℕ, List}
 use Rattle.rx_base.specs.declared.values.Value.TheVariants.{Num as Number}
 use Rattle.rx_rules.specs.Code.{Block, Stmt}
 use Rattle.rx_rules.specs.Terms.{Vars, Term, Empty, Turns, Trying, Does, Local, raise, bound, items, at, stmt_does}
-use Rattle.rx_nodes.specs.Shape.{Shape, BlockStands}
-use Rattle.rx_plan.specs.Next.{next_of}
-use Rattle.rx_plan.specs.declared.step.Next.TheVariants.{Local as LocalStep}
+use Rattle.rx_syntax.specs.Shape.{Shape, BlockStands}
+use Rattle.rx_history.specs.Next.{next_of}
+use Rattle.rx_history.specs.declared.step.Next.TheVariants.{Local as LocalStep}
 use Rattle.rx_plan.specs.declared.plan.Plan.{Plan}
 use Rattle.rx_plan.specs.declared.plan.Plan.TheVariants.{Assign, Raise, Choose, Loop, Attempt, Ask}
 

@@ -2,11 +2,11 @@
 ghost use Rattle.std.specs.Prelude.{◌≡◌, ℕ, ◌<◌, length, Option, Some, None, ℤ};
 ghost use Rattle.rx_rules.specs.Code.{Expr};
 ghost use Rattle.rx_rules.specs.Terms.{applied, both, eval, number_in};
-ghost use Rattle.rx_nodes.specs.Shape.{ExprStands, op_of};
+ghost use Rattle.rx_syntax.specs.Shape.{ExprStands, op_of};
 
 use crate::Variables;
 use rx_base::{PlaceId, Value};
-use rx_nodes::{ExprId, Op, Script};
+use rx_syntax::{ExprId, Op, Script};
 
 // The result of an operation, where it is in range.
 fn apply(op: Op, a: i64, b: i64) -> Option<i64>
@@ -38,10 +38,10 @@ pub(crate) fn evaluate(script: &Script, vars: &Variables, here: PlaceId, id: Exp
     ensures { (e : Expr) → ExprStands script.now.exprs id e → result ≡ eval vars.now here.0 e }
 {
     match script.expr(id) {
-        rx_nodes::Expr::Num(z) => Some(z),
-        rx_nodes::Expr::Name(name) => number(vars.get(name)),
-        rx_nodes::Expr::Here => Some(here.0 as i64),
-        rx_nodes::Expr::Bin { op, left, right } => {
+        rx_syntax::Expr::Num(z) => Some(z),
+        rx_syntax::Expr::Name(name) => number(vars.get(name)),
+        rx_syntax::Expr::Here => Some(here.0 as i64),
+        rx_syntax::Expr::Bin { op, left, right } => {
             let a = evaluate(script, vars, here, left);
             let b = evaluate(script, vars, here, right);
             combine(op, a, b)

@@ -6,15 +6,15 @@ ghost use Rattle.rx_base.specs.declared.values.Fault.TheVariants.{Thrown, WrongP
 ghost use Rattle.rx_rules.specs.Code.{Stmt as Tree, Block};
 ghost use Rattle.rx_rules.specs.Terms.{Vars, Term, Does, Local, Gets, Puts, Forgets, Prints, Spawns, Calls, bound, raise, ref_in};
 ghost use Rattle.rx_rules.specs.Terms.{target_of, with_number, with_place, is_zero, items, at, stmt_does};
-ghost use Rattle.rx_nodes.specs.Shape.{Shape, StmtIs, BlockStands};
-ghost use Rattle.rx_plan.specs.Next.{next_of};
+ghost use Rattle.rx_syntax.specs.Shape.{Shape, StmtIs, BlockStands};
+ghost use Rattle.rx_history.specs.Next.{next_of};
 ghost use Rattle.rx_plan.specs.Plans.{Plans, IsPlan};
 ghost use Rattle.rx_plan.specs.Inside.Places.{place_in};
 
 use crate::eval::evaluate;
 use crate::{CellOp, Next, Variables, Want};
 use rx_base::{Fault, GlobalRef, PlaceId, Value};
-use rx_nodes::{BlockId, ExprId, NameId, Script, Stmt};
+use rx_syntax::{BlockId, ExprId, NameId, Script, Stmt};
 
 /// What a statement does, once its expressions have values.
 #[derive(Clone, Copy, Debug, PartialEq, Eq)]

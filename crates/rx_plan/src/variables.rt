@@ -4,7 +4,7 @@ ghost use Rattle.rx_rules.specs.Terms.{no_vars, bound, value_of};
 ghost use Rattle.rx_plan.specs.Inside.Kept.{padded, IsShort};
 
 use rx_base::{NoMemory, Value};
-use rx_nodes::NameId;
+use rx_syntax::NameId;
 use std::alloc::Global;
 use std::marker::Model;
 

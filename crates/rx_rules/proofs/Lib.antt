@@ -5,5 +5,6 @@ pub mod Inverting
 pub mod Lookups
 pub mod Append
 pub mod Kills
+pub mod Deaths
 pub mod Setups
 pub mod Plans

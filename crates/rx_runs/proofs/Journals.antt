@@ -16,7 +16,8 @@ use Rattle.rx_rules.specs.Plays.{Birth, birth_of}
 use Rattle.rx_rules.specs.Store.{State, IsStoreRun, opening_state}
 use Rattle.rx_rules.specs.Run.{Given, AtHome, NotFalling, ClosesAt, stamp_of, close_in, death_number}
 use Rattle.rx_runs.specs.Games.{Leads, rests, steps, NotAbove, JournalSo}
-use Rattle.rx_runs.proofs.Pushes.{birth-push, death-push, first_of}
+use Rattle.rx_rules.proofs.Deaths.{death-push, first_of}
+use Rattle.rx_runs.proofs.Pushes.{birth-push}
 
 pub leads_law : {w : ℕ} {S Z : State} {j : List PlaceEvent} → Leads w S j Z → IsStoreRun w S j
 leads_law rests = tt

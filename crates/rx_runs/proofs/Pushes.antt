@@ -1,12 +1,11 @@
 -- One entry more.
-use Rattle.std.specs.Prelude.{◌≡◌, ℕ, suc, ◌+◌, List, [], ◌∷◌, ◌++◌, length, Option, Some, None, ◌==◌, Bool, true, false, refl}
+use Rattle.std.specs.Prelude.{◌≡◌, ℕ, suc, ◌+◌, List, [], ◌∷◌, ◌++◌, length, Option, Some, None, refl}
 use Rattle.std.proofs.Common.{ap, ◌∙◌, sym, arith, subst}
 use Rattle.std.specs.List.{cons_option}
-use Rattle.rx_base.specs.declared.ids.PlaceId.{PlaceId}
 use Rattle.rx_rules.specs.Plays.{Birth, moves_from, move_of, birth_in, birth_from}
 use Rattle.rx_rules.specs.declared.entries.Entry.{Entry}
 use Rattle.rx_rules.specs.declared.entries.Entry.TheVariants.{Step, Root, Death, Join}
-use Rattle.rx_rules.specs.Run.{Event, death_number, PlanKept, rest_of}
+use Rattle.rx_rules.specs.Run.{Event, PlanKept, rest_of}
 use Rattle.rx_runs.specs.Segments.{plan_left, InTime}
 
 alone : (n : ℕ) (xs : List Event) (e : Entry) → InTime n xs e → PlanKept n xs (e ∷ [])
@@ -46,24 +45,3 @@ birth-push n (x ∷ es) e t h =
     let z : n + length (x ∷ es) ≡ suc n + length es = omega arith in
     let h' : birth_in (suc n + length es) t e ≡ None = subst (λ k. birth_in k t e ≡ None) z h in
     ap (λ (v : Birth). elim (birth_in n t x) [ Some b ↦ b | None ↦ v ]) (birth-push (suc n) es e t h')
-
-abbrev pub first_of : Option ℕ → Option ℕ → Option ℕ
-first_of (Some k) o = Some k
-first_of None o = o
-
-shift : (n : ℕ) (p : PlaceId) (x : Entry) (es : List Entry) (e : Entry) → first_of (death_number (suc n) p es) (death_number (suc n + length es) p (e ∷ [])) ≡ first_of (death_number (suc n) p es) (death_number (n + length (x ∷ es)) p (e ∷ []))
-shift n p x es e =
-    let z : suc n + length es ≡ n + length (x ∷ es) = omega arith in
-    ap (λ m. first_of (death_number (suc n) p es) (death_number m p (e ∷ []))) z
-
-death_step : (n : ℕ) (p d : PlaceId) (es : List Entry) (e : Entry) (b : Bool) → (d.0 == p.0) ≡ b → death_number (suc n) p (es ++ e ∷ []) ≡ first_of (death_number (suc n) p es) (death_number (suc n + length es) p (e ∷ [])) → death_number n p (Death d ∷ es ++ e ∷ []) ≡ first_of (death_number n p (Death d ∷ es)) (death_number (n + length (Death d ∷ es)) p (e ∷ []))
-death_step n p d es e true h ih = rw h
-death_step n p d es e false h ih = rw h (ih ∙ shift n p (Death d) es e)
-
--- a place that lives has no death in a longer history unless the entry is one
-pub death-push : (n : ℕ) (p : PlaceId) (es : List Entry) (e : Entry) → death_number n p (es ++ e ∷ []) ≡ first_of (death_number n p es) (death_number (n + length es) p (e ∷ []))
-death-push n p [] e = let z : n + 0 ≡ n = omega arith in ap (λ k. death_number k p (e ∷ [])) (sym z)
-death-push n p (Step t act batch ∷ es) e = death-push (suc n) p es e ∙ shift n p (Step t act batch) es e
-death-push n p (Root lost masked thrown ∷ es) e = death-push (suc n) p es e ∙ shift n p (Root lost masked thrown) es e
-death-push n p (Death d ∷ es) e = death_step n p d es e (d.0 == p.0) refl (death-push (suc n) p es e)
-death-push n p (Join j ∷ es) e = death-push (suc n) p es e ∙ shift n p (Join j) es e

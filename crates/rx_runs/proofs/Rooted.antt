@@ -28,7 +28,8 @@ use Rattle.rx_rules.proofs.Append.{root-push}
 use Rattle.rx_runs.specs.Games.{TaskSo, away, going, over, Pairs, PlayerSo, JournalSo, Landed, GameOk}
 use Rattle.rx_runs.proofs.Segments.{stopped}
 use Rattle.rx_runs.proofs.Planned.{planned_no_root, due_planned}
-use Rattle.rx_runs.proofs.Pushes.{plan-push, moves-push, birth-push, death-push}
+use Rattle.rx_rules.proofs.Deaths.{death-push}
+use Rattle.rx_runs.proofs.Pushes.{plan-push, moves-push, birth-push}
 
 -- what a task has played, whether it goes on or not
 pub landed : {starts : List (Term × Vars)} (b : Birth) (start : Term × Vars) (cells : List (ℕ × Cell × List ℕ)) (moves rest : List (ℕ × Act × List (List ℕ))) (low : ℕ) → Landed b moves low rest → Plays starts b.to low start.1 start.0 [] cells rest → Begins starts b.to (travels b) b.low start.1 start.0 cells moves

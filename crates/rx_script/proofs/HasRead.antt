@@ -3,19 +3,19 @@ use Rattle.std.proofs.Common.{◌≡◌, ◌+◌, ◌<◌, ◌≤◌, ◌^◌, L
 use Rattle.std.specs.Prelude.{Some, Result, Ok, Err, IfOk, option_and_then, slice_get}
 use Rattle.rx_base.proofs.Elements.{get-last}
 use Rattle.rx_rules.specs.Code.{Stmt, SetTo, New, Get, Put, Forget, Census, Print, Throw, Async, AtAsync, At, Finish, If, Repeat, Try, Block}
-use Rattle.rx_nodes.specs.Shape.{Shape, IsSmall, ListStands, BlockStands}
-use Rattle.rx_nodes.specs.Grammar.{spelling}
+use Rattle.rx_syntax.specs.Shape.{Shape, IsSmall, ListStands, BlockStands}
+use Rattle.rx_syntax.specs.Grammar.{spelling}
 use Rattle.rx_script.specs.Inside.Items.{Opener, ByAsync, ByAtAsync, ByAt, ByFinish, ByIf, ByRepeat, ByTry, Item, Whole, Open, Close, Else, Catch, item_words, opener_words, item_at, Mode, Outermost}
 use Rattle.rx_script.specs.Inside.Machine.{Frame, Waits, Free, ForElse, ForCatch, BlocksRead, free, step, items_run, mode_in, mode}
 use Rattle.rx_script.specs.Inside.Pieces.{mode_of, Grows, ItemStands, IsItemAnswer}
 use Rattle.rx_script.specs.Places.{IsPlace}
 use Rattle.rx_script.specs.Inside.Arena.{ReaderHolds, MayTake, Takes, GrowsByOne, IsRead, blocks_of}
-use Rattle.rx_token.specs.declared.token.Token.{Token}
+use Rattle.rx_syntax.specs.declared.token.Token.{Token}
 use Rattle.rx_script.specs.declared.items.Item.{Item as Piece}
 use Rattle.rx_script.specs.declared.items.Mode.{Mode as Stand}
 use Rattle.rx_script.specs.declared.items.Mode.TheVariants as stands
-use Rattle.rx_nodes.specs.declared.nodes.Expr.{Expr as Part}
-use Rattle.rx_nodes.specs.declared.nodes.StmtId.{StmtId}
+use Rattle.rx_syntax.specs.declared.nodes.Expr.{Expr as Part}
+use Rattle.rx_syntax.specs.declared.nodes.StmtId.{StmtId}
 use Rattle.rx_script.specs.declared.reader.Reader.{Reader}
 use Rattle.rx_script.proofs.Runs.{words, some-and, start, run-append}
 use Rattle.rx_script.proofs.Spelt.{takes}

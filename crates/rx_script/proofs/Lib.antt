@@ -14,3 +14,4 @@ pub mod Arena
 pub mod HasRead
 pub mod WholeRead
 pub mod Written
+pub mod Programs

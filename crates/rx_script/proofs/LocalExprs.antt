@@ -2,12 +2,12 @@
 use Rattle.std.proofs.Common.{◌≡◌, List, [], ◌∷◌, ◌++◌, pos, refl}
 use Rattle.std.specs.Prelude.{Ok}
 use Rattle.rx_rules.specs.Code.{Add, Expr, Num, Name, Here, Bin}
-use Rattle.rx_token.specs.declared.token.Token.{Token}
-use Rattle.rx_token.specs.declared.token.Token.TheVariants.{Key, Called, Number, Oper, Mark}
-use Rattle.rx_token.specs.declared.token.Keyword.TheVariants.{Here as KHere}
-use Rattle.rx_token.specs.declared.token.Sign.TheVariants.{OpenParen as LParen, CloseParen as RParen}
-use Rattle.rx_token.specs.declared.token.Op.TheVariants.{Add as AddSign}
-use Rattle.rx_nodes.specs.Shape.{op_of}
+use Rattle.rx_syntax.specs.declared.token.Token.{Token}
+use Rattle.rx_syntax.specs.declared.token.Token.TheVariants.{Key, Called, Number, Oper, Mark}
+use Rattle.rx_syntax.specs.declared.token.Keyword.TheVariants.{Here as KHere}
+use Rattle.rx_syntax.specs.declared.token.Sign.TheVariants.{OpenParen as LParen, CloseParen as RParen}
+use Rattle.rx_syntax.specs.declared.token.Op.TheVariants.{Add as AddSign}
+use Rattle.rx_syntax.specs.Shape.{op_of}
 use Rattle.rx_script.specs.Inside.Exprs.{Pair, First, Second, operand, whole, expr}
 use Rattle.rx_script.proofs.Local.{Completes, Judged, IsLocal, judged-more, refused-here, refused-end}
 

@@ -2,16 +2,16 @@
 use Rattle.std.proofs.Common.{◌≡◌, ℕ, ◌-◌, List, [], length, Some, slice_get, sym, ap, subst, ◌∙◌, arith}
 use Rattle.std.proofs.lemmas.Option.{same_Some}
 use Rattle.rx_rules.specs.Code.{Block}
-use Rattle.rx_token.specs.declared.token.Token.{Token}
-use Rattle.rx_token.specs.Scans.{Scans}
-use Rattle.rx_nodes.specs.Grammar.{spellings, IsScriptOf}
+use Rattle.rx_syntax.specs.declared.token.Token.{Token}
+use Rattle.rx_syntax.specs.Scans.{Scans}
+use Rattle.rx_syntax.specs.Grammar.{spellings, IsScriptOf}
 use Rattle.rx_script.specs.Places.{IsPlace}
 use Rattle.rx_script.specs.Faults.{IsFaultAt}
 use Rattle.rx_script.specs.Writing.{WrittenReadsBack, ScriptsAreSpelled}
-use Rattle.rx_token.proofs.Scanning.{begins-scans}
-use Rattle.rx_token.proofs.OneScan.{one-scan}
-use Rattle.rx_token.proofs.Spelling.{begins-spelled}
-use Rattle.rx_token.proofs.ReadBack.{joined-begin, all-plain}
+use Rattle.rx_syntax.proofs.Scanning.{begins-scans}
+use Rattle.rx_syntax.proofs.OneScan.{one-scan}
+use Rattle.rx_syntax.proofs.Spelling.{begins-spelled}
+use Rattle.rx_syntax.proofs.ReadBack.{joined-begin, all-plain}
 use Rattle.rx_script.proofs.Places.{one-place, no-place, one-tree}
 
 -- a script is scanned

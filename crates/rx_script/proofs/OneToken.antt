@@ -4,23 +4,23 @@ use Rattle.std.specs.Prelude.{Result}
 use Rattle.std.proofs.lemmas.List.{same_from_push}
 use Rattle.rx_base.proofs.Elements.{push-not-nil, get-last}
 use Rattle.rx_rules.specs.Code.{Expr, Num, Name, Here, Bin}
-use Rattle.rx_nodes.specs.Shape.{ExprStands, op_of}
+use Rattle.rx_syntax.specs.Shape.{ExprStands, op_of}
 use Rattle.rx_script.specs.Inside.Exprs.{Pair, First, Second, whole}
 use Rattle.rx_script.specs.Inside.Pieces.{Grows}
 use Rattle.rx_script.specs.Inside.Turns.{PairStands, PairsStand, ExprReads}
-use Rattle.rx_nodes.specs.declared.nodes.ExprId.{ExprId}
-use Rattle.rx_nodes.specs.declared.nodes.NameId.{NameId}
-use Rattle.rx_token.specs.declared.token.Op.{Op as Sign}
-use Rattle.rx_nodes.specs.declared.nodes.Expr.{Expr as Part}
-use Rattle.rx_nodes.specs.declared.nodes.Expr.TheVariants as parts
-use Rattle.rx_token.specs.declared.token.Token.{Token}
-use Rattle.rx_token.specs.declared.token.Token.TheVariants.{Key, Called, Number, Mark}
-use Rattle.rx_token.specs.declared.token.Keyword.TheVariants.{Here as KHere}
-use Rattle.rx_token.specs.declared.token.Sign.TheVariants.{CloseParen as RParen}
+use Rattle.rx_syntax.specs.declared.nodes.ExprId.{ExprId}
+use Rattle.rx_syntax.specs.declared.nodes.NameId.{NameId}
+use Rattle.rx_syntax.specs.declared.token.Op.{Op as Sign}
+use Rattle.rx_syntax.specs.declared.nodes.Expr.{Expr as Part}
+use Rattle.rx_syntax.specs.declared.nodes.Expr.TheVariants as parts
+use Rattle.rx_syntax.specs.declared.token.Token.{Token}
+use Rattle.rx_syntax.specs.declared.token.Token.TheVariants.{Key, Called, Number, Mark}
+use Rattle.rx_syntax.specs.declared.token.Keyword.TheVariants.{Here as KHere}
+use Rattle.rx_syntax.specs.declared.token.Sign.TheVariants.{CloseParen as RParen}
 use Rattle.rx_script.specs.declared.exprs.OpenPair.{OpenPair}
 use Rattle.rx_script.specs.declared.exprs.OpenPair.TheVariants as pairs
 use Rattle.rx_script.specs.declared.exprs.Turn.TheVariants as turns
-use Rattle.rx_nodes.proofs.Within.{stands-within}
+use Rattle.rx_syntax.proofs.Within.{stands-within}
 use Rattle.rx_script.proofs.Growing.{expr-grows}
 
 pair-grows : (es fs : List Part) → Grows es fs → (p : OpenPair) (q : Pair) → PairStands es p q → PairStands fs p q

@@ -2,9 +2,9 @@
 use Rattle.std.proofs.Common.{◌≡◌, List, [], ◌∷◌, ◌++◌, false, refl, ap, sym, ◌∙◌, subst, append_assoc, append-nil, ◌⊎◌, inl, inr}
 use Rattle.std.specs.Prelude.{Some, Result, Ok, Err, option_and_then}
 use Rattle.std.proofs.lemmas.Option.{same_Some}
-use Rattle.rx_token.specs.declared.token.Token.{Token}
+use Rattle.rx_syntax.specs.declared.token.Token.{Token}
 use Rattle.rx_rules.specs.Code.{Block, Nothing, Async, AtAsync, At, Finish, If, Repeat, Try}
-use Rattle.rx_nodes.specs.Grammar.{spellings, AllInRange}
+use Rattle.rx_syntax.specs.Grammar.{spellings, AllInRange}
 use Rattle.rx_script.specs.Inside.Items.{ByAsync, ByAtAsync, ByAt, ByFinish, ByIf, ByRepeat, ByTry, Item, Whole, Open, Close, Else, Catch, IsItem, item_words, Outermost, MayStand, item_at}
 use Rattle.rx_script.specs.Places.{BeginsScript, IsPlace}
 use Rattle.rx_script.specs.Inside.Machine.{added, Frame, Fore, Other, Handler, Waits, Free, ForElse, ForCatch, BlocksRead, free, item_stepped, step, items_run, mode_in, mode}

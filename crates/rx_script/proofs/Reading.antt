@@ -2,16 +2,16 @@
 use Rattle.std.proofs.Common.{◌≡◌, List, sym, ap, subst}
 use Rattle.std.specs.Prelude.{Result, Ok, Err, IfOk}
 use Rattle.rx_rules.specs.Code.{Expr}
-use Rattle.rx_nodes.specs.Shape.{ExprStands}
+use Rattle.rx_syntax.specs.Shape.{ExprStands}
 use Rattle.rx_script.specs.Inside.Readers.{Reader, after, then}
 use Rattle.rx_script.specs.Inside.Exprs.{expr}
 use Rattle.rx_script.specs.Inside.Items.{Item}
 use Rattle.rx_script.specs.Inside.Pieces.{IsExprAnswer, IsItemAnswer}
 use Rattle.rx_script.specs.Inside.Parts.{LeadsExpr}
-use Rattle.rx_nodes.specs.declared.nodes.ExprId.{ExprId}
-use Rattle.rx_nodes.specs.declared.nodes.Expr.{Expr as Part}
+use Rattle.rx_syntax.specs.declared.nodes.ExprId.{ExprId}
+use Rattle.rx_syntax.specs.declared.nodes.Expr.{Expr as Part}
 use Rattle.rx_script.specs.declared.items.Item.{Item as Piece}
-use Rattle.rx_token.specs.declared.token.Token.{Token}
+use Rattle.rx_syntax.specs.declared.token.Token.{Token}
 
 -- what is said of the one answer holds of the other
 pub moved : {S : Type 0} (es : List Part) (r : Result (Piece × S) S) (left : S → List Token) (o p : Result (Item × List Token) (List Token)) → o ≡ p → IsItemAnswer es r left p → IsItemAnswer es r left o

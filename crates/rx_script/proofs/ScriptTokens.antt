@@ -1,13 +1,13 @@
 -- What is scanned as the tokens of a tree is a script.
 use Rattle.std.proofs.Common.{ℕ, List, [], ◌∷◌, ◌++◌, length, Bool, true, false}
 use Rattle.rx_rules.specs.Code.{Expr, Num, Name, Here, Bin, Stmt, SetTo, New, Get, Put, Forget, Census, Print, Throw, Async, AtAsync, At, Finish, If, Repeat, Try, Block, Nothing, Then}
-use Rattle.rx_token.specs.declared.token.Sign.TheVariants.{CloseBrace}
-use Rattle.rx_token.specs.declared.token.Token.{Token}
-use Rattle.rx_token.specs.declared.token.Token.TheVariants.{Mark}
-use Rattle.rx_token.specs.Tokens.{AreNames}
-use Rattle.rx_token.specs.Scans.{Scans}
-use Rattle.rx_nodes.specs.Grammar.{spell, catch_words, spelling, spellings, AllInRange, IsScriptOf}
-use Rattle.rx_token.proofs.Scanning.{NoBad, no-bad-more, scans-begins}
+use Rattle.rx_syntax.specs.declared.token.Sign.TheVariants.{CloseBrace}
+use Rattle.rx_syntax.specs.declared.token.Token.{Token}
+use Rattle.rx_syntax.specs.declared.token.Token.TheVariants.{Mark}
+use Rattle.rx_syntax.specs.Tokens.{AreNames}
+use Rattle.rx_syntax.specs.Scans.{Scans}
+use Rattle.rx_syntax.specs.Grammar.{spell, catch_words, spelling, spellings, AllInRange, IsScriptOf}
+use Rattle.rx_syntax.proofs.Scanning.{NoBad, no-bad-more, scans-begins}
 
 -- no bad token is among the tokens of a tree
 no-bad-expr : (e : Expr) → NoBad (spell e)

@@ -1,17 +1,17 @@
 -- What the reader of items reads are an item's tokens, and an item is read from its tokens.
 use Rattle.std.proofs.Common.{◌≡◌, List, [], ◌∷◌, ◌++◌, ℕ, pos, Bool, true, false, refl, ap, sym, ◌∙◌, subst, append_assoc}
 use Rattle.std.specs.Prelude.{Option, Some, None, Result, Ok, Err}
-use Rattle.rx_token.specs.declared.token.Token.{Token}
-use Rattle.rx_token.specs.declared.token.Token.TheVariants.{Key, Called, Number, Oper, Mark}
-use Rattle.rx_token.specs.declared.token.Keyword.TheVariants.{Here as KHere, Set as KSet, New as KNew, Get as KGet, Put as KPut, Forget as KForget, Census as KCensus, Print as KPrint, Throw as KThrow, Async as KAsync, At as KAt, Finish as KFinish, If as KIf, Else as KElse, Repeat as KRepeat, Try as KTry, Catch as KCatch, Dead as KDead}
-use Rattle.rx_token.specs.declared.token.Sign.TheVariants.{OpenParen as LParen, CloseParen as RParen, OpenBrace as LBrace, CloseBrace as RBrace, OpenSquare as LSquare, CloseSquare as RSquare, Equals, Semicolon}
+use Rattle.rx_syntax.specs.declared.token.Token.{Token}
+use Rattle.rx_syntax.specs.declared.token.Token.TheVariants.{Key, Called, Number, Oper, Mark}
+use Rattle.rx_syntax.specs.declared.token.Keyword.TheVariants.{Here as KHere, Set as KSet, New as KNew, Get as KGet, Put as KPut, Forget as KForget, Census as KCensus, Print as KPrint, Throw as KThrow, Async as KAsync, At as KAt, Finish as KFinish, If as KIf, Else as KElse, Repeat as KRepeat, Try as KTry, Catch as KCatch, Dead as KDead}
+use Rattle.rx_syntax.specs.declared.token.Sign.TheVariants.{OpenParen as LParen, CloseParen as RParen, OpenBrace as LBrace, CloseBrace as RBrace, OpenSquare as LSquare, CloseSquare as RSquare, Equals, Semicolon}
 use Rattle.rx_rules.specs.Code.{Expr, Num, Name, Here, Bin, Stmt, SetTo, New, Get, Put, Forget, Census, Print, Throw, Async, AtAsync, At, Finish, If, Repeat, Try}
-use Rattle.rx_nodes.specs.Grammar.{may_hold, may_turn, spell}
+use Rattle.rx_syntax.specs.Grammar.{may_hold, may_turn, spell}
 use Rattle.rx_rules.specs.Code.{Op, Add, Sub, Mul, Less, Equal}
-use Rattle.rx_token.specs.declared.token.Op.{Op as Operation}
-use Rattle.rx_token.specs.declared.token.Op.TheVariants as signs
-use Rattle.rx_nodes.specs.Shape.{op_of}
-use Rattle.rx_nodes.specs.Grammar.{sign_of}
+use Rattle.rx_syntax.specs.declared.token.Op.{Op as Operation}
+use Rattle.rx_syntax.specs.declared.token.Op.TheVariants as signs
+use Rattle.rx_syntax.specs.Shape.{op_of}
+use Rattle.rx_syntax.specs.Grammar.{sign_of}
 use Rattle.rx_script.specs.Inside.Readers.{Reader, after, then, done, picked, choose}
 use Rattle.rx_script.specs.Inside.Exprs.{Pair, First, Second, operand, whole, expr}
 use Rattle.rx_script.specs.Inside.Items.{Opener, ByAsync, ByAtAsync, ByAt, ByFinish, ByIf, ByRepeat, ByTry, Item, Whole, Open, Close, Else, Catch, IsItem, IsSimple, IsOpener, item_words, called, number_in_range, counted, brace, semicolon, equals_then, square, end_square, ends, opens, at_body, statement, statement_or_end, else_word, dead_word, catch_word, Mode, Outermost, Inside, AfterFirst, AfterBody, item_at, MayStand}

@@ -1,16 +1,16 @@
 -- What has been read of the tokens says what the bytes are.
 use Rattle.std.proofs.Common.{◌≡◌, ℕ, ◌-◌, ◌<◌, List, length, ap, sym, ◌∙◌, subst, arith}
 use Rattle.std.specs.Prelude.{Some, Result, Ok, Err, slice_get}
-use Rattle.rx_token.specs.Scans.{Scans}
+use Rattle.rx_syntax.specs.Scans.{Scans}
 use Rattle.rx_script.specs.Faults.{IsFaultAt}
-use Rattle.rx_token.specs.Tokens.{AreNames}
-use Rattle.rx_nodes.specs.Grammar.{IsScriptOf}
+use Rattle.rx_syntax.specs.Tokens.{AreNames}
+use Rattle.rx_syntax.specs.Grammar.{IsScriptOf}
 use Rattle.rx_script.specs.Places.{IsPlace}
 use Rattle.rx_script.specs.Inside.Arena.{IsRead, IsParsed}
-use Rattle.rx_token.specs.declared.token.Token.{Token}
+use Rattle.rx_syntax.specs.declared.token.Token.{Token}
 use Rattle.rx_script.specs.declared.reader.Reader.{Reader}
 use Rattle.rx_script.proofs.ScriptTokens.{scanned-script}
-use Rattle.rx_token.proofs.Scanning.{starts-long}
+use Rattle.rx_syntax.proofs.Scanning.{starts-long}
 
 -- the tokens of the bytes, with their starts and names
 pub record IsScanned (names : List (List ℕ)) (bytes : List ℕ) (tokens : List Token) (starts : List ℕ) : Type 0 where

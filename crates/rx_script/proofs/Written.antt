@@ -7,23 +7,23 @@ use Rattle.std.proofs.lemmas.List.{reverse-append, reverse-reverse, drop_all}
 use Rattle.std.proofs.lemmas.Option.{slice_get_within}
 use Rattle.rx_base.proofs.Elements.{drop-suc}
 use Rattle.rx_rules.specs.Code.{Expr as Tree, Num, Name, Here, Bin, Block, Nothing, Then, Stmt, SetTo, New, Get, Put, Forget, Census, Print, Throw, Async, AtAsync, At, Finish, If, Repeat, Try}
-use Rattle.rx_nodes.specs.declared.nodes.StmtId.{StmtId}
-use Rattle.rx_nodes.specs.declared.nodes.ExprId.{ExprId}
-use Rattle.rx_nodes.specs.declared.nodes.BlockId.{BlockId}
-use Rattle.rx_nodes.specs.declared.nodes.Stmt.{Stmt as Node}
-use Rattle.rx_nodes.specs.declared.nodes.Stmt.TheVariants as nodes
-use Rattle.rx_nodes.specs.declared.nodes.Expr.{Expr as Leaf}
-use Rattle.rx_nodes.specs.declared.nodes.Expr.TheVariants as leaves
-use Rattle.rx_token.specs.declared.token.Op.TheVariants as signs
-use Rattle.rx_token.specs.declared.token.Keyword.TheVariants.{Async as KAsync, At as KAt, If as KIf, Else as KElse, Catch as KCatch, Dead as KDead}
-use Rattle.rx_token.specs.declared.token.Sign.TheVariants.{OpenBrace as LBrace, CloseBrace as RBrace, OpenParen as LParen, CloseParen as RParen, OpenSquare as LSquare, CloseSquare as RSquare, Equals, Semicolon}
-use Rattle.rx_token.specs.declared.token.Token.{Token}
-use Rattle.rx_token.specs.declared.token.Token.TheVariants.{Key, Called, Number, Oper, Mark}
+use Rattle.rx_syntax.specs.declared.nodes.StmtId.{StmtId}
+use Rattle.rx_syntax.specs.declared.nodes.ExprId.{ExprId}
+use Rattle.rx_syntax.specs.declared.nodes.BlockId.{BlockId}
+use Rattle.rx_syntax.specs.declared.nodes.Stmt.{Stmt as Node}
+use Rattle.rx_syntax.specs.declared.nodes.Stmt.TheVariants as nodes
+use Rattle.rx_syntax.specs.declared.nodes.Expr.{Expr as Leaf}
+use Rattle.rx_syntax.specs.declared.nodes.Expr.TheVariants as leaves
+use Rattle.rx_syntax.specs.declared.token.Op.TheVariants as signs
+use Rattle.rx_syntax.specs.declared.token.Keyword.TheVariants.{Async as KAsync, At as KAt, If as KIf, Else as KElse, Catch as KCatch, Dead as KDead}
+use Rattle.rx_syntax.specs.declared.token.Sign.TheVariants.{OpenBrace as LBrace, CloseBrace as RBrace, OpenParen as LParen, CloseParen as RParen, OpenSquare as LSquare, CloseSquare as RSquare, Equals, Semicolon}
+use Rattle.rx_syntax.specs.declared.token.Token.{Token}
+use Rattle.rx_syntax.specs.declared.token.Token.TheVariants.{Key, Called, Number, Oper, Mark}
 use Rattle.rx_script.specs.declared.writer.Part.{Part}
 use Rattle.rx_script.specs.declared.writer.Part.TheVariants.{One, Value, From}
-use Rattle.rx_nodes.specs.Shape.{Shape, ExprStands, StmtIs, ListStands, Stands}
-use Rattle.rx_nodes.specs.Grammar.{spell, catch_words, spelling, spellings}
-use Rattle.rx_token.specs.Texts.{spaced}
+use Rattle.rx_syntax.specs.Shape.{Shape, ExprStands, StmtIs, ListStands, Stands}
+use Rattle.rx_syntax.specs.Grammar.{spell, catch_words, spelling, spellings}
+use Rattle.rx_syntax.specs.Texts.{spaced}
 use Rattle.rx_script.specs.Inside.Unwritten.{PartStands, PartsStand, front_of, parts_after, block_parts, catch_parts, expr_front, expr_rest, Wrote}
 use Rattle.rx_script.proofs.Spelt.{sign-of-op}
 

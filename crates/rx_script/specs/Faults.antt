@@ -1,10 +1,10 @@
 -- Where bytes are no script: the start of the first token that can't go on.
 use Rattle.std.specs.Prelude.{◌≡◌, ℕ, ◌-◌, List, length, Some, slice_get}
 use Rattle.rx_rules.specs.Code.{Block}
-use Rattle.rx_token.specs.declared.token.Token.{Token}
-use Rattle.rx_token.specs.Tokens.{AreNames}
-use Rattle.rx_nodes.specs.Grammar.{IsScript, IsScriptOf}
-use Rattle.rx_token.specs.Scans.{Scans}
+use Rattle.rx_syntax.specs.declared.token.Token.{Token}
+use Rattle.rx_syntax.specs.Tokens.{AreNames}
+use Rattle.rx_syntax.specs.Grammar.{IsScript, IsScriptOf}
+use Rattle.rx_syntax.specs.Scans.{Scans}
 use Rattle.rx_script.specs.Places.{IsPlace}
 
 -- the first token that can't go on starts there

@@ -1,8 +1,8 @@
 -- The first token that can't go on.
 use Rattle.std.specs.Prelude.{◌≡◌, List, [], ◌∷◌, ◌++◌}
-use Rattle.rx_token.specs.declared.token.Token.{Token}
+use Rattle.rx_syntax.specs.declared.token.Token.{Token}
 use Rattle.rx_rules.specs.Code.{Block}
-use Rattle.rx_nodes.specs.Grammar.{spellings, AllInRange}
+use Rattle.rx_syntax.specs.Grammar.{spellings, AllInRange}
 
 -- the tokens begin a script
 pub record BeginsScript (front : List Token) : Type 0 where

@@ -1,9 +1,9 @@
 -- How a script is written.
 use Rattle.std.specs.Prelude.{ℕ, List, [], ◌∷◌, ◌++◌}
 use Rattle.rx_rules.specs.Code.{Block}
-use Rattle.rx_nodes.specs.Grammar.{spellings, AllInRange, IsScriptOf}
-use Rattle.rx_token.specs.Tokens.{AreNames}
-use Rattle.rx_token.specs.Texts.{with_blanks, AreSpelled}
+use Rattle.rx_syntax.specs.Grammar.{spellings, AllInRange, IsScriptOf}
+use Rattle.rx_syntax.specs.Tokens.{AreNames}
+use Rattle.rx_syntax.specs.Texts.{with_blanks, AreSpelled}
 
 -- the text of a script with these names: its tokens and a newline
 abbrev pub script_text : List (List ℕ) → Block → List ℕ

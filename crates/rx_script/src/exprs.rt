@@ -7,8 +7,7 @@ ghost use Rattle.rx_script.specs.Inside.Turns.{ExprReads, Steps};
 ghost use Rattle.rx_script.specs.declared.exprs.Turn.TheVariants as turns;
 
 use rx_base::NoMemory;
-use rx_nodes::{Expr, ExprId, NameId};
-use rx_token::{Keyword, Op, Sign, Token};
+use rx_syntax::{Expr, ExprId, Keyword, NameId, Op, Sign, Token};
 
 // A pair of parentheses that is open: before its first operand is whole, or after its operator.
 #[derive(Clone, Copy, Debug, PartialEq, Eq)]

@@ -2,21 +2,20 @@
 // a block, or what begins a second block.
 ghost use Rattle.std.specs.Prelude.{◌≡◌, ◌+◌, ◌^◌, ◌<◌, ◌≤◌, List, option_map, length, vec_len, IfOk, OnOk};
 ghost use Rattle.rx_rules.specs.Code.{Expr as Tree, Get, Put};
-ghost use Rattle.rx_nodes.specs.Grammar.{may_hold, may_turn};
-ghost use Rattle.rx_nodes.specs.Shape.{ExprStands};
+ghost use Rattle.rx_syntax.specs.Grammar.{may_hold, may_turn};
+ghost use Rattle.rx_syntax.specs.Shape.{ExprStands};
 ghost use Rattle.rx_script.specs.Inside.Readers.{then, done, choose};
 ghost use Rattle.rx_script.specs.Inside.Exprs.{expr};
 ghost use Rattle.rx_script.specs.Inside.Items as read;
 ghost use Rattle.rx_script.specs.Inside.Items.{item_at};
 ghost use Rattle.rx_script.specs.Inside.Pieces.{mode_of, Grows, ItemStands, IsItemAnswer};
 ghost use Rattle.rx_script.specs.Inside.Parts.{Passes, Leads, LeadsExpr};
-ghost use Rattle.rx_nodes.specs.declared.nodes.Expr.{Expr as Part};
-ghost use Rattle.rx_token.specs.declared.token.Token.TheVariants.{Number};
+ghost use Rattle.rx_syntax.specs.declared.nodes.Expr.{Expr as Part};
+ghost use Rattle.rx_syntax.specs.declared.token.Token.TheVariants.{Number};
 
 use crate::exprs::expression;
 use rx_base::NoMemory;
-use rx_nodes::{Expr, ExprId, NameId, Stmt};
-use rx_token::{Keyword, Sign, Token};
+use rx_syntax::{Expr, ExprId, Keyword, NameId, Sign, Stmt, Token};
 
 // The front of a statement that has a block.
 #[derive(Clone, Copy, Debug, PartialEq, Eq)]

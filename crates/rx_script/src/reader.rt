@@ -5,12 +5,12 @@ ghost use Rattle.rx_script.specs.declared.items.Item.TheVariants.{Close, Else, C
 ghost use Rattle.rx_script.specs.declared.items.Mode.TheVariants.{Outermost};
 ghost use Rattle.rx_script.specs.declared.reader.Owner.TheVariants.{Front};
 ghost use Rattle.rx_rules.specs.Code.{Block};
-ghost use Rattle.rx_nodes.specs.Grammar.{IsScriptOf, AllInRange, spellings};
-ghost use Rattle.rx_token.specs.Tokens.{AreNames};
+ghost use Rattle.rx_syntax.specs.Grammar.{IsScriptOf, AllInRange, spellings};
+ghost use Rattle.rx_syntax.specs.Tokens.{AreNames};
 ghost use Rattle.rx_script.specs.Faults.{IsFaultAt};
-ghost use Rattle.rx_token.specs.Texts.{AreSpelled};
-ghost use Rattle.rx_nodes.specs.Shape.{Stands, ListStands, IsSmall};
-ghost use Rattle.rx_token.specs.Tables.{names_of};
+ghost use Rattle.rx_syntax.specs.Texts.{AreSpelled};
+ghost use Rattle.rx_syntax.specs.Shape.{Stands, ListStands, IsSmall};
+ghost use Rattle.rx_syntax.specs.Tables.{names_of};
 ghost use Rattle.rx_script.specs.Inside.Machine.{BlocksRead, mode};
 ghost use Rattle.rx_script.specs.Inside.Pieces.{mode_of};
 ghost use Rattle.rx_script.specs.Inside.Arena.{ReaderHolds, MayTake, Takes, Adds, Opens, Shuts, BlockMakes, GrowsByOne, IsParsed};
@@ -18,8 +18,7 @@ ghost use Rattle.rx_script.specs.Inside.Arena.{blocks_of, shape_of};
 
 use crate::items::{Item, Mode, Opener, next_item};
 use rx_base::NoMemory;
-use rx_nodes::{BlockId, Expr, ExprId, Script, Stmt, StmtId};
-use rx_token::{Scanned, Token, scan};
+use rx_syntax::{BlockId, Expr, ExprId, Scanned, Script, Stmt, StmtId, Token, scan};
 use std::alloc::{AllocError, AllocFailed, Global};
 
 /// Why bytes were not read as a script.

@@ -2,19 +2,18 @@
 ghost use Rattle.std.specs.Prelude.{◌≡◌, ◌<◌, ◌+◌, ◌++◌, ◌∷◌, ℕ, List, pos, reverse, OnOk, OnErr};
 ghost use Rattle.std.specs.List.{flat_map};
 ghost use Rattle.rx_rules.specs.Code.{Block};
-ghost use Rattle.rx_token.specs.declared.token.Token.TheVariants.{Key, Number};
+ghost use Rattle.rx_syntax.specs.declared.token.Token.TheVariants.{Key, Number};
 ghost use Rattle.rx_script.specs.declared.writer.Part.TheVariants.{One as OnePart, From as FromPart};
-ghost use Rattle.rx_nodes.specs.Shape.{Stands};
-ghost use Rattle.rx_nodes.specs.Grammar.{spellings, IsScriptOf};
-ghost use Rattle.rx_token.specs.declared.token.Token.{Token};
-ghost use Rattle.rx_token.specs.Texts.{spaced};
+ghost use Rattle.rx_syntax.specs.Shape.{Stands};
+ghost use Rattle.rx_syntax.specs.Grammar.{spellings, IsScriptOf};
+ghost use Rattle.rx_syntax.specs.declared.token.Token.{Token};
+ghost use Rattle.rx_syntax.specs.Texts.{spaced};
 ghost use Rattle.rx_script.specs.Writing.{script_text};
 ghost use Rattle.rx_script.specs.Inside.Unwritten.{PartStands, PartsStand, front_of, parts_after, named as named_part, block_parts};
 ghost use Rattle.rx_script.specs.Inside.Unwritten.{catch_parts, expr_front, expr_rest, Wrote, turns_left};
 
 use rx_base::NoMemory;
-use rx_nodes::{BlockId, Expr, ExprId, NameId, Script, Stmt, whole};
-use rx_token::{Keyword, Sign, Token};
+use rx_syntax::{BlockId, Expr, ExprId, Keyword, NameId, Script, Sign, Stmt, Token, whole};
 
 // What is still to be written: a token, an expression, or the statements of a block from a position on.
 #[derive(Clone, Copy, Debug, PartialEq, Eq)]
@@ -28,7 +27,7 @@ pub(crate) enum Part {
 fn put_token(text: &mut Vec<u8>, script: &Script, token: Token) -> Result<(), NoMemory>
     ensures { OnOk result (text.new.items ≡ text.old.items ++ spaced script.now.names token) }
 {
-    rx_token::put_token(text, script.names(), token)
+    rx_syntax::put_token(text, script.names(), token)
 }
 
 // Puts parts in front of the others; the last of the list is the one in front.

@@ -1,7 +1,7 @@
 // The longest chain of statements that are sorted.
 ghost use Rattle.std.specs.Prelude.{◌≡◌, ◌<◌, ◌≤◌, ◌+◌, ◌*◌, ◌^◌, ℕ, List, map, length, IfOk};
 ghost use Rattle.rx_rules.specs.Code.{Block};
-ghost use Rattle.rx_nodes.specs.Shape.{Stands};
+ghost use Rattle.rx_syntax.specs.Shape.{Stands};
 ghost use Rattle.rx_span.specs.Paths.{ArePaths};
 ghost use Rattle.rx_span.specs.Inside.Sorting.{Descends, next_of, backwards, shared as going};
 ghost use Rattle.rx_span.specs.Inside.Best.{pick, best_chains};

@@ -7,7 +7,7 @@ use denote.Param.Send.{IsSend, IsSync, AllSync, recorded_sync, struct_sync, send
 use Rattle.std.proofs.Crossing.{Vec-sync, crosses}
 use Rattle.rx_base.proofs.ids.PlaceId.TheSendSync as place
 use Rattle.rx_check.proofs.program.Program.TheSendSync as program
-use Rattle.rx_lock.proofs.keyed_lock.Lock.TheSendSync as lock
+use Rattle.rx_book.proofs.keyed_lock.Lock.TheSendSync as lock
 use Rattle.rx_mail.proofs.mailbox.Mail.TheSendSync as mail
 use Rattle.rx_objects.specs.declared.place_book.PlaceBook.{Ghosts as PlaceGhosts}
 use Rattle.rx_activities.proofs.Crosses.{activity_send}

@@ -8,7 +8,7 @@ use Rattle.rx_book.specs.Calls.{Met}
 use Rattle.rx_book.specs.declared.passes.Pass.{Pass}
 use Rattle.rx_book.specs.Passes.{view_of, word_of}
 use Rattle.rx_book.specs.Named.{BookName}
-use Rattle.rx_parts_book.specs.declared.items.EntryItem.{EntryItem}
+use Rattle.rx_parts.specs.declared.items.EntryItem.{EntryItem}
 use Rattle.rx_objects.specs.declared.ledger.LedgerFixed.{LedgerFixed}
 use Rattle.rx_objects.specs.declared.place.PlaceFixed.{PlaceFixed}
 use Rattle.rx_objects.specs.Ledger.{LedgerIsLegal}

@@ -3,7 +3,7 @@ use rx_activities::{Naming, Traveller};
 use rx_base::PlaceId;
 use rx_book::Pass;
 use rx_mail::{Carried, MailPass};
-use rx_parts_book::EventItem;
+use rx_parts::EventItem;
 use rx_ticket::{InTransit, Ticket};
 use std::marker::Model;
 

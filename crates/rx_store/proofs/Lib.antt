@@ -6,3 +6,6 @@ pub mod Changing
 pub mod Lookups
 pub mod Telling
 pub mod Answering
+pub mod Opening
+pub mod Journals
+pub mod StoreCalls

@@ -19,7 +19,7 @@ use Rattle.rx_sound.proofs.Reached.{sound}
 use Rattle.rx_sound.proofs.Reach.{task_below}
 use Rattle.rx_sound.proofs.Histories.{reached_now, dead-now}
 use Rattle.rx_rules.proofs.Numbers.{next-made}
-use Rattle.rx_verdict.specs.Replays.{Rises}
+use Rattle.rx_verdict.proofs.Replays.{Rises}
 
 -- the task that acts was born
 below : (T : Tree) (t : TaskId) (x : Task) → Reached T → task_of T t ≡ Some x → t.0 < T.next_task

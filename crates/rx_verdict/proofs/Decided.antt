@@ -19,9 +19,8 @@ use Rattle.rx_rules.specs.Run.{Given, Proper, in_all, plan_of, PlanKept, NotFall
 use Rattle.rx_sound.proofs.Histories.{none_yet}
 use Rattle.rx_verdict.specs.declared.verdict.Verdict.TheVariants.{Run}
 use Rattle.rx_verdict.specs.Makes.{Makes, MakesEvent, Between, Landing, Made, TaskMakes, TaskMakesEvent, cells_of}
-use Rattle.rx_verdict.specs.Replays.{Climbs, Rises, AllMade}
 use Rattle.rx_verdict.specs.Verdicts.{Part, IsMade, IsGood, CauseOf, IsVerdict, VerdictIsRun, events_before}
-use Rattle.rx_verdict.proofs.Replays.{parts_play}
+use Rattle.rx_verdict.proofs.Replays.{Climbs, Rises, AllMade, parts_play}
 use Rattle.rx_verdict.proofs.Births.{rises_from, rises_birth, born_before}
 use Rattle.rx_verdict.proofs.Once.{landing_map, made_at, made_once}
 use Rattle.rx_verdict.proofs.Journals.{climbs_of, Found, event_at, at_home, closes_at, journal_is, all_journals}

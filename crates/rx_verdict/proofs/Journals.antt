@@ -12,8 +12,8 @@ use Rattle.rx_rules.specs.Fold.{births}
 use Rattle.rx_rules.specs.Plays.{Cells, cell_of, journal_at, birth_of}
 use Rattle.rx_rules.specs.Store.{State, IsStoreRun, after_cell}
 use Rattle.rx_rules.specs.Run.{Given, NotFalling, ClosesAt, AtHome, JournalOk, AllJournals, close_in, stamp_of}
-use Rattle.rx_verdict.specs.Replays.{Climbs}
 use Rattle.rx_verdict.specs.Verdicts.{events_before, Shut}
+use Rattle.rx_verdict.proofs.Replays.{Climbs}
 
 climbs_lower : (low high : ℕ) → low ≤ high → (cells : Cells) → Climbs high cells → Climbs low cells
 climbs_lower low high le [] c = tt

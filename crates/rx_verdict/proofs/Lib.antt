@@ -15,3 +15,15 @@ pub mod Deciding
 pub mod Marking
 pub mod WorkedPairs
 pub mod Seating
+pub mod Answered
+pub mod Counts
+pub mod Following
+pub mod Same
+pub mod Replaying
+pub mod MarkedEvents
+pub mod Sounding
+pub mod EventsOfJournals
+pub mod OneJournal
+pub mod Judged
+pub mod Worked
+pub mod SomeCauses

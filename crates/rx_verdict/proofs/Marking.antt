@@ -1,6 +1,6 @@
 -- The marks of the pass over the entries on the events.
 use Rattle.std.specs.Prelude.{◌≡◌, ℕ, zero, suc, ◌+◌, ◌-◌, ◌<◌, ◌≤◌, Bool, true, false, cond, List, [], ◌∷◌, ◌++◌, length, take, drop, Option, Some, None}
-use Rattle.std.specs.Prelude.{slice_get, refl}
+use Rattle.std.specs.Prelude.{◌⊎◌, slice_get, refl}
 use Rattle.std.specs.List.{filter_map, cons_option}
 use Rattle.std.proofs.Common.{ap, sym, subst, ◌∙◌, arith, ⊎_elim}
 use Rattle.std.proofs.lemmas.Bool.{eq-eqb}
@@ -17,20 +17,19 @@ use Rattle.rx_rules.specs.declared.events.PlaceEvent.TheVariants.{Done}
 use Rattle.rx_rules.specs.Code.{Block}
 use Rattle.rx_rules.specs.Fold.{opening, births}
 use Rattle.rx_rules.specs.Picked.{Player}
-use Rattle.rx_rules.specs.Plays.{Cells, Moves, Starts, Birth, cell_of, move_of, journal_at, birth_of, moves_from, travels}
+use Rattle.rx_rules.specs.Plays.{Cells, Moves, Starts, Birth, Tells, cell_of, move_of, journal_at, birth_of, moves_from, travels}
 use Rattle.rx_rules.specs.Run.{Given}
-use Rattle.rx_rules.specs.Terms.{Term, Vars, Done as Ends}
+use Rattle.rx_rules.specs.Terms.{Term, Vars, Answer, begins, Done as Ends}
 use Rattle.rx_runs.specs.AnyAnswers.{AsksStore}
 use Rattle.rx_runs.specs.Games.{fresh}
-use Rattle.rx_verdict.specs.Makes.{MakesEvent, Made, StampRule, Landing, TaskMakesEvent, cells_of}
-use Rattle.rx_verdict.specs.Marks.{low_of, home_of, StandsAt, WholePass, EntriesToCome, UsedEvent, LeftEvent, AwayEvent}
-use Rattle.rx_verdict.specs.Events.{after, EventFrom}
-use Rattle.rx_verdict.specs.Verdicts.{IsMade, CauseOf, events_before}
+use Rattle.rx_verdict.specs.Makes.{MakesEvent, Made, StampRule, KeepsRule, Landing, TaskMakesEvent, cells_of}
+use Rattle.rx_verdict.specs.Marks.{after, low_of, home_of, StandsAt, WholePass, EntriesToCome, AwayEvent}
+use Rattle.rx_verdict.specs.Verdicts.{IsMade, CauseOf, HasCause, events_before}
 use Rattle.rx_verdict.specs.Walks.{Walks, next_does, Halts, AsksLedger}
 use Rattle.rx_verdict.proofs.Once.{landing_map, made_once}
 use Rattle.rx_verdict.proofs.Passing.{Widens, walks_wider}
 use Rattle.rx_verdict.proofs.Shown.{get_take, allowed_take, birth_take, made_first}
-use Rattle.rx_verdict.proofs.Telling.{event_from_player, at_store, no_event_more}
+use Rattle.rx_verdict.proofs.Telling.{EventFrom, event_from_player, at_store, no_event_more}
 use Rattle.std.proofs.lemmas.Option.{slice_get_within}
 
 -- Numbers of events.
@@ -200,7 +199,17 @@ entries_to_come es n t = (
   λ le. none_to_come n es n t le,
 )
 
-pub used_event : UsedEvent
+-- the first event that is left stands at number e of the journal of the task's place, and answers the store call at z
+pub record Uses (es : List Entry) (js : List (List PlaceEvent)) (i t : ℕ) (z : Player) (e stamp : ℕ) (cell : Cell) (path : List ℕ) (left : Cells) : Type 0 where
+  pub here : slice_get (journal_at js (home_of (take i es) t).0) e ≡ Some (Done (record { 0 = t }) stamp cell path)
+  pub rest : filter_map (cell_of t) (drop (suc e) (journal_at js (home_of (take i es) t).0)) ≡ left
+  pub answer : Answer
+  pub tells : Tells (next_does (home_of (take i es) t) z) (home_of (take i es) t) cell answer
+  pub begins : begins z.term ≡ Some path
+
+-- An event that a task has used, after i entries, has its cause exactly where its stamp keeps the rule between the task's entries
+-- before and after that moment.
+pub used_event : (rule : StampRule) (code : Block) (U : Given) (es : List Entry) (js : List (List PlaceEvent)) (i t e stamp : ℕ) (z : Player) (cell : Cell) (path : List ℕ) (left : Cells) → WholePass code U es js → StandsAt code U.places es js i t z ((stamp, cell, path) ∷ left) → Uses es js i t z e stamp cell path left → (KeepsRule rule (low_of (take i es) t) stamp (moves_from i (drop i es) t) → HasCause rule code U es js (home_of (take i es) t).0 e) × (HasCause rule code U es js (home_of (take i es) t).0 e → KeepsRule rule (low_of (take i es) t) stamp (moves_from i (drop i es) t))
 used_event rule code U es js i t e stamp z cell path left w g u = (
   λ keeps.
       let more : Moves = moves_from i (drop i es) t in
@@ -229,7 +238,16 @@ used_event rule code U es js i t e stamp z cell path left w g u = (
         let all : length (filter_map (cell_of t) j) ≡ used rule code U es js i t z ((stamp, cell, path) ∷ left) w g others m + suc (length left) = size rule code U es js i t z ((stamp, cell, path) ∷ left) w g others m in
         omega (arith, sum, here, all)
 
-pub left_event : LeftEvent
+-- the player goes on no more: its term is done, its store call has no event that answers it, or it waits for the ledger and has no
+-- entry to come
+abbrev pub IsStuck : List Entry → ℕ → ℕ → Player → Cells → Type 0
+IsStuck es i t z left =
+    ((faults : List Fault) × (next_does (home_of (take i es) t) z ≡ Ends faults))
+    ⊎ ((AsksStore (next_does (home_of (take i es) t) z) × Halts (home_of (take i es) t) z left)
+    ⊎ (AsksLedger (next_does (home_of (take i es) t) z) × (moves_from i (drop i es) t ≡ [])))
+
+-- where a task goes on no more and its events from number q of the journal on are left, none of these has its cause
+pub left_event : (rule : StampRule) (code : Block) (U : Given) (es : List Entry) (js : List (List PlaceEvent)) (i t p q e stamp : ℕ) (z : Player) (cell : Cell) (path : List ℕ) (left : Cells) → WholePass code U es js → StandsAt code U.places es js i t z left → IsStuck es i t z left → filter_map (cell_of t) (drop q (journal_at js (home_of (take i es) t).0)) ≡ left → q ≤ e → slice_get (journal_at js p) e ≡ Some (Done (record { 0 = t }) stamp cell path) → HasCause rule code U es js p e → ⊥
 left_event rule code U es js i t p q e stamp z cell path left w g stuck rest le at h =
     let m : IsMade rule code U es js p t (events_before t (journal_at js p) e) = subst (λ (o : Option PlaceEvent). CauseOf rule code U es js p e o) at h in
     let home : PlaceId = home_of (take i es) t in

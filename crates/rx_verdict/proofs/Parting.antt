@@ -16,7 +16,7 @@ use Rattle.rx_rules.specs.Fold.{AllAllowed, opening, fold_from, births, births_o
 use Rattle.rx_rules.specs.Picked.{Player}
 use Rattle.rx_runs.specs.Games.{fresh}
 use Rattle.rx_rules.specs.Plays.{Cells, Moves, Starts, Birth, birth_in, birth_of, moves_from, travels, cell_of, journal_at}
-use Rattle.rx_rules.specs.Run.{Given, Event, PlanKept, plan_of, rest_of, NoRoot, EndsWithRoot}
+use Rattle.rx_rules.specs.Run.{Given, Event, PlanKept, plan_of, rest_of, NoRoot}
 use Rattle.rx_runs.specs.Segments.{plan_left, InTime}
 use Rattle.rx_runs.proofs.Append.{allowed-push}
 use Rattle.rx_runs.proofs.Pushes.{plan-push, moves-push, birth-push}
@@ -26,11 +26,11 @@ use Rattle.rx_runs.proofs.RootLast.{root_last-push}
 use Rattle.rx_verdict.specs.Verdicts.{Part}
 use Rattle.rx_verdict.specs.Walks.{Walks}
 use Rattle.rx_verdict.specs.Passes.{IsAway, IsAt, HasEnded}
-use Rattle.rx_verdict.specs.Parts.{PartBegins, PartGoesOn, IsRoot, RootEnds, IsQuiet, QuietStays}
+use Rattle.rx_verdict.specs.Parts.{PartBegins, PartGoesOn, IsQuiet}
 use Rattle.rx_verdict.proofs.Once.{made_at}
 use Rattle.rx_verdict.proofs.Shown.{allowed_take, plan_take, each_makes, made_first, rooted_begins}
 use Rattle.rx_verdict.proofs.Deciding.{opening_stands}
-use Rattle.rx_verdict.specs.Decides.{main_start}
+use Rattle.rx_verdict.specs.Seats.{main_start}
 use Rattle.rx_verdict.proofs.Passing.{births_push}
 
 pub take_next : (es : List Entry) (i : ℕ) (e : Entry) → slice_get es i ≡ Some e → take (suc i) es ≡ take i es ++ e ∷ []
@@ -85,30 +85,6 @@ part_goes_on code U es js i e at = (
       },
 )
 
-ends_if : (es : List Entry) (e : Entry) → RootIsLast (es ++ e ∷ []) → IsRoot e → EndsWithRoot (es ++ e ∷ [])
-ends_if [] (Root lost masked thrown) h k = refl
-ends_if [] (Step t act batch) h k = absurd k
-ends_if [] (Death d) h k = absurd k
-ends_if [] (Join d) h k = absurd k
-ends_if (Step t act batch ∷ es) e h k = ends_if es e h k
-ends_if (Root lost masked thrown ∷ es) e h k = h
-ends_if (Death d ∷ es) e h k = ends_if es e h k
-ends_if (Join d ∷ es) e h k = ends_if es e h k
-
-ends_only : (es : List Entry) (e : Entry) → EndsWithRoot (es ++ e ∷ []) → IsRoot e
-ends_only [] (Root lost masked thrown) h = tt
-ends_only [] (Step t act batch) h = absurd h
-ends_only [] (Death d) h = absurd h
-ends_only [] (Join d) h = absurd h
-ends_only (Step t act batch ∷ es) e h = ends_only es e h
-ends_only (Root lost masked thrown ∷ []) e h = absurd (let f : ⊥ = cc in f)
-ends_only (Root lost masked thrown ∷ x ∷ es) e h = absurd (let f : ⊥ = cc in f)
-ends_only (Death d ∷ es) e h = ends_only es e h
-ends_only (Join d ∷ es) e h = ends_only es e h
-
-pub root_ends : RootEnds
-root_ends = (λ h. h, λ es e h. (ends_if es e h, ends_only es e))
-
 none : (code : Block) (U : Given) (es : List Entry) (js : List (List PlaceEvent)) → Part code U es js 0
 none code U es js =
     record { allowed = tt; rooted = tt; plan = tt; starts = main_start code U.places ∷ []; made = (opening_stands code U.places js).0 }
@@ -127,7 +103,7 @@ fewer code U es js m n le h =
 pub part_begins : PartBegins
 part_begins code U es js = (none code U es js, λ m n le h. fewer code U es js m n le h)
 
--- An entry of no task.
+-- An entry of no task makes no term do anything, and leaves every task where it was.
 
 pub no_birth : (n u : ℕ) (e : Entry) → IsQuiet e → birth_in n u e ≡ None
 no_birth n u (Step t act batch) q = absurd q
@@ -171,6 +147,3 @@ module _ (code : Block) (places : ℕ) (es : List Entry) (js : List (List PlaceE
     λ a. subst (λ (v : Birth × Moves). Landing (λ low moves. Walks starts v.0.to (fresh r) (filter_map (cell_of u) (journal_at js v.0.to.0)) moves z left) ⊥ (travels v.0) v.0.low v.1) (pair u) a,
     λ a. subst (λ (v : Birth × Moves). Landing (λ low moves. (before : Moves) × (n : ℕ) × (faults : List Fault) × (batch : List (List ℕ)) × (moves ≡ before ++ (n, End faults, batch) ∷ [])) ⊥ (travels v.0) v.0.low v.1) (pair u) a,
   )
-
-pub quiet_stays : QuietStays
-quiet_stays code places es js starts e q h = (quiet_made code places es js starts e q h, quiet_seats code places es js starts e q h)

@@ -1,7 +1,7 @@
 -- The pass over the entries.
-use Rattle.std.specs.Prelude.{◌≡◌, ◌⊎◌, ℕ, suc, ◌+◌, ◌<◌, ◌≤◌, Bool, true, false, cond, List, [], ◌∷◌, ◌++◌, length, take, Option, Some, None, slice_get, All, refl}
+use Rattle.std.specs.Prelude.{◌≡◌, ℕ, suc, ◌+◌, ◌<◌, ◌≤◌, Bool, true, false, cond, List, [], ◌∷◌, ◌++◌, length, take, Option, Some, None, slice_get, All, refl}
 use Rattle.std.specs.List.{filter_map, cons_option}
-use Rattle.std.proofs.Common.{ap, sym, subst, ◌∙◌, arith, inl, inr, ⊎_elim}
+use Rattle.std.proofs.Common.{ap, sym, subst, ◌∙◌, arith, ⊎_elim}
 use Rattle.std.proofs.Math.Seq.{take-append_seam}
 use Rattle.std.proofs.lemmas.Bool.{eq-eqb, ne_eqb, cases_eq, cases_lt}
 use Rattle.std.proofs.lemmas.List.{append-nil}
@@ -31,12 +31,12 @@ use Rattle.rx_runs.proofs.Pushes.{moves-push, birth-push}
 use Rattle.rx_verdict.specs.Makes as parts
 use Rattle.rx_verdict.specs.Makes.{Makes, Landing, Made, TaskMakes, cells_of}
 use Rattle.rx_verdict.specs.Walks as walks
-use Rattle.rx_verdict.specs.Walks.{Walks, MakesFrom, IsAsked}
-use Rattle.rx_verdict.specs.Passes.{IsAt, IsAway, HasEnded, Grown, Stage, EntryIsMade, PlayerMakes, PlayerOnly, AwayOnly, AwayArrives, PlayerGoesOn, PlayerEnds, EndedNever, OthersStay, NewbornStands}
+use Rattle.rx_verdict.specs.Walks.{Walks}
+use Rattle.rx_verdict.specs.Passes.{IsAt, IsAway, HasEnded}
 use Rattle.rx_verdict.proofs.Births.{actor_below, starts, other_none, other_some}
 use Rattle.rx_verdict.proofs.Once.{landing_map, made_at, made_once}
 use Rattle.rx_verdict.proofs.Shown.{each_makes, made_first, get_take}
-use Rattle.rx_verdict.proofs.Walking.{join, cut, walk_on, none_after}
+use Rattle.rx_verdict.proofs.Walking.{MakesFrom, IsAsked, join, cut, walk_on, none_after}
 use Rattle.rx_base.proofs.Elements.{get-more, get-within, length-push}
 use Rattle.std.proofs.lemmas.Option.{slice_get_within}
 
@@ -67,6 +67,10 @@ task_wider : (from to : Starts) → Widens from to → (es : List Entry) (js : L
 task_wider from to keeps es js u s h =
     landing_map (λ low moves. (rest : Cells) × Makes from (birth_of es u).to s.1 s.0 [] (cells_of es js u) moves rest) (λ low moves. (rest : Cells) × Makes from (birth_of es u).to s.1 s.0 [] (cells_of es js u) moves rest)
     (λ low moves. (rest : Cells) × Makes to (birth_of es u).to s.1 s.0 [] (cells_of es js u) moves rest) (Unit {0}) (Unit {0}) (Unit {0}) (λ low moves a b. (a.0, makes_wider from to keeps (birth_of es u).to a.1)) (λ a b. tt) (travels (birth_of es u)) (birth_of es u).low (moves_from 0 es u) h h
+
+-- the list of starts after an act: one start more where it starts a task
+abbrev pub Grown : Starts → Act → Starts → Type 0
+Grown starts act more = elim (started_by act) [ Some c ↦ (x : Term × Vars) × (more ≡ starts ++ x ∷ []) | None ↦ more ≡ starts ]
 
 -- a list with one start more keeps the others
 pub grown_keeps : (from : Starts) (act : Act) (to : Starts) → Grown from act to → Widens from to
@@ -123,6 +127,15 @@ arrival P low n (End thrown) batch h = absurd h
 arrival P low n (Print value x) batch h = absurd h
 arrival P low n (Census count x) batch h = absurd h
 
+-- what all steps of the pass have in common: so many entries are a part of a run, and the tree allows one entry more, of task t
+pub record Stage (code : Block) (places : ℕ) (es : List Entry) (js : List (List PlaceEvent)) (starts : Starts) (t : TaskId) (act : Act) (batch : List (List ℕ)) (s : Term × Vars) : Type 0 where
+  pub some : 1 ≤ places
+  pub few : places ≤ 16
+  pub allowed : AllAllowed 0 (opening places) es
+  pub made : Made code places es js starts
+  pub next : Allowed (tree_of places es) (Step t act batch)
+  pub start : slice_get starts t.0 ≡ Some s
+
 module _ (code : Block) (places : ℕ) (es : List Entry) (js : List (List PlaceEvent)) (from : Starts) (t : TaskId) (act : Act) (batch : List (List ℕ)) (s : Term × Vars) (g : Stage code places es js from t act batch s) where
   abbrev more : List Entry
   more = es ++ Step t act batch ∷ []
@@ -165,8 +178,9 @@ module _ (code : Block) (places : ℕ) (es : List Entry) (js : List (List PlaceE
   unborn list u r b true = tt
   unborn list u r b false = (filter_map (cell_of u) (journal_at js b.to.0), parts.stops)
 
-  pub entry_made : (to : Starts) → Grown from act to → TaskMakes to more js t.0 s → Made code places more js to
-  entry_made to grown own =
+  -- where the one task makes the entry, all tasks make theirs
+  pub entry_is_made : (to : Starts) → Grown from act to → TaskMakes to more js t.0 s → Made code places more js to
+  entry_is_made to grown own =
       let keeps : Widens from to = grown_keeps from act to grown in
       let sum = births_push es (Step t act batch) in
       let large = grown_size from t act batch (tree_of places es) to g.next grown in
@@ -227,8 +241,9 @@ module _ (code : Block) (places : ℕ) (es : List Entry) (js : List (List PlaceE
   landing_cut to here cells z left m true low ((n, Print value x, b) ∷ moves) h k = absurd h
   landing_cut to here cells z left m true low ((n, Census count x, b) ∷ moves) h k = absurd h
 
-  pub player_makes' : (to : Starts) → Grown from act to → (z : Player) (left rest : Cells) → IsAt from es js t.0 s z left → MakesFrom to (birth_of es t.0).to z left ((length es, act, batch) ∷ []) rest → TaskMakes to more js t.0 s
-  player_makes' to grown z left rest at k =
+  -- a task that has come to the player z makes the entry where z makes it
+  pub player_makes : (to : Starts) → Grown from act to → (z : Player) (left rest : Cells) → IsAt from es js t.0 s z left → MakesFrom to (birth_of es t.0).to z left ((length es, act, batch) ∷ []) rest → TaskMakes to more js t.0 s
+  player_makes to grown z left rest at k =
       let b : Birth = birth_of es t.0 in
       subst (λ (v : Birth × Moves). Says to t.0 s v) {x = (birth_of es t.0, moves_from 0 es t.0 ++ (length es, act, batch) ∷ [])} {y = (birth_of more t.0, moves_from 0 more t.0)} (λ j. (sym (birth t.0 born_t) j, sym own_moves j))
       (landing_join to (grown_keeps from act to grown) b.to (cells_of es js t.0) z left rest (length es, act, batch) k (travels b) b.low (moves_from 0 es t.0) at)
@@ -248,8 +263,9 @@ module _ (code : Block) (places : ℕ) (es : List Entry) (js : List (List PlaceE
   other_says others made' =
       subst (λ (v : Birth × Moves). Says others t.0 s v) {x = (birth_of more t.0, moves_from 0 more t.0)} {y = (birth_of es t.0, moves_from 0 es t.0 ++ (length es, act, batch) ∷ [])} (λ j. (birth t.0 born_t j, own_moves j)) (other_task others made')
 
-  pub player_only' : (others : Starts) → (z : Player) (left : Cells) → IsAt from es js t.0 s z left → Made code places more js others → (rest : Cells) × MakesFrom others (birth_of es t.0).to z left ((length es, act, batch) ∷ []) rest
-  player_only' others z left at made' =
+  -- and only there: whatever the terms of all tasks may be that make all entries with this one
+  pub player_only : (others : Starts) → (z : Player) (left : Cells) → IsAt from es js t.0 s z left → Made code places more js others → (rest : Cells) × MakesFrom others (birth_of es t.0).to z left ((length es, act, batch) ∷ []) rest
+  player_only others z left at made' =
       let b : Birth = birth_of es t.0 in
       landing_cut others b.to (cells_of es js t.0) z left (length es, act, batch) (travels b) b.low (moves_from 0 es t.0) at (other_says others made')
 
@@ -285,8 +301,9 @@ module _ (code : Block) (places : ℕ) (es : List Entry) (js : List (List PlaceE
     go true low ((n, Print value x, b) ∷ moves) h = absurd h
     go true low ((n, Census count x, b) ∷ moves) h = absurd h
 
-  pub player_goes_on' : (to : Starts) → Grown from act to → (z : Player) (left : Cells) → IsAt from es js t.0 s z left → IsAsked to (birth_of es t.0).to z (length es, act, batch) → IsAt to more js t.0 s (acted (birth_of es t.0).to z act) left
-  player_goes_on' to grown z left at k =
+  -- a player that waits for the ledger goes on after what it asked
+  pub player_goes_on : (to : Starts) → Grown from act to → (z : Player) (left : Cells) → IsAt from es js t.0 s z left → IsAsked to (birth_of es t.0).to z (length es, act, batch) → IsAt to more js t.0 s (acted (birth_of es t.0).to z act) left
+  player_goes_on to grown z left at k =
       let b : Birth = birth_of es t.0 in
       subst (At to t.0 s (acted (birth_of es t.0).to z act) left) own_pair
       (landing_asked to (grown_keeps from act to grown) b.to (cells_of es js t.0) z left k (travels b) b.low (moves_from 0 es t.0) at)
@@ -307,19 +324,22 @@ module _ (code : Block) (places : ℕ) (es : List Entry) (js : List (List PlaceE
   landing_ended to here cells m true low ((n, Print value x, b) ∷ moves) h k = h
   landing_ended to here cells m true low ((n, Census count x, b) ∷ moves) h k = h
 
-  pub ended_never' : (others : Starts) → HasEnded es t.0 → Made code places more js others → ⊥
-  ended_never' others h made' =
+  -- a task that has ended makes no entry
+  pub ended_never : (others : Starts) → HasEnded es t.0 → Made code places more js others → ⊥
+  ended_never others h made' =
       let b : Birth = birth_of es t.0 in
       landing_ended others b.to (cells_of es js t.0) (length es, act, batch) (travels b) b.low (moves_from 0 es t.0) h (other_says others made')
 
-  pub away_only' : (others : Starts) → IsAway es t.0 → Made code places more js others → (p : PlaceId) × (act ≡ Arrive p) × (batch ≡ [])
-  away_only' others h made' =
+  -- a task that travels makes the entry only where it is its arrival without a batch
+  pub away_only : (others : Starts) → IsAway es t.0 → Made code places more js others → (p : PlaceId) × (act ≡ Arrive p) × (batch ≡ [])
+  away_only others h made' =
       let b : Birth = birth_of es t.0 in
       arrival (λ low moves. (rest : Cells) × Makes others b.to s.1 s.0 [] (cells_of es js t.0) moves rest) b.low (length es) act batch
       (subst (λ (v : Bool × Moves). Landing (λ low moves. (rest : Cells) × Makes others b.to s.1 s.0 [] (cells_of es js t.0) moves rest) (Unit {0}) v.0 b.low (v.1 ++ (length es, act, batch) ∷ [])) {x = (travels b, moves_from 0 es t.0)} {y = (true, [])} (λ j. (h.0 j, h.1 j)) (other_says others made'))
 
-  pub others_stay' : (to : Starts) → Grown from act to → (u : ℕ) (r : Term × Vars) (z : Player) (left : Cells) → u < 1 + births es → (t.0 ≡ u → ⊥) → (IsAway es u → IsAway more u) × (IsAt from es js u r z left → IsAt to more js u r z left) × (HasEnded es u → HasEnded more u)
-  others_stay' to grown u r z left low ne = (
+  -- another task stays where it is
+  pub others_stay : (to : Starts) → Grown from act to → (u : ℕ) (r : Term × Vars) (z : Player) (left : Cells) → u < 1 + births es → (t.0 ≡ u → ⊥) → (IsAway es u → IsAway more u) × (IsAt from es js u r z left → IsAt to more js u r z left) × (HasEnded es u → HasEnded more u)
+  others_stay to grown u r z left low ne = (
     λ h. (ap travels (birth u low) ∙ h.0, others_moves u ne ∙ h.1),
     λ h. subst (At to u r z left) (other_pair u low ne)
         (landing_map (λ low moves. Walks from (birth_of es u).to (fresh r) (cells_of es js u) moves z left) (λ low moves. Walks from (birth_of es u).to (fresh r) (cells_of es js u) moves z left) (λ low moves. Walks to (birth_of es u).to (fresh r) (cells_of es js u) moves z left) ⊥ ⊥ ⊥
@@ -333,26 +353,8 @@ module _ (code : Block) (places : ℕ) (es : List Entry) (js : List (List PlaceE
       let k = born_t in
       others_moves (1 + births es) (λ e. omega (arith, k, e)) ∙ unmoved 0 (opening places) es (opens places g.some g.few) none_yet g.allowed (1 + births es) (omega arith)
 
-  pub newborn_stands' : (to : Starts) (r : Term × Vars) → IsAway more (1 + births es) ⊎ IsAt to more js (1 + births es) r (fresh r) (cells_of more js (1 + births es))
-  newborn_stands' to r =
-      by_travel (travels (birth_of more (1 + births es))) refl newborn_none
-    where
-      by_travel : (y : Bool) → travels (birth_of more (1 + births es)) ≡ y → moves_from 0 more (1 + births es) ≡ [] → IsAway more (1 + births es) ⊎ IsAt to more js (1 + births es) r (fresh r) (cells_of more js (1 + births es))
-      by_travel true e none = inl (e, none)
-      by_travel false e none =
-          inr (subst (λ (v : Bool × Moves). Landing (λ low moves. Walks to (birth_of more (1 + births es)).to (fresh r) (cells_of more js (1 + births es)) moves (fresh r) (cells_of more js (1 + births es))) ⊥ v.0 (birth_of more (1 + births es)).low v.1) {x = (false, [])} {y = (travels (birth_of more (1 + births es)), moves_from 0 more (1 + births es))} (λ j. (sym e j, sym none j)) walks.stays)
-
-pub entry_is_made : EntryIsMade
-entry_is_made code places es js from to t act batch s g grown own = entry_made code places es js from t act batch s g to grown own
-
-pub player_makes : PlayerMakes
-player_makes code places es js from to t act batch s z left rest g grown at k = player_makes' code places es js from t act batch s g to grown z left rest at k
-
-pub player_only : PlayerOnly
-player_only code places es js from others t act batch s z left g at m = player_only' code places es js from t act batch s g others z left at m
-
--- after an arrival
-pub away_arrives : AwayArrives
+-- a task that travels makes its arrival, and then it has come to its start
+pub away_arrives : (code : Block) (places : ℕ) (es : List Entry) (js : List (List PlaceEvent)) (from : Starts) (t : TaskId) (p : PlaceId) (s : Term × Vars) → Stage code places es js from t (Arrive p) [] s → IsAway es t.0 → TaskMakes from (es ++ Step t (Arrive p) [] ∷ []) js t.0 s × IsAt from (es ++ Step t (Arrive p) [] ∷ []) js t.0 s (fresh s) (cells_of es js t.0)
 away_arrives code places es js from t p s g h =
     let b : Birth = birth_of es t.0 in
     let pair = own_pair code places es js from t (Arrive p) [] s g in
@@ -376,23 +378,9 @@ landing_end starts here a z cells left n faults batch true low ((k, End thrown, 
 landing_end starts here a z cells left n faults batch true low ((k, Print value x, b) ∷ moves) h = absurd h
 landing_end starts here a z cells left n faults batch true low ((k, Census count x, b) ∷ moves) h = absurd h
 
-pub player_ends : PlayerEnds
+-- a player whose term is done has ended after its end
+pub player_ends : (code : Block) (places : ℕ) (es : List Entry) (js : List (List PlaceEvent)) (from : Starts) (t : TaskId) (faults : List Fault) (batch : List (List ℕ)) (s : Term × Vars) (z : Player) (left : Cells) → Stage code places es js from t (End faults) batch s → IsAt from es js t.0 s z left → HasEnded (es ++ Step t (End faults) batch ∷ []) t.0
 player_ends code places es js from t faults batch s z left g at =
     let b : Birth = birth_of es t.0 in
     subst (Ended code places es js from t (End faults) batch s g) (own_pair code places es js from t (End faults) batch s g)
     (landing_end from b.to (fresh s) z (cells_of es js t.0) left (length es) faults batch (travels b) b.low (moves_from 0 es t.0) at)
-
-pub away_only : AwayOnly
-away_only code places es js from others t act batch s g h m = away_only' code places es js from t act batch s g others h m
-
-pub player_goes_on : PlayerGoesOn
-player_goes_on code places es js from to t act batch s z left g grown at k = player_goes_on' code places es js from t act batch s g to grown z left at k
-
-pub ended_never : EndedNever
-ended_never code places es js from others t act batch s g h m = ended_never' code places es js from t act batch s g others h m
-
-pub others_stay : OthersStay
-others_stay code places es js from to t act batch s u r z left g grown low ne = others_stay' code places es js from t act batch s g to grown u r z left low ne
-
-pub newborn_stands : NewbornStands
-newborn_stands code places es js from to t act batch s r g = newborn_stands' code places es js from t act batch s g to r

@@ -4,13 +4,26 @@ use Rattle.std.proofs.Common.{arith}
 use Rattle.rx_base.specs.declared.ids.PlaceId.{PlaceId}
 use Rattle.rx_rules.specs.Terms.{Term, Vars}
 use Rattle.rx_rules.specs.Plays as rules
-use Rattle.rx_rules.specs.Plays.{Cells, Moves, Starts, Plays, Tells, begun}
+use Rattle.rx_rules.specs.Plays.{Cells, Moves, Starts, Plays}
 use Rattle.rx_verdict.specs.Makes.{Makes, MakesEvent, NotPast, Between}
 use Rattle.rx_verdict.specs.Makes as parts
-use Rattle.rx_verdict.specs.Replays.{Climbs, Rises, AllMade, PlaysApart, PartsPlay}
 use Rattle.rx_verdict.proofs.Events.{past_local, past_done, past_store, past_ask}
 
--- A whole play, apart.
+-- no stamp is below `low`, and none falls
+abbrev pub Climbs : ℕ → Cells → Type 0
+Climbs low [] = Unit {0}
+Climbs low (c ∷ cells) = (low ≤ c.0) × Climbs c.0 cells
+
+-- no number is below `low`, and each is above the one before
+abbrev pub Rises : ℕ → Moves → Type 0
+Rises low [] = Unit {0}
+Rises low (m ∷ moves) = (low ≤ m.0) × Rises (suc m.0) moves
+
+-- each of these events is made, with its stamp between the entries
+abbrev pub AllMade : Starts → PlaceId → ℕ → Vars → Term → List (List ℕ) → Cells → Moves → Type 0
+AllMade starts here low vars t batch cells moves = (k : ℕ) → k < length cells → MakesEvent Between starts here low vars t batch cells moves k
+
+-- A whole play, apart: what a task plays, it makes with no event left over, and it makes each event.
 
 pub plays_make : {starts : Starts} {here : PlaceId} {low : ℕ} {vars : Vars} {t : Term} {batch : List (List ℕ)} {cells : Cells} {moves : Moves} → Plays starts here low vars t batch cells moves → Makes starts here vars t batch cells moves []
 plays_make (rules.local e p) = parts.local e (plays_make p)
@@ -77,8 +90,7 @@ module _ (starts : Starts) (here : PlaceId) where
   replay (parts.stops {cells = c ∷ cells}) low q p bound all climbs rises =
       finish (all (length cells) (omega arith)) refl refl low p bound all climbs
 
-pub apart : PlaysApart
-apart starts here low vars t batch cells moves p = (plays_make p, plays_event p low (omega arith))
-
-pub parts_play : PartsPlay
+-- where it makes the entries, whatever events are left over, and each event is made, it plays them: where numbers rise and stamps do
+-- not fall
+pub parts_play : (starts : Starts) (here : PlaceId) (low : ℕ) (vars : Vars) (t : Term) (batch : List (List ℕ)) (cells rest : Cells) (moves : Moves) → Makes starts here vars t batch cells moves rest → AllMade starts here low vars t batch cells moves → Climbs 0 cells → Rises low moves → Plays starts here low vars t batch cells moves
 parts_play starts here low vars t batch cells rest moves m all climbs rises = replay starts here m low low 0 (λ s h g. h) all climbs rises

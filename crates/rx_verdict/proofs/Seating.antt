@@ -23,20 +23,20 @@ use Rattle.rx_runs.specs.Segments.{plan_left, InTime}
 use Rattle.rx_runs.proofs.Append.{allowed-push}
 use Rattle.rx_runs.proofs.Pairs.{pairs-map, pairs-set, pairs-push, pairs-get, pairs-length, set_same}
 use Rattle.rx_runs.proofs.Pushes.{plan-push}
-use Rattle.rx_verdict.specs.Decides.{IsRequest, main_start}
 use Rattle.rx_verdict.specs.Makes.{Made, Landing, cells_of}
 use Rattle.rx_verdict.specs.Marks.{home_of}
-use Rattle.rx_verdict.specs.Passes.{IsAt, Grown, Stage, Stays}
-use Rattle.rx_verdict.specs.Seats.{Seat, Away, Stands, Over, SeatIs, Seated, MayFollow, newborn_seat, newborn_seats, SeatsTell, PartFollows, SeatsWalk, SeatsStay, SeatAsks, SeatEnds, SeatArrives, SeatRefuses}
+use Rattle.rx_verdict.specs.Parts.{IsQuiet}
+use Rattle.rx_verdict.specs.Passes.{IsAway, IsAt, HasEnded}
+use Rattle.rx_verdict.specs.Seats.{Seat, Away, Stands, Over, SeatIs, Seated, MayFollow, main_start, newborn_seat, newborn_seats, IsRequest, SeatsTell, PartFollows, SeatsWalk, SeatAsks, SeatEnds, SeatArrives, SeatRefuses}
 use Rattle.rx_verdict.specs.Verdicts.{Part}
 use Rattle.rx_verdict.specs.Walks as walks
-use Rattle.rx_verdict.specs.Walks.{Walks, MakesFrom, IsAsked, next_does, AsksLedger, Halts}
+use Rattle.rx_verdict.specs.Walks.{Walks, next_does, AsksLedger}
 use Rattle.rx_verdict.proofs.Births.{starts}
 use Rattle.rx_verdict.proofs.Deciding.{no_start, seat_walks, request_decides, end_decides, halt_decides, opening_stands}
 use Rattle.rx_runs.proofs.RootLast.{root_last-push}
-use Rattle.rx_verdict.proofs.Parting.{take_next, part_goes_on, quiet_stays}
-use Rattle.rx_verdict.proofs.Passing.{walks_wider, entry_is_made, player_makes, player_goes_on, away_only, away_arrives, ended_never, others_stay, newborn_none}
-use Rattle.rx_verdict.proofs.Walking.{at_request}
+use Rattle.rx_verdict.proofs.Parting.{take_next, part_goes_on, quiet_made, quiet_seats}
+use Rattle.rx_verdict.proofs.Passing.{Grown, Stage, walks_wider, entry_is_made, player_makes, player_goes_on, away_only, away_arrives, ended_never, others_stay, newborn_none}
+use Rattle.rx_verdict.proofs.Walking.{MakesFrom, IsAsked, at_request}
 use Rattle.std.proofs.lemmas.Option.{slice_get_within}
 use Rattle.rx_base.proofs.Elements.{get-last}
 
@@ -88,9 +88,9 @@ module _ (code : Block) (U : Given) (es : List Entry) (js : List (List PlaceEven
   keeps : (to : Starts) → Grown p.starts act to → (u : ℕ) (r : Term × Vars) (y : Seat) → t.0 ≢ u → u < length p.starts → SeatIs p.starts es js u r y → SeatIs to later js u r y
   keeps to grown u r (Away q) ne low h =
       let k = size in
-      ((others_stay code U.places es js p.starts to t act batch s u r (fresh r) [] stage grown (omega (arith, low, k)) ne).0 h.0, h.1)
-  keeps to grown u r (Stands z left) ne low h = let k = size in (others_stay code U.places es js p.starts to t act batch s u r z left stage grown (omega (arith, low, k)) ne).1 h
-  keeps to grown u r Over ne low h = let k = size in (others_stay code U.places es js p.starts to t act batch s u r (fresh r) [] stage grown (omega (arith, low, k)) ne).2 h
+      ((others_stay code U.places es js p.starts t act batch s stage to grown u r (fresh r) [] (omega (arith, low, k)) ne).0 h.0, h.1)
+  keeps to grown u r (Stands z left) ne low h = let k = size in (others_stay code U.places es js p.starts t act batch s stage to grown u r z left (omega (arith, low, k)) ne).1 h
+  keeps to grown u r Over ne low h = let k = size in (others_stay code U.places es js p.starts t act batch s stage to grown u r (fresh r) [] (omega (arith, low, k)) ne).2 h
 
   -- the entries with this one, where all terms make it
   seated : (to : Starts) (all : List Seat) → Made code U.places later js to → Pairs (SeatIs to later js) 0 to all → Seated code U later js all
@@ -147,7 +147,7 @@ module _ (code : Block) (U : Given) (es : List Entry) (js : List (List PlaceEven
     over to grown so =
         let is : IsAsked to (home_of es t.0) z (length es, act, batch) = (k.0, k.1, so) in
         let one : MakesFrom to (home_of es t.0) z left ((length es, act, batch) ∷ []) left = (at_request to (home_of es t.0) z left (length es, act, batch) asks).0 is in
-        (entry_is_made code U.places es js p.starts to t act batch s stage grown (player_makes code U.places es js p.starts to t act batch s z left left stage grown at one), player_goes_on code U.places es js p.starts to t act batch s z left stage grown at is)
+        (entry_is_made code U.places es js p.starts t act batch s stage to grown (player_makes code U.places es js p.starts t act batch s stage to grown z left left at one), player_goes_on code U.places es js p.starts t act batch s stage to grown z left at is)
 
     by_start : (o : Option TaskId) → started_by act ≡ o → Seated code U later js (slice_set seats t.0 (Stands (acted (home_of es t.0) z act) left) ++ newborn_seats later js z act)
     by_start None e =
@@ -217,7 +217,7 @@ arrives code U es js i seats t q r p f at =
     let e : Entry = Step t (Arrive q) [] in
     let g = stage code U (take i es) js seats p t (Arrive q) [] f.allowed f.no_root (time_is code U es js i seats p e f) x.start x.begins in
     let a = away_arrives code U.places (take i es) js p.starts t q x.start g x.is.0 in
-    let made = entry_is_made code U.places (take i es) js p.starts p.starts t (Arrive q) [] x.start g refl a.0 in
+    let made = entry_is_made code U.places (take i es) js p.starts t (Arrive q) [] x.start g p.starts refl a.0 in
     subst (λ (l : List Entry). Seated code U l js (slice_set seats t.0 (Stands (fresh r) (cells_of (take i es) js t.0)))) (sym (next_is code U es js i seats p e f))
     (same_tasks code U (take i es) js seats p t (Arrive q) [] f.allowed f.no_root (time_is code U es js i seats p e f) x.start x.begins (Stands (fresh r) (cells_of (take i es) js t.0)) refl made
     (subst (λ (v : Term × Vars). IsAt p.starts (take i es ++ e ∷ []) js t.0 x.start (fresh v) (cells_of (take i es) js t.0)) (sym x.is.1) a.1))
@@ -228,7 +228,7 @@ seat_arrives code U es js i seats t act batch r p f at =
     let e : Entry = Step t act batch in
     let g = stage code U (take i es) js seats p t act batch f.allowed f.no_root (time_is code U es js i seats p e f) x.start x.begins in (
       λ q a b. arrives code U es js i seats t q r p (subst (λ (v : Act × List (List ℕ)). MayFollow U es i (Step t v.0 v.1)) {x = (act, batch)} {y = (Arrive q, [])} (λ j. (a j, b j)) f) at,
-      λ h. away_only code U.places (take i es) js p.starts h.starts t act batch x.start g x.is.0 (made_with code U es js i seats p e f h),
+      λ h. away_only code U.places (take i es) js p.starts t act batch x.start g h.starts x.is.0 (made_with code U es js i seats p e f h),
     )
 
 pub seat_refuses : SeatRefuses
@@ -241,17 +241,20 @@ seat_refuses code U es js i seats t act batch p f =
       λ at h.
           let x = sits p.starts (take i es) js seats p.each t.0 Over at in
           let g = stage code U (take i es) js seats p t act batch f.allowed f.no_root (time_is code U es js i seats p e f) x.start x.begins in
-          ended_never code U.places (take i es) js p.starts h.starts t act batch x.start g x.is (made_with code U es js i seats p e f h),
+          ended_never code U.places (take i es) js p.starts t act batch x.start g h.starts x.is (made_with code U es js i seats p e f h),
     )
 
-stays_so : (starts : Starts) (es rest : List Entry) (js : List (List PlaceEvent)) → ((u : ℕ) (r : Term × Vars) (z : Player) (left : Cells) → Stays es rest js starts starts u r z left) → (u : ℕ) (r : Term × Vars) (y : Seat) → SeatIs starts es js u r y → SeatIs starts rest js u r y
+stays_so : (starts : Starts) (es rest : List Entry) (js : List (List PlaceEvent)) → ((u : ℕ) (r : Term × Vars) (z : Player) (left : Cells) → (IsAway es u → IsAway rest u) × (IsAt starts es js u r z left → IsAt starts rest js u r z left) × (HasEnded es u → HasEnded rest u)) → (u : ℕ) (r : Term × Vars) (y : Seat) → SeatIs starts es js u r y → SeatIs starts rest js u r y
 stays_so starts es rest js h u r (Away q) k = ((h u r (fresh r) []).0 k.0, k.1)
 stays_so starts es rest js h u r (Stands z left) k = (h u r z left).1 k
 stays_so starts es rest js h u r Over k = (h u r (fresh r) []).2 k
 
+-- an entry of no task changes no seat
+abbrev pub SeatsStay : Type 0
+SeatsStay = (code : Block) (U : Given) (es : List Entry) (js : List (List PlaceEvent)) (i : ℕ) (seats : List Seat) (e : Entry) → Seated code U (take i es) js seats → MayFollow U es i e → IsQuiet e → Seated code U (take (suc i) es) js seats
+
 pub seats_stay : SeatsStay
 seats_stay code U es js i seats e p f q =
-    let h = quiet_stays code U.places (take i es) js p.starts e q p.made in
     let z : length (take i es) ≡ 0 + length (take i es) = omega arith in
     subst (λ (l : List Entry). Seated code U l js seats) (sym (next_is code U es js i seats p e f))
     (record {
@@ -261,8 +264,8 @@ seats_stay code U es js i seats e p f q =
       rooted = root_last-push (take i es) e f.no_root;
       plan = plan-push 0 (plan_of U) (take i es) e p.plan (subst (λ (k : ℕ). InTime k (plan_left (plan_of U) (take i es)) e) z (time_is code U es js i seats p e f));
       starts = p.starts;
-      made = h.0;
-      each = pairs-map {P = SeatIs p.starts (take i es) js} {Q = SeatIs p.starts (take i es ++ e ∷ []) js} 0 p.starts seats (λ u r y le low k. stays_so p.starts (take i es) (take i es ++ e ∷ []) js h.1 u r y k) p.each;
+      made = quiet_made code U.places (take i es) js p.starts e q p.made;
+      each = pairs-map {P = SeatIs p.starts (take i es) js} {Q = SeatIs p.starts (take i es ++ e ∷ []) js} 0 p.starts seats (λ u r y le low k. stays_so p.starts (take i es) (take i es ++ e ∷ []) js (quiet_seats code U.places (take i es) js p.starts e q p.made) u r y k) p.each;
     })
 
 pub seats_walk : SeatsWalk

@@ -1,18 +1,24 @@
 -- The pass over the events.
-use Rattle.std.specs.Prelude.{◌≡◌, ℕ, suc, ◌+◌, List, [], ◌∷◌, ◌++◌, length, refl}
+use Rattle.std.specs.Prelude.{◌≡◌, ℕ, suc, ◌+◌, List, [], ◌∷◌, ◌++◌, length, Some, refl}
 use Rattle.std.proofs.Common.{subst, arith}
 use Rattle.rx_base.specs.declared.ids.PlaceId.{PlaceId}
+use Rattle.rx_base.specs.declared.values.Fault.{Fault}
+use Rattle.rx_rules.specs.declared.events.Cell.{Cell}
 use Rattle.rx_rules.specs.Picked.{Player}
-use Rattle.rx_rules.specs.Plays.{Cells, Moves, Starts}
+use Rattle.rx_rules.specs.Plays.{Cells, Moves, Starts, Tells}
 use Rattle.rx_runs.specs.AnyAnswers.{AsksStore}
-use Rattle.rx_rules.specs.Terms.{Term, Vars, Does, does}
+use Rattle.rx_rules.specs.Terms.{Term, Vars, Answer, Does, Done, does, begins}
 use Rattle.rx_verdict.specs.Makes as parts
-use Rattle.rx_verdict.specs.Makes.{MakesEvent, StampRule}
+use Rattle.rx_verdict.specs.Makes.{MakesEvent, StampRule, KeepsRule}
 use Rattle.rx_verdict.specs.Walks as walks
 use Rattle.rx_verdict.specs.Walks.{Walks, next_does, AsksLedger, Halts}
-use Rattle.rx_verdict.specs.Events.{after, EventFrom, EventFromPlayer, AtStore, NoEventMore}
+use Rattle.rx_verdict.specs.Marks.{after}
 use Rattle.rx_verdict.proofs.Events.{past_local, past_done, past_store, past_ask}
 use Rattle.rx_verdict.proofs.Walking.{told_asks_no_ledger, fits_asks_no_store}
+
+-- what a player makes of its events
+abbrev pub EventFrom : StampRule → Starts → PlaceId → ℕ → Player → Cells → Moves → ℕ → Type 0
+EventFrom rule starts here low a cells moves k = MakesEvent rule starts here low a.vars a.term a.batch cells moves k
 
 module _ (rule : StampRule) (starts : Starts) (here : PlaceId) where
   used : {a z : Player} {cells left : Cells} {moves : Moves} → Walks starts here a cells moves z left → ℕ
@@ -58,13 +64,16 @@ module _ (rule : StampRule) (starts : Starts) (here : PlaceId) where
   no_request (parts.MakesEvent.stores {vars = vars} {t = t} {cell = cell} a tells b m) asks e = told_asks_no_ledger (does vars here.0 t) here cell a tells asks
   no_request (parts.MakesEvent.asks fits so m) asks e = let f : ⊥ = cc in f
 
-pub event_from_player : EventFromPlayer
+-- where a walk has used c events, event number c + k of the task is made exactly where the player makes number k of those left
+pub event_from_player : (rule : StampRule) (starts : Starts) (here : PlaceId) (low : ℕ) (a z : Player) (cells left : Cells) (moves : Moves) → Walks starts here a cells moves z left → (c : ℕ) × (length cells ≡ c + length left) × ((more : Moves) (k : ℕ) → EventFrom rule starts here (after low moves) z left more k → EventFrom rule starts here low a cells (moves ++ more) (c + k)) × ((more : Moves) (k : ℕ) → EventFrom rule starts here low a cells (moves ++ more) (c + k) → EventFrom rule starts here (after low moves) z left more k)
 event_from_player rule starts here low a z cells left moves w = (used rule starts here w, size rule starts here w, λ more k h. joined rule starts here low w more k h, λ more k h. parted rule starts here low w more k h)
 
-pub at_store : AtStore
+-- at a store call that the next event answers, that event is made exactly where its stamp keeps the rule
+pub at_store : (rule : StampRule) (starts : Starts) (here : PlaceId) (low : ℕ) (z : Player) (left : Cells) (stamp : ℕ) (cell : Cell) (x : List ℕ) (more : Moves) (answer : Answer) → Tells (next_does here z) here cell answer → begins z.term ≡ Some x → (KeepsRule rule low stamp more → EventFrom rule starts here low z ((stamp, cell, x) ∷ left) more 0) × (EventFrom rule starts here low z ((stamp, cell, x) ∷ left) more 0 → KeepsRule rule low stamp more)
 at_store rule starts here low z left stamp cell x more answer tells b =
     (λ h. parts.now answer h tells b, λ h. past_store rule starts here stamp cell x left answer refl tells h)
 
-pub no_event_more : NoEventMore
+-- where the term is done, or halts at a store call, or waits for the ledger with no entry more, no event more is made
+pub no_event_more : (rule : StampRule) (starts : Starts) (here : PlaceId) (low : ℕ) (z : Player) (left : Cells) (more : Moves) (k : ℕ) → EventFrom rule starts here low z left more k → ((faults : List Fault) → next_does here z ≡ Done faults → ⊥) × (AsksStore (next_does here z) → Halts here z left → ⊥) × (AsksLedger (next_does here z) → more ≡ [] → ⊥)
 no_event_more rule starts here low z left more k h =
     (λ faults e. past_done rule starts here faults e h, λ asks halts. no_halt rule starts here h asks halts, λ asks e. no_request rule starts here h asks e)

@@ -13,9 +13,13 @@ use Rattle.rx_runs.specs.AnyAnswers.{AsksStore}
 use Rattle.rx_verdict.specs.Makes as parts
 use Rattle.rx_verdict.specs.Makes.{Makes}
 use Rattle.rx_verdict.specs.Walks as walks
-use Rattle.rx_verdict.specs.Walks.{Walks, MakesFrom, WalksOn, OneMore, AsksLedger, Halts, AtRequest, AtEnd, AtHalt, NoneAfterEnd}
+use Rattle.rx_verdict.specs.Walks.{Walks, next_does, AsksLedger, Halts}
 use Rattle.rx_runs.proofs.NextSteps.{not_done_told, not_done_fits, not_local_done}
 use Rattle.rx_verdict.proofs.Once.{make_local, make_store, make_ask}
+
+-- what a player makes
+abbrev pub MakesFrom : Starts → PlaceId → Player → Cells → Moves → Cells → Type 0
+MakesFrom starts here a cells moves rest = Makes starts here a.vars a.term a.batch cells moves rest
 
 not_empty : (moves : Moves) (m : ℕ × Act × List (List ℕ)) (more : Moves) → moves ++ m ∷ more ≡ [] → ⊥
 not_empty [] m more e = cc
@@ -45,11 +49,9 @@ module _ (starts others : Starts) (here : PlaceId) where
       ⊎_elim (λ (none : moves ++ m ∷ more ≡ []). absurd (not_empty moves m more none)) (λ k. cut m more w k) (make_store others here stamp cell x cells answer refl tells h)
   cut m more (walks.asks {moves = moves} {n = n} {act = act} fits so w) h = cut m more w (make_ask others here n act (moves ++ m ∷ more) refl fits h).1
 
-pub walks_on : WalksOn
+-- two walks, one after the other, are one
+pub walks_on : (starts : Starts) (here : PlaceId) (a y z : Player) (cells mid left : Cells) (moves more : Moves) → Walks starts here a cells moves y mid → Walks starts here y mid more z left → Walks starts here a cells (moves ++ more) z left
 walks_on starts here a y z cells mid left moves more v w = walk_on starts here v w
-
-pub one_more : OneMore
-one_more starts others here a z cells left moves m w = (λ rest h. join starts here w h, λ rest h. cut starts others here m [] w h)
 
 -- What the player does next.
 
@@ -126,6 +128,7 @@ module _ (starts : Starts) (here : PlaceId) where
   at_halt_never m e asks halts (parts.ends g) = subst (λ (d : Does). AsksStore d) g asks
   at_halt_never m e asks halts parts.stops = let f : ⊥ = cc in f
 
+  -- after its end a task makes no entry
   pub none_after : {vars : Vars} {t : Term} {batch : List (List ℕ)} {cells rest : Cells} {all : Moves} (n : ℕ) (faults : List Fault) (last : List (List ℕ)) (m : ℕ × Act × List (List ℕ)) (moves : Moves) → Makes starts here vars t batch cells all rest → all ≡ moves ++ (n, End faults, last) ∷ m ∷ [] → ⊥
   none_after n faults last m moves (parts.Makes.local g h) e = none_after n faults last m moves h e
   none_after n faults last m moves (parts.Makes.stores a tells b h) e = none_after n faults last m moves h e
@@ -141,20 +144,24 @@ module _ (starts : Starts) (here : PlaceId) where
   none_after n faults last m [] parts.stops e = let f : ⊥ = cc in f
   none_after n faults last m (x ∷ moves) parts.stops e = let f : ⊥ = cc in f
 
-pub at_request : AtRequest
+-- the entry is what a player that waits for the ledger asks: its act, its batch, and the start of whom it starts
+abbrev pub IsAsked : Starts → PlaceId → Player → ℕ × Act × List (List ℕ) → Type 0
+IsAsked starts here z m = (m.2 ≡ z.batch) × Fits here z.term (next_does here z) m.1 × StartsSo starts z.term z.vars m.1
+
+-- at a request, the one entry is made exactly where it is what is asked
+pub at_request : (starts : Starts) (here : PlaceId) (z : Player) (left : Cells) (m : ℕ × Act × List (List ℕ)) → AsksLedger (next_does here z) → (IsAsked starts here z m → MakesFrom starts here z left (m ∷ []) left) × ((rest : Cells) → MakesFrom starts here z left (m ∷ []) rest → IsAsked starts here z m)
 at_request starts here z left m asks = (
   λ k. subst (λ (b : List (List ℕ)). Makes starts here z.vars z.term b left (m ∷ []) left) k.0 (subst (λ (b : List (List ℕ)). Makes starts here z.vars z.term b left ((m.0, m.1, b) ∷ []) left) refl (parts.Makes.asks k.1 k.2 parts.stops)),
   λ rest h. at_request_only starts here m refl asks h,
 )
 
-pub at_end : AtEnd
+-- at an end, exactly where it is that end
+pub at_end : (starts : Starts) (here : PlaceId) (z : Player) (left : Cells) (m : ℕ × Act × List (List ℕ)) (faults : List Fault) → next_does here z ≡ Done faults → ((m.2 ≡ z.batch) × (m.1 ≡ End faults) → MakesFrom starts here z left (m ∷ []) left) × ((rest : Cells) → MakesFrom starts here z left (m ∷ []) rest → (m.2 ≡ z.batch) × (m.1 ≡ End faults))
 at_end starts here z left m faults done = (
   λ k. subst (λ (v : Act × List (List ℕ)). Makes starts here z.vars z.term z.batch left ((m.0, v.0, v.1) ∷ []) left) {x = (End faults, z.batch)} {y = (m.1, m.2)} (λ i. (sym k.1 i, sym k.0 i)) (parts.ends done),
   λ rest h. at_end_only starts here m faults refl done h,
 )
 
-pub at_halt : AtHalt
+-- where the term halts at a store call, never
+pub at_halt : (starts : Starts) (here : PlaceId) (z : Player) (left rest : Cells) (m : ℕ × Act × List (List ℕ)) → AsksStore (next_does here z) → Halts here z left → MakesFrom starts here z left (m ∷ []) rest → ⊥
 at_halt starts here z left rest m asks halts h = at_halt_never starts here m refl asks halts h
-
-pub none_after_end : NoneAfterEnd
-none_after_end starts here a cells rest moves n faults batch m h = none_after starts here n faults batch m moves h refl

@@ -1,19 +1,15 @@
 -- A part of a run with one entry more: the four questions that the pass asks of each entry.
 use Rattle.std.specs.Prelude.{◌≡◌, ℕ, suc, ◌≤◌, List, [], ◌∷◌, ◌++◌, length, take, Some, slice_get}
 use Rattle.rx_rules.specs.declared.entries.Entry.{Entry}
-use Rattle.rx_rules.specs.declared.entries.Entry.TheVariants.{Step, Root}
+use Rattle.rx_rules.specs.declared.entries.Entry.TheVariants.{Step}
 use Rattle.rx_rules.specs.declared.events.PlaceEvent.{PlaceEvent}
 use Rattle.rx_rules.specs.Code.{Block}
 use Rattle.rx_rules.specs.Entries.{Allowed}
 use Rattle.rx_rules.specs.Fold.{tree_of}
-use Rattle.rx_rules.specs.Picked.{Player}
-use Rattle.rx_rules.specs.Plays.{Cells, Starts}
-use Rattle.rx_rules.specs.Run.{Given, NoRoot, EndsWithRoot, plan_of}
-use Rattle.rx_rules.specs.Terms.{Term, Vars}
+use Rattle.rx_rules.specs.Plays.{Starts}
+use Rattle.rx_rules.specs.Run.{Given, NoRoot, plan_of}
 use Rattle.rx_runs.specs.Segments.{plan_left, InTime}
 use Rattle.rx_verdict.specs.Makes.{Made}
-use Rattle.rx_verdict.specs.Passes.{Stays}
-use Rattle.rx_runs.specs.Rooted.{RootIsLast}
 use Rattle.rx_verdict.specs.Verdicts.{Part}
 
 -- Entry e, after these: the tree allows it, no entry before it releases the root, it is the death or join that is due or stands
@@ -38,27 +34,7 @@ PartBegins =
     (code : Block) (U : Given) (es : List Entry) (js : List (List PlaceEvent)) → Part code U es js 0
     × ((m n : ℕ) → m ≤ n → Part code U es js n → Part code U es js m)
 
--- the entry releases the root
-abbrev pub IsRoot : Entry → Type 0
-IsRoot (Root lost masked thrown) = Unit {0}
-IsRoot _ = ⊥
-
--- where no entry follows a release of the root, entries end with one exactly where the last of them is one
-abbrev pub RootEnds : Type 0
-RootEnds =
-    (EndsWithRoot [] → ⊥)
-    × ((es : List Entry) (e : Entry) → RootIsLast (es ++ e ∷ [])
-    → (IsRoot e → EndsWithRoot (es ++ e ∷ [])) × (EndsWithRoot (es ++ e ∷ []) → IsRoot e))
-
 -- the entry is of no task
 abbrev pub IsQuiet : Entry → Type 0
 IsQuiet (Step t act batch) = ⊥
 IsQuiet _ = Unit {0}
-
--- such an entry makes no term do anything, and leaves every task where it was
-abbrev pub QuietStays : Type 0
-QuietStays =
-    (code : Block) (places : ℕ) (es : List Entry) (js : List (List PlaceEvent)) (starts : Starts) (e : Entry) → IsQuiet e
-    → Made code places es js starts
-    → Made code places (es ++ e ∷ []) js starts
-    × ((u : ℕ) (r : Term × Vars) (z : Player) (left : Cells) → Stays es (es ++ e ∷ []) js starts starts u r z left)

@@ -12,16 +12,14 @@ use Rattle.rx_rules.specs.Code.{Block}
 use Rattle.rx_rules.specs.Entries.{Allowed}
 use Rattle.rx_rules.specs.Fold.{AllAllowed, opening, tree_of}
 use Rattle.rx_rules.specs.Picked.{Player, acted}
-use Rattle.rx_rules.specs.Plays.{Cells, Starts, birth_of, travels, started_by}
+use Rattle.rx_rules.specs.Plays.{Cells, Starts, Fits, birth_of, travels, started_by}
 use Rattle.rx_rules.specs.Run.{Given, PlanKept, plan_of, NoRoot}
-use Rattle.rx_rules.specs.Terms.{Term, Vars, Done, child}
+use Rattle.rx_rules.specs.Terms.{Term, Empty, Vars, no_vars, items, Done, child}
 use Rattle.rx_runs.specs.AnyAnswers.{AsksStore}
 use Rattle.rx_runs.specs.Games.{fresh, Pairs}
 use Rattle.rx_runs.specs.Segments.{plan_left, InTime}
-use Rattle.rx_verdict.specs.Decides.{IsRequest, main_start}
 use Rattle.rx_verdict.specs.Makes.{Made, cells_of}
 use Rattle.rx_verdict.specs.Marks.{home_of, StandsAt, WholePass}
-use Rattle.rx_verdict.specs.Parts.{IsQuiet}
 use Rattle.rx_verdict.specs.Passes.{IsAway, IsAt, HasEnded}
 use Rattle.rx_runs.specs.Rooted.{RootIsLast}
 use Rattle.rx_verdict.specs.Verdicts.{Part}
@@ -60,6 +58,10 @@ pub record MayFollow (U : Given) (es : List Entry) (i : ℕ) (e : Entry) : Type 
   pub no_root : NoRoot (take i es)
   pub in_time : InTime i (plan_left (plan_of U) (take i es)) e
 
+-- how task 0 starts
+abbrev pub main_start : Block → ℕ → Term × Vars
+main_start code places = (items code [] Empty, no_vars places)
+
 -- the seats before the first entry
 abbrev pub opening_seats : Block → Given → List (List PlaceEvent) → List Seat
 opening_seats code U js = Stands (fresh (main_start code U.places)) (cells_of [] js 0) ∷ []
@@ -89,12 +91,6 @@ SeatsWalk =
     (left rest : Cells) → Seated code U es js seats → slice_get seats t ≡ Some (Stands z left)
     → Walks [] (home_of es t) z left [] y rest → Seated code U es js (slice_set seats t (Stands y rest))
 
--- an entry of no task changes no seat
-abbrev pub SeatsStay : Type 0
-SeatsStay =
-    (code : Block) (U : Given) (es : List Entry) (js : List (List PlaceEvent)) (i : ℕ) (seats : List Seat) (e : Entry)
-    → Seated code U (take i es) js seats → MayFollow U es i e → IsQuiet e → Seated code U (take (suc i) es) js seats
-
 -- the seat of a newborn task, which starts so: it travels, or stands at its start
 abbrev pub newborn_seat : List Entry → List (List PlaceEvent) → ℕ → Term × Vars → Seat
 newborn_seat es js c r = cond (travels (birth_of es c)) (Away r) (Stands (fresh r) (cells_of es js c))
@@ -103,6 +99,10 @@ newborn_seat es js c r = cond (travels (birth_of es c)) (Away r) (Stands (fresh 
 abbrev pub newborn_seats : List Entry → List (List PlaceEvent) → Player → Act → List Seat
 newborn_seats es js z act =
     elim (started_by act) [ Some c ↦ newborn_seat es js c.0 (child z.term, z.vars) ∷ [] | None ↦ [] ]
+
+-- the entry's batch is the player's, and its act is what the player asks
+abbrev pub IsRequest : List Entry → TaskId → Act → List (List ℕ) → Player → Type 0
+IsRequest es t act batch z = (batch ≡ z.batch) × Fits (birth_of es t.0).to z.term (next_does (birth_of es t.0).to z) act
 
 -- A player that waits for the ledger makes the entry exactly where it is its request; then it goes on, and there is one seat more
 -- where the act starts a task.

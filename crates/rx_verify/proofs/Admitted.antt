@@ -21,11 +21,11 @@ use Rattle.rx_runs.proofs.Pushes.{plan-push}
 use Rattle.rx_runs.proofs.Journals.{death_same}
 use Rattle.rx_runs.proofs.Planned.{left-step, left-death, left-join, due_may, rest_may, may_dies, may_on, come_within}
 use Rattle.rx_finish.specs.Callers.{MayStrike}
-use Rattle.rx_ledger.specs.Keeping.{left_to_join}
-use Rattle.rx_ledger.proofs.Pushing.{left-root, still_open-step}
-use Rattle.rx_ledger.proofs.Deaths.{older}
+use Rattle.rx_chronicle.specs.Told.{left_to_join}
+use Rattle.rx_chronicle.proofs.Pushing.{left-root, still_open-step}
+use Rattle.rx_chronicle.proofs.Deaths.{older}
 use Rattle.rx_verify.specs.Inside.Admits.{LedgerIs}
-use Rattle.rx_ledger.proofs.Stepped.{come_on, stands_on}
+use Rattle.rx_chronicle.proofs.Stepped.{come_on, stands_on}
 
 -- the same fold and plan with one entry more
 folds_on : (U : Given) (es : List Entry) (e : Entry) → Folds U es → Allowed (tree_of U.places es) e → InTime (length es) (plan_left (plan_of U) es) e → Folds U (es ++ e ∷ [])

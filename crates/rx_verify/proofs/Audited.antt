@@ -19,7 +19,7 @@ use Rattle.rx_runs.proofs.Plans.{plan_comes}
 use Rattle.rx_finish.specs.declared.ledger.Caller.{Caller}
 use Rattle.rx_finish.specs.declared.ledger.Outcome.{Outcome}
 use Rattle.rx_finish.specs.Callers.{MayStrike}
-use Rattle.rx_ledger.specs.Keeping.{Ending, left_to_join}
+use Rattle.rx_chronicle.specs.Told.{Ending, left_to_join}
 use Rattle.rx_verify.specs.declared.audit.Audit.{Audit}
 use Rattle.rx_verify.specs.Inside.Deciding.{Decides}
 use Rattle.rx_verify.specs.Inside.Admits.{Admits, LedgerIs, AuditIs}
@@ -30,7 +30,7 @@ use Rattle.rx_finish.specs.Calls.{RootReply}
 use Rattle.rx_verify.specs.Inside.Grants.{IsRefusal}
 use Rattle.rx_verify.proofs.Admitted.{stepped, rooted, may_die, may_strike, died, may_join, after_join, has_room, joined, in_time}
 use Rattle.rx_verify.proofs.Agreeing.{outcome_same}
-use Rattle.rx_ledger.proofs.Keepers.{root_or_none}
+use Rattle.rx_chronicle.proofs.Ended.{root_or_none}
 
 module _ {L : Type 0} (stands : L → ℕ → Tree → Type 0) (U : Given) (es : List Entry) (a : Audit L) (h : AuditIs stands U es a) (on : a.ended ≡ false) (few : a.count + 2 < 2 ^ 31) where
   abbrev T : Tree

@@ -15,19 +15,19 @@ use Rattle.rx_runs.specs.AnyAnswers.{MadeBounded}
 use Rattle.rx_runs.specs.Segments.{plan_left, InTime}
 use Rattle.rx_finish.specs.declared.ledger.Caller.{Caller}
 use Rattle.rx_base.proofs.Elements.{get-within}
-use Rattle.rx_ledger.specs.Keeping.{Ending}
+use Rattle.rx_chronicle.specs.Told.{Ending}
 use Rattle.rx_ledger.specs.TermAsks.{MayAskAct}
-use Rattle.rx_ledger.proofs.Keepers.{root_or_none}
-use Rattle.rx_nodes.specs.Shape.{Shape, Stands}
+use Rattle.rx_chronicle.proofs.Ended.{root_or_none}
+use Rattle.rx_syntax.specs.Shape.{Shape, Stands}
 use Rattle.rx_verdict.specs.Parts.{IsQuiet}
 use Rattle.rx_verdict.specs.Seats.{SeatsTell, PartFollows, MayFollow}
 use Rattle.rx_verdict.specs.Verdicts.{Part}
 use Rattle.rx_verdict.proofs.Parting.{take_next}
 use Rattle.rx_verify.specs.declared.audit.Audit.{Audit}
 use Rattle.rx_verify.specs.Inside.Admits.{Admits, AuditIs}
-use Rattle.rx_players.specs.declared.players.Players.{Players}
-use Rattle.rx_players.specs.Players.{Awaits, PlayersStay}
-use Rattle.rx_players.specs.Reaching.{Granted, IsMade, Reached}
+use Rattle.rx_verify.specs.declared.players.Players.{Players}
+use Rattle.rx_verify.specs.Players.{Awaits, PlayersStay}
+use Rattle.rx_verify.specs.Reaching.{Granted, IsMade, Reached}
 use Rattle.rx_verify.specs.Inside.Deciding.{Decides}
 use Rattle.rx_verify.specs.Inside.Granting.{Admitting, AdmittingOf, Asks, Goes}
 use Rattle.rx_verify.specs.Inside.Passing.{PassIs, IsFlaw, AfterEntry}

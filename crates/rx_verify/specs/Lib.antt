@@ -1,1 +1,10 @@
+pub mod Answers
+pub mod Events
+pub mod Table
+pub mod Stood
+pub mod Along
+pub mod Marked
+pub mod Callers
+pub mod Players
+pub mod Reaching
 pub mod Inside

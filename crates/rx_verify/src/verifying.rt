@@ -4,22 +4,20 @@ ghost use Rattle.rx_rules.specs.Code.{Block};
 ghost use Rattle.rx_rules.specs.Run.{Proper, in_all};
 ghost use Rattle.rx_history.specs.Setups.{given};
 ghost use Rattle.rx_history.specs.Events.{events_of};
-ghost use Rattle.rx_nodes.specs.Shape.{Stands};
-ghost use Rattle.rx_timely.specs.Deaths.{AreDeaths};
+ghost use Rattle.rx_syntax.specs.Shape.{Stands};
+ghost use Rattle.rx_kills.specs.Deaths.{AreDeaths};
 ghost use Rattle.rx_verdict.specs.Verdicts.{IsVerdict};
 ghost use Rattle.rx_verify.specs.Inside.Passing.{PassIs, FirstFlaw, AfterEntry};
 
+use crate::Players;
 use crate::audit::Audit;
 use rx_base::NoMemory;
 use rx_check::{Program, checked};
 use rx_counts::CountLedger;
 use rx_finish::FinishLedger;
 use rx_history::{Entry, History, Journals};
-use rx_kills::Due;
-use rx_players::Players;
-use rx_replay::judge_events;
-use rx_timely::{no_deaths, note_death};
-use rx_verdict::Verdict;
+use rx_kills::{Due, no_deaths, note_death};
+use rx_verdict::{Verdict, judge_events};
 use std::alloc::Global;
 
 /// The verdict on a history and its journals for a program: the first flaw, or `Run`, where they are a whole run. There is one such
@@ -64,7 +62,7 @@ fn judge<L: FinishLedger>(
     checked(program);
     rx_verdict::seats_tell();
     rx_verdict::parts_begin();
-    rx_replay::laws::events_decide();
+    rx_verdict::event_laws::events_decide();
     let mut deaths = no_deaths();
     let flaw = first_flaw(
         alloc,
@@ -136,7 +134,7 @@ fn admits<L: FinishLedger>(
     rx_runs::made_entries_are_bounded();
     rx_verdict::seats_tell();
     rx_verdict::parts_may_follow();
-    rx_players::laws::players_stay();
+    crate::laws::players_stay();
     if audit.has_ended() {
         return Ok(false);
     }

@@ -1,6 +1,6 @@
-//! Tests of stores, books, objects and watches, of runs on one thread, of activities on several, and of what reads, replays and judges a
-//! trace. Each module has the name of the crate that it tests. They stand apart, so that none of those crates is proved twice; nothing
-//! else is here.
+//! Tests of stores, books, objects and watches, of runs on one thread, of activities on several, and of what reads, replays and judges
+//! a trace. Each module has the name of the crate that it tests; `pair` is of rx_answers, `picks` of rx_machine, `replay` of
+//! rx_verdict, and `watch` of rx_monitor. They stand apart, so that none of those crates is proved twice; nothing else is here.
 #![tactic(auto)]
 
 #[cfg(test)]
@@ -13,6 +13,10 @@ mod machine;
 mod monitor;
 #[cfg(test)]
 mod objects_worked;
+#[cfg(test)]
+mod pair;
+#[cfg(test)]
+mod picks;
 #[cfg(test)]
 mod reading;
 #[cfg(test)]

@@ -68,10 +68,10 @@ fn opened<L: FinishLedger>(
 ) -> Result<Machine<L>, NoMemory>
     requires proper { Proper (given setup) }
     requires opened { L.stands ledger (length (given setup).joins) (opening (given setup).places) }
-    ensures { IfOk result (λ m. CanRun L.stands p.now.script m) }
+    ensures { IfOk result (λ m. CanRun p.now.script m) }
 {
     checked(p);
-    Machine::open(alloc, p, setup, ledger)
+    Machine::open(alloc, p, &setup, ledger)
 }
 
 // Whether a turn goes on, after which so many tasks are enabled.
@@ -81,8 +81,8 @@ fn goes_on<L: FinishLedger>(
     picks: &mut ListPicks,
     enabled: u32,
 ) -> bool
-    requires { CanRun L.stands p.now.script machine.old }
-    ensures { IsTrue result → CanRun L.stands p.now.script machine.new }
+    requires { CanRun p.now.script machine.old }
+    ensures { IsTrue result → CanRun p.now.script machine.new }
 {
     match machine.turn(p, picks) {
         Ok(Turn::Moved) => machine.enabled() == enabled,
@@ -97,8 +97,8 @@ fn all_go_on<L: FinishLedger>(
     picks: &mut ListPicks,
     enabled: &[u32],
 ) -> bool
-    requires { CanRun L.stands p.now.script machine.old }
-    ensures { IsTrue result → CanRun L.stands p.now.script machine.new }
+    requires { CanRun p.now.script machine.old }
+    ensures { IsTrue result → CanRun p.now.script machine.new }
 {
     for count in enabled {
         if !goes_on(p, machine, picks, *count) {
@@ -115,7 +115,7 @@ fn stops<L: FinishLedger>(
     picks: &mut ListPicks,
     enabled: &[u32],
 ) -> Option<usize>
-    requires { CanRun L.stands p.now.script machine }
+    requires { CanRun p.now.script machine }
 {
     if !all_go_on(p, &mut machine, picks, enabled) {
         return None;
@@ -131,7 +131,7 @@ fn runs_on<L: FinishLedger>(
     picks: &mut ListPicks,
     enabled: &[u32],
 ) -> Result<Option<usize>, NoMemory>
-    requires { CanRun L.stands p.now.script machine }
+    requires { CanRun p.now.script machine }
 {
     if !all_go_on(p, &mut machine, picks, enabled) {
         return Ok(None);
@@ -147,7 +147,7 @@ fn ends<L: FinishLedger>(
     picks: &mut ListPicks,
     enabled: &[u32],
 ) -> Option<usize>
-    requires { CanRun L.stands p.now.script machine }
+    requires { CanRun p.now.script machine }
 {
     if !all_go_on(p, &mut machine, picks, enabled) {
         return None;
@@ -163,7 +163,7 @@ fn ends<L: FinishLedger>(
 
 // A machine over the ledger of counts whose second place dies.
 fn dying(alloc: Global, p: &Program) -> Result<Machine<CountLedger>, NoMemory>
-    ensures { IfOk result (λ m. CanRun (⟦<CountLedger as FinishLedger>⟧.stands) p.now.script m) }
+    ensures { IfOk result (λ m. CanRun p.now.script m) }
 {
     let setup = with_death(alloc)?;
     let ledger = CountLedger::open_for(alloc, setup.places, setup.joins.len() as u8)?;
@@ -172,7 +172,7 @@ fn dying(alloc: Global, p: &Program) -> Result<Machine<CountLedger>, NoMemory>
 
 // The same over the plain ledger.
 fn dying_tree(alloc: Global, p: &Program) -> Result<Machine<TreeLedger>, NoMemory>
-    ensures { IfOk result (λ m. CanRun (⟦<TreeLedger as FinishLedger>⟧.stands) p.now.script m) }
+    ensures { IfOk result (λ m. CanRun p.now.script m) }
 {
     let setup = with_death(alloc)?;
     let ledger = TreeLedger::open(alloc, setup.places)?;
@@ -181,7 +181,7 @@ fn dying_tree(alloc: Global, p: &Program) -> Result<Machine<TreeLedger>, NoMemor
 
 // A machine over the plain ledger whose second place joins.
 fn joining(alloc: Global, p: &Program) -> Result<Machine<TreeLedger>, NoMemory>
-    ensures { IfOk result (λ m. CanRun (⟦<TreeLedger as FinishLedger>⟧.stands) p.now.script m) }
+    ensures { IfOk result (λ m. CanRun p.now.script m) }
 {
     let setup = with_join(alloc)?;
     let ledger = TreeLedger::open(alloc, setup.places)?;

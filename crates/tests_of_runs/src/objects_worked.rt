@@ -3,7 +3,7 @@ ghost use Rattle.std.specs.Prelude.{◌≡◌, ◌≤◌, [], IfOk};
 ghost use Rattle.rx_rules.specs.Code.{Block};
 ghost use Rattle.rx_rules.specs.Terms.{Empty, items, no_vars};
 ghost use Rattle.rx_rules.specs.Run.{Proper};
-ghost use Rattle.rx_nodes.specs.Shape.{Stands};
+ghost use Rattle.rx_syntax.specs.Shape.{Stands};
 ghost use Rattle.rx_control.specs.Stands.{StandsFor};
 ghost use Rattle.rx_history.specs.Setups.{given};
 ghost use Rattle.rx_book.specs.Calls.{IsFresh};
@@ -24,7 +24,7 @@ use rx_objects::{
     LedgerAndGate, LedgerObject, LedgerOp, LedgerReply, Mentions, PlaceObject, PlaceOp, PlaceReply,
     Surroundings, host_may_ask, ledger_op_fits, objects_open, place_op_fits,
 };
-use rx_parts_book::{EntryItem, EventItem};
+use rx_parts::{EntryItem, EventItem};
 use rx_script::read_script;
 use rx_store::{Mark, Store};
 use rx_ticket::{AnyTicket, Live, Ticket};

@@ -2,8 +2,8 @@
 use crate::same::same;
 use rx_base::{GlobalRef, NoMemory, Path, PlaceId, TaskId};
 use rx_history::Journal;
-use rx_replay::lawful_events;
 use rx_rules::{Cell, PlaceEvent};
+use rx_verdict::lawful_events;
 use std::test::Fail;
 
 fn told(rt: &HostRuntime, stamp: u32, cell: Cell) -> PlaceEvent {

@@ -2,15 +2,15 @@
 ghost use Rattle.std.specs.Prelude.{◌≡◌, ◌<◌, [], ◌∷◌, IfOk};
 ghost use Rattle.rx_rules.specs.Code.{Block};
 ghost use Rattle.rx_rules.specs.Order.{told, told_in};
-ghost use Rattle.rx_nodes.specs.Shape.{Stands};
+ghost use Rattle.rx_syntax.specs.Shape.{Stands};
 ghost use Rattle.rx_span.specs.Paths.{ArePaths};
 
 use crate::same::same;
 use rx_base::{Batch, NoMemory, Path, TaskId};
 use rx_check::{Program, check};
 use rx_history::{Act, Entry, History, JoinList, KillList, Setup};
-use rx_nodes::{BlockId, Expr, ExprId, Script, Stmt, StmtId};
 use rx_span::{Steps, span, span_counted};
+use rx_syntax::{BlockId, Expr, ExprId, Script, Stmt, StmtId};
 use std::alloc::Global;
 use std::marker::Brand;
 use std::sync::ledger::{Blank, Ledger};

@@ -1,7 +1,6 @@
 // The lines as they are read.
 use rx_base::PlaceSet;
-use rx_monitor::Summary;
-use rx_watch::put_watch;
+use rx_monitor::{Summary, put_watch};
 use std::test::Fail;
 
 #[test]

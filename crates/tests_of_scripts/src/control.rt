@@ -2,7 +2,7 @@
 // may be moved between threads.
 ghost use Rattle.std.specs.Prelude.{◌≡◌, IfOk, OnOk};
 ghost use Rattle.rx_rules.specs.Terms.{Term, does};
-ghost use Rattle.rx_plan.specs.Next.{next_of};
+ghost use Rattle.rx_history.specs.Next.{next_of};
 ghost use Rattle.rx_control.specs.Stands.{StandsFor};
 
 use crate::same::same;

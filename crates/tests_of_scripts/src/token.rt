@@ -1,7 +1,7 @@
 // What no clause says: that bytes are scanned and tokens written.
 use crate::same::same;
 use rx_base::NoMemory;
-use rx_token::{Keyword, Op, Sign, Token, put_token, scan};
+use rx_syntax::{Keyword, Op, Sign, Token, put_token, scan};
 
 #[test]
 fn tokens_are_scanned_and_written(rt: HostRuntime) -> Result<(), NoMemory> {

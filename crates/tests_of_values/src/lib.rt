@@ -1,5 +1,5 @@
-//! Tests of the low crates: numbers, paths, words, picks, kills, fields, blocks of a heap, locks and ranks. Each module has the name
-//! of the crate that it tests. They stand apart, so that none of those crates is proved twice; nothing else is here.
+//! Tests of the low crates: numbers, paths, words, kills, fields, blocks of a heap, locks and ranks. Each module has the name of the
+//! crate that it tests; `lock` is rx_book's. They stand apart, so that none of those crates is proved twice; nothing else is here.
 #![tactic(auto)]
 
 #[cfg(test)]
@@ -12,10 +12,6 @@ mod heap;
 mod kills;
 #[cfg(test)]
 mod lock;
-#[cfg(test)]
-mod pair;
-#[cfg(test)]
-mod picks;
 #[cfg(test)]
 mod rank;
 #[cfg(test)]

@@ -1,7 +1,7 @@
 ghost use Rattle.std.specs.Prelude.{◌≡◌, ◌≤◌};
 
 use crate::same::same;
-use rx_lock::{Fact, Lock};
+use rx_book::{Fact, Lock};
 use std::sync::Wait;
 use std::sync::atomic::AtomicU64;
 use std::test::Fail;

@@ -12,7 +12,7 @@ import itertools
 import secrets
 import socket
 import threading
-from typing import Any, Callable, Dict, List, Optional, Sequence, Tuple
+from typing import Any, Callable, Dict, List, Optional, Sequence, Set, Tuple
 
 from .. import place
 from ..errors import Closed, PlaceGone
@@ -96,6 +96,9 @@ class Dask(Door):
         self._unused = [*self.addresses, *spare]
         self._expected: Dict[int, Tuple[str, Optional[int]]] = {}           # by number: the address, and the task that wanted the place
         self._keepers: Dict[int, Any] = {}
+        self._without_keeper: Set[int] = set()                              # numbers of dead places
+        self._is_over = False
+        self._lock = threading.Lock()                                       # of these three: a keeper may be submitted late
         self._serial = itertools.count(1)
 
     def start(self, job: Job) -> None:
@@ -133,8 +136,14 @@ class Dask(Door):
         self._quietly(self._keep, number, address)
 
     def _keep(self, number: int, address: str) -> None:
-        self._keepers[number] = self.client.submit(keep, self.token, workers=[address], allow_other_workers=False, pure=False,
-                                                   key=f"{self.topic}-{number}")
+        """Submits the keeper of a place. The place may be dead by now, or the job over: then nobody else would cancel it."""
+        keeper = self.client.submit(keep, self.token, workers=[address], allow_other_workers=False, pure=False, key=f"{self.topic}-{number}")
+        with self._lock:
+            is_late = self._is_over or number in self._without_keeper
+            if not is_late:
+                self._keepers[number] = keeper
+        if is_late:
+            keeper.cancel()
 
     @staticmethod
     def _why(who: str, fault: Exception) -> str:
@@ -160,7 +169,9 @@ class Dask(Door):
 
     def ended(self, tag: Any) -> None:
         """The keeper of a dead place would wait for ever, or run again in a worker that gets the same address."""
-        keeper = self._keepers.pop(tag[0], None)
+        with self._lock:
+            self._without_keeper.add(tag[0])
+            keeper = self._keepers.pop(tag[0], None)
         if keeper is not None:
             threading.Thread(target=self._quietly, args=(keeper.cancel,), daemon=True).start()
 
@@ -181,5 +192,7 @@ class Dask(Door):
         self._quietly(self.client.run_on_scheduler, lambda dask_scheduler: dask_scheduler.remove_plugin(name=topic))
 
     def _take_keepers(self) -> List[Any]:
-        keepers, self._keepers = list(self._keepers.values()), {}
+        with self._lock:
+            self._is_over = True
+            keepers, self._keepers = list(self._keepers.values()), {}
         return keepers

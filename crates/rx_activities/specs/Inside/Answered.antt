@@ -3,7 +3,7 @@ use Rattle.std.specs.Prelude.{◌≡◌, Option, Some, None, Result}
 use Rattle.rx_base.specs.declared.values.Value.{Value}
 use Rattle.rx_base.specs.declared.values.Fault.{Fault}
 use Rattle.rx_book.specs.declared.passes.Pass.{Pass}
-use Rattle.rx_parts_book.specs.declared.items.EntryItem.{EntryItem}
+use Rattle.rx_parts.specs.declared.items.EntryItem.{EntryItem}
 use Rattle.rx_objects.specs.declared.place.PlaceReply.{PlaceReply}
 use Rattle.rx_objects.specs.declared.place.PlaceReply.TheVariants.{Cell as Answers, NoMemory}
 

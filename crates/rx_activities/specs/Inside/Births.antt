@@ -12,8 +12,8 @@ use Rattle.rx_book.specs.declared.passes.Note.{Note}
 use Rattle.rx_book.specs.Passes.{IsAsSeen}
 use Rattle.rx_book.specs.Named.{BookName}
 use Rattle.rx_book.specs.Calls.{Met}
-use Rattle.rx_parts_book.specs.declared.items.EntryItem.{EntryItem}
-use Rattle.rx_parts_book.specs.declared.items.EventItem.{EventItem}
+use Rattle.rx_parts.specs.declared.items.EntryItem.{EntryItem}
+use Rattle.rx_parts.specs.declared.items.EventItem.{EventItem}
 use Rattle.rx_objects.specs.declared.ledger.LedgerFixed.{LedgerFixed}
 use Rattle.rx_objects.specs.Place.{shown}
 use Rattle.rx_activities.specs.declared.hand.Hand.{Hand}

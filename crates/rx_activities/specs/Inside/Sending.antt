@@ -6,13 +6,13 @@ use Rattle.rx_rules.specs.declared.entries.Act.TheVariants.{Census as CensusAct}
 use Rattle.rx_rules.specs.Terms.{Term, Does, Opens, Calls, Spawns, Waits, Releases, Prints, Counts, Done}
 use Rattle.rx_rules.specs.Terms.{Empty, begins, child, does, granted, replaced}
 use Rattle.rx_rules.specs.Plays.{vars_told}
-use Rattle.rx_nodes.specs.Shape.{Shape}
+use Rattle.rx_syntax.specs.Shape.{Shape}
 use Rattle.rx_control.specs.declared.control.Control.{Control}
-use Rattle.rx_plan.specs.declared.step.Next.{Next}
-use Rattle.rx_plan.specs.declared.step.Next.TheVariants.{Local as LocalStep, Cell as CellStep, Book as BookStep, Done as EndStep}
-use Rattle.rx_plan.specs.declared.step.Want.TheVariants.{At as WantAt, Spawn as WantSpawn, Open, Wait, Release, Print, Census}
+use Rattle.rx_history.specs.declared.step.Next.{Next}
+use Rattle.rx_history.specs.declared.step.Next.TheVariants.{Local as LocalStep, Cell as CellStep, Book as BookStep, Done as EndStep}
+use Rattle.rx_history.specs.declared.step.Want.TheVariants.{At as WantAt, Spawn as WantSpawn, Open, Wait, Release, Print, Census}
 use Rattle.rx_control.specs.Stands.{StandsFor}
-use Rattle.rx_plan.specs.Next.{next_of}
+use Rattle.rx_history.specs.Next.{next_of}
 use Rattle.rx_history.specs.declared.asks.Ask.{Ask}
 use Rattle.rx_history.specs.declared.asks.Ask.TheVariants.{Open as AskOpen, At as AskCall, Spawn as AskSpawn, Arrive as AskArrive}
 use Rattle.rx_history.specs.declared.asks.Ask.TheVariants.{Wait as AskWait, Release as AskRelease, End as AskEnd}
@@ -26,8 +26,8 @@ use Rattle.rx_book.specs.Passes.{view_of, word_of, note_view, note_word, IsAsSee
 use Rattle.rx_book.specs.Named.{BookName}
 use Rattle.rx_book.specs.Calls.{Called}
 use Rattle.rx_ledger.specs.declared.asks.Reply.{Reply}
-use Rattle.rx_parts_book.specs.declared.items.EntryItem.{EntryItem}
-use Rattle.rx_parts_book.specs.declared.items.EventItem.{EventItem}
+use Rattle.rx_parts.specs.declared.items.EntryItem.{EntryItem}
+use Rattle.rx_parts.specs.declared.items.EventItem.{EventItem}
 use Rattle.rx_objects.specs.declared.ledger.LedgerFixed.{LedgerFixed}
 use Rattle.rx_objects.specs.declared.ledger.LedgerOp.{LedgerOp}
 use Rattle.rx_objects.specs.declared.ledger.LedgerReply.{LedgerReply}

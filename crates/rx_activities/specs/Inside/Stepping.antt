@@ -2,9 +2,9 @@
 use Rattle.std.specs.Prelude.{◌≡◌}
 use Rattle.rx_rules.specs.Terms.{Term, does}
 use Rattle.rx_check.specs.Checked.{Checked}
-use Rattle.rx_plan.specs.declared.step.Next.{Next}
+use Rattle.rx_history.specs.declared.step.Next.{Next}
 use Rattle.rx_control.specs.Stands.{StandsFor}
-use Rattle.rx_plan.specs.Next.{next_of}
+use Rattle.rx_history.specs.Next.{next_of}
 use Rattle.rx_activities.specs.declared.hand.Hand.{Hand}
 
 -- nothing is changed but the control and the statements that it has begun

@@ -4,16 +4,16 @@ use Rattle.std.specs.Prelude.{length, map, Option, Some, None, option_map, is_so
 use Rattle.std.specs.List.{list_all, list_any}
 use Rattle.std.proofs.Common.{max}
 use Rattle.rx_rules.specs.Code.{Expr, Num, Name, Here, Bin}
-use Rattle.rx_nodes.specs.Shape.{ExprStands}
-use Rattle.rx_nodes.specs.declared.nodes.NameId.{NameId}
-use Rattle.rx_nodes.specs.declared.nodes.ExprId.{ExprId}
-use Rattle.rx_nodes.specs.declared.nodes.Expr.{Expr as Part}
-use Rattle.rx_nodes.specs.declared.nodes.Stmt.{Stmt as Node}
-use Rattle.rx_nodes.specs.declared.nodes.Stmt.TheVariants.{Set as SetNode, New as NewNode, Get as GetNode, Put as PutNode}
-use Rattle.rx_nodes.specs.declared.nodes.Stmt.TheVariants.{Forget as ForgetNode, Census as CensusNode, Print as PrintNode}
-use Rattle.rx_nodes.specs.declared.nodes.Stmt.TheVariants.{Throw as ThrowNode, Async as AsyncNode, AtAsync as AtAsyncNode}
-use Rattle.rx_nodes.specs.declared.nodes.Stmt.TheVariants.{At as AtNode, Finish as FinishNode, If as IfNode, Repeat as RepeatNode}
-use Rattle.rx_nodes.specs.declared.nodes.Stmt.TheVariants.{Try as TryNode}
+use Rattle.rx_syntax.specs.Shape.{ExprStands}
+use Rattle.rx_syntax.specs.declared.nodes.NameId.{NameId}
+use Rattle.rx_syntax.specs.declared.nodes.ExprId.{ExprId}
+use Rattle.rx_syntax.specs.declared.nodes.Expr.{Expr as Part}
+use Rattle.rx_syntax.specs.declared.nodes.Stmt.{Stmt as Node}
+use Rattle.rx_syntax.specs.declared.nodes.Stmt.TheVariants.{Set as SetNode, New as NewNode, Get as GetNode, Put as PutNode}
+use Rattle.rx_syntax.specs.declared.nodes.Stmt.TheVariants.{Forget as ForgetNode, Census as CensusNode, Print as PrintNode}
+use Rattle.rx_syntax.specs.declared.nodes.Stmt.TheVariants.{Throw as ThrowNode, Async as AsyncNode, AtAsync as AtAsyncNode}
+use Rattle.rx_syntax.specs.declared.nodes.Stmt.TheVariants.{At as AtNode, Finish as FinishNode, If as IfNode, Repeat as RepeatNode}
+use Rattle.rx_syntax.specs.declared.nodes.Stmt.TheVariants.{Try as TryNode}
 use Rattle.rx_base.specs.Lists.{has}
 use Rattle.rx_check.specs.Rules.{Kind, ANumber, AReference, pairs_in, names_of_all, exprs_of, targets_of, assigned, Sight}
 use Rattle.rx_check.specs.Rules.{same_kind, is_kind, fails_known, fails_depth}

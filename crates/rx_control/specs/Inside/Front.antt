@@ -4,10 +4,10 @@ use Rattle.rx_base.specs.declared.values.Fault.{Fault}
 use Rattle.rx_rules.specs.Code.{Block, Nothing, Then, Stmt, SetTo, New, Get, Put, Forget, Census, Print, Throw, Async, AtAsync, At}
 use Rattle.rx_rules.specs.Code.{Finish, If, Repeat, Try}
 use Rattle.rx_rules.specs.Terms.{Term, Does, at, within}
-use Rattle.rx_nodes.specs.Shape.{Shape, ListStands}
-use Rattle.rx_nodes.specs.declared.nodes.StmtId.{StmtId}
-use Rattle.rx_nodes.specs.declared.nodes.BlockId.{BlockId}
-use Rattle.rx_nodes.specs.declared.nodes.NameId.{NameId}
+use Rattle.rx_syntax.specs.Shape.{Shape, ListStands}
+use Rattle.rx_syntax.specs.declared.nodes.StmtId.{StmtId}
+use Rattle.rx_syntax.specs.declared.nodes.BlockId.{BlockId}
+use Rattle.rx_syntax.specs.declared.nodes.NameId.{NameId}
 use Rattle.rx_plan.specs.declared.plan.Plan.{Plan}
 use Rattle.rx_plan.specs.Plans.{IsPlan}
 use Rattle.rx_control.specs.declared.frame.Frame.{Frame}

@@ -3,15 +3,14 @@ use Rattle.std.specs.Prelude.{◌≡◌, ℕ, ◌+◌, ◌≤◌, Option, Some, 
 use Rattle.rx_base.specs.declared.ids.PlaceId.{PlaceId}
 use Rattle.rx_rules.specs.Code.{Block}
 use Rattle.rx_rules.specs.Terms.{Does, Local, Makes, Gets, Puts, Forgets, Opens, Calls, Spawns, Waits, Releases, Prints, Counts, Done, does}
-use Rattle.rx_rules.specs.Tree.{Tree}
 use Rattle.rx_rules.specs.Run.{Given}
 use Rattle.rx_rules.specs.Picked.{Game, Player}
 use Rattle.rx_runs.specs.Steps.{steps}
-use Rattle.rx_nodes.specs.Shape.{Shape}
-use Rattle.rx_plan.specs.declared.step.Next.{Next}
-use Rattle.rx_plan.specs.Next.{next_of}
+use Rattle.rx_syntax.specs.Shape.{Shape}
+use Rattle.rx_history.specs.declared.step.Next.{Next}
+use Rattle.rx_history.specs.Next.{next_of}
 use Rattle.rx_machine.specs.declared.machine.Machine.{Machine}
-use Rattle.rx_seats.specs.declared.seat.Seat.{Seat}
+use Rattle.rx_machine.specs.declared.seat.Mover.{Mover}
 use Rattle.rx_machine.specs.Holds.{Acting}
 
 -- the next step is a request to the ledger, or the end
@@ -36,17 +35,15 @@ IsRequest next d = (next ≡ next_of d) × IsAsked d
 
 -- nothing is changed but the stores
 pub record OnlyStores {L : Type 0} (m m' : Machine L) : Type 0 where
-  pub history : m'.history ≡ m.history
-  pub ledger : m'.ledger ≡ m.ledger
+  pub chronicle : m'.chronicle ≡ m.chronicle
   pub seats : m'.seats ≡ m.seats
   pub ready : m'.ready ≡ m.ready
-  pub plan : m'.plan ≡ m.plan
   pub failed : m'.failed ≡ m.failed
 
 -- what one step leaves: the task has come further and has fewer steps left, or it has come to a request
-abbrev pub AfterStep : {L : Type 0} → (L → ℕ → Tree → Type 0) → Shape → Block → Given → Machine L → ℕ → ℕ → PlaceId → Player → Seat
+abbrev pub AfterStep : {L : Type 0} → Shape → Block → Given → Machine L → ℕ → ℕ → PlaceId → Player → Mover
     → Game → Option Next → Type 0
-AfterStep stands shape code U m k i here q seat G None =
-    (r : Player) × Acting stands shape code U m k i here r seat G × (steps r.term + 1 ≤ steps q.term)
-AfterStep stands shape code U m k i here q seat G (Some next) =
-    Acting stands shape code U m k i here q seat G × IsRequest next (does q.vars here.0 q.term)
+AfterStep shape code U m k i here q mover G None =
+    (r : Player) × Acting shape code U m k i here r mover G × (steps r.term + 1 ≤ steps q.term)
+AfterStep shape code U m k i here q mover G (Some next) =
+    Acting shape code U m k i here q mover G × IsRequest next (does q.vars here.0 q.term)

@@ -3,7 +3,7 @@ use Rattle.std.specs.Prelude.{◌≡◌, ◌≤◌, ◌==◌, ℕ, zero, suc, Bo
 use Rattle.rx_rules.specs.Code.{Stmt, SetTo, New, Get, Put, Forget, Census, Print, Throw, Async, AtAsync, At, Finish, If, Repeat, Try}
 use Rattle.rx_rules.specs.Code.{Block, Nothing, Then}
 use Rattle.rx_rules.specs.Order.{is_kept_in}
-use Rattle.rx_nodes.specs.Shape.{Shape, BlockStands}
+use Rattle.rx_syntax.specs.Shape.{Shape, BlockStands}
 use Rattle.rx_order.specs.Marks.{marks_in}
 use Rattle.rx_order.specs.declared.marks.Mark.{Mark}
 use Rattle.rx_order.specs.declared.marks.Mark.TheVariants.{Follows, Branches}

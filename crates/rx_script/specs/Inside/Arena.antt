@@ -1,20 +1,20 @@
 -- How the arenas of a reader stand for the state of the machine.
 use Rattle.std.specs.Prelude.{◌≡◌, ℕ, ◌+◌, ◌≤◌, ◌<◌, ◌^◌, List, [], ◌∷◌, ◌++◌, take, drop, Some, map, length, Result, Ok, Err}
 use Rattle.rx_rules.specs.Code.{Block}
-use Rattle.rx_nodes.specs.Shape.{Shape, IsSmall, ExprStands, ListStands, BlockStands}
-use Rattle.rx_nodes.specs.Grammar.{AllInRange, spellings}
+use Rattle.rx_syntax.specs.Shape.{Shape, IsSmall, ExprStands, ListStands, BlockStands}
+use Rattle.rx_syntax.specs.Grammar.{AllInRange, spellings}
 use Rattle.rx_script.specs.Inside.Items.{Item}
 use Rattle.rx_script.specs.Inside.Machine.{Frame, Fore, Other, Handler, Waits, Free, ForElse, ForCatch, BlocksRead, step}
 use Rattle.rx_script.specs.Inside.Pieces.{OpenerStands, ItemStands}
 use Rattle.rx_script.specs.Places.{IsPlace}
 use Rattle.rx_script.specs.declared.items.Opener.TheVariants as fronts
 use Rattle.rx_script.specs.declared.items.Item.{Item as Piece}
-use Rattle.rx_nodes.specs.declared.nodes.StmtId.{StmtId}
-use Rattle.rx_nodes.specs.declared.nodes.BlockId.{BlockId}
-use Rattle.rx_nodes.specs.declared.nodes.Stmt.{Stmt as Node}
-use Rattle.rx_nodes.specs.declared.nodes.Stmt.TheVariants.{Async as AsyncNode, AtAsync as AtAsyncNode, At as AtNode}
-use Rattle.rx_nodes.specs.declared.nodes.Stmt.TheVariants.{Finish as FinishNode, If as IfNode, Repeat as RepeatNode, Try as TryNode}
-use Rattle.rx_token.specs.declared.token.Token.{Token}
+use Rattle.rx_syntax.specs.declared.nodes.StmtId.{StmtId}
+use Rattle.rx_syntax.specs.declared.nodes.BlockId.{BlockId}
+use Rattle.rx_syntax.specs.declared.nodes.Stmt.{Stmt as Node}
+use Rattle.rx_syntax.specs.declared.nodes.Stmt.TheVariants.{Async as AsyncNode, AtAsync as AtAsyncNode, At as AtNode}
+use Rattle.rx_syntax.specs.declared.nodes.Stmt.TheVariants.{Finish as FinishNode, If as IfNode, Repeat as RepeatNode, Try as TryNode}
+use Rattle.rx_syntax.specs.declared.token.Token.{Token}
 use Rattle.rx_script.specs.declared.reader.Owner.{Owner}
 use Rattle.rx_script.specs.declared.reader.Owner.TheVariants as owners
 use Rattle.rx_script.specs.declared.reader.Opened.{Opened}

@@ -1,11 +1,11 @@
 -- How an expression is read with the pairs of parentheses that are open.
 use Rattle.std.specs.Prelude.{List, [], ◌∷◌, Result, Ok, Err}
 use Rattle.rx_rules.specs.Code.{Op, Expr, Num, Name, Here, Bin}
-use Rattle.rx_token.specs.declared.token.Token.{Token}
-use Rattle.rx_token.specs.declared.token.Token.TheVariants.{Key, Called, Number, Oper, Mark}
-use Rattle.rx_token.specs.declared.token.Keyword.TheVariants.{Here as KHere}
-use Rattle.rx_token.specs.declared.token.Sign.TheVariants.{OpenParen as LParen, CloseParen as RParen}
-use Rattle.rx_nodes.specs.Shape.{op_of}
+use Rattle.rx_syntax.specs.declared.token.Token.{Token}
+use Rattle.rx_syntax.specs.declared.token.Token.TheVariants.{Key, Called, Number, Oper, Mark}
+use Rattle.rx_syntax.specs.declared.token.Keyword.TheVariants.{Here as KHere}
+use Rattle.rx_syntax.specs.declared.token.Sign.TheVariants.{OpenParen as LParen, CloseParen as RParen}
+use Rattle.rx_syntax.specs.Shape.{op_of}
 use Rattle.rx_script.specs.Inside.Readers.{Reader}
 
 -- a pair that is open: before its first operand is whole, or after its operator

@@ -1,15 +1,15 @@
 -- The items that the tokens of a script fall into, and how the one in front is read.
 use Rattle.std.specs.Prelude.{◌≡◌, List, [], ◌∷◌, ◌++◌, Option, Some, None, ℕ, pos, Bool, true, false}
-use Rattle.rx_token.specs.declared.token.Token.{Token}
-use Rattle.rx_token.specs.declared.token.Token.TheVariants.{Key, Called, Number, Mark}
+use Rattle.rx_syntax.specs.declared.token.Token.{Token}
+use Rattle.rx_syntax.specs.declared.token.Token.TheVariants.{Key, Called, Number, Mark}
 use Rattle.rx_rules.specs.Code.{Expr, Stmt, SetTo, New, Get, Put, Forget, Census, Print, Throw, Async, AtAsync, At, Finish, If, Repeat, Try}
-use Rattle.rx_nodes.specs.Grammar.{catch_words, spelling, may_hold, may_turn, spell}
-use Rattle.rx_token.specs.declared.token.Keyword.TheVariants.{Set as KSet, New as KNew, Get as KGet, Put as KPut, Forget as KForget}
-use Rattle.rx_token.specs.declared.token.Keyword.TheVariants.{Census as KCensus, Print as KPrint, Throw as KThrow, Async as KAsync}
-use Rattle.rx_token.specs.declared.token.Keyword.TheVariants.{At as KAt, Finish as KFinish, If as KIf, Else as KElse, Repeat as KRepeat}
-use Rattle.rx_token.specs.declared.token.Keyword.TheVariants.{Try as KTry, Catch as KCatch, Dead as KDead}
-use Rattle.rx_token.specs.declared.token.Sign.TheVariants.{OpenBrace as LBrace, CloseBrace as RBrace, OpenSquare as LSquare}
-use Rattle.rx_token.specs.declared.token.Sign.TheVariants.{CloseSquare as RSquare, Equals, Semicolon}
+use Rattle.rx_syntax.specs.Grammar.{catch_words, spelling, may_hold, may_turn, spell}
+use Rattle.rx_syntax.specs.declared.token.Keyword.TheVariants.{Set as KSet, New as KNew, Get as KGet, Put as KPut, Forget as KForget}
+use Rattle.rx_syntax.specs.declared.token.Keyword.TheVariants.{Census as KCensus, Print as KPrint, Throw as KThrow, Async as KAsync}
+use Rattle.rx_syntax.specs.declared.token.Keyword.TheVariants.{At as KAt, Finish as KFinish, If as KIf, Else as KElse, Repeat as KRepeat}
+use Rattle.rx_syntax.specs.declared.token.Keyword.TheVariants.{Try as KTry, Catch as KCatch, Dead as KDead}
+use Rattle.rx_syntax.specs.declared.token.Sign.TheVariants.{OpenBrace as LBrace, CloseBrace as RBrace, OpenSquare as LSquare}
+use Rattle.rx_syntax.specs.declared.token.Sign.TheVariants.{CloseSquare as RSquare, Equals, Semicolon}
 use Rattle.rx_script.specs.Inside.Readers.{Reader, then, done, choose}
 use Rattle.rx_script.specs.Inside.Exprs.{expr}
 

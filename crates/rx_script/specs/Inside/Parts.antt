@@ -1,12 +1,12 @@
 -- What the code's answers say of the reader of one part, whatever is read after it.
 use Rattle.std.specs.Prelude.{◌≡◌, List, Result, Ok, Err}
 use Rattle.rx_rules.specs.Code.{Expr}
-use Rattle.rx_nodes.specs.Shape.{ExprStands}
+use Rattle.rx_syntax.specs.Shape.{ExprStands}
 use Rattle.rx_script.specs.Inside.Items.{Item}
 use Rattle.rx_script.specs.Inside.Readers.{Reader}
-use Rattle.rx_nodes.specs.declared.nodes.ExprId.{ExprId}
-use Rattle.rx_nodes.specs.declared.nodes.Expr.{Expr as Part}
-use Rattle.rx_token.specs.declared.token.Token.{Token}
+use Rattle.rx_syntax.specs.declared.nodes.ExprId.{ExprId}
+use Rattle.rx_syntax.specs.declared.nodes.Expr.{Expr as Part}
+use Rattle.rx_syntax.specs.declared.token.Token.{Token}
 
 -- a sign was taken, or can't stand there
 abbrev pub Passes : {S : Type 0} → Result S S → (S → List Token) → (Reader Item → Result (Item × List Token) (List Token)) → Type 0

@@ -1,12 +1,12 @@
 -- What the code's items stand for, whose expressions are told by number.
 use Rattle.std.specs.Prelude.{◌≡◌, List, [], ◌++◌, Result, Ok, Err}
 use Rattle.rx_rules.specs.Code.{Expr}
-use Rattle.rx_nodes.specs.Shape.{Shape, ExprStands, StmtIs}
+use Rattle.rx_syntax.specs.Shape.{Shape, ExprStands, StmtIs}
 use Rattle.rx_script.specs.Inside.Items.{Opener, ByAsync, ByAtAsync, ByAt, ByFinish, ByIf, ByRepeat, ByTry, Item, Whole, Open, Close, Else}
 use Rattle.rx_script.specs.Inside.Items.{Catch, Mode, Outermost, Inside, AfterFirst, AfterBody}
-use Rattle.rx_nodes.specs.declared.nodes.ExprId.{ExprId}
-use Rattle.rx_nodes.specs.declared.nodes.Expr.{Expr as Part}
-use Rattle.rx_token.specs.declared.token.Token.{Token}
+use Rattle.rx_syntax.specs.declared.nodes.ExprId.{ExprId}
+use Rattle.rx_syntax.specs.declared.nodes.Expr.{Expr as Part}
+use Rattle.rx_syntax.specs.declared.token.Token.{Token}
 use Rattle.rx_script.specs.declared.items.Opener.{Opener as Front}
 use Rattle.rx_script.specs.declared.items.Opener.TheVariants as fronts
 use Rattle.rx_script.specs.declared.items.Item.{Item as Piece}

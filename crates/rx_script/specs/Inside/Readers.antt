@@ -1,6 +1,6 @@
 -- Readers of tokens, and how they are put together.
 use Rattle.std.specs.Prelude.{List, [], ◌∷◌, Result, Ok, Err, Option, Some, None}
-use Rattle.rx_token.specs.declared.token.Token.{Token}
+use Rattle.rx_syntax.specs.declared.token.Token.{Token}
 
 -- the value and what is left after it, or what is left from the token that can't go on
 abbrev pub Reader : Type 0 → Type 0

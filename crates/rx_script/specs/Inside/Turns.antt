@@ -1,12 +1,12 @@
 -- How a list of parts and a list of open pairs stand for what has been read of an expression.
 use Rattle.std.specs.Prelude.{◌≡◌, List, [], ◌∷◌, ◌++◌, Option, Some, None, Result, Err}
 use Rattle.rx_rules.specs.Code.{Expr}
-use Rattle.rx_nodes.specs.Shape.{ExprStands, op_of}
+use Rattle.rx_syntax.specs.Shape.{ExprStands, op_of}
 use Rattle.rx_script.specs.Inside.Exprs.{Pair, First, Second, operand, whole}
-use Rattle.rx_nodes.specs.declared.nodes.ExprId.{ExprId}
-use Rattle.rx_token.specs.declared.token.Op.{Op as Sign}
-use Rattle.rx_nodes.specs.declared.nodes.Expr.{Expr as Part}
-use Rattle.rx_token.specs.declared.token.Token.{Token}
+use Rattle.rx_syntax.specs.declared.nodes.ExprId.{ExprId}
+use Rattle.rx_syntax.specs.declared.token.Op.{Op as Sign}
+use Rattle.rx_syntax.specs.declared.nodes.Expr.{Expr as Part}
+use Rattle.rx_syntax.specs.declared.token.Token.{Token}
 use Rattle.rx_script.specs.declared.exprs.OpenPair.{OpenPair}
 use Rattle.rx_script.specs.declared.exprs.OpenPair.TheVariants as pairs
 use Rattle.rx_script.specs.declared.exprs.Turn.{Turn}

@@ -1,28 +1,28 @@
 -- What is still to be written of a script, and the tokens that it stands for.
 use Rattle.std.specs.Prelude.{◌≡◌, ℕ, ◌+◌, ◌*◌, ◌-◌, ◌^◌, length, List, [], ◌∷◌, ◌++◌, Some, slice_get, drop, pos, Bool, true, false}
 use Rattle.rx_rules.specs.Code.{Expr as Tree, Block}
-use Rattle.rx_nodes.specs.declared.nodes.StmtId.{StmtId}
-use Rattle.rx_nodes.specs.declared.nodes.BlockId.{BlockId}
-use Rattle.rx_nodes.specs.declared.nodes.NameId.{NameId}
-use Rattle.rx_nodes.specs.declared.nodes.Stmt.{Stmt}
-use Rattle.rx_nodes.specs.declared.nodes.Stmt.TheVariants.{Set, New, Get, Put, Forget, Census, Print, Throw, Async, AtAsync, At, Finish, If}
-use Rattle.rx_nodes.specs.declared.nodes.Stmt.TheVariants.{Repeat, Try}
-use Rattle.rx_nodes.specs.declared.nodes.Expr.{Expr}
-use Rattle.rx_nodes.specs.declared.nodes.Expr.TheVariants.{Num, Name, Here, Bin}
-use Rattle.rx_token.specs.declared.token.Keyword.TheVariants.{Set as KSet, New as KNew, Get as KGet, Put as KPut, Forget as KForget}
-use Rattle.rx_token.specs.declared.token.Keyword.TheVariants.{Census as KCensus, Print as KPrint, Throw as KThrow, Async as KAsync}
-use Rattle.rx_token.specs.declared.token.Keyword.TheVariants.{At as KAt, Finish as KFinish, If as KIf, Else as KElse, Repeat as KRepeat}
-use Rattle.rx_token.specs.declared.token.Keyword.TheVariants.{Try as KTry, Catch as KCatch, Dead as KDead, Here as KHere}
-use Rattle.rx_token.specs.declared.token.Sign.TheVariants.{OpenBrace as LBrace, CloseBrace as RBrace, OpenParen as LParen}
-use Rattle.rx_token.specs.declared.token.Sign.TheVariants.{CloseParen as RParen, OpenSquare as LSquare, CloseSquare as RSquare}
-use Rattle.rx_token.specs.declared.token.Sign.TheVariants.{Equals, Semicolon}
-use Rattle.rx_token.specs.declared.token.Token.{Token}
-use Rattle.rx_token.specs.declared.token.Token.TheVariants.{Key, Called, Number, Oper, Mark}
+use Rattle.rx_syntax.specs.declared.nodes.StmtId.{StmtId}
+use Rattle.rx_syntax.specs.declared.nodes.BlockId.{BlockId}
+use Rattle.rx_syntax.specs.declared.nodes.NameId.{NameId}
+use Rattle.rx_syntax.specs.declared.nodes.Stmt.{Stmt}
+use Rattle.rx_syntax.specs.declared.nodes.Stmt.TheVariants.{Set, New, Get, Put, Forget, Census, Print, Throw, Async, AtAsync, At, Finish, If}
+use Rattle.rx_syntax.specs.declared.nodes.Stmt.TheVariants.{Repeat, Try}
+use Rattle.rx_syntax.specs.declared.nodes.Expr.{Expr}
+use Rattle.rx_syntax.specs.declared.nodes.Expr.TheVariants.{Num, Name, Here, Bin}
+use Rattle.rx_syntax.specs.declared.token.Keyword.TheVariants.{Set as KSet, New as KNew, Get as KGet, Put as KPut, Forget as KForget}
+use Rattle.rx_syntax.specs.declared.token.Keyword.TheVariants.{Census as KCensus, Print as KPrint, Throw as KThrow, Async as KAsync}
+use Rattle.rx_syntax.specs.declared.token.Keyword.TheVariants.{At as KAt, Finish as KFinish, If as KIf, Else as KElse, Repeat as KRepeat}
+use Rattle.rx_syntax.specs.declared.token.Keyword.TheVariants.{Try as KTry, Catch as KCatch, Dead as KDead, Here as KHere}
+use Rattle.rx_syntax.specs.declared.token.Sign.TheVariants.{OpenBrace as LBrace, CloseBrace as RBrace, OpenParen as LParen}
+use Rattle.rx_syntax.specs.declared.token.Sign.TheVariants.{CloseParen as RParen, OpenSquare as LSquare, CloseSquare as RSquare}
+use Rattle.rx_syntax.specs.declared.token.Sign.TheVariants.{Equals, Semicolon}
+use Rattle.rx_syntax.specs.declared.token.Token.{Token}
+use Rattle.rx_syntax.specs.declared.token.Token.TheVariants.{Key, Called, Number, Oper, Mark}
 use Rattle.rx_script.specs.declared.writer.Part.{Part}
 use Rattle.rx_script.specs.declared.writer.Part.TheVariants.{One, Value, From}
-use Rattle.rx_nodes.specs.Shape.{Shape, ExprStands, ListStands}
-use Rattle.rx_nodes.specs.Grammar.{spell, spellings}
-use Rattle.rx_token.specs.Texts.{spaced}
+use Rattle.rx_syntax.specs.Shape.{Shape, ExprStands, ListStands}
+use Rattle.rx_syntax.specs.Grammar.{spell, spellings}
+use Rattle.rx_syntax.specs.Texts.{spaced}
 use Rattle.std.specs.List.{flat_map}
 
 -- a part stands for tokens

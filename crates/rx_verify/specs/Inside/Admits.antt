@@ -7,7 +7,7 @@ use Rattle.rx_rules.specs.Fold.{tree_of}
 use Rattle.rx_rules.specs.Run.{Given, Event, in_all, plan_of, Proper, Folds, NoRoot}
 use Rattle.rx_runs.specs.Segments.{plan_left, InTime}
 use Rattle.rx_runs.specs.Ties.{MayCome}
-use Rattle.rx_ledger.specs.Keeping.{Ending, left_to_join}
+use Rattle.rx_chronicle.specs.Told.{Ending, left_to_join}
 use Rattle.rx_verify.specs.declared.audit.Audit.{Audit}
 
 -- the entry may follow: the tree allows it, no entry before it releases the root, and it is the death or join that is due, or

@@ -5,11 +5,11 @@ use Rattle.rx_rules.specs.declared.events.PlaceEvent.{PlaceEvent}
 use Rattle.rx_rules.specs.Code.{Block}
 use Rattle.rx_rules.specs.Tree.{Tree}
 use Rattle.rx_rules.specs.Run.{Given}
-use Rattle.rx_nodes.specs.Shape.{Shape, Stands}
+use Rattle.rx_syntax.specs.Shape.{Shape, Stands}
 use Rattle.rx_verify.specs.declared.audit.Audit.{Audit}
 use Rattle.rx_verify.specs.Inside.Admits.{AuditIs}
-use Rattle.rx_players.specs.declared.players.Players.{Players}
-use Rattle.rx_players.specs.Players.{PlayersAre}
+use Rattle.rx_verify.specs.declared.players.Players.{Players}
+use Rattle.rx_verify.specs.Players.{PlayersAre}
 use Rattle.rx_verdict.specs.Verdicts.{Part}
 
 -- the audit and the players stand after so many of the entries

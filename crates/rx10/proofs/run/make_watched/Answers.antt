@@ -4,7 +4,7 @@ use Rattle.rx_history.specs.Events.{events_of}
 use Rattle.rx_history.specs.Setups.{given}
 use Rattle.rx_trace.specs.Text.{trace_text}
 use Rattle.rx_monitor.specs.declared.summary.Summary.{Summary}
-use Rattle.rx_watch.specs.Text.{watch_text}
+use Rattle.rx_monitor.specs.Text.{watch_text}
 use Rattle.rx10.specs.Live.{IsLawful}
 use Rattle.rx10.proofs.run.make_watched.Goals as goal
 

@@ -1,8 +1,8 @@
 use Rattle.std.proofs.Common.{◌≡◌, ℕ, List, sym, ◌∙◌, subst}
 use Rattle.rx_script.specs.Faults.{IsFaultAt}
-use Rattle.rx_answers.specs.declared.program.ProgramFault.{ProgramFault}
-use Rattle.rx_answers.specs.declared.program.ProgramFault.TheVariants as programs
-use Rattle.rx_answers.specs.Faults.{IsProgramFault}
+use Rattle.rx_script.specs.declared.program.ProgramFault.{ProgramFault}
+use Rattle.rx_script.specs.declared.program.ProgramFault.TheVariants as programs
+use Rattle.rx_script.specs.Programs.{IsProgramFault}
 use Rattle.rx10.proofs.Known.{all-read}
 use Rattle.rx10.proofs.Told.{one-at}
 use Rattle.rx10.proofs.source.read_program.Goals as goal

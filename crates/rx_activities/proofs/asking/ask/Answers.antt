@@ -1,5 +1,5 @@
 use Rattle.std.proofs.Common.{sym, subst}
-use Rattle.rx_nodes.specs.Shape.{Stands}
+use Rattle.rx_syntax.specs.Shape.{Stands}
 use Rattle.rx_check.specs.Checked.{Checked}
 use Rattle.rx_book.specs.Passes.{view_of}
 use Rattle.rx_activities.proofs.asking.ask.Goals as goal

@@ -1,8 +1,8 @@
 use Rattle.std.proofs.Common.{◌≡◌, ap, sym, ◌∙◌, rules}
 use Rattle.rx_rules.specs.Terms.{Waits, Done, does}
-use Rattle.rx_plan.specs.declared.step.Next.TheVariants.{Book as BookStep}
-use Rattle.rx_plan.specs.declared.step.Want.TheVariants.{Wait as WantWait}
-use Rattle.rx_plan.specs.Next.{carried}
+use Rattle.rx_history.specs.declared.step.Next.TheVariants.{Book as BookStep}
+use Rattle.rx_history.specs.declared.step.Want.TheVariants.{Wait as WantWait}
+use Rattle.rx_history.specs.Next.{carried}
 use Rattle.rx_plan.proofs.Requests.{asks_wait, asks_end}
 use Rattle.rx_activities.proofs.AskedSteps.{ready_waits}
 use Rattle.rx_activities.proofs.asking.ask_of.Goals as goal

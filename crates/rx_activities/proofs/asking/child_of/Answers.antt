@@ -5,7 +5,7 @@ use Rattle.rx_control.specs.declared.control.Control.{Control}
 use Rattle.rx_control.specs.Stands.{StandsFor}
 use Rattle.rx_book.specs.declared.passes.Pass.{Pass}
 use Rattle.rx_book.specs.Passes.{view_of}
-use Rattle.rx_parts_book.specs.declared.items.EventItem.{EventItem}
+use Rattle.rx_parts.specs.declared.items.EventItem.{EventItem}
 use Rattle.rx_activities.specs.Inside.Sending.{SeatIsLeft, SeatIsNew, ChildFor}
 use Rattle.rx_activities.proofs.AskedSteps.{started_path}
 use Rattle.rx_activities.proofs.asking.child_of.Goals.{then-eq+in_ok-split, else-eq}

@@ -2,9 +2,9 @@ use Rattle.std.proofs.Common.{◌≡◌, ℕ, List, [], ap, sym, ◌∙◌, subs
 use Rattle.std.specs.Prelude.{Some, Result, Err}
 use Rattle.std.proofs.lemmas.Result.{err_from_is_err_and}
 use Rattle.rx_rules.specs.Code.{Block}
-use Rattle.rx_nodes.specs.Shape.{BlockStands}
-use Rattle.rx_nodes.specs.declared.nodes.BlockId.{BlockId}
-use Rattle.rx_nodes.specs.declared.nodes.NameId.{NameId}
+use Rattle.rx_syntax.specs.Shape.{BlockStands}
+use Rattle.rx_syntax.specs.declared.nodes.BlockId.{BlockId}
+use Rattle.rx_syntax.specs.declared.nodes.NameId.{NameId}
 use Rattle.rx_check.specs.Rules.{nodes}
 use Rattle.rx_check.specs.Inside.Walk.{is_in, sights_run, seen_all, Knows}
 use Rattle.rx_check.specs.declared.checker.CheckCause.{CheckCause}

@@ -1,8 +1,8 @@
 use Rattle.std.proofs.Common.{◌≡◌, ◌≤◌, subst}
 use Rattle.rx_rules.specs.Code.{Block, work}
-use Rattle.rx_nodes.specs.Shape.{Stands}
-use Rattle.rx_nodes.specs.Grammar.{AllInRange, spellings}
-use Rattle.rx_token.specs.Tokens.{AreNames}
+use Rattle.rx_syntax.specs.Shape.{Stands}
+use Rattle.rx_syntax.specs.Grammar.{AllInRange, spellings}
+use Rattle.rx_syntax.specs.Tokens.{AreNames}
 use Rattle.rx_check.specs.Checked.{Checked, Meets}
 use Rattle.rx_check.proofs.Judging.{meets-work}
 use Rattle.rx_check.proofs.program.checked.Goals as goal

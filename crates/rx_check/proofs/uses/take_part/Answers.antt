@@ -1,6 +1,6 @@
 use Rattle.std.proofs.Common.{◌≡◌, List, [], ◌∷◌, ◌++◌, ap, sym, ◌∙◌, subst, arith}
-use Rattle.rx_nodes.specs.Shape.{op_of}
-use Rattle.rx_nodes.proofs.Within.{stands-within}
+use Rattle.rx_syntax.specs.Shape.{op_of}
+use Rattle.rx_syntax.proofs.Within.{stands-within}
 use Rattle.rx_check.specs.Inside.Walk.{join, name_uses, uses_in, weights, Yields}
 use Rattle.rx_check.specs.declared.uses.Part.{Part as Waiting}
 use Rattle.rx_check.proofs.Exprs.{part-is}

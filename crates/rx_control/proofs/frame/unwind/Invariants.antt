@@ -1,7 +1,7 @@
 use Rattle.std.proofs.Common.{ℕ, List, Some, vec_len}
 use Rattle.rx_base.specs.declared.values.Fault.{Fault}
 use Rattle.rx_control.specs.Levels.{Level}
-use Rattle.rx_nodes.specs.Shape.{Shape}
+use Rattle.rx_syntax.specs.Shape.{Shape}
 use Rattle.rx_control.specs.Stands.{FramesStand}
 use Rattle.rx_control.proofs.Settling.{Leads}
 use Rattle.rx_control.proofs.frame.unwind.Given as goal

@@ -1,7 +1,7 @@
 use Rattle.std.proofs.Common.{sym, ◌∙◌, subst}
 use Rattle.std.proofs.lemmas.Option.{slice_get_within, same_Some}
-use Rattle.rx_nodes.specs.declared.nodes.Stmt.{Stmt as Node}
-use Rattle.rx_nodes.specs.Shape.{StmtIs}
+use Rattle.rx_syntax.specs.declared.nodes.Stmt.{Stmt as Node}
+use Rattle.rx_syntax.specs.Shape.{StmtIs}
 use Rattle.rx_control.proofs.Front.{awaits-taken}
 use Rattle.rx_control.proofs.statement.at_hand.Goals as goal
 

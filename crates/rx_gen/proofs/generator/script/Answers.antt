@@ -1,5 +1,5 @@
 use Rattle.std.proofs.Common.{◌+◌, map, refl, ap, sym, subst, arith}
-use Rattle.rx_nodes.specs.Shape.{Shape, Stands}
+use Rattle.rx_syntax.specs.Shape.{Shape, Stands}
 use Rattle.rx_gen.specs.Lines.{lines}
 use Rattle.rx_gen.proofs.Standing.{piece-more, tops-more, nodes_of, parts_of, blocks_of, put-down, whole, stands}
 use Rattle.rx_gen.proofs.generator.script.Goals as goal

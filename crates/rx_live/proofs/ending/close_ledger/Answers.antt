@@ -1,6 +1,6 @@
 use Rattle.std.proofs.Common.{◌++◌, length, ap, sym, subst, ◌∙◌, arith}
 use Rattle.rx_check.specs.Checked.{Checked}
-use Rattle.rx_nodes.specs.Shape.{Stands}
+use Rattle.rx_syntax.specs.Shape.{Stands}
 use Rattle.rx_counts.specs.Stands.{StandsFor}
 use Rattle.rx_book.specs.Passes.{view_of}
 use Rattle.rx_live.proofs.Finishing.{whole_is}

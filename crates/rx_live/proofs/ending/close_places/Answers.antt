@@ -2,7 +2,7 @@ use Rattle.std.proofs.Common.{rules, ◌≡◌, ◌++◌, ◌∷◌, [], List, O
 use Rattle.rx_store.specs.Kept.{Kept}
 use Rattle.rx_book.specs.declared.passes.Note.{Note}
 use Rattle.rx_book.specs.Passes.{view_of}
-use Rattle.rx_parts_book.specs.declared.items.EntryItem.{EntryItem}
+use Rattle.rx_parts.specs.declared.items.EntryItem.{EntryItem}
 use Rattle.rx_stations.specs.Closed.{IsClosed}
 use Rattle.rx_live.proofs.Closed.{ClosesFrom, none_closed, seat_is, one_closed}
 use Rattle.rx_live.proofs.ending.close_places.Goals as goal

@@ -1,6 +1,6 @@
 use Rattle.std.proofs.Common.{◌≡◌, sym, ◌∙◌, ap, subst}
 use Rattle.rx_check.specs.Checked.{Checked}
-use Rattle.rx_nodes.specs.Shape.{Stands}
+use Rattle.rx_syntax.specs.Shape.{Stands}
 use Rattle.rx_live.proofs.Heard.{heard_so}
 use Rattle.rx_live.proofs.ending.hear.Goals as goal
 

@@ -2,7 +2,7 @@ use Rattle.std.proofs.Common.{◌≡◌, ◌+◌, ◌≤◌, sym, ◌∙◌, ap,
 use Rattle.std.proofs.lemmas.List.{drop_all}
 use Rattle.rx_rules.specs.Code.{Block}
 use Rattle.rx_rules.specs.Order.{is_kept_in}
-use Rattle.rx_nodes.specs.Shape.{BlockStands}
+use Rattle.rx_syntax.specs.Shape.{BlockStands}
 use Rattle.rx_order.specs.Inside.Parts.{is_kept_along}
 use Rattle.rx_order.proofs.Keeping.{kept-at}
 use Rattle.rx_order.proofs.kept.is_kept.Goals as goal

@@ -1,6 +1,6 @@
 use Rattle.std.proofs.Common.{◌≡◌, Bool, Some, sym, subst, drop}
 use Rattle.rx_rules.specs.Code.{Stmt as Tree}
-use Rattle.rx_nodes.specs.Shape.{StmtIs}
+use Rattle.rx_syntax.specs.Shape.{StmtIs}
 use Rattle.rx_order.specs.Inside.Parts.{item_of, is_kept_along, WalkGoes}
 use Rattle.rx_order.proofs.Positions.{kept-none, kept-some}
 use Rattle.rx_order.proofs.kept.step.Goals as goal

@@ -2,7 +2,7 @@ use Rattle.std.proofs.Common.{◌≡◌, ◌∙◌, ℕ, ◌+◌, ◌≤◌, Lis
 use Rattle.std.specs.Prelude.{Option, Some, None, option_to_list}
 use Rattle.std.proofs.lemmas.List.{drop_all}
 use Rattle.rx_rules.specs.Code.{Stmt as Tree, Block}
-use Rattle.rx_nodes.specs.Shape.{Shape, Stands, StmtIs, BlockStands}
+use Rattle.rx_syntax.specs.Shape.{Shape, Stands, StmtIs, BlockStands}
 use Rattle.rx_order.specs.declared.marks.Mark.{Mark}
 use Rattle.rx_order.specs.Marks.{mark_of, marks, marks_of}
 use Rattle.rx_order.specs.Inside.Parts.{item_of, numbers_of, part_in, part_mark, marks_along, IsPart}

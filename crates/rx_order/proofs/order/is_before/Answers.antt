@@ -2,7 +2,7 @@ use Rattle.std.proofs.Common.{◌≡◌, ◌+◌, ◌≤◌, ◌∙◌, sym, ap,
 use Rattle.std.proofs.lemmas.List.{drop_all}
 use Rattle.rx_rules.specs.Code.{Block}
 use Rattle.rx_rules.specs.Order.{comes_before}
-use Rattle.rx_nodes.specs.Shape.{Shape, Stands, BlockStands}
+use Rattle.rx_syntax.specs.Shape.{Shape, Stands, BlockStands}
 use Rattle.rx_order.proofs.order.is_before.Goals as goal
 
 pub step-requires-clause-block : goal.step-requires-clause-block

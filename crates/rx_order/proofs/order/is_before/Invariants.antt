@@ -1,7 +1,7 @@
 use Rattle.std.proofs.Common.{◌≡◌, ◌-◌, length, drop}
 use Rattle.rx_rules.specs.Code.{Block}
 use Rattle.rx_rules.specs.Order.{comes_before}
-use Rattle.rx_nodes.specs.Shape.{Stands, BlockStands}
+use Rattle.rx_syntax.specs.Shape.{Stands, BlockStands}
 use Rattle.rx_order.proofs.order.is_before.Given as goal
 
 -- the answer is that of what is left of both

@@ -2,9 +2,9 @@ use Rattle.std.proofs.Common.{◌∷◌, subst, rules, w64}
 use Rattle.std.proofs.lemmas.Int.{ints, to_z-of_z}
 use mir.Val.{SFits}
 use Rattle.rx_script.specs.Inside.Turns.{ExprReads}
-use Rattle.rx_token.specs.declared.token.Token.{Token}
-use Rattle.rx_token.specs.declared.token.Token.TheVariants.{Key}
-use Rattle.rx_token.specs.declared.token.Keyword.{Keyword}
+use Rattle.rx_syntax.specs.declared.token.Token.{Token}
+use Rattle.rx_syntax.specs.declared.token.Token.TheVariants.{Key}
+use Rattle.rx_syntax.specs.declared.token.Keyword.{Keyword}
 use Rattle.rx_script.specs.declared.exprs.Turn.TheVariants as turns
 use Rattle.rx_script.proofs.OneToken.{reads-number, reads-name, reads-here}
 use Rattle.rx_script.proofs.exprs.operand_step.Goals as goal

@@ -1,9 +1,9 @@
 use Rattle.std.proofs.Common.{[], ◌∷◌, ◌++◌, subst}
 use Rattle.rx_script.specs.Inside.Turns.{ExprReads}
-use Rattle.rx_token.specs.declared.token.Token.{Token}
-use Rattle.rx_token.specs.declared.token.Token.TheVariants.{Mark}
-use Rattle.rx_token.specs.declared.token.Sign.{Sign}
-use Rattle.rx_token.specs.declared.token.Sign.TheVariants.{CloseParen as RParen}
+use Rattle.rx_syntax.specs.declared.token.Token.{Token}
+use Rattle.rx_syntax.specs.declared.token.Token.TheVariants.{Mark}
+use Rattle.rx_syntax.specs.declared.token.Sign.{Sign}
+use Rattle.rx_syntax.specs.declared.token.Sign.TheVariants.{CloseParen as RParen}
 use Rattle.rx_script.specs.declared.exprs.OpenPair.{OpenPair}
 use Rattle.rx_script.specs.declared.exprs.Turn.TheVariants as turns
 use Rattle.rx_script.proofs.OneToken.{reads-close}

@@ -1,9 +1,9 @@
 use Rattle.std.proofs.Common.{◌≡◌, List, [], ◌∷◌, ◌++◌, map, refl, sym, ap, ◌∙◌, subst, arith}
 use Rattle.std.proofs.lemmas.List.{map-append, length-map}
-use Rattle.rx_nodes.specs.Shape.{Shape, IsSmall, Stands}
-use Rattle.rx_nodes.specs.Arenas.{shape_from}
+use Rattle.rx_syntax.specs.Shape.{Shape, IsSmall, Stands}
+use Rattle.rx_syntax.specs.Arenas.{shape_from}
 use Rattle.rx_script.specs.Inside.Arena.{blocks_of, shape_of}
-use Rattle.rx_nodes.specs.declared.nodes.StmtId.{StmtId}
+use Rattle.rx_syntax.specs.declared.nodes.StmtId.{StmtId}
 use Rattle.rx_script.proofs.Arena.{small-push}
 use Rattle.rx_script.proofs.HasRead.{stands-top}
 use Rattle.rx_script.proofs.reader.finish.Goals as goal

@@ -1,8 +1,8 @@
 use Rattle.std.proofs.Common.{◌≡◌, ℕ, ◌-◌, ◌<◌, List, length, ap, sym, ◌∙◌, subst, arith}
 use Rattle.std.specs.Prelude.{Some, slice_get}
 use Rattle.std.proofs.lemmas.Option.{slice_get-get_or}
-use Rattle.rx_token.specs.Tables.{names_of}
-use Rattle.rx_nodes.specs.Grammar.{IsScriptOf}
+use Rattle.rx_syntax.specs.Tables.{names_of}
+use Rattle.rx_syntax.specs.Grammar.{IsScriptOf}
 use Rattle.rx_script.proofs.OneScript.{scripts-are-spelled}
 use Rattle.rx_script.proofs.WholeRead.{IsScanned, parse-ok, parse-err, is-script, is-fault, start-within}
 use Rattle.rx_script.proofs.reader.read_script.Goals as goal

@@ -1,7 +1,7 @@
 use Rattle.std.proofs.Common.{◌++◌, sym, ap, ◌∙◌}
 use Rattle.rx_base.proofs.Results.{on-ok-then}
-use Rattle.rx_token.specs.declared.token.Token.{Token}
-use Rattle.rx_token.specs.Texts.{spaced}
+use Rattle.rx_syntax.specs.declared.token.Token.{Token}
+use Rattle.rx_syntax.specs.Texts.{spaced}
 use Rattle.rx_script.proofs.Written.{item-known, item-wrote}
 use Rattle.rx_script.proofs.writer.put_item.Goals as goal
 

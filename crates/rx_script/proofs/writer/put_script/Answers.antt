@@ -1,6 +1,6 @@
 use Rattle.std.proofs.Common.{sym}
 use Rattle.rx_base.proofs.Results.{on-ok-then}
-use Rattle.rx_nodes.specs.Grammar.{spellings}
+use Rattle.rx_syntax.specs.Grammar.{spellings}
 use Rattle.rx_script.proofs.Written.{first-part}
 use Rattle.rx_script.proofs.writer.put_script.Goals as goal
 

@@ -2,7 +2,7 @@ use Rattle.std.proofs.Common.{◌≡◌, ◌∙◌, ℕ, ◌+◌, ◌^◌, ◌<�
 use Rattle.std.proofs.lemmas.List.{length-map}
 use Rattle.rx_base.proofs.Elements.{length-push}
 use Rattle.rx_rules.specs.Code.{Block}
-use Rattle.rx_nodes.specs.Shape.{Stands}
+use Rattle.rx_syntax.specs.Shape.{Stands}
 use Rattle.rx_order.specs.Marks.{marks_of}
 use Rattle.rx_span.specs.Inside.Sorting.{shared, next_of, backwards}
 use Rattle.rx_span.specs.Inside.Best.{may_lead, pick, best_chains}

@@ -4,7 +4,7 @@ use Rattle.std.proofs.lemmas.List.{length-map}
 use Rattle.std.proofs.lemmas.List.Sorted.{length_permutation}
 use Rattle.rx_rules.specs.Code.{Block}
 use Rattle.rx_rules.specs.Order.{told}
-use Rattle.rx_nodes.specs.Shape.{Stands}
+use Rattle.rx_syntax.specs.Shape.{Stands}
 use Rattle.rx_span.specs.Paths.{ArePaths}
 use Rattle.rx_span.specs.Inside.Sorting.{backwards}
 use Rattle.rx_span.specs.Inside.Best.{pick, best_chains}

@@ -3,7 +3,7 @@ use Rattle.rx_rules.specs.declared.entries.Entry.{Entry}
 use Rattle.rx_finish.specs.declared.ledger.Caller.{Caller}
 use Rattle.rx_history.specs.Setups.{given}
 use Rattle.rx_history.specs.Events.{events_of}
-use Rattle.rx_players.specs.Reaching.{Reached}
+use Rattle.rx_verify.specs.Reaching.{Reached}
 use Rattle.rx_verify.specs.Inside.Granting.{AdmittingOf}
 use Rattle.rx_verify.proofs.Passing as passing
 use Rattle.rx_verify.proofs.verifying.admits.Goals as goal

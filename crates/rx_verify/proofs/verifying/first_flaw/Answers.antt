@@ -2,8 +2,8 @@ use Rattle.std.proofs.Common.{◌≡◌, ◌∙◌, ℕ, ◌≤◌, ap, sym, sub
 use Rattle.std.proofs.Math.Seq.{take-length}
 use Rattle.rx_history.specs.Setups.{given}
 use Rattle.rx_history.specs.Events.{events_of}
-use Rattle.rx_timely.specs.Deaths.{AreDeaths}
-use Rattle.rx_timely.proofs.Dying.{take-next, length-front}
+use Rattle.rx_kills.specs.Deaths.{AreDeaths}
+use Rattle.rx_kills.proofs.Dying.{take-next, length-front}
 use Rattle.rx_verify.specs.Inside.Passing.{PassIs, AfterEntry}
 use Rattle.rx_verify.proofs.verifying.first_flaw.Goals as goal
 

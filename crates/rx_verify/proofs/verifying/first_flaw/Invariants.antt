@@ -1,7 +1,7 @@
 use Rattle.std.proofs.Common.{take}
 use Rattle.rx_history.specs.Setups.{given}
 use Rattle.rx_history.specs.Events.{events_of}
-use Rattle.rx_timely.specs.Deaths.{AreDeaths}
+use Rattle.rx_kills.specs.Deaths.{AreDeaths}
 use Rattle.rx_verify.specs.Inside.Passing.{PassIs}
 use Rattle.rx_verify.proofs.verifying.first_flaw.Given as goal
 

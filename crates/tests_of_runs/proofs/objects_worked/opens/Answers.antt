@@ -1,9 +1,9 @@
 use Rattle.std.proofs.Common.{◌≡◌, [], Some, None, ap, sym, ◌∙◌, subst, refl}
 use Rattle.rx_rules.specs.Terms.{Term, Empty, items, does, Vars}
-use Rattle.rx_nodes.specs.Shape.{Stands}
+use Rattle.rx_syntax.specs.Shape.{Stands}
 use Rattle.rx_check.specs.Checked.{Checked}
-use Rattle.rx_plan.specs.Next.{next_of}
-use Rattle.rx_plan.specs.declared.step.Next.TheVariants.{Book as BookStep}
+use Rattle.rx_history.specs.Next.{next_of}
+use Rattle.rx_history.specs.declared.step.Next.TheVariants.{Book as BookStep}
 use Rattle.rx_history.specs.declared.asks.Ask.TheVariants.{Open as AskOpen}
 use Rattle.rx_ticket.specs.declared.tickets.AnyTicket.TheVariants.{Running}
 use Rattle.rx_ledger.specs.declared.asks.Request.{Request}

@@ -1,12 +1,12 @@
 use Rattle.std.proofs.Common.{◌≡◌, ◌∙◌, ℕ, zero, suc, pos, ◌<◌, ◌^◌, List, [], ◌∷◌, map, length, Some, None, slice_get, refl, ap, sym, subst, arith}
 use Rattle.rx_rules.specs.Code.{Block, Nothing, Then, Num, Print}
-use Rattle.rx_nodes.specs.declared.nodes.StmtId.{StmtId}
-use Rattle.rx_nodes.specs.declared.nodes.Expr.{Expr as Part}
-use Rattle.rx_nodes.specs.declared.nodes.Expr.TheVariants.{Num as NumPart}
-use Rattle.rx_nodes.specs.declared.nodes.Stmt.{Stmt as Node}
-use Rattle.rx_nodes.specs.declared.nodes.Stmt.TheVariants.{Print as PrintNode}
-use Rattle.rx_nodes.specs.Shape.{Shape, IsSmall}
-use Rattle.rx_nodes.specs.Whole.{IsWhole}
+use Rattle.rx_syntax.specs.declared.nodes.StmtId.{StmtId}
+use Rattle.rx_syntax.specs.declared.nodes.Expr.{Expr as Part}
+use Rattle.rx_syntax.specs.declared.nodes.Expr.TheVariants.{Num as NumPart}
+use Rattle.rx_syntax.specs.declared.nodes.Stmt.{Stmt as Node}
+use Rattle.rx_syntax.specs.declared.nodes.Stmt.TheVariants.{Print as PrintNode}
+use Rattle.rx_syntax.specs.Shape.{Shape, IsSmall}
+use Rattle.rx_syntax.specs.Whole.{IsWhole}
 use Rattle.tests_of_runs.proofs.span.script.Goals as goal
 
 -- print 1; print 2;

@@ -1,6 +1,6 @@
 use Rattle.std.proofs.Common.{sym, subst}
 use Rattle.rx_check.specs.Checked.{Checked}
-use Rattle.rx_nodes.specs.Shape.{Stands}
+use Rattle.rx_syntax.specs.Shape.{Stands}
 use Rattle.rx_activities.proofs.BeganMain.{main_knows}
 use Rattle.rx_activities.proofs.Kept.{kept_so, kept_place}
 use Rattle.rx_activities.proofs.activity.Activity.main.Goals as goal

@@ -1,13 +1,13 @@
 use Rattle.std.proofs.Common.{◌≡◌, sym, subst, refl}
 use Rattle.rx_base.specs.declared.ids.PlaceId.{PlaceId}
 use Rattle.rx_rules.specs.Terms.{Term, Vars, does, begins}
-use Rattle.rx_nodes.specs.Shape.{Shape, Stands}
+use Rattle.rx_syntax.specs.Shape.{Shape, Stands}
 use Rattle.rx_check.specs.Checked.{Checked}
 use Rattle.rx_control.specs.declared.control.Control.{Control}
-use Rattle.rx_plan.specs.Next.{next_of}
+use Rattle.rx_history.specs.Next.{next_of}
 use Rattle.rx_control.specs.Stands.{StandsFor}
 use Rattle.rx_book.specs.declared.views.View.{View}
-use Rattle.rx_parts_book.specs.declared.items.EntryItem.{EntryItem}
+use Rattle.rx_parts.specs.declared.items.EntryItem.{EntryItem}
 use Rattle.rx_objects.specs.declared.ledger.LedgerOp.{LedgerOp}
 use Rattle.rx_objects.specs.Laws.{AsksLedger}
 use Rattle.rx_activities.specs.declared.hand.Hand.{Hand}

@@ -6,7 +6,7 @@ use Rattle.rx_book.specs.Named.{BookName}
 use Rattle.rx_book.specs.Passes.{view_of}
 use Rattle.rx_book.specs.History.{items_of}
 use Rattle.rx_book.specs.declared.passes.Pass.{Pass}
-use Rattle.rx_parts_book.specs.declared.items.EntryItem.{EntryItem}
+use Rattle.rx_parts.specs.declared.items.EntryItem.{EntryItem}
 use Rattle.rx_objects.specs.declared.ledger.LedgerFixed.{LedgerFixed}
 use Rattle.rx_objects.specs.declared.place.PlaceFixed.{PlaceFixed}
 use Rattle.rx_objects.specs.declared.place.PlaceOp.{PlaceOp}

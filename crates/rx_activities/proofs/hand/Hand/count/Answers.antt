@@ -4,9 +4,9 @@ use Rattle.rx_rules.specs.declared.entries.Act.TheVariants.{Census as CensusAct}
 use Rattle.rx_rules.specs.Terms.{Term, does, granted}
 use Rattle.rx_rules.specs.Plays.{vars_told}
 use Rattle.rx_control.specs.declared.control.Control.{Control}
-use Rattle.rx_plan.specs.declared.step.Next.TheVariants.{Book as BookStep}
-use Rattle.rx_plan.specs.declared.step.Want.TheVariants.{Census as WantCensus}
-use Rattle.rx_plan.specs.Next.{next_of}
+use Rattle.rx_history.specs.declared.step.Next.TheVariants.{Book as BookStep}
+use Rattle.rx_history.specs.declared.step.Want.TheVariants.{Census as WantCensus}
+use Rattle.rx_history.specs.Next.{next_of}
 use Rattle.rx_control.specs.Stands.{StandsFor}
 use Rattle.rx_ledger.proofs.Keepers.{ok_holds}
 use Rattle.rx_activities.proofs.hand.Hand.count.Goals as goal

@@ -1,6 +1,6 @@
 use Rattle.std.proofs.Common.{ℕ, ◌+◌, ◌-◌, ◌*◌, ◌≤◌, List}
 use Rattle.rx_rules.specs.Code.{Block}
-use Rattle.rx_nodes.specs.Shape.{BlockStands}
+use Rattle.rx_syntax.specs.Shape.{BlockStands}
 use Rattle.rx_check.specs.Inside.Walk.{Extends, Knows}
 use Rattle.rx_check.proofs.Going.{Going}
 use Rattle.rx_check.proofs.walk.Walk.+walk.Given as goal

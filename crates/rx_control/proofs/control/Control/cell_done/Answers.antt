@@ -1,7 +1,7 @@
 use Rattle.std.proofs.Common.{◌≡◌, ℕ, List, Some, None, subst}
 use Rattle.std.specs.Prelude.{OnOk}
 use Rattle.rx_rules.specs.Terms.{Term, answered, answer_of, receives, vars_after, begins}
-use Rattle.rx_nodes.specs.Shape.{Shape}
+use Rattle.rx_syntax.specs.Shape.{Shape}
 use Rattle.rx_control.specs.Stands.{StandsFor, IsSame}
 use Rattle.rx_control.proofs.Bound.{answered-falls}
 use Rattle.rx_control.proofs.control.Control.cell_done.Goals as goal

@@ -3,7 +3,7 @@ use Rattle.std.specs.Prelude.{option_to_list}
 use Rattle.std.proofs.lemmas.Option.{none-some}
 use Rattle.rx_rules.specs.Code.{Stmt, Block}
 use Rattle.rx_rules.specs.Terms.{Term, stmt_child, child, begins, at}
-use Rattle.rx_nodes.specs.Shape.{Shape}
+use Rattle.rx_syntax.specs.Shape.{Shape}
 use Rattle.rx_control.specs.declared.frame.Frame.TheVariants.{Seq}
 use Rattle.rx_control.specs.declared.control.Control.{Control}
 use Rattle.rx_control.specs.Stands.{StandsFor, path_of}

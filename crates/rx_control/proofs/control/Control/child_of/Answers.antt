@@ -1,7 +1,7 @@
 use Rattle.std.proofs.Common.{◌≡◌, ◌∙◌}
 use Rattle.rx_rules.specs.Code.{Stmt, Block}
 use Rattle.rx_rules.specs.Terms.{stmt_child}
-use Rattle.rx_nodes.specs.Shape.{StmtIs}
+use Rattle.rx_syntax.specs.Shape.{StmtIs}
 use Rattle.rx_control.specs.declared.control.Control.{Control}
 use Rattle.rx_control.specs.Stands.{StandsFor}
 use Rattle.rx_control.specs.Inside.Front.{Awaits}

@@ -1,7 +1,7 @@
 use Rattle.std.proofs.Common.{◌≡◌, ℕ, List, [], ◌∷◌, ◌++◌, Option, None, ap, ◌∙◌}
 use Rattle.rx_rules.specs.Terms.{Term, begins}
-use Rattle.rx_nodes.specs.Shape.{Shape}
-use Rattle.rx_nodes.specs.declared.nodes.BlockId.{BlockId}
+use Rattle.rx_syntax.specs.Shape.{Shape}
+use Rattle.rx_syntax.specs.declared.nodes.BlockId.{BlockId}
 use Rattle.rx_control.specs.declared.frame.Frame.{Frame}
 use Rattle.rx_control.specs.declared.frame.Frame.TheVariants.{Seq}
 use Rattle.rx_control.specs.declared.control.Control.{Control}

@@ -1,8 +1,8 @@
 use Rattle.std.proofs.Common.{◌≡◌, ℕ, List, [], arith, sym, ◌∙◌, subst}
 use Rattle.rx_rules.specs.Code.{Block}
 use Rattle.rx_rules.specs.Terms.{no_vars, items, Empty}
-use Rattle.rx_nodes.specs.Shape.{Shape, BlockStands, Stands}
-use Rattle.rx_nodes.specs.declared.nodes.BlockId.{BlockId}
+use Rattle.rx_syntax.specs.Shape.{Shape, BlockStands, Stands}
+use Rattle.rx_syntax.specs.declared.nodes.BlockId.{BlockId}
 use Rattle.rx_control.specs.declared.control.Control.{Control}
 use Rattle.rx_control.specs.Stands.{StandsFor}
 use Rattle.rx_control.proofs.Words.{ok-then}

@@ -7,7 +7,7 @@ use Rattle.rx_control.specs.Levels.{More, seq}
 use Rattle.rx_control.specs.declared.frame.Frame.TheVariants.{Seq, Turns, Try, Body, Held}
 use Rattle.rx_control.specs.Stands.{path_of, StandsFor, Leaves}
 use Rattle.rx_control.specs.Inside.Front.{lifted, Due}
-use Rattle.rx_plan.specs.Next.{next_of}
+use Rattle.rx_history.specs.Next.{next_of}
 use Rattle.rx_control.proofs.Front.{next-lifted}
 use Rattle.rx_plan.proofs.Plans.{asks}
 use Rattle.rx_control.proofs.Standing.{at-top, at-statement, calm-seq, calm-held}

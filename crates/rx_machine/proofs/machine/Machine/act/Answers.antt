@@ -1,8 +1,10 @@
 use Rattle.std.proofs.Common.{rules, ◌≡◌, w64, to_z, of_z}
 use Rattle.rx_rules.specs.Terms.{Prints}
 use Rattle.std.proofs.Common.{ap, sym, ◌∙◌}
-use Rattle.rx_machine.proofs.Requested.{told_open, told_call, told_spawn, told_wait, told_release, told_print, told_census, told_end, told_no_local, told_no_cell, on_ok, on_err}
-use Rattle.rx_machine.proofs.Halting.{acting-told}
+use Rattle.rx_machine.proofs.Requested.{told_open, told_call, told_spawn, told_wait, told_release, told_print, told_census, told_end, told_no_local, told_no_cell, on_ok, on_err, any_err}
+use Rattle.rx_history.specs.Logs.{Log}
+use Rattle.rx_machine.specs.declared.machine.Machine.{Machine}
+use Rattle.rx_machine.proofs.Halting.{stopped, stopped-more}
 use Rattle.rx_machine.proofs.machine.Machine.act.Goals as goal
 
 pub open_finish-requires-clause-game : goal.open_finish-requires-clause-game
@@ -107,66 +109,75 @@ returns-in-Done-clause-made g c = on_ok c.end.result (λ h code U k q G a.
     let r = c.in_ok-next.ensures.next code U k q G a in
     h c.args.p.now.script c.args.i c.args.here code U k r.0 G r.1 (told_end _ _ r.2 c.in-Done.is)) c.end.ensures.made
 
-pub returns-in-Book-Open-clause-refused : goal.returns-in-Book-Open-clause-refused
-returns-in-Book-Open-clause-refused g c = on_err c.open_finish.result (λ told code U k q G a.
-    let r = c.in_ok-next.ensures.next code U k q G a in
-    acting-told g.L.FinishLedger.stands c.args.p.now.script code U _ k c.args.i c.args.here r.0 _ G _ (ap (λ v. v.items) told.stores) r.1) c.open_finish.ensures.refused
+pub returns-in_err-next-clause-setup : goal.returns-in_err-next-clause-setup
+returns-in_err-next-clause-setup g c = any_err c.from_residual.result (ap (λ (l : Log). l.setup) c.run_on.ensures.same.chronicle)
 
-pub returns-in-Book-Open-clause-history : goal.returns-in-Book-Open-clause-history
-returns-in-Book-Open-clause-history g c = on_err c.open_finish.result (λ told. told.history ∙ c.run_on.ensures.same.history) c.open_finish.ensures.refused
+pub returns-in-Book-Open-clause-refused : goal.returns-in-Book-Open-clause-refused
+returns-in-Book-Open-clause-refused g c = on_err c.open_finish.result (λ same code U k q G a.
+    let r = c.in_ok-next.ensures.next code U k q G a in
+    stopped r.1 c.open_finish.new.self (ap (λ (x : Machine g.row.L.Denot). x.chronicle) same) (ap (λ (x : Machine g.row.L.Denot). x.stores) same)) c.open_finish.ensures.refused
+
+pub returns-in-Book-Open-clause-setup : goal.returns-in-Book-Open-clause-setup
+returns-in-Book-Open-clause-setup g c = on_err c.open_finish.result (λ same.
+    ap (λ (x : Machine g.row.L.Denot). x.chronicle.setup) same ∙ ap (λ (l : Log). l.setup) c.run_on.ensures.same.chronicle) c.open_finish.ensures.refused
 
 pub returns-in-Book-At-clause-refused : goal.returns-in-Book-At-clause-refused
-returns-in-Book-At-clause-refused g c = on_err c.open_at.result (λ told code U k q G a.
+returns-in-Book-At-clause-refused g c = on_err c.open_at.result (λ same code U k q G a.
     let r = c.in_ok-next.ensures.next code U k q G a in
-    acting-told g.L.FinishLedger.stands c.args.p.now.script code U _ k c.args.i c.args.here r.0 _ G _ (ap (λ v. v.items) told.stores) r.1) c.open_at.ensures.refused
+    stopped r.1 c.open_at.new.self (ap (λ (x : Machine g.row.L.Denot). x.chronicle) same) (ap (λ (x : Machine g.row.L.Denot). x.stores) same)) c.open_at.ensures.refused
 
-pub returns-in-Book-At-clause-history : goal.returns-in-Book-At-clause-history
-returns-in-Book-At-clause-history g c = on_err c.open_at.result (λ told. told.history ∙ c.run_on.ensures.same.history) c.open_at.ensures.refused
+pub returns-in-Book-At-clause-setup : goal.returns-in-Book-At-clause-setup
+returns-in-Book-At-clause-setup g c = on_err c.open_at.result (λ same.
+    ap (λ (x : Machine g.row.L.Denot). x.chronicle.setup) same ∙ ap (λ (l : Log). l.setup) c.run_on.ensures.same.chronicle) c.open_at.ensures.refused
 
 pub returns-in-Book-Spawn-clause-refused : goal.returns-in-Book-Spawn-clause-refused
-returns-in-Book-Spawn-clause-refused g c = on_err c.spawn.result (λ told code U k q G a.
+returns-in-Book-Spawn-clause-refused g c = on_err c.spawn.result (λ same code U k q G a.
     let r = c.in_ok-next.ensures.next code U k q G a in
-    acting-told g.L.FinishLedger.stands c.args.p.now.script code U _ k c.args.i c.args.here r.0 _ G _ (ap (λ v. v.items) told.stores) r.1) c.spawn.ensures.refused
+    stopped r.1 c.spawn.new.self (ap (λ (x : Machine g.row.L.Denot). x.chronicle) same) (ap (λ (x : Machine g.row.L.Denot). x.stores) same)) c.spawn.ensures.refused
 
-pub returns-in-Book-Spawn-clause-history : goal.returns-in-Book-Spawn-clause-history
-returns-in-Book-Spawn-clause-history g c = on_err c.spawn.result (λ told. told.history ∙ c.run_on.ensures.same.history) c.spawn.ensures.refused
+pub returns-in-Book-Spawn-clause-setup : goal.returns-in-Book-Spawn-clause-setup
+returns-in-Book-Spawn-clause-setup g c = on_err c.spawn.result (λ same.
+    ap (λ (x : Machine g.row.L.Denot). x.chronicle.setup) same ∙ ap (λ (l : Log). l.setup) c.run_on.ensures.same.chronicle) c.spawn.ensures.refused
 
 pub returns-in-Book-Wait-clause-refused : goal.returns-in-Book-Wait-clause-refused
-returns-in-Book-Wait-clause-refused g c = on_err c.wait.result (λ told code U k q G a.
+returns-in-Book-Wait-clause-refused g c = on_err c.wait.result (λ same code U k q G a.
     let r = c.in_ok-next.ensures.next code U k q G a in
-    acting-told g.L.FinishLedger.stands c.args.p.now.script code U _ k c.args.i c.args.here r.0 _ G _ (ap (λ v. v.items) told.stores) r.1) c.wait.ensures.refused
+    stopped r.1 c.wait.new.self (ap (λ (x : Machine g.row.L.Denot). x.chronicle) same) (ap (λ (x : Machine g.row.L.Denot). x.stores) same)) c.wait.ensures.refused
 
-pub returns-in-Book-Wait-clause-history : goal.returns-in-Book-Wait-clause-history
-returns-in-Book-Wait-clause-history g c = on_err c.wait.result (λ told. told.history ∙ c.run_on.ensures.same.history) c.wait.ensures.refused
+pub returns-in-Book-Wait-clause-setup : goal.returns-in-Book-Wait-clause-setup
+returns-in-Book-Wait-clause-setup g c = on_err c.wait.result (λ same.
+    ap (λ (x : Machine g.row.L.Denot). x.chronicle.setup) same ∙ ap (λ (l : Log). l.setup) c.run_on.ensures.same.chronicle) c.wait.ensures.refused
+
+pub returns-in-Book-Print-clause-refused : goal.returns-in-Book-Print-clause-refused
+returns-in-Book-Print-clause-refused g c = on_err c.print.result (λ same code U k q G a.
+    let r = c.in_ok-next.ensures.next code U k q G a in
+    stopped r.1 c.print.new.self (ap (λ (x : Machine g.row.L.Denot). x.chronicle) same) (ap (λ (x : Machine g.row.L.Denot). x.stores) same)) c.print.ensures.refused
+
+pub returns-in-Book-Print-clause-setup : goal.returns-in-Book-Print-clause-setup
+returns-in-Book-Print-clause-setup g c = on_err c.print.result (λ same.
+    ap (λ (x : Machine g.row.L.Denot). x.chronicle.setup) same ∙ ap (λ (l : Log). l.setup) c.run_on.ensures.same.chronicle) c.print.ensures.refused
+
+pub returns-in-Done-clause-refused : goal.returns-in-Done-clause-refused
+returns-in-Done-clause-refused g c = on_err c.end.result (λ same code U k q G a.
+    let r = c.in_ok-next.ensures.next code U k q G a in
+    stopped r.1 c.end.new.self (ap (λ (x : Machine g.row.L.Denot). x.chronicle) same) (ap (λ (x : Machine g.row.L.Denot). x.stores) same)) c.end.ensures.refused
+
+pub returns-in-Done-clause-setup : goal.returns-in-Done-clause-setup
+returns-in-Done-clause-setup g c = on_err c.end.result (λ same.
+    ap (λ (x : Machine g.row.L.Denot). x.chronicle.setup) same ∙ ap (λ (l : Log). l.setup) c.run_on.ensures.same.chronicle) c.end.ensures.refused
 
 pub returns-in-Book-Release-clause-refused : goal.returns-in-Book-Release-clause-refused
 returns-in-Book-Release-clause-refused g c = on_err c.release.result (λ told code U k q G a.
     let r = c.in_ok-next.ensures.next code U k q G a in
-    acting-told g.L.FinishLedger.stands c.args.p.now.script code U _ k c.args.i c.args.here r.0 _ G _ (ap (λ v. v.items) told.stores) r.1) c.release.ensures.refused
+    stopped-more r.1 c.release.new.self (told c.args.here code U k r.0 G r.1 (told_release _ _ c.in-Book-Release.field-0 r.2 c.in-Book-Release.is (rw c.in-Book-Release.is at c.in-Book-Release.field-0-is)))) c.release.ensures.refused
 
-pub returns-in-Book-Release-clause-history : goal.returns-in-Book-Release-clause-history
-returns-in-Book-Release-clause-history g c = on_err c.release.result (λ told. told.history ∙ c.run_on.ensures.same.history) c.release.ensures.refused
-
-pub returns-in-Book-Print-clause-refused : goal.returns-in-Book-Print-clause-refused
-returns-in-Book-Print-clause-refused g c = on_err c.print.result (λ told code U k q G a.
-    let r = c.in_ok-next.ensures.next code U k q G a in
-    acting-told g.L.FinishLedger.stands c.args.p.now.script code U _ k c.args.i c.args.here r.0 _ G _ (ap (λ v. v.items) told.stores) r.1) c.print.ensures.refused
+pub returns-in-Book-Release-clause-setup : goal.returns-in-Book-Release-clause-setup
+returns-in-Book-Release-clause-setup g c = on_err c.release.result (λ same. same ∙ ap (λ (l : Log). l.setup) c.run_on.ensures.same.chronicle) c.release.ensures.setup
 
 pub returns-in-Book-Census-clause-refused : goal.returns-in-Book-Census-clause-refused
 returns-in-Book-Census-clause-refused g c = on_err c.census.result (λ told code U k q G a.
     let r = c.in_ok-next.ensures.next code U k q G a in
-    acting-told g.L.FinishLedger.stands c.args.p.now.script code U _ k c.args.i c.args.here r.0 _ G _ (ap (λ v. v.items) told.stores) r.1) c.census.ensures.refused
+    stopped-more r.1 c.census.new.self (told c.args.here code U k r.0 G r.1 (told_census _ _ c.in-Book-Census.field-0 r.2 c.in-Book-Census.is (rw c.in-Book-Census.is at c.in-Book-Census.field-0-is)))) c.census.ensures.refused
 
-pub returns-in-Book-Print-clause-history : goal.returns-in-Book-Print-clause-history
-returns-in-Book-Print-clause-history g c = on_err c.print.result (λ told. told.history ∙ c.run_on.ensures.same.history) c.print.ensures.refused
-
-pub returns-in-Book-Census-clause-history : goal.returns-in-Book-Census-clause-history
-returns-in-Book-Census-clause-history g c = on_err c.census.result (λ told. told.history ∙ c.run_on.ensures.same.history) c.census.ensures.refused
-
-pub returns-in-Done-clause-refused : goal.returns-in-Done-clause-refused
-returns-in-Done-clause-refused g c = on_err c.end.result (λ told code U k q G a.
-    let r = c.in_ok-next.ensures.next code U k q G a in
-    acting-told g.L.FinishLedger.stands c.args.p.now.script code U _ k c.args.i c.args.here r.0 _ G _ (ap (λ v. v.items) told.stores) r.1) c.end.ensures.refused
-
-pub returns-in-Done-clause-history : goal.returns-in-Done-clause-history
-returns-in-Done-clause-history g c = on_err c.end.result (λ told. told.history ∙ c.run_on.ensures.same.history) c.end.ensures.refused
+pub returns-in-Book-Census-clause-setup : goal.returns-in-Book-Census-clause-setup
+returns-in-Book-Census-clause-setup g c = on_err c.census.result (λ same. same ∙ ap (λ (l : Log). l.setup) c.run_on.ensures.same.chronicle) c.census.ensures.setup

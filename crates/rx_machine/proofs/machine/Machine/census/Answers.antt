@@ -1,17 +1,19 @@
-use Rattle.std.proofs.Common.{arith, ◌≡◌, ◌≤◌, [], Some, None, refl, ap, ◌∙◌, sym, subst}
+use Rattle.std.proofs.Common.{arith, ◌≡◌, ◌≤◌, ℕ, List, Some, refl, ap, ◌∙◌, sym, inl, inr}
 use Rattle.rx_rules.specs.declared.entries.Act.TheVariants.{Census}
-use Rattle.rx_rules.specs.Terms.{does, begins}
+use Rattle.rx_rules.specs.Terms.{does, begins, Counts}
+use Rattle.rx_rules.specs.Tree.{Tree}
 use Rattle.rx_rules.specs.Entries.{AllowedAct}
+use Rattle.rx_rules.specs.Plays.{vars_told}
 use Rattle.rx_rules.specs.Picked.{tree_in}
-use Rattle.rx_finish.specs.declared.ledger.Caller.{Caller}
-use Rattle.rx_finish.specs.Callers.{MayAsk, IsMoving}
-use Rattle.rx_finish.specs.Calls.{blow_of}
-use Rattle.rx_plan.specs.Next.{next_of}
-use Rattle.rx_history.specs.Setups.{to_join}
-use Rattle.rx_machine.proofs.Acted.{closed}
-use Rattle.rx_machine.proofs.Asking.{seat_asks, seat_unstruck, moving}
+use Rattle.rx_history.specs.Logs.{Log}
+use Rattle.rx_history.specs.Next.{next_of}
+use Rattle.rx_control.specs.declared.control.Control.{Control}
+use Rattle.rx_machine.proofs.Acted.{of-game}
+use Rattle.rx_machine.proofs.Asking.{may-move, memory-out}
 use Rattle.rx_machine.proofs.Knowing.{known-there, some-places, few-there}
-use Rattle.rx_machine.proofs.Counted.{census-begins, census-free, census-granted, censused}
+use Rattle.rx_machine.proofs.Counted.{census-begins, census-told, censused}
+use Rattle.rx_machine.proofs.Stepping.{stands-by, does-by}
+use Rattle.rx_machine.proofs.Requested.{any_err}
 use Rattle.rx_machine.proofs.machine.Machine.census.Goals as goal
 
 pub path_of-requires : goal.path_of-requires
@@ -20,85 +22,80 @@ path_of-requires g c =
     let game = c.requires.game.1 in
     let b = census-begins game.3 here.0 game.6.0 game.6.1 in (game.3.term, b.0, game.5.gone.seat_is.term, b.1)
 
-pub census-requires : goal.census-requires
-census-requires g c =
-    let here = c.requires.game.0 in
-    let game = c.requires.game.1 in
-    let T = tree_in game.1 game.4 in
-    let a = game.5 in
-    let s = a.gone.seat_is in
-    (to_join game.1 T, T, a.but.shares.ledger, subst (λ (w : Caller). MayAsk T w IsMoving) (sym c.caller.ensures) (seat_asks c.args.p.now.script T c.args.i game.3 c.args.seat IsMoving s a.numbers (moving c.args.p.now.script T c.args.i game.3 c.args.seat here s a.gone.is_at (census-free game.3 here.0 game.6.0 game.6.1))))
+pub census-requires-clause-asks : goal.census-requires-clause-asks
+census-requires-clause-asks g c = let game = c.requires.game.1 in may-move game.5 (Counts game.6.0) game.6.1 (λ f. let w : ⊥ = cc f in w)
 
-pub unreachable-requires : goal.unreachable-requires
-unreachable-requires g c =
-    let here = c.requires.game.0 in
-    let game = c.requires.game.1 in
-    let T = tree_in game.1 game.4 in
-    let a = game.5 in
-    let s = a.gone.seat_is in
-    let may = subst (λ (w : Caller). MayAsk T w IsMoving) (sym c.caller.ensures) (seat_asks c.args.p.now.script T c.args.i game.3 c.args.seat IsMoving s a.numbers (moving c.args.p.now.script T c.args.i game.3 c.args.seat here s a.gone.is_at (census-free game.3 here.0 game.6.0 game.6.1))) in
-    let free = subst (λ (w : Caller). blow_of T w.task ≡ None) (sym c.caller.ensures) (seat_unstruck c.args.p.now.script T c.args.i game.3 c.args.seat s) in
-    census-granted T c.caller.result c.in-Err.field-0 free (c.in-Err.ensures _ T a.but.shares.ledger may)
+pub no_memory-requires : goal.no_memory-requires
+no_memory-requires g c = let game = c.requires.game.1 in memory-out game.5 c.in-Err.fault c.in-Err.ensures.answer.0
 
 pub census_done-requires-clause-asks : goal.census_done-requires-clause-asks
 census_done-requires-clause-asks g c =
     let here = c.requires.game.0 in
     let game = c.requires.game.1 in
-    let s = game.5.gone.seat_is in
-    (game.3.term, here, s.term, ap next_of (ap (λ v. does v here.0 game.3.term) s.vars ∙ game.6.1))
+    (game.3.term, here, stands-by game.5 c.deref_mut.result.now c.deref_mut.ensures.value, ap next_of (does-by game.5 c.deref_mut.result.now c.deref_mut.ensures.value ∙ game.6.1))
 
 pub census_done-requires-clause-some : goal.census_done-requires-clause-some
 census_done-requires-clause-some g c =
-    let here = c.requires.game.0 in
     let game = c.requires.game.1 in
     let T = tree_in game.1 game.4 in
     let a = game.5 in
-    let s = a.gone.seat_is in
-    let may = subst (λ (w : Caller). MayAsk T w IsMoving) (sym c.caller.ensures) (seat_asks c.args.p.now.script T c.args.i game.3 c.args.seat IsMoving s a.numbers (moving c.args.p.now.script T c.args.i game.3 c.args.seat here s a.gone.is_at (census-free game.3 here.0 game.6.0 game.6.1))) in
-    let count : c.in-Ok.places ≡ T.places = (c.in-Ok.ensures _ T a.but.shares.ledger may).asks.1 in
+    let allowed : AllowedAct T c.args.mover.seat.who.task (Census c.in-Ok.places c.in_ok-path.path) = of-game (λ (V : Tree). AllowedAct V c.args.mover.seat.who.task (Census c.in-Ok.places c.in_ok-path.path)) a.but.shares c.in-Ok.ensures.answer.allowed in
+    let count : c.in-Ok.places ≡ T.places = allowed.asks.1 in
     let some : 1 ≤ T.places = some-places game.1 game.4 a.but.shares.on.proper in
     omega (arith, count, some)
 
 pub census_done-requires-clause-few : goal.census_done-requires-clause-few
 census_done-requires-clause-few g c =
-    let here = c.requires.game.0 in
     let game = c.requires.game.1 in
     let T = tree_in game.1 game.4 in
     let a = game.5 in
-    let s = a.gone.seat_is in
-    let may = subst (λ (w : Caller). MayAsk T w IsMoving) (sym c.caller.ensures) (seat_asks c.args.p.now.script T c.args.i game.3 c.args.seat IsMoving s a.numbers (moving c.args.p.now.script T c.args.i game.3 c.args.seat here s a.gone.is_at (census-free game.3 here.0 game.6.0 game.6.1))) in
-    let count : c.in-Ok.places ≡ T.places = (c.in-Ok.ensures _ T a.but.shares.ledger may).asks.1 in
+    let allowed : AllowedAct T c.args.mover.seat.who.task (Census c.in-Ok.places c.in_ok-path.path) = of-game (λ (V : Tree). AllowedAct V c.args.mover.seat.who.task (Census c.in-Ok.places c.in_ok-path.path)) a.but.shares c.in-Ok.ensures.answer.allowed in
+    let count : c.in-Ok.places ≡ T.places = allowed.asks.1 in
     let few : T.places ≤ 16 = few-there game.0 game.1 game.4 c.games_come.ensures a.but.shares.on.proper a.but.shares.comes a.pick.stands in
     omega (arith, count, few)
 
 pub census_done-requires-clause-known : goal.census_done-requires-clause-known
 census_done-requires-clause-known g c =
-    let here = c.requires.game.0 in
     let game = c.requires.game.1 in
     let T = tree_in game.1 game.4 in
     let a = game.5 in
-    let s = a.gone.seat_is in
-    let may = subst (λ (w : Caller). MayAsk T w IsMoving) (sym c.caller.ensures) (seat_asks c.args.p.now.script T c.args.i game.3 c.args.seat IsMoving s a.numbers (moving c.args.p.now.script T c.args.i game.3 c.args.seat here s a.gone.is_at (census-free game.3 here.0 game.6.0 game.6.1))) in
-    let count : c.in-Ok.places ≡ T.places = (c.in-Ok.ensures _ T a.but.shares.ledger may).asks.1 in
-    let known : game.3.vars.places ≤ T.places = known-there g.L.FinishLedger.stands c.args.p.now.script game.0 game.1 c.args.self.now game.2 c.args.i here game.3 c.args.seat game.4 c.known_places_are_there.ensures c.going_tells_no_places.ensures a in
-    let same : c.args.seat.control.value.vars.places ≡ game.3.vars.places = ap (λ v. v.places) s.vars in
+    let allowed : AllowedAct T c.args.mover.seat.who.task (Census c.in-Ok.places c.in_ok-path.path) = of-game (λ (V : Tree). AllowedAct V c.args.mover.seat.who.task (Census c.in-Ok.places c.in_ok-path.path)) a.but.shares c.in-Ok.ensures.answer.allowed in
+    let count : c.in-Ok.places ≡ T.places = allowed.asks.1 in
+    let known : game.3.vars.places ≤ T.places = known-there a c.known_places_are_there.ensures c.going_tells_no_places.ensures in
+    let same : c.deref_mut.result.now.vars.places ≡ game.3.vars.places = ap (λ (v : Control). v.vars.places) c.deref_mut.ensures.value ∙ ap (λ v. v.places) a.gone.seat_is.vars in
     omega (arith, count, known, same)
 
-pub close_turn-requires-clause-inside : goal.close_turn-requires-clause-inside
-close_turn-requires-clause-inside g c = c.requires.game.1.5.inside
+pub put_back-requires : goal.put_back-requires
+put_back-requires g c = c.requires.game.1.5.inside
 
 pub returns-clause-made : goal.returns-clause-made
 returns-clause-made g c = λ here code U k q G a asks.
-    let T = tree_in U G in
     let s = a.gone.seat_is in
+    let w = c.deref_mut.result.now in
     let b = census-begins q here.0 asks.0 asks.1 in
-    let may = subst (λ (w : Caller). MayAsk T w IsMoving) (sym c.caller.ensures) (seat_asks c.args.p.now.script T c.args.i q c.args.seat IsMoving s a.numbers (moving c.args.p.now.script T c.args.i q c.args.seat here s a.gone.is_at (census-free q here.0 asks.0 asks.1))) in
     let path = c.in_ok-path.ensures q.term b.0 s.term b.1 in
-    let at : begins q.term ≡ Some c.in_ok-path.path = b.1 ∙ ap (λ v. Some v) (sym path) in
-    let counted_so = subst (λ (w : Caller). AllowedAct T w.task (Census c.in-Ok.places [])) c.caller.ensures (c.in-Ok.ensures _ T a.but.shares.ledger may) in
-    let next = ap next_of (ap (λ v. does v here.0 q.term) s.vars ∙ asks.1) in
-    let term = c.in_ok-census_done.ensures.stands q.term here s.term next in
-    let vars = c.in_ok-census_done.ensures.vars q.term here c.in_ok-path.path s.term next in
-    let went = closed g.L.FinishLedger.stands c.args.self.now _ _ c.args.i _ _ _ T refl c.close_turn.ensures a.but.shares.ledger in
-    censused g.L.FinishLedger.stands c.args.p.now.script code U c.args.self.now _ k c.args.i here q c.args.seat _ G asks.0 c.in-Ok.places c.in_ok-path.path a asks.1 at counted_so term vars refl refl refl went
-    c.close_turn.ensures.seats
+    let at : begins q.term ≡ Some c.in_ok-path.path = b.1 ∙ ap (λ (x : List ℕ). Some x) (sym path) in
+    let stands = stands-by a w c.deref_mut.ensures.value in
+    let next = ap next_of (does-by a w c.deref_mut.ensures.value ∙ asks.1) in
+    let term = c.in_ok-census_done.ensures.stands q.term here stands next in
+    let vars = c.in_ok-census_done.ensures.vars q.term here c.in_ok-path.path stands next ∙ ap (λ (v : Control). vars_told (does v.vars here.0 q.term) (Census c.in-Ok.places c.in_ok-path.path) v.vars) c.deref_mut.ensures.value in
+    censused a asks.0 asks.1 c.in-Ok.places c.in_ok-path.path at _ _ refl c.in-Ok.ensures.answer term vars refl refl c.put_back.ensures
+
+pub returns-in_err-path-clause-refused : goal.returns-in_err-path-clause-refused
+returns-in_err-path-clause-refused g c = any_err c.from_residual.result (λ here code U k q G a asks. inl (refl, refl))
+
+pub returns-in-Err-clause-refused : goal.returns-in-Err-clause-refused
+returns-in-Err-clause-refused g c = λ here code U k q G a asks. inl (ap (λ (h : Log). h.entries) c.in-Err.ensures.answer.1, refl)
+
+pub returns-in-Err-clause-setup : goal.returns-in-Err-clause-setup
+returns-in-Err-clause-setup g c = ap (λ (h : Log). h.setup) c.in-Err.ensures.answer.1
+
+pub returns-in_err-census_done-clause-refused : goal.returns-in_err-census_done-clause-refused
+returns-in_err-census_done-clause-refused g c = any_err c.from_residual-in_err-census_done.result (λ here code U k q G a asks.
+    let b = census-begins q here.0 asks.0 asks.1 in
+    let path = c.in_ok-path.ensures q.term b.0 a.gone.seat_is.term b.1 in
+    let at : begins q.term ≡ Some c.in_ok-path.path = b.1 ∙ ap (λ (x : List ℕ). Some x) (sym path) in
+    inr (census-told a asks.0 asks.1 c.in-Ok.places c.in_ok-path.path at _ refl c.in-Ok.ensures.answer))
+
+pub returns-in_err-census_done-clause-setup : goal.returns-in_err-census_done-clause-setup
+returns-in_err-census_done-clause-setup g c = any_err c.from_residual-in_err-census_done.result (ap (λ (h : Log). h.setup) c.in-Ok.ensures.answer.told)

@@ -4,7 +4,7 @@ use Rattle.rx_machine.proofs.machine.Machine.enabled.Goals as goal
 
 pub returns-clause-holds : goal.returns-clause-holds
 returns-clause-holds g c = λ shape code U G h.
-    c.len.ensures.len ∙ counted g.L.FinishLedger.stands shape code U c.args.self.now G c.games_come.ensures c.fold_is_reached.ensures c.reached_is_sound.ensures h
+    c.len.ensures.len ∙ counted shape code U c.args.self.now G c.games_come.ensures c.fold_is_reached.ensures c.reached_is_sound.ensures h
 
 pub returns-clause-finished : goal.returns-clause-finished
 returns-clause-finished g c = λ U G f. c.len.ensures.len ∙ (ap length f.none_ready ∙ sym (ap length f.none_enabled))

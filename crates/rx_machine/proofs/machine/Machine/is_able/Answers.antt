@@ -1,10 +1,11 @@
-use Rattle.std.proofs.Common.{ap, ◌∙◌, sym, subst}
+use Rattle.std.proofs.Common.{ap, ◌∙◌, sym, not}
+use Rattle.rx_rules.specs.Tree.{Tree}
 use Rattle.rx_rules.specs.Picked.{tree_in}
-use Rattle.rx_finish.specs.declared.ledger.Caller.{Caller}
 use Rattle.rx_finish.specs.Callers.{MayAskRelease}
 use Rattle.rx_finish.specs.Calls.{is_ready}
 use Rattle.rx_machine.specs.Picking.{slot_able}
-use Rattle.rx_machine.proofs.Able.{seat_here, slot_here, waiter_asks, ready_enabled}
+use Rattle.rx_machine.proofs.Acted.{of-told, tree-is}
+use Rattle.rx_machine.proofs.Able.{seat_here, slot_here, waiter_asks, ready_enabled, moving_enabled}
 use Rattle.rx_machine.proofs.machine.Machine.is_able.Goals as goal
 
 pub ready-requires : goal.ready-requires
@@ -15,7 +16,7 @@ ready-requires g c =
     let seat = c.in-Some.seat in
     let at = seat_here c.args.self.now.seats.items c.args.i c.index.result.now seat c.requires.inside c.index.ensures c.in-Some.is in
     let s = slot_here game.0 T game.3.players c.args.i _ seat at (h.holds.seats c.args.i) in
-    (_, T, h.holds.shares.ledger, subst (λ (w : Caller). MayAskRelease T w) (sym c.caller.ensures) (waiter_asks game.0 T c.args.i s.0 seat c.waiter_has_scope.ensures h.reached s.2 h.numbers c.if-not-seat.false))
+    of-told (λ (V : Tree). MayAskRelease V seat.who) h.holds.shares (waiter_asks s.3 c.waiter_has_scope.ensures h.reached h.numbers c.if-not-seat.false)
 
 pub returns-else-not-seat : goal.returns-else-not-seat
 returns-else-not-seat g c = λ shape code U G h.
@@ -23,6 +24,13 @@ returns-else-not-seat g c = λ shape code U G h.
     let seat = c.in-Some.seat in
     let at = seat_here c.args.self.now.seats.items c.args.i c.index.result.now seat c.requires.inside c.index.ensures c.in-Some.is in
     let s = slot_here shape T G.players c.args.i _ seat at (h.holds.seats c.args.i) in
-    let may = subst (λ (w : Caller). MayAskRelease T w) (sym c.caller.ensures) (waiter_asks shape T c.args.i s.0 seat c.waiter_has_scope.ensures h.reached s.2 h.numbers c.if-not-seat.false) in
-    let told = c.ready.ensures _ T h.holds.shares.ledger may in
-    told ∙ (ap (is_ready T) c.caller.ensures ∙ (ready_enabled shape T c.args.i s.0 seat s.2 c.if-not-seat.false ∙ ap (slot_able T) (sym at)))
+    c.ready.ensures
+    ∙ (ap (λ (V : Tree). is_ready V seat.who) (tree-is h.holds.shares) ∙ (ready_enabled s.3 c.if-not-seat.false ∙ ap (slot_able T) (sym at)))
+
+pub returns-then-not-seat : goal.returns-then-not-seat
+returns-then-not-seat g c = λ shape code U G h.
+    let T = tree_in U G in
+    let seat = c.in-Some.seat in
+    let at = seat_here c.args.self.now.seats.items c.args.i c.index.result.now seat c.requires.inside c.index.ensures c.in-Some.is in
+    let s = slot_here shape T G.players c.args.i _ seat at (h.holds.seats c.args.i) in
+    ap (λ b. not b) c.if-not-seat.true ∙ (sym (moving_enabled s.3 c.if-not-seat.true) ∙ ap (slot_able T) (sym at))

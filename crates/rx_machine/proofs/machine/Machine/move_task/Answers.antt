@@ -1,4 +1,6 @@
-use Rattle.std.proofs.Common.{◌≡◌, Some, None, ◌∙◌, sym, refl}
+use Rattle.std.proofs.Common.{◌≡◌, Some, None, ◌∙◌, ap, sym, refl}
+use Rattle.rx_machine.specs.declared.machine.Machine.{Machine}
+use Rattle.rx_machine.proofs.Halting.{nothing-told}
 use Rattle.rx_machine.proofs.Requested.{on_ok, on_err}
 use Rattle.rx_machine.proofs.SeatTaken.{lands, acts}
 use Rattle.rx_machine.proofs.machine.Machine.move_task.Goals as goal
@@ -10,13 +12,13 @@ pub arrive-requires-clause-game : goal.arrive-requires-clause-game
 arrive-requires-clause-game g c =
     let w = c.requires.game in
     let at = sym c.take_seat.ensures.taken ∙ c.in-Some.is in
-    (c.args.p.now.script, w.0, w.1, w.2, w.3, lands g.L.FinishLedger.stands c.args.p.now.script w.0 w.1 c.args.self.now _ w.2 c.args.i c.in-Travel.from c.in-Travel.to c.in-Some.seat w.3 w.4 at (record { same = refl; left = c.take_seat.ensures.left }) c.in-Travel.is)
+    (c.args.p.now.script, w.0, w.1, w.2, w.3, lands c.args.p.now.script w.0 w.1 c.args.self.now (record c.args.self.now { seats = c.take_seat.new.seats }) w.2 c.args.i c.in-Travel.from c.in-Travel.to c.in-Some.seat w.3 w.4 at (record { same = refl; left = c.take_seat.ensures.left }) c.in-Travel.is)
 
 pub act-requires-clause-game : goal.act-requires-clause-game
 act-requires-clause-game g c =
     let w = c.requires.game in
     let at = sym c.take_seat.ensures.taken ∙ c.in-Some.is in
-    let a = acts g.L.FinishLedger.stands c.args.p.now.script w.0 w.1 c.args.self.now (record c.args.self.now { seats = c.take_seat.new.seats }) w.2 c.args.i c.in-At.here c.in-Some.seat w.3 c.games_come.ensures c.reached_is_sound.ensures w.4 at (record { same = refl; left = c.take_seat.ensures.left }) c.in-At.is in
+    let a = acts c.args.p.now.script w.0 w.1 c.args.self.now (record c.args.self.now { seats = c.take_seat.new.seats }) w.2 c.args.i c.in-At.here c.in-Some.seat c.open-batch.result w.3 c.games_come.ensures c.reached_is_sound.ensures w.4 at (record { same = refl; left = c.take_seat.ensures.left }) c.in-At.is c.open-batch.ensures in
     (w.0, w.1, w.2, a.0, w.3, a.1)
 
 pub unreachable-requires : goal.unreachable-requires
@@ -26,18 +28,26 @@ unreachable-requires g c =
     cc
 
 pub returns-in-Travel-clause-made : goal.returns-in-Travel-clause-made
-returns-in-Travel-clause-made g c = λ code U k G t.
+returns-in-Travel-clause-made g c = on_ok c.arrive.result (λ h code U k G t.
     let at = sym c.take_seat.ensures.taken ∙ c.in-Some.is in
-    c.arrive.ensures.made c.args.p.now.script code U k G (lands g.L.FinishLedger.stands c.args.p.now.script code U c.args.self.now (record c.args.self.now { seats = c.take_seat.new.seats }) k c.args.i c.in-Travel.from c.in-Travel.to c.in-Some.seat G t at (record { same = refl; left = c.take_seat.ensures.left }) c.in-Travel.is)
+    h c.args.p.now.script code U k G (lands c.args.p.now.script code U c.args.self.now (record c.args.self.now { seats = c.take_seat.new.seats }) k c.args.i c.in-Travel.from c.in-Travel.to c.in-Some.seat G t at (record { same = refl; left = c.take_seat.ensures.left }) c.in-Travel.is)) c.arrive.ensures.made
+
+pub returns-in-Travel-clause-refused : goal.returns-in-Travel-clause-refused
+returns-in-Travel-clause-refused g c = on_err c.arrive.result (λ same code U k G t.
+    let at = sym c.take_seat.ensures.taken ∙ c.in-Some.is in
+    nothing-told (lands c.args.p.now.script code U c.args.self.now (record c.args.self.now { seats = c.take_seat.new.seats }) k c.args.i c.in-Travel.from c.in-Travel.to c.in-Some.seat G t at (record { same = refl; left = c.take_seat.ensures.left }) c.in-Travel.is) c.arrive.new.self same) c.arrive.ensures.refused
+
+pub returns-in-Travel-clause-setup : goal.returns-in-Travel-clause-setup
+returns-in-Travel-clause-setup g c = on_err c.arrive.result (λ same. ap (λ (x : Machine g.row.L.Denot). x.chronicle.setup) same) c.arrive.ensures.refused
 
 pub returns-in-At-clause-made : goal.returns-in-At-clause-made
 returns-in-At-clause-made g c = on_ok c.act.result (λ h code U k G t.
     let at = sym c.take_seat.ensures.taken ∙ c.in-Some.is in
-    let a = acts g.L.FinishLedger.stands c.args.p.now.script code U c.args.self.now (record c.args.self.now { seats = c.take_seat.new.seats }) k c.args.i c.in-At.here c.in-Some.seat G c.games_come.ensures c.reached_is_sound.ensures t at (record { same = refl; left = c.take_seat.ensures.left }) c.in-At.is in
+    let a = acts c.args.p.now.script code U c.args.self.now (record c.args.self.now { seats = c.take_seat.new.seats }) k c.args.i c.in-At.here c.in-Some.seat c.open-batch.result G c.games_come.ensures c.reached_is_sound.ensures t at (record { same = refl; left = c.take_seat.ensures.left }) c.in-At.is c.open-batch.ensures in
     h code U k a.0 G a.1) c.act.ensures.made
 
 pub returns-in-At-clause-refused : goal.returns-in-At-clause-refused
 returns-in-At-clause-refused g c = on_err c.act.result (λ h code U k G t.
     let at = sym c.take_seat.ensures.taken ∙ c.in-Some.is in
-    let a = acts g.L.FinishLedger.stands c.args.p.now.script code U c.args.self.now (record c.args.self.now { seats = c.take_seat.new.seats }) k c.args.i c.in-At.here c.in-Some.seat G c.games_come.ensures c.reached_is_sound.ensures t at (record { same = refl; left = c.take_seat.ensures.left }) c.in-At.is in
+    let a = acts c.args.p.now.script code U c.args.self.now (record c.args.self.now { seats = c.take_seat.new.seats }) k c.args.i c.in-At.here c.in-Some.seat c.open-batch.result G c.games_come.ensures c.reached_is_sound.ensures t at (record { same = refl; left = c.take_seat.ensures.left }) c.in-At.is c.open-batch.ensures in
     h code U k a.0 G a.1) c.act.ensures.refused

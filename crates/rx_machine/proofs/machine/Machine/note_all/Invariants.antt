@@ -3,8 +3,8 @@ use Rattle.rx_rules.specs.Code.{Block}
 use Rattle.rx_rules.specs.Run.{Given}
 use Rattle.rx_rules.specs.Picked.{Game, tree_in}
 use Rattle.rx_rank.specs.Numbers.{Ascends}
-use Rattle.rx_nodes.specs.Shape.{Shape}
-use Rattle.rx_seats.specs.Slots.{seat_at}
+use Rattle.rx_syntax.specs.Shape.{Shape}
+use Rattle.rx_machine.specs.Slots.{seat_at}
 use Rattle.rx_machine.specs.Holds.{CanTurn}
 use Rattle.rx_machine.specs.Picking.{slot_able, is_listed}
 use Rattle.rx_machine.proofs.machine.Machine.note_all.Given as goal
@@ -13,8 +13,7 @@ use Rattle.rx_machine.proofs.machine.Machine.note_all.Given as goal
 abbrev pub invariant-loop-i : goal.invariant-loop-i
 invariant-loop-i g l =
     (l.self ≡ record l.initial.self { ready = l.self.ready })
-    × (l.self.ready.origins ≡ l.initial.self.ready.origins)
-    × (l.self.ready.tasks.room ≡ l.initial.self.ready.tasks.room)
-    × (Ascends 0 l.initial.self.ready.tasks.members → Ascends 0 l.self.ready.tasks.members)
-    × ((shape : Shape) (code : Block) (U : Given) (G : Game) → CanTurn g.L.FinishLedger.stands shape code U l.initial.self G → (n : ℕ) → n < l.i → is_listed n l.self.ready.tasks.members ≡ slot_able (tree_in U G) (seat_at l.initial.self.seats.items n))
-    × ((n : ℕ) → l.i ≤ n → is_listed n l.self.ready.tasks.members ≡ is_listed n l.initial.self.ready.tasks.members)
+    × (l.self.ready.room ≡ l.initial.self.ready.room)
+    × (Ascends 0 l.initial.self.ready.members → Ascends 0 l.self.ready.members)
+    × ((shape : Shape) (code : Block) (U : Given) (G : Game) → CanTurn shape code U l.initial.self G → (n : ℕ) → n < l.i → is_listed n l.self.ready.members ≡ slot_able (tree_in U G) (seat_at l.initial.self.seats.items n))
+    × ((n : ℕ) → l.i ≤ n → is_listed n l.self.ready.members ≡ is_listed n l.initial.self.ready.members)

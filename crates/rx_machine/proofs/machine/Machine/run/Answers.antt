@@ -13,14 +13,14 @@ pub unreachable-requires : goal.unreachable-requires
 unreachable-requires g c =
     let w = c.requires.game c.if-self.false in
     let r = c.loop-made.invariant.2 w.0 w.1 w.2 w.3 in
-    let few : c.loop-made._made ≤ 400055 = run-stops g.L.FinishLedger.stands c.args.p.now.script w.0 w.1 (g.P.Picks.number c.args.picks.now) w.2 c.loop-made.self c.loop-made._made c.loop-made.invariant.0 c.games_come.ensures r in
+    let few : c.loop-made._made ≤ 400055 = run-stops c.args.p.now.script w.0 w.1 (g.P.Picks.number c.args.picks.now) w.2 c.loop-made.self c.loop-made._made c.loop-made.invariant.0 c.games_come.ensures r in
     omega (arith, few, c.loop-made-test.false)
 
 pub loop-made-init : goal.loop-made-init
 loop-made-init g c = (
   0,
   λ j. (let e : j ≡ 0 + j = omega arith in ap (g.P.Picks.number c.args.picks.now) e),
-  λ code U G h. run-begins g.L.FinishLedger.stands c.args.p.now.script code U (g.P.Picks.number c.args.picks.now) G c.args.self h,
+  λ code U G h. run-begins c.args.p.now.script code U (g.P.Picks.number c.args.picks.now) G c.args.self h,
 )
 
 pub loop-made-preserved : goal.loop-made-preserved
@@ -34,7 +34,7 @@ loop-made-preserved g c =
       λ code U G h.
           let r = c.loop-made.invariant.2 code U G h in
           let z : used + 0 ≡ used = omega arith in
-          run-goes g.L.FinishLedger.stands c.args.p.now.script code U (number c.args.picks.now) G c.loop-made.self c.make_turn.new.self i used (number c.loop-made.picks 0) moved.0 c.games_come.ensures r (c.loop-made.invariant.1 0 ∙ ap (number c.args.picks.now) z) (moved.1 code U r.game r.holds),
+          run-goes c.args.p.now.script code U (number c.args.picks.now) G c.loop-made.self c.make_turn.new.self i used (number c.loop-made.picks 0) moved.0 c.games_come.ensures r (c.loop-made.invariant.1 0 ∙ ap (number c.args.picks.now) z) (moved.1 code U r.game r.holds),
     )
 
 pub returns-then-not-branch-clause-ran : goal.returns-then-not-branch-clause-ran

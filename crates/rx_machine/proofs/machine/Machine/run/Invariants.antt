@@ -11,4 +11,4 @@ abbrev pub invariant-loop-made : goal.invariant-loop-made
 invariant-loop-made g l =
     (used : ℕ)
     × ((j : ℕ) → g.P.Picks.number l.picks j ≡ g.P.Picks.number l.initial.picks (used + j))
-    × ((code : Block) (U : Given) (G : Game) → Holds g.L.FinishLedger.stands l.p.script code U l.initial.self G → RunTo g.L.FinishLedger.stands l.p.script code U (g.P.Picks.number l.initial.picks) G l.self l._made used)
+    × ((code : Block) (U : Given) (G : Game) → Holds l.p.script code U l.initial.self G → RunTo l.p.script code U (g.P.Picks.number l.initial.picks) G l.self l._made used)

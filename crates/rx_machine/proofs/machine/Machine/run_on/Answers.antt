@@ -1,6 +1,6 @@
 use Rattle.std.proofs.Common.{◌≤◌, ◌+◌, Option, subst, arith}
 use Rattle.rx_runs.specs.Steps.{steps}
-use Rattle.rx_plan.specs.declared.step.Next.{Next}
+use Rattle.rx_history.specs.declared.step.Next.{Next}
 use Rattle.rx_machine.specs.Inside.Requests.{AfterStep}
 use Rattle.rx_machine.proofs.Stepping.{same, same-twice, few-now}
 use Rattle.rx_machine.proofs.Requested.{any_err}
@@ -20,14 +20,14 @@ unreachable-requires g c =
 
 pub loop-made-init : goal.loop-made-init
 loop-made-init g c =
-    (same c.args.self.now, λ code U k q G a. (q, a, few-now g.L.FinishLedger.stands c.args.p.now.script code U c.args.self.now k c.args.i c.args.here q c.args.seat.now G c.few_steps_are_left.ensures c.going_sinks.ensures a a.but.shares.on.few))
+    (same c.args.self.now, λ code U k q G a. (q, a, few-now a c.few_steps_are_left.ensures c.going_sinks.ensures a.but.shares.on.few))
 
 pub loop-made-preserved : goal.loop-made-preserved
 loop-made-preserved g c = (
   same-twice c.args.self.now c.loop-made.self c.step.new.self c.loop-made.invariant.0 c.step.ensures.same,
   λ code U k q G a.
       let r = c.loop-made.invariant.1 code U k q G a in
-      let on = subst (λ (o : Option Next). AfterStep g.L.FinishLedger.stands c.args.p.now.script code U c.step.new.self k c.args.i c.args.here r.0 c.step.new.seat G o) c.in-None.is (c.in_ok-next.ensures.next code U k r.0 G r.1) in
+      let on = subst (λ (o : Option Next). AfterStep c.args.p.now.script code U c.step.new.self k c.args.i c.args.here r.0 c.step.new.mover G o) c.in-None.is (c.in_ok-next.ensures.next code U k r.0 G r.1) in
       let was : steps r.0.term + c.loop-made._made ≤ 300000 = r.2 in
       let less : steps on.0.term + 1 ≤ steps r.0.term = on.2 in
       (on.0, on.1, omega (arith, was, less)),
@@ -36,7 +36,7 @@ loop-made-preserved g c = (
 pub returns-in-Some-clause-next : goal.returns-in-Some-clause-next
 returns-in-Some-clause-next g c = λ code U k q G a.
     let r = c.loop-made.invariant.1 code U k q G a in
-    let on = subst (λ (o : Option Next). AfterStep g.L.FinishLedger.stands c.args.p.now.script code U c.step.new.self k c.args.i c.args.here r.0 c.step.new.seat G o) c.in-Some.is (c.in_ok-next.ensures.next code U k r.0 G r.1) in
+    let on = subst (λ (o : Option Next). AfterStep c.args.p.now.script code U c.step.new.self k c.args.i c.args.here r.0 c.step.new.mover G o) c.in-Some.is (c.in_ok-next.ensures.next code U k r.0 G r.1) in
     (r.0, on.0, on.1)
 
 pub returns-in-Some-clause-same : goal.returns-in-Some-clause-same

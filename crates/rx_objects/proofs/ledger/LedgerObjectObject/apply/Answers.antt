@@ -3,8 +3,8 @@ use Rattle.rx_rules.specs.declared.entries.Entry.{Entry}
 use Rattle.rx_history.specs.declared.setup.Setup.{Setup}
 use Rattle.atomic_table.specs.Seated.{TableId}
 use Rattle.rx_ledger.specs.declared.asks.Reply.TheVariants.{NoMemory}
-use Rattle.rx_parts_book.specs.declared.items.EntryItem.{EntryItem}
-use Rattle.rx_parts_book.specs.Histories.{event_named}
+use Rattle.rx_parts.specs.declared.items.EntryItem.{EntryItem}
+use Rattle.rx_parts.specs.Histories.{event_named}
 use Rattle.rx_objects.specs.declared.ledger.LedgerReply.{LedgerReply}
 use Rattle.rx_objects.specs.Mentioned.{items_called, item_for, events_new, entries_in}
 use Rattle.rx_objects.specs.Noted.{Notes, NoteSuits, asked_place, with_note}

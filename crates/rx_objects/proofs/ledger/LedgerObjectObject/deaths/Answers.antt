@@ -1,8 +1,8 @@
 use Rattle.std.proofs.Common.{◌∙◌, ap, sym}
 use Rattle.rx_book.specs.History.{has_death}
-use Rattle.rx_ledger.specs.Told.{dies_in}
-use Rattle.rx_parts_book.specs.declared.items.EntryItem.{EntryItem}
-use Rattle.rx_parts_book.specs.Deaths.{place_shown}
+use Rattle.rx_chronicle.specs.Told.{dies_in}
+use Rattle.rx_parts.specs.declared.items.EntryItem.{EntryItem}
+use Rattle.rx_parts.specs.Deaths.{place_shown}
 use Rattle.rx_objects.proofs.Lines.{deaths_same}
 use Rattle.rx_objects.specs.Mentioned.{items_called}
 use Rattle.rx_objects.proofs.ledger.LedgerObjectObject.deaths.Goals as goal

@@ -3,8 +3,8 @@ use Rattle.std.proofs.lemmas.List.{append-nil}
 use Rattle.rx_book.specs.declared.passes.Note.{Note}
 use Rattle.rx_book.specs.Named.{BookName}
 use Rattle.rx_book.specs.Passes.{view_of}
-use Rattle.rx_parts_book.specs.declared.items.EntryItem.{EntryItem}
-use Rattle.rx_parts_book.specs.declared.items.EventItem.{EventItem}
+use Rattle.rx_parts.specs.declared.items.EntryItem.{EntryItem}
+use Rattle.rx_parts.specs.declared.items.EventItem.{EventItem}
 use Rattle.rx_objects.specs.declared.ledger.LedgerFixed.{LedgerFixed}
 use Rattle.rx_objects.specs.declared.place.PlaceFixed.{PlaceFixed}
 use Rattle.rx_objects.specs.Place.{events_called, items_at, PlaceView, PlaceKeeps, PlaceFits, CameBack, StoreAnswers}

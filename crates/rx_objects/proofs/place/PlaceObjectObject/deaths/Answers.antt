@@ -1,6 +1,6 @@
 use Rattle.std.proofs.Common.{None, [], ◌∙◌, sym}
 use Rattle.rx_book.proofs.Masks.{has_bit-deaths_in}
-use Rattle.rx_parts_book.specs.declared.items.EventItem.{EventItem}
+use Rattle.rx_parts.specs.declared.items.EventItem.{EventItem}
 use Rattle.rx_objects.proofs.Places.{none_dies}
 use Rattle.rx_objects.proofs.place.PlaceObjectObject.deaths.Goals as goal
 

@@ -4,7 +4,7 @@ use Rattle.rx_rules.specs.Fold.{tree_of}
 use Rattle.rx_rules.specs.Run.{IsDue}
 use Rattle.rx_kills.specs.Least.{entry_of}
 use Rattle.rx_kills.specs.declared.schedule.Due.{Due}
-use Rattle.rx_ledger.specs.Keeping.{left_to_join}
+use Rattle.rx_chronicle.specs.Told.{left_to_join}
 use Rattle.rx_verify.proofs.Audited.{strikes, death_on, joins, room_after, joins_with_room, join_on, made_so, rest_so}
 use Rattle.rx_verify.proofs.audit.Audit.pass.Goals as goal
 use Rattle.rx_verify.proofs.audit.Audit.pass.Goals.{in-Death, in-Join}

@@ -4,7 +4,7 @@ use Rattle.rx_rules.specs.declared.entries.Entry.TheVariants.{Root}
 use Rattle.rx_rules.specs.Entries.{Allowed}
 use Rattle.rx_rules.specs.Fold.{tree_of}
 use Rattle.rx_finish.specs.declared.ledger.Outcome.{Outcome}
-use Rattle.rx_ledger.specs.Keeping.{left_to_join}
+use Rattle.rx_chronicle.specs.Told.{left_to_join}
 use Rattle.rx_verify.proofs.Agreeing.{refusing}
 use Rattle.rx_verify.proofs.Audited.{kept, root_on, root_decides, root_refused}
 use Rattle.rx_verify.proofs.audit.Audit.root.Goals as goal

@@ -1,0 +1,12 @@
+pub mod Pushing
+pub mod Ended
+pub mod Stepped
+pub mod Deaths
+pub mod Counting
+pub mod Setting
+pub mod Hanging
+pub mod Opened
+pub mod Granting
+pub mod Noted
+pub mod Linking
+pub mod Uncovers

@@ -1,0 +1,71 @@
+// The releases.
+ghost use Rattle.std.specs.Prelude.{◌≡◌, ◌≤◌, length, vec_capacity, IfErr, OnOk, OnErr};
+ghost use Rattle.rx_finish.specs.Callers.{MayAskRelease};
+ghost use Rattle.rx_finish.specs.Calls.{IsHindered};
+ghost use Rattle.rx_chronicle.specs.Requests.{tree_told, IsReady, Replied, RootDone, IsRootRefused};
+
+use crate::chronicle::Chronicle;
+use crate::entry::add;
+use crate::notes::faults_of;
+use rx_base::{Batch, Fault, Faults};
+use rx_finish::{Caller, FinishLedger, LedgerFault, Outcome};
+use rx_rules::{Act, Entry};
+
+impl<L: FinishLedger> Chronicle<L> {
+    /// Releases the scope at which the caller waits.
+    pub fn release(&mut self, who: Caller, batch: &mut Batch) -> Result<Outcome, LedgerFault>
+        requires ready { IsReady self.old }
+        requires asks { MayAskRelease (tree_told self.old) who }
+        ensures answer { Replied self.old who (IsHindered (tree_told self.old) who.inner) batch.old
+            (λ o. Act.Release who.inner o.lost o.masked o.thrown) result self.new }
+        ensures back { OnErr result (batch.new ≡ batch.old) }
+    {
+        let scope = who.inner;
+        let Ok(room) = Vec::with_capacity(self.alloc, faults_of(&self.notes, scope) as usize) else {
+            return Err(LedgerFault::NoMemory);
+        };
+        let outcome = self.ledger.release(who)?;
+        let thrown = copy_into(&outcome.thrown, room);
+        let act = Act::Release {
+            scope,
+            lost: outcome.lost,
+            masked: outcome.masked,
+            thrown,
+        };
+        add(&mut self.history, self.alloc, who.task, act, batch);
+        Ok(outcome)
+    }
+
+    /// The host's release of the root. Once that is done, it changes nothing.
+    pub fn root(&mut self) -> Result<(), LedgerFault>
+        requires ready { IsReady self.old }
+        ensures done { OnOk result (RootDone self.old self.new) }
+        ensures refused { IfErr result (IsRootRefused (tree_told self.old)) }
+        ensures same { OnErr result (self.new ≡ self.old) }
+    {
+        rx_sound::root_stands_until_released();
+        if self.ended {
+            return Ok(());
+        }
+        let outcome = self.ledger.release_root()?;
+        self.history.add(Entry::Root {
+            lost: outcome.lost,
+            masked: outcome.masked,
+            thrown: outcome.thrown,
+        });
+        self.ended = true;
+        Ok(())
+    }
+}
+
+/// A copy of faults, for which there is room. It takes no memory.
+fn copy_into(thrown: &Faults, mut room: Vec<Fault>) -> Faults
+    requires empty { length room.items ≡ 0 }
+    requires room { length thrown.now ≤ vec_capacity room }
+    ensures { result ≡ thrown.now }
+{
+    for i in 0..thrown.len() {
+        room.push_reserved(thrown.item(i));
+    }
+    Faults::from_vec(room)
+}

@@ -1,0 +1,27 @@
+use Rattle.std.proofs.Common.{◌≡◌, ap, subst, refl, List, ℕ, None}
+use Rattle.rx_rules.specs.declared.entries.Act.TheVariants.{Arrive as Does}
+use Rattle.rx_finish.specs.declared.ledger.Caller.{Caller}
+use Rattle.rx_finish.specs.Calls.{landing}
+use Rattle.rx_ticket.specs.declared.tickets.AnyTicket.TheVariants.{Moving}
+use Rattle.rx_history.specs.declared.asks.Ask.TheVariants.{Arrive}
+use Rattle.rx_chronicle.specs.Requests.{tree_told, Granted, IsRefused, NoWait}
+use Rattle.rx_ledger.specs.Inside.Doing.{request_of}
+use Rattle.rx_ledger.proofs.Replying.{appends, did, refused, answered_as}
+use Rattle.rx_ledger.proofs.moving.arrive.Goals as goal
+
+pub returns-in-Ok : goal.returns-in-Ok
+returns-in-Ok g c =
+    let h = c.args.chronicle.now in
+    let h' = c.arrive.new.self in
+    let who = c.args.ticket in
+    let granted = subst (λ (w : Caller). Granted h w (Does (landing w.place)) c.args.batch h') c.caller.ensures.who c.in-Ok.ensures.answer in
+    did h h' _ _ who _ c.args.batch granted (record { who = who; asked = refl; entry = appends h h' who _ c.args.batch granted; ticket_is = c.landed.ensures })
+
+pub returns-in-Err : goal.returns-in-Err
+returns-in-Err g c =
+    let h = c.args.chronicle.now in
+    let h' = c.arrive.new.self in
+    let who = c.args.ticket in
+    let no = subst (λ (w : Caller). IsRefused (tree_told h) w NoWait c.in-Err.fault × (h' ≡ h)) c.caller.ensures.who c.in-Err.ensures.answer in
+    answered_as h h' _ _ c.in-Err.fault _ c.refused.ensures (ap (λ (b : List (List ℕ)). request_of (Moving who) Arrive b None) c.in-Err.ensures.back)
+    (refused h h' _ who NoWait c.in-Err.fault refl (λ p w. absurd w.1) no)

@@ -1,6 +1,0 @@
-use Rattle.std.proofs.Common.{◌≡◌, []}
-use Rattle.rx_lock.specs.Latched.{idle}
-use Rattle.rx_lock.proofs.keyed_lock.Lock.lock.Given as goal
-
-abbrev pub invariant-loop : goal.invariant-loop
-invariant-loop g l = (l.seat.table_id ≡ l.initial.seat.table_id) × (l.seat.me ≡ (idle l.shared.key, []))

@@ -1,0 +1,91 @@
+// The turns that wait for a scope, release it, or end the task.
+ghost use Rattle.std.specs.Prelude.{◌≡◌, ℕ, List, OnOk, OnErr};
+ghost use Rattle.rx_base.specs.declared.values.Fault.{Fault};
+ghost use Rattle.rx_rules.specs.Terms.{Waits, Releases, Done};
+ghost use Rattle.rx_syntax.specs.Shape.{Shape};
+ghost use Rattle.rx_chronicle.specs.Requests.{IsReady};
+ghost use Rattle.rx_machine.specs.Inside.Games.{SomeAsking, EachMore};
+ghost use Rattle.rx_machine.specs.Inside.Acts.{HasAsked};
+
+use crate::machine::Machine;
+use crate::seat::{Mover, go_on, no_memory, put_back};
+use rx_base::{Faults, NoMemory};
+use rx_check::Program;
+use rx_control::faults_raised;
+use rx_finish::FinishLedger;
+
+impl<L: FinishLedger> Machine<L> {
+    /// Ends a turn by the wait for a finish whose body has ended.
+    pub(crate) fn wait(&mut self, p: &Program, i: usize, mover: Mover) -> Result<(), NoMemory>
+        requires ready { IsReady self.old.chronicle }
+        requires game { SomeAsking p.now.script self.old i mover (λ d. (faults : List Fault) × (d ≡ Waits faults)) }
+        ensures made { OnOk result (HasAsked p.now.script self.old self.new i mover (λ d. (faults : List Fault) × (d ≡ Waits faults))) }
+        ensures refused { OnErr result (self.new ≡ self.old) }
+        ensures tasks { self.new.ready ≡ self.old.ready }
+    {
+        let Mover {
+            mut seat,
+            mut batch,
+        } = mover;
+        let thrown = seat.control.take_faults(self.alloc);
+        go_on(&mut seat.control, p, Faults::open(self.alloc))?;
+        match self.chronicle.wait(seat.who, thrown, &mut batch) {
+            Ok(()) => seat.waits = true,
+            Err((fault, _)) => return Err(no_memory(fault)),
+        }
+        put_back(&mut self.seats, i, seat);
+        Ok(())
+    }
+
+    /// Ends a turn by the release of the scope at which the task waits.
+    pub(crate) fn release(&mut self, p: &Program, i: usize, mover: Mover) -> Result<(), NoMemory>
+        requires ready { IsReady self.old.chronicle }
+        requires game { SomeAsking p.now.script self.old i mover (λ d. d ≡ Releases) }
+        ensures made { OnOk result (HasAsked p.now.script self.old self.new i mover (λ d. d ≡ Releases)) }
+        ensures refused { OnErr result (EachMore p.now.script self.old self.new i mover (λ d. d ≡ Releases)) }
+        ensures setup { OnErr result (self.new.chronicle.setup ≡ self.old.chronicle.setup) }
+        ensures tasks { self.new.ready ≡ self.old.ready }
+    {
+        rx_runs::games_come();
+        rx_sound::reached_is_sound();
+        rx_sound::release_keeps_others();
+        rx_sound::release_pops_newest();
+        rx_chronicle::laws::release_uncovers_parent();
+        let Mover {
+            mut seat,
+            mut batch,
+        } = mover;
+        let parent = self.chronicle.note(seat.who.inner).parent;
+        let outcome = match self.chronicle.release(seat.who, &mut batch) {
+            Ok(outcome) => outcome,
+            Err(fault) => return Err(no_memory(fault)),
+        };
+        let raised = faults_raised(self.alloc, outcome.lost, &outcome.thrown)?;
+        go_on(&mut seat.control, p, raised)?;
+        seat.waits = false;
+        seat.who.inner = parent;
+        put_back(&mut self.seats, i, seat);
+        Ok(())
+    }
+
+    /// Ends a turn by the end of the task, whose slot stays empty.
+    pub(crate) fn end(&mut self, mover: Mover) -> Result<(), NoMemory>
+        requires ready { IsReady self.old.chronicle }
+        requires game { (shape : Shape) × (i : ℕ)
+            × SomeAsking shape self.old i mover (λ d. (faults : List Fault) × (d ≡ Done faults)) }
+        ensures made { OnOk result ((shape : Shape) (i : ℕ)
+            → HasAsked shape self.old self.new i mover (λ d. (faults : List Fault) × (d ≡ Done faults))) }
+        ensures refused { OnErr result (self.new ≡ self.old) }
+        ensures tasks { self.new.ready ≡ self.old.ready }
+    {
+        let Mover {
+            mut seat,
+            mut batch,
+        } = mover;
+        let thrown = seat.control.take_faults(self.alloc);
+        match self.chronicle.end(seat.who, thrown, &mut batch) {
+            Ok(()) => Ok(()),
+            Err((fault, _)) => Err(no_memory(fault)),
+        }
+    }
+}

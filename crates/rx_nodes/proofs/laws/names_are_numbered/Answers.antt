@@ -1,5 +1,0 @@
-use Rattle.rx_nodes.proofs.Mentioned.{are-numbered}
-use Rattle.rx_nodes.proofs.laws.names_are_numbered.Goals as goal
-
-pub returns : goal.returns
-returns c = are-numbered

@@ -1,5 +1,0 @@
-use Rattle.rx_parts_book.proofs.Fitting.{call-fits}
-use Rattle.rx_parts_book.proofs.call_fits.Goals as goal
-
-pub returns : goal.returns
-returns c = call-fits

@@ -1,4 +1,0 @@
-pub mod Deaths
-pub mod Histories
-pub mod Laws
-pub mod Inside

@@ -1,5 +1,0 @@
-use Rattle.rx_players.proofs.Telling.{answers_tells}
-use Rattle.rx_players.proofs.answering.event_tells_call.Goals as goal
-
-pub returns : goal.returns
-returns c = answers_tells

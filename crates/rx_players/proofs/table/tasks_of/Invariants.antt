@@ -1,6 +1,0 @@
-use Rattle.std.proofs.Common.{◌≤◌, ◌<◌, ℕ}
-use Rattle.rx_players.specs.Events.{IsOf}
-use Rattle.rx_players.proofs.table.tasks_of.Given as goal
-
-abbrev pub invariant-loop-e : goal.invariant-loop-e
-invariant-loop-e l = (l.count ≤ l.tasks) × ((t e : ℕ) → e < l.e → t < l.tasks → IsOf t l.journal.events e → t < l.count)

@@ -1,5 +1,0 @@
--- What contracts of private functions say; a reader of the public contracts needs none of it.
-pub mod Rows
-pub mod Steps
-pub mod Requests
-pub mod Admitted

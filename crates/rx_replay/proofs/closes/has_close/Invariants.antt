@@ -1,7 +1,0 @@
-use Rattle.std.proofs.Common.{◌≡◌, [], take}
-use Rattle.std.specs.List.{filter_map}
-use Rattle.rx_rules.specs.Run.{close_in}
-use Rattle.rx_replay.proofs.closes.has_close.Given as goal
-
-abbrev pub invariant-loop-i : goal.invariant-loop-i
-invariant-loop-i l = filter_map close_in (take l.i l.journal.events) ≡ []

@@ -1,5 +1,0 @@
-use Rattle.rx_replay.proofs.Judged.{flaw_is_bad}
-use Rattle.rx_replay.proofs.laws.first_flaw_is_first_bad.Goals as goal
-
-pub returns : goal.returns
-returns c = flaw_is_bad

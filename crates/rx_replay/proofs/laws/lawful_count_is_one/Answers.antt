@@ -1,5 +1,0 @@
-use Rattle.rx_replay.proofs.Counts.{lawful_count_is_one}
-use Rattle.rx_replay.proofs.laws.lawful_count_is_one.Goals as goal
-
-pub returns : goal.returns
-returns c = lawful_count_is_one

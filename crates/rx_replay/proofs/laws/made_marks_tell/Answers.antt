@@ -1,5 +1,0 @@
-use Rattle.rx_replay.proofs.Judged.{made_marks_tell}
-use Rattle.rx_replay.proofs.laws.made_marks_tell.Goals as goal
-
-pub returns : goal.returns
-returns c = made_marks_tell

@@ -1,0 +1,11 @@
+pub mod Lexical
+pub mod Tokens
+pub mod Scans
+pub mod Tables
+pub mod Names
+pub mod Texts
+pub mod Shape
+pub mod Grammar
+pub mod Arenas
+pub mod Whole
+pub mod Named

@@ -1,4 +1,0 @@
-pub mod Held
-pub mod Spine
-pub mod Steps
-pub mod Laws

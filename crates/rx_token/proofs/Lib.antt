@@ -1,6 +1,0 @@
-pub mod Lists
-pub mod Naming
-pub mod Scanning
-pub mod OneScan
-pub mod ReadBack
-pub mod Spelling

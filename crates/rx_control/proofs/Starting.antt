@@ -1,9 +1,12 @@
 -- A control at the front of a block.
-use Rattle.std.proofs.Common.{◌≡◌, ℕ, List, [], ◌∷◌, ◌++◌, None, refl, ap, sym, ◌∙◌, append-nil}
-use Rattle.rx_rules.specs.Code.{Block}
-use Rattle.rx_rules.specs.Terms.{Empty, items}
+use Rattle.std.specs.Prelude.{MatchOption}
+use Rattle.std.proofs.Common.{◌≡◌, ℕ, List, [], ◌∷◌, ◌++◌, Option, Some, None, refl, ap, sym, ◌∙◌, subst, append-nil}
+use Rattle.rx_rules.specs.Code.{Stmt as Tree, Block}
+use Rattle.rx_rules.specs.Terms.{Term, Empty, items, stmt_child}
 use Rattle.rx_syntax.specs.declared.nodes.BlockId.{BlockId}
-use Rattle.rx_syntax.specs.Shape.{Shape, BlockStands}
+use Rattle.rx_syntax.specs.declared.nodes.Stmt.{Stmt}
+use Rattle.rx_syntax.specs.Shape.{Shape, StmtIs, BlockStands}
+use Rattle.rx_control.specs.Seeds.{BodyIs}
 use Rattle.rx_control.specs.Levels.{More}
 use Rattle.rx_control.specs.declared.frame.Frame.{Frame}
 use Rattle.rx_control.specs.declared.frame.Frame.TheVariants.{Seq}
@@ -23,3 +26,16 @@ started s c b r h = settled-stands s c (More b (path_of c.base [] ++ []) 0 ∷ [
 
 pub empty-control : (s : Shape) (c : Control) → c.raised ≡ None → c.frames.items ≡ [] → StandsFor s c Empty
 empty-control s c r e = settled-stands s c [] None Empty r (record { levels_left = []; stands = e; settled = tt; is = refl }) refl
+
+-- a control whose frames were set for a block that begins at its path
+pub begun-at : (s : Shape) (c : Control) (x : List ℕ) (frames : List Frame) (b : Block) (t : Term) → c.base ≡ x → c.frames.items ≡ frames → c.raised ≡ None → t ≡ items b x Empty → SettlesTo s x frames None (More b (path_of x [] ++ []) 0 ∷ []) → StandsFor s c t
+begun-at s c x frames b t base is raised e h =
+    let k : SettlesTo s c.base c.frames.items None (More b (path_of c.base [] ++ []) 0 ∷ []) =
+    subst (λ (y : List ℕ). SettlesTo s y c.frames.items None (More b (path_of y [] ++ []) 0 ∷ [])) (sym base)
+    (subst (λ (fs : List Frame). SettlesTo s x fs None (More b (path_of x [] ++ []) 0 ∷ [])) (sym is) h) in
+    subst (λ (u : Term). StandsFor s c u) (ap (λ y. items b y Empty) base ∙ sym e) (started s c b raised k)
+
+-- what a statement starts begins with its body
+pub body-is : (stmt : Stmt) (body : Option BlockId) → MatchOption body ((s : Shape) (t : Tree) (x : List ℕ) → StmtIs s stmt t → stmt_child t x ≡ Empty) (λ k. (s : Shape) (t : Tree) (x : List ℕ) → StmtIs s stmt t → (b : Block) × BlockStands s k b × (stmt_child t x ≡ items b x Empty)) → (s : Shape) (t : Tree) (x : List ℕ) → StmtIs s stmt t → BodyIs s body x (stmt_child t x)
+body-is stmt None h s t x k = h s t x k
+body-is stmt (Some b) h s t x k = h s t x k

@@ -1,4 +1,5 @@
 pub mod Levels
 pub mod Stands
+pub mod Seeds
 pub mod Bound
 pub mod Inside

@@ -11,12 +11,13 @@ ghost use Rattle.rx_rules.specs.declared.entries.Act.{Act};
 ghost use Rattle.rx_syntax.specs.Shape.{Shape, Stands};
 ghost use Rattle.rx_control.specs.declared.frame.Frame.{Frame};
 ghost use Rattle.rx_control.specs.Stands.{StandsFor, path_of, Leaves, IsSame};
+ghost use Rattle.rx_control.specs.Seeds.{IsSeedOf};
 ghost use Rattle.rx_control.specs.Bound.{StepFalls};
 ghost use Rattle.rx_runs.specs.Steps.{steps};
 ghost use Rattle.rx_history.specs.Next.{next_of, carried};
 ghost use Rattle.rx_control.specs.Inside.Front.{lifted, Awaits, Due};
 
-use crate::birth::{born, start};
+use crate::birth::{Seed, born, seed_of, set_front, start};
 use crate::faults::{is_caught, one_fault};
 use crate::frame::{Frame, drop_top, enter, go_on, settle, top, unwind};
 use crate::path::{front_path, is_front_path};
@@ -148,18 +149,48 @@ impl Control {
         }
     }
 
-    /// The same, where the path of the statement that the next step begins is at hand.
-    pub fn child_at(&self, alloc: Global, p: &Program, path: Path) -> Result<Control, NoMemory>
-        requires { (t : Term) × StandsFor p.now.script self.now t × (begins t ≡ Some path) }
-        ensures stands { IfOk result (λ c. (t : Term) → StandsFor p.now.script self.now t → begins t ≡ Some path
-            → StandsFor p.now.script c (child t) × (c.vars ≡ self.now.vars)) }
-        ensures steps { (t : Term) (x : List ℕ) → begins t ≡ Some x → steps (child t) < steps t }
+    /// The seed of the task that the next step starts, with a copy of the variables; it knows as many places. The next step begins a
+    /// statement; where that starts no task, the new task has nothing to run.
+    pub fn seed(&self, alloc: Global, p: &Program) -> Result<Seed, NoMemory>
+        requires { (t : Term) × (x : List ℕ) × StandsFor p.now.script self.now t × (begins t ≡ Some x) }
+        ensures { IfOk result (λ seed. (t : Term) → StandsFor p.now.script self.now t → (x : List ℕ) → begins t ≡ Some x
+            → IsSeedOf p.now.script seed x (child t) × (seed.vars ≡ self.now.vars)) }
     {
         let script = p.script();
         match self.front() {
-            Some((block, next, _)) => self.child_of(alloc, script, block, next, path),
+            Some((block, next, _)) => {
+                let vars = self.vars.copy(alloc)?;
+                Ok(seed_of(at_hand(script, block, next), vars))
+            }
             None => unreachable!(),
         }
+    }
+
+    /// A control with nothing to run. It takes no memory.
+    pub fn idle(alloc: Global) -> Control
+        ensures { (s : Shape) → StandsFor s result Empty }
+    {
+        Control {
+            base: Path::open(alloc),
+            frames: Vec::new(alloc),
+            raised: None,
+            vars: Variables::none(alloc, 0),
+        }
+    }
+
+    /// Begins the task of a seed, which the statement with this path started, whatever this control had to run before.
+    pub fn begin(&mut self, p: &Program, seed: Seed, path: Path) -> Result<(), NoMemory>
+        requires { (t : Term) × IsSeedOf p.now.script seed path t }
+        ensures stands { OnOk result ((t : Term) → IsSeedOf p.now.script seed path t → StandsFor p.now.script self.new t) }
+        ensures vars { OnOk result (self.new.vars ≡ seed.vars) }
+    {
+        self.frames.clear();
+        self.frames.reserve(1)?;
+        set_front(p.script(), &mut self.frames, seed.body);
+        self.base = path;
+        self.raised = None;
+        self.vars = seed.vars;
+        Ok(())
     }
 
     // The control of the task that a statement of a block starts, with a copy of the variables, where the statement's path is at hand.

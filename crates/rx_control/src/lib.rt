@@ -11,6 +11,7 @@ mod frame;
 mod path;
 mod statement;
 
+pub use birth::Seed;
 pub use control::Control;
 pub use faults::faults_raised;
 pub use rx_plan::{CellOp, Next, Variables, Want};

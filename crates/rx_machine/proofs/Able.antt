@@ -12,8 +12,9 @@ use Rattle.rx_syntax.specs.Shape.{Shape}
 use Rattle.rx_machine.specs.declared.seat.Seat.{Seat}
 use Rattle.rx_machine.specs.Slots.{row_of, seat_at, seat_in, IsSeat, SlotIs}
 use Rattle.rx_machine.proofs.Asking.{seat-found, seat_asks, seat_unstruck}
+use Rattle.rx_rules.specs.declared.entries.Entry.{Entry}
 
-module _ {shape : Shape} {T : Tree} {n : ℕ} {q : Player} {seat : Seat} (s : IsSeat shape T n q seat) where
+module _ {shape : Shape} {es : List Entry} {T : Tree} {n : ℕ} {q : Player} {seat : Seat} (s : IsSeat shape es T n q seat) where
   -- a task that waits may ask
   pub waiter_asks : WaiterOwns → Reached T → HasNumbers T → seat.waits ≡ true → MayAskRelease T seat.who
   waiter_asks law reached numbers waits =
@@ -40,5 +41,5 @@ pub none_at : (items : List (Option Seat)) (i : ℕ) (now : Option Seat) → i <
 none_at items i now inside at is = ap seat_in (slice_get-get_or items i now inside ∙ ap (λ o. Some o) (sym at)) ∙ is
 
 -- what a slot with a seat is
-pub slot_here : (shape : Shape) (T : Tree) (ps : List Player) (n : ℕ) (o : Option Seat) (seat : Seat) → o ≡ Some seat → SlotIs shape T ps n o → SlotIs shape T ps n (Some seat)
-slot_here shape T ps n o seat e h = subst (λ (v : Option Seat). SlotIs shape T ps n v) e h
+pub slot_here : (shape : Shape) (es : List Entry) (T : Tree) (ps : List Player) (n : ℕ) (o : Option Seat) (seat : Seat) → o ≡ Some seat → SlotIs shape es T ps n o → SlotIs shape es T ps n (Some seat)
+slot_here shape es T ps n o seat e h = subst (λ (v : Option Seat). SlotIs shape es T ps n v) e h

@@ -31,7 +31,7 @@ use Rattle.rx_syntax.specs.Shape.{Shape}
 use Rattle.rx_machine.specs.declared.machine.Machine.{Machine}
 use Rattle.rx_machine.specs.declared.seat.Seat.{Seat}
 use Rattle.rx_machine.specs.declared.seat.Mover.{Mover}
-use Rattle.rx_machine.specs.Slots.{row_of, seat_at, seat_in, live_task, SlotIs, IsSeat}
+use Rattle.rx_machine.specs.Slots.{row_of, seat_at, seat_in, live_task, SlotIs, IsSeat, seat_of}
 use Rattle.rx_store.specs.Kepts.{StoresAre}
 use Rattle.rx_machine.specs.Holds.{Shares, Seated, Acting, LeadsTo}
 use Rattle.rx_machine.specs.Refusals.{HasMade}
@@ -87,7 +87,7 @@ pub record Went {L : Type 0} (m m' : Machine L) (e : Entry) : Type 0 where
   pub stores : m'.stores ≡ m.stores
 
 -- what it has whose chronicle has granted an act
-pub went : {L : Type 0} (m m' : Machine L) {who : Caller} {act : Act} {batch : List (List ℕ)} → m' ≡ record m { chronicle = m'.chronicle; seats = m'.seats } → Granted m.chronicle who act batch m'.chronicle → Went m m' (Step who.task act batch)
+pub went : {L : Type 0} (m m' : Machine L) {who : Caller} {act : Act} {batch : List (List ℕ)} → m' ≡ record m { chronicle = m'.chronicle; seats = m'.seats; idle = m'.idle } → Granted m.chronicle who act batch m'.chronicle → Went m m' (Step who.task act batch)
 went {L = L} m m' on did = record { told = did.told; failed = ap (λ (x : Machine L). x.failed) on; stores = ap (λ (x : Machine L). x.stores) on }
 
 -- the chronicle folds to the tree of the game
@@ -109,35 +109,35 @@ seat_back xs i s h = ap seat_in (get-set xs i (Some s) h)
 pub seat_other : (xs : List (Option Seat)) (i n : ℕ) (o : Option Seat) → n ≢ i → seat_at (slice_set xs i o) n ≡ seat_at xs n
 seat_other xs i n o apart = ap seat_in (get_other xs i n o apart)
 
-module _ {L : Type 0} {shape : Shape} {code : Block} {U : Given} {m : Machine L} {k i : ℕ} {here : PlaceId} {q : Player} {mover : Mover} {G : Game} (a : Acting shape code U m k i here q mover G) (act : Act) (fits : Fits here q.term (does q.vars here.0 q.term) act) (may : AllowedAct (tree_in U G) mover.seat.who.task act) where
+module _ {L : Type 0} {shape : Shape} {code : Block} {U : Given} {m : Machine L} {k i : ℕ} {here : PlaceId} {q : Player} {mover : Mover} {G : Game} (a : Acting shape code U m k i here q mover G) (act : Act) (fits : Fits here q.term (does q.vars here.0 q.term) act) (may : AllowedAct (tree_in U G) mover.who.task act) where
   -- the turn
-  pub turned : Turn U k G true (game_after G mover.seat.who.task here q a.left a.events act)
+  pub turned : Turn U k G true (game_after G mover.who.task here q a.left a.events act)
   turned =
-      moves (row_of mover.seat) here a.began q a.store a.left a.events act (a.pick.none_due, a.pick.picked) a.gone.is_at (subst (λ (n : ℕ). slice_get G.players n ≡ Some a.began) (sym a.pick.number) a.gone.player) a.gone.store a.gone.goes fits may
+      moves (row_of (seat_of mover)) here a.began q a.store a.left a.events act (a.pick.none_due, a.pick.picked) a.gone.is_at (subst (λ (n : ℕ). slice_get G.players n ≡ Some a.began) (sym a.pick.number) a.gone.player) a.gone.store a.gone.goes fits may
 
-  entries-after : (m' : Machine L) → Went m m' (Step mover.seat.who.task act mover.batch) → m'.chronicle.entries ≡ G.entries ++ Step mover.seat.who.task act q.batch ∷ []
+  entries-after : (m' : Machine L) → Went m m' (Step mover.who.task act mover.batch) → m'.chronicle.entries ≡ G.entries ++ Step mover.who.task act q.batch ∷ []
   entries-after m' went =
       ap (λ (c : Log). c.entries) went.told
-      ∙ (ap (λ (es : List Entry). es ++ Step mover.seat.who.task act mover.batch ∷ []) a.but.shares.entries ∙ ap (λ (b : List (List ℕ)). G.entries ++ Step mover.seat.who.task act b ∷ []) a.gone.batch)
+      ∙ (ap (λ (es : List Entry). es ++ Step mover.who.task act mover.batch ∷ []) a.but.shares.entries ∙ ap (λ (b : List (List ℕ)). G.entries ++ Step mover.who.task act b ∷ []) a.gone.batch)
 
-  pub stores-after : (m' : Machine L) → Went m m' (Step mover.seat.who.task act mover.batch) → StoresAre U.heap 0 m'.stores.items (slice_set G.journals here.0 a.events)
+  pub stores-after : (m' : Machine L) → Went m m' (Step mover.who.task act mover.batch) → StoresAre U.heap 0 m'.stores.items (slice_set G.journals here.0 a.events)
   stores-after m' went = subst (λ (ss : List Kept). StoresAre U.heap 0 ss (slice_set G.journals here.0 a.events)) (ap (λ v. v.items) (sym went.stores)) a.stores
 
   -- the entry stands, whatever becomes of the seat
-  pub told-so : (m' : Machine L) → Went m m' (Step mover.seat.who.task act mover.batch) → HasMade U k G m'
+  pub told-so : (m' : Machine L) → Went m m' (Step mover.who.task act mover.batch) → HasMade U k G m'
   told-so m' went =
       record {
-        after = game_after G mover.seat.who.task here q a.left a.events act;
+        after = game_after G mover.who.task here q a.left a.events act;
         turn = turned;
         entries = entries-after m' went;
         stores = stores-after m' went;
       }
 
   -- beside the seats the machine goes on with the game
-  pub shared : (m' : Machine L) → Went m m' (Step mover.seat.who.task act mover.batch) → length m'.seats.items ≡ (made_act (tree_in U G) mover.seat.who.task act).next_task → Shares code U m' (game_after G mover.seat.who.task here q a.left a.events act)
+  pub shared : (m' : Machine L) → Went m m' (Step mover.who.task act mover.batch) → length m'.seats.items ≡ (made_act (tree_in U G) mover.who.task act).next_task → Shares code U m' (game_after G mover.who.task here q a.left a.events act)
   shared m' went slots =
       let h = a.but.shares in
-      let t : TaskId = mover.seat.who.task in
+      let t : TaskId = mover.who.task in
       record {
         on = h.on;
         comes = turns h.comes a.pick.stands turned;
@@ -148,9 +148,9 @@ module _ {L : Type 0} {shape : Shape} {code : Block} {U : Given} {m : Machine L}
       }
 
   -- An entry that starts no task: the seat goes back changed, and all others stay.
-  pub acted : (m' : Machine L) (seat' : Seat) → started_by act ≡ None → ((n : ℕ) → n ≢ i → live_task (made_act (tree_in U G) mover.seat.who.task act) n ≡ live_task (tree_in U G) n) → ((n : ℕ) → n ≢ i → (x : Task) → live_task (tree_in U G) n ≡ Some x → SameOwn (tree_in U G) (made_act (tree_in U G) mover.seat.who.task act) n) → (made_act (tree_in U G) mover.seat.who.task act).next_task ≡ (tree_in U G).next_task → IsSeat shape (made_act (tree_in U G) mover.seat.who.task act) i (played here q act) seat' → Went m m' (Step mover.seat.who.task act mover.batch) → m'.seats.items ≡ slice_set m.seats.items i (Some seat') → LeadsTo (Turn U k G true) (Seated shape code U m')
+  pub acted : (m' : Machine L) (seat' : Seat) → started_by act ≡ None → ((n : ℕ) → n ≢ i → live_task (made_act (tree_in U G) mover.who.task act) n ≡ live_task (tree_in U G) n) → ((n : ℕ) → n ≢ i → (x : Task) → live_task (tree_in U G) n ≡ Some x → SameOwn (tree_in U G) (made_act (tree_in U G) mover.who.task act) n) → (made_act (tree_in U G) mover.who.task act).next_task ≡ (tree_in U G).next_task → IsSeat shape (G.entries ++ Step mover.who.task act q.batch ∷ []) (made_act (tree_in U G) mover.who.task act) i (played here q act) seat' → Went m m' (Step mover.who.task act mover.batch) → m'.seats.items ≡ slice_set m.seats.items i (Some seat') → LeadsTo (Turn U k G true) (Seated shape code U m')
   acted m' seat' childless live own next new went back =
-      let t : TaskId = mover.seat.who.task in
+      let t : TaskId = mover.who.task in
       let T : Tree = tree_in U G in
       let T' : Tree = made_act T t act in
       let G' : Game = game_after G t here q a.left a.events act in
@@ -168,13 +168,13 @@ module _ {L : Type 0} {shape : Shape} {code : Block} {U : Given} {m : Machine L}
           shares = shared m' went length_is;
           stores = stores-after m' went;
           seats = λ n.
-              subst (λ (V : Tree). SlotIs shape V G'.players n (seat_at m'.seats.items n)) same
-              (subst (λ (xs : List (Option Seat)). SlotIs shape T' G'.players n (seat_at xs n)) (sym back)
+              subst (λ (V : Tree). SlotIs shape G'.entries V G'.players n (seat_at m'.seats.items n)) same
+              (subst (λ (xs : List (Option Seat)). SlotIs shape G'.entries T' G'.players n (seat_at xs n)) (sym back)
               (elim (same_or_not n i) [
-                | inl e ↦ subst (λ (v : ℕ). SlotIs shape T' G'.players v (seat_at (slice_set m.seats.items i (Some seat')) v)) (sym e)
-                    (subst (λ (o : Option Seat). SlotIs shape T' G'.players i o) (sym (seat_back m.seats.items i seat' a.inside)) (played here q act, mine, refl, new))
-                | inr apart ↦ subst (λ (o : Option Seat). SlotIs shape T' G'.players n o) (sym (seat_other m.seats.items i n (Some seat') apart))
-                    (slot-on shape T T' G.players G'.players n (seat_at m.seats.items n) (live n apart) (own n apart) (others n apart) (a.but.others n apart))
+                | inl e ↦ subst (λ (v : ℕ). SlotIs shape G'.entries T' G'.players v (seat_at (slice_set m.seats.items i (Some seat')) v)) (sym e)
+                    (subst (λ (o : Option Seat). SlotIs shape G'.entries T' G'.players i o) (sym (seat_back m.seats.items i seat' a.inside)) (played here q act, mine, refl, new))
+                | inr apart ↦ subst (λ (o : Option Seat). SlotIs shape G'.entries T' G'.players n o) (sym (seat_other m.seats.items i n (Some seat') apart))
+                    (slot-on shape G.entries (Step t act q.batch) T T' G.players G'.players n (seat_at m.seats.items n) (live n apart) (own n apart) (others n apart) (a.but.others n apart))
               ]));
         },
       )

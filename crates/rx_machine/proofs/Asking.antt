@@ -1,5 +1,5 @@
 -- What the machine may ask of its chronicle.
-use Rattle.std.specs.Prelude.{◌≡◌, ℕ, false, Some, None, refl}
+use Rattle.std.specs.Prelude.{List, ◌≡◌, ℕ, false, Some, None, refl}
 use Rattle.std.proofs.Common.{◌∙◌, sym, subst, inl}
 use Rattle.rx_base.specs.declared.ids.PlaceId.{PlaceId}
 use Rattle.rx_base.specs.declared.ids.TaskId.{TaskId}
@@ -27,12 +27,13 @@ use Rattle.rx_sound.specs.Held.{is_held}
 use Rattle.rx_sound.proofs.Granting.{not_held}
 use Rattle.rx_machine.proofs.Live.{live_stands, live_number}
 use Rattle.rx_machine.proofs.Acted.{of-told, of-game}
+use Rattle.rx_rules.specs.declared.entries.Entry.{Entry}
 
 -- an id is that of its number
 pub id_of : (t : TaskId) (n : ℕ) → t.0 ≡ n → t ≡ record { 0 = n }
 id_of t n e = task-is t (record { 0 = n }) e
 
-module _ {shape : Shape} {T : Tree} {n : ℕ} {q : Player} {seat : Seat} (s : IsSeat shape T n q seat) where
+module _ {shape : Shape} {es : List Entry} {T : Tree} {n : ℕ} {q : Player} {seat : Seat} (s : IsSeat shape es T n q seat) where
   pub seat-id : seat.who.task ≡ record { 0 = n }
   seat-id = id_of seat.who.task n (live_number T n (row_of seat) s.row)
 
@@ -68,11 +69,11 @@ asks-free q here d is never = not_held q.vars here q.term (λ f. never (sym is �
 
 module _ {L : Type 0} {shape : Shape} {code : Block} {U : Given} {m : Machine L} {k i : ℕ} {here : PlaceId} {q : Player} {mover : Mover} {G : Game} (a : Acting shape code U m k i here q mover G) where
   -- it may ask the chronicle
-  pub may-move : (d : Does) → does q.vars here.0 q.term ≡ d → (d ≡ Releases → ⊥) → MayAskMoving (tree_told m.chronicle) mover.seat.who
+  pub may-move : (d : Does) → does q.vars here.0 q.term ≡ d → (d ≡ Releases → ⊥) → MayAskMoving (tree_told m.chronicle) mover.who
   may-move d is never =
       let s = a.gone.seat_is in
-      of-told (λ (T : Tree). MayAskMoving T mover.seat.who) a.but.shares (seat_asks s IsMoving a.numbers (moving s here a.gone.is_at (asks-free q here.0 d is never)))
+      of-told (λ (T : Tree). MayAskMoving T mover.who) a.but.shares (seat_asks s IsMoving a.numbers (moving s here a.gone.is_at (asks-free q here.0 d is never)))
 
   -- which refuses it for want of memory alone, unless it has to wait
-  pub memory-out : (f : LedgerFault) → IsRefused (tree_told m.chronicle) mover.seat.who NoWait f → f ≡ NoMemory
-  memory-out f h = no-memory a.gone.seat_is f (of-game (λ (T : Tree). IsRefused T mover.seat.who NoWait f) a.but.shares h)
+  pub memory-out : (f : LedgerFault) → IsRefused (tree_told m.chronicle) mover.who NoWait f → f ≡ NoMemory
+  memory-out f h = no-memory a.gone.seat_is f (of-game (λ (T : Tree). IsRefused T mover.who NoWait f) a.but.shares h)

@@ -42,7 +42,7 @@ seated-on {shape = shape} {U = U} {G = G} m m' entries setup seats stores failed
         failed = failed ∙ h.shares.failed;
       };
       stores = subst (λ (ss : List Kept). StoresAre U.heap 0 ss G.journals) (ap (λ v. v.items) (sym stores)) h.stores;
-      seats = λ n. subst (λ (os : List (Option Seat)). SlotIs shape (tree_in U G) G.players n (seat_at os n)) (ap (λ v. v.items) (sym seats)) (h.seats n);
+      seats = λ n. subst (λ (os : List (Option Seat)). SlotIs shape G.entries (tree_in U G) G.players n (seat_at os n)) (ap (λ v. v.items) (sym seats)) (h.seats n);
     }
 
 -- a run has at most 16 places from the opening on
@@ -105,8 +105,8 @@ pub releasing : {L : Type 0} {shape : Shape} {code : Block} {U : Given} {m : Mac
 releasing {shape = shape} {U = U} {m = m} {G = G} sound quiets quietly none =
     let can = quietly.can in
     let T : Tree = tree_in U G in
-    let able = ready_slots shape T G.players m.seats.items m.ready.members can.holds.seats quietly.ready in
-    let rows = enabled_rows shape T G.players m.seats.items (sound T can.reached).tasks_fall can.holds.shares.slots can.holds.seats in
+    let able = ready_slots shape G.entries T G.players m.seats.items m.ready.members can.holds.seats quietly.ready in
+    let rows = enabled_rows shape G.entries T G.players m.seats.items (sound T can.reached).tasks_fall can.holds.shares.slots can.holds.seats in
     let size : length m.ready.members ≡ length (enabled T) = ap length able ∙ (able_length T 0 m.seats.items ∙ ap length rows) in
     let no_task : enabled T ≡ [] = empty-from (enabled T) (sym size ∙ none) in
     record {
@@ -133,7 +133,7 @@ pub taken : {L : Type 0} (shape : Shape) (code : Block) (U : Given) (m : Machine
 taken shape code U m G ns k i sound quietly able at =
     let can = quietly.can in
     let T : Tree = tree_in U G in
-    let rows = enabled_rows shape T G.players m.seats.items (sound T can.reached).tasks_fall can.holds.shares.slots can.holds.seats in
+    let rows = enabled_rows shape G.entries T G.players m.seats.items (sound T can.reached).tasks_fall can.holds.shares.slots can.holds.seats in
     let here = able_at T 0 m.seats.items (k % length ns) i (sym (ap (λ v. slice_get v (k % length ns)) able) ∙ at) in
     let none : i - 0 ≡ i = omega arith in
     let found : seat_at m.seats.items i ≡ Some here.0 = ap (seat_at m.seats.items) (sym none) ∙ here.2 in
@@ -151,6 +151,6 @@ pub counted : {L : Type 0} (shape : Shape) (code : Block) (U : Given) (m : Machi
 counted shape code U m G come fold sound h =
     let T : Tree = tree_in U G in
     let can = can-turn shape code U m G come fold h.seated h.unreleased in
-    let rows = enabled_rows shape T G.players m.seats.items (sound T can.reached).tasks_fall h.seated.shares.slots h.seated.seats in
-    let able = ready_slots shape T G.players m.seats.items m.ready.members h.seated.seats h.ready in
+    let rows = enabled_rows shape G.entries T G.players m.seats.items (sound T can.reached).tasks_fall h.seated.shares.slots h.seated.seats in
+    let able = ready_slots shape G.entries T G.players m.seats.items m.ready.members h.seated.seats h.ready in
     ap length able ∙ (able_length T 0 m.seats.items ∙ ap length rows)

@@ -26,14 +26,12 @@ use Rattle.rx_rules.specs.Picked.{Game, Player, Turn, tree_in, child_of, acted a
 use Rattle.rx_sound.specs.Chains.{Opened, HasOpener}
 use Rattle.rx_sound.specs.Sound.{Sound, TasksFall}
 use Rattle.rx_syntax.specs.Shape.{Shape}
-use Rattle.rx_control.specs.declared.control.Control.{Control}
-use Rattle.rx_control.specs.Stands.{StandsFor}
 use Rattle.rx_machine.specs.declared.machine.Machine.{Machine}
 use Rattle.rx_machine.specs.declared.seat.Seat.{Seat}
 use Rattle.rx_machine.specs.declared.seat.Mover.{Mover}
 use Rattle.rx_sound.specs.Held.{is_held, HeldInFront}
 use Rattle.rx_sound.specs.Spine.{Spine}
-use Rattle.rx_machine.specs.Slots.{row_of, seat_at, seat_in, live_task, if_unstruck, own_kinds, SlotIs, IsSeat}
+use Rattle.rx_machine.specs.Slots.{row_of, seat_at, seat_in, live_task, if_unstruck, own_kinds, SlotIs, IsSeat, IsWork}
 use Rattle.rx_machine.specs.Holds.{Seated, Acting, LeadsTo}
 use Rattle.rx_machine.proofs.Acted.{Went, game_after, tree-after, turned, shared, stores-after}
 use Rattle.rx_machine.proofs.Finding.{same_or_not, get_other, get_before}
@@ -43,6 +41,8 @@ use Rattle.rx_machine.proofs.Live.{none_above, live_number}
 use Rattle.rx_machine.proofs.Own.{own_scopes, newest, inner-newest, SameOwn, slot-on}
 use Rattle.rx_sound.proofs.SpineGrants.{flat-child}
 use Rattle.rx_sound.proofs.Spines.{flat-spine}
+use Rattle.rx_rules.specs.declared.entries.Entry.{Entry}
+use Rattle.rx_machine.specs.declared.seat.Work.{Work}
 
 -- A task that is not yet born opened no scope.
 
@@ -86,17 +86,17 @@ abbrev pub child_player : Player → Player
 child_player q = record { term = child q.term; vars = q.vars; batch = [] }
 
 -- a slot says of the next task what it must
-abbrev pub NewSlot : Shape → Tree → ℕ → Player → Option Seat → Type 0
-NewSlot shape T n p None = live_task T n ≡ None
-NewSlot shape T n p (Some seat) = IsSeat shape T n p seat
+abbrev pub NewSlot : Shape → List Entry → Tree → ℕ → Player → Option Seat → Type 0
+NewSlot shape es T n p None = live_task T n ≡ None
+NewSlot shape es T n p (Some seat) = IsSeat shape es T n p seat
 
 -- the seat of a new task that no death struck
-abbrev pub NewSeat : Control → ScopeId → Seat → Type 0
-NewSeat control under seat = (seat.who.inner ≡ under) × (seat.control.value ≡ control)
+abbrev pub NewSeat : Work → ScopeId → Seat → Type 0
+NewSeat work under seat = (seat.who.inner ≡ under) × (seat.work ≡ work)
 
-pub new-slot : (shape : Shape) (T T' : Tree) (n : ℕ) (q : Player) (slot : Option Seat) (control : Control) (number : TaskId) (under : ScopeId) (from to : PlaceId) → live_task T' n ≡ if_unstruck (born T number under from to) → (own_scopes T' n ≡ []) × (own_kinds T' n ≡ []) → StandsFor shape control (child q.term) → control.vars ≡ q.vars → is_none slot ≡ is_some (death_of T to) → IfSome slot (λ seat. (V : Tree) → death_of V to ≡ None → row_of seat ≡ born V number under from to) → IfSome slot (NewSeat control under) → NewSlot shape T' n (child_player q) slot
-new-slot shape T T' n q None control number under from to live own stands vars lost row rest = live ∙ born-struck T number under from to true (sym lost)
-new-slot shape T T' n q (Some seat) control number under from to live own stands vars lost row rest =
+pub new-slot : (shape : Shape) (es : List Entry) (T T' : Tree) (n : ℕ) (q : Player) (slot : Option Seat) (work : Work) (number : TaskId) (under : ScopeId) (from to : PlaceId) → live_task T' n ≡ if_unstruck (born T number under from to) → (own_scopes T' n ≡ []) × (own_kinds T' n ≡ []) → IsWork shape es (child_player q) work → is_none slot ≡ is_some (death_of T to) → IfSome slot (λ seat. (V : Tree) → death_of V to ≡ None → row_of seat ≡ born V number under from to) → IfSome slot (NewSeat work under) → NewSlot shape es T' n (child_player q) slot
+new-slot shape es T T' n q None work number under from to live own is_work lost row rest = live ∙ born-struck T number under from to true (sym lost)
+new-slot shape es T T' n q (Some seat) work number under from to live own is_work lost row rest =
     let is : row_of seat ≡ born T number under from to = row T (none-of (death_of T to) (sym lost)) in
     let there : live_task T' n ≡ Some (row_of seat) = live ∙ (born-struck T number under from to false (sym lost) ∙ ap (λ (r : Task). Some r) (sym is)) in
     let front : HeldInFront (child q.term) × (is_held (child q.term) ≡ false) = unheld-front (child q.term) (unheld-child q.term) in
@@ -104,22 +104,21 @@ new-slot shape T T' n q (Some seat) control number under from to live own stands
       row = there;
       inner = inner-newest T' n (row_of seat) (live_number T' n (row_of seat) there)
           ∙ (ap (λ (ss : List ScopeId). newest ss seat.who.scope) own.0 ∙ (ap (λ (r : Task). r.under) is ∙ sym rest.0));
-      term = subst (λ (c : Control). StandsFor shape c (child q.term)) (sym rest.1) stands;
-      vars = ap (λ c. c.vars) rest.1 ∙ vars;
+      work = subst (λ (w : Work). IsWork shape es (child_player q) w) (sym rest.1) is_work;
       waits = ap (λ (r : Task). r.waits) is ∙ sym front.1;
       held = front.0;
       spine = subst (λ (ks : List Kind). Spine (child q.term) (reverse ks)) (sym own.1) (flat-spine (child q.term) (flat-child q.term));
     }
 
-new-is : (shape : Shape) (T : Tree) (players : List Player) (n : ℕ) (p : Player) (slot : Option Seat) → slice_get players n ≡ Some p → p.batch ≡ [] → NewSlot shape T n p slot → SlotIs shape T players n slot
-new-is shape T players n p None player none h = h
-new-is shape T players n p (Some seat) player none h = (p, player, none, h)
+new-is : (shape : Shape) (es : List Entry) (T : Tree) (players : List Player) (n : ℕ) (p : Player) (slot : Option Seat) → slice_get players n ≡ Some p → p.batch ≡ [] → NewSlot shape es T n p slot → SlotIs shape es T players n slot
+new-is shape es T players n p None player none h = h
+new-is shape es T players n p (Some seat) player none h = (p, player, none, h)
 
 -- An entry that starts a task: the seat goes back changed, the child gets a slot of its own at the end, and all others stay.
-module _ {L : Type 0} {shape : Shape} {code : Block} {U : Given} {m : Machine L} {k i : ℕ} {here : PlaceId} {q : Player} {mover : Mover} {G : Game} (a : Acting shape code U m k i here q mover G) (act : Act) (fits : Fits here q.term (does q.vars here.0 q.term) act) (may : AllowedAct (tree_in U G) mover.seat.who.task act) where
-  pub started : (m' : Machine L) (seat' : Seat) (slot : Option Seat) (c : TaskId) → started_by act ≡ Some c → ((n : ℕ) → n ≢ i → n ≢ (tree_in U G).next_task → live_task (made_act (tree_in U G) mover.seat.who.task act) n ≡ live_task (tree_in U G) n) → ((n : ℕ) → n ≢ i → n ≢ (tree_in U G).next_task → SameOwn (tree_in U G) (made_act (tree_in U G) mover.seat.who.task act) n) → (made_act (tree_in U G) mover.seat.who.task act).next_task ≡ suc (tree_in U G).next_task → IsSeat shape (made_act (tree_in U G) mover.seat.who.task act) i (played here q act) seat' → NewSlot shape (made_act (tree_in U G) mover.seat.who.task act) (tree_in U G).next_task (child_player q) slot → Went m m' (Step mover.seat.who.task act mover.batch) → m'.seats.items ≡ slice_set m.seats.items i (Some seat') ++ slot ∷ [] → LeadsTo (Turn U k G true) (Seated shape code U m')
+module _ {L : Type 0} {shape : Shape} {code : Block} {U : Given} {m : Machine L} {k i : ℕ} {here : PlaceId} {q : Player} {mover : Mover} {G : Game} (a : Acting shape code U m k i here q mover G) (act : Act) (fits : Fits here q.term (does q.vars here.0 q.term) act) (may : AllowedAct (tree_in U G) mover.who.task act) where
+  pub started : (m' : Machine L) (seat' : Seat) (slot : Option Seat) (c : TaskId) → started_by act ≡ Some c → ((n : ℕ) → n ≢ i → n ≢ (tree_in U G).next_task → live_task (made_act (tree_in U G) mover.who.task act) n ≡ live_task (tree_in U G) n) → ((n : ℕ) → n ≢ i → n ≢ (tree_in U G).next_task → SameOwn (tree_in U G) (made_act (tree_in U G) mover.who.task act) n) → (made_act (tree_in U G) mover.who.task act).next_task ≡ suc (tree_in U G).next_task → IsSeat shape (G.entries ++ Step mover.who.task act q.batch ∷ []) (made_act (tree_in U G) mover.who.task act) i (played here q act) seat' → NewSlot shape (G.entries ++ Step mover.who.task act q.batch ∷ []) (made_act (tree_in U G) mover.who.task act) (tree_in U G).next_task (child_player q) slot → Went m m' (Step mover.who.task act mover.batch) → m'.seats.items ≡ slice_set m.seats.items i (Some seat') ++ slot ∷ [] → LeadsTo (Turn U k G true) (Seated shape code U m')
   started m' seat' slot c starts live own next new born_so went back =
-      let t : TaskId = mover.seat.who.task in
+      let t : TaskId = mover.who.task in
       let T : Tree = tree_in U G in
       let T' : Tree = made_act T t act in
       let G' : Game = game_after G t here q a.left a.events act in
@@ -155,17 +154,17 @@ module _ {L : Type 0} {shape : Shape} {code : Block} {U : Given} {m : Machine L}
           shares = shared a act fits may m' went length_is;
           stores = stores-after a act fits may m' went;
           seats = λ n.
-              subst (λ (V : Tree). SlotIs shape V G'.players n (seat_at m'.seats.items n)) same
-              (subst (λ (v : List (Option Seat)). SlotIs shape T' G'.players n (seat_at v n)) (sym back)
+              subst (λ (V : Tree). SlotIs shape G'.entries V G'.players n (seat_at m'.seats.items n)) same
+              (subst (λ (v : List (Option Seat)). SlotIs shape G'.entries T' G'.players n (seat_at v n)) (sym back)
               (elim (same_or_not n i) [
-                | inl e ↦ subst (λ (v : ℕ). SlotIs shape T' G'.players v (seat_at (xs ++ slot ∷ []) v)) (sym e)
-                    (subst (λ (o : Option Seat). SlotIs shape T' G'.players i o) (sym seat_mine) (played here q act, mine, refl, new))
+                | inl e ↦ subst (λ (v : ℕ). SlotIs shape G'.entries T' G'.players v (seat_at (xs ++ slot ∷ []) v)) (sym e)
+                    (subst (λ (o : Option Seat). SlotIs shape G'.entries T' G'.players i o) (sym seat_mine) (played here q act, mine, refl, new))
                 | inr apart ↦
                     elim (same_or_not n T.next_task) [
-                      | inl e ↦ subst (λ (v : ℕ). SlotIs shape T' G'.players v (seat_at (xs ++ slot ∷ []) v)) (sym e)
-                          (subst (λ (o : Option Seat). SlotIs shape T' G'.players T.next_task o) (sym seat_new) (new-is shape T' G'.players T.next_task (child_player q) slot its refl born_so))
-                      | inr fresh ↦ subst (λ (o : Option Seat). SlotIs shape T' G'.players n o) (sym (seat_others n apart fresh))
-                          (slot-on shape T T' G.players G'.players n (seat_at m.seats.items n) (live n apart fresh) (λ x h. own n apart fresh) (others n apart fresh) (a.but.others n apart))
+                      | inl e ↦ subst (λ (v : ℕ). SlotIs shape G'.entries T' G'.players v (seat_at (xs ++ slot ∷ []) v)) (sym e)
+                          (subst (λ (o : Option Seat). SlotIs shape G'.entries T' G'.players T.next_task o) (sym seat_new) (new-is shape G'.entries T' G'.players T.next_task (child_player q) slot its refl born_so))
+                      | inr fresh ↦ subst (λ (o : Option Seat). SlotIs shape G'.entries T' G'.players n o) (sym (seat_others n apart fresh))
+                          (slot-on shape G.entries (Step t act q.batch) T T' G.players G'.players n (seat_at m.seats.items n) (live n apart fresh) (λ x h. own n apart fresh) (others n apart fresh) (a.but.others n apart))
                     ]
               ]));
         },

@@ -38,7 +38,7 @@ use Rattle.rx_control.specs.Stands.{StandsFor}
 use Rattle.rx_machine.specs.declared.machine.Machine.{Machine}
 use Rattle.rx_machine.specs.declared.seat.Mover.{Mover}
 use Rattle.rx_sound.specs.Held.{is_held, HeldInFront}
-use Rattle.rx_machine.specs.Slots.{row_of, live_task, own_kinds}
+use Rattle.rx_machine.specs.Slots.{row_of, live_task, own_kinds, seat_of}
 use Rattle.rx_store.specs.Kepts.{StoresAre}
 use Rattle.rx_machine.specs.Holds.{Acting}
 use Rattle.rx_machine.specs.Inside.Requests.{OnlyStores, AfterStep}
@@ -141,7 +141,7 @@ module _ {L : Type 0} {shape : Shape} {code : Block} {U : Given} {m : Machine L}
   pub call_is : (op : CellOp) → TermSinks → ComesSome → GoesSome → next_of (does q.vars here.0 q.term) ≡ CellStep op → IsCall q.term here op (does q.vars here.0 q.term)
   call_is op sink comes goes e =
       let began : TermMakesSome a.began.term = comes code U G a.but.shares.on.makes a.but.shares.comes i a.began a.gone.player in
-      let both = goes U.heap (length G.entries) mover.seat.who.task here a.began q a.store a.left (journal_at G.journals here.0) a.events a.gone.goes began in
+      let both = goes U.heap (length G.entries) mover.who.task here a.began q a.store a.left (journal_at G.journals here.0) a.events a.gone.goes began in
       is_call q.term here op (does q.vars here.0 q.term) e (begins-so q.vars here.0 q.term) (call-so q.vars here.0 q.term) (both.1 q.vars) (sink q.vars here.0 q.term)
 
   -- the store of the place
@@ -152,7 +152,7 @@ module _ {L : Type 0} {shape : Shape} {code : Block} {U : Given} {m : Machine L}
       let low : here.0 < length G.journals = rw ok.one_each a.stored in
       let at : slice_get (slice_set G.journals here.0 a.events) here.0 ≡ Some a.events = get-set G.journals here.0 a.events low in
       let s = stores-at U.heap 0 m.stores.items (slice_set G.journals here.0 a.events) here.0 a.events a.stores at in
-      let start : JournalIs (length G.entries) a.store (journal_at G.journals here.0) = journal-is code U G i (row_of mover.seat) here a.store ok a.gone.seat_is.row a.gone.is_at a.stored a.gone.store in (
+      let start : JournalIs (length G.entries) a.store (journal_at G.journals here.0) = journal-is code U G i (row_of (seat_of mover)) here a.store ok a.gone.seat_is.row a.gone.is_at a.stored a.gone.store in (
         s.0,
         record {
           found = s.1;
@@ -169,10 +169,10 @@ module _ {L : Type 0} {shape : Shape} {code : Block} {U : Given} {m : Machine L}
       let proper : Proper U = a.but.shares.on.proper in
       let few : work code ≤ 100000 = a.but.shares.on.few in
       let came : CameTo code U G = come code U G proper a.but.shares.comes a.pick.stands in
-      let found = live_stands (tree_in U G) i (row_of mover.seat) a.gone.seat_is.row in
-      let row : RowSo G.entries i mover.seat.who.place = (row-found (record { 0 = i }) (row_of mover.seat) (length came.ok.starts) G.entries (tree_in U G).tasks found.0 found.1 came.ok.ties.rows).1 in
+      let found = live_stands (tree_in U G) i (row_of (seat_of mover)) a.gone.seat_is.row in
+      let row : RowSo G.entries i mover.who.place = (row-found (record { 0 = i }) (row_of (seat_of mover)) (length came.ok.starts) G.entries (tree_in U G).tasks found.0 found.1 came.ok.ties.rows).1 in
       let first : length (journal_at G.journals here.0) + steps a.began.term ≤ 3 * work code + length G.entries = most code U G proper a.but.shares.comes here.0 i a.began a.gone.player row.going in
-      let rest : length a.events + steps q.term ≤ length (journal_at G.journals here.0) + steps a.began.term = tells U.heap (length G.entries) mover.seat.who.task here a.began q a.store a.left (journal_at G.journals here.0) a.events a.gone.goes in
+      let rest : length a.events + steps q.term ≤ length (journal_at G.journals here.0) + steps a.began.term = tells U.heap (length G.entries) mover.who.task here a.began q a.store a.left (journal_at G.journals here.0) a.events a.gone.goes in
       let entries : length G.entries ≤ 4 * work code + U.places + 2 * length U.joins = came.entries in
       let places : U.places + length U.joins ≤ 16 = proper.few in omega (arith, first, rest, entries, places, few)
 
@@ -186,9 +186,9 @@ module _ {L : Type 0} {shape : Shape} {code : Block} {U : Given} {m : Machine L}
       let same : length m.chronicle.entries ≡ length G.entries = ap length a.but.shares.entries in omega (arith, few, most, places, same)
 
   -- a store call lengthens the walk by its event
-  pub call-told : (op : CellOp) (answer : Result (Option Value) Fault) (x : List ℕ) (old new : Kept) (mark : Mark) (items : List Kept) → IsCall q.term here op (does q.vars here.0 q.term) → begins q.term ≡ Some x → next_of (does q.vars here.0 q.term) ≡ CellStep op → StoreIs U m here G a.left a.events old → items ≡ slice_set m.stores.items here.0 new → mark.task ≡ mover.seat.who.task → mark.stamp ≡ length G.entries → mark.path ≡ x → Asked old new mark op answer → (Z : State) × (l : List PlaceEvent) × Goes U.heap (length G.entries) mover.seat.who.task here a.began a.store (journal_at G.journals here.0) (record { term = answered (answer_of (receives q.term) answer) q.term; vars = vars_after (answer_of (receives q.term) answer) q.vars; batch = begun q.term q.batch }) Z l × StoresAre U.heap 0 items (slice_set G.journals here.0 l)
+  pub call-told : (op : CellOp) (answer : Result (Option Value) Fault) (x : List ℕ) (old new : Kept) (mark : Mark) (items : List Kept) → IsCall q.term here op (does q.vars here.0 q.term) → begins q.term ≡ Some x → next_of (does q.vars here.0 q.term) ≡ CellStep op → StoreIs U m here G a.left a.events old → items ≡ slice_set m.stores.items here.0 new → mark.task ≡ mover.who.task → mark.stamp ≡ length G.entries → mark.path ≡ x → Asked old new mark op answer → (Z : State) × (l : List PlaceEvent) × Goes U.heap (length G.entries) mover.who.task here a.began a.store (journal_at G.journals here.0) (record { term = answered (answer_of (receives q.term) answer) q.term; vars = vars_after (answer_of (receives q.term) answer) q.vars; batch = begun q.term q.batch }) Z l × StoresAre U.heap 0 items (slice_set G.journals here.0 l)
   call-told op answer x old new mark items c b e is put task stamp path asked =
-      let t : TaskId = mover.seat.who.task in
+      let t : TaskId = mover.who.task in
       let ans : Answer = answer_of (receives q.term) answer in
       let cell : Cell = asked.cell in
       let told : Tells (does q.vars here.0 q.term) here cell ans = subst (λ (p : PlaceId). Tells (does q.vars here.0 q.term) p cell ans) is.place (asked.told (does q.vars here.0 q.term) (receives q.term) e c.receives) in
@@ -204,7 +204,7 @@ module _ {L : Type 0} {shape : Shape} {code : Block} {U : Given} {m : Machine L}
       (after_cell a.left cell, longer, goes-stores cell x ans a.gone.goes told b may, stored)
 
   -- and the task goes on with its answer
-  pub called : (m' : Machine L) (mover' : Mover) (op : CellOp) (answer : Result (Option Value) Fault) (x : List ℕ) (old new : Kept) (mark : Mark) → IsCall q.term here op (does q.vars here.0 q.term) → begins q.term ≡ Some x → next_of (does q.vars here.0 q.term) ≡ CellStep op → StoreIs U m here G a.left a.events old → OnlyStores m m' → m'.stores.items ≡ slice_set m.stores.items here.0 new → mark.task ≡ mover.seat.who.task → mark.stamp ≡ length G.entries → mark.path ≡ x → Asked old new mark op answer → StandsFor shape mover'.seat.control.value (answered (answer_of (receives q.term) answer) q.term) → mover'.seat.control.value.vars ≡ vars_after (answer_of (receives q.term) answer) mover.seat.control.value.vars → mover'.batch ≡ mover.batch ++ x ∷ [] → mover'.seat.who ≡ mover.seat.who → mover'.seat.waits ≡ mover.seat.waits → AfterStep shape code U m' k i here q mover' G None
+  pub called : (m' : Machine L) (mover' : Mover) (op : CellOp) (answer : Result (Option Value) Fault) (x : List ℕ) (old new : Kept) (mark : Mark) → IsCall q.term here op (does q.vars here.0 q.term) → begins q.term ≡ Some x → next_of (does q.vars here.0 q.term) ≡ CellStep op → StoreIs U m here G a.left a.events old → OnlyStores m m' → m'.stores.items ≡ slice_set m.stores.items here.0 new → mark.task ≡ mover.who.task → mark.stamp ≡ length G.entries → mark.path ≡ x → Asked old new mark op answer → StandsFor shape mover'.control.value (answered (answer_of (receives q.term) answer) q.term) → mover'.control.value.vars ≡ vars_after (answer_of (receives q.term) answer) mover.control.value.vars → mover'.batch ≡ mover.batch ++ x ∷ [] → mover'.who ≡ mover.who → mover'.waits ≡ mover.waits → AfterStep shape code U m' k i here q mover' G None
   called m' mover' op answer x old new mark c b e is only put task stamp path asked term vars batch who waits =
       let ans : Answer = answer_of (receives q.term) answer in
       let s = a.gone.seat_is in
@@ -214,7 +214,7 @@ module _ {L : Type 0} {shape : Shape} {code : Block} {U : Given} {m : Machine L}
       let r : Player = record { term = answered ans q.term; vars = vars_after ans q.vars; batch = begun q.term q.batch } in (
         r,
         acting-on a m' r mover' w.0 w.1 only who waits w.2
-            (moved-seat r mover'.seat s who waits term (vars ∙ ap (vars_after ans) s.vars) free held.0 held.1 (answer_spine ans q.term (reverse (own_kinds (tree_in U G) i)) s.spine (begun_is q.term x b)))
+            (moved-seat r mover' s who waits term (vars ∙ ap (vars_after ans) s.work.1) free held.0 held.1 (answer_spine ans q.term (reverse (own_kinds (tree_in U G) i)) s.spine (begun_is q.term x b)))
             (batch ∙ (ap (λ (l : List (List ℕ)). l ++ x ∷ []) a.gone.batch ∙ sym (begun_one q.term q.batch x b))) w.3,
         c.sinks ans,
       )

@@ -36,6 +36,7 @@ use Rattle.rx_machine.proofs.Finding.{same_or_not}
 use Rattle.rx_machine.proofs.Acted.{seat_other}
 use Rattle.rx_machine.proofs.Live.{if_missed, strike-live}
 use Rattle.rx_machine.proofs.Called.{stores-at, stores-set, leads-open, stamp-most}
+use Rattle.rx_machine.proofs.Own.{work-still}
 
 -- What the death that is due says of its place.
 
@@ -52,20 +53,19 @@ due-so all here n es d (x ∷ xs) due h =
 -- The slots.
 
 -- a slot after the blow
-pub slot-struck : (shape : Shape) (T : Tree) (b : Blow) (players : List Player) (n : ℕ) (o : Option Seat) → SlotIs shape T players n o → SlotIs shape (strike b T) players n (left_by b.place o)
-slot-struck shape T b players n None h = strike-live b T.tasks n ∙ ap (if_missed b) h
-slot-struck shape T b players n (Some seat) h =
-    (elim (is_hit b.place seat.who.place) as (λ c. is_hit b.place seat.who.place ≡ c → SlotIs shape (strike b T) players n (cond c None (Some seat))) [
-      | true ↦ λ e. row ∙ ap (λ (c : Bool). cond c None (Some (row_of seat))) e
-      | false ↦ λ e. (
+pub slot-struck : (shape : Shape) (es : List Entry) (e : Entry) (T : Tree) (b : Blow) (players : List Player) (n : ℕ) (o : Option Seat) → SlotIs shape es T players n o → SlotIs shape (es ++ e ∷ []) (strike b T) players n (left_by b.place o)
+slot-struck shape es e T b players n None h = strike-live b T.tasks n ∙ ap (if_missed b) h
+slot-struck shape es e T b players n (Some seat) h =
+    (elim (is_hit b.place seat.who.place) as (λ c. is_hit b.place seat.who.place ≡ c → SlotIs shape (es ++ e ∷ []) (strike b T) players n (cond c None (Some seat))) [
+      | true ↦ λ hit. row ∙ ap (λ (c : Bool). cond c None (Some (row_of seat))) hit
+      | false ↦ λ hit. (
         h.0,
         h.1,
         h.2,
         record {
-          row = row ∙ ap (λ (c : Bool). cond c None (Some (row_of seat))) e;
+          row = row ∙ ap (λ (c : Bool). cond c None (Some (row_of seat))) hit;
           inner = h.3.inner;
-          term = h.3.term;
-          vars = h.3.vars;
+          work = work-still shape es e h.0 seat.work h.3.work;
           waits = h.3.waits;
           held = h.3.held;
           spine = h.3.spine;
@@ -158,8 +158,8 @@ module _ {L : Type 0} {shape : Shape} {code : Block} {U : Given} {m : Machine L}
             };
             stores = subst (λ (ss : List Kept). StoresAre U.heap 0 ss (slice_set G.journals d.0 j)) (sym (f.stores s.0 s.1.found)) (stores-set U.heap 0 m.stores.items G.journals d.0 s' j h.stores at s.1.words events);
             seats = λ i.
-                subst (λ (T : Tree). SlotIs shape T G.players i (seat_at m'.seats.items i)) same
-                (subst (λ (o : Option Seat). SlotIs shape (strike b (tree_in U G)) G.players i o) (sym (f.each i)) (slot-struck shape (tree_in U G) b G.players i (seat_at m.seats.items i) (h.seats i)));
+                subst (λ (T : Tree). SlotIs shape G'.entries T G.players i (seat_at m'.seats.items i)) same
+                (subst (λ (o : Option Seat). SlotIs shape G'.entries (strike b (tree_in U G)) G.players i o) (sym (f.each i)) (slot-struck shape G.entries (Death d) (tree_in U G) b G.players i (seat_at m.seats.items i) (h.seats i)));
           },
           no_root-death G.entries d t.can.unreleased,
         ),

@@ -14,6 +14,7 @@ use Rattle.rx_machine.specs.declared.seat.Seat.{Seat}
 use Rattle.rx_machine.specs.Slots.{row_of, seat_at, live_task, live_in, SlotIs}
 use Rattle.rx_machine.specs.Picking.{slot_able}
 use Rattle.rx_machine.proofs.Live.{live_stands, none_above}
+use Rattle.rx_rules.specs.declared.entries.Entry.{Entry}
 
 -- the numbers of the enabled slots, from slot n on
 abbrev pub able_from : Tree → ℕ → List (Option Seat) → List ℕ
@@ -88,18 +89,18 @@ struck_off T (Some x) h =
       | None ↦ λ e. absurd (let f : ⊥ = cc in f)
     ] h
 
-rows_gather : (shape : Shape) (T : Tree) (ps : List Player) (n : ℕ) (os : List (Option Seat)) → ((j : ℕ) → j < length os → SlotIs shape T ps (n + j) (seat_at os j)) → rows_from T os ≡ gather (is_enabled T) T.tasks n (length os)
-rows_gather shape T ps n [] h = refl
-rows_gather shape T ps n (None ∷ os) h =
+rows_gather : (shape : Shape) (es : List Entry) (T : Tree) (ps : List Player) (n : ℕ) (os : List (Option Seat)) → ((j : ℕ) → j < length os → SlotIs shape es T ps (n + j) (seat_at os j)) → rows_from T os ≡ gather (is_enabled T) T.tasks n (length os)
+rows_gather shape es T ps n [] h = refl
+rows_gather shape es T ps n (None ∷ os) h =
     let z : n + 0 ≡ n = omega arith in
-    let none : live_task T n ≡ None = subst (λ (v : ℕ). SlotIs shape T ps v None) z (h 0 (omega arith)) in
-    let rest = rows_gather shape T ps (suc n) os (λ j low. let e : n + suc j ≡ suc n + j = omega arith in subst (λ (v : ℕ). SlotIs shape T ps v (seat_at os j)) e (h (suc j) (omega arith))) in
+    let none : live_task T n ≡ None = subst (λ (v : ℕ). SlotIs shape es T ps v None) z (h 0 (omega arith)) in
+    let rest = rows_gather shape es T ps (suc n) os (λ j low. let e : n + suc j ≡ suc n + j = omega arith in subst (λ (v : ℕ). SlotIs shape es T ps v (seat_at os j)) e (h (suc j) (omega arith))) in
     rest ∙ ap (λ v. v ++ gather (is_enabled T) T.tasks (suc n) (length os)) (sym (struck_off T (task_of T (record { 0 = n })) none))
-rows_gather shape T ps n (Some seat ∷ os) h =
+rows_gather shape es T ps n (Some seat ∷ os) h =
     let z : n + 0 ≡ n = omega arith in
-    let is = subst (λ (v : ℕ). SlotIs shape T ps v (Some seat)) z (h 0 (omega arith)) in
+    let is = subst (λ (v : ℕ). SlotIs shape es T ps v (Some seat)) z (h 0 (omega arith)) in
     let stands : task_of T (record { 0 = n }) ≡ Some (row_of seat) = (live_stands T n (row_of seat) is.3.row).0 in
-    let rest = rows_gather shape T ps (suc n) os (λ j low. let e : n + suc j ≡ suc n + j = omega arith in subst (λ (v : ℕ). SlotIs shape T ps v (seat_at os j)) e (h (suc j) (omega arith))) in
+    let rest = rows_gather shape es T ps (suc n) os (λ j low. let e : n + suc j ≡ suc n + j = omega arith in subst (λ (v : ℕ). SlotIs shape es T ps v (seat_at os j)) e (h (suc j) (omega arith))) in
     front (is_enabled T (row_of seat)) (row_of seat) (rows_from T os) (gather (is_enabled T) T.tasks (suc n) (length os)) rest
     ∙ ap (λ o. found (is_enabled T) o ++ gather (is_enabled T) T.tasks (suc n) (length os)) (sym stands)
   where
@@ -108,9 +109,9 @@ rows_gather shape T ps n (Some seat ∷ os) h =
     front false x xs ys e = e
 
 -- the enabled tasks are those of the slots that are enabled
-pub enabled_rows : (shape : Shape) (T : Tree) (ps : List Player) (os : List (Option Seat)) → TasksFall T.next_task T.tasks → length os ≡ T.next_task → ((n : ℕ) → SlotIs shape T ps n (seat_at os n)) → rows_from T os ≡ enabled T
-enabled_rows shape T ps os falls size slots =
-    rows_gather shape T ps 0 os (λ j low. let z : 0 + j ≡ j = omega arith in subst (λ (v : ℕ). SlotIs shape T ps v (seat_at os j)) (sym z) (slots j))
+pub enabled_rows : (shape : Shape) (es : List Entry) (T : Tree) (ps : List Player) (os : List (Option Seat)) → TasksFall T.next_task T.tasks → length os ≡ T.next_task → ((n : ℕ) → SlotIs shape es T ps n (seat_at os n)) → rows_from T os ≡ enabled T
+enabled_rows shape es T ps os falls size slots =
+    rows_gather shape es T ps 0 os (λ j low. let z : 0 + j ≡ j = omega arith in subst (λ (v : ℕ). SlotIs shape es T ps v (seat_at os j)) (sym z) (slots j))
     ∙ (ap (gather (is_enabled T) T.tasks 0) size ∙ sym (gathered (is_enabled T) T.tasks T.next_task falls))
 
 pub able_length : (T : Tree) (n : ℕ) (os : List (Option Seat)) → length (able_from T n os) ≡ length (rows_from T os)

@@ -28,7 +28,7 @@ use Rattle.rx_syntax.specs.Shape.{Shape}
 use Rattle.rx_machine.specs.declared.machine.Machine.{Machine}
 use Rattle.rx_machine.specs.declared.seat.Seat.{Seat}
 use Rattle.rx_machine.specs.declared.seat.Mover.{Mover}
-use Rattle.rx_machine.specs.Slots.{row_of, seat_at, SlotIs, live_task, own_kinds}
+use Rattle.rx_machine.specs.Slots.{row_of, seat_at, SlotIs, live_task, own_kinds, seat_of}
 use Rattle.rx_store.specs.Kepts.{StoresAre}
 use Rattle.rx_machine.specs.Holds.{Seated, Acting, LeadsTo}
 use Rattle.rx_machine.proofs.Finding.{same_or_not}
@@ -53,24 +53,24 @@ end-next T t thrown x h = rw (h, after_end) refl
 
 module _ {L : Type 0} {shape : Shape} {code : Block} {U : Given} {m : Machine L} {k i : ℕ} {here : PlaceId} {q : Player} {mover : Mover} {G : Game} (a : Acting shape code U m k i here q mover G) (fs : List Fault) (asks : does q.vars here.0 q.term ≡ Done fs) where
   -- the chronicle may be asked
-  pub end-may : MayAskEnd (tree_told m.chronicle) mover.seat.who
+  pub end-may : MayAskEnd (tree_told m.chronicle) mover.who
   end-may =
       let T : Tree = tree_in U G in
       let s = a.gone.seat_is in
       let empty : reverse (own_kinds T i) ≡ [] = subst (λ (d : Does). EmptyWhereDone (reverse (own_kinds T i)) d) asks (spine-done (reverse (own_kinds T i)) q.vars here.0 q.term s.spine) in
       let none : own_kinds T i ≡ [] = sym (reverse-reverse (own_kinds T i)) ∙ ap (λ (ks : List Kind). reverse ks) empty in
-      of-told (λ (V : Tree). MayAskEnd V mover.seat.who) a.but.shares
-      (seat_asks s (IsBare T mover.seat.who) a.numbers
+      of-told (λ (V : Tree). MayAskEnd V mover.who) a.but.shares
+      (seat_asks s (IsBare T mover.who) a.numbers
       (record {
         moving = moving s here a.gone.is_at (asks-free q here.0 (Done fs) asks (λ f. let g : ⊥ = cc f in g));
         none_open = subst (λ (t : TaskId). own_scope T t ≡ None) (sym (seat-id s)) (none-found (opened_by (record { 0 = i })) T.scopes none);
       }))
 
-  pub ended : (m' : Machine L) → m' ≡ record m { chronicle = m'.chronicle; seats = m'.seats } → Granted m.chronicle mover.seat.who (End fs) mover.batch m'.chronicle → m'.seats.items ≡ m.seats.items → LeadsTo (Turn U k G true) (Seated shape code U m')
+  pub ended : (m' : Machine L) → m' ≡ record m { chronicle = m'.chronicle; seats = m'.seats; idle = m'.idle } → Granted m.chronicle mover.who (End fs) mover.batch m'.chronicle → m'.seats.items ≡ m.seats.items → LeadsTo (Turn U k G true) (Seated shape code U m')
   ended m' on did back =
       let T : Tree = tree_in U G in
-      let t : TaskId = mover.seat.who.task in
-      let x : Task = row_of mover.seat in
+      let t : TaskId = mover.who.task in
+      let x : Task = row_of (seat_of mover) in
       let T' : Tree = made_act T t (End fs) in
       let pick = a.pick in
       let h = a.but.shares in
@@ -97,13 +97,13 @@ module _ {L : Type 0} {shape : Shape} {code : Block} {U : Given} {m : Machine L}
           };
           stores = subst (λ (ss : List Kept). StoresAre U.heap 0 ss (slice_set G.journals here.0 a.events)) (ap (λ v. v.items) (sym e.stores)) a.stores;
           seats = λ n.
-              subst (λ (V : Tree). SlotIs shape V G.players n (seat_at m'.seats.items n)) same
-              (subst (λ (xs : List (Option Seat)). SlotIs shape T' G.players n (seat_at xs n)) (sym back)
+              subst (λ (V : Tree). SlotIs shape G'.entries V G.players n (seat_at m'.seats.items n)) same
+              (subst (λ (xs : List (Option Seat)). SlotIs shape G'.entries T' G.players n (seat_at xs n)) (sym back)
               (elim (same_or_not n i) [
-                | inl w ↦ subst (λ (v : ℕ). SlotIs shape T' G.players v (seat_at m.seats.items v)) (sym w)
-                    (subst (λ (o : Option Seat). SlotIs shape T' G.players i o) (sym a.but.empty) gone)
+                | inl w ↦ subst (λ (v : ℕ). SlotIs shape G'.entries T' G.players v (seat_at m.seats.items v)) (sym w)
+                    (subst (λ (o : Option Seat). SlotIs shape G'.entries T' G.players i o) (sym a.but.empty) gone)
                 | inr apart ↦
-                    slot-on shape T T' G.players G.players n (seat_at m.seats.items n)
+                    slot-on shape G.entries (Step t (End fs) q.batch) T T' G.players G.players n (seat_at m.seats.items n)
                     (end-tasks T t fs x n found ∙ less-other T t n (λ w. apart (sym w ∙ pick.number)))
                     (λ y z. end-own T t fs x n found) refl (a.but.others n apart)
               ]));

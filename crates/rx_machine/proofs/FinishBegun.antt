@@ -21,9 +21,8 @@ use Rattle.rx_chronicle.specs.Requests.{Granted}
 use Rattle.rx_syntax.specs.Shape.{Shape}
 use Rattle.rx_control.specs.Stands.{StandsFor}
 use Rattle.rx_machine.specs.declared.machine.Machine.{Machine}
-use Rattle.rx_machine.specs.declared.seat.Seat.{Seat}
 use Rattle.rx_machine.specs.declared.seat.Mover.{Mover}
-use Rattle.rx_machine.specs.Slots.{row_of, own_kinds}
+use Rattle.rx_machine.specs.Slots.{row_of, own_kinds, seat_of}
 use Rattle.rx_sound.specs.Held.{is_held}
 use Rattle.rx_sound.specs.Spine.{Spine}
 use Rattle.rx_machine.specs.Holds.{Seated, Acting, LeadsTo}
@@ -40,12 +39,12 @@ pub open-begins : (q : Player) (here : ℕ) → does q.vars here q.term ≡ Open
 open-begins q here asks = subst (λ (d : Does). Begins d (begins q.term)) asks (begins-so q.vars here q.term)
 
 module _ {L : Type 0} {shape : Shape} {code : Block} {U : Given} {m : Machine L} {k i : ℕ} {here : PlaceId} {q : Player} {mover : Mover} {G : Game} (a : Acting shape code U m k i here q mover G) (asks : does q.vars here.0 q.term ≡ Opens) where
-  pub finish-opened : (m' : Machine L) (seat' : Seat) (s : ScopeId) (x : List ℕ) → begins q.term ≡ Some x → m' ≡ record m { chronicle = m'.chronicle; seats = m'.seats } → Granted m.chronicle mover.seat.who (Open s mover.seat.who.inner x) mover.batch m'.chronicle → StandsFor shape seat'.control.value (granted [] q.term) → seat'.control.value.vars ≡ mover.seat.control.value.vars → row_of seat' ≡ row_of mover.seat → seat'.who.inner ≡ s → m'.seats.items ≡ slice_set m.seats.items i (Some seat') → LeadsTo (Turn U k G true) (Seated shape code U m')
-  finish-opened m' seat' s x path on did term vars row inside back =
+  pub finish-opened : (m' : Machine L) (mover' : Mover) (s : ScopeId) (x : List ℕ) → begins q.term ≡ Some x → m' ≡ record m { chronicle = m'.chronicle; seats = m'.seats; idle = m'.idle } → Granted m.chronicle mover.who (Open s mover.who.inner x) mover.batch m'.chronicle → StandsFor shape mover'.control.value (granted [] q.term) → mover'.control.value.vars ≡ mover.control.value.vars → row_of (seat_of mover') ≡ row_of (seat_of mover) → mover'.who.inner ≡ s → m'.seats.items ≡ slice_set m.seats.items i (Some (seat_of mover')) → LeadsTo (Turn U k G true) (Seated shape code U m')
+  finish-opened m' mover' s x path on did term vars row inside back =
       let T : Tree = tree_in U G in
       let h = a.gone.seat_is in
-      let t : TaskId = mover.seat.who.task in
-      let r : ScopeId = mover.seat.who.inner in
+      let t : TaskId = mover.who.task in
+      let r : ScopeId = mover.who.inner in
       let act : Act = Open s r x in
       let number : t.0 ≡ i = a.pick.number in
       let may : AllowedAct T t act = of-game (λ (V : Tree). AllowedAct V t act) a.but.shares did.allowed in
@@ -55,12 +54,11 @@ module _ {L : Type 0} {shape : Shape} {code : Block} {U : Given} {m : Machine L}
       let own = opened-same T t Finish s r in
       let own_now : own_scopes (opened T t Finish s r) i ≡ s ∷ own_scopes T i = subst (λ (n : ℕ). own_scopes (opened T t Finish s r) n ≡ s ∷ own_scopes T n) number own.0 in
       let kinds_now : own_kinds (opened T t Finish s r) i ≡ Finish ∷ own_kinds T i = subst (λ (n : ℕ). own_kinds (opened T t Finish s r) n ≡ Finish ∷ own_kinds T n) number own.1 in
-      acted a act (subst (λ (d : Does). Fits here q.term d act) (sym asks) path) may m' seat' refl (λ n apart. refl) (λ n apart y live. opened-other T t Finish s r n (λ e. apart (sym e ∙ number))) refl
+      acted a act (subst (λ (d : Does). Fits here q.term d act) (sym asks) path) may m' (seat_of mover') refl (λ n apart. refl) (λ n apart y live. opened-other T t Finish s r n (λ e. apart (sym e ∙ number))) refl
       (record {
         row = h.row ∙ ap (λ (x : Task). Some x) (sym row);
-        inner = inner-opened (opened T t Finish s r) i (row_of seat') s (own_scopes T i) (ap (λ (x : Task). x.number.0) row ∙ number) own_now ∙ sym inside;
-        term = term;
-        vars = vars ∙ (h.vars ∙ sym (told-nothing (does q.vars here.0 q.term) act q.vars refl));
+        inner = inner-opened (opened T t Finish s r) i (row_of (seat_of mover')) s (own_scopes T i) (ap (λ (x : Task). x.number.0) row ∙ number) own_now ∙ sym inside;
+        work = (term, vars ∙ (h.work.1 ∙ sym (told-nothing (does q.vars here.0 q.term) act q.vars refl)));
         waits = ap (λ (x : Task). x.waits) row ∙ (h.waits ∙ (free ∙ sym grant.1));
         held = grant.0;
         spine = subst (λ (ks : List Kind). Spine (granted [] q.term) ks) (sym (ap (λ (ks : List Kind). reverse ks) kinds_now ∙ reverse-cons Finish (own_kinds T i))) spine;

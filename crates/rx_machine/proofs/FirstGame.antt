@@ -8,14 +8,13 @@ use Rattle.rx_rules.specs.Terms.{Empty, items, no_vars}
 use Rattle.rx_rules.specs.Tree.{inner, the_root}
 use Rattle.rx_rules.specs.Fold.{opening}
 use Rattle.rx_rules.specs.Run.{Given, in_all}
-use Rattle.rx_rules.specs.Picked.{Comes, start_game, tree_in}
+use Rattle.rx_rules.specs.Picked.{Player, Comes, start_game, tree_in}
 use Rattle.rx_history.specs.Setups.{given}
 use Rattle.rx_syntax.specs.Shape.{Shape}
-use Rattle.rx_control.specs.Stands.{StandsFor}
 use Rattle.rx_machine.specs.declared.machine.Machine.{Machine}
 use Rattle.rx_machine.specs.declared.seat.Seat.{Seat}
 use Rattle.rx_sound.specs.Held.{is_held, HeldInFront}
-use Rattle.rx_machine.specs.Slots.{row_of, seat_at, SlotIs, live_in, root_row}
+use Rattle.rx_machine.specs.Slots.{row_of, seat_at, SlotIs, live_in, root_row, IsWork}
 use Rattle.rx_sound.specs.Enabling.{able_in}
 use Rattle.rx_machine.specs.Picking.{IsReady}
 use Rattle.rx_store.specs.Kepts.{StoresAre}
@@ -23,31 +22,34 @@ use Rattle.rx_machine.specs.Holds.{RunsOn, Seated}
 use Rattle.rx_sound.proofs.Holding.{unheld-front, unheld-items}
 use Rattle.rx_sound.proofs.Spines.{flat-spine, flat-items}
 
+-- the main activity before its first step
+abbrev pub first : Block → ℕ → Player
+first code places = record { term = items code [] Empty; vars = no_vars places; batch = [] }
+
 -- its seat stands in slot 0, and no other slot has one
-pub opens-seats : (shape : Shape) (code : Block) (U : Given) (seat : Seat) (n : ℕ) → row_of seat ≡ root_row → seat.who.inner ≡ the_root → StandsFor shape seat.control.value (items code [] Empty) → seat.control.value.vars ≡ no_vars U.places → SlotIs shape (opening U.places) (start_game code U).players n (seat_at (Some seat ∷ []) n)
-opens-seats shape code U seat zero row inside term vars =
+pub opens-seats : (shape : Shape) (code : Block) (U : Given) (seat : Seat) (n : ℕ) → row_of seat ≡ root_row → seat.who.inner ≡ the_root → IsWork shape [] (first code U.places) seat.work → SlotIs shape [] (opening U.places) (start_game code U).players n (seat_at (Some seat ∷ []) n)
+opens-seats shape code U seat zero row inside work =
     let front : HeldInFront (items code [] Empty) × (is_held (items code [] Empty) ≡ false) = unheld-front (items code [] Empty) (unheld-items code [] 0 Empty tt) in (
-      record { term = items code [] Empty; vars = no_vars U.places; batch = [] },
+      first code U.places,
       refl,
       refl,
       record {
         row = ap (λ (x : Task). Some x) (sym row);
         inner = ap (λ (x : Task). inner (opening U.places) x) row ∙ sym inside;
-        term = term;
-        vars = vars;
+        work = work;
         waits = ap (λ (x : Task). x.waits) row ∙ sym front.1;
         held = front.0;
         spine = flat-spine (items code [] Empty) (flat-items code [] 0 Empty tt);
       },
     )
-opens-seats shape code U seat (suc n) row inside term vars =
+opens-seats shape code U seat (suc n) row inside work =
     let apart : 0 ≢ suc n = λ e. absurd (omega (arith, e)) in
     let other : (0 == suc n) ≡ false = ne_eqb 0 (suc n) apart in
     ap (λ (b : Bool). live_in (cond b (Some root_row) None)) other
 
 -- the machine stands for the game before the first turn
-pub opens-so : {L : Type 0} (shape : Shape) (code : Block) (U : Given) (m : Machine L) (seat : Seat) → RunsOn code U → given m.chronicle.setup ≡ U → m.chronicle.entries ≡ [] → m.failed ≡ false → StoresAre U.heap 0 m.stores.items (replicate (in_all U) []) → m.seats.items ≡ Some seat ∷ [] → row_of seat ≡ root_row → seat.who.inner ≡ the_root → StandsFor shape seat.control.value (items code [] Empty) → seat.control.value.vars ≡ no_vars U.places → Seated shape code U m (start_game code U)
-opens-so shape code U m seat on setup entries failed stores seats row inside term vars =
+pub opens-so : {L : Type 0} (shape : Shape) (code : Block) (U : Given) (m : Machine L) (seat : Seat) → RunsOn code U → given m.chronicle.setup ≡ U → m.chronicle.entries ≡ [] → m.failed ≡ false → StoresAre U.heap 0 m.stores.items (replicate (in_all U) []) → m.seats.items ≡ Some seat ∷ [] → row_of seat ≡ root_row → seat.who.inner ≡ the_root → IsWork shape [] (first code U.places) seat.work → Seated shape code U m (start_game code U)
+opens-so shape code U m seat on setup entries failed stores seats row inside work =
     record {
       shares = record {
         on = on;
@@ -58,7 +60,7 @@ opens-so shape code U m seat on setup entries failed stores seats row inside ter
         failed = failed;
       };
       stores = stores;
-      seats = λ n. subst (λ (v : List (Option Seat)). SlotIs shape (opening U.places) (start_game code U).players n (seat_at v n)) (sym seats) (opens-seats shape code U seat n row inside term vars);
+      seats = λ n. subst (λ (v : List (Option Seat)). SlotIs shape [] (opening U.places) (start_game code U).players n (seat_at v n)) (sym seats) (opens-seats shape code U seat n row inside work);
     }
 
 -- the main activity alone is enabled

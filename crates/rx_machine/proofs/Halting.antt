@@ -38,7 +38,7 @@ use Rattle.rx_history.specs.Next.{next_of}
 use Rattle.rx_machine.specs.declared.machine.Machine.{Machine}
 use Rattle.rx_machine.specs.declared.seat.Seat.{Seat}
 use Rattle.rx_machine.specs.declared.seat.Mover.{Mover}
-use Rattle.rx_machine.specs.Slots.{row_of}
+use Rattle.rx_machine.specs.Slots.{row_of, seat_of}
 use Rattle.rx_store.specs.Kepts.{StoresAre}
 use Rattle.rx_machine.specs.Holds.{Seated, Acting, Landing}
 use Rattle.rx_machine.specs.Refusals.{BeginEach, HasBegun, HasTold, HasMade, HasStopped, NothingMore}
@@ -200,10 +200,10 @@ begun-made U k G m made =
 
 module _ {L : Type 0} {shape : Shape} {code : Block} {U : Given} {m : Machine L} {k i : ℕ} {here : PlaceId} {q : Player} {mover : Mover} {G : Game} (a : Acting shape code U m k i here q mover G) where
   -- what the task that the pick k moves has told
-  walk-told : (r : Player) (items : List Kept) (Z : State) (l : List PlaceEvent) → Goes U.heap (length G.entries) mover.seat.who.task here a.began a.store (journal_at G.journals here.0) r Z l → StoresAre U.heap 0 items (slice_set G.journals here.0 l) → HasTold U k G items
+  walk-told : (r : Player) (items : List Kept) (Z : State) (l : List PlaceEvent) → Goes U.heap (length G.entries) mover.who.task here a.began a.store (journal_at G.journals here.0) r Z l → StoresAre U.heap 0 items (slice_set G.journals here.0 l) → HasTold U k G items
   walk-told r items Z l goes stored =
       record {
-        task = row_of mover.seat;
+        task = row_of (seat_of mover);
         here = here;
         began = a.began;
         now = r;
@@ -212,7 +212,7 @@ module _ {L : Type 0} {shape : Shape} {code : Block} {U : Given} {m : Machine L}
         events = l;
         none_due = a.pick.none_due;
         picked = a.pick.picked;
-        stands = subst (λ (v : TaskId). task_of (tree_in U G) v ≡ Some (row_of mover.seat)) (sym (id_of mover.seat.who.task i a.pick.number)) (live_stands (tree_in U G) i (row_of mover.seat) a.gone.seat_is.row).0;
+        stands = subst (λ (v : TaskId). task_of (tree_in U G) v ≡ Some (row_of (seat_of mover))) (sym (id_of mover.who.task i a.pick.number)) (live_stands (tree_in U G) i (row_of (seat_of mover)) a.gone.seat_is.row).0;
         is_at = a.gone.is_at;
         player = subst (λ (n : ℕ). slice_get G.players n ≡ Some a.began) (sym a.pick.number) a.gone.player;
         found = a.gone.store;
@@ -226,7 +226,7 @@ module _ {L : Type 0} {shape : Shape} {code : Block} {U : Given} {m : Machine L}
       walk-told q items a.left a.events a.gone.goes (subst (λ (v : List Kept). StoresAre U.heap 0 v (slice_set G.journals here.0 a.events)) (sym same) a.stores)
 
   -- where a store has answered
-  pub called-told : (op : CellOp) (answer : Result (Option Value) Fault) (x : List ℕ) (old new : Kept) (mark : Mark) (items : List Kept) → IsCall q.term here op (does q.vars here.0 q.term) → begins q.term ≡ Some x → next_of (does q.vars here.0 q.term) ≡ CellStep op → StoreIs U m here G a.left a.events old → items ≡ slice_set m.stores.items here.0 new → mark.task ≡ mover.seat.who.task → mark.stamp ≡ length G.entries → mark.path ≡ x → Asked old new mark op answer → HasTold U k G items
+  pub called-told : (op : CellOp) (answer : Result (Option Value) Fault) (x : List ℕ) (old new : Kept) (mark : Mark) (items : List Kept) → IsCall q.term here op (does q.vars here.0 q.term) → begins q.term ≡ Some x → next_of (does q.vars here.0 q.term) ≡ CellStep op → StoreIs U m here G a.left a.events old → items ≡ slice_set m.stores.items here.0 new → mark.task ≡ mover.who.task → mark.stamp ≡ length G.entries → mark.path ≡ x → Asked old new mark op answer → HasTold U k G items
   called-told op answer x old new mark items c b e is put task stamp path asked =
       let w = call-told a op answer x old new mark items c b e is put task stamp path asked in walk-told _ items w.0 w.1 w.2 w.3
 

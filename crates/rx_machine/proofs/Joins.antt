@@ -41,8 +41,8 @@ joined {shape = shape} {code = code} {U = U} {m = m} {G = G} p t c k told ready 
           };
           stores = h.stores;
           seats = λ n.
-              subst (λ (T : Tree). SlotIs shape T G.players n (seat_at m.seats.items n)) same
-              (slot-on shape (tree_in U G) (widened (tree_in U G)) G.players G.players n (seat_at m.seats.items n) refl (λ x live. (refl, refl)) refl (h.seats n));
+              subst (λ (T : Tree). SlotIs shape G'.entries T G.players n (seat_at m.seats.items n)) same
+              (slot-on shape G.entries (Join p) (tree_in U G) (widened (tree_in U G)) G.players G.players n (seat_at m.seats.items n) refl (λ x live. (refl, refl)) refl (h.seats n));
         };
         unreleased = no_root-push G.entries (Join p) t.can.unreleased tt;
         ready = subst (λ (T : Tree). IsReady T m.ready.members) same ready;

@@ -18,7 +18,7 @@ use Rattle.rx_machine.specs.Holds.{Acting}
 pub known-there : {L : Type 0} {shape : Shape} {code : Block} {U : Given} {m : Machine L} {k i : ℕ} {here : PlaceId} {q : Player} {mover : Mover} {G : Game} (a : Acting shape code U m k i here q mover G) → ComesKnowing → GoesKnowing → q.vars.places ≤ (tree_in U G).places
 known-there {code = code} {U = U} {i = i} {here = here} {q = q} {mover = mover} {G = G} a come goes =
     let was : a.began.vars.places ≤ (tree_in U G).places = come code U G a.but.shares.comes i a.began a.gone.player in
-    let same : q.vars.places ≡ a.began.vars.places = goes U.heap (length G.entries) mover.seat.who.task here a.began q a.store a.left (journal_at G.journals here.0) a.events a.gone.goes in
+    let same : q.vars.places ≡ a.began.vars.places = goes U.heap (length G.entries) mover.who.task here a.began q a.store a.left (journal_at G.journals here.0) a.events a.gone.goes in
     omega (arith, was, same)
 
 -- there is a place, and there are sixteen at most

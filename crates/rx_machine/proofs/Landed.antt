@@ -27,19 +27,18 @@ use Rattle.rx_chronicle.proofs.Ended.{root_or_none}
 use Rattle.rx_chronicle.proofs.Granting.{unhindered}
 use Rattle.rx_store.specs.Kept.{Kept}
 use Rattle.rx_syntax.specs.Shape.{Shape}
-use Rattle.rx_control.specs.declared.control.Control.{Control}
-use Rattle.rx_control.specs.Stands.{StandsFor}
 use Rattle.rx_machine.specs.declared.machine.Machine.{Machine}
 use Rattle.rx_machine.specs.declared.seat.Seat.{Seat}
-use Rattle.rx_machine.specs.Slots.{row_of, seat_at, live_task, SlotIs, IsSeat}
+use Rattle.rx_machine.specs.Slots.{row_of, seat_at, live_task, SlotIs, IsSeat, IsWork}
 use Rattle.rx_store.specs.Kepts.{StoresAre}
 use Rattle.rx_machine.specs.Holds.{Seated, Landing, Finished, LeadsTo}
 use Rattle.rx_machine.proofs.Asking.{seat_asks, no-memory}
 use Rattle.rx_machine.proofs.BeforeTurn.{Releasing}
 use Rattle.rx_machine.proofs.Finding.{same_or_not}
 use Rattle.rx_machine.proofs.Live.{change-other, change-same, live_stands}
-use Rattle.rx_machine.proofs.Own.{slot-on}
+use Rattle.rx_machine.proofs.Own.{slot-on, work-still}
 use Rattle.rx_machine.proofs.Acted.{went, of-told, of-game, seat_back, seat_other}
+use Rattle.rx_machine.specs.declared.seat.Work.{Work}
 
 -- where the task lands
 abbrev pub there : PlaceId → Task → Task
@@ -56,8 +55,8 @@ module _ {L : Type 0} {shape : Shape} {code : Block} {U : Given} {m : Machine L}
   pub arrive-out : (f : LedgerFault) → IsRefused (tree_told m.chronicle) seat.who NoWait f → f ≡ NoMemory
   arrive-out f h = no-memory a.seat_is f (of-game (λ (V : Tree). IsRefused V seat.who NoWait f) a.but.shares h)
 
-  pub landed : (m' : Machine L) (seat' : Seat) (batch : List (List ℕ)) → batch ≡ [] → m' ≡ record m { chronicle = m'.chronicle; seats = m'.seats } → Granted m.chronicle seat.who (Arrive (landing seat.who.place)) batch m'.chronicle → row_of seat' ≡ there to (row_of seat) → seat'.who.inner ≡ seat.who.inner → seat'.control.value ≡ seat.control.value → m'.seats.items ≡ slice_set m.seats.items i (Some seat') → LeadsTo (Turn U k G true) (Seated shape code U m')
-  landed m' seat' batch none on granted_so row inside control back =
+  pub landed : (m' : Machine L) (seat' : Seat) (batch : List (List ℕ)) → batch ≡ [] → m' ≡ record m { chronicle = m'.chronicle; seats = m'.seats; idle = m'.idle } → Granted m.chronicle seat.who (Arrive (landing seat.who.place)) batch m'.chronicle → row_of seat' ≡ there to (row_of seat) → seat'.who.inner ≡ seat.who.inner → seat'.work ≡ seat.work → m'.seats.items ≡ slice_set m.seats.items i (Some seat') → LeadsTo (Turn U k G true) (Seated shape code U m')
+  landed m' seat' batch none on granted_so row inside work back =
       let T : Tree = tree_in U G in
       let t : TaskId = seat.who.task in
       let T' : Tree = made_act T t (Arrive to) in
@@ -75,11 +74,10 @@ module _ {L : Type 0} {shape : Shape} {code : Block} {U : Given} {m : Machine L}
       let s = a.seat_is in
       let live_t : live_task T t.0 ≡ Some (row_of seat) = subst (λ (n : ℕ). live_task T n ≡ Some (row_of seat)) (sym number) s.row in
       let now : live_task T' i ≡ Some (there to (row_of seat)) = subst (λ (n : ℕ). live_task T' n ≡ Some (there to (row_of seat))) number (change-same T (there to) t (row_of seat) (λ x. refl) live_t (live_stands T t.0 (row_of seat) live_t).1) in
-      let new : IsSeat shape T' i a.player seat' = record {
+      let new : IsSeat shape G'.entries T' i a.player seat' = record {
         row = now ∙ ap (λ (x : Task). Some x) (sym row);
         inner = ap (λ (x : Task). inner T x) row ∙ (s.inner ∙ sym inside);
-        term = subst (λ (c : Control). StandsFor shape c a.player.term) (sym control) s.term;
-        vars = ap (λ c. c.vars) control ∙ s.vars;
+        work = subst (λ (w : Work). IsWork shape G'.entries a.player w) (sym work) (work-still shape G.entries (Step t (Arrive to) []) a.player seat.work s.work);
         waits = ap (λ (x : Task). x.waits) row ∙ s.waits;
         held = s.held;
         spine = s.spine;
@@ -97,13 +95,13 @@ module _ {L : Type 0} {shape : Shape} {code : Block} {U : Given} {m : Machine L}
           };
           stores = subst (λ (ss : List Kept). StoresAre U.heap 0 ss G.journals) (ap (λ v. v.items) (sym e.stores)) a.stores;
           seats = λ n.
-              subst (λ (V : Tree). SlotIs shape V G.players n (seat_at m'.seats.items n)) same
-              (subst (λ (xs : List (Option Seat)). SlotIs shape T' G.players n (seat_at xs n)) (sym back)
+              subst (λ (V : Tree). SlotIs shape G'.entries V G.players n (seat_at m'.seats.items n)) same
+              (subst (λ (xs : List (Option Seat)). SlotIs shape G'.entries T' G.players n (seat_at xs n)) (sym back)
               (elim (same_or_not n i) [
-                | inl w ↦ subst (λ (v : ℕ). SlotIs shape T' G.players v (seat_at (slice_set m.seats.items i (Some seat')) v)) (sym w)
-                    (subst (λ (o : Option Seat). SlotIs shape T' G.players i o) (sym (seat_back m.seats.items i seat' a.inside)) (a.player, a.is_player, a.none_begun, new))
-                | inr apart ↦ subst (λ (o : Option Seat). SlotIs shape T' G.players n o) (sym (seat_other m.seats.items i n (Some seat') apart))
-                    (slot-on shape T T' G.players G.players n (seat_at m.seats.items n) (change-other T (there to) t n (λ x. refl) (λ w. apart (sym w ∙ number))) (λ x live. (refl, refl)) refl (a.but.others n apart))
+                | inl w ↦ subst (λ (v : ℕ). SlotIs shape G'.entries T' G.players v (seat_at (slice_set m.seats.items i (Some seat')) v)) (sym w)
+                    (subst (λ (o : Option Seat). SlotIs shape G'.entries T' G.players i o) (sym (seat_back m.seats.items i seat' a.inside)) (a.player, a.is_player, a.none_begun, new))
+                | inr apart ↦ subst (λ (o : Option Seat). SlotIs shape G'.entries T' G.players n o) (sym (seat_other m.seats.items i n (Some seat') apart))
+                    (slot-on shape G.entries (Step t (Arrive to) []) T T' G.players G.players n (seat_at m.seats.items n) (change-other T (there to) t n (λ x. refl) (λ w. apart (sym w ∙ number))) (λ x live. (refl, refl)) refl (a.but.others n apart))
               ]));
         },
       )

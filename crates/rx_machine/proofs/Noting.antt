@@ -114,7 +114,7 @@ module _ {L : Type 0} (shape : Shape) (code : Block) (U : Given) (m : Machine L)
   others-stay stay seat at n apart low =
       let a : TurnAct U k G H = mine in
       let number : a.task.number.0 ≡ i = mover-number in
-      let slot = subst (λ (o : Option Seat). SlotIs shape (tree_in U H) H.players i o) at (h.can.holds.seats i) in
+      let slot = subst (λ (o : Option Seat). SlotIs shape H.entries (tree_in U H) H.players i o) at (h.can.holds.seats i) in
       let stays : task_of (tree_in U H) (record { 0 = i }) ≡ Some (row_of seat) = (live_stands (tree_in U H) i (row_of seat) slot.3.row).0 in
       let found : task_of (made_act (tree_in U G) a.task.number a.act) a.task.number ≡ Some (row_of seat) =
       subst (λ (T : Tree). task_of T a.task.number ≡ Some (row_of seat)) a.tree (subst (λ (v : ℕ). task_of (tree_in U H) (record { 0 = v }) ≡ Some (row_of seat)) (sym number) stays)
@@ -123,7 +123,7 @@ module _ {L : Type 0} (shape : Shape) (code : Block) (U : Given) (m : Machine L)
       ∙ stay (tree_in U G) a.task.number a.act (row_of seat) (record { 0 = n }) h.reached a.allowed found (λ e. apart (e ∙ number)) (let z = h.slots in omega (arith, low, z))
 
   now-able : (n : ℕ) → slot_able (tree_in U H) (seat_at m.seats.items n) ≡ able (tree_in U H) (record { 0 = n })
-  now-able n = slot_task shape (tree_in U H) H.players n (seat_at m.seats.items n) (h.can.holds.seats n)
+  now-able n = slot_task shape H.entries (tree_in U H) H.players n (seat_at m.seats.items n) (h.can.holds.seats n)
 
   was-not : (n : ℕ) → before ≤ n → is_listed n m.ready.members ≡ false
   was-not n high = h.ready.1 n ∙ able_high (tree_in U G) n (sound (tree_in U G) h.reached) (let z = h.slots in omega (arith, high, z))
@@ -173,7 +173,7 @@ module _ {L : Type 0} (shape : Shape) (code : Block) (U : Given) (m : Machine L)
       elim (acts_on (tree_in U G) mine.task.number mine.act (sound (tree_in U G) h.reached) mine.allowed) [
         | inl e ↦ e
         | inr y ↦
-            let slot : live_task (tree_in U H) i ≡ None = subst (λ (o : Option Seat). SlotIs shape (tree_in U H) H.players i o) gone (h.can.holds.seats i) in
+            let slot : live_task (tree_in U H) i ≡ None = subst (λ (o : Option Seat). SlotIs shape H.entries (tree_in U H) H.players i o) gone (h.can.holds.seats i) in
             let live : live_task (tree_in U H) mine.task.number.0 ≡ Some y.0 = ap (λ (T : Tree). live_task T mine.task.number.0) mine.tree ∙ y.1 in
             let here : live_task (tree_in U H) i ≡ Some y.0 = subst (λ (v : ℕ). live_task (tree_in U H) v ≡ Some y.0) mover-number live in
             let f : None ≡ Some y.0 = sym slot ∙ here in
@@ -239,11 +239,11 @@ module _ {L : Type 0} (shape : Shape) (code : Block) (U : Given) (m : Machine L)
       )
 
 -- every task was asked
-pub noted-all : (shape : Shape) (T T' : Tree) (ps : List Player) (os : List (Option Seat)) (old ns : List ℕ) → Sound T → Sound T' → Grows T T' → length os ≡ T'.next_task → ((n : ℕ) → SlotIs shape T' ps n (seat_at os n)) → IsReady T old → (Ascends 0 old → Ascends 0 ns) → ((n : ℕ) → n < length os → is_listed n ns ≡ slot_able T' (seat_at os n)) → ((n : ℕ) → length os ≤ n → is_listed n ns ≡ is_listed n old) → IsReady T' ns
-noted-all shape T T' ps os old ns before after more size slots ready ascends noted others = (
+pub noted-all : (shape : Shape) (es : List Entry) (T T' : Tree) (ps : List Player) (os : List (Option Seat)) (old ns : List ℕ) → Sound T → Sound T' → Grows T T' → length os ≡ T'.next_task → ((n : ℕ) → SlotIs shape es T' ps n (seat_at os n)) → IsReady T old → (Ascends 0 old → Ascends 0 ns) → ((n : ℕ) → n < length os → is_listed n ns ≡ slot_able T' (seat_at os n)) → ((n : ℕ) → length os ≤ n → is_listed n ns ≡ is_listed n old) → IsReady T' ns
+noted-all shape es T T' ps os old ns before after more size slots ready ascends noted others = (
   ascends ready.0,
   λ n. elim (cases_lt n (length os)) [
-    | inl low ↦ noted n low ∙ slot_task shape T' ps n (seat_at os n) (slots n)
+    | inl low ↦ noted n low ∙ slot_task shape es T' ps n (seat_at os n) (slots n)
     | inr high ↦ others n high ∙ (ready.1 n ∙ (able_high T n before (let l = more.least in omega (arith, l, size, high)) ∙ sym (able_high T' n after (omega (arith, size, high)))))
   ],
 )
@@ -251,7 +251,7 @@ noted-all shape T T' ps os old ns before after more size slots ready ascends not
 -- what is noted after a turn of the task of slot i
 pub has-moved : {L : Type 0} (shape : Shape) (code : Block) (U : Given) (m m' : Machine L) (k i : ℕ) (under : ScopeId) (before : ℕ) (G : Game) → GamesCome → FoldReached → (t : Taken shape code U m k i G) → IsReady (tree_in U G) m.ready.members → (a : AfterTurn shape code U m' k G) → m'.ready ≡ m.ready → ((seat : Seat) → seat_at m.seats.items i ≡ Some seat → under ≡ seat.who.scope) → before ≡ length m.seats.items → HasMoved shape code U m' k i under before G a.0
 has-moved shape code U m m' k i under before G come fold t ready a same hung size =
-    let slot = subst (λ (o : Option Seat). SlotIs shape (tree_in U G) G.players i o) t.at (t.can.holds.seats i) in
+    let slot = subst (λ (o : Option Seat). SlotIs shape G.entries (tree_in U G) G.players i o) t.at (t.can.holds.seats i) in
     record {
       can = can-turn shape code U m' a.0 come fold a.2 (stays_open U k G a.0 a.1 t.can.unreleased);
       turn = a.1;
@@ -304,7 +304,7 @@ died-on {L = L} shape code U m m' k G old sound reached a can ready same ascends
     seated = subst (λ (x : Machine L). Seated shape code U x a.0) (sym same) (can-same shape code U m m'.ready a.0 can).holds;
     unreleased = a.2.1;
     ready =
-        noted-all shape (tree_in U G) (tree_in U a.0) a.0.players m.seats.items old m'.ready.members
+        noted-all shape a.0.entries (tree_in U G) (tree_in U a.0) a.0.players m.seats.items old m'.ready.members
         (sound (tree_in U G) reached) (sound (tree_in U a.0) can.reached) (turn-grows U k false G a.0 a.1) a.2.0.shares.slots a.2.0.seats ready ascends noted others;
   },
 )

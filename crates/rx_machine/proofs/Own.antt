@@ -1,7 +1,7 @@
 -- The own scopes of tasks after each kind of change, and slots that a change leaves as they were.
-use Rattle.std.specs.Prelude.{◌≡◌, ◌≢◌, ℕ, Bool, true, false, cond, ◌==◌, List, [], ◌∷◌, ◌++◌, map, filter, reverse, Option, Some, None, slice_get, refl}
+use Rattle.std.specs.Prelude.{◌<◌, length, ◌≡◌, ◌≢◌, ℕ, Bool, true, false, cond, ◌==◌, List, [], ◌∷◌, ◌++◌, map, filter, reverse, Option, Some, None, slice_get, refl}
 use Rattle.std.specs.List.{find}
-use Rattle.std.proofs.Common.{ap, ◌∙◌, sym, subst}
+use Rattle.std.proofs.Common.{ap, ◌∙◌, sym, subst, arith}
 use Rattle.std.proofs.lemmas.Bool.{eq-eqb, ne_eqb}
 use Rattle.rx_base.specs.declared.ids.TaskId.{TaskId}
 use Rattle.rx_base.specs.declared.ids.ScopeId.{ScopeId}
@@ -15,9 +15,14 @@ use Rattle.rx_rules.specs.Entries.{change_first, change_scope, opened, after_end
 use Rattle.rx_rules.specs.Picked.{Player}
 use Rattle.rx_syntax.specs.Shape.{Shape}
 use Rattle.rx_machine.specs.declared.seat.Seat.{Seat}
-use Rattle.rx_machine.specs.Slots.{row_of, live_task, own_kinds, SlotIs}
+use Rattle.rx_machine.specs.Slots.{row_of, live_task, own_kinds, SlotIs, IsWork}
 use Rattle.rx_sound.specs.Spine.{Spine}
 use Rattle.rx_machine.proofs.Live.{live_number, without_task}
+use Rattle.rx_rules.specs.declared.entries.Entry.{Entry}
+use Rattle.rx_machine.specs.declared.seat.Work.{Work}
+use Rattle.rx_machine.proofs.Finding.{get_before}
+use Rattle.std.proofs.lemmas.Option.{slice_get_within}
+use Rattle.rx_machine.specs.declared.seat.Work.TheVariants.{Control as Begun, Seed as NotBegun}
 
 -- the scopes that a task opened and that stand, the newest first
 abbrev pub own_scopes : Tree → ℕ → List ScopeId
@@ -98,10 +103,18 @@ end-own T t thrown x n h =
 pub release-own : (T T' : Tree) (n : ℕ) → filter (opened_by (record { 0 = n })) T'.scopes ≡ filter (opened_by (record { 0 = n })) T.scopes → SameOwn T T' n
 release-own T T' n e = (ap (map (λ g. g.number)) e, ap (map (λ g. g.kind)) e)
 
+-- an entry more leaves the work of a task as it is
+pub work-still : (shape : Shape) (es : List Entry) (e : Entry) (p : Player) (w : Work) → IsWork shape es p w → IsWork shape (es ++ e ∷ []) p w
+work-still shape es e p (Begun control) h = h
+work-still shape es e p (NotBegun seed entry) h =
+    let low : entry < length es = slice_get_within es entry h.1.0 h.1.1 in
+    let before : slice_get (es ++ e ∷ []) entry ≡ slice_get es entry = get_before es e entry (λ w. absurd (omega (arith, low, w))) in
+    (h.0, (h.1.0, before ∙ h.1.1, h.1.2), h.2, h.3)
+
 -- a slot stays where its task, that task's scopes and its player stay
-pub slot-on : (shape : Shape) (T T' : Tree) (ps ps' : List Player) (n : ℕ) (o : Option Seat) → live_task T' n ≡ live_task T n → ((x : Task) → live_task T n ≡ Some x → SameOwn T T' n) → slice_get ps' n ≡ slice_get ps n → SlotIs shape T ps n o → SlotIs shape T' ps' n o
-slot-on shape T T' ps ps' n None live own player h = live ∙ h
-slot-on shape T T' ps ps' n (Some seat) live own player h =
+pub slot-on : (shape : Shape) (es : List Entry) (e : Entry) (T T' : Tree) (ps ps' : List Player) (n : ℕ) (o : Option Seat) → live_task T' n ≡ live_task T n → ((x : Task) → live_task T n ≡ Some x → SameOwn T T' n) → slice_get ps' n ≡ slice_get ps n → SlotIs shape es T ps n o → SlotIs shape (es ++ e ∷ []) T' ps' n o
+slot-on shape es e T T' ps ps' n None live own player h = live ∙ h
+slot-on shape es e T T' ps ps' n (Some seat) live own player h =
     let s = h.3 in
     let o = own (row_of seat) s.row in (
       h.0,
@@ -110,8 +123,7 @@ slot-on shape T T' ps ps' n (Some seat) live own player h =
       record {
         row = live ∙ s.row;
         inner = inner-same T T' n (row_of seat) (live_number T n (row_of seat) s.row) o.0 ∙ s.inner;
-        term = s.term;
-        vars = s.vars;
+        work = work-still shape es e h.0 seat.work s.work;
         waits = s.waits;
         held = s.held;
         spine = subst (λ (ks : List Kind). Spine h.0.term (reverse ks)) (sym o.1) s.spine;

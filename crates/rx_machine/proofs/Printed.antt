@@ -17,9 +17,8 @@ use Rattle.rx_chronicle.specs.Requests.{Granted}
 use Rattle.rx_syntax.specs.Shape.{Shape}
 use Rattle.rx_control.specs.Stands.{StandsFor}
 use Rattle.rx_machine.specs.declared.machine.Machine.{Machine}
-use Rattle.rx_machine.specs.declared.seat.Seat.{Seat}
 use Rattle.rx_machine.specs.declared.seat.Mover.{Mover}
-use Rattle.rx_machine.specs.Slots.{row_of, own_kinds}
+use Rattle.rx_machine.specs.Slots.{row_of, own_kinds, seat_of}
 use Rattle.rx_sound.specs.Held.{is_held}
 use Rattle.rx_machine.specs.Holds.{Seated, Acting, LeadsTo}
 use Rattle.rx_machine.proofs.Acted.{told-nothing, went, of-game, acted}
@@ -34,22 +33,21 @@ pub print-begins : (q : Player) (here : ℕ) (z : ℤ) → does q.vars here q.te
 print-begins q here z asks = subst (λ (d : Does). Begins d (begins q.term)) asks (begins-so q.vars here q.term)
 
 module _ {L : Type 0} {shape : Shape} {code : Block} {U : Given} {m : Machine L} {k i : ℕ} {here : PlaceId} {q : Player} {mover : Mover} {G : Game} (a : Acting shape code U m k i here q mover G) (z : ℤ) (asks : does q.vars here.0 q.term ≡ Prints z) where
-  pub printed : (m' : Machine L) (seat' : Seat) (x : List ℕ) → begins q.term ≡ Some x → m' ≡ record m { chronicle = m'.chronicle; seats = m'.seats } → Granted m.chronicle mover.seat.who (Print z x) mover.batch m'.chronicle → StandsFor shape seat'.control.value (granted [] q.term) → seat'.control.value.vars ≡ mover.seat.control.value.vars → row_of seat' ≡ row_of mover.seat → seat'.who.inner ≡ mover.seat.who.inner → m'.seats.items ≡ slice_set m.seats.items i (Some seat') → LeadsTo (Turn U k G true) (Seated shape code U m')
-  printed m' seat' x path on did term vars row inside back =
+  pub printed : (m' : Machine L) (mover' : Mover) (x : List ℕ) → begins q.term ≡ Some x → m' ≡ record m { chronicle = m'.chronicle; seats = m'.seats; idle = m'.idle } → Granted m.chronicle mover.who (Print z x) mover.batch m'.chronicle → StandsFor shape mover'.control.value (granted [] q.term) → mover'.control.value.vars ≡ mover.control.value.vars → row_of (seat_of mover') ≡ row_of (seat_of mover) → mover'.who.inner ≡ mover.who.inner → m'.seats.items ≡ slice_set m.seats.items i (Some (seat_of mover')) → LeadsTo (Turn U k G true) (Seated shape code U m')
+  printed m' mover' x path on did term vars row inside back =
       let T : Tree = tree_in U G in
       let s = a.gone.seat_is in
-      let t : TaskId = mover.seat.who.task in
+      let t : TaskId = mover.who.task in
       let act : Act = Print z x in
       let may : AllowedAct T t act = of-game (λ (V : Tree). AllowedAct V t act) a.but.shares did.allowed in
       let grant : AfterGrant (Prints z) (granted [] q.term) = subst (λ (d : Does). AfterGrant d (granted [] q.term)) asks (after-grant q.vars here.0 [] q.term s.held) in
       let spine : GrantsSpine (reverse (own_kinds T i)) (Prints z) (granted [] q.term) = subst (λ (d : Does). GrantsSpine (reverse (own_kinds T i)) d (granted [] q.term)) asks (spine-grant (reverse (own_kinds T i)) q.vars here.0 [] q.term s.spine) in
       let free : is_held q.term ≡ false = asks-free q here.0 (Prints z) asks (λ f. let g : ⊥ = cc f in g) in
-      acted a act (subst (λ (d : Does). Fits here q.term d act) (sym asks) (refl, path)) may m' seat' refl (λ n apart. refl) (λ n apart y h. (refl, refl)) refl
+      acted a act (subst (λ (d : Does). Fits here q.term d act) (sym asks) (refl, path)) may m' (seat_of mover') refl (λ n apart. refl) (λ n apart y h. (refl, refl)) refl
       (record {
         row = s.row ∙ ap (λ (x : Task). Some x) (sym row);
         inner = ap (λ (x : Task). inner T x) row ∙ (s.inner ∙ sym inside);
-        term = term;
-        vars = vars ∙ (s.vars ∙ sym (told-nothing (does q.vars here.0 q.term) act q.vars refl));
+        work = (term, vars ∙ (s.work.1 ∙ sym (told-nothing (does q.vars here.0 q.term) act q.vars refl)));
         waits = ap (λ (x : Task). x.waits) row ∙ (s.waits ∙ (free ∙ sym grant.1));
         held = grant.0;
         spine = spine;

@@ -15,6 +15,7 @@ use Rattle.rx_machine.specs.Slots.{row_of, seat_at, live_in, SlotIs}
 use Rattle.rx_machine.specs.Picking.{slot_able, is_listed, IsReady}
 use Rattle.rx_machine.proofs.Live.{live_stands}
 use Rattle.rx_machine.proofs.EnabledTasks.{able_from}
+use Rattle.rx_rules.specs.declared.entries.Entry.{Entry}
 
 -- A number put in or taken out.
 
@@ -176,9 +177,9 @@ able_has T i (suc j) (o ∷ os) =
     ] ∙ able_has T (suc i) j os)
 
 -- a slot is enabled where the task of its number is
-pub slot_task : (shape : Shape) (T : Tree) (ps : List Player) (n : ℕ) (o : Option Seat) → SlotIs shape T ps n o → slot_able T o ≡ able T (record { 0 = n })
-slot_task shape T ps n (Some seat) is = sym (ap (able_in T) (live_stands T n (row_of seat) is.3.row).0)
-slot_task shape T ps n None none = sym (off (task_of T (record { 0 = n })) none) where
+pub slot_task : (shape : Shape) (es : List Entry) (T : Tree) (ps : List Player) (n : ℕ) (o : Option Seat) → SlotIs shape es T ps n o → slot_able T o ≡ able T (record { 0 = n })
+slot_task shape es T ps n (Some seat) is = sym (ap (able_in T) (live_stands T n (row_of seat) is.3.row).0)
+slot_task shape es T ps n None none = sym (off (task_of T (record { 0 = n })) none) where
   off : (o : Option Task) → live_in o ≡ None → able_in T o ≡ false
   off None h = refl
   off (Some x) h =
@@ -196,8 +197,8 @@ able_high T n h high =
     ]) refl
 
 -- the set has the numbers of the slots that are enabled
-pub ready_slots : (shape : Shape) (T : Tree) (ps : List Player) (os : List (Option Seat)) (ns : List ℕ) → ((n : ℕ) → SlotIs shape T ps n (seat_at os n)) → IsReady T ns → ns ≡ able_from T 0 os
-ready_slots shape T ps os ns slots r =
+pub ready_slots : (shape : Shape) (es : List Entry) (T : Tree) (ps : List Player) (os : List (Option Seat)) (ns : List ℕ) → ((n : ℕ) → SlotIs shape es T ps n (seat_at os n)) → IsReady T ns → ns ≡ able_from T 0 os
+ready_slots shape es T ps os ns slots r =
     ascends_same 0 ns (able_from T 0 os) r.0 (able_ascends T 0 os) (λ n.
     let z : n ≡ 0 + n = omega arith in
-    r.1 n ∙ (sym (slot_task shape T ps n (seat_at os n) (slots n)) ∙ (sym (able_has T 0 n os) ∙ ap (λ (v : ℕ). is_listed v (able_from T 0 os)) (sym z))))
+    r.1 n ∙ (sym (slot_task shape es T ps n (seat_at os n) (slots n)) ∙ (sym (able_has T 0 n os) ∙ ap (λ (v : ℕ). is_listed v (able_from T 0 os)) (sym z))))

@@ -35,7 +35,7 @@ use Rattle.rx_control.specs.Stands.{StandsFor}
 use Rattle.rx_machine.specs.declared.machine.Machine.{Machine}
 use Rattle.rx_machine.specs.declared.seat.Seat.{Seat}
 use Rattle.rx_machine.specs.declared.seat.Mover.{Mover}
-use Rattle.rx_machine.specs.Slots.{row_of, live_task, own_kinds}
+use Rattle.rx_machine.specs.Slots.{row_of, live_task, own_kinds, seat_of}
 use Rattle.rx_sound.specs.Spine.{Spine}
 use Rattle.rx_machine.specs.Holds.{Seated, Acting, IsPick, LeadsTo}
 use Rattle.rx_machine.specs.Refusals.{HasMade}
@@ -101,14 +101,14 @@ module _ {L : Type 0} {shape : Shape} {code : Block} {U : Given} {m : Machine L}
       subst (λ (d : Does). GrantsSpine ks d (granted faults q.term)) asks (spine-grant ks q.vars here.0 faults q.term a.gone.seat_is.spine)
 
   -- the chronicle may be asked
-  pub release-may : MayAskRelease (tree_told m.chronicle) mover.seat.who
+  pub release-may : MayAskRelease (tree_told m.chronicle) mover.who
   release-may =
       let T : Tree = tree_in U G in
       let s = a.gone.seat_is in
       let spine = spine-release [] in
       let found = innermost T i spine.0 spine.1 spine.2 in
-      of-told (λ (V : Tree). MayAskRelease V mover.seat.who) a.but.shares
-      (seat_asks s (WaitsInside T mover.seat.who) a.numbers
+      of-told (λ (V : Tree). MayAskRelease V mover.who) a.but.shares
+      (seat_asks s (WaitsInside T mover.who) a.numbers
       (record {
         waits = s.waits ∙ release_held q.vars here.0 q.term asks;
         scope = found.0;
@@ -116,37 +116,37 @@ module _ {L : Type 0} {shape : Shape} {code : Block} {U : Given} {m : Machine L}
       }))
 
   -- the scope is quiet
-  release-quiet : quiet (tree_in U G) mover.seat.who.inner ≡ true
+  release-quiet : quiet (tree_in U G) mover.who.inner ≡ true
   release-quiet =
       let s = a.gone.seat_is in
-      subst (λ (v : ScopeId). quiet (tree_in U G) v ≡ true) s.inner (pick-quiet U k i mover.seat G a.pick (s.waits ∙ release_held q.vars here.0 q.term asks))
+      subst (λ (v : ScopeId). quiet (tree_in U G) v ≡ true) s.inner (pick-quiet U k i (seat_of mover) G a.pick (s.waits ∙ release_held q.vars here.0 q.term asks))
 
   -- so it is refused for want of memory alone
-  pub release-out : (f : LedgerFault) → IsRefused (tree_told m.chronicle) mover.seat.who (IsHindered (tree_told m.chronicle) mover.seat.who.inner) f → f ≡ NoMemory
+  pub release-out : (f : LedgerFault) → IsRefused (tree_told m.chronicle) mover.who (IsHindered (tree_told m.chronicle) mover.who.inner) f → f ≡ NoMemory
   release-out f h =
       let T : Tree = tree_in U G in
-      memory_alone T mover.seat.who (IsHindered T mover.seat.who.inner) f (seat_unstruck a.gone.seat_is) (λ place w. unhindered T mover.seat.who.inner place release-quiet w)
-      (of-game (λ (V : Tree). IsRefused V mover.seat.who (IsHindered V mover.seat.who.inner) f) a.but.shares h)
+      memory_alone T mover.who (IsHindered T mover.who.inner) f (seat_unstruck a.gone.seat_is) (λ place w. unhindered T mover.who.inner place release-quiet w)
+      (of-game (λ (V : Tree). IsRefused V mover.who (IsHindered V mover.who.inner) f) a.but.shares h)
 
   module _ (lost : PlaceSet) (masked : ℕ) (thrown : List Fault) where
-    fits-release : Fits here q.term (does q.vars here.0 q.term) (Release mover.seat.who.inner lost masked thrown)
-    fits-release = subst (λ (d : Does). Fits here q.term d (Release mover.seat.who.inner lost masked thrown)) (sym asks) tt
+    fits-release : Fits here q.term (does q.vars here.0 q.term) (Release mover.who.inner lost masked thrown)
+    fits-release = subst (λ (d : Does). Fits here q.term d (Release mover.who.inner lost masked thrown)) (sym asks) tt
 
-    allowed-release : (m' : Machine L) → Granted m.chronicle mover.seat.who (Release mover.seat.who.inner lost masked thrown) mover.batch m'.chronicle → AllowedAct (tree_in U G) mover.seat.who.task (Release mover.seat.who.inner lost masked thrown)
-    allowed-release m' did = of-game (λ (V : Tree). AllowedAct V mover.seat.who.task (Release mover.seat.who.inner lost masked thrown)) a.but.shares did.allowed
+    allowed-release : (m' : Machine L) → Granted m.chronicle mover.who (Release mover.who.inner lost masked thrown) mover.batch m'.chronicle → AllowedAct (tree_in U G) mover.who.task (Release mover.who.inner lost masked thrown)
+    allowed-release m' did = of-game (λ (V : Tree). AllowedAct V mover.who.task (Release mover.who.inner lost masked thrown)) a.but.shares did.allowed
 
     -- the entry stands, whatever the control does then
-    pub release-told : (m' : Machine L) → m' ≡ record m { chronicle = m'.chronicle; seats = m'.seats } → Granted m.chronicle mover.seat.who (Release mover.seat.who.inner lost masked thrown) mover.batch m'.chronicle → HasMade U k G m'
-    release-told m' on did = told-so a (Release mover.seat.who.inner lost masked thrown) fits-release (allowed-release m' did) m' (went m m' on did)
+    pub release-told : (m' : Machine L) → m' ≡ record m { chronicle = m'.chronicle; seats = m'.seats; idle = m'.idle } → Granted m.chronicle mover.who (Release mover.who.inner lost masked thrown) mover.batch m'.chronicle → HasMade U k G m'
+    release-told m' on did = told-so a (Release mover.who.inner lost masked thrown) fits-release (allowed-release m' did) m' (went m m' on did)
 
-    pub released : (come : GamesCome) (sound : ReachedSound) (keeps : ReleaseKeeps) (pops : ReleasePops) (uncovers : UncoversParent) (m' : Machine L) (seat' : Seat) → m' ≡ record m { chronicle = m'.chronicle; seats = m'.seats } → Granted m.chronicle mover.seat.who (Release mover.seat.who.inner lost masked thrown) mover.batch m'.chronicle → StandsFor shape seat'.control.value (granted (raised_by lost thrown) q.term) → seat'.control.value.vars ≡ mover.seat.control.value.vars → row_of seat' ≡ resumed (row_of mover.seat) → seat'.who.inner ≡ parent_told m.chronicle.entries mover.seat.who.inner → m'.seats.items ≡ slice_set m.seats.items i (Some seat') → LeadsTo (Turn U k G true) (Seated shape code U m')
-    released come sound keeps pops uncovers m' seat' on did term vars row inside back =
+    pub released : (come : GamesCome) (sound : ReachedSound) (keeps : ReleaseKeeps) (pops : ReleasePops) (uncovers : UncoversParent) (m' : Machine L) (mover' : Mover) → m' ≡ record m { chronicle = m'.chronicle; seats = m'.seats; idle = m'.idle } → Granted m.chronicle mover.who (Release mover.who.inner lost masked thrown) mover.batch m'.chronicle → StandsFor shape mover'.control.value (granted (raised_by lost thrown) q.term) → mover'.control.value.vars ≡ mover.control.value.vars → row_of (seat_of mover') ≡ resumed (row_of (seat_of mover)) → mover'.who.inner ≡ parent_told m.chronicle.entries mover.who.inner → m'.seats.items ≡ slice_set m.seats.items i (Some (seat_of mover')) → LeadsTo (Turn U k G true) (Seated shape code U m')
+    released come sound keeps pops uncovers m' mover' on did term vars row inside back =
         let T : Tree = tree_in U G in
-        let t : TaskId = mover.seat.who.task in
-        let s : ScopeId = mover.seat.who.inner in
+        let t : TaskId = mover.who.task in
+        let s : ScopeId = mover.who.inner in
         let act : Act = Release s lost masked thrown in
         let T' : Tree = made_act T t act in
-        let x : Task = row_of mover.seat in
+        let x : Task = row_of (seat_of mover) in
         let faults : List Fault = raised_by lost thrown in
         let at = a.gone.seat_is in
         let h = a.but.shares in
@@ -166,8 +166,8 @@ module _ {L : Type 0} {shape : Shape} {code : Block} {U : Given} {m : Machine L}
         (change-same (without T s) resumed t x (λ y. refl) stood (live_stands T i x at.row).1) in
         let found : task_of T' t ≡ Some (resumed x) = subst (λ (v : TaskId). task_of T' v ≡ Some (resumed x)) (sym id) (live_stands T' i (resumed x) now).0 in
         let parent : inner T' (resumed x) ≡ parent_told G.entries s = uncovers U G.entries t s lost masked thrown (resumed x) came.ok.folds may found in
-        let noted : seat'.who.inner ≡ parent_told G.entries s = inside ∙ ap (λ (es : List Entry). parent_told es s) h.entries in
-        acted a act fits-release may m' seat' refl
+        let noted : mover'.who.inner ≡ parent_told G.entries s = inside ∙ ap (λ (es : List Entry). parent_told es s) h.entries in
+        acted a act fits-release may m' (seat_of mover') refl
         (λ n apart. change-other (without T s) resumed t n (λ y. refl) (λ e. apart (sym e ∙ a.pick.number)) ∙ release-live T s n falls)
         (λ n apart y live.
         let number : y.number.0 ≡ n = live_number T n y live in
@@ -181,8 +181,7 @@ module _ {L : Type 0} {shape : Shape} {code : Block} {U : Given} {m : Machine L}
         (record {
           row = now ∙ ap (λ (y : Task). Some y) (sym row);
           inner = ap (λ (y : Task). inner T' y) row ∙ (parent ∙ sym noted);
-          term = term;
-          vars = vars ∙ (at.vars ∙ sym (told-nothing (does q.vars here.0 q.term) act q.vars refl));
+          work = (term, vars ∙ (at.work.1 ∙ sym (told-nothing (does q.vars here.0 q.term) act q.vars refl)));
           waits = ap (λ (y : Task). y.waits) row ∙ sym grant.1;
           held = grant.0;
           spine = subst (λ (ks : List Kind). Spine (granted faults q.term) ks) (kinds-left (own_kinds T i) (own_kinds T' i) spine.0 pop.0.kind spine.1 kinds_were spine.2) spine.3;

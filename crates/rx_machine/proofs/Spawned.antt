@@ -1,5 +1,5 @@
 -- The turns that start a task.
-use Rattle.std.specs.Prelude.{◌≡◌, ◌≢◌, ℕ, ◌<◌, false, is_none, is_some, IfSome, reverse, List, [], ◌∷◌, ◌++◌, Option, Some, None, slice_set, refl, true}
+use Rattle.std.specs.Prelude.{slice_get, length, ◌≡◌, ◌≢◌, ℕ, ◌<◌, false, is_none, is_some, IfSome, reverse, List, [], ◌∷◌, ◌++◌, Option, Some, None, slice_set, refl, true}
 use Rattle.std.proofs.Common.{ap, ◌∙◌, sym, subst, arith}
 use Rattle.std.proofs.lemmas.List.{reverse-append}
 use Rattle.rx_base.specs.declared.ids.PlaceId.{PlaceId}
@@ -21,14 +21,13 @@ use Rattle.rx_rules.specs.Picked.{Game, Player, Turn, tree_in}
 use Rattle.rx_sound.specs.Sound.{Sound}
 use Rattle.rx_runs.specs.Knowing.{ComesKnowing, GoesKnowing}
 use Rattle.rx_syntax.specs.Shape.{Shape}
-use Rattle.rx_control.specs.declared.control.Control.{Control}
 use Rattle.rx_control.specs.Stands.{StandsFor}
 use Rattle.rx_finish.specs.Callers.{MayAskTo, IsMoving}
 use Rattle.rx_chronicle.specs.Requests.{tree_told, Granted}
 use Rattle.rx_machine.specs.declared.machine.Machine.{Machine}
 use Rattle.rx_machine.specs.declared.seat.Seat.{Seat}
 use Rattle.rx_machine.specs.declared.seat.Mover.{Mover}
-use Rattle.rx_machine.specs.Slots.{row_of, live_task, if_unstruck, own_kinds}
+use Rattle.rx_machine.specs.Slots.{row_of, live_task, if_unstruck, own_kinds, IsWork, seat_of, entry_starts}
 use Rattle.rx_sound.specs.Spine.{Spine}
 use Rattle.rx_sound.specs.Held.{is_held}
 use Rattle.rx_machine.specs.Holds.{Seated, Acting, LeadsTo}
@@ -37,12 +36,19 @@ use Rattle.rx_machine.proofs.Asking.{seat_asks, moving, asks-free}
 use Rattle.rx_machine.proofs.Knowing.{known-there}
 use Rattle.rx_sound.proofs.Beginning.{begins-so}
 use Rattle.rx_sound.specs.TermSteps.{Begins, Targets}
-use Rattle.rx_machine.proofs.Born.{NewSeat, none-own, new-slot, started}
+use Rattle.rx_machine.proofs.Born.{NewSeat, none-own, new-slot, started, child_player}
 use Rattle.rx_sound.proofs.Granting.{AfterGrant, after-grant}
 use Rattle.rx_machine.proofs.Live.{live_stands, add-other, add-same, change-other, change-same}
 use Rattle.rx_machine.proofs.Own.{own_scopes, opened-same, opened-other, inner-opened}
 use Rattle.rx_sound.proofs.SpineGrants.{GrantsSpine, spine-grant}
 use Rattle.rx_sound.proofs.Targets.{targets-exist}
+use Rattle.rx_rules.specs.declared.entries.Entry.{Entry}
+use Rattle.rx_rules.specs.declared.entries.Entry.TheVariants.{Step}
+use Rattle.rx_machine.specs.declared.seat.Work.{Work}
+use Rattle.rx_control.specs.declared.birth.Seed.{Seed}
+use Rattle.rx_control.specs.Seeds.{IsSeedOf}
+use Rattle.rx_base.proofs.Elements.{get-pushed}
+use Rattle.rx_machine.specs.declared.seat.Work.TheVariants.{Seed as NotBegun}
 
 -- What starts a task begins a statement.
 
@@ -53,77 +59,82 @@ pub call-begins : (q : Player) (here to : ℕ) → does q.vars here q.term ≡ C
 call-begins q here to asks = subst (λ (d : Does). Begins d (begins q.term)) asks (begins-so q.vars here q.term)
 
 -- the slot of a new task, as it was made
-pub record IsBorn (T : Tree) (number : TaskId) (under : ScopeId) (from to : PlaceId) (control : Control) (slot : Option Seat) : Type 0 where
+pub record IsBorn (T : Tree) (number : TaskId) (under : ScopeId) (from to : PlaceId) (work : Work) (slot : Option Seat) : Type 0 where
   pub lost : is_none slot ≡ is_some (death_of T to)
   pub row : IfSome slot (λ seat. (V : Tree) → death_of V to ≡ None → row_of seat ≡ born V number under from to)
-  pub rest : IfSome slot (NewSeat control under)
+  pub rest : IfSome slot (NewSeat work under)
 
 module _ {L : Type 0} {shape : Shape} {code : Block} {U : Given} {m : Machine L} {k i : ℕ} {here : PlaceId} {q : Player} {mover : Mover} {G : Game} (a : Acting shape code U m k i here q mover G) where
   -- the chronicle may be asked for a place that is there
-  may-to : (to : PlaceId) (d : Does) → ComesKnowing → GoesKnowing → does q.vars here.0 q.term ≡ d → (d ≡ Releases → ⊥) → (Targets (tree_in U G).places d → to.0 < (tree_in U G).places) → MayAskTo (tree_told m.chronicle) mover.seat.who to
+  may-to : (to : PlaceId) (d : Does) → ComesKnowing → GoesKnowing → does q.vars here.0 q.term ≡ d → (d ≡ Releases → ⊥) → (Targets (tree_in U G).places d → to.0 < (tree_in U G).places) → MayAskTo (tree_told m.chronicle) mover.who to
   may-to to d come goes is never aims =
       let T : Tree = tree_in U G in
       let s = a.gone.seat_is in
-      of-told (λ (V : Tree). MayAskTo V mover.seat.who to) a.but.shares
+      of-told (λ (V : Tree). MayAskTo V mover.who to) a.but.shares
       (record {
         asks = seat_asks s IsMoving a.numbers (moving s here a.gone.is_at (asks-free q here.0 d is never));
         target = aims (subst (λ (z : Does). Targets T.places z) is (targets-exist q.vars here.0 T.places q.term a.place (known-there a come goes)));
       })
 
-  pub spawn-may : (to : PlaceId) → ComesKnowing → GoesKnowing → does q.vars here.0 q.term ≡ Spawns to.0 → MayAskTo (tree_told m.chronicle) mover.seat.who to
+  pub spawn-may : (to : PlaceId) → ComesKnowing → GoesKnowing → does q.vars here.0 q.term ≡ Spawns to.0 → MayAskTo (tree_told m.chronicle) mover.who to
   spawn-may to come goes asks = may-to to (Spawns to.0) come goes asks (λ f. let g : ⊥ = cc f in g) (λ h. h)
 
-  pub call-may : (to : PlaceId) → ComesKnowing → GoesKnowing → does q.vars here.0 q.term ≡ Calls to.0 → MayAskTo (tree_told m.chronicle) mover.seat.who to
+  pub call-may : (to : PlaceId) → ComesKnowing → GoesKnowing → does q.vars here.0 q.term ≡ Calls to.0 → MayAskTo (tree_told m.chronicle) mover.who to
   call-may to come goes asks = may-to to (Calls to.0) come goes asks (λ f. let g : ⊥ = cc f in g) (λ h. h)
 
   -- the task is older than the one that it starts
   older : i ≢ (tree_in U G).next_task
   older = λ e. let low : i < (tree_in U G).next_task = subst (λ (v : ℕ). i < v) a.but.shares.slots a.inside in absurd (omega (arith, e))
 
+  -- what the task that the next entry starts has still to run
+  sown : (seed : Seed) (e : Entry) (x : List ℕ) → entry_starts e ≡ Some x → IsSeedOf shape seed x (child q.term) → seed.vars ≡ q.vars → IsWork shape (G.entries ++ e ∷ []) (child_player q) (NotBegun seed (length m.chronicle.entries))
+  sown seed e x starts grows vars =
+      let number : length m.chronicle.entries ≡ length G.entries = ap length a.but.shares.entries in
+      (x, (e, ap (slice_get (G.entries ++ e ∷ [])) number ∙ get-pushed G.entries e, starts), grows, vars)
+
   -- the turn of a start
-  pub spawned : (to : PlaceId) (m' : Machine L) (seat' : Seat) (slot : Option Seat) (control : Control) (number : TaskId) (under : ScopeId) (x : List ℕ) → Sound (tree_in U G) → does q.vars here.0 q.term ≡ Spawns to.0 → begins q.term ≡ Some x → m' ≡ record m { chronicle = m'.chronicle; seats = m'.seats } → Granted m.chronicle mover.seat.who (Spawn number under (place_number mover.seat.who.place) to x) mover.batch m'.chronicle → StandsFor shape seat'.control.value (granted [] q.term) → seat'.control.value.vars ≡ mover.seat.control.value.vars → row_of seat' ≡ row_of mover.seat → seat'.who.inner ≡ mover.seat.who.inner → StandsFor shape control (child q.term) → control.vars ≡ mover.seat.control.value.vars → IsBorn (tree_told m.chronicle) number under here to control slot → m'.seats.items ≡ slice_set m.seats.items i (Some seat') ++ slot ∷ [] → LeadsTo (Turn U k G true) (Seated shape code U m')
-  spawned to m' seat' slot control number under x sound asks path on granted_so term vars row inside child_term child_vars born_so back =
+  pub spawned : (to : PlaceId) (m' : Machine L) (mover' : Mover) (slot : Option Seat) (seed : Seed) (number : TaskId) (under : ScopeId) (x : List ℕ) → Sound (tree_in U G) → does q.vars here.0 q.term ≡ Spawns to.0 → begins q.term ≡ Some x → m' ≡ record m { chronicle = m'.chronicle; seats = m'.seats; idle = m'.idle } → Granted m.chronicle mover.who (Spawn number under (place_number mover.who.place) to x) mover.batch m'.chronicle → StandsFor shape mover'.control.value (granted [] q.term) → mover'.control.value.vars ≡ mover.control.value.vars → row_of (seat_of mover') ≡ row_of (seat_of mover) → mover'.who.inner ≡ mover.who.inner → IsSeedOf shape seed x (child q.term) → seed.vars ≡ mover.control.value.vars → IsBorn (tree_told m.chronicle) number under here to (NotBegun seed (length m.chronicle.entries)) slot → m'.seats.items ≡ slice_set m.seats.items i (Some (seat_of mover')) ++ slot ∷ [] → LeadsTo (Turn U k G true) (Seated shape code U m')
+  spawned to m' mover' slot seed number under x sound asks path on granted_so term vars row inside grows child_vars born_so back =
       let T : Tree = tree_in U G in
       let b : Task = born T number under here to in
       let s = a.gone.seat_is in
-      let t : TaskId = mover.seat.who.task in
+      let t : TaskId = mover.who.task in
       let act : Act = Spawn number under here to x in
-      let did : Granted m.chronicle mover.seat.who act mover.batch m'.chronicle = subst (λ (w : Where). Granted m.chronicle mover.seat.who (Spawn number under (place_number w) to x) mover.batch m'.chronicle) a.gone.is_at granted_so in
+      let did : Granted m.chronicle mover.who act mover.batch m'.chronicle = subst (λ (w : Where). Granted m.chronicle mover.who (Spawn number under (place_number w) to x) mover.batch m'.chronicle) a.gone.is_at granted_so in
       let may : AllowedAct T t act = of-game (λ (V : Tree). AllowedAct V t act) a.but.shares did.allowed in
-      let is : IsBorn T number under here to control slot = of-game (λ (V : Tree). IsBorn V number under here to control slot) a.but.shares born_so in
+      let is : IsBorn T number under here to (NotBegun seed (length m.chronicle.entries)) slot = of-game (λ (V : Tree). IsBorn V number under here to (NotBegun seed (length m.chronicle.entries)) slot) a.but.shares born_so in
       let grant : AfterGrant (Spawns to.0) (granted [] q.term) = subst (λ (d : Does). AfterGrant d (granted [] q.term)) asks (after-grant q.vars here.0 [] q.term s.held) in
       let spine : GrantsSpine (reverse (own_kinds T i)) (Spawns to.0) (granted [] q.term) = subst (λ (d : Does). GrantsSpine (reverse (own_kinds T i)) d (granted [] q.term)) asks (spine-grant (reverse (own_kinds T i)) q.vars here.0 [] q.term s.spine) in
       let free : is_held q.term ≡ false = asks-free q here.0 (Spawns to.0) asks (λ f. let g : ⊥ = cc f in g) in
       let live : (n : ℕ) → n ≢ T.next_task → live_task (add_task b T) n ≡ live_task T n = λ n fresh. add-other T b n (λ e. fresh (sym e ∙ may.asks.1)) in
-      started a act (subst (λ (d : Does). Fits here q.term d act) (sym asks) (refl, refl, path)) may m' seat' slot number refl (λ n apart fresh. live n fresh) (λ n apart fresh. (refl, refl)) refl
+      started a act (subst (λ (d : Does). Fits here q.term d act) (sym asks) (refl, refl, path)) may m' (seat_of mover') slot number refl (λ n apart fresh. live n fresh) (λ n apart fresh. (refl, refl)) refl
       (record {
         row = live i older ∙ (s.row ∙ ap (λ (y : Task). Some y) (sym row));
         inner = ap (λ (y : Task). inner T y) row ∙ (s.inner ∙ sym inside);
-        term = term;
-        vars = vars ∙ (s.vars ∙ sym (told-nothing (does q.vars here.0 q.term) act q.vars refl));
+        work = (term, vars ∙ (s.work.1 ∙ sym (told-nothing (does q.vars here.0 q.term) act q.vars refl)));
         waits = ap (λ (y : Task). y.waits) row ∙ (s.waits ∙ (free ∙ sym grant.1));
         held = grant.0;
         spine = spine;
       })
-      (new-slot shape T (add_task b T) T.next_task q slot control number under here to (subst (λ (v : ℕ). live_task (add_task b T) v ≡ if_unstruck b) may.asks.1 (add-same T b)) (none-own T sound) child_term (child_vars ∙ s.vars) is.lost is.row is.rest)
+      (new-slot shape (G.entries ++ Step t act q.batch ∷ []) T (add_task b T) T.next_task q slot (NotBegun seed (length m.chronicle.entries)) number under here to (subst (λ (v : ℕ). live_task (add_task b T) v ≡ if_unstruck b) may.asks.1 (add-same T b)) (none-own T sound) (sown seed (Step t act q.batch) x refl grows (child_vars ∙ s.work.1)) is.lost is.row is.rest)
       (went m m' on did) back
 
   -- the turn of a call
-  pub called : (to : PlaceId) (m' : Machine L) (seat' : Seat) (slot : Option Seat) (control : Control) (scope : ScopeId) (number : TaskId) (x : List ℕ) → Sound (tree_in U G) → does q.vars here.0 q.term ≡ Calls to.0 → begins q.term ≡ Some x → m' ≡ record m { chronicle = m'.chronicle; seats = m'.seats } → Granted m.chronicle mover.seat.who (CallsAt (place_number mover.seat.who.place) to scope mover.seat.who.inner number x) mover.batch m'.chronicle → StandsFor shape seat'.control.value (granted [] q.term) → seat'.control.value.vars ≡ mover.seat.control.value.vars → row_of seat' ≡ waiting (row_of mover.seat) → seat'.who.inner ≡ scope → StandsFor shape control (child q.term) → control.vars ≡ mover.seat.control.value.vars → IsBorn (tree_told m.chronicle) number scope here to control slot → m'.seats.items ≡ slice_set m.seats.items i (Some seat') ++ slot ∷ [] → LeadsTo (Turn U k G true) (Seated shape code U m')
-  called to m' seat' slot control scope number x sound asks path on granted_so term vars row inside child_term child_vars born_so back =
+  pub called : (to : PlaceId) (m' : Machine L) (mover' : Mover) (slot : Option Seat) (seed : Seed) (scope : ScopeId) (number : TaskId) (x : List ℕ) → Sound (tree_in U G) → does q.vars here.0 q.term ≡ Calls to.0 → begins q.term ≡ Some x → m' ≡ record m { chronicle = m'.chronicle; seats = m'.seats; idle = m'.idle } → Granted m.chronicle mover.who (CallsAt (place_number mover.who.place) to scope mover.who.inner number x) mover.batch m'.chronicle → StandsFor shape mover'.control.value (granted [] q.term) → mover'.control.value.vars ≡ mover.control.value.vars → row_of (seat_of mover') ≡ waiting (row_of (seat_of mover)) → mover'.who.inner ≡ scope → IsSeedOf shape seed x (child q.term) → seed.vars ≡ mover.control.value.vars → IsBorn (tree_told m.chronicle) number scope here to (NotBegun seed (length m.chronicle.entries)) slot → m'.seats.items ≡ slice_set m.seats.items i (Some (seat_of mover')) ++ slot ∷ [] → LeadsTo (Turn U k G true) (Seated shape code U m')
+  called to m' mover' slot seed scope number x sound asks path on granted_so term vars row inside grows child_vars born_so back =
       let T : Tree = tree_in U G in
-      let t : TaskId = mover.seat.who.task in
-      let parent : ScopeId = mover.seat.who.inner in
+      let t : TaskId = mover.who.task in
+      let parent : ScopeId = mover.who.inner in
       let act : Act = CallsAt here to scope parent number x in
-      let did : Granted m.chronicle mover.seat.who act mover.batch m'.chronicle = subst (λ (w : Where). Granted m.chronicle mover.seat.who (CallsAt (place_number w) to scope parent number x) mover.batch m'.chronicle) a.gone.is_at granted_so in
+      let did : Granted m.chronicle mover.who act mover.batch m'.chronicle = subst (λ (w : Where). Granted m.chronicle mover.who (CallsAt (place_number w) to scope parent number x) mover.batch m'.chronicle) a.gone.is_at granted_so in
       let may : AllowedAct T t act = of-game (λ (V : Tree). AllowedAct V t act) a.but.shares did.allowed in
-      let is : IsBorn T number scope here to control slot = of-game (λ (V : Tree). IsBorn V number scope here to control slot) a.but.shares born_so in
+      let is : IsBorn T number scope here to (NotBegun seed (length m.chronicle.entries)) slot = of-game (λ (V : Tree). IsBorn V number scope here to (NotBegun seed (length m.chronicle.entries)) slot) a.but.shares born_so in
       let b : Task = born T number scope here to in
       let T1 : Tree = opened T t Call scope parent in
       let T2 : Tree = add_task b T1 in
       let T3 : Tree = change_task waiting t T2 in
       let s = a.gone.seat_is in
-      let was_row : Task = row_of mover.seat in
+      let was_row : Task = row_of (seat_of mover) in
       let grant : AfterGrant (Calls to.0) (granted [] q.term) = subst (λ (d : Does). AfterGrant d (granted [] q.term)) asks (after-grant q.vars here.0 [] q.term s.held) in
       let spine : Spine (granted [] q.term) (reverse (own_kinds T i) ++ Call ∷ []) = subst (λ (d : Does). GrantsSpine (reverse (own_kinds T i)) d (granted [] q.term)) asks (spine-grant (reverse (own_kinds T i)) q.vars here.0 [] q.term s.spine) in
       let is_it : t.0 ≡ i = a.pick.number in
@@ -137,15 +148,14 @@ module _ {L : Type 0} {shape : Shape} {code : Block} {U : Given} {m : Machine L}
       subst (λ (v : ℕ). (own_scopes T1 v ≡ scope ∷ own_scopes T v) × (own_kinds T1 v ≡ Call ∷ own_kinds T v)) is_it (opened-same T t Call scope parent) in
       let none = none-own T sound in
       let kept = opened-other T t Call scope parent T.next_task (not_t T.next_task (λ e. older (sym e))) in
-      started a act (subst (λ (d : Does). Fits here q.term d act) (sym asks) (refl, refl, path)) may m' seat' slot number refl (λ n apart fresh. live n apart ∙ added n fresh) (λ n apart fresh. opened-other T t Call scope parent n (not_t n apart)) refl
+      started a act (subst (λ (d : Does). Fits here q.term d act) (sym asks) (refl, refl, path)) may m' (seat_of mover') slot number refl (λ n apart fresh. live n apart ∙ added n fresh) (λ n apart fresh. opened-other T t Call scope parent n (not_t n apart)) refl
       (record {
         row = now ∙ ap (λ (y : Task). Some y) (sym row);
-        inner = inner-opened T1 i (row_of seat') scope (own_scopes T i) (ap (λ (y : Task). y.number.0) row ∙ is_it) own.0 ∙ sym inside;
-        term = term;
-        vars = vars ∙ (s.vars ∙ sym (told-nothing (does q.vars here.0 q.term) act q.vars refl));
+        inner = inner-opened T1 i (row_of (seat_of mover')) scope (own_scopes T i) (ap (λ (y : Task). y.number.0) row ∙ is_it) own.0 ∙ sym inside;
+        work = (term, vars ∙ (s.work.1 ∙ sym (told-nothing (does q.vars here.0 q.term) act q.vars refl)));
         waits = ap (λ (y : Task). y.waits) row ∙ sym grant.1;
         held = grant.0;
         spine = subst (λ (ks : List Kind). Spine (granted [] q.term) ks) (sym (reverse-append (Call ∷ []) (own_kinds T i)) ∙ ap (λ (ks : List Kind). reverse ks) (sym own.1)) spine;
       })
-      (new-slot shape T T3 T.next_task q slot control number scope here to (live T.next_task (λ e. older (sym e)) ∙ subst (λ (v : ℕ). live_task T2 v ≡ if_unstruck b) may.asks.3 (add-same T1 b)) (kept.0 ∙ none.0, kept.1 ∙ none.1) child_term (child_vars ∙ s.vars) is.lost is.row is.rest)
+      (new-slot shape (G.entries ++ Step t act q.batch ∷ []) T T3 T.next_task q slot (NotBegun seed (length m.chronicle.entries)) number scope here to (live T.next_task (λ e. older (sym e)) ∙ subst (λ (v : ℕ). live_task T2 v ≡ if_unstruck b) may.asks.3 (add-same T1 b)) (kept.0 ∙ none.0, kept.1 ∙ none.1) (sown seed (Step t act q.batch) x refl grows (child_vars ∙ s.work.1)) is.lost is.row is.rest)
       (went m m' on did) back

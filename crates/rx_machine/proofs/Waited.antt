@@ -25,9 +25,8 @@ use Rattle.rx_chronicle.specs.Requests.{tree_told, Granted}
 use Rattle.rx_syntax.specs.Shape.{Shape}
 use Rattle.rx_control.specs.Stands.{StandsFor}
 use Rattle.rx_machine.specs.declared.machine.Machine.{Machine}
-use Rattle.rx_machine.specs.declared.seat.Seat.{Seat}
 use Rattle.rx_machine.specs.declared.seat.Mover.{Mover}
-use Rattle.rx_machine.specs.Slots.{row_of, live_task, own_kinds}
+use Rattle.rx_machine.specs.Slots.{row_of, live_task, own_kinds, seat_of}
 use Rattle.rx_sound.specs.Spine.{Spine}
 use Rattle.rx_machine.specs.Holds.{Seated, Acting, LeadsTo}
 use Rattle.rx_machine.proofs.Live.{live_stands, change-other, change-same}
@@ -59,13 +58,13 @@ module _ {L : Type 0} {shape : Shape} {code : Block} {U : Given} {m : Machine L}
       subst (λ (d : Does). GrantsSpine ks d (granted [] q.term)) asks (spine-grant ks q.vars here.0 [] q.term a.gone.seat_is.spine)
 
   -- the chronicle may be asked
-  pub wait-may : MayAskWait (tree_told m.chronicle) mover.seat.who
+  pub wait-may : MayAskWait (tree_told m.chronicle) mover.who
   wait-may =
       let T : Tree = tree_in U G in
       let s = a.gone.seat_is in
       let found = innermost T i spine-wait.1.0 OfFinish spine-wait.1.1 in
-      of-told (λ (V : Tree). MayAskWait V mover.seat.who) a.but.shares
-      (seat_asks s (HasFinish T mover.seat.who) a.numbers
+      of-told (λ (V : Tree). MayAskWait V mover.who) a.but.shares
+      (seat_asks s (HasFinish T mover.who) a.numbers
       (record {
         moving = moving s here a.gone.is_at (asks-free q here.0 (Waits fs) asks (λ f. let g : ⊥ = cc f in g));
         scope = found.0;
@@ -73,30 +72,29 @@ module _ {L : Type 0} {shape : Shape} {code : Block} {U : Given} {m : Machine L}
         finish = found.2;
       }))
 
-  pub waited : (m' : Machine L) (seat' : Seat) → m' ≡ record m { chronicle = m'.chronicle; seats = m'.seats } → Granted m.chronicle mover.seat.who (Wait mover.seat.who.inner fs) mover.batch m'.chronicle → StandsFor shape seat'.control.value (granted [] q.term) → seat'.control.value.vars ≡ mover.seat.control.value.vars → row_of seat' ≡ waiting (row_of mover.seat) → seat'.who.inner ≡ mover.seat.who.inner → m'.seats.items ≡ slice_set m.seats.items i (Some seat') → LeadsTo (Turn U k G true) (Seated shape code U m')
-  waited m' seat' on did term vars row inside back =
+  pub waited : (m' : Machine L) (mover' : Mover) → m' ≡ record m { chronicle = m'.chronicle; seats = m'.seats; idle = m'.idle } → Granted m.chronicle mover.who (Wait mover.who.inner fs) mover.batch m'.chronicle → StandsFor shape mover'.control.value (granted [] q.term) → mover'.control.value.vars ≡ mover.control.value.vars → row_of (seat_of mover') ≡ waiting (row_of (seat_of mover)) → mover'.who.inner ≡ mover.who.inner → m'.seats.items ≡ slice_set m.seats.items i (Some (seat_of mover')) → LeadsTo (Turn U k G true) (Seated shape code U m')
+  waited m' mover' on did term vars row inside back =
       let T : Tree = tree_in U G in
       let at = a.gone.seat_is in
-      let t : TaskId = mover.seat.who.task in
-      let s : ScopeId = mover.seat.who.inner in
+      let t : TaskId = mover.who.task in
+      let s : ScopeId = mover.who.inner in
       let act : Act = Wait s fs in
       let may : AllowedAct T t act = of-game (λ (V : Tree). AllowedAct V t act) a.but.shares did.allowed in
       let grant : AfterGrant (Waits fs) (granted [] q.term) = subst (λ (d : Does). AfterGrant d (granted [] q.term)) asks (after-grant q.vars here.0 [] q.term at.held) in
       let told : Scope → Scope = λ g. record g { body = fs } in
       let changed : Tree = change_scope told s T in
       let own = λ (n : ℕ). scope-change T told s n (λ g. (refl, refl, refl)) in
-      let stands_at : live_task changed t.0 ≡ Some (row_of mover.seat) = subst (λ (n : ℕ). live_task T n ≡ Some (row_of mover.seat)) (sym a.pick.number) at.row in
-      let now : live_task (made_act T t act) i ≡ Some (waiting (row_of mover.seat)) =
-      subst (λ (n : ℕ). live_task (made_act T t act) n ≡ Some (waiting (row_of mover.seat))) a.pick.number
-      (change-same changed waiting t (row_of mover.seat) (λ x. refl) stands_at (live_stands T i (row_of mover.seat) at.row).1) in
-      acted a act (subst (λ (d : Does). Fits here q.term d act) (sym asks) refl) may m' seat' refl
+      let stands_at : live_task changed t.0 ≡ Some (row_of (seat_of mover)) = subst (λ (n : ℕ). live_task T n ≡ Some (row_of (seat_of mover))) (sym a.pick.number) at.row in
+      let now : live_task (made_act T t act) i ≡ Some (waiting (row_of (seat_of mover))) =
+      subst (λ (n : ℕ). live_task (made_act T t act) n ≡ Some (waiting (row_of (seat_of mover)))) a.pick.number
+      (change-same changed waiting t (row_of (seat_of mover)) (λ x. refl) stands_at (live_stands T i (row_of (seat_of mover)) at.row).1) in
+      acted a act (subst (λ (d : Does). Fits here q.term d act) (sym asks) refl) may m' (seat_of mover') refl
       (λ n apart. change-other changed waiting t n (λ x. refl) (λ e. apart (sym e ∙ a.pick.number)))
       (λ n apart y h. own n) refl
       (record {
         row = now ∙ ap (λ (x : Task). Some x) (sym row);
-        inner = ap (λ (x : Task). inner changed x) row ∙ (inner-same T changed i (row_of mover.seat) a.pick.number (own i).0 ∙ (at.inner ∙ sym inside));
-        term = term;
-        vars = vars ∙ (at.vars ∙ sym (told-nothing (does q.vars here.0 q.term) act q.vars refl));
+        inner = ap (λ (x : Task). inner changed x) row ∙ (inner-same T changed i (row_of (seat_of mover)) a.pick.number (own i).0 ∙ (at.inner ∙ sym inside));
+        work = (term, vars ∙ (at.work.1 ∙ sym (told-nothing (does q.vars here.0 q.term) act q.vars refl)));
         waits = ap (λ (x : Task). x.waits) row ∙ sym grant.1;
         held = grant.0;
         spine = subst (λ (ks : List Kind). Spine (granted [] q.term) (reverse ks)) (sym (own i).1) spine-wait.0;

@@ -37,9 +37,9 @@ use Rattle.rx_machine.proofs.Live.{live_stands, stands_live, change-same, add-ot
 -- The walk.
 
 -- the opener of a slot is left where its seat is there
-pub left_slot : (shape : Shape) (T : Tree) (ps : List Player) (n : ℕ) (o : Option Seat) → SlotIs shape T ps n o → is_left T (Some (record { 0 = n })) ≡ is_some o
-left_slot shape T ps n (Some seat) is = let both = live_stands T n (row_of seat) is.3.row in ap unstruck_in both.0 ∙ ap is_none both.1
-left_slot shape T ps n None none = off (task_of T (record { 0 = n })) none where
+pub left_slot : (shape : Shape) (es : List Entry) (T : Tree) (ps : List Player) (n : ℕ) (o : Option Seat) → SlotIs shape es T ps n o → is_left T (Some (record { 0 = n })) ≡ is_some o
+left_slot shape es T ps n (Some seat) is = let both = live_stands T n (row_of seat) is.3.row in ap unstruck_in both.0 ∙ ap is_none both.1
+left_slot shape es T ps n None none = off (task_of T (record { 0 = n })) none where
   off : (o : Option Task) → live_in o ≡ None → unstruck_in o ≡ false
   off None h = refl
   off (Some x) h =
@@ -95,9 +95,9 @@ step_at {code = code} {U = U} {m = m} {G = G} can come law notes under s opener 
     }
 
 -- whether the opener is left is seen from its slot
-pub left_seen : (shape : Shape) (T : Tree) (ps : List Player) (items : List (Option Seat)) (n : ℕ) (now : Option Seat) → ((k : ℕ) → SlotIs shape T ps k (seat_at items k)) → n < length items → now ≡ get_or items n now → is_left T (Some (record { 0 = n })) ≡ is_some now
-left_seen shape T ps items n now slots inside at =
-    left_slot shape T ps n (seat_at items n) (slots n)
+pub left_seen : (shape : Shape) (es : List Entry) (T : Tree) (ps : List Player) (items : List (Option Seat)) (n : ℕ) (now : Option Seat) → ((k : ℕ) → SlotIs shape es T ps k (seat_at items k)) → n < length items → now ≡ get_or items n now → is_left T (Some (record { 0 = n })) ≡ is_some now
+left_seen shape es T ps items n now slots inside at =
+    left_slot shape es T ps n (seat_at items n) (slots n)
     ∙ ap is_some (ap seat_in (slice_get-get_or items n now inside ∙ ap (λ (o : Option Seat). Some o) (sym at)))
 
 -- where the walk ends at the root there is none

@@ -17,7 +17,7 @@ use Rattle.rx_finish.specs.Callers.{HasNumbers}
 use Rattle.rx_machine.specs.declared.machine.Machine.{Machine}
 use Rattle.rx_machine.specs.declared.seat.Seat.{Seat}
 use Rattle.rx_machine.specs.declared.seat.Mover.{Mover}
-use Rattle.rx_machine.specs.Slots.{row_of, seat_at, SlotIs, IsSeat}
+use Rattle.rx_machine.specs.Slots.{row_of, seat_of, seat_at, SlotIs, IsSeat}
 use Rattle.rx_machine.specs.Picking.{IsReady}
 
 -- a script and a setup for which a machine runs on: a checked script and a proper setup
@@ -40,7 +40,7 @@ pub record Seated {L : Type 0} (shape : Shape) (code : Block) (U : Given) (m : M
     : Type 0 where
   pub shares : Shares code U m G
   pub stores : StoresAre U.heap 0 m.stores.items G.journals
-  pub seats : (n : ℕ) → SlotIs shape (tree_in U G) G.players n (seat_at m.seats.items n)
+  pub seats : (n : ℕ) → SlotIs shape G.entries (tree_in U G) G.players n (seat_at m.seats.items n)
 
 -- the machine stands for the game, in which the root stands
 pub record Holds {L : Type 0} (shape : Shape) (code : Block) (U : Given) (m : Machine L) (G : Game)
@@ -54,7 +54,7 @@ pub record HoldsBut {L : Type 0} (shape : Shape) (code : Block) (U : Given) (m :
     (G : Game) : Type 0 where
   pub shares : Shares code U m G
   pub empty : seat_at m.seats.items i ≡ None
-  pub others : (n : ℕ) → n ≢ i → SlotIs shape (tree_in U G) G.players n (seat_at m.seats.items n)
+  pub others : (n : ℕ) → n ≢ i → SlotIs shape G.entries (tree_in U G) G.players n (seat_at m.seats.items n)
 
 -- task i is the one that the pick k moves
 pub record IsPick (U : Given) (k i : ℕ) (seat : Seat) (G : Game) : Type 0 where
@@ -68,9 +68,9 @@ pub record HasGone (shape : Shape) (U : Given) (i : ℕ) (here : PlaceId) (p q :
     (j : List PlaceEvent) (mover : Mover) (G : Game) : Type 0 where
   pub player : slice_get G.players i ≡ Some p
   pub store : slice_get G.stores here.0 ≡ Some S
-  pub is_at : mover.seat.who.place ≡ At here
-  pub goes : Goes U.heap (length G.entries) mover.seat.who.task here p S (journal_at G.journals here.0) q Z j
-  pub seat_is : IsSeat shape (tree_in U G) i q mover.seat
+  pub is_at : mover.who.place ≡ At here
+  pub goes : Goes U.heap (length G.entries) mover.who.task here p S (journal_at G.journals here.0) q Z j
+  pub seat_is : IsSeat shape G.entries (tree_in U G) i q (seat_of mover)
   pub batch : mover.batch ≡ q.batch
 
 -- a turn that leads to a game with P
@@ -81,7 +81,7 @@ LeadsTo Turned P = (G : Game) × Turned G × P G
 pub record Acting {L : Type 0} (shape : Shape) (code : Block) (U : Given) (m : Machine L) (k i : ℕ)
     (here : PlaceId) (q : Player) (mover : Mover) (G : Game) : Type 0 where
   pub but : HoldsBut shape code U m i G
-  pub pick : IsPick U k i mover.seat G
+  pub pick : IsPick U k i (seat_of mover) G
   pub began : Player
   pub store : State
   pub left : State
@@ -103,7 +103,7 @@ pub record Landing {L : Type 0} (shape : Shape) (code : Block) (U : Given) (m : 
   pub player : Player
   pub is_player : slice_get G.players i ≡ Some player
   pub none_begun : player.batch ≡ []
-  pub seat_is : IsSeat shape (tree_in U G) i player seat
+  pub seat_is : IsSeat shape G.entries (tree_in U G) i player seat
   pub from : PlaceId
   pub travels : seat.who.place ≡ Travel from to
   pub numbers : HasNumbers (tree_in U G)

@@ -6,6 +6,7 @@
 //! gives.
 #![tactic(auto)]
 
+mod beginning;
 mod enabled;
 pub mod laws;
 mod machine;

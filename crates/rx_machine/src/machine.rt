@@ -8,11 +8,10 @@ ghost use Rattle.rx_rules.specs.Run.{in_all, Proper};
 ghost use Rattle.rx_rules.specs.Picked.{start_game};
 ghost use Rattle.rx_history.specs.Setups.{given};
 ghost use Rattle.rx_syntax.specs.Shape.{Stands};
-ghost use Rattle.rx_control.specs.Stands.{StandsFor};
-ghost use Rattle.rx_machine.specs.Slots.{row_of, root_row};
+ghost use Rattle.rx_machine.specs.Slots.{row_of, root_row, IsWork};
 ghost use Rattle.rx_machine.specs.Holds.{Holds};
 
-use crate::seat::Seat;
+use crate::seat::{Seat, Work};
 use rx_base::{NoMemory, PlaceId, ScopeId, TaskId};
 use rx_check::{Program, checked};
 use rx_chronicle::Chronicle;
@@ -33,6 +32,8 @@ pub struct Machine<L: FinishLedger> {
     /// The numbers of the enabled tasks.
     pub(crate) ready: Ranks,
     pub(crate) stores: Stores,
+    /// Controls of tasks that have ended, for tasks that begin.
+    pub(crate) idle: Vec<Box<Control>>,
     /// Whether memory was refused, after which nothing goes on.
     pub(crate) failed: bool,
     pub(crate) alloc: Global,
@@ -63,6 +64,7 @@ impl<L: FinishLedger> Machine<L> {
                 seats,
                 ready,
                 stores,
+                idle: Vec::new(alloc),
                 failed: false,
                 alloc,
             }),
@@ -82,8 +84,8 @@ fn all_places(setup: &Setup) -> u8
 /// The seat of the main activity, which is at place 0 under the root and knows so many places.
 fn root_seat(alloc: Global, p: &Program, places: u8) -> Result<Seat, NoMemory>
     ensures row { IfOk result (λ seat. (row_of seat ≡ root_row) × (seat.who.inner ≡ the_root)) }
-    ensures control { IfOk result (λ seat. (b : Block) → Stands p.now.script b
-        → StandsFor p.now.script seat.control.value (items b [] Empty) × (seat.control.value.vars ≡ no_vars places)) }
+    ensures work { IfOk result (λ seat. (b : Block) → Stands p.now.script b
+        → IsWork p.now.script [] (record { term = items b [] Empty; vars = no_vars places; batch = [] }) seat.work) }
 {
     let main = Control::main(alloc, p, places)?;
     let control = Box::new(alloc, main)?;
@@ -95,7 +97,7 @@ fn root_seat(alloc: Global, p: &Program, places: u8) -> Result<Seat, NoMemory>
             place: Where::At(PlaceId(0)),
         },
         waits: false,
-        control,
+        work: Work::Control(control),
     })
 }
 

@@ -8,8 +8,9 @@ ghost use Rattle.rx_machine.specs.Inside.Games.{SomeTaken, EachTaken, SomeActing
 ghost use Rattle.rx_machine.specs.Inside.Games.{SomeLanding, EachLanding};
 ghost use Rattle.rx_machine.specs.Inside.Acts.{HasAsked};
 
+use crate::beginning::rouse;
 use crate::machine::Machine;
-use crate::seat::{Mover, Seat, go_on, no_memory, path_of, put_back, take_seat};
+use crate::seat::{Mover, Seat, go_on, no_memory, path_of, put_back, seat_mover, take_seat};
 use rx_base::{Batch, Faults, NoMemory, PlaceId};
 use rx_check::Program;
 use rx_control::{Next, Want};
@@ -32,8 +33,9 @@ impl<L: FinishLedger> Machine<L> {
             Some(seat) => match seat.who.place {
                 Where::Travel { to, .. } => self.arrive(i, seat, to),
                 Where::At(here) => {
-                    let batch = Batch::open(self.alloc);
-                    self.act(p, i, Mover { seat, batch }, here)
+                    let history = self.chronicle.history();
+                    let mover = rouse(self.alloc, p, history, &mut self.idle, seat)?;
+                    self.act(p, i, mover, here)
                 }
             },
             None => unreachable!(),
@@ -97,16 +99,18 @@ impl<L: FinishLedger> Machine<L> {
         ensures tasks { self.new.ready ≡ self.old.ready }
     {
         let Mover {
-            mut seat,
+            who,
+            waits,
+            mut control,
             mut batch,
         } = mover;
-        let mut path = path_of(self.alloc, p, &seat.control)?;
-        go_on(&mut seat.control, p, Faults::open(self.alloc))?;
-        match self.chronicle.print(seat.who, value, &mut batch, &mut path) {
+        let mut path = path_of(self.alloc, p, &control)?;
+        go_on(&mut control, p, Faults::open(self.alloc))?;
+        match self.chronicle.print(who, value, &mut batch, &mut path) {
             Ok(()) => {}
             Err(fault) => return Err(no_memory(fault)),
         }
-        put_back(&mut self.seats, i, seat);
+        seat_mover(&mut self.seats, i, who, waits, control);
         Ok(())
     }
 
@@ -123,16 +127,18 @@ impl<L: FinishLedger> Machine<L> {
         rx_runs::known_places_are_there();
         rx_runs::going_tells_no_places();
         let Mover {
-            mut seat,
+            who,
+            waits,
+            mut control,
             mut batch,
         } = mover;
-        let mut path = path_of(self.alloc, p, &seat.control)?;
-        let places = match self.chronicle.census(seat.who, &mut batch, &mut path) {
+        let mut path = path_of(self.alloc, p, &control)?;
+        let places = match self.chronicle.census(who, &mut batch, &mut path) {
             Ok(places) => places,
             Err(fault) => return Err(no_memory(fault)),
         };
-        seat.control.census_done(p, places)?;
-        put_back(&mut self.seats, i, seat);
+        control.census_done(p, places)?;
+        seat_mover(&mut self.seats, i, who, waits, control);
         Ok(())
     }
 }

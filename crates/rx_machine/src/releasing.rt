@@ -7,8 +7,9 @@ ghost use Rattle.rx_chronicle.specs.Requests.{IsReady};
 ghost use Rattle.rx_machine.specs.Inside.Games.{SomeAsking, EachMore};
 ghost use Rattle.rx_machine.specs.Inside.Acts.{HasAsked};
 
+use crate::beginning::keep;
 use crate::machine::Machine;
-use crate::seat::{Mover, go_on, no_memory, put_back};
+use crate::seat::{Mover, go_on, no_memory, seat_mover};
 use rx_base::{Faults, NoMemory};
 use rx_check::Program;
 use rx_control::faults_raised;
@@ -24,16 +25,18 @@ impl<L: FinishLedger> Machine<L> {
         ensures tasks { self.new.ready ≡ self.old.ready }
     {
         let Mover {
-            mut seat,
+            who,
+            mut control,
             mut batch,
+            ..
         } = mover;
-        let thrown = seat.control.take_faults(self.alloc);
-        go_on(&mut seat.control, p, Faults::open(self.alloc))?;
-        match self.chronicle.wait(seat.who, thrown, &mut batch) {
-            Ok(()) => seat.waits = true,
+        let thrown = control.take_faults(self.alloc);
+        go_on(&mut control, p, Faults::open(self.alloc))?;
+        match self.chronicle.wait(who, thrown, &mut batch) {
+            Ok(()) => {}
             Err((fault, _)) => return Err(no_memory(fault)),
         }
-        put_back(&mut self.seats, i, seat);
+        seat_mover(&mut self.seats, i, who, true, control);
         Ok(())
     }
 
@@ -52,19 +55,20 @@ impl<L: FinishLedger> Machine<L> {
         rx_sound::release_pops_newest();
         rx_chronicle::laws::release_uncovers_parent();
         let Mover {
-            mut seat,
+            mut who,
+            mut control,
             mut batch,
+            ..
         } = mover;
-        let parent = self.chronicle.note(seat.who.inner).parent;
-        let outcome = match self.chronicle.release(seat.who, &mut batch) {
+        let parent = self.chronicle.note(who.inner).parent;
+        let outcome = match self.chronicle.release(who, &mut batch) {
             Ok(outcome) => outcome,
             Err(fault) => return Err(no_memory(fault)),
         };
         let raised = faults_raised(self.alloc, outcome.lost, &outcome.thrown)?;
-        go_on(&mut seat.control, p, raised)?;
-        seat.waits = false;
-        seat.who.inner = parent;
-        put_back(&mut self.seats, i, seat);
+        go_on(&mut control, p, raised)?;
+        who.inner = parent;
+        seat_mover(&mut self.seats, i, who, false, control);
         Ok(())
     }
 
@@ -79,12 +83,17 @@ impl<L: FinishLedger> Machine<L> {
         ensures tasks { self.new.ready ≡ self.old.ready }
     {
         let Mover {
-            mut seat,
+            who,
+            mut control,
             mut batch,
+            ..
         } = mover;
-        let thrown = seat.control.take_faults(self.alloc);
-        match self.chronicle.end(seat.who, thrown, &mut batch) {
-            Ok(()) => Ok(()),
+        let thrown = control.take_faults(self.alloc);
+        match self.chronicle.end(who, thrown, &mut batch) {
+            Ok(()) => {
+                keep(&mut self.idle, control);
+                Ok(())
+            }
             Err((fault, _)) => Err(no_memory(fault)),
         }
     }

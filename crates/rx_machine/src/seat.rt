@@ -6,11 +6,12 @@ ghost use Rattle.rx_rules.specs.Tree.{Tree, death_of};
 ghost use Rattle.rx_rules.specs.Entries.{born};
 ghost use Rattle.rx_finish.specs.declared.ledger.LedgerFault.{LedgerFault};
 ghost use Rattle.rx_control.specs.Stands.{StandsFor};
+ghost use Rattle.rx_control.specs.Seeds.{IsSeedOf};
 ghost use Rattle.rx_machine.specs.Slots.{row_of, seat_at};
 
 use rx_base::{Batch, Faults, NoMemory, Path, PlaceId, ScopeId};
 use rx_check::Program;
-use rx_control::Control;
+use rx_control::{Control, Seed};
 use rx_finish::{Born, Caller, LedgerFault, travel};
 use std::alloc::Global;
 
@@ -21,14 +22,24 @@ pub struct Seat {
     pub who: Caller,
     /// Whether it waits at its innermost scope.
     pub waits: bool,
-    /// It lies by itself in memory, so that a seat is short.
-    pub control: Box<Control>,
+    pub work: Work,
+}
+
+/// What a task has still to run.
+#[derive(Drop)]
+pub enum Work {
+    /// It has not begun. The entry of this number started it, and tells its path.
+    Seed { seed: Seed, entry: u32 },
+    /// It has begun. Its control lies by itself in memory, so that a seat is short.
+    Control(Box<Control>),
 }
 
 /// The task that moves, with the paths of the statements that it has begun since its last entry, in their order.
 #[derive(Drop)]
 pub struct Mover {
-    pub seat: Seat,
+    pub who: Caller,
+    pub waits: bool,
+    pub control: Box<Control>,
     pub batch: Batch,
 }
 
@@ -60,6 +71,21 @@ pub(crate) fn put_back(seats: &mut Vec<Option<Seat>>, i: usize, seat: Seat)
     seats[i] = Some(seat);
 }
 
+/// Puts a task that has moved into a slot, whatever lies there.
+pub(crate) fn seat_mover(
+    seats: &mut Vec<Option<Seat>>,
+    i: usize,
+    who: Caller,
+    waits: bool,
+    control: Box<Control>,
+)
+    requires { i < length seats.old.items }
+    ensures { seats.new.items ≡ slice_set seats.old.items i (Some (record { who = who; waits = waits; work = Work.Control control })) }
+{
+    let work = Work::Control(control);
+    put_back(seats, i, Seat { who, waits, work });
+}
+
 /// The path of the statement that the next step begins; it begins one.
 pub(crate) fn path_of(alloc: Global, p: &Program, control: &Box<Control>) -> Result<Path, NoMemory>
     requires { (t : Term) × (x : List ℕ) × StandsFor p.now.script control.now.value t × (begins t ≡ Some x) }
@@ -81,38 +107,37 @@ pub(crate) fn go_on(control: &mut Box<Control>, p: &Program, faults: Faults) -> 
     }
 }
 
-/// The path of the statement that starts a task, which is next, and the control that the task starts with. The slots get room for its
-/// seat.
+/// The path of the statement that starts a task, which is next, and the seed of the task. The slots get room for its seat.
 pub(crate) fn prepare(
     alloc: Global,
     p: &Program,
     control: &Box<Control>,
     seats: &mut Vec<Option<Seat>>,
-) -> Result<(Path, Box<Control>), NoMemory>
+) -> Result<(Path, Seed), NoMemory>
     requires { (t : Term) × (x : List ℕ) × StandsFor p.now.script control.now.value t × (begins t ≡ Some x) }
     ensures path { IfOk result (λ r. (t : Term) (x : List ℕ) → StandsFor p.now.script control.now.value t → begins t ≡ Some x → r.0 ≡ x) }
-    ensures stands { IfOk result (λ r. (t : Term) → StandsFor p.now.script control.now.value t → (x : List ℕ) → begins t ≡ Some x
-        → StandsFor p.now.script r.1.value (child t) × (r.1.value.vars ≡ control.now.value.vars)) }
+    ensures seed { IfOk result (λ r. (t : Term) → StandsFor p.now.script control.now.value t → (x : List ℕ) → begins t ≡ Some x
+        → IsSeedOf p.now.script r.1 x (child t) × (r.1.vars ≡ control.now.value.vars)) }
     ensures items { seats.new.items ≡ seats.old.items }
     ensures room { OnOk result (vec_len seats.new + 1 ≤ vec_capacity seats.new) }
 {
     let path = path_of(alloc, p, control)?;
-    let began = control.child_at(alloc, p, path.copy(alloc)?)?;
-    let own = Box::new(alloc, began)?;
+    let seed = control.seed(alloc, p)?;
     seats.reserve(1)?;
-    Ok((path, own))
+    Ok((path, seed))
 }
 
-/// The seat of a task that was just started with the control, at the place or on its way there; none where it is born struck.
+/// The seat of a task that an entry has just started with a seed, at the place or on its way there; none where it is born struck.
 pub(crate) fn new_seat(
     task: Born,
     from: PlaceId,
     to: PlaceId,
-    control: Box<Control>,
+    seed: Seed,
+    entry: u32,
 ) -> Option<Seat>
     ensures lost { is_none result ≡ task.lost }
     ensures row { IfSome result (λ seat. (T : Tree) → death_of T to ≡ None → row_of seat ≡ born T task.child task.scope from to) }
-    ensures seat { IfSome result (λ seat. (seat.who.inner ≡ task.scope) × (seat.control.value ≡ control.value)) }
+    ensures seat { IfSome result (λ seat. (seat.who.inner ≡ task.scope) × (seat.work ≡ Work.Seed seed entry)) }
 {
     if task.lost {
         return None;
@@ -125,7 +150,7 @@ pub(crate) fn new_seat(
             place: travel(from, to),
         },
         waits: false,
-        control,
+        work: Work::Seed { seed, entry },
     })
 }
 

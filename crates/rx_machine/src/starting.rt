@@ -6,7 +6,7 @@ ghost use Rattle.rx_machine.specs.Inside.Games.{SomeAsking, SomeDoing};
 ghost use Rattle.rx_machine.specs.Inside.Acts.{HasAsked, HasDone};
 
 use crate::machine::Machine;
-use crate::seat::{Mover, go_on, new_seat, no_memory, path_of, prepare, put_back};
+use crate::seat::{Mover, go_on, new_seat, no_memory, path_of, prepare, seat_mover};
 use rx_base::{Faults, NoMemory, PlaceId};
 use rx_check::Program;
 use rx_finish::FinishLedger;
@@ -26,16 +26,18 @@ impl<L: FinishLedger> Machine<L> {
         ensures tasks { self.new.ready ≡ self.old.ready }
     {
         let Mover {
-            mut seat,
+            mut who,
+            waits,
+            mut control,
             mut batch,
         } = mover;
-        let mut path = path_of(self.alloc, p, &seat.control)?;
-        go_on(&mut seat.control, p, Faults::open(self.alloc))?;
-        match self.chronicle.open_finish(seat.who, &mut batch, &mut path) {
-            Ok(scope) => seat.who.inner = scope,
+        let mut path = path_of(self.alloc, p, &control)?;
+        go_on(&mut control, p, Faults::open(self.alloc))?;
+        match self.chronicle.open_finish(who, &mut batch, &mut path) {
+            Ok(scope) => who.inner = scope,
             Err(fault) => return Err(no_memory(fault)),
         }
-        put_back(&mut self.seats, i, seat);
+        seat_mover(&mut self.seats, i, who, waits, control);
         Ok(())
     }
 
@@ -55,20 +57,24 @@ impl<L: FinishLedger> Machine<L> {
         ensures tasks { self.new.ready ≡ self.old.ready }
     {
         rx_sound::reached_is_sound();
+        rx_runs::games_come();
         rx_runs::known_places_are_there();
         rx_runs::going_tells_no_places();
         let Mover {
-            mut seat,
+            mut who,
+            mut control,
             mut batch,
+            ..
         } = mover;
-        let (mut path, own) = prepare(self.alloc, p, &seat.control, &mut self.seats)?;
-        go_on(&mut seat.control, p, Faults::open(self.alloc))?;
-        match self.chronicle.open_at(seat.who, to, &mut batch, &mut path) {
+        let (mut path, seed) = prepare(self.alloc, p, &control, &mut self.seats)?;
+        let entry = self.chronicle.history().len() as u32;
+        go_on(&mut control, p, Faults::open(self.alloc))?;
+        match self.chronicle.open_at(who, to, &mut batch, &mut path) {
             Ok(born) => {
-                seat.waits = true;
-                seat.who.inner = born.scope;
-                self.seats.push_reserved(new_seat(born, here, to, own));
-                put_back(&mut self.seats, i, seat);
+                who.inner = born.scope;
+                self.seats
+                    .push_reserved(new_seat(born, here, to, seed, entry));
+                seat_mover(&mut self.seats, i, who, true, control);
                 Ok(())
             }
             Err(fault) => Err(no_memory(fault)),
@@ -91,18 +97,23 @@ impl<L: FinishLedger> Machine<L> {
         ensures tasks { self.new.ready ≡ self.old.ready }
     {
         rx_sound::reached_is_sound();
+        rx_runs::games_come();
         rx_runs::known_places_are_there();
         rx_runs::going_tells_no_places();
         let Mover {
-            mut seat,
+            who,
+            waits,
+            mut control,
             mut batch,
         } = mover;
-        let (mut path, own) = prepare(self.alloc, p, &seat.control, &mut self.seats)?;
-        go_on(&mut seat.control, p, Faults::open(self.alloc))?;
-        match self.chronicle.spawn(seat.who, to, &mut batch, &mut path) {
+        let (mut path, seed) = prepare(self.alloc, p, &control, &mut self.seats)?;
+        let entry = self.chronicle.history().len() as u32;
+        go_on(&mut control, p, Faults::open(self.alloc))?;
+        match self.chronicle.spawn(who, to, &mut batch, &mut path) {
             Ok(born) => {
-                self.seats.push_reserved(new_seat(born, here, to, own));
-                put_back(&mut self.seats, i, seat);
+                self.seats
+                    .push_reserved(new_seat(born, here, to, seed, entry));
+                seat_mover(&mut self.seats, i, who, waits, control);
                 Ok(())
             }
             Err(fault) => Err(no_memory(fault)),

@@ -65,7 +65,7 @@ impl<L: FinishLedger> Machine<L> {
         ensures refused { OnErr result (EachStopped p.now.script self.old self.new i here mover.old) }
     {
         rx_runs::terms_sink();
-        match mover.seat.control.next(p, here) {
+        match mover.control.next(p, here) {
             Next::Local => {
                 local_step(self.alloc, p, mover, here)?;
                 Ok(None)
@@ -104,35 +104,35 @@ impl<L: FinishLedger> Machine<L> {
         rx_runs::going_makes_some();
         let path = begin_call(self.alloc, p, mover)?;
         let m = Mark {
-            task: mover.seat.who.task,
+            task: mover.who.task,
             stamp: self.chronicle.history().len() as u32,
             path,
         };
         let answer = self.stores.call(here, m, op)?;
-        mover.seat.control.cell_done(self.alloc, p, answer)?;
+        mover.control.cell_done(self.alloc, p, answer)?;
         Ok(())
     }
 }
 
 /// Makes the local step that is next, and notes the statement that it begins, where it begins one.
 fn local_step(alloc: Global, p: &Program, mover: &mut Mover, here: PlaceId) -> Result<(), NoMemory>
-    requires { (t : Term) × StandsFor p.now.script mover.old.seat.control.value t }
-    ensures { OnOk result ((t : Term) → StandsFor p.now.script mover.old.seat.control.value t
-        → Leaves p.now.script mover.new.seat.control.value (does mover.old.seat.control.value.vars here.0 t)
+    requires { (t : Term) × StandsFor p.now.script mover.old.control.value t }
+    ensures { OnOk result ((t : Term) → StandsFor p.now.script mover.old.control.value t
+        → Leaves p.now.script mover.new.control.value (does mover.old.control.value.vars here.0 t)
         × (mover.new.batch ≡ begun t mover.old.batch)
-        × (mover.new.seat.who ≡ mover.old.seat.who) × (mover.new.seat.waits ≡ mover.old.seat.waits)) }
+        × (mover.new.who ≡ mover.old.who) × (mover.new.waits ≡ mover.old.waits)) }
 {
     begin(alloc, p, mover)?;
-    mover.seat.control.local(alloc, p, here)?;
+    mover.control.local(alloc, p, here)?;
     Ok(())
 }
 
 // Notes the statement that the next step begins, where it begins one.
 fn begin(alloc: Global, p: &Program, mover: &mut Mover) -> Result<(), NoMemory>
-    ensures { OnOk result ((t : Term) → StandsFor p.now.script mover.old.seat.control.value t
+    ensures { OnOk result ((t : Term) → StandsFor p.now.script mover.old.control.value t
         → mover.new ≡ record mover.old { batch = begun t mover.old.batch }) }
 {
-    if let Some(path) = mover.seat.control.path(alloc, p)? {
+    if let Some(path) = mover.control.path(alloc, p)? {
         mover.batch.push(path)?;
     }
     Ok(())
@@ -140,11 +140,11 @@ fn begin(alloc: Global, p: &Program, mover: &mut Mover) -> Result<(), NoMemory>
 
 /// Notes the statement that the next step begins, a store call, and gives its path.
 fn begin_call(alloc: Global, p: &Program, mover: &mut Mover) -> Result<Path, NoMemory>
-    requires { (t : Term) × (x : List ℕ) × StandsFor p.now.script mover.old.seat.control.value t × (begins t ≡ Some x) }
-    ensures { IfOk result (λ path. (t : Term) (x : List ℕ) → StandsFor p.now.script mover.old.seat.control.value t → begins t ≡ Some x
+    requires { (t : Term) × (x : List ℕ) × StandsFor p.now.script mover.old.control.value t × (begins t ≡ Some x) }
+    ensures { IfOk result (λ path. (t : Term) (x : List ℕ) → StandsFor p.now.script mover.old.control.value t → begins t ≡ Some x
         → (path ≡ x) × (mover.new ≡ record mover.old { batch = mover.old.batch ++ x ∷ [] })) }
 {
-    let path = path_of(alloc, p, &mover.seat.control)?;
+    let path = path_of(alloc, p, &mover.control)?;
     let copy = path.copy(alloc)?;
     mover.batch.push(copy)?;
     Ok(path)

@@ -21,8 +21,8 @@ returns-in-Ok-clause-made g c = λ shape i here code U k q G a asks.
     let w = c.deref_mut.result.now in
     let so = does-by a w c.deref_mut.ensures.value ∙ asks.1 in
     let faults : c.take_faults-thrown.result ≡ fs = c.take_faults-thrown.ensures.list shape q.term here fs (stands-by a w c.deref_mut.ensures.value) (ap carried so) in
-    let did = subst (λ (v : List Fault). Granted c.args.self.now.chronicle c.args.mover.seat.who (End v) c.args.mover.batch c.end.new.self) faults c.in-Ok.ensures.answer in
+    let did = subst (λ (v : List Fault). Granted c.args.self.now.chronicle c.args.mover.who (End v) c.args.mover.batch c.end.new.self) faults c.in-Ok.ensures.answer in
     ended a fs asks.1 _ refl did refl
 
-pub returns-clause-refused : goal.returns-clause-refused
-returns-clause-refused g c = ap (λ (h : Log). record (c.args.self.now) { chronicle = h }) c.in-Err.ensures.answer.1
+pub returns-in-Err-clause-refused : goal.returns-in-Err-clause-refused
+returns-in-Err-clause-refused g c = ap (λ (h : Log). record (c.args.self.now) { chronicle = h }) c.in-Err.ensures.answer.1

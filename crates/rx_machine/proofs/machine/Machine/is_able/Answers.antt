@@ -15,7 +15,7 @@ ready-requires g c =
     let h = game.4 in
     let seat = c.in-Some.seat in
     let at = seat_here c.args.self.now.seats.items c.args.i c.index.result.now seat c.requires.inside c.index.ensures c.in-Some.is in
-    let s = slot_here game.0 T game.3.players c.args.i _ seat at (h.holds.seats c.args.i) in
+    let s = slot_here game.0 game.3.entries T game.3.players c.args.i _ seat at (h.holds.seats c.args.i) in
     of-told (λ (V : Tree). MayAskRelease V seat.who) h.holds.shares (waiter_asks s.3 c.waiter_has_scope.ensures h.reached h.numbers c.if-not-seat.false)
 
 pub returns-else-not-seat : goal.returns-else-not-seat
@@ -23,7 +23,7 @@ returns-else-not-seat g c = λ shape code U G h.
     let T = tree_in U G in
     let seat = c.in-Some.seat in
     let at = seat_here c.args.self.now.seats.items c.args.i c.index.result.now seat c.requires.inside c.index.ensures c.in-Some.is in
-    let s = slot_here shape T G.players c.args.i _ seat at (h.holds.seats c.args.i) in
+    let s = slot_here shape G.entries T G.players c.args.i _ seat at (h.holds.seats c.args.i) in
     c.ready.ensures
     ∙ (ap (λ (V : Tree). is_ready V seat.who) (tree-is h.holds.shares) ∙ (ready_enabled s.3 c.if-not-seat.false ∙ ap (slot_able T) (sym at)))
 
@@ -32,5 +32,5 @@ returns-then-not-seat g c = λ shape code U G h.
     let T = tree_in U G in
     let seat = c.in-Some.seat in
     let at = seat_here c.args.self.now.seats.items c.args.i c.index.result.now seat c.requires.inside c.index.ensures c.in-Some.is in
-    let s = slot_here shape T G.players c.args.i _ seat at (h.holds.seats c.args.i) in
+    let s = slot_here shape G.entries T G.players c.args.i _ seat at (h.holds.seats c.args.i) in
     ap (λ b. not b) c.if-not-seat.true ∙ (sym (moving_enabled s.3 c.if-not-seat.true) ∙ ap (slot_able T) (sym at))

@@ -34,7 +34,7 @@ returns-then-is_some-clause-nearest g c = λ shape code U G h leads.
     let same = ap (λ (v : TaskId). v.0) k.opener_is in
     let slots = h.holds.shares.slots in
     let inside : c.note-note.result.opener.0 < length m.seats.items = omega (arith, low, same, slots) in
-    let left : is_left T (Some c.note-note.result.opener) ≡ true = left_seen shape T G.players m.seats.items c.note-note.result.opener.0 c.index.result.now h.holds.seats inside c.index.ensures ∙ (sym c.is_some.ensures ∙ c.if-is_some.true) in
+    let left : is_left T (Some c.note-note.result.opener) ≡ true = left_seen shape G.entries T G.players m.seats.items c.note-note.result.opener.0 c.index.result.now h.holds.seats inside c.index.ensures ∙ (sym c.is_some.ensures ∙ c.if-is_some.true) in
     found_left T c.args.under c.scopes.scope c.note-note.result.opener k.way k.up k.opener_is left
 
 pub scopes-smaller : goal.scopes-smaller
@@ -54,7 +54,7 @@ scopes-preserved g c = λ shape code U G h leads.
     let same = ap (λ (v : TaskId). v.0) k.opener_is in
     let slots = h.holds.shares.slots in
     let inside : c.note-note.result.opener.0 < length m.seats.items = omega (arith, low, same, slots) in
-    let left : is_left T (Some c.note-note.result.opener) ≡ false = left_seen shape T G.players m.seats.items c.note-note.result.opener.0 c.index.result.now h.holds.seats inside c.index.ensures ∙ (sym c.is_some.ensures ∙ c.if-is_some.false) in
+    let left : is_left T (Some c.note-note.result.opener) ≡ false = left_seen shape G.entries T G.players m.seats.items c.note-note.result.opener.0 c.index.result.now h.holds.seats inside c.index.ensures ∙ (sym c.is_some.ensures ∙ c.if-is_some.false) in
     goes_on T c.args.under c.scopes.scope c.note-note.result.parent c.note-note.result.opener k.way k.up k.opener_is k.parent_is left
 
 pub returns-clause-nearest : goal.returns-clause-nearest

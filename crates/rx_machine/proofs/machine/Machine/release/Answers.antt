@@ -14,18 +14,18 @@ pub no_memory-requires : goal.no_memory-requires
 no_memory-requires g c = let game = c.requires.game.1 in release-out game.5 game.6 c.in-Err.fault c.in-Err.ensures.answer.0
 
 pub go_on-requires : goal.go_on-requires
-go_on-requires g c = let game = c.requires.game.1 in (game.3.term, game.5.gone.seat_is.term)
+go_on-requires g c = let game = c.requires.game.1 in (game.3.term, game.5.gone.seat_is.work.0)
 
-pub put_back-requires : goal.put_back-requires
-put_back-requires g c = c.requires.game.1.5.inside
+pub seat_mover-requires : goal.seat_mover-requires
+seat_mover-requires g c = c.requires.game.1.5.inside
 
 pub returns-clause-made : goal.returns-clause-made
 returns-clause-made g c = λ here code U k q G a asks.
     let o = c.in-Ok.outcome in
-    let term = subst (λ (v : List Fault). StandsFor c.args.p.now.script c.go_on.new.control.value (granted v q.term)) c.in_ok-raised.ensures (c.in_ok-go_on.ensures.ok q.term a.gone.seat_is.term) in
+    let term = subst (λ (v : List Fault). StandsFor c.args.p.now.script c.go_on.new.control.value (granted v q.term)) c.in_ok-raised.ensures (c.in_ok-go_on.ensures.ok q.term a.gone.seat_is.work.0) in
     released a asks o.lost o.masked o.thrown c.games_come.ensures c.reached_is_sound.ensures c.release_keeps_others.ensures c.release_pops_newest.ensures c.release_uncovers_parent.ensures _
-    (record (c.args.mover.seat) { waits = false; who = record (c.args.mover.seat.who) { inner = c.note.result.parent }; control = c.go_on.new.control })
-    refl c.in-Ok.ensures.answer term c.in_ok-go_on.ensures.vars refl c.note.ensures.parent c.put_back.ensures
+    (record (c.args.mover) { waits = false; who = record (c.args.mover.who) { inner = c.note.result.parent }; control = c.go_on.new.control })
+    refl c.in-Ok.ensures.answer term c.in_ok-go_on.ensures.vars refl c.note.ensures.parent c.seat_mover.ensures
 
 pub returns-in-Err-clause-refused : goal.returns-in-Err-clause-refused
 returns-in-Err-clause-refused g c = λ here code U k q G a asks. inl (ap (λ (h : Log). h.entries) c.in-Err.ensures.answer.1, refl)

@@ -10,7 +10,7 @@ pub next-requires : goal.next-requires
 next-requires g c = let game = c.requires.game in (game.3.term, stands-by game.5 c.deref.result.now c.deref.ensures)
 
 pub local_step-requires : goal.local_step-requires
-local_step-requires g c = let game = c.requires.game in (game.3.term, game.5.gone.seat_is.term)
+local_step-requires g c = let game = c.requires.game in (game.3.term, game.5.gone.seat_is.work.0)
 
 pub cell_step-requires : goal.cell_step-requires
 cell_step-requires g c =
@@ -21,9 +21,9 @@ pub returns-in_ok-local_step-in-Local-clause-next : goal.returns-in_ok-local_ste
 returns-in_ok-local_step-in-Local-clause-next g c = λ code U k q G a.
     let s = a.gone.seat_is in
     let e = told-by a _ c.deref.result.now c.deref.ensures c.in-Local.ensures in
-    let left = c.in_ok-local_step-in-Local.ensures q.term s.term in
+    let left = c.in_ok-local_step-in-Local.ensures q.term s.work.0 in
     let leaves =
-    subst (λ (v : Vars). Leaves c.args.p.now.script c.local_step.new.mover.seat.control.value (does v c.args.here.0 q.term)) s.vars left.0 in
+    subst (λ (v : Vars). Leaves c.args.p.now.script c.local_step.new.mover.control.value (does v c.args.here.0 q.term)) s.work.1 left.0 in
     stepped-local a c.local_step.new.mover c.terms_sink.ensures e leaves left.1 left.2 left.3
 
 pub returns-in_err-local_step-in-Local-clause-refused : goal.returns-in_err-local_step-in-Local-clause-refused

@@ -36,7 +36,7 @@ move_task-requires-clause-game g c =
       k,
       w.2,
       taken c.args.p.now.script w.0 w.1 m w.2 m.ready.members k c.chosen-i.result c.reached_is_sound.ensures w.3
-          (ready_slots c.args.p.now.script (tree_in w.1 w.2) w.2.players m.seats.items m.ready.members w.3.can.holds.seats w.3.ready) c.chosen-i.ensures.taken,
+          (ready_slots c.args.p.now.script w.2.entries (tree_in w.1 w.2) w.2.players m.seats.items m.ready.members w.3.can.holds.seats w.3.ready) c.chosen-i.ensures.taken,
     )
 
 pub returns-in_err-move_task-clause-refused : goal.returns-in_err-move_task-clause-refused
@@ -44,7 +44,7 @@ returns-in_err-move_task-clause-refused g c = any_err c.from_residual.result (λ
     let m = c.args.self.now in
     let k = g.P.Picks.number c.args.picks.now 0 in
     let t = taken c.args.p.now.script code U m G m.ready.members k c.chosen-i.result c.reached_is_sound.ensures quietly
-    (ready_slots c.args.p.now.script (tree_in U G) G.players m.seats.items m.ready.members quietly.can.holds.seats quietly.ready) c.chosen-i.ensures.taken
+    (ready_slots c.args.p.now.script G.entries (tree_in U G) G.players m.seats.items m.ready.members quietly.can.holds.seats quietly.ready) c.chosen-i.ensures.taken
     in
     refused-stopped c.args.p.now.script code U m c.move_task.new.self k G c.games_go_on.ensures quietly.can.holds quietly.can.unreleased (c.in_err-move_task.ensures.refused code U k G t))
 
@@ -54,7 +54,7 @@ note_tasks-requires-clause-room g c =
     let m = c.args.self.now in
     let k = g.P.Picks.number c.args.picks.now 0 in
     let t = taken c.args.p.now.script w.0 w.1 m w.2 m.ready.members k c.chosen-i.result c.reached_is_sound.ensures w.3
-    (ready_slots c.args.p.now.script (tree_in w.1 w.2) w.2.players m.seats.items m.ready.members w.3.can.holds.seats w.3.ready) c.chosen-i.ensures.taken
+    (ready_slots c.args.p.now.script w.2.entries (tree_in w.1 w.2) w.2.players m.seats.items m.ready.members w.3.can.holds.seats w.3.ready) c.chosen-i.ensures.taken
     in
     room-left c.args.p.now.script w.0 w.1 m c.move_task.new.self k c.chosen-i.result w.2 t (c.in_ok-move_task.ensures.made w.0 w.1 k w.2 t) c.in_ok-move_task.ensures.tasks c.requires.slots
 
@@ -64,7 +64,7 @@ under_of-under-requires g c =
     let m = c.args.self.now in
     let k = g.P.Picks.number c.args.picks.now 0 in
     let t = taken c.args.p.now.script w.0 w.1 m w.2 m.ready.members k c.chosen-i.result c.reached_is_sound.ensures w.3
-    (ready_slots c.args.p.now.script (tree_in w.1 w.2) w.2.players m.seats.items m.ready.members w.3.can.holds.seats w.3.ready) c.chosen-i.ensures.taken
+    (ready_slots c.args.p.now.script w.2.entries (tree_in w.1 w.2) w.2.players m.seats.items m.ready.members w.3.can.holds.seats w.3.ready) c.chosen-i.ensures.taken
     in
     (t.seat, ap (λ (xs : List (Option Seat)). seat_at xs c.chosen-i.result) c.deref.ensures.value ∙ t.at)
 
@@ -74,7 +74,7 @@ note_tasks-requires-clause-inside g c =
     let m = c.args.self.now in
     let k = g.P.Picks.number c.args.picks.now 0 in
     let t = taken c.args.p.now.script w.0 w.1 m w.2 m.ready.members k c.chosen-i.result c.reached_is_sound.ensures w.3
-    (ready_slots c.args.p.now.script (tree_in w.1 w.2) w.2.players m.seats.items m.ready.members w.3.can.holds.seats w.3.ready) c.chosen-i.ensures.taken
+    (ready_slots c.args.p.now.script w.2.entries (tree_in w.1 w.2) w.2.players m.seats.items m.ready.members w.3.can.holds.seats w.3.ready) c.chosen-i.ensures.taken
     in
     inside-still c.args.p.now.script w.0 w.1 m c.move_task.new.self k c.chosen-i.result w.2 t (c.in_ok-move_task.ensures.made w.0 w.1 k w.2 t)
 
@@ -84,7 +84,7 @@ note_tasks-requires-clause-game g c =
     let m = c.args.self.now in
     let k = g.P.Picks.number c.args.picks.now 0 in
     let t = taken c.args.p.now.script w.0 w.1 m w.2 m.ready.members k c.chosen-i.result c.reached_is_sound.ensures w.3
-    (ready_slots c.args.p.now.script (tree_in w.1 w.2) w.2.players m.seats.items m.ready.members w.3.can.holds.seats w.3.ready) c.chosen-i.ensures.taken
+    (ready_slots c.args.p.now.script w.2.entries (tree_in w.1 w.2) w.2.players m.seats.items m.ready.members w.3.can.holds.seats w.3.ready) c.chosen-i.ensures.taken
     in
     let a = c.in_ok-move_task.ensures.made w.0 w.1 k w.2 t in
     let size : c.len-before.result ≡ length m.seats.items = omega (arith, c.len-before.ensures, m.seats.ok.0) in (
@@ -103,7 +103,7 @@ returns-clause-moved g c = λ e. (
       let m = c.args.self.now in
       let k = g.P.Picks.number c.args.picks.now 0 in
       let t = taken c.args.p.now.script code U m G m.ready.members k c.chosen-i.result c.reached_is_sound.ensures quietly
-      (ready_slots c.args.p.now.script (tree_in U G) G.players m.seats.items m.ready.members quietly.can.holds.seats quietly.ready) c.chosen-i.ensures.taken
+      (ready_slots c.args.p.now.script G.entries (tree_in U G) G.players m.seats.items m.ready.members quietly.can.holds.seats quietly.ready) c.chosen-i.ensures.taken
       in
       let a = c.in_ok-move_task.ensures.made code U k G t in
       let size : c.len-before.result ≡ length m.seats.items = omega (arith, c.len-before.ensures, m.seats.ok.0) in

@@ -26,8 +26,8 @@ wait-requires-clause-asks g c = let game = c.requires.game.1 in wait-may game.5 
 pub no_memory-requires : goal.no_memory-requires
 no_memory-requires g c = let game = c.requires.game.1 in memory-out game.5 c.in-Err.fault c.in-Err.ensures.answer.0
 
-pub put_back-requires : goal.put_back-requires
-put_back-requires g c = c.requires.game.1.5.inside
+pub seat_mover-requires : goal.seat_mover-requires
+seat_mover-requires g c = c.requires.game.1.5.inside
 
 pub returns-clause-made : goal.returns-clause-made
 returns-clause-made g c = λ here code U k q G a asks.
@@ -42,8 +42,8 @@ returns-clause-made g c = λ here code U k q G a asks.
     let resumed = subst (λ (v : List Fault). StandsFor shape c.go_on.new.control.value (granted v (replaced q.term Empty))) c.open.ensures (c.in_ok-go_on.ensures.ok (replaced q.term Empty) after) in
     let term = subst (λ (t : Term). StandsFor shape c.go_on.new.control.value t) same resumed in
     let vars = c.in_ok-go_on.ensures.vars ∙ (c.take_faults-thrown.ensures.vars ∙ ap (λ (v : Control). v.vars) c.deref_mut.ensures.value) in
-    let did = subst (λ (v : List Fault). Granted c.args.self.now.chronicle c.args.mover.seat.who (Wait c.args.mover.seat.who.inner v) c.args.mover.batch c.wait.new.self) faults c.in-Ok.ensures.answer in
-    waited a fs asks.1 _ (record (c.args.mover.seat) { waits = true; control = c.go_on.new.control }) refl did term vars refl refl c.put_back.ensures
+    let did = subst (λ (v : List Fault). Granted c.args.self.now.chronicle c.args.mover.who (Wait c.args.mover.who.inner v) c.args.mover.batch c.wait.new.self) faults c.in-Ok.ensures.answer in
+    waited a fs asks.1 _ (record (c.args.mover) { waits = true; control = c.go_on.new.control }) refl did term vars refl refl c.seat_mover.ensures
 
 pub returns-in-Err-clause-refused : goal.returns-in-Err-clause-refused
 returns-in-Err-clause-refused g c = ap (λ (h : Log). record (c.args.self.now) { chronicle = h }) c.in-Err.ensures.answer.1

@@ -11,6 +11,7 @@
 //   HOSTILE_TELL=1        writes to descriptor 2 fail        HOSTILE_THREAD=n      the n-th thread can't be started
 //   HOSTILE_SIGNAL=s      raises s at call HOSTILE_SIGNAL_AT of allocations, reads and writes together
 //   HOSTILE_NAP=n         the thread sleeps a little at each n-th allocation, so that others come to work
+//   HOSTILE_JITTER=n      each thread sleeps, yields or spins at some allocations, which n and the number of the thread choose
 //   HOSTILE_LAST=path     the last word is what stands in this file: a word may have 100,000 numbers, and the system passes on 131,072 bytes
 //   HOSTILE_COUNT=path    writes how many there were of allocations, reads, writes, threads, all calls, blocks not given back, and threads
 //                         that allocated something
@@ -19,6 +20,7 @@
 #include <errno.h>
 #include <fcntl.h>
 #include <pthread.h>
+#include <sched.h>
 #include <signal.h>
 #include <stdatomic.h>
 #include <stdio.h>
@@ -36,9 +38,10 @@ ssize_t __write(int, const void *, size_t);
 
 static int armed;
 static long refused_alloc, refused_from, failed_read, failed_write, failed_log, zero_write, failed_thread, read_max, write_max;
-static long raised, raised_at, error = EIO, mute, nap;
+static long raised, raised_at, error = EIO, mute, nap, jitter;
 static atomic_long allocs, reads, writes, logs, threads, calls, held, workers;
 static _Thread_local int works;
+static _Thread_local unsigned long chance;
 
 static long number(const char *name) {
     const char *text = getenv(name);
@@ -49,6 +52,17 @@ static void call(void) {
     if (atomic_fetch_add(&calls, 1) + 1 == raised_at && raised) kill(getpid(), (int)raised);
 }
 
+// Loses some time now and then.
+static void linger(void) {
+    chance ^= chance << 13;
+    chance ^= chance >> 7;
+    chance ^= chance << 17;
+    unsigned long draw = chance % 256;
+    if (draw == 0) usleep((useconds_t)(chance >> 40) % 60);
+    else if (draw < 5) sched_yield();
+    else if (draw < 10) for (volatile unsigned long i = (chance >> 30) % 3000; i > 0; i--) {}
+}
+
 // Whether this allocation is to be refused.
 static int refuses(void) {
     if (!armed) return 0;
@@ -56,9 +70,10 @@ static int refuses(void) {
     long n = atomic_fetch_add(&allocs, 1) + 1;
     if (!works) {
         works = 1;
-        atomic_fetch_add(&workers, 1);
+        chance = (unsigned long)(jitter * 16 + atomic_fetch_add(&workers, 1)) * 0x9e3779b97f4a7c15ul | 1;
     }
     if (nap && n % nap == 0) usleep(100);
+    if (jitter) linger();
     if (n == refused_alloc || (refused_from && n >= refused_from)) {
         errno = ENOMEM;
         return 1;
@@ -149,6 +164,7 @@ __attribute__((constructor)) static void arm(void) {
     raised_at = number("HOSTILE_SIGNAL_AT");
     mute = number("HOSTILE_TELL");
     nap = number("HOSTILE_NAP");
+    jitter = number("HOSTILE_JITTER");
     if (number("HOSTILE_ERRNO")) error = number("HOSTILE_ERRNO");
     armed = 1;
 }

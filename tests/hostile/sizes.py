@@ -126,13 +126,12 @@ def live_side_by_side(program, name, workers):
     return watched_complaint(program, text, program.run(words, text), 1000)
 
 
-# Two tasks wait at place 0, one of them through the whole run. What the other waits for may end just before it is put among those that
-# wait, while a worker goes through these.
+# Two tasks wait at place 0, one of them through the whole run. What the other waits for may end just before the other is in its queue.
 WAITING = b"finish { async { repeat 16000 { finish { at 1 async { } } } } }"
 
 
 def none_is_forgotten(program, workers):
-    """A task that waits is looked at again where no later end comes: some runs of 16,000 such moments come to their end."""
+    """A task that waits is called also if its call comes first: some runs of 16,000 such moments come to their end."""
     for _ in range(4):
         answer = program.run(["live", "--workers", str(workers)], WAITING)
         found = answered(program, ["verify"], paired(WAITING, answer.out), RUN) if answer.status == 0 else short(answer)
@@ -229,8 +228,8 @@ def script_limit(program, text, refusal):
 
 
 def workers_at_work(program, workers, watch):
-    """Each worker makes turns, where there are as many tasks: each thread that makes some takes memory for them."""
-    text = EIGHT.replace(b"at 1{}" * 1700, b"at 1{}" * 300)
+    """Each worker makes turns, where there are as many tasks with long turns: each thread that makes some takes memory for them."""
+    text = b"finish{repeat 8{async{repeat 20{repeat 80{set x = 1;} print x;}}}}"
     words = ["live", "--workers", str(workers), *(["--watch", "1000"] if watch else [])]
     wanted, seen = workers + (1 if watch else 0), []
     for _ in range(20):

@@ -5,12 +5,12 @@ ghost use Rattle.rx_activities.specs.Starting.{IsOpening, Comes};
 
 use crate::hand::{Hand, Journey, spend};
 use crate::naming::{LedgerPass, Naming};
-use crate::turn::make_turn;
-use rx_base::PlaceId;
+use crate::turn::{Company, make_turn};
+use rx_base::{PlaceId, ScopeId};
 use rx_book::Pass;
 use rx_check::{Program, checked};
 use rx_control::Control;
-use rx_objects::{LedgerBook, PlaceBook};
+use rx_objects::{Hint, LedgerBook, PlaceBook};
 use rx_parts::{EntryItem, EventItem};
 use rx_ticket::{AnyTicket, Live, Ticket};
 use std::alloc::Global;
@@ -22,10 +22,6 @@ use std::sync::Wait;
 pub struct Activity<N: Naming> {
     // In a block. Where there was no memory for that of the main activity, the pass that is left of it.
     hand: Result<Box<Hand>, Pass<EntryItem>>,
-    // The number of entries of which it knew before it asked for a release that was not yet allowed.
-    polled: Option<u32>,
-    // The number of entries of which it knew right before its last request, where it goes on behind one.
-    asked: Option<u32>,
     of: PhantomData<N>,
 }
 
@@ -67,27 +63,19 @@ pub enum Began<N: Naming> {
     Away(Traveller<N>),
 }
 
-/// What a turn leaves.
+/// What a turn or an arrival leaves.
 pub enum Turn<N: Naming> {
     /// The activity goes on, and may have started another.
     Goes {
         activity: Activity<N>,
         began: Option<Began<N>>,
     },
-    /// Its scope may not be released as long as the history has no more entries.
+    /// It gives way: it came to the ledger after a few steps, while another was there.
+    Busy(Activity<N>),
+    /// Its scope may not be released yet.
     Waits(Activity<N>),
     /// It has ended, or its place has died.
     Over(LedgerPass<N>),
-    /// There was no memory. The activity is given up.
-    Failed(LedgerPass<N>),
-}
-
-/// What the arrival of an activity leaves.
-pub enum Arrival<N: Naming> {
-    /// It is at its place.
-    Landed(Activity<N>),
-    /// Its place has died.
-    Lost(LedgerPass<N>),
     /// There was no memory. The activity is given up.
     Failed(LedgerPass<N>),
 }
@@ -111,8 +99,6 @@ impl<N: Naming> Activity<N> {
         rx_objects::objects_open();
         Activity {
             hand: Hand::fresh(alloc, control, ticket, PlaceId(0), pass, seat).boxed(alloc),
-            polled: None,
-            asked: None,
             of: PhantomData,
         }
     }
@@ -129,55 +115,40 @@ impl<N: Naming> Activity<N> {
 
     /// Gives the activity up, and keeps what it has seen of the ledger. Its ticket is spent.
     pub fn give_up(self) -> LedgerPass<N> {
-        let Activity {
-            hand,
-            polled: _,
-            asked: _,
-            of: _,
-        } = self;
+        let Activity { hand, of: _ } = self;
         match hand {
             Ok(hand) => given_up(hand),
             Err(pass) => LedgerPass::of(pass),
         }
     }
 
-    /// Whether the history has grown by more than an entry since right before its last request, where it goes on behind one: then others
-    /// make requests too, and it may have waited for them. One load.
-    pub fn has_met_others<L: LedgerBook>(&mut self, ledger: &L) -> bool
-        requires { L.name ledger.now ≡ N.ledger }
-        ensures { self.new ≡ self.old }
-    {
-        let Some(asked) = self.asked else {
-            return false;
-        };
-        match &mut self.hand {
-            Ok(hand) => hand.look(ledger) > asked.saturating_add(1),
-            Err(_) => false,
+    /// The scope at which it waits, if it waits.
+    pub fn waits_at(&self) -> Option<ScopeId> {
+        match &self.hand {
+            Ok(hand) => hand.waits_at(),
+            Err(_) => None,
         }
     }
 
-    /// Makes the local steps up to the next call of a book, and that call: of the place's book or of the ledger's. An activity that
-    /// waits asks the ledger again only where the history may have grown.
-    pub fn turn<L: LedgerBook, P: PlaceBook, R: Wait>(
+    /// Makes the local steps up to the next call of a book, and that call: of the place's book or of the ledger's. A long turn tells
+    /// `company`; a short one may give way. Where it asks the ledger, `hint` is then whose release that may have made possible.
+    pub fn turn<L: LedgerBook, P: PlaceBook, C: Company, R: Wait>(
         self,
         rt: &R,
         alloc: Global,
         p: &Program,
         ledger: &L,
         place_book: &P,
+        company: &C,
+        hint: &mut Hint,
     ) -> Turn<N>
         requires ledger { L.name ledger.now ≡ N.ledger }
         requires program { (L.name ledger.now).fixed.program ≡ p.now }
         requires place { PlaceIs N.ledger self (P.name place_book.now) }
     {
-        let Activity {
-            hand,
-            polled,
-            asked: _,
-            of: _,
-        } = self;
+        let Activity { hand, of: _ } = self;
         match hand {
-            Ok(hand) => make_turn(hand, polled, rt, alloc, p, ledger, place_book),
+            Ok(hand) => make_turn(hand, rt, alloc, p, ledger, place_book, company, hint),
             Err(pass) => Turn::Failed(LedgerPass::of(pass)),
         }
     }
@@ -206,24 +177,18 @@ pub(crate) fn activity_with<N: Naming>(
     requires { Knows N.ledger hand }
 {
     match hand.boxed(alloc) {
-        Ok(hand) => Ok(activity_of(hand, None, None)),
+        Ok(hand) => Ok(activity_of(hand)),
         Err(pass) => Err(LedgerPass::of(pass)),
     }
 }
 
 /// The activity of a hand.
-pub(crate) fn activity_of<N: Naming>(
-    hand: Box<Hand>,
-    polled: Option<u32>,
-    asked: Option<u32>,
-) -> Activity<N>
+pub(crate) fn activity_of<N: Naming>(hand: Box<Hand>) -> Activity<N>
     requires { Knows N.ledger hand.value }
     ensures { result ≡ hand.value.place }
 {
     Activity {
         hand: Ok(hand),
-        polled,
-        asked,
         of: PhantomData,
     }
 }

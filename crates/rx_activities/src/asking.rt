@@ -22,7 +22,7 @@ use rx_check::{Program, checked};
 use rx_control::{Control, Next, Want};
 use rx_history::Ask;
 use rx_ledger::{Reply, Request};
-use rx_objects::{LedgerBook, LedgerOp, LedgerReply, Mentions, PlaceBook, ledger_op_fits};
+use rx_objects::{Hint, LedgerBook, LedgerOp, LedgerReply, Mentions, PlaceBook, ledger_op_fits};
 use rx_parts::{EntryItem, EventItem};
 use rx_ticket::AnyTicket;
 use std::alloc::Global;
@@ -151,13 +151,15 @@ fn mentions_of(
     }
 }
 
-/// Asks the ledger, and gives its answer.
+/// Asks the ledger, and gives its answer. `hint` is then whose release the call may have made possible.
+#[inline(always)]
 pub(crate) fn ask<L: LedgerBook, R: Wait>(
     rt: &R,
     p: &Program,
     ledger: &L,
     pass: &mut Pass<EntryItem>,
     op: LedgerOp,
+    hint: &mut Hint,
 ) -> Reply
     requires program { (L.name ledger.now).fixed.program ≡ p.now }
     requires own { word_of pass.old ≡ (L.name ledger.now).word }
@@ -172,12 +174,14 @@ pub(crate) fn ask<L: LedgerBook, R: Wait>(
         reply,
         notes: _,
         shown: _,
+        hint: told,
     } = answer;
+    *hint = told;
     reply
 }
 
 impl Hand {
-    /// Asks the ledger for what is next, and goes on by its answer.
+    /// Asks the ledger for what is next, and goes on by its answer. `hint` is then whose release the call may have made possible.
     pub(crate) fn call_ledger<N: Naming, L: LedgerBook, P: PlaceBook, R: Wait>(
         &mut self,
         rt: &R,
@@ -186,6 +190,7 @@ impl Hand {
         ledger: &L,
         place_book: &P,
         next: Next,
+        hint: &mut Hint,
     ) -> Answer<N>
         requires ledger { L.name ledger.now ≡ N.ledger }
         requires program { (L.name ledger.now).fixed.program ≡ p.now }
@@ -229,7 +234,7 @@ impl Hand {
             note,
             mentions,
         };
-        let reply = ask(rt, p, ledger, &mut self.pass, op);
+        let reply = ask(rt, p, ledger, &mut self.pass, op, hint);
         self.take(alloc, p, ledger, reply, child)
     }
 }

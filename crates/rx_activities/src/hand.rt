@@ -3,7 +3,7 @@ ghost use Rattle.std.specs.Prelude.{◌≡◌, [], IfErr, IfOk};
 ghost use Rattle.rx_ticket.specs.declared.tickets.AnyTicket.TheVariants.{Running};
 ghost use Rattle.rx_activities.specs.Inside.Births.{IsWith};
 
-use rx_base::{Batch, PlaceId};
+use rx_base::{Batch, PlaceId, ScopeId};
 use rx_book::Pass;
 use rx_control::Control;
 use rx_parts::{EntryItem, EventItem};
@@ -71,6 +71,14 @@ impl Hand {
             pass,
             seat,
             told,
+        }
+    }
+
+    /// The scope at which the activity waits, if it waits.
+    pub(crate) fn waits_at(&self) -> Option<ScopeId> {
+        match &self.ticket {
+            AnyTicket::Held(ticket) => Some(ticket.caller().inner),
+            _ => None,
         }
     }
 

@@ -3,18 +3,17 @@ ghost use Rattle.std.specs.Prelude.{◌≡◌};
 ghost use Rattle.rx_finish.specs.Calls.{landing};
 ghost use Rattle.rx_activities.specs.Knowing.{IsNewSeat};
 
-use crate::activity::{Arrival, Traveller, activity_with, failed};
+use crate::activity::{Traveller, Turn, activity_with, failed};
 use crate::asking::ask;
 use crate::hand::{Hand, Journey};
 use crate::naming::{LedgerPass, Naming};
 use rx_base::{Batch, PlaceId};
 use rx_book::Pass;
 use rx_check::Program;
-use rx_finish::place_of;
 use rx_history::Ask;
 use rx_ledger::{Reply, Request};
-use rx_objects::{LedgerBook, LedgerOp, Mentions};
-use rx_parts::{EntryItem, EventItem};
+use rx_objects::{Hint, LedgerBook, LedgerOp, Mentions};
+use rx_parts::EventItem;
 use rx_rules::Where;
 use rx_ticket::{AnyTicket, InTransit, Ticket};
 use std::alloc::Global;
@@ -44,7 +43,8 @@ impl<N: Naming> Traveller<N> {
         &self.journey.ticket
     }
 
-    /// Makes it arrive, with a new pass of its place's book: it asks the ledger, by which the task is live.
+    /// Makes it arrive, with a new pass of its place's book: it asks the ledger, by which the task is live. `hint` is then whose release
+    /// the call may have made possible.
     pub fn land<L: LedgerBook, R: Wait>(
         self,
         rt: &R,
@@ -52,7 +52,8 @@ impl<N: Naming> Traveller<N> {
         p: &Program,
         ledger: &L,
         seat: Pass<EventItem>,
-    ) -> Arrival<N>
+        hint: &mut Hint,
+    ) -> Turn<N>
         requires ledger { L.name ledger.now ≡ N.ledger }
         requires program { (L.name ledger.now).fixed.program ≡ p.now }
         requires seat { IsNewSeat N.ledger self seat }
@@ -81,16 +82,19 @@ impl<N: Naming> Traveller<N> {
             note: None,
             mentions,
         };
-        match ask(rt, p, ledger, &mut pass, op) {
+        match ask(rt, p, ledger, &mut pass, op, hint) {
             Reply::Landed { ticket } => {
                 let hand = Hand::fresh(alloc, control, ticket, place, pass, seat);
                 match activity_with(hand, alloc) {
-                    Ok(activity) => Arrival::Landed(activity),
-                    Err(pass) => Arrival::Failed(pass),
+                    Ok(activity) => Turn::Goes {
+                        activity,
+                        began: None,
+                    },
+                    Err(pass) => Turn::Failed(pass),
                 }
             }
-            Reply::Lost { place: _, at: _ } => Arrival::Lost(LedgerPass::of(pass)),
-            Reply::NoMemory { request } => Arrival::Failed(failed(request.into_ticket(), pass)),
+            Reply::Lost { place: _, at: _ } => Turn::Over(LedgerPass::of(pass)),
+            Reply::NoMemory { request } => Turn::Failed(failed(request.into_ticket(), pass)),
             _ => unreachable!(),
         }
     }

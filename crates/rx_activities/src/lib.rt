@@ -14,5 +14,6 @@ mod steps;
 mod store;
 mod turn;
 
-pub use activity::{Activity, Arrival, Began, Traveller, Turn};
+pub use activity::{Activity, Began, Traveller, Turn};
 pub use naming::{LedgerPass, Naming};
+pub use turn::Company;

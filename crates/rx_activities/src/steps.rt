@@ -8,6 +8,7 @@ ghost use Rattle.rx_activities.specs.Turning.{IsKnown, StaysKnown};
 ghost use Rattle.rx_activities.specs.Inside.Stepping.{OnlySteps, IsNext};
 
 use crate::hand::Hand;
+use crate::turn::{Company, Pace};
 use rx_base::{Batch, NoMemory, PlaceId};
 use rx_check::{Program, checked};
 use rx_control::{Control, Next};
@@ -62,11 +63,13 @@ impl Hand {
     }
 
     /// Makes the local steps up to the next call of a book, and tells which that is. A refusal leaves the ticket and the passes.
-    pub(crate) fn run_on<R: Wait>(
+    pub(crate) fn run_on<C: Company, R: Wait>(
         &mut self,
         rt: &R,
         alloc: Global,
         p: &Program,
+        company: &C,
+        pace: &mut Pace,
     ) -> Result<Next, NoMemory>
         requires known { IsKnown p.now self.old }
         ensures same { OnlySteps self.old self.new }
@@ -77,7 +80,10 @@ impl Hand {
         checked(p);
         for _step in rt.forever() {
             match self.control.as_ref().next(p, self.place) {
-                Next::Local => self.local(alloc, p)?,
+                Next::Local => {
+                    self.local(alloc, p)?;
+                    pace.step(company);
+                }
                 next => return Ok(next),
             }
         }

@@ -1,10 +1,7 @@
 // A turn of an activity, from local steps to what it leaves.
 ghost use Rattle.std.specs.Prelude.{◌≡◌};
-ghost use Rattle.rx_check.specs.Checked.{Checked};
-ghost use Rattle.rx_history.specs.declared.step.Next.{Next as Step};
 ghost use Rattle.rx_activities.specs.Knowing.{PlaceIs, Knows};
 ghost use Rattle.rx_activities.specs.Turning.{LeavesHand};
-ghost use Rattle.rx_activities.specs.Inside.Stepping.{IsNext};
 
 use crate::activity::{Turn, activity_of, given_up};
 use crate::hand::Hand;
@@ -12,69 +9,87 @@ use crate::naming::Naming;
 use crate::replies::Answer;
 use rx_check::Program;
 use rx_control::Next;
-use rx_objects::{LedgerBook, PlaceBook};
+use rx_objects::{Hint, LedgerBook, PlaceBook};
 use std::alloc::Global;
 use std::sync::Wait;
 
-impl Hand {
-    /// The number of entries of a beginning of the history, which its pass has seen afterwards.
-    pub(crate) fn look<L: LedgerBook>(&mut self, ledger: &L) -> u32
-        requires { Knows (L.name ledger.now) self.old }
-        ensures known { Knows (L.name ledger.now) self.new }
-        ensures place { self.new.place ≡ self.old.place }
-        ensures next { (p : Checked) (next : Step) → IsNext p self.old next → IsNext p self.new next }
-    {
-        ledger.seen_len(&mut self.pass)
+/// Who is told that an activity is away from the ledger for a while.
+pub trait Company {
+    /// It has made many local steps since it last asked the ledger, or is about to ask a store.
+    fn is_away(&self);
+}
+
+// After so many local steps a turn is long: what another worker then takes over is worth a wake.
+const LONG: u32 = 64;
+
+/// How many local steps a turn has made.
+#[derive(Drop)]
+pub(crate) struct Pace {
+    steps: u32,
+}
+
+impl Pace {
+    /// One more. After each `LONG` of them company is told.
+    pub(crate) fn step<C: Company>(&mut self, company: &C) {
+        self.steps = self.steps.saturating_add(1);
+        if self.steps % LONG == 0 {
+            company.is_away();
+        }
+    }
+
+    // Whether the turn is short, and another calls the ledger just now.
+    fn gives_way<L: LedgerBook>(&self, ledger: &L) -> bool {
+        self.steps < LONG && ledger.is_busy()
     }
 }
 
-/// Makes a turn, of an activity that asked in vain when it knew of so many entries.
-pub(crate) fn make_turn<N: Naming, L: LedgerBook, P: PlaceBook, R: Wait>(
+/// Makes a turn. Where it asks the ledger, `hint` is then whose release that may have made possible.
+pub(crate) fn make_turn<N: Naming, L: LedgerBook, P: PlaceBook, C: Company, R: Wait>(
     mut hand: Box<Hand>,
-    polled: Option<u32>,
     rt: &R,
     alloc: Global,
     p: &Program,
     ledger: &L,
     place_book: &P,
+    company: &C,
+    hint: &mut Hint,
 ) -> Turn<N>
     requires ledger { L.name ledger.now ≡ N.ledger }
     requires program { (L.name ledger.now).fixed.program ≡ p.now }
     requires place { PlaceIs (L.name ledger.now) hand.value.place (P.name place_book.now) }
     requires known { Knows (L.name ledger.now) hand.value }
 {
-    let seen = hand.look(ledger);
-    if polled == Some(seen) {
-        return Turn::Waits(activity_of(hand, polled, None));
-    }
-    let next = match hand.run_on(rt, alloc, p) {
+    let mut pace = Pace { steps: 0 };
+    let next = match hand.run_on(rt, alloc, p, company, &mut pace) {
         Ok(next) => next,
         Err(_) => return Turn::Failed(given_up(hand)),
     };
     match next {
         Next::Cell(op) => {
+            company.is_away();
             let hand = Box::into_inner(hand);
             hand.call_store(rt, alloc, p, ledger, place_book, op)
         }
         other => {
-            let asked = hand.look(ledger);
-            let answer = hand.call_ledger(rt, alloc, p, ledger, place_book, other);
-            turn_of_request(hand, answer, seen, asked)
+            if pace.gives_way(ledger) {
+                return Turn::Busy(activity_of(hand));
+            }
+            let answer = hand.call_ledger(rt, alloc, p, ledger, place_book, other, hint);
+            turn_of_request(hand, answer)
         }
     }
 }
 
-// What a request leaves, as it may be kept. One that waits asks again once the history has more entries than these, of which it knew
-// before its request: what others append after the answer is then not missed.
-fn turn_of_request<N: Naming>(hand: Box<Hand>, answer: Answer<N>, seen: u32, asked: u32) -> Turn<N>
+// What a request leaves, as it may be kept.
+fn turn_of_request<N: Naming>(hand: Box<Hand>, answer: Answer<N>) -> Turn<N>
     requires { LeavesHand N.ledger hand.value answer }
 {
     match answer {
         Answer::Goes { began } => Turn::Goes {
-            activity: activity_of(hand, None, Some(asked)),
+            activity: activity_of(hand),
             began,
         },
-        Answer::Waits => Turn::Waits(activity_of(hand, Some(seen), None)),
+        Answer::Waits => Turn::Waits(activity_of(hand)),
         Answer::Over => Turn::Over(given_up(hand)),
         Answer::Failed => Turn::Failed(given_up(hand)),
     }

@@ -208,9 +208,15 @@ impl<O: Object> Book<O> {
         reply
     }
 
+    /// Whether somebody calls just now. The answer may be out of date at once. One load: no lock.
+    pub fn is_busy(&self) -> bool {
+        self.lock.is_taken()
+    }
+
     /// Waits for the lock, and does an operation at one point of the history, which is then legal and wholly seen by the pass. The
     /// operation has to fit, for this caller, every legal history that begins with what the pass has seen and has just the
     /// caller's own entries. The book itself takes no memory.
+    #[inline(always)]
     pub fn call<R: Wait>(&self, rt: &R, pass: &mut Pass<O::Item>, op: O::Op) -> O::Reply
         requires own { word_of pass.old ≡ self.now.word }
         requires fits { (h : List (Stamped O.Item)) → O.legal self.now.fixed h → Begins O.Item.place (view_of pass.old) h

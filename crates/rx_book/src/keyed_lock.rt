@@ -8,15 +8,9 @@ use std::alloc::Global;
 use std::hint::spin_loop;
 use std::marker::Model;
 use std::sync::Wait;
-use std::time::Duration;
 
-// How often one who finds the value out looks for it again before it naps. With the processor's pause in each look that was 0.1
-// milliseconds on one machine. docs/DECISIONS.md says how the number was chosen.
-const LOOKS: u32 = 20_000;
-
-// The naps that follow, each with a look behind it, in microseconds. They grow, so that those who wait seldom take the value from a core
-// that has it near and uses it again and again: bringing it to another core costs more than a short use.
-const NAPS: [u64; 6] = [20, 40, 80, 160, 320, 640];
+// How often one who finds the value out looks for it again before it sleeps: as often as the kit's `Mutex` does.
+const LOOKS: u32 = 100;
 
 /// The right and the duty to put a value back. It can't be dropped. Contracts see it as the lock that it is of.
 pub struct Turn<T, K> {
@@ -81,8 +75,8 @@ impl<T, K, F: Fact<T, K>> Lock<T, K, F> {
         }
     }
 
-    /// Waits until the value is at home, and takes it: it looks for a while, naps between further looks, and then sleeps. Whoever
-    /// comes first takes it, also before one that has waited for longer. No memory.
+    /// Waits until the value is at home, and takes it: it looks a few times, and then sleeps. Whoever comes first takes it, also
+    /// before one that has waited for longer. No memory.
     pub fn lock<R: Wait>(&self, rt: &R) -> (T, Turn<T, K>)
         ensures fact { F.holds self.now.key result.0 }
         ensures own { result.1 ≡ self.now }
@@ -100,10 +94,8 @@ impl<T, K, F: Fact<T, K>> Lock<T, K, F> {
             }
             if !self.comes_home() {
                 has_slept = true;
-                if !self.comes_home_between_naps(rt) {
-                    shared.compare_exchange::<Mark>(&mut seat, 0, 1, 2);
-                    shared.park(rt, 0, 2);
-                }
+                shared.compare_exchange::<Mark>(&mut seat, 0, 1, 2);
+                shared.park(rt, 0, 2);
             }
         }
         unreachable!()
@@ -120,16 +112,9 @@ impl<T, K, F: Fact<T, K>> Lock<T, K, F> {
         false
     }
 
-    // The same, by one look behind each nap. A nap ends by itself. Where others sleep, a wake that is meant for them may end it too.
-    fn comes_home_between_naps<R: Wait>(&self, rt: &R) -> bool {
-        let shared = &self.table.shared;
-        for micros in NAPS {
-            shared.park_timeout(rt, 0, 1, Duration::from_micros(micros));
-            if shared.peek(0) == 0 {
-                return true;
-            }
-        }
-        false
+    /// Whether somebody has the value, or the lock is closed. The answer may be out of date at once. One look, without the lock.
+    pub fn is_taken(&self) -> bool {
+        self.table.shared.peek(0) != 0
     }
 
     /// Puts a value back, and wakes one who waits where somebody may sleep. No memory.

@@ -187,6 +187,16 @@ impl CountLedger {
         self.totals
     }
 
+    /// The scope that counts the tasks which hang under a scope, and its home, where it counts none just now. A hint: no contract
+    /// speaks of it. It takes no memory, and looks at one scope for each with a dead home on the way.
+    pub fn quiet(&self, s: ScopeId) -> Option<(ScopeId, PlaceId)> {
+        let at = keeper_of(&self.scopes, &self.dead, s)?;
+        match look(&self.scopes, at) {
+            Some(kept) if kept.sums.total == 0 => Some((at, kept.home)),
+            _ => None,
+        }
+    }
+
     /// What the release of a scope names, and how many scopes go with it.
     fn outcome_of(&self, s: ScopeId) -> Result<(Outcome, u32), LedgerFault>
         requires { (room : ℕ) × (T : Tree) × StandsFor self.now room T × IsLast T s }

@@ -92,6 +92,7 @@ pub(crate) fn release<L: LedgerBook, R: Wait>(
         reply,
         notes,
         shown: _,
+        hint: _,
     } = ledger.call(rt, host, op);
     answer_of(reply, notes)
 }

@@ -230,7 +230,7 @@ fn run_named<'a, N: Naming + Send + Sync, G: Gate + Sync, R: Threads + Wait + Sy
     let Some(first) = first else { unreachable!() };
     let activity = Activity::<N>::main(alloc, p, control, ticket, pass, first);
     let hall = Hall::open(p, ledger, stations);
-    hall.begin(rt, activity);
+    hall.put(rt, activity);
     run_all(rt, alloc, hall, gate, workers, host, seats, looker)
 }
 

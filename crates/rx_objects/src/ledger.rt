@@ -7,7 +7,9 @@ ghost use Rattle.rx_objects.specs.Ledger.{MayBeAsked, is_root_done};
 ghost use Rattle.rx_objects.specs.Shown.{board_of, BoardShows};
 ghost use Rattle.rx_objects.specs.Inside.Stepping.{Stepped};
 
+use crate::hint::{Hint, end_under, hint_of};
 use crate::mentions::Mentions;
+use crate::scopes::ScopeSet;
 use crate::showing::{BoardName, show_new};
 use crate::trail::Trail;
 use rx_base::{PlaceId, PlaceSet};
@@ -33,12 +35,14 @@ pub struct LedgerOp {
     pub mentions: Mentions,
 }
 
-/// The keeper's answer, and all the notes that were kept where the root's release was appended.
+/// The keeper's answer, all the notes that were kept where the root's release was appended, and whom to call.
 pub struct LedgerReply {
     pub reply: Reply,
     pub notes: Vec<(PlaceId, Note<EventItem>)>,
     /// False where entries were appended and there was no memory to show so on the board.
     pub shown: bool,
+    /// Whose release the call may have made possible.
+    pub hint: Hint,
 }
 
 /// One call: the keeper after it, and what its operation mentioned. It has no bytes.
@@ -64,6 +68,8 @@ pub struct LedgerObject {
     pub board: Option<BoardWriter>,
     // Whether there was no memory for a summary.
     late: bool,
+    // The scopes whose openers were told "not yet" and are still to be called.
+    put_off: ScopeSet,
     calls: Trail<LedgerCall>,
     program: Snapshot<Program>,
     places: Snapshot<Vec<BareBook<EventItem>>>,
@@ -207,6 +213,7 @@ impl LedgerObject {
             notes: Vec::new(alloc),
             board,
             late: false,
+            put_off: ScopeSet::new(alloc),
             calls: Trail::Empty,
             program: Snapshot::of(program),
             places: Snapshot::of(places),
@@ -227,6 +234,7 @@ impl LedgerObject {
             notes: _,
             board,
             late,
+            put_off: _,
             calls: _,
             program: _,
             places: _,
@@ -290,9 +298,12 @@ impl Object for LedgerObject {
                 reply: Reply::NoMemory { request },
                 notes: Vec::new(self.alloc),
                 shown: true,
+                hint: Hint::Nobody,
             };
         }
         let before = self.keeper.len();
+        let dead = self.keeper.deaths();
+        let hung = end_under(&request);
         let (reply, freed) = answer(&mut self.keeper, request);
         let notes = hand_out(&mut self.notes, self.alloc, freed);
         self.calls = Trail::After(
@@ -311,10 +322,12 @@ impl Object for LedgerObject {
             self.late,
         );
         self.late = is_late(self.late, shown);
+        let hint = hint_of(&mut self.put_off, &self.keeper, dead, hung, &reply);
         LedgerReply {
             reply,
             notes,
             shown,
+            hint,
         }
     }
 

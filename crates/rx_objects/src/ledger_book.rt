@@ -30,6 +30,9 @@ pub trait LedgerBook {
         ensures called { Called shown (LedgerDoes (name self.now).fixed) (LedgerIsLegal (name self.now).fixed) (view_of pass.old) op
             result (view_of pass.new) };
 
+    /// As `Book::is_busy`.
+    fn is_busy(&self) -> bool;
+
     /// As `Book::split`.
     fn split(&self, pass: &mut Pass<EntryItem>) -> Result<Pass<EntryItem>, NoMemory>
         requires { word_of pass.old ≡ (name self.now).word }
@@ -74,6 +77,10 @@ impl LedgerBook for Book<LedgerObject> {
     #[inline(always)]
     fn call<R: Wait>(&self, rt: &R, pass: &mut Pass<EntryItem>, op: LedgerOp) -> LedgerReply {
         Book::call(self, rt, pass, op)
+    }
+
+    fn is_busy(&self) -> bool {
+        Book::is_busy(self)
     }
 
     fn split(&self, pass: &mut Pass<EntryItem>) -> Result<Pass<EntryItem>, NoMemory> {

@@ -7,16 +7,19 @@
 //! the board has shown are the summaries of beginnings of the history, none shorter than the one before.
 #![tactic(auto)]
 
+mod hint;
 mod laws;
 mod ledger;
 mod ledger_book;
 mod mentions;
 mod place;
 mod place_book;
+mod scopes;
 mod showing;
 mod surroundings;
 mod trail;
 
+pub use hint::Hint;
 pub use laws::{
     books_make_run, host_is_told, host_may_ask, ledger_op_fits, meeting_hears, meeting_shows,
     noted_are_named, objects_open, others_spare_tickets, place_op_fits, places_end,
@@ -27,6 +30,7 @@ pub use ledger_book::LedgerBook;
 pub use mentions::Mentions;
 pub use place::{PlaceCall, PlaceFixed, PlaceObject, PlaceOp, PlaceReply};
 pub use place_book::PlaceBook;
+pub use scopes::ScopeSet;
 pub use showing::{BoardName, opening_summary};
 pub use surroundings::{LedgerAndGate, Surroundings};
 pub use trail::Trail;

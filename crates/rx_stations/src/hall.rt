@@ -1,10 +1,10 @@
 // What all workers of a run share.
-ghost use Rattle.std.specs.Prelude.{◌≡◌, ◌<◌, length, Some, IfSome, slice_get};
+ghost use Rattle.std.specs.Prelude.{◌≡◌, Some, IfSome, slice_get};
 
+use crate::bed::Bed;
 use crate::station::Station;
-use crate::tally::Tally;
 use rx_activities::{Activity, Naming};
-use rx_base::PlaceId;
+use rx_base::{PlaceId, ScopeId};
 use rx_check::Program;
 use rx_objects::{LedgerBook, PlaceBook};
 use std::sync::Wait;
@@ -15,7 +15,7 @@ pub struct Hall<'a, N: Naming, L: LedgerBook, P: PlaceBook> {
     pub ledger: &'a L,
     /// In the order of the places.
     pub stations: Vec<Station<N, P>>,
-    pub(crate) tally: Tally,
+    pub(crate) bed: Bed,
 }
 
 impl<'a, N: Naming, L: LedgerBook, P: PlaceBook> Hall<'a, N, L, P> {
@@ -33,7 +33,7 @@ impl<'a, N: Naming, L: LedgerBook, P: PlaceBook> Hall<'a, N, L, P> {
             program,
             ledger,
             stations,
-            tally: Tally::of_one(),
+            bed: Bed::of_one(),
         }
     }
 
@@ -48,19 +48,74 @@ impl<'a, N: Naming, L: LedgerBook, P: PlaceBook> Hall<'a, N, L, P> {
         Some(&self.stations[at])
     }
 
-    /// Puts the main activity where it can be taken.
-    pub fn begin<R: Wait>(&self, rt: &R, main: Activity<N>)
-        requires { 0 < length self.now.stations.items }
-    {
-        if let Err(main) = self.stations[0].put(rt, main) {
-            let _pass = main.give_up();
-            self.tally.refuse();
+    /// Puts an activity that may go on behind the others of its place. Where there is no memory it is given up.
+    pub fn put<R: Wait>(&self, rt: &R, a: Activity<N>) {
+        self.bed.puts();
+        let put = match self.station(a.place()) {
+            Some(station) => station.queue(rt).put(a),
+            None => Err(a),
+        };
+        match put {
+            Ok(()) => {}
+            Err(a) => self.give_up(a),
         }
+    }
+
+    /// Lets the opener of a scope wait at its place until it is called. It is given back where that was done before: where it was called,
+    /// or all were since there had been so many deaths. Where there is no memory it is given up.
+    pub(crate) fn keep<R: Wait>(&self, rt: &R, a: Activity<N>, deaths: u64) -> Option<Activity<N>> {
+        let (Some(station), Some(scope)) = (self.station(a.place()), a.waits_at()) else {
+            self.give_up(a);
+            return None;
+        };
+        let mut queue = station.queue(rt);
+        if self.bed.deaths() != deaths {
+            return Some(a);
+        }
+        match queue.keep(scope, a) {
+            Ok(called) => called,
+            Err(a) => {
+                self.give_up(a);
+                None
+            }
+        }
+    }
+
+    /// Calls the opener of a scope, and takes it out if it waits at its place.
+    pub(crate) fn call<R: Wait>(
+        &self,
+        rt: &R,
+        scope: ScopeId,
+        home: PlaceId,
+    ) -> Option<Activity<N>> {
+        match self.station(home)?.queue(rt).call(scope) {
+            Ok(called) => called,
+            Err(_) => {
+                self.bed.refuse();
+                None
+            }
+        }
+    }
+
+    /// Calls all that wait, since a place has died: they go behind the others of their places.
+    pub(crate) fn call_all<R: Wait>(&self, rt: &R) {
+        self.bed.dies();
+        for at in 0..self.stations.len() {
+            if !self.stations[at].queue(rt).call_all(&self.bed) {
+                self.bed.refuse();
+            }
+        }
+    }
+
+    // Gives up an activity for which there was no memory.
+    fn give_up(&self, a: Activity<N>) {
+        let _pass = a.give_up();
+        self.bed.refuse();
     }
 
     /// Whether memory was refused.
     pub fn is_refused(&self) -> bool {
-        self.tally.is_refused()
+        self.bed.is_refused()
     }
 
     /// The places.
@@ -71,7 +126,7 @@ impl<'a, N: Naming, L: LedgerBook, P: PlaceBook> Hall<'a, N, L, P> {
             program: _,
             ledger: _,
             stations,
-            tally: _,
+            bed: _,
         } = self;
         stations
     }

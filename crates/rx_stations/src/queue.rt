@@ -1,16 +1,18 @@
 // The activities of one place.
+use crate::bed::Bed;
 use rx_activities::{Activity, Naming};
+use rx_base::{NoMemory, ScopeId};
+use rx_objects::ScopeSet;
 use std::alloc::Global;
-use std::collections::VecDeque;
+use std::collections::{BTreeMap, VecDeque};
 
-/// The activities of a place that may go on, the next first, and behind them those that wait, the newest last. It can't be dropped.
+/// The activities of a place: those that may go on, the next first, and those that wait, by the scopes at which they wait. It can't be
+/// dropped.
 pub(crate) struct Queue<N: Naming> {
     ready: VecDeque<Activity<N>>,
-    waiting: VecDeque<Activity<N>>,
-    /// How many activities of the run were over when those that wait were last gone through.
-    since: u64,
-    /// How many of them are still to be looked at.
-    unseen: usize,
+    waiting: BTreeMap<u32, Activity<N>>,
+    /// Scopes whose openers were called before they lay here.
+    called: ScopeSet,
 }
 
 impl<N: Naming> Queue<N> {
@@ -18,9 +20,8 @@ impl<N: Naming> Queue<N> {
     pub(crate) fn new(alloc: Global) -> Queue<N> {
         Queue {
             ready: VecDeque::new(alloc),
-            waiting: VecDeque::new(alloc),
-            since: 0,
-            unseen: 0,
+            waiting: BTreeMap::new(alloc),
+            called: ScopeSet::new(alloc),
         }
     }
 
@@ -37,34 +38,41 @@ impl<N: Naming> Queue<N> {
         self.ready.pop_front()
     }
 
-    /// Puts one that waits behind the others: one that has gone on until now is looked at first, and one that was looked at last.
-    /// A refusal means out of memory, and hands it back.
-    pub(crate) fn rest(&mut self, a: Activity<N>, looked_at: bool) -> Result<(), Activity<N>> {
-        let put = if looked_at {
-            self.waiting.push_front(a)
-        } else {
-            if self.unseen > 0 {
-                self.unseen = self.unseen.saturating_add(1);
-            }
-            self.waiting.push_back(a)
-        };
-        match put {
-            Ok(()) => Ok(()),
-            Err(failed) => Err(failed.value),
+    /// Lets the opener of a scope wait here until it is called. Where it was called before, it is given back. A refusal means out of
+    /// memory, and hands it back.
+    pub(crate) fn keep(
+        &mut self,
+        scope: ScopeId,
+        a: Activity<N>,
+    ) -> Result<Option<Activity<N>>, Activity<N>> {
+        if self.called.take(scope) {
+            return Ok(Some(a));
+        }
+        match self.waiting.insert(scope.0, a) {
+            Ok(before) => Ok(before),
+            Err(failed) => Err(failed.value.1),
         }
     }
 
-    /// The next of those that wait, where it was not looked at since so many were over, or where each is to be looked at again.
-    pub(crate) fn next_waiting(&mut self, over: u64, again: bool) -> Option<Activity<N>> {
-        if self.unseen == 0 {
-            if self.since == over && !again {
-                return None;
-            }
-            self.since = over;
-            self.unseen = self.waiting.len();
+    /// Calls the opener of a scope: it is taken out. Where it does not lie here yet, it is noted that it was called.
+    pub(crate) fn call(&mut self, scope: ScopeId) -> Result<Option<Activity<N>>, NoMemory> {
+        if let Some(a) = self.waiting.remove(&scope.0) {
+            return Ok(Some(a));
         }
-        self.unseen = self.unseen.saturating_sub(1);
-        self.waiting.pop_back()
+        self.called.add(scope)?;
+        Ok(None)
+    }
+
+    /// Puts all that wait behind the others. False means out of memory.
+    pub(crate) fn call_all(&mut self, bed: &Bed) -> bool {
+        'rest: while let Some((_, a)) = self.waiting.pop_first() {
+            bed.puts();
+            if let Err(failed) = self.ready.push_back(a) {
+                let _pass = failed.value.give_up();
+                return false;
+            }
+        }
+        true
     }
 
     /// Ends the queue, and gives up what is left in it.
@@ -72,17 +80,24 @@ impl<N: Naming> Queue<N> {
         let Queue {
             ready,
             waiting,
-            since: _,
-            unseen: _,
+            called: _,
         } = self;
-        give_up_all(ready);
-        give_up_all(waiting);
+        give_up_ready(ready);
+        give_up_waiting(waiting);
     }
 }
 
-// Gives up each.
-fn give_up_all<N: Naming>(mut activities: VecDeque<Activity<N>>) {
+// Gives up each that may go on.
+fn give_up_ready<N: Naming>(mut activities: VecDeque<Activity<N>>) {
     'rest: while let Some(activity) = activities.pop_front() {
+        let _pass = activity.give_up();
+    }
+    activities.destroy_empty();
+}
+
+// Gives up each that waits.
+fn give_up_waiting<N: Naming>(mut activities: BTreeMap<u32, Activity<N>>) {
+    'rest: while let Some((_, activity)) = activities.pop_first() {
         let _pass = activity.give_up();
     }
     activities.destroy_empty();

@@ -5,10 +5,11 @@ ghost use Rattle.rx_activities.specs.Knowing.{PlaceIs, IsNewSeat};
 ghost use Rattle.rx_stations.specs.Stations.{IsPlaceBook};
 ghost use Rattle.rx_stations.specs.Closed.{IsClosed};
 
+use crate::bed::Bed;
 use crate::keys::{Keys, Letter};
 use crate::queue::Queue;
 use rx_activities::{Activity, Naming, Traveller};
-use rx_base::{NoMemory, PlaceId};
+use rx_base::PlaceId;
 use rx_book::{Fact, Lock, Note, Pass};
 use rx_mail::Mail;
 use rx_objects::PlaceBook;
@@ -17,8 +18,7 @@ use rx_store::Store;
 use std::alloc::Global;
 use std::marker::Model;
 use std::snapshot::Snapshot;
-use std::sync::atomic::{AtomicU64, Ordering};
-use std::sync::{Mutex, Wait};
+use std::sync::{Mutex, MutexGuard, Wait};
 
 // The keys under the lock are those of the place and the mailbox for which the lock was made.
 pub(crate) struct AreOf;
@@ -38,10 +38,6 @@ pub struct Station<N: Naming, P: PlaceBook> {
     // The first keys. Those of the workers are made from them.
     keys: Lock<Keys<N>, Snapshot<Keys<N>>, AreOf>,
     queue: Mutex<Queue<N>>,
-    // How many activities may go on here or arrive. Where there is none, no lock is taken to see it.
-    stock: AtomicU64,
-    // How many wait here.
-    waiting: AtomicU64,
 }
 
 impl<N: Naming, P: PlaceBook> Model for Station<N, P> {
@@ -55,22 +51,10 @@ impl<N: Naming, P: PlaceBook> Model for Station<N, P> {
     ghost invariant = { λ s. IsPlaceBook N.ledger s.place (P.name s.book) × (s.keys.key.value ≡ record { place = s.place; mail = s.mail }) };
 }
 
-/// How many turns a worker makes of one activity before it puts it back behind the others.
-pub(crate) const TURNS: u32 = 32;
-
-/// An activity in a worker's hand.
-pub(crate) struct Held<N: Naming> {
-    pub(crate) activity: Activity<N>,
-    /// How many turns are left before it is put back.
-    pub(crate) turns: u32,
-    /// Whether it waited before.
-    pub(crate) waited: bool,
-}
-
 /// What a worker may do.
 pub(crate) enum Job<N: Naming> {
     /// A turn of an activity.
-    Move(Held<N>),
+    Move(Activity<N>),
     /// The arrival of one.
     Land(Letter<N>),
 }
@@ -108,8 +92,6 @@ impl<N: Naming, P: PlaceBook> Station<N, P> {
             mail,
             keys,
             queue: Mutex::new(Queue::new(alloc)),
-            stock: AtomicU64::new(0),
-            waiting: AtomicU64::new(0),
         })
     }
 
@@ -160,80 +142,43 @@ impl<N: Naming, P: PlaceBook> Station<N, P> {
     }
 
     /// Sends an activity to this place. False means out of memory, and then it is gone.
-    pub(crate) fn send<R: Wait>(&self, rt: &R, keys: &mut Keys<N>, traveller: Traveller<N>) -> bool
+    pub(crate) fn send<R: Wait>(
+        &self,
+        rt: &R,
+        bed: &Bed,
+        keys: &mut Keys<N>,
+        traveller: Traveller<N>,
+    ) -> bool
         requires { keys.old ≡ self.now }
         ensures { keys.new ≡ keys.old }
     {
-        let sent = self.mail.send_as(rt, &mut keys.mail, Letter { traveller });
-        if sent.is_ok() {
-            self.stock.fetch_add(1, Ordering::SeqCst);
-        }
-        sent.is_ok()
+        bed.puts();
+        self.mail
+            .send_as(rt, &mut keys.mail, Letter { traveller })
+            .is_ok()
     }
 
-    /// Puts an activity that may go on behind the others here. A refusal means out of memory, and hands it back.
-    pub(crate) fn put<R: Wait>(&self, rt: &R, a: Activity<N>) -> Result<(), Activity<N>> {
-        let put = self.queue.lock(rt).put(a);
-        if put.is_ok() {
-            self.stock.fetch_add(1, Ordering::SeqCst);
-        }
-        put
-    }
-
-    /// Puts an activity that waits behind the others here. A refusal means out of memory, and hands it back.
-    pub(crate) fn rest<R: Wait>(
-        &self,
-        rt: &R,
-        a: Activity<N>,
-        looked_at: bool,
-    ) -> Result<(), Activity<N>> {
-        let put = self.queue.lock(rt).rest(a, looked_at);
-        if put.is_ok() {
-            self.waiting.fetch_add(1, Ordering::SeqCst);
-        }
-        put
+    /// Its queue, once nobody else has it.
+    pub(crate) fn queue<R: Wait>(&self, rt: &R) -> MutexGuard<'_, Queue<N>> {
+        self.queue.lock(rt)
     }
 
     /// What may be made here next, where there is something.
-    pub(crate) fn next_job<R: Wait>(&self, rt: &R, keys: &mut Keys<N>) -> Option<Job<N>>
+    pub(crate) fn next_job<R: Wait>(&self, rt: &R, bed: &Bed, keys: &mut Keys<N>) -> Option<Job<N>>
         requires { keys.old ≡ self.now }
         ensures { keys.new ≡ keys.old }
     {
-        if self.stock.load(Ordering::SeqCst) == 0 {
-            return None;
-        }
         let job = match self.mail.take_as(rt, &mut keys.mail) {
             Some(letter) => Some(Job::Land(letter)),
             None => match self.queue.lock(rt).next() {
-                Some(activity) => Some(Job::Move(Held {
-                    activity,
-                    turns: TURNS,
-                    waited: false,
-                })),
+                Some(activity) => Some(Job::Move(activity)),
                 None => None,
             },
         };
         if job.is_some() {
-            self.stock.fetch_sub(1, Ordering::SeqCst);
+            bed.took();
         }
         job
-    }
-
-    /// The next of those that wait here, where it was not looked at since so many were over, or where each is to be looked at again.
-    pub(crate) fn next_waiting<R: Wait>(
-        &self,
-        rt: &R,
-        over: u64,
-        again: bool,
-    ) -> Option<Activity<N>> {
-        if self.waiting.load(Ordering::SeqCst) == 0 {
-            return None;
-        }
-        let next = self.queue.lock(rt).next_waiting(over, again);
-        if next.is_some() {
-            self.waiting.fetch_sub(1, Ordering::SeqCst);
-        }
-        next
     }
 
     // The book alone. What else is here is given up.
@@ -246,8 +191,6 @@ impl<N: Naming, P: PlaceBook> Station<N, P> {
             mail,
             keys,
             queue,
-            stock: _,
-            waiting: _,
         } = self;
         queue.into_inner().end();
         mail.end();

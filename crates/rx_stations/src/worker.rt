@@ -4,11 +4,10 @@ ghost use Rattle.rx_stations.specs.Stations.{IsHall};
 
 use crate::hall::Hall;
 use crate::keys::{Keys, Letter};
-use crate::station::{Held, Job, Station, TURNS};
-use crate::tally::Tally;
-use rx_activities::{Activity, Arrival, Began, LedgerPass, Naming, Traveller, Turn};
+use crate::station::Job;
+use rx_activities::{Activity, Began, LedgerPass, Naming, Traveller, Turn};
 use rx_base::Gate;
-use rx_objects::{LedgerBook, PlaceBook};
+use rx_objects::{Hint, LedgerBook, PlaceBook};
 use std::alloc::Global;
 use std::marker::Model;
 use std::sync::Wait;
@@ -19,18 +18,8 @@ use std::sync::Wait;
 pub struct Worker<N: Naming> {
     number: u32,
     keys: Vec<Keys<N>>,
-    /// The place where it looks first for what waits. It goes round, so that each is looked at.
-    round: usize,
     kept: Option<LedgerPass<N>>,
-    /// How many more of its turns have met others at the ledger than have not, of late.
-    crowd: u32,
-    /// How often it has rested since it last met nobody for a while.
-    rests: u32,
 }
-
-// How many more of its turns a worker has to meet others at the ledger than not, before it rests: so many of the first worker, as many
-// more of each further one. So those who meet one another rest one after the other, and not all at once.
-const CROWD: u32 = 16;
 
 impl<N: Naming> Model for Worker<N> {
     ghost use Rattle.std.specs.Prelude.{List};
@@ -59,10 +48,7 @@ impl<N: Naming> Worker<N> {
         Some(Worker {
             number,
             keys,
-            round: 0,
             kept: None,
-            crowd: 0,
-            rests: 0,
         })
     }
 
@@ -81,12 +67,12 @@ impl<N: Naming> Worker<N> {
     {
         let mut held = None;
         let mut n = 0u64;
-        hall.tally.begins_work();
+        hall.bed.begins();
         for _turn in rt.forever() {
             gate.turn(self.number, n);
             n = n.saturating_add(1);
             let Some(job) = self.next_job(rt, hall, held) else {
-                hall.tally.ends_work();
+                hall.bed.leaves();
                 return;
             };
             held = self.make(rt, alloc, hall, job);
@@ -105,37 +91,24 @@ impl<N: Naming> Worker<N> {
         &mut self,
         rt: &R,
         hall: &Hall<'a, N, L, P>,
-        held: Option<Held<N>>,
+        held: Option<Activity<N>>,
     ) -> Option<Job<N>>
-        requires ledger { L.name hall.now.ledger.now ≡ N.ledger }
         requires some { 0 < length hall.now.stations.items }
         requires keys { self.old ≡ hall.now.stations.items }
         ensures { self.new ≡ self.old }
     {
-        match held {
-            Some(held) => self.go_on(hall.ledger, &hall.tally, held),
-            None => self.find(rt, hall),
+        let Some(activity) = held else {
+            return self.find(rt, hall);
+        };
+        if hall.bed.is_done() {
+            let _pass = activity.give_up();
+            return None;
         }
+        Some(Job::Move(activity))
     }
 
-    // Goes on with what it has in hand.
-    fn go_on<L: LedgerBook>(&mut self, ledger: &L, tally: &Tally, held: Held<N>) -> Option<Job<N>>
-        requires { L.name ledger.now ≡ N.ledger }
-        ensures { self.new ≡ self.old }
-    {
-        if !tally.is_done() {
-            return Some(Job::Move(held));
-        }
-        let Held {
-            activity,
-            turns: _,
-            waited: _,
-        } = held;
-        self.keep(ledger, activity.give_up());
-        None
-    }
-
-    // Looks for something to do until there is something.
+    // Looks for something to do until there is something. Before it sleeps it lies down and looks once more: who has put something
+    // before that did not see that it lies.
     fn find<'a, L: LedgerBook, P: PlaceBook, R: Wait>(
         &mut self,
         rt: &R,
@@ -145,21 +118,26 @@ impl<N: Naming> Worker<N> {
         requires keys { self.old ≡ hall.now.stations.items }
         ensures { self.new ≡ self.old }
     {
-        let mut times = 0u32;
         for _look in rt.forever() {
-            if hall.tally.is_done() {
+            if hall.bed.is_done() {
                 return None;
             }
             match self.look(rt, hall) {
                 Some(job) => return Some(job),
-                None => hall.tally.pause(rt, times),
+                None => hall.bed.lies_down(),
             }
-            times = times.saturating_add(1);
+            match self.look(rt, hall) {
+                Some(job) => {
+                    hall.bed.gets_up(rt);
+                    return Some(job);
+                }
+                None => hall.bed.sleeps(rt),
+            }
         }
         unreachable!()
     }
 
-    // Looks for something to do: first what may go on or arrive, from its own place on, and then what waits.
+    // Looks for something to do, from its own place on.
     fn look<'a, L: LedgerBook, P: PlaceBook, R: Wait>(
         &mut self,
         rt: &R,
@@ -172,15 +150,18 @@ impl<N: Naming> Worker<N> {
         let places = hall.stations.len();
         let first = self.number as usize % places;
         for step in 0..places {
+            if !hall.bed.has_more() {
+                return None;
+            }
             match self.look_at(rt, hall, (first + step) % places) {
                 Some(job) => return Some(job),
                 None => {}
             }
         }
-        self.look_again(rt, hall)
+        None
     }
 
-    // Looks at one place for what may go on or arrive.
+    // Looks at one place.
     fn look_at<'a, L: LedgerBook, P: PlaceBook, R: Wait>(
         &mut self,
         rt: &R,
@@ -191,35 +172,7 @@ impl<N: Naming> Worker<N> {
         requires keys { self.old ≡ hall.now.stations.items }
         ensures { self.new ≡ self.old }
     {
-        hall.stations[at].next_job(rt, &mut self.keys[at])
-    }
-
-    // Looks for one that waits, where something has come that may let it go on.
-    fn look_again<'a, L: LedgerBook, P: PlaceBook, R: Wait>(
-        &mut self,
-        rt: &R,
-        hall: &Hall<'a, N, L, P>,
-    ) -> Option<Job<N>>
-        requires { 0 < length hall.now.stations.items }
-        ensures { self.new ≡ self.old }
-    {
-        let places = hall.stations.len();
-        let again = hall.tally.all_wait();
-        let over = hall.tally.over();
-        let first = self.round % places;
-        for step in 0..places {
-            let at = (first + step) % places;
-            if let Some(activity) = hall.stations[at].next_waiting(rt, over, again) {
-                hall.tally.wakes();
-                self.round = at + 1;
-                return Some(Job::Move(Held {
-                    activity,
-                    turns: TURNS,
-                    waited: true,
-                }));
-            }
-        }
-        None
+        hall.stations[at].next_job(rt, &hall.bed, &mut self.keys[at])
     }
 
     // Makes one turn, and tells what it leaves in hand.
@@ -229,13 +182,13 @@ impl<N: Naming> Worker<N> {
         alloc: Global,
         hall: &Hall<'a, N, L, P>,
         job: Job<N>,
-    ) -> Option<Held<N>>
+    ) -> Option<Activity<N>>
         requires hall { IsHall N.ledger (L.name hall.now.ledger.now) hall.now.program.now hall.now.stations.items }
         requires keys { self.old ≡ hall.now.stations.items }
         ensures { self.new ≡ self.old }
     {
         match job {
-            Job::Move(held) => self.make_move(rt, alloc, hall, held),
+            Job::Move(activity) => self.make_move(rt, alloc, hall, activity),
             Job::Land(Letter { traveller }) => self.land(rt, alloc, hall, traveller),
         }
     }
@@ -246,159 +199,120 @@ impl<N: Naming> Worker<N> {
         rt: &R,
         alloc: Global,
         hall: &Hall<'a, N, L, P>,
-        held: Held<N>,
-    ) -> Option<Held<N>>
+        activity: Activity<N>,
+    ) -> Option<Activity<N>>
         requires hall { IsHall N.ledger (L.name hall.now.ledger.now) hall.now.program.now hall.now.stations.items }
         requires keys { self.old ≡ hall.now.stations.items }
         ensures { self.new ≡ self.old }
     {
-        let Held {
-            activity,
-            turns,
-            waited,
-        } = held;
+        let deaths = hall.bed.deaths();
         let Some(station) = hall.station(activity.place()) else {
-            self.fail(hall.ledger, &hall.tally, activity.give_up());
+            hall.put(rt, activity);
             return None;
         };
-        let left = activity.turn(rt, alloc, hall.program, hall.ledger, station.book());
-        match left {
-            Turn::Goes { activity, began } => {
-                self.start(rt, hall, began);
-                self.hold(rt, hall, station, activity, turns)
-            }
-            Turn::Waits(activity) => {
-                self.rest(rt, hall, station, activity, waited);
-                None
-            }
-            Turn::Over(pass) => {
-                self.end(hall.ledger, &hall.tally, pass);
-                None
-            }
-            Turn::Failed(pass) => {
-                self.fail(hall.ledger, &hall.tally, pass);
-                None
-            }
-        }
+        let mut hint = Hint::Nobody;
+        let left = activity.turn(
+            rt,
+            alloc,
+            hall.program,
+            hall.ledger,
+            station.book(),
+            &hall.bed,
+            &mut hint,
+        );
+        self.leave(rt, hall, left, hint, deaths)
     }
 
-    // Goes on with an activity, or puts it back behind the others of its place. Where it rests, others can take the activity meanwhile.
-    fn hold<'a, L: LedgerBook, P: PlaceBook, R: Wait>(
+    // Makes an activity arrive.
+    fn land<'a, L: LedgerBook, P: PlaceBook, R: Wait>(
         &mut self,
         rt: &R,
+        alloc: Global,
         hall: &Hall<'a, N, L, P>,
-        station: &Station<N, P>,
-        mut activity: Activity<N>,
-        turns: u32,
-    ) -> Option<Held<N>>
-        requires { L.name hall.now.ledger.now ≡ N.ledger }
+        traveller: Traveller<N>,
+    ) -> Option<Activity<N>>
+        requires hall { IsHall N.ledger (L.name hall.now.ledger.now) hall.now.program.now hall.now.stations.items }
+        requires keys { self.old ≡ hall.now.stations.items }
         ensures { self.new ≡ self.old }
     {
-        self.feel(activity.has_met_others(hall.ledger));
-        if self.is_crowded() && hall.tally.goes_to_rest() {
-            self.put(rt, hall, station, activity);
-            self.step_back(rt, &hall.tally);
+        let deaths = hall.bed.deaths();
+        let at = traveller.target().0 as usize;
+        if at >= hall.stations.len() {
+            hall.bed.refuse();
             return None;
         }
-        if turns > 0 {
-            return Some(Held {
-                activity,
-                turns: turns - 1,
-                waited: false,
-            });
-        }
-        self.put(rt, hall, station, activity);
-        None
+        let seat = hall.stations[at].new_seat(&mut self.keys[at]);
+        let mut hint = Hint::Nobody;
+        let left = traveller.land(rt, alloc, hall.program, hall.ledger, seat, &mut hint);
+        self.leave(rt, hall, left, hint, deaths)
     }
 
-    // Notes whether a turn has met others at the ledger.
-    fn feel(&mut self, met: bool)
-        ensures { self.new ≡ self.old }
-    {
-        if met {
-            self.crowd = self.crowd.saturating_add(1);
-            return;
-        }
-        self.crowd = self.crowd.saturating_sub(1);
-        if self.crowd == 0 {
-            self.rests = 0;
-        }
-    }
-
-    // Whether it has met others so often that it rests, if another is at work.
-    fn is_crowded(&self) -> bool {
-        self.crowd >= CROWD.saturating_mul(self.number.saturating_add(1))
-    }
-
-    // Rests with nothing in hand. It rests again once it has met others a few times more.
-    fn step_back<R: Wait>(&mut self, rt: &R, tally: &Tally)
-        ensures { self.new ≡ self.old }
-    {
-        tally.rest(rt, self.rests);
-        self.rests = self.rests.saturating_add(1);
-        self.crowd = self.crowd.saturating_sub(CROWD / 2);
-    }
-
-    // Puts an activity that may go on behind the others of its place.
-    fn put<'a, L: LedgerBook, P: PlaceBook, R: Wait>(
+    // Does with each activity what a turn or an arrival leaves to do, and calls those whom its hint names. There had been so many deaths
+    // before it. What stays in hand is given back.
+    fn leave<'a, L: LedgerBook, P: PlaceBook, R: Wait>(
         &mut self,
         rt: &R,
         hall: &Hall<'a, N, L, P>,
-        station: &Station<N, P>,
-        activity: Activity<N>,
-    )
-        requires { L.name hall.now.ledger.now ≡ N.ledger }
-        ensures { self.new ≡ self.old }
-    {
-        match station.put(rt, activity) {
-            Ok(()) => {}
-            Err(activity) => self.fail(hall.ledger, &hall.tally, activity.give_up()),
-        }
-    }
-
-    // Puts an activity that waits behind the others of its place.
-    fn rest<'a, L: LedgerBook, P: PlaceBook, R: Wait>(
-        &mut self,
-        rt: &R,
-        hall: &Hall<'a, N, L, P>,
-        station: &Station<N, P>,
-        activity: Activity<N>,
-        waited: bool,
-    )
-        requires { L.name hall.now.ledger.now ≡ N.ledger }
-        ensures { self.new ≡ self.old }
-    {
-        match station.rest(rt, activity, waited) {
-            Ok(()) => hall.tally.waits(),
-            Err(activity) => self.fail(hall.ledger, &hall.tally, activity.give_up()),
-        }
-    }
-
-    // Puts an activity that was started where it can be taken, if one was.
-    fn start<'a, L: LedgerBook, P: PlaceBook, R: Wait>(
-        &mut self,
-        rt: &R,
-        hall: &Hall<'a, N, L, P>,
-        began: Option<Began<N>>,
-    )
+        left: Turn<N>,
+        hint: Hint,
+        deaths: u64,
+    ) -> Option<Activity<N>>
         requires ledger { L.name hall.now.ledger.now ≡ N.ledger }
         requires keys { self.old ≡ hall.now.stations.items }
         ensures { self.new ≡ self.old }
     {
-        match began {
-            None => {}
-            Some(Began::Here(activity)) => {
-                hall.tally.starts();
-                match hall.station(activity.place()) {
-                    Some(station) => self.put(rt, hall, station, activity),
-                    None => self.fail(hall.ledger, &hall.tally, activity.give_up()),
+        match hint {
+            Hint::Everybody => hall.call_all(rt),
+            Hint::NoMemory => hall.bed.refuse(),
+            _ => {}
+        }
+        match left {
+            Turn::Goes { activity, began } => self.start(rt, hall, activity, began),
+            Turn::Busy(activity) => {
+                hall.put(rt, activity);
+                hall.bed.gives_way(rt);
+                None
+            }
+            Turn::Waits(activity) => hall.keep(rt, activity, deaths),
+            Turn::Over(pass) => {
+                self.keep(hall.ledger, pass);
+                hall.bed.ends();
+                match hint {
+                    Hint::Opener { scope, home } => hall.call(rt, scope, home),
+                    _ => None,
                 }
             }
+            Turn::Failed(_pass) => {
+                hall.bed.refuse();
+                None
+            }
+        }
+    }
+
+    // Goes on with an activity, or with the one that it has started at its place. Then it goes behind the others there.
+    fn start<'a, L: LedgerBook, P: PlaceBook, R: Wait>(
+        &mut self,
+        rt: &R,
+        hall: &Hall<'a, N, L, P>,
+        activity: Activity<N>,
+        began: Option<Began<N>>,
+    ) -> Option<Activity<N>>
+        requires { self.old ≡ hall.now.stations.items }
+        ensures { self.new ≡ self.old }
+    {
+        match began {
+            None => Some(activity),
+            Some(Began::Here(child)) => {
+                hall.bed.starts();
+                hall.put(rt, activity);
+                Some(child)
+            }
             Some(Began::Away(traveller)) => {
-                hall.tally.starts();
+                hall.bed.starts();
                 if !self.send(rt, hall, traveller) {
-                    hall.tally.refuse();
+                    hall.bed.refuse();
                 }
+                Some(activity)
             }
         }
     }
@@ -417,60 +331,7 @@ impl<N: Naming> Worker<N> {
         if at >= hall.stations.len() {
             return false;
         }
-        hall.stations[at].send(rt, &mut self.keys[at], traveller)
-    }
-
-    // Makes an activity arrive.
-    fn land<'a, L: LedgerBook, P: PlaceBook, R: Wait>(
-        &mut self,
-        rt: &R,
-        alloc: Global,
-        hall: &Hall<'a, N, L, P>,
-        traveller: Traveller<N>,
-    ) -> Option<Held<N>>
-        requires hall { IsHall N.ledger (L.name hall.now.ledger.now) hall.now.program.now hall.now.stations.items }
-        requires keys { self.old ≡ hall.now.stations.items }
-        ensures { self.new ≡ self.old }
-    {
-        let at = traveller.target().0 as usize;
-        if at >= hall.stations.len() {
-            hall.tally.refuse();
-            return None;
-        }
-        let seat = hall.stations[at].new_seat(&mut self.keys[at]);
-        match traveller.land(rt, alloc, hall.program, hall.ledger, seat) {
-            Arrival::Landed(activity) => Some(Held {
-                activity,
-                turns: TURNS,
-                waited: false,
-            }),
-            Arrival::Lost(pass) => {
-                self.end(hall.ledger, &hall.tally, pass);
-                None
-            }
-            Arrival::Failed(pass) => {
-                self.fail(hall.ledger, &hall.tally, pass);
-                None
-            }
-        }
-    }
-
-    // An activity is over.
-    fn end<L: LedgerBook>(&mut self, ledger: &L, tally: &Tally, pass: LedgerPass<N>)
-        requires { L.name ledger.now ≡ N.ledger }
-        ensures { self.new ≡ self.old }
-    {
-        self.keep(ledger, pass);
-        tally.ends();
-    }
-
-    // Memory was refused.
-    fn fail<L: LedgerBook>(&mut self, ledger: &L, tally: &Tally, pass: LedgerPass<N>)
-        requires { L.name ledger.now ≡ N.ledger }
-        ensures { self.new ≡ self.old }
-    {
-        self.keep(ledger, pass);
-        tally.refuse();
+        hall.stations[at].send(rt, &hall.bed, &mut self.keys[at], traveller)
     }
 
     // Keeps the ledger pass of the first activity that is over. That of each later one becomes a note, which the kept pass meets.
@@ -502,7 +363,7 @@ pub fn work<'a, N: Naming, L: LedgerBook, P: PlaceBook, G: Gate, R: Wait>(
 {
     let Some(mut worker) = Worker::open(rt, alloc, hall, number) else {
         gate.turn(number, 0);
-        hall.tally.refuse();
+        hall.bed.refuse();
         return None;
     };
     worker.work(rt, alloc, hall, gate);

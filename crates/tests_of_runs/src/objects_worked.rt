@@ -241,6 +241,7 @@ fn told(answer: LedgerReply) -> (bool, Option<PlaceId>, usize) {
         reply,
         notes,
         shown: _,
+        hint: _,
     } = answer;
     let opened = matches!(&reply, Reply::Opened { .. });
     let place = match &reply {

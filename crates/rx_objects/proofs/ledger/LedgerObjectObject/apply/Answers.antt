@@ -5,6 +5,7 @@ use Rattle.atomic_table.specs.Seated.{TableId}
 use Rattle.rx_ledger.specs.declared.asks.Reply.TheVariants.{NoMemory}
 use Rattle.rx_parts.specs.declared.items.EntryItem.{EntryItem}
 use Rattle.rx_parts.specs.Histories.{event_named}
+use Rattle.rx_objects.specs.declared.hint.Hint.TheVariants.{Nobody}
 use Rattle.rx_objects.specs.declared.ledger.LedgerReply.{LedgerReply}
 use Rattle.rx_objects.specs.Mentioned.{items_called, item_for, events_new, entries_in}
 use Rattle.rx_objects.specs.Noted.{Notes, NoteSuits, asked_place, with_note}
@@ -17,7 +18,7 @@ use Rattle.rx_objects.proofs.ledger.LedgerObjectObject.apply.Goals as goal
 pub returns-then-not-keep_note-clause-did : goal.returns-then-not-keep_note-clause-did
 returns-then-not-keep_note-clause-did g c =
     let s = c.self.inside in
-    let reply : LedgerReply = record { reply = NoMemory c.args.op.request; notes = c.new.result; shown = true } in
+    let reply : LedgerReply = record { reply = NoMemory c.args.op.request; notes = c.new.result; shown = true; hint = Nobody } in
     subst (λ (v : LedgerView). (x : List EntryItem) × (items_called s.calls ≡ v.entries ++ x) × LedgerDoes (record { program = v.program; setup = v.setup; places = v.places; board = v.board }) v.entries c.args.op reply x) c.self.view_is
     ([], search rules, refused s.program.value s.places.value.items (board_of s.board) s.keeper s.notes.items (items_called s.calls) c.args.op reply c.self.invariant.0 refl c.new.ensures.items)
 
@@ -83,7 +84,7 @@ returns-clause-did g c =
     let now : items_called c.of.result.value ++ map (item_for op.mentions) (drop (length (items_called c.of.result.value)) c.of-2.result.value.entries) ≡ items ++ map (item_for op.mentions) step.new =
     (λ i. items_called (c.of.ensures i) ++ map (item_for op.mentions) (drop (length (items_called (c.of.ensures i))) (c.of-2.ensures i).entries))
     ∙ ap (λ (es : List Entry). items ++ map (item_for op.mentions) es) (new_is s.program.value places (board_of s.board) s.keeper s.notes.items items op c.answer-reply.result.0 c.answer-reply.result.1 c.answer-reply.new.keeper step c.self.invariant.0 suits) in
-    let reply : LedgerReply = record { reply = c.answer-reply.result.0; notes = c.hand_out-notes.result; shown = c.show_new-shown.result } in
+    let reply : LedgerReply = record { reply = c.answer-reply.result.0; notes = c.hand_out-notes.result; shown = c.show_new-shown.result; hint = c.hint_of-hint.result } in
     subst
     (λ (v : LedgerView). (x : List EntryItem) × (items_called c.of.result.value ++ map (item_for op.mentions) (drop (length (items_called c.of.result.value)) c.of-2.result.value.entries) ≡ v.entries ++ x) × LedgerDoes (record { program = v.program; setup = v.setup; places = v.places; board = v.board }) v.entries op reply x)
     c.self.view_is (

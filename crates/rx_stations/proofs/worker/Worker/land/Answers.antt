@@ -5,8 +5,8 @@ use Rattle.rx_activities.specs.Knowing.{IsNewSeat}
 use Rattle.rx_stations.proofs.Stationing.{post_is}
 use Rattle.rx_stations.proofs.worker.Worker.land.Goals as goal
 
-pub land-requires-clause-seat : goal.land-requires-clause-seat
-land-requires-clause-seat g c =
+pub land-left-requires-clause-seat : goal.land-left-requires-clause-seat
+land-left-requires-clause-seat g c =
     let p = c.target-at.result in
     let s = c.index.result.now in
     let posts = c.args.hall.now.stations.items in
